@@ -1,0 +1,110 @@
+-- What the first character of a part asks for, and that no gap goes on with it.
+use Rattle.std.proofs.Common.{inl, inr, ◌⊎◌, ◌≡◌, ◌≢◌, refl, sym, ◌∙◌, ap, subst, ℕ, Bool, true, false, ◌∷◌, Option, Some, None, ◌==◌, arith}
+use Rattle.std.proofs.lemmas.Bool.{cases_Bool, cases_eq, ne_eqb, eqb-false, and_parts, or_parts, not-true}
+use Rattle.regex_lite_syntax.specs.declared.flags.Flags.{Flags}
+use Rattle.regex_lite_syntax.specs.Text.{Text, number_sign, open_paren, close_paren, vertical_bar, question_mark, asterisk, plus_sign}
+use Rattle.regex_lite_syntax.specs.Gaps.{EndsGap, is_white_space}
+use Rattle.regex_lite_syntax.specs.Tree.{Tree}
+use Rattle.regex_lite_syntax.specs.Operators.{bounds, Operator, uncounted, uncounted_lazy}
+use Rattle.regex_lite_syntax.specs.Atoms.{is_literal, no_atom, atom_kind, Atom}
+use Rattle.regex_lite_syntax.specs.Grammar.{Point, GroupKind, Head, plain}
+use Rattle.regex_lite_syntax.specs.Machine.{Kind, paren, closing, bar, operator, atom, kind_at}
+use Rattle.regex_lite_syntax.proofs.Gaps.{ends_before}
+use Rattle.regex_lite_syntax.proofs.Atoms.{no_atom_at, no_literal}
+
+-- the text asks for this, and no gap goes on where it begins
+pub record Asks (verbose : Bool) (t : Text) (k : Kind) : Type 0 where
+  pub ends : EndsGap verbose t
+  pub kind_is : kind_at t ≡ k
+
+-- what a text asks for by a first character that is known
+asks : (verbose : Bool) (c : ℕ) (t rest : Text) (k : Kind) → t ≡ c ∷ rest → EndsGap true (c ∷ rest)
+    → kind_at (c ∷ rest) ≡ k → Asks verbose t k
+asks verbose c t rest k e ends kind =
+    record { ends = ends_before verbose c rest t e ends; kind_is = ap kind_at e ∙ kind }
+
+pub asks_paren : (verbose : Bool) (t rest : Text) → t ≡ open_paren ∷ rest → Asks verbose t paren
+asks_paren verbose t rest e = asks verbose open_paren t rest paren e (refl, λ h. omega (arith, h)) refl
+
+pub asks_closing : (verbose : Bool) (t rest : Text) → t ≡ close_paren ∷ rest → Asks verbose t closing
+asks_closing verbose t rest e = asks verbose close_paren t rest closing e (refl, λ h. omega (arith, h)) refl
+
+pub asks_bar : (verbose : Bool) (t rest : Text) → t ≡ vertical_bar ∷ rest → Asks verbose t bar
+asks_bar verbose t rest e = asks verbose vertical_bar t rest bar e (refl, λ h. omega (arith, h)) refl
+
+pub asks_head : {level : ℕ} {p q : Point} {kind : GroupKind} → Head level p q kind
+    → Asks p.flags.ignore_whitespace p.rest paren
+asks_head {p} (plain opened rest e g h k) = asks_paren p.flags.ignore_whitespace p.rest opened e
+
+no_bounds : (c : ℕ) → (c ≢ question_mark) → (c ≢ asterisk) → (c ≢ plus_sign) → bounds c ≡ None
+no_bounds c no_question no_asterisk no_plus =
+    rw (ne_eqb c question_mark no_question, ne_eqb c asterisk no_asterisk, ne_eqb c plus_sign no_plus) refl
+
+-- the characters that have bounds
+bounded : (c : ℕ) (b : ℕ × Option ℕ) → bounds c ≡ Some b → (c ≡ question_mark) ⊎ ((c ≡ asterisk) ⊎ (c ≡ plus_sign))
+bounded c b has = one_of (cases_eq c question_mark) (cases_eq c asterisk) (cases_eq c plus_sign)
+  where
+    one_of : (c ≡ question_mark) ⊎ (c ≢ question_mark) → (c ≡ asterisk) ⊎ (c ≢ asterisk)
+        → (c ≡ plus_sign) ⊎ (c ≢ plus_sign) → (c ≡ question_mark) ⊎ ((c ≡ asterisk) ⊎ (c ≡ plus_sign))
+    one_of (inl is_question) _ _ = inl is_question
+    one_of (inr no_question) (inl is_asterisk) _ = inr (inl is_asterisk)
+    one_of (inr no_question) (inr no_asterisk) (inl is_plus) = inr (inr is_plus)
+    one_of (inr no_question) (inr no_asterisk) (inr no_plus) =
+        let none = no_bounds c no_question no_asterisk no_plus in absurd (cc (has, none))
+
+pub asks_bounded : (verbose : Bool) (c : ℕ) (b : ℕ × Option ℕ) (t rest : Text) → t ≡ c ∷ rest → bounds c ≡ Some b
+    → Asks verbose t operator
+asks_bounded verbose c b t rest e has = by_character (bounded c b has)
+  where
+    at_character : (d : ℕ) → c ≡ d → EndsGap true (d ∷ rest) → kind_at (d ∷ rest) ≡ operator → Asks verbose t operator
+    at_character d h ends kind = asks verbose d t rest operator (e ∙ ap (λ x. x ∷ rest) h) ends kind
+
+    by_character : (c ≡ question_mark) ⊎ ((c ≡ asterisk) ⊎ (c ≡ plus_sign)) → Asks verbose t operator
+    by_character (inl h) = at_character question_mark h (refl, λ k. omega (arith, k)) refl
+    by_character (inr (inl h)) = at_character asterisk h (refl, λ k. omega (arith, k)) refl
+    by_character (inr (inr h)) = at_character plus_sign h (refl, λ k. omega (arith, k)) refl
+
+pub asks_operator : {flags : Flags} {t rest : Text} {min : ℕ} {max : Option ℕ} {greedy : Bool}
+    → Operator flags t rest min max greedy → (verbose : Bool) → Asks verbose t operator
+asks_operator {t} {rest} {min} {max} (uncounted c e b n g) verbose = asks_bounded verbose c (min, max) t rest e b
+asks_operator {t} {rest} {min} {max} (uncounted_lazy c e b g) verbose = asks_bounded verbose c (min, max) t _ e b
+
+-- a character that is no group's, no bar and no operator asks for an atom
+pub kind_other : (c : ℕ) (t : Text) → (c ≢ open_paren) → (c ≢ close_paren) → (c ≢ vertical_bar) → bounds c ≡ None
+    → kind_at (c ∷ t) ≡ atom
+kind_other c t no_open no_close no_bar none =
+    rw (ne_eqb c open_paren no_open, ne_eqb c close_paren no_close, ne_eqb c vertical_bar no_bar, none) refl
+
+atom_kind_is : (flags : Flags) (t rest : Text) (a : Tree) → Atom flags t rest a → kind_at t ≡ atom
+atom_kind_is flags t rest a d =
+    let no_group = kind_other d.first d.past_first (no open_paren refl) (no close_paren refl) in
+    ap kind_at d.begins ∙ no_group (no vertical_bar refl) none
+  where
+    no : (c : ℕ) → atom_kind flags c ≡ no_atom → d.first ≢ c
+    no c kind e = no_atom_at flags t rest a c d.past_first (d.begins ∙ ap (λ x. x ∷ d.past_first) e) kind d
+
+    none : bounds d.first ≡ None
+    none = no_bounds d.first (no question_mark refl) (no asterisk refl) (no plus_sign refl)
+
+literal_ends : (verbose : Bool) (c : ℕ) (t : Text) → is_literal verbose c ≡ true → EndsGap verbose (c ∷ t)
+literal_ends false c t e = tt
+literal_ends true c t e =
+    let both = and_parts _ _ e in
+    let blank = or_parts (is_white_space c) (c == number_sign) (not-true _ both.1) in
+    (rw blank.0 refl, eqb-false c number_sign blank.1)
+
+atom_ends : (flags : Flags) (t rest : Text) (a : Tree) → Atom flags t rest a → EndsGap flags.ignore_whitespace t
+atom_ends flags t rest a d =
+    let verbose = flags.ignore_whitespace in
+    subst (λ u. EndsGap verbose u) (sym d.begins) (first_ends (cases_Bool (is_literal verbose d.first)))
+  where
+    literal : Bool
+    literal = is_literal flags.ignore_whitespace d.first
+
+    first_ends : (literal ≡ true) ⊎ (literal ≡ false) → EndsGap flags.ignore_whitespace (d.first ∷ d.past_first)
+    first_ends (inl stands) = literal_ends flags.ignore_whitespace d.first d.past_first stands
+    first_ends (inr other) = absurd (no_literal flags t rest a d.first d.past_first d.begins other d)
+
+pub asks_atom : (flags : Flags) (t rest : Text) (a : Tree) → Atom flags t rest a → Asks flags.ignore_whitespace t atom
+asks_atom flags t rest a d =
+    record { ends = atom_ends flags t rest a d; kind_is = atom_kind_is flags t rest a d }

@@ -1,0 +1,10 @@
+use Rattle.std.proofs.Common.{refl}
+use Rattle.regex_lite_syntax.specs.Views.{tree_of}
+use Rattle.regex_lite_syntax.specs.Machine.{with_items}
+use Rattle.regex_lite_syntax.specs.ParserStates.{state}
+use Rattle.regex_lite_syntax.proofs.States.{map_pushed}
+use Rattle.regex_lite_syntax.proofs.parse.Parser.add.Goals as goal
+
+pub returns : goal.returns
+unfolding state with_items
+returns c t u d = rw (map_pushed tree_of _ _ _ c.in_ok-push.ensures.items) refl

@@ -1,0 +1,10 @@
+use Rattle.std.proofs.Common.{refl}
+use Rattle.regex_lite_syntax.specs.Machine.{parted}
+use Rattle.regex_lite_syntax.specs.ParserStates.{state}
+use Rattle.regex_lite_syntax.proofs.parse.Parser.end_branch.Goals as goal
+
+pub returns : goal.returns
+unfolding state parted
+returns c t u d =
+    let ended = c.in_ok-end_branch.ensures in
+    rw (c.in_ok-end_branch.ensures.flags, c.in_ok-end_branch.ensures.branches, c.in_ok-end_branch.ensures.items) refl

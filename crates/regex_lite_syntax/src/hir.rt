@@ -1,0 +1,100 @@
+//! The tree of a pattern.
+ghost use Rattle.std.specs.Prelude.{◌≡◌, map, IfOk};
+ghost use Rattle.regex_lite_syntax.specs.Tree.{sequence_of, choice_of, repeated};
+ghost use Rattle.regex_lite_syntax.specs.Views.{tree_of};
+
+use std::alloc::{AllocError, Global};
+
+/// A pattern as a tree.
+pub enum Hir {
+    /// The empty text.
+    Empty,
+    /// This character.
+    Char(char),
+    /// `sub` at least `min` times, and at most `max` times where there is a limit.
+    Repetition {
+        min: u32,
+        max: Option<u32>,
+        /// More passes are preferred to fewer.
+        greedy: bool,
+        sub: Box<Hir>,
+    },
+    /// One after another.
+    Concat(Vec<Hir>),
+    /// One of these, the earlier preferred.
+    Alternation(Vec<Hir>),
+}
+
+impl Drop for Hir {
+    // A chain of repetitions is as long as the pattern has operators, so it is taken apart in a
+    // loop: only lists are dropped by recursion.
+    fn drop(mut self) {
+        loop {
+            match self {
+                Hir::Empty => return,
+                Hir::Char(_) => return,
+                Hir::Concat(_parts) => return,
+                Hir::Alternation(_branches) => return,
+                Hir::Repetition {
+                    min: _,
+                    max: _,
+                    greedy: _,
+                    sub,
+                } => self = Box::into_inner(sub),
+            }
+        }
+    }
+}
+
+impl Hir {
+    /// A branch with these items.
+    pub(crate) fn concat(mut items: Vec<Hir>) -> Hir
+        ensures { tree_of result ≡ sequence_of (map tree_of items.items) }
+    {
+        if items.len() > 1 {
+            return Hir::Concat(items);
+        }
+        match items.pop() {
+            None => Hir::Empty,
+            Some(item) => item,
+        }
+    }
+
+    /// Alternatives with these branches.
+    pub(crate) fn alternation(mut branches: Vec<Hir>) -> Hir
+        ensures { tree_of result ≡ choice_of (map tree_of branches.items) }
+    {
+        if branches.len() > 1 {
+            return Hir::Alternation(branches);
+        }
+        match branches.pop() {
+            None => Hir::Empty,
+            Some(branch) => branch,
+        }
+    }
+
+    /// What an operator makes of an item.
+    pub(crate) fn repetition(
+        alloc: Global,
+        min: u32,
+        max: Option<u32>,
+        greedy: bool,
+        sub: Hir,
+    ) -> Result<Hir, AllocError>
+        ensures { IfOk result (λ hir. tree_of hir ≡ repeated min max greedy (tree_of sub)) }
+    {
+        if min == 0 && max == Some(0) {
+            return Ok(Hir::Empty);
+        }
+        if min == 1 && max == Some(1) {
+            return Ok(sub);
+        }
+        let sub = Box::new(alloc, sub)?;
+        Ok(Hir::Repetition {
+            min,
+            max,
+            greedy,
+            sub,
+        })
+    }
+}

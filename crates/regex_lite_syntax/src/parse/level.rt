@@ -1,0 +1,60 @@
+//! What has been read of one group.
+ghost use Rattle.std.specs.Prelude.{◌≡◌, ◌++◌, ◌∷◌, [], map, IfOk, OnOk};
+ghost use Rattle.regex_lite_syntax.specs.Tree.{sequence_of, choice_of};
+ghost use Rattle.regex_lite_syntax.specs.Views.{tree_of};
+
+use crate::flags::Flags;
+use crate::hir::Hir;
+use std::alloc::{AllocError, Global};
+use std::mem;
+
+/// The branches of a group that have ended, and the items of the one under way.
+#[derive(Drop)]
+pub(crate) struct Level {
+    /// The flags that hold at the place that has been reached in the group.
+    pub(crate) flags: Flags,
+    pub(crate) branches: Vec<Hir>,
+    pub(crate) items: Vec<Hir>,
+}
+
+impl Level {
+    /// A group of which nothing has been read.
+    pub(crate) fn new(alloc: Global, flags: Flags) -> Level
+        ensures flags { result.flags ≡ flags }
+        ensures branches { result.branches.items ≡ [] }
+        ensures items { result.items.items ≡ [] }
+    {
+        Level {
+            flags,
+            branches: Vec::new(alloc),
+            items: Vec::new(alloc),
+        }
+    }
+
+    /// The branch under way ends, and the next begins.
+    pub(crate) fn end_branch(&mut self, alloc: Global) -> Result<(), AllocError>
+        ensures flags { self.new.flags ≡ self.old.flags }
+        ensures branches { OnOk result (map tree_of self.new.branches.items
+            ≡ map tree_of self.old.branches.items
+            ++ sequence_of (map tree_of self.old.items.items) ∷ []) }
+        ensures items { OnOk result (self.new.items.items ≡ []) }
+    {
+        let items = mem::replace(&mut self.items, Vec::new(alloc));
+        self.branches.push(Hir::concat(items))?;
+        Ok(())
+    }
+
+    /// The alternatives of the group, where it ends.
+    pub(crate) fn into_tree(self) -> Result<Hir, AllocError>
+        ensures { IfOk result (λ hir. tree_of hir ≡ choice_of
+            (map tree_of self.branches.items ++ sequence_of (map tree_of self.items.items) ∷ [])) }
+    {
+        let Level {
+            flags: _,
+            mut branches,
+            items,
+        } = self;
+        branches.push(Hir::concat(items))?;
+        Ok(Hir::alternation(branches))
+    }
+}
