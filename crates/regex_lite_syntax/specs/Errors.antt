@@ -5,8 +5,8 @@ use Rattle.regex_lite_syntax.specs.declared.error.ErrorKind.{ErrorKind}
 use Rattle.regex_lite_syntax.specs.declared.error.ErrorKind.TheVariants as kind
 use Rattle.regex_lite_syntax.specs.declared.error.Fault.{Fault}
 use Rattle.regex_lite_syntax.specs.declared.error.Fault.TheVariants.{Syntax, Nesting, Groups, Size, Places, Slots, Memory, Replace}
-use Rattle.regex_lite_syntax.specs.declared.error.SyntaxFault.{SyntaxFault}
-use Rattle.regex_lite_syntax.specs.declared.error.SyntaxFault.TheVariants.{DuplicateCaptureName, UnclosedGroup, UnclosedGroupQuestion, UnopenedGroup, LookUnsupported, EmptyFlags, MissingGroupName, InvalidGroupName, UnclosedGroupName, EmptyGroupName, FlagUnrecognized, FlagRepeatedNegation, FlagDuplicate, FlagUnexpectedEof, FlagDanglingNegation, DecimalNoDigits, DecimalInvalid, HexBraceInvalidDigit, HexBraceUnexpectedEof, HexBraceEmpty, HexBraceInvalid, HexFixedUnexpectedEof, HexFixedInvalidDigit, HexFixedInvalid, HexUnexpectedEof, EscapeUnexpectedEof, BackreferenceUnsupported, UnicodeClassUnsupported, EscapeUnrecognized, UncountedRepetitionSubMissing, CountedRepetitionSubMissing, CountedRepetitionUnclosed, CountedRepetitionMinUnclosed, CountedRepetitionCommaUnclosed, CountedRepetitionMinMaxUnclosed, CountedRepetitionInvalid, CountedRepetitionInvalidRange, ClassUnclosedAfterItem, ClassInvalidRangeItem, ClassInvalidItem, ClassUnclosedAfterDash, ClassUnclosedAfterNegation, ClassUnclosedAfterClosing, ClassInvalidRange, ClassUnclosed, ClassNestUnsupported, ClassIntersectionUnsupported, ClassDifferenceUnsupported, ClassSymmetricDifferenceUnsupported, SpecialWordBoundaryUnclosed, SpecialWordBoundaryUnrecognized, SpecialWordOrRepetitionUnexpectedEof, NotSupportedYet}
+use Rattle.regex_lite_syntax.specs.declared.error.syntax.SyntaxFault.{SyntaxFault}
+use Rattle.regex_lite_syntax.specs.declared.error.syntax.SyntaxFault.TheVariants.{DuplicateCaptureName, UnclosedGroup, UnclosedGroupQuestion, UnopenedGroup, LookUnsupported, EmptyFlags, MissingGroupName, InvalidGroupName, UnclosedGroupName, EmptyGroupName, FlagUnrecognized, FlagRepeatedNegation, FlagDuplicate, FlagUnexpectedEof, FlagDanglingNegation, DecimalNoDigits, DecimalInvalid, HexBraceInvalidDigit, HexBraceUnexpectedEof, HexBraceEmpty, HexBraceInvalid, HexFixedUnexpectedEof, HexFixedInvalidDigit, HexFixedInvalid, HexUnexpectedEof, EscapeUnexpectedEof, BackreferenceUnsupported, UnicodeClassUnsupported, EscapeUnrecognized, UncountedRepetitionSubMissing, CountedRepetitionSubMissing, CountedRepetitionUnclosed, CountedRepetitionMinUnclosed, CountedRepetitionCommaUnclosed, CountedRepetitionMinMaxUnclosed, CountedRepetitionInvalid, CountedRepetitionInvalidRange, ClassUnclosedAfterItem, ClassInvalidRangeItem, ClassInvalidItem, ClassUnclosedAfterDash, ClassUnclosedAfterNegation, ClassUnclosedAfterClosing, ClassInvalidRange, ClassUnclosed, ClassNestUnsupported, ClassIntersectionUnsupported, ClassDifferenceUnsupported, ClassSymmetricDifferenceUnsupported, SpecialWordBoundaryUnclosed, SpecialWordBoundaryUnrecognized, SpecialWordOrRepetitionUnexpectedEof, NotSupportedYet}
 
 -- the text of each rule of the grammar that a pattern can break
 abbrev pub fault_text : SyntaxFault → List ℕ

@@ -3,10 +3,13 @@
 //! A text of a syntax fault stands in one place, `SyntaxFault::text`, so that it tells which rule
 //! of the grammar a pattern broke.
 ghost use Rattle.std.specs.Prelude.{◌≡◌, Some};
-ghost use Rattle.regex_lite_syntax.specs.Errors.{kind_of, text_of, fault_text, syntax_error, out_of_memory, refused_replacement};
+ghost use Rattle.regex_lite_syntax.specs.Errors.{kind_of, text_of, syntax_error, out_of_memory, refused_replacement};
+
+mod syntax;
 
 use std::alloc::{AllocError, AllocFailed};
 use std::fmt;
+pub use syntax::SyntaxFault;
 
 /// What kind of refusal an [`Error`] is.
 #[derive(Clone, Copy, PartialEq, Eq, Debug)]
@@ -27,181 +30,6 @@ pub enum ErrorKind {
     Memory,
     /// A caller's replacer refused.
     Replace,
-}
-
-/// Which rule of the grammar a pattern breaks.
-#[derive(Clone, Copy, PartialEq, Eq, Debug)]
-pub enum SyntaxFault {
-    DuplicateCaptureName,
-    UnclosedGroup,
-    UnclosedGroupQuestion,
-    UnopenedGroup,
-    LookUnsupported,
-    EmptyFlags,
-    MissingGroupName,
-    InvalidGroupName,
-    UnclosedGroupName,
-    EmptyGroupName,
-    FlagUnrecognized,
-    FlagRepeatedNegation,
-    FlagDuplicate,
-    FlagUnexpectedEof,
-    FlagDanglingNegation,
-    DecimalNoDigits,
-    DecimalInvalid,
-    HexBraceInvalidDigit,
-    HexBraceUnexpectedEof,
-    HexBraceEmpty,
-    HexBraceInvalid,
-    HexFixedUnexpectedEof,
-    HexFixedInvalidDigit,
-    HexFixedInvalid,
-    HexUnexpectedEof,
-    EscapeUnexpectedEof,
-    BackreferenceUnsupported,
-    UnicodeClassUnsupported,
-    EscapeUnrecognized,
-    UncountedRepetitionSubMissing,
-    CountedRepetitionSubMissing,
-    CountedRepetitionUnclosed,
-    CountedRepetitionMinUnclosed,
-    CountedRepetitionCommaUnclosed,
-    CountedRepetitionMinMaxUnclosed,
-    CountedRepetitionInvalid,
-    CountedRepetitionInvalidRange,
-    ClassUnclosedAfterItem,
-    ClassInvalidRangeItem,
-    ClassInvalidItem,
-    ClassUnclosedAfterDash,
-    ClassUnclosedAfterNegation,
-    ClassUnclosedAfterClosing,
-    ClassInvalidRange,
-    ClassUnclosed,
-    ClassNestUnsupported,
-    ClassIntersectionUnsupported,
-    ClassDifferenceUnsupported,
-    ClassSymmetricDifferenceUnsupported,
-    SpecialWordBoundaryUnclosed,
-    SpecialWordBoundaryUnrecognized,
-    SpecialWordOrRepetitionUnexpectedEof,
-    NotSupportedYet,
-}
-
-impl SyntaxFault {
-    /// The text with which the fault is reported.
-    pub fn text(self) -> &'static str
-        ensures { result.now ≡ fault_text self }
-    {
-        match self {
-            SyntaxFault::DuplicateCaptureName => "duplicate capture group name",
-            SyntaxFault::UnclosedGroup => "found open group without closing ')'",
-            SyntaxFault::UnclosedGroupQuestion => "expected closing ')', but got end of pattern",
-            SyntaxFault::UnopenedGroup => "found closing ')' without matching '('",
-            SyntaxFault::LookUnsupported => "look-around is not supported",
-            SyntaxFault::EmptyFlags => "empty flag directive '(?)' is not allowed",
-            SyntaxFault::MissingGroupName => "expected capture group name, but got end of pattern",
-            SyntaxFault::InvalidGroupName => "invalid group name",
-            SyntaxFault::UnclosedGroupName => {
-                "expected end of capture group name, but got end of pattern"
-            }
-            SyntaxFault::EmptyGroupName => "empty capture group names are not allowed",
-            SyntaxFault::FlagUnrecognized => "unrecognized inline flag",
-            SyntaxFault::FlagRepeatedNegation => "inline flag negation cannot be repeated",
-            SyntaxFault::FlagDuplicate => "duplicate inline flag is not allowed",
-            SyntaxFault::FlagUnexpectedEof => {
-                "expected ':' or ')' to end inline flags, but got end of pattern"
-            }
-            SyntaxFault::FlagDanglingNegation => "inline flags cannot end with negation directive",
-            SyntaxFault::DecimalNoDigits => "expected decimal number, but found no digits",
-            SyntaxFault::DecimalInvalid => "got invalid decimal number",
-            SyntaxFault::HexBraceInvalidDigit => {
-                "expected hexadecimal number in braces, but got non-hex digit"
-            }
-            SyntaxFault::HexBraceUnexpectedEof => {
-                "expected hexadecimal number, but saw end of pattern before closing brace"
-            }
-            SyntaxFault::HexBraceEmpty => {
-                "expected hexadecimal number in braces, but got no digits"
-            }
-            SyntaxFault::HexBraceInvalid => "got invalid hexadecimal number in braces",
-            SyntaxFault::HexFixedUnexpectedEof => {
-                "expected fixed length hexadecimal number, but saw end of pattern first"
-            }
-            SyntaxFault::HexFixedInvalidDigit => {
-                "expected fixed length hexadecimal number, but got non-hex digit"
-            }
-            SyntaxFault::HexFixedInvalid => "got invalid fixed length hexadecimal number",
-            SyntaxFault::HexUnexpectedEof => {
-                "expected hexadecimal number, but saw end of pattern first"
-            }
-            SyntaxFault::EscapeUnexpectedEof => {
-                "saw start of escape sequence, but saw end of pattern before it finished"
-            }
-            SyntaxFault::BackreferenceUnsupported => "backreferences are not supported",
-            SyntaxFault::UnicodeClassUnsupported => "Unicode character classes are not supported",
-            SyntaxFault::EscapeUnrecognized => "unrecognized escape sequence",
-            SyntaxFault::UncountedRepetitionSubMissing => {
-                "uncounted repetition operator must be applied to a sub-expression"
-            }
-            SyntaxFault::CountedRepetitionSubMissing => {
-                "counted repetition operator must be applied to a sub-expression"
-            }
-            SyntaxFault::CountedRepetitionUnclosed => "found unclosed counted repetition operator",
-            SyntaxFault::CountedRepetitionMinUnclosed => {
-                "found incomplete and unclosed counted repetition operator"
-            }
-            SyntaxFault::CountedRepetitionCommaUnclosed => {
-                "found counted repetition operator with a comma that is unclosed"
-            }
-            SyntaxFault::CountedRepetitionMinMaxUnclosed => {
-                "found counted repetition with min and max that is unclosed"
-            }
-            SyntaxFault::CountedRepetitionInvalid => {
-                "expected closing brace for counted repetition, but got something else"
-            }
-            SyntaxFault::CountedRepetitionInvalidRange => {
-                "found counted repetition with a min bigger than its max"
-            }
-            SyntaxFault::ClassUnclosedAfterItem => {
-                "non-empty character class has no closing bracket"
-            }
-            SyntaxFault::ClassInvalidRangeItem => {
-                "character class ranges must start and end with a single character"
-            }
-            SyntaxFault::ClassInvalidItem => "invalid escape sequence in character class",
-            SyntaxFault::ClassUnclosedAfterDash => {
-                "non-empty character class has no closing bracket after dash"
-            }
-            SyntaxFault::ClassUnclosedAfterNegation => {
-                "negated character class has no closing bracket"
-            }
-            SyntaxFault::ClassUnclosedAfterClosing => {
-                "character class begins with literal ']' but has no closing bracket"
-            }
-            SyntaxFault::ClassInvalidRange => "invalid range in character class",
-            SyntaxFault::ClassUnclosed => "found unclosed character class",
-            SyntaxFault::ClassNestUnsupported => "nested character classes are not supported",
-            SyntaxFault::ClassIntersectionUnsupported => {
-                "character class intersection is not supported"
-            }
-            SyntaxFault::ClassDifferenceUnsupported => {
-                "character class difference is not supported"
-            }
-            SyntaxFault::ClassSymmetricDifferenceUnsupported => {
-                "character class symmetric difference is not supported"
-            }
-            SyntaxFault::SpecialWordBoundaryUnclosed => {
-                "special word boundary assertion is unclosed or has an invalid character"
-            }
-            SyntaxFault::SpecialWordBoundaryUnrecognized => {
-                "special word boundary assertion is unrecognized"
-            }
-            SyntaxFault::SpecialWordOrRepetitionUnexpectedEof => {
-                "found start of special word boundary or repetition without an end"
-            }
-            SyntaxFault::NotSupportedYet => "not supported yet",
-        }
-    }
 }
 
 #[derive(Clone, Copy, PartialEq, Eq, Debug)]

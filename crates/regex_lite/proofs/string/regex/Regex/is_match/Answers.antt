@@ -1,0 +1,10 @@
+use Rattle.std.proofs.Common.{◌∙◌}
+use Rattle.regex_lite_syntax.specs.Views.{tree_of}
+use Rattle.regex_lite.proofs.OneTree.{answers_for}
+use Rattle.regex_lite.proofs.string.regex.Regex.is_match.Goals as goal
+
+pub returns-clause-found : goal.returns-clause-found
+returns-clause-found c =
+    answers_for c.args.self.now c.args.haystack.now (tree_of c.deref.result.now.hir) c.as_slice.result.now
+    c.in_ok-found.found (c.as_slice.ensures.value ∙ c.in_ok-text.ensures)
+    (rw (c.deref.ensures, ← c.self.view_is) c.self.invariant) c.in_ok-found.ensures

@@ -1,0 +1,4 @@
+use Rattle.regex_lite.proofs.string.regex.Regex.new.Goals as goal
+
+pub returns-clause-refused : goal.returns-clause-refused
+returns-clause-refused c = rw c.in_ok-new.ensures.ok at c.build-2.ensures.refused

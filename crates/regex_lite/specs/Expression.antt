@@ -1,0 +1,29 @@
+-- A regex as contracts see it, and what a search of it finds.
+use Rattle.std.specs.Prelude.{ℕ, List, chars}
+use Rattle.regex_lite_syntax.specs.declared.flags.Flags.{Flags}
+use Rattle.regex_lite_syntax.specs.Tree.{Tree}
+use Rattle.regex_lite_syntax.specs.Grammar.{IsTree, HasTree}
+use Rattle.regex_lite_syntax.specs.Matches.{HasMatch}
+use Rattle.regex_lite.specs.Settings.{Settings, no_flags}
+
+-- a pattern, as its bytes, and the flags under which it is read
+pub record Expression : Type 0 where
+  pub pattern : List ℕ
+  pub flags : Flags
+
+-- what is built under these settings
+abbrev pub expression_of : Settings → Expression
+expression_of settings = record { pattern = settings.pattern; flags = settings.flags }
+
+-- what is built of a pattern under the default settings
+abbrev pub default_expression : List ℕ → Expression
+default_expression pattern = record { pattern = pattern; flags = no_flags }
+
+-- the grammar gives the pattern a tree
+abbrev pub IsWellFormed : Expression → Type 0
+IsWellFormed re = HasTree re.flags (chars re.pattern)
+
+-- the pattern matches somewhere in the haystack, which is given as its bytes
+abbrev pub MatchesIn : Expression → List ℕ → Type 0
+MatchesIn re haystack =
+    (tree : Tree) × IsTree re.flags (chars re.pattern) tree × HasMatch tree (chars haystack)

@@ -1,0 +1,9 @@
+-- What the parts of a regex have to do with one another.
+use Rattle.std.specs.Prelude.{chars, string_bytes}
+use Rattle.regex_lite_syntax.specs.Grammar.{IsTree}
+use Rattle.regex_lite_syntax.specs.Views.{tree_of}
+use Rattle.regex_lite.specs.declared.string.regex.Program.{Program}
+
+-- the tree is the one that the grammar gives the pattern
+abbrev pub IsBuilt : Program → Type 0
+IsBuilt program = IsTree program.flags (chars (string_bytes program.pattern)) (tree_of program.hir)

@@ -1,0 +1,30 @@
+//! Regular expressions over texts of Unicode characters.
+//!
+//! A *pattern* is the text of a regular expression, and a [`Regex`] is what is built from it. A
+//! regex is asked about a *haystack*, the text that is searched. A *match* is a part of the
+//! haystack that the pattern fits; it may be empty. A *position* or an *offset* counts bytes of
+//! UTF-8 from the start of the haystack, and a match begins and ends between two characters.
+//!
+//! ```
+//! let regex = Regex::new(alloc, "samwise|sam")?;
+//! assert!(rt; regex.is_match("samwise gamgee")?);
+//! assert!(rt; !regex.is_match("frodo")?);
+//! ```
+//!
+//! The test `tests::examples::whole_crate` runs this example.
+//!
+//! Whatever takes memory is given the allocator, and answers an [`Error`] of the kind
+//! [`ErrorKind::Memory`] where a growth is refused. No call panics.
+//!
+//! What a pattern means is stated in `specs/`: the grammar says which tree a pattern stands for,
+//! and the match relation says which parts of a haystack a tree matches.
+#![tactic(auto)]
+
+mod plain;
+mod string;
+
+pub use regex_lite_syntax::{Error, ErrorKind};
+pub use string::{Regex, RegexBuilder};
+
+#[cfg(test)]
+mod tests;

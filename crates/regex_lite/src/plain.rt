@@ -1,0 +1,227 @@
+//! The plainest search: from a set of positions, and node by node of the tree, to the set of the
+//! positions where a match that starts in the first can end.
+ghost use Rattle.std.specs.Prelude.{◌↔◌, ◌≤◌, IfOk, IsTrue, map};
+ghost use Rattle.regex_lite_syntax.specs.Matches.{Chain, HasMatch, Matches, Passes, SomeBranch};
+ghost use Rattle.regex_lite_syntax.specs.Tree.{trees, character};
+ghost use Rattle.regex_lite_syntax.specs.Views.{tree_of};
+ghost use Rattle.regex_lite.specs.Positions.{AddsPass, IsOver, IsReached, ReadsAsAnswered, SomePasses};
+
+mod positions;
+
+use positions::Positions;
+use regex_lite_syntax::Hir;
+use std::alloc::{AllocError, Global};
+
+/// Whether the tree matches from some position to some position.
+pub(crate) fn has_match(alloc: Global, hir: &Hir, haystack: &[char]) -> Result<bool, AllocError>
+    ensures { IfOk result (λ found. IsTrue found ↔ HasMatch (tree_of hir.now) haystack.now) }
+{
+    let starts = Positions::all(alloc, haystack.len() + 1)?;
+    let ends = after_tree(alloc, hir, haystack, &starts)?;
+    Ok(!ends.is_empty())
+}
+
+/// The positions after a match of the tree.
+#[cycle(after)]
+fn after_tree(
+    alloc: Global,
+    hir: &Hir,
+    haystack: &[char],
+    from: &Positions,
+) -> Result<Positions, AllocError>
+    requires { IsOver haystack.now from.now }
+    ensures { IfOk result (IsReached (Matches haystack.now (tree_of hir.now)) from.now) }
+{
+    match hir {
+        Hir::Empty => from.try_clone(),
+        Hir::Char(c) => after_char(alloc, *c, haystack, from),
+        Hir::Repetition {
+            min,
+            max,
+            greedy: _,
+            sub,
+        } => after_repetition(alloc, *min, *max, sub, haystack, from),
+        Hir::Concat(parts) => after_each(alloc, parts, haystack, from),
+        Hir::Alternation(branches) => after_any(alloc, branches, haystack, from),
+    }
+}
+
+/// The positions after this character.
+fn after_char(
+    alloc: Global,
+    c: char,
+    haystack: &[char],
+    from: &Positions,
+) -> Result<Positions, AllocError>
+    requires { IsOver haystack.now from.now }
+    ensures { IfOk result (IsReached (Matches haystack.now (character c)) from.now) }
+{
+    after_reading(alloc, |read| read == c, haystack, from)
+}
+
+/// The positions after a character that passes the test.
+fn after_reading<F: Fn(char) -> bool>(
+    alloc: Global,
+    test: F,
+    haystack: &[char],
+    from: &Positions,
+) -> Result<Positions, AllocError>
+    requires over { IsOver haystack.now from.now }
+    requires callable { F.IsAlwaysCallable test }
+    ensures { IfOk result (ReadsAsAnswered (F.post test) haystack.now from.now) }
+{
+    let mut to = Positions::none(alloc, from.len())?;
+    for (i, c) in haystack.iter().enumerate() {
+        if from.contains(i) && test(*c) {
+            to.insert(i + 1);
+        }
+    }
+    Ok(to)
+}
+
+/// The positions after the parts, one after another.
+#[cycle(after)]
+fn after_each(
+    alloc: Global,
+    parts: &[Hir],
+    haystack: &[char],
+    from: &Positions,
+) -> Result<Positions, AllocError>
+    requires { IsOver haystack.now from.now }
+    ensures { IfOk result
+        (IsReached (Chain haystack.now (trees (map tree_of parts.now))) from.now) }
+{
+    let mut reached = from.try_clone()?;
+    for part in parts {
+        reached = after_tree(alloc, part, haystack, &reached)?;
+    }
+    Ok(reached)
+}
+
+/// The positions after one of the branches.
+#[cycle(after)]
+fn after_any(
+    alloc: Global,
+    branches: &[Hir],
+    haystack: &[char],
+    from: &Positions,
+) -> Result<Positions, AllocError>
+    requires { IsOver haystack.now from.now }
+    ensures { IfOk result
+        (IsReached (SomeBranch haystack.now (trees (map tree_of branches.now))) from.now) }
+{
+    let mut reached = Positions::none(alloc, from.len())?;
+    for branch in branches {
+        let ends = after_tree(alloc, branch, haystack, from)?;
+        reached.add_all(&ends);
+    }
+    Ok(reached)
+}
+
+/// The positions after a repetition.
+#[cycle(after)]
+fn after_repetition(
+    alloc: Global,
+    min: u32,
+    max: Option<u32>,
+    sub: &Hir,
+    haystack: &[char],
+    from: &Positions,
+) -> Result<Positions, AllocError>
+    requires { IsOver haystack.now from.now }
+    ensures { IfOk result
+        (IsReached (SomePasses (Matches haystack.now (tree_of sub.now)) min max) from.now) }
+{
+    match max {
+        None => after_at_least(alloc, min, sub, haystack, from),
+        Some(max) => {
+            if max < min {
+                return Positions::none(alloc, from.len());
+            }
+            after_between(alloc, min, max, sub, haystack, from)
+        }
+    }
+}
+
+/// The positions after so many passes or more.
+#[cycle(after)]
+fn after_at_least(
+    alloc: Global,
+    min: u32,
+    sub: &Hir,
+    haystack: &[char],
+    from: &Positions,
+) -> Result<Positions, AllocError>
+    requires { IsOver haystack.now from.now }
+    ensures { IfOk result
+        (IsReached (SomePasses (Matches haystack.now (tree_of sub.now)) min None) from.now) }
+{
+    let mut reached = after_passes(alloc, min, sub, haystack, from)?;
+    while add_pass(alloc, sub, haystack, &mut reached)? {}
+    Ok(reached)
+}
+
+/// The positions after so many passes or more, up to a limit.
+#[cycle(after)]
+fn after_between(
+    alloc: Global,
+    min: u32,
+    max: u32,
+    sub: &Hir,
+    haystack: &[char],
+    from: &Positions,
+) -> Result<Positions, AllocError>
+    requires over { IsOver haystack.now from.now }
+    requires in_order { min ≤ max }
+    ensures { IfOk result
+        (IsReached (SomePasses (Matches haystack.now (tree_of sub.now)) min (Some max)) from.now) }
+{
+    let mut reached = after_passes(alloc, min, sub, haystack, from)?;
+    for _ in min..max {
+        if !add_pass(alloc, sub, haystack, &mut reached)? {
+            break;
+        }
+    }
+    Ok(reached)
+}
+
+/// The positions after exactly so many passes.
+#[cycle(after)]
+fn after_passes(
+    alloc: Global,
+    count: u32,
+    sub: &Hir,
+    haystack: &[char],
+    from: &Positions,
+) -> Result<Positions, AllocError>
+    requires { IsOver haystack.now from.now }
+    ensures { IfOk result
+        (IsReached (Passes (Matches haystack.now (tree_of sub.now)) count) from.now) }
+{
+    let mut reached = from.try_clone()?;
+    for _ in 0..count {
+        let next = after_tree(alloc, sub, haystack, &reached)?;
+        // No further pass changes the set, and there may be billions of them.
+        if next.is_same(&reached) {
+            break;
+        }
+        reached = next;
+    }
+    Ok(reached)
+}
+
+/// Adds the positions after one more pass, and says whether one of them is new.
+#[cycle(after)]
+fn add_pass(
+    alloc: Global,
+    sub: &Hir,
+    haystack: &[char],
+    reached: &mut Positions,
+) -> Result<bool, AllocError>
+    requires { IsOver haystack.now reached.old }
+    ensures { IfOk result
+        (AddsPass (Matches haystack.now (tree_of sub.now)) reached.old reached.new) }
+{
+    let next = after_tree(alloc, sub, haystack, reached)?;
+    Ok(reached.add_all(&next))
+}

@@ -1,0 +1,160 @@
+//! A regex, and what can be asked of it.
+ghost use Rattle.std.specs.Prelude.{◌≡◌, ◌↔◌, Some, IfOk, IfErr, IsTrue, chars};
+ghost use Rattle.regex_lite_syntax.specs.Errors.{out_of_memory};
+ghost use Rattle.regex_lite_syntax.specs.Refusals.{Denies};
+ghost use Rattle.regex_lite.specs.Expression.{IsWellFormed, MatchesIn, default_expression};
+
+use crate::plain::has_match;
+use crate::string::builder::RegexBuilder;
+use regex_lite_syntax::{Error, Flags, Hir};
+use std::alloc::{AllocError, Global};
+use std::fmt;
+use std::marker::Model;
+use std::rc::Rc;
+
+/// What the clones of a regex share.
+#[derive(Drop)]
+struct Program {
+    pattern: String,
+    flags: Flags,
+    hir: Hir,
+}
+
+/// A pattern that is ready to be searched for.
+///
+/// Clones share what was built, so a clone costs little.
+#[derive(Drop)]
+pub struct Regex {
+    alloc: Global,
+    program: Rc<Program>,
+}
+
+impl Model for Regex {
+    ghost use Rattle.std.specs.Prelude.{string_bytes};
+    ghost use Rattle.regex_lite.specs.Expression.{Expression};
+
+    ghost Value = { Expression };
+
+    ghost use Rattle.regex_lite.specs.Program.{IsBuilt};
+
+    ghost view = { λ regex. record {
+      pattern = string_bytes regex.program.value.pattern;
+      flags = regex.program.value.flags;
+    } };
+
+    ghost invariant = { λ regex. IsBuilt regex.program.value };
+}
+
+impl Regex {
+    /// The regex of a pattern under the default settings.
+    ///
+    /// ```
+    /// let regex = Regex::new(alloc, "a+")?;
+    /// assert_eq!(rt; regex.as_str(), "a+");
+    /// ```
+    ///
+    /// The test `tests::examples::pattern` runs this example.
+    ///
+    /// # Errors
+    ///
+    /// `Syntax` where the grammar gives the pattern no tree, and `Memory` where a growth is
+    /// refused.
+    pub fn new(alloc: Global, pattern: &str) -> Result<Regex, Error>
+        ensures ok { IfOk result (λ regex. regex ≡ default_expression pattern.now) }
+        ensures well_formed { IfOk result (λ regex. IsWellFormed regex) }
+        ensures refused { IfErr result
+            (λ error. Denies error (IsWellFormed (default_expression pattern.now))) }
+    {
+        RegexBuilder::new(alloc, pattern)?.build()
+    }
+
+    /// The regex of a pattern under these flags.
+    pub(crate) fn build(alloc: Global, flags: Flags, pattern: &str) -> Result<Regex, Error>
+        ensures ok { IfOk result
+            (λ regex. regex ≡ record { pattern = pattern.now; flags = flags }) }
+        ensures well_formed { IfOk result (λ regex. IsWellFormed regex) }
+        ensures refused { IfErr result (λ error. Denies error
+            (IsWellFormed (record { pattern = pattern.now; flags = flags }))) }
+    {
+        let hir = Hir::parse(alloc, flags, pattern)?;
+        let pattern = String::from_str(alloc, pattern)?;
+        let program = Rc::new(
+            alloc,
+            Program {
+                pattern,
+                flags,
+                hir,
+            },
+        )?;
+        Ok(Regex { alloc, program })
+    }
+
+    /// Whether the pattern matches somewhere in the haystack.
+    ///
+    /// ```
+    /// let regex = Regex::new(alloc, "a??b")?;
+    /// assert!(rt; regex.is_match("b")?);
+    /// assert!(rt; !regex.is_match("a")?);
+    /// ```
+    ///
+    /// The test `tests::examples::search` runs this example.
+    ///
+    /// # Errors
+    ///
+    /// `Memory` where a growth is refused.
+    pub fn is_match(&self, haystack: &str) -> Result<bool, Error>
+        ensures found { IfOk result
+            (λ found. IsTrue found ↔ MatchesIn self.now haystack.now) }
+        ensures refused { IfErr result (λ error. error ≡ out_of_memory) }
+    {
+        let text = characters(self.alloc, haystack)?;
+        let found = has_match(self.alloc, &self.program.hir, text.as_slice())?;
+        Ok(found)
+    }
+
+    /// The pattern.
+    pub fn as_str(&self) -> &str
+        ensures { result.now ≡ self.now.pattern }
+    {
+        self.program.pattern.as_str()
+    }
+}
+
+impl Clone for Regex {
+    ghost is_clone = { λ old new. new ≡ old };
+
+    /// An equal regex. It takes no memory.
+    ///
+    /// # Errors
+    ///
+    /// Only where the regex has so many clones that no more can be counted.
+    fn clone(&self) -> Result<Regex, AllocError> {
+        Ok(Regex {
+            alloc: self.alloc,
+            program: self.program.clone()?,
+        })
+    }
+}
+
+/// Writes the pattern.
+impl fmt::Display for Regex {
+    ghost output = { λ regex. Some regex.pattern };
+
+    fn fmt<W: fmt::Write>(&self, f: &mut fmt::Formatter<W>) -> fmt::Result {
+        write!(f, "{}", self.as_str())
+    }
+}
+
+/// Writes the pattern as the only field of `Regex`.
+impl fmt::Debug for Regex {
+    fn fmt<W: fmt::Write>(&self, f: &mut fmt::Formatter<W>) -> fmt::Result {
+        f.debug_tuple("Regex").field(&self.as_str()).finish()
+    }
+}
+
+/// The characters of a text.
+fn characters(alloc: Global, text: &str) -> Result<Vec<char>, AllocError>
+    ensures { IfOk result (λ found. found.items ≡ chars text.now) }
+{
+    text.chars().collect(alloc)
+}

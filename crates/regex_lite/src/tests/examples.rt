@@ -1,0 +1,41 @@
+//! The examples of the documentation.
+use crate::{Regex, RegexBuilder};
+use std::test::Fail;
+
+/// At the head of the crate.
+#[test]
+fn whole_crate(rt: HostRuntime) -> Result<(), Fail> {
+    let alloc = rt.alloc();
+    let regex = Regex::new(alloc, "samwise|sam")?;
+    assert!(rt; regex.is_match("samwise gamgee")?);
+    assert!(rt; !regex.is_match("frodo")?);
+    Ok(())
+}
+
+/// At `RegexBuilder`.
+#[test]
+fn builder(rt: HostRuntime) -> Result<(), Fail> {
+    let alloc = rt.alloc();
+    let builder = RegexBuilder::new(alloc, "(?:ab)*c")?;
+    assert!(rt; builder.build()?.is_match("ababc")?);
+    Ok(())
+}
+
+/// At `Regex::new`.
+#[test]
+fn pattern(rt: HostRuntime) -> Result<(), Fail> {
+    let alloc = rt.alloc();
+    let regex = Regex::new(alloc, "a+")?;
+    assert_eq!(rt; regex.as_str(), "a+");
+    Ok(())
+}
+
+/// At `Regex::is_match`.
+#[test]
+fn search(rt: HostRuntime) -> Result<(), Fail> {
+    let alloc = rt.alloc();
+    let regex = Regex::new(alloc, "a??b")?;
+    assert!(rt; regex.is_match("b")?);
+    assert!(rt; !regex.is_match("a")?);
+    Ok(())
+}

@@ -1,0 +1,27 @@
+-- From what a search found to what the exit status tells.
+use Rattle.std.proofs.Common.{◌≡◌, ◌↔◌, ℕ, Bool, true, false, IsTrue, List, Option, Some, None, IfSome, IsUtf8, subst, refl}
+use Rattle.regex_lite.specs.Expression.{Expression, IsWellFormed, MatchesIn, default_expression}
+use Rattle.rxl.specs.Program.{IsPatternAnswered, status_of}
+
+-- the status is 0 where a match was found
+told_by_status : (found : Bool) (P : Type 0) → (IsTrue found ↔ P) → (status_of found ≡ 0) ↔ P
+told_by_status true P told = (λ _. told.0 refl, λ _. refl)
+told_by_status false P told = (λ is_zero. cc, λ holds. let no_match : false ≡ true = told.1 holds in cc)
+
+-- a search of the whole input answers for the pattern
+pub answered_by_search : (pattern : List ℕ) (input : Option (List ℕ)) (re : Expression) (haystack : List ℕ)
+    (found : Bool) → re ≡ default_expression pattern → IsWellFormed re
+    → IfSome input (λ known. haystack ≡ known) → IsUtf8 haystack → (IsTrue found ↔ MatchesIn re haystack)
+    → IsPatternAnswered pattern input (status_of found)
+answered_by_search pattern None re haystack found re_is well_formed whole is_utf8 told = record {
+  well_formed = subst IsWellFormed re_is well_formed;
+  is_text = tt;
+  told = tt;
+}
+answered_by_search pattern (Some known) re haystack found re_is well_formed whole is_utf8 told = record {
+  well_formed = subst IsWellFormed re_is well_formed;
+  is_text = subst IsUtf8 whole is_utf8;
+  told = told_by_status found (MatchesIn (default_expression pattern) known)
+      (subst (λ bytes. IsTrue found ↔ MatchesIn (default_expression pattern) bytes) whole
+      (subst (λ r. IsTrue found ↔ MatchesIn r haystack) re_is told));
+}

@@ -1,0 +1,53 @@
+//! Why the program ends without an answer.
+ghost use Rattle.std.specs.Prelude.{Some};
+ghost use Rattle.rxl.specs.Faults.{text_of_fault};
+
+use regex_lite::Error;
+use std::{fmt, io};
+
+/// What goes wrong in a run. `Display` writes the line that is reported.
+#[derive(Debug, Drop)]
+pub(crate) enum Fault {
+    /// The arguments are not a command with what it takes.
+    Usage,
+    /// The bytes of standard input are no text.
+    NotUtf8,
+    /// A read of standard input failed.
+    Unreadable,
+    /// The pattern was refused, or a growth.
+    Refused(Error),
+}
+
+impl fmt::Display for Fault {
+    ghost output = { λ fault. Some (text_of_fault fault) };
+
+    fn fmt<W: fmt::Write>(&self, f: &mut fmt::Formatter<W>) -> fmt::Result {
+        match self {
+            Fault::Usage => {
+                write!(
+                    f,
+                    "usage: rxl is-match|find|captures|split|replace|escape PATTERN [TEXT]"
+                )
+            }
+            Fault::NotUtf8 => write!(f, "standard input is not UTF-8"),
+            Fault::Unreadable => write!(f, "standard input cannot be read"),
+            Fault::Refused(error) => write!(f, "{error}"),
+        }
+    }
+}
+
+impl From<Error> for Fault {
+    fn from(error: Error) -> Fault {
+        Fault::Refused(error)
+    }
+}
+
+impl Fault {
+    /// What a failed read of standard input is reported as.
+    pub(crate) fn of_read(error: io::Error) -> Fault {
+        match error.kind() {
+            io::ErrorKind::OutOfMemory => Fault::Refused(Error::memory()),
+            _ => Fault::Unreadable,
+        }
+    }
+}

@@ -1,0 +1,44 @@
+//! Asks regular expressions about standard input.
+#![tactic(auto)]
+
+mod fault;
+mod program;
+#[cfg(test)]
+mod tests;
+
+use fault::Fault;
+use program::run;
+use std::env::Env;
+use std::io::Eprint;
+use std::process::ExitCode;
+use std::{env, io};
+
+fn main(rt: HostRuntime) -> ExitCode {
+    let Ok(words) = arguments(&rt) else {
+        return misused(&rt);
+    };
+    let texts: Result<Vec<&str>, _> = words.iter().map(|word| word.as_str()).collect(rt.alloc());
+    let Ok(args) = texts else {
+        return misused(&rt);
+    };
+    let mut input = rt.reader();
+    let mut out = io::writer(&rt);
+    let mut err = rt.stderr();
+    let status = run(rt.alloc(), args.as_slice(), &mut input, &mut out, &mut err);
+    ExitCode::from(status)
+}
+
+/// The arguments of the process, without the program's name.
+fn arguments<R: Env + AllocGlobal>(rt: &R) -> io::Result<Vec<String>> {
+    let mut words = Vec::new(rt.alloc());
+    for word in env::args(rt)?.skip(1) {
+        words.push(word)?;
+    }
+    Ok(words)
+}
+
+/// Reports that there are no arguments that could be used.
+fn misused(rt: &impl Eprint) -> ExitCode {
+    let _ = eprintln!(rt; "{}", Fault::Usage);
+    ExitCode::from(2)
+}
