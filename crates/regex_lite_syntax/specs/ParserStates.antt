@@ -18,8 +18,8 @@ frame_of l = record {
   items = map tree_of l.items.items;
 }
 
--- the parser as a state, with what is left of the pattern and how many groups stood in one
--- another at most
+-- the parser as a state, with what is left of the pattern, and how many groups stood in one another
+-- at most
 unfoldable pub state : Parser → (rest : Text) → (deepest : ℕ) → State
 state p rest deepest = record {
   point = record { rest = rest; flags = p.here.flags; groups = 0; names = []; deepest = deepest };
@@ -35,7 +35,7 @@ Reads before after t u = (d : ℕ) → (e : ℕ) × Step (state before t d) (sta
 -- the parser read on from one index of the pattern to a later one
 pub record Advances (before after : Parser) (pattern : Text) (at next : ℕ) : Type 0 where
   pub further : at < next
-  pub inside : next ≤ length pattern
+  pub in_pattern : next ≤ length pattern
   pub reads : Reads before after (drop at pattern) (drop next pattern)
 
 -- the machine has a step where the parser stands before t

@@ -34,9 +34,9 @@ impl Level {
     /// The branch under way ends, and the next begins.
     pub(crate) fn end_branch(&mut self, alloc: Global) -> Result<(), AllocError>
         ensures flags { self.new.flags ≡ self.old.flags }
-        ensures branches { OnOk result (map tree_of self.new.branches.items
-            ≡ map tree_of self.old.branches.items
-            ++ sequence_of (map tree_of self.old.items.items) ∷ []) }
+        ensures branches { let ended = sequence_of (map tree_of self.old.items.items) in
+            OnOk result (map tree_of self.new.branches.items
+            ≡ map tree_of self.old.branches.items ++ ended ∷ []) }
         ensures items { OnOk result (self.new.items.items ≡ []) }
     {
         let items = mem::replace(&mut self.items, Vec::new(alloc));

@@ -15,16 +15,16 @@ use Rattle.regex_lite_syntax.proofs.parse.parse_chars.Goals as goal
 pub loop-parser-init : goal.loop-parser-init
 loop-parser-init c = record {
   inside = omega arith;
-  leads = (0, stay (sym (c.new-parser.ensures c.args.chars.now)));
+  reaches = (0, stay (sym (c.new-parser.ensures c.args.chars.now)));
 }
 
 pub loop-parser-preserved : goal.loop-parser-preserved
 loop-parser-preserved c =
     let xs = c.args.chars.now in
     record {
-      inside = c.in_ok-at.ensures.ok.inside;
-      leads = reaches_next c.args.flags xs _ c.step.new.self (drop c.loop-parser.at xs) (drop c.skip_gap-here.result xs)
-          (drop c.in_ok-at.at xs) c.loop-parser.invariant.leads c.skip_gap-here.ensures.gap c.in_ok-at.ensures.ok.reads;
+      inside = c.in_ok-at.ensures.ok.in_pattern;
+      reaches = reaches_next c.args.flags xs _ c.step.new.self (drop c.loop-parser.at xs) (drop c.skip_gap-here.result xs)
+          (drop c.in_ok-at.at xs) c.loop-parser.invariant.reaches c.skip_gap-here.ensures.gap c.in_ok-at.ensures.ok.reads;
     }
 
 -- where the gap ends with the pattern
@@ -41,7 +41,7 @@ returns-then-here-chars-clause-tree c =
     let t = drop c.loop-parser.at xs in
     let gap = gap_only xs c.skip_gap-here.result _ t c.if-here-chars.true c.skip_gap-here.ensures.gap in
     IfOk-weaker c.finish.result (λ hir. Finishes p (tree_of hir)) (λ hir. IsTree c.args.flags xs (tree_of hir))
-    (λ hir. reaches_tree c.args.flags xs p t (tree_of hir) c.loop-parser.invariant.leads gap) c.finish.ensures.ok
+    (λ hir. reaches_tree c.args.flags xs p t (tree_of hir) c.loop-parser.invariant.reaches gap) c.finish.ensures.ok
 
 pub returns-then-here-chars-clause-refused : goal.returns-then-here-chars-clause-refused
 returns-then-here-chars-clause-refused c =
@@ -50,7 +50,7 @@ returns-then-here-chars-clause-refused c =
     let t = drop c.loop-parser.at xs in
     let gap = gap_only xs c.skip_gap-here.result _ t c.if-here-chars.true c.skip_gap-here.ensures.gap in
     IfErr-weaker c.finish.result (λ e. Denies e (p.below.items ≡ [])) (λ e. Denies e (HasTree c.args.flags xs))
-    (λ e. denies_as e _ _ (open_refused c.args.flags xs p t c.loop-parser.invariant.leads gap)) c.finish.ensures.err
+    (λ e. denies_as e _ _ (open_refused c.args.flags xs p t c.loop-parser.invariant.reaches gap)) c.finish.ensures.err
 
 pub returns-in_err-at-clause-refused : goal.returns-in_err-at-clause-refused
 returns-in_err-at-clause-refused c =
@@ -61,5 +61,5 @@ returns-in_err-at-clause-refused c =
     let more : drop here xs ≡ [] → ⊥ = λ e. cc (e, drop_at xs here inside) in
     let left = err_from_is_err_and c.from_residual.result c.from_residual.ensures.1 in
     rw (left.1, left.2) (denies_as c.in_err-at.field-0.0 (CanRead p (drop here xs)) (HasTree c.args.flags xs)
-    (stuck_refused c.args.flags xs p (drop c.loop-parser.at xs) (drop here xs) c.loop-parser.invariant.leads
+    (stuck_refused c.args.flags xs p (drop c.loop-parser.at xs) (drop here xs) c.loop-parser.invariant.reaches
     c.skip_gap-here.ensures.gap more) c.in_err-at.ensures.err)

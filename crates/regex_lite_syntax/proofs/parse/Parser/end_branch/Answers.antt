@@ -7,4 +7,4 @@ pub returns : goal.returns
 unfolding state parted
 returns c t u d =
     let ended = c.in_ok-end_branch.ensures in
-    rw (c.in_ok-end_branch.ensures.flags, c.in_ok-end_branch.ensures.branches, c.in_ok-end_branch.ensures.items) refl
+    rw (ended.flags, ended.branches, ended.items) refl

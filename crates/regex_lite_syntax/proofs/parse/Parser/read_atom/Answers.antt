@@ -22,6 +22,6 @@ returns-clause-ok c =
     let adds = subst (Adds c.args.self.now c.add.new.self) (tree_of-Char _) c.in_ok-add.ensures in
     record {
       further = omega arith;
-      inside = omega (arith, c.requires.inside);
+      in_pattern = omega (arith, c.requires.inside);
       reads = reads_literal c.args.self.now c.add.new.self (drop i xs) (drop (i + 1) xs) _ e literal adds;
     }

@@ -15,7 +15,7 @@ returns-clause-ok c =
     let t = drop c.args.at c.args.chars.now in
     record {
       further = omega arith;
-      inside = omega (arith, c.requires.inside);
+      in_pattern = omega (arith, c.requires.inside);
       reads = reads_end c.args.self.now c.close.new.self t _ c.requires.begins
           (c.in_ok-close.ensures.closed c.if-not-branch.false);
     }

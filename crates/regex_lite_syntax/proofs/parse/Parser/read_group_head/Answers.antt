@@ -22,7 +22,7 @@ returns-clause-ok c =
     let gap = subst (λ u. Gap verbose opened u) there.1 c.skip_gap-head.ensures.gap.0 in
     record {
       further = omega (arith, c.skip_gap-head.ensures.inside);
-      inside = omega (arith, there.0);
+      in_pattern = omega (arith, there.0);
       reads = reads_head c.args.self.now c.open.new.self (drop c.args.at xs) opened (drop (head + 2) xs)
           c.requires.begins gap c.in_ok-open.ensures;
     }

@@ -26,7 +26,7 @@ returns-then-lazy-clause-ok c =
     let repeats = c.in_ok-repeat.ensures.repeated c.if-not-branch.false in
     record {
       further = omega arith;
-      inside = omega (arith, there.0);
+      in_pattern = omega (arith, there.0);
       reads = reads_lazy_operator c.args.self.now c.repeat.new.self (drop i xs) (drop (i + 2) xs) _ _ _ _ begins
           (c.requires.bounded _ e) (greed_as flags _ true c.if-lazy.true) repeats;
     }
@@ -40,7 +40,7 @@ returns-else-lazy-clause-ok c =
     let repeats = c.in_ok-repeat.ensures.repeated c.if-not-branch.false in
     record {
       further = omega arith;
-      inside = omega (arith, c.requires.inside);
+      in_pattern = omega (arith, c.requires.inside);
       reads = reads_operator c.args.self.now c.repeat.new.self (drop i xs) (drop (i + 1) xs) _ _ _ _ e
           (c.requires.bounded _ e) (c.if-lazy.ensures.absent refl) (greed_as flags _ false c.if-lazy.false) repeats;
     }

@@ -11,7 +11,7 @@ returns-in_ok-end_branch-in-124-clause-ok c =
     let bar = e ∙ ap (λ x. x ∷ drop (i + 1) xs) c.in-124.is in
     record {
       further = omega arith;
-      inside = omega (arith, c.requires.inside);
+      in_pattern = omega (arith, c.requires.inside);
       reads = reads_bar c.args.self.now c.end_branch.new.self (drop i xs) (drop (i + 1) xs) bar
           c.in_ok-end_branch-in-124.ensures;
     }
