@@ -3,12 +3,12 @@
 //! A *pattern* is the text of a regular expression, and a [`Regex`] is what is built from it. A
 //! regex is asked about a *haystack*, the text that is searched. A *match* is a part of the
 //! haystack that the pattern fits; it may be empty. A *position* or an *offset* counts bytes of
-//! UTF-8 from the start of the haystack, and a match begins and ends between two characters.
+//! UTF-8 from the start of the haystack, and no match begins or ends inside a character.
 //!
 //! ```
 //! let regex = Regex::new(alloc, "samwise|sam")?;
-//! assert!(rt; regex.is_match("samwise gamgee")?);
-//! assert!(rt; !regex.is_match("frodo")?);
+//! regex.is_match("samwise gamgee")?; // true
+//! regex.is_match("frodo")?; // false
 //! ```
 //!
 //! The test `tests::examples::whole_crate` runs this example.

@@ -10,15 +10,15 @@ told_by_status false P told = (λ is_zero. cc, λ holds. let no_match : false �
 
 -- a search of the whole input answers for the pattern
 pub answered_by_search : (pattern : List ℕ) (input : Option (List ℕ)) (re : Expression) (haystack : List ℕ)
-    (found : Bool) → re ≡ default_expression pattern → IsWellFormed re
-    → IfSome input (λ known. haystack ≡ known) → IsUtf8 haystack → (IsTrue found ↔ MatchesIn re haystack)
-    → IsPatternAnswered pattern input (status_of found)
-answered_by_search pattern None re haystack found re_is well_formed whole is_utf8 told = record {
+    → re ≡ default_expression pattern → IsWellFormed re
+    → IfSome input (λ known. haystack ≡ known) → IsUtf8 haystack
+    → (found : Bool) → (IsTrue found ↔ MatchesIn re haystack) → IsPatternAnswered pattern input (status_of found)
+answered_by_search pattern None re haystack re_is well_formed whole is_utf8 found told = record {
   well_formed = subst IsWellFormed re_is well_formed;
   is_text = tt;
   told = tt;
 }
-answered_by_search pattern (Some known) re haystack found re_is well_formed whole is_utf8 told = record {
+answered_by_search pattern (Some known) re haystack re_is well_formed whole is_utf8 found told = record {
   well_formed = subst IsWellFormed re_is well_formed;
   is_text = subst IsUtf8 whole is_utf8;
   told = told_by_status found (MatchesIn (default_expression pattern) known)

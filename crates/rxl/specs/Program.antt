@@ -8,8 +8,12 @@ abbrev pub status_of : (found : Bool) → ℕ
 status_of true = 0
 status_of false = 1
 
--- the status tells whether the pattern, under the default settings, matches somewhere in the input.
--- Of an input whose bytes aren't known nothing can be said
+-- the arguments ask whether the pattern matches
+abbrev pub AsksForMatch : (args : List (Bor (List ℕ))) → (pattern : List ℕ) → Type 0
+AsksForMatch args pattern = map (λ arg. arg.now) args ≡ codes "is-match" ∷ pattern ∷ []
+
+-- the status tells whether the pattern, under the default settings, matches somewhere in the
+-- input. Of an input whose bytes aren't known nothing can be said
 pub record IsPatternAnswered (pattern : List ℕ) (input : Option (List ℕ)) (status : ℕ)
     : Type 0 where
   -- the grammar gives the pattern a tree
@@ -24,6 +28,5 @@ pub record IsPatternAnswered (pattern : List ℕ) (input : Option (List ℕ)) (s
 pub record IsAnswered (args : List (Bor (List ℕ))) (input : Option (List ℕ)) (status : ℕ)
     : Type 0 where
   pub pattern : List ℕ
-  -- the arguments are the command's name and the pattern
-  pub asked : map (λ arg. arg.now) args ≡ codes "is-match" ∷ pattern ∷ []
+  pub asked : AsksForMatch args pattern
   pub answered : IsPatternAnswered pattern input status

@@ -1,11 +1,11 @@
 //! Why the program ends without an answer.
 ghost use Rattle.std.specs.Prelude.{Some};
-ghost use Rattle.rxl.specs.Faults.{text_of_fault};
+ghost use Rattle.rxl.specs.Faults.{text_of_fault, IsAnyFault};
 
 use regex_lite::Error;
 use std::{fmt, io};
 
-/// What goes wrong in a run. `Display` writes the line that is reported.
+/// What goes wrong in a run. `Display` writes the line that reports it.
 #[derive(Debug, Drop)]
 pub(crate) enum Fault {
     /// The arguments are not a command with what it takes.
@@ -16,6 +16,18 @@ pub(crate) enum Fault {
     Unreadable,
     /// The pattern was refused, or a growth.
     Refused(Error),
+}
+
+impl Fault {
+    /// What a failed read of standard input is reported as.
+    pub(crate) fn of_read(error: io::Error) -> Fault
+        ensures { IsAnyFault result }
+    {
+        match error.kind() {
+            io::ErrorKind::OutOfMemory => Fault::Refused(Error::memory()),
+            _ => Fault::Unreadable,
+        }
+    }
 }
 
 impl fmt::Display for Fault {
@@ -37,17 +49,12 @@ impl fmt::Display for Fault {
 }
 
 impl From<Error> for Fault {
+    ghost use Rattle.std.specs.Prelude.{◌≡◌};
+    ghost use Rattle.rxl.specs.declared.fault.Fault.TheVariants.{Refused};
+
+    ghost from_gives = { λ error fault. fault ≡ Refused error };
+
     fn from(error: Error) -> Fault {
         Fault::Refused(error)
-    }
-}
-
-impl Fault {
-    /// What a failed read of standard input is reported as.
-    pub(crate) fn of_read(error: io::Error) -> Fault {
-        match error.kind() {
-            io::ErrorKind::OutOfMemory => Fault::Refused(Error::memory()),
-            _ => Fault::Unreadable,
-        }
     }
 }

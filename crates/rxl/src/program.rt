@@ -1,5 +1,6 @@
 //! What the program does, over any reader and writers.
-ghost use Rattle.std.specs.Prelude.{◌≡◌, ◌<◌, ◌≤◌, IfOk, IfSome};
+ghost use Rattle.std.specs.Prelude.{◌≡◌, ◌<◌, ◌≤◌, IfOk, IfErr, IfSome};
+ghost use Rattle.rxl.specs.Faults.{IsAnyFault, IsFault, IsPatternFault};
 ghost use Rattle.rxl.specs.Program.{IsAnswered, IsPatternAnswered, status_of};
 
 use crate::fault::Fault;
@@ -28,7 +29,7 @@ pub(crate) fn run<R: Read, O: Write, E: Write>(
         Ok(true) => 0,
         Ok(false) => 1,
         Err(fault) => {
-            // There is nowhere left to report that this failed too.
+            // Where this fails too, the status is all that is left to tell.
             let _ = writeln!(err, "{fault}");
             2
         }
@@ -37,7 +38,9 @@ pub(crate) fn run<R: Read, O: Write, E: Write>(
 
 /// Whether there is a match, as the arguments ask.
 fn answer<R: Read>(alloc: Global, args: &[&str], input: &mut R) -> Result<bool, Fault>
-    ensures { IfOk result (λ found. IsAnswered args.now (R.remaining input.old) (status_of found)) }
+    ensures ok { IfOk result
+        (λ found. IsAnswered args.now (R.remaining input.old) (status_of found)) }
+    ensures refused { IfErr result (λ fault. IsFault fault args.now (R.remaining input.old)) }
 {
     match args {
         ["is-match", pattern] => is_match(alloc, pattern, input),
@@ -47,8 +50,10 @@ fn answer<R: Read>(alloc: Global, args: &[&str], input: &mut R) -> Result<bool, 
 
 /// Whether the pattern matches somewhere in the input.
 fn is_match<R: Read>(alloc: Global, pattern: &str, input: &mut R) -> Result<bool, Fault>
-    ensures { IfOk result
+    ensures ok { IfOk result
         (λ found. IsPatternAnswered pattern.now (R.remaining input.old) (status_of found)) }
+    ensures refused { IfErr result
+        (λ fault. IsPatternFault fault pattern.now (R.remaining input.old)) }
 {
     let regex = Regex::new(alloc, pattern)?;
     let bytes = read_all(alloc, input)?;
@@ -61,7 +66,9 @@ fn is_match<R: Read>(alloc: Global, pattern: &str, input: &mut R) -> Result<bool
 
 /// All bytes that the reader still has.
 fn read_all<R: Read>(alloc: Global, input: &mut R) -> Result<Vec<u8>, Fault>
-    ensures { IfOk result (λ bytes. IfSome (R.remaining input.old) (λ known. bytes.items ≡ known)) }
+    ensures ok { IfOk result
+        (λ bytes. IfSome (R.remaining input.old) (λ known. bytes.items ≡ known)) }
+    ensures refused { IfErr result IsAnyFault }
 {
     let mut bytes = Vec::new(alloc);
     match input.read_to_end(&mut bytes) {

@@ -14,7 +14,8 @@ use std::marker::Model;
 ///
 /// ```
 /// let builder = RegexBuilder::new(alloc, "(?:ab)*c")?;
-/// assert!(rt; builder.build()?.is_match("ababc")?);
+/// let regex = builder.build()?;
+/// regex.is_match("ababc")?; // true
 /// ```
 ///
 /// The test `tests::examples::builder` runs this example.

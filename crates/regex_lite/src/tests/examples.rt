@@ -17,7 +17,8 @@ fn whole_crate(rt: HostRuntime) -> Result<(), Fail> {
 fn builder(rt: HostRuntime) -> Result<(), Fail> {
     let alloc = rt.alloc();
     let builder = RegexBuilder::new(alloc, "(?:ab)*c")?;
-    assert!(rt; builder.build()?.is_match("ababc")?);
+    let regex = builder.build()?;
+    assert!(rt; regex.is_match("ababc")?);
     Ok(())
 }
 

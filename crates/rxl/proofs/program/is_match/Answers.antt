@@ -1,9 +1,15 @@
+use Rattle.std.proofs.Common.{◌≡◌, IfSome, IsUtf8, rules}
 use Rattle.rxl.proofs.Told.{answered_by_search}
 use Rattle.rxl.proofs.program.is_match.Goals as goal
 
-pub returns : goal.returns
-returns g c =
-    answered_by_search c.args.pattern.now (g.R.Read.remaining c.args.input.now) c.in_ok-regex.regex
-    c.in-Ok.haystack.now c.in_ok-found.found c.in_ok-regex.ensures.ok c.in_ok-regex.ensures.well_formed
-    (rw (c.in-Ok.ensures.cases.0, c.as_slice.ensures.value) c.in_ok-bytes.ensures)
-    (rw c.in-Ok.ensures.cases.0 c.in-Ok.ensures.cases.1) c.in_ok-found.ensures.found
+pub returns-clause-ok : goal.returns-clause-ok
+returns-clause-ok g c =
+    let whole : IfSome (g.R.Read.remaining c.args.input.now) (λ known. c.in-Ok.haystack.now ≡ known) =
+    rw (c.in-Ok.ensures.cases.0, c.as_slice.ensures.value) c.in_ok-bytes.ensures.ok in
+    let is_utf8 : IsUtf8 c.in-Ok.haystack.now = rw c.in-Ok.ensures.cases.0 c.in-Ok.ensures.cases.1 in
+    search (
+      rules,
+      answered_by_search c.args.pattern.now (g.R.Read.remaining c.args.input.now) c.in_ok-regex.regex
+          c.in-Ok.haystack.now c.in_ok-regex.ensures.ok c.in_ok-regex.ensures.well_formed whole is_utf8
+          c.in_ok-found.found,
+    )
