@@ -1,4 +1,5 @@
 pub mod OneTree
+pub mod LookLemmas
 pub mod NodeLemmas
 pub mod PassLemmas
 pub mod PositionLemmas

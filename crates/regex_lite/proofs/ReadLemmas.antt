@@ -1,11 +1,13 @@
--- Reading one character: what is reached as far as a loop has come, and the test for one character.
+-- Reading one character: what is reached as far as a loop has come, and the tests for a character and for a set.
 use Rattle.std.proofs.Common.{◌≡◌, ◌⊎◌, ◌↔◌, ℕ, ◌+◌, ◌<◌, Bool, true, false, List, Some, length, get_or, length-set, ◌≤◌, set, ◌==◌, Result, IfOk, inl, inr, refl, sym, ap, subst, ◌∙◌, arith, get_or-set_same, get_or-set_other}
 use Rattle.std.proofs.lemmas.Bool.{cases_eq, both_ways, eqb-true, eq-eqb}
 use Rattle.std.proofs.lemmas.Option.{same_Some, slice_get_within}
 use Rattle.std.proofs.lemmas.Result.{IfOk-weaker}
 use Rattle.std.specs.declared.alloc.AllocError.{AllocError}
 use Rattle.regex_lite_syntax.specs.Text.{Text, after}
-use Rattle.regex_lite_syntax.specs.Tree.{character}
+use Rattle.regex_lite_syntax.specs.Ranges.{in_ranges}
+use Rattle.regex_lite_syntax.specs.Tree.{character, class}
+use Rattle.regex_lite_syntax.specs.declared.class.ClassRange.{ClassRange}
 use Rattle.regex_lite_syntax.specs.Matches.{Matches}
 use Rattle.regex_lite.specs.Positions.{Has, Leads, IsReached, Reads, ReadsAsAnswered}
 
@@ -107,3 +109,9 @@ char_read answers haystack c from r same reads =
         λ leads. (reached.members j).1 (leads.0, leads.1, (c, leads.2.0, eq-eqb c c refl, leads.2.1)),
       );
     }) reads
+
+-- and the test for a set
+pub class_read : (answers : ℕ → Bool → Type 0) (haystack : Text) (ranges : List ClassRange) (from : List Bool) (r : Result (List Bool) AllocError) →
+    ((read : ℕ) (passed : Bool) → answers read passed → passed ≡ in_ranges ranges read) →
+    IfOk r (ReadsAsAnswered answers haystack from) → IfOk r (IsReached (Matches haystack (class ranges)) from)
+class_read answers haystack ranges from r same reads = IfOk-weaker r _ _ (λ to read. read (in_ranges ranges) same) reads

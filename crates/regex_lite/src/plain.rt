@@ -1,15 +1,16 @@
 //! The plainest search: from a set of positions, and node by node of the tree, to the set of the
 //! positions where a match that starts in the first can end.
 ghost use Rattle.std.specs.Prelude.{◌↔◌, ◌≤◌, IfOk, IsTrue, map};
+ghost use Rattle.regex_lite_syntax.specs.Looks.{Holds};
 ghost use Rattle.regex_lite_syntax.specs.Matches.{Chain, HasMatch, Matches, Passes, SomeBranch};
-ghost use Rattle.regex_lite_syntax.specs.Tree.{trees, character};
+ghost use Rattle.regex_lite_syntax.specs.Tree.{trees, character, class, look};
 ghost use Rattle.regex_lite_syntax.specs.Views.{tree_of};
 ghost use Rattle.regex_lite.specs.Positions.{AddsPass, IsOver, IsReached, ReadsAsAnswered, SomePasses};
 
 mod positions;
 
 use positions::Positions;
-use regex_lite_syntax::Hir;
+use regex_lite_syntax::{Class, Hir, Look};
 use std::alloc::{AllocError, Global};
 
 /// Whether the tree matches from some position to some position.
@@ -35,6 +36,8 @@ fn after_tree(
     match hir {
         Hir::Empty => from.try_clone(),
         Hir::Char(c) => after_char(alloc, *c, haystack, from),
+        Hir::Class(set) => after_class(alloc, set, haystack, from),
+        Hir::Look(test) => after_look(alloc, *test, haystack, from),
         Hir::Repetition {
             min,
             max,
@@ -59,6 +62,19 @@ fn after_char(
     after_reading(alloc, |read| read == c, haystack, from)
 }
 
+/// The positions after a character of this set.
+fn after_class(
+    alloc: Global,
+    set: &Class,
+    haystack: &[char],
+    from: &Positions,
+) -> Result<Positions, AllocError>
+    requires { IsOver haystack.now from.now }
+    ensures { IfOk result (IsReached (Matches haystack.now (class set.now.ranges.items)) from.now) }
+{
+    after_reading(alloc, |read| set.contains(read), haystack, from)
+}
+
 /// The positions after a character that passes the test.
 fn after_reading<F: Fn(char) -> bool>(
     alloc: Global,
@@ -77,6 +93,33 @@ fn after_reading<F: Fn(char) -> bool>(
         }
     }
     Ok(to)
+}
+
+/// The positions where the test holds.
+fn after_look(
+    alloc: Global,
+    test: Look,
+    haystack: &[char],
+    from: &Positions,
+) -> Result<Positions, AllocError>
+    requires { IsOver haystack.now from.now }
+    ensures { IfOk result (IsReached (Matches haystack.now (look test)) from.now) }
+{
+    let mut to = Positions::none(alloc, from.len())?;
+    for i in 0..from.len() {
+        if from.contains(i) && holds_at(test, haystack, i) {
+            to.insert(i);
+        }
+    }
+    Ok(to)
+}
+
+/// Whether the test holds at a position.
+fn holds_at(test: Look, haystack: &[char], position: usize) -> bool
+    ensures { IsTrue result ↔ Holds test haystack.now position }
+{
+    let before = position.checked_sub(1).and_then(|i| haystack.get(i));
+    test.holds(before.copied(), haystack.get(position).copied())
 }
 
 /// The positions after the parts, one after another.

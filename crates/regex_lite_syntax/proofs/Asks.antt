@@ -2,15 +2,16 @@
 use Rattle.std.proofs.Common.{inl, inr, ◌⊎◌, ◌≡◌, ◌≢◌, refl, sym, ◌∙◌, ap, subst, ℕ, Bool, true, false, ◌∷◌, Option, Some, None, ◌==◌, arith}
 use Rattle.std.proofs.lemmas.Bool.{cases_Bool, cases_eq, ne_eqb, eqb-false, and_parts, or_parts, not-true}
 use Rattle.regex_lite_syntax.specs.declared.flags.Flags.{Flags}
-use Rattle.regex_lite_syntax.specs.Text.{Text, number_sign, open_paren, close_paren, vertical_bar, question_mark, asterisk, plus_sign}
-use Rattle.regex_lite_syntax.specs.Gaps.{EndsGap, is_white_space}
+use Rattle.regex_lite_syntax.specs.Text.{Text, number_sign, full_stop, caret, dollar_sign, backslash, open_bracket, open_paren, close_paren, vertical_bar, question_mark, asterisk, plus_sign}
+use Rattle.regex_lite_syntax.specs.Characters.{is_white_space}
+use Rattle.regex_lite_syntax.specs.Gaps.{EndsGap}
 use Rattle.regex_lite_syntax.specs.Tree.{Tree}
 use Rattle.regex_lite_syntax.specs.Operators.{bounds, Operator, uncounted, uncounted_lazy}
 use Rattle.regex_lite_syntax.specs.Atoms.{is_literal, no_atom, atom_kind, Atom}
-use Rattle.regex_lite_syntax.specs.Grammar.{Point, GroupKind, Head, plain}
+use Rattle.regex_lite_syntax.specs.Grammar.{Point, GroupKind, Head, plain, Directive, sets}
 use Rattle.regex_lite_syntax.specs.Machine.{Kind, paren, closing, bar, operator, atom, kind_at}
-use Rattle.regex_lite_syntax.proofs.Gaps.{ends_before}
-use Rattle.regex_lite_syntax.proofs.Atoms.{no_atom_at, no_literal}
+use Rattle.regex_lite_syntax.proofs.Gaps.{ends_any, ends_before}
+use Rattle.regex_lite_syntax.proofs.Atoms.{NoSign, no_atom_at, no_literal}
 
 -- the text asks for this, and no gap goes on where it begins
 pub record Asks (verbose : Bool) (t : Text) (k : Kind) : Type 0 where
@@ -34,7 +35,11 @@ asks_bar verbose t rest e = asks verbose vertical_bar t rest bar e (refl, λ h. 
 
 pub asks_head : {level : ℕ} {p q : Point} {kind : GroupKind} → Head level p q kind
     → Asks p.flags.ignore_whitespace p.rest paren
-asks_head {p} (plain opened rest e g h k) = asks_paren p.flags.ignore_whitespace p.rest opened e
+asks_head {p} (plain opened first rest new e g letters h k) = asks_paren p.flags.ignore_whitespace p.rest opened e
+
+pub asks_directive : {p q : Point} → Directive p q → Asks p.flags.ignore_whitespace p.rest paren
+asks_directive {p} (sets opened first rest new e g n letters h) =
+    asks_paren p.flags.ignore_whitespace p.rest opened e
 
 no_bounds : (c : ℕ) → (c ≢ question_mark) → (c ≢ asterisk) → (c ≢ plus_sign) → bounds c ≡ None
 no_bounds c no_question no_asterisk no_plus =
@@ -70,7 +75,7 @@ asks_operator {t} {rest} {min} {max} (uncounted c e b n g) verbose = asks_bounde
 asks_operator {t} {rest} {min} {max} (uncounted_lazy c e b g) verbose = asks_bounded verbose c (min, max) t _ e b
 
 -- a character that is no group's, no bar and no operator asks for an atom
-pub kind_other : (c : ℕ) (t : Text) → (c ≢ open_paren) → (c ≢ close_paren) → (c ≢ vertical_bar) → bounds c ≡ None
+kind_other : (c : ℕ) (t : Text) → (c ≢ open_paren) → (c ≢ close_paren) → (c ≢ vertical_bar) → bounds c ≡ None
     → kind_at (c ∷ t) ≡ atom
 kind_other c t no_open no_close no_bar none =
     rw (ne_eqb c open_paren no_open, ne_eqb c close_paren no_close, ne_eqb c vertical_bar no_bar, none) refl
@@ -93,17 +98,46 @@ literal_ends true c t e =
     let blank = or_parts (is_white_space c) (c == number_sign) (not-true _ both.1) in
     (rw blank.0 refl, eqb-false c number_sign blank.1)
 
+-- a sign ends a gap
+sign_or_none : (c : ℕ) (t : Text) → EndsGap true (c ∷ t) ⊎ NoSign c
+sign_or_none c t =
+    by_sign (cases_eq c full_stop) (cases_eq c caret) (cases_eq c dollar_sign) (cases_eq c backslash)
+    (cases_eq c open_bracket)
+  where
+    sign : (d : ℕ) → EndsGap true (d ∷ t) → c ≡ d → EndsGap true (c ∷ t) ⊎ NoSign c
+    sign d ends e = inl (ends_before true d t (c ∷ t) (ap (λ x. x ∷ t) e) ends)
+
+    by_sign : (c ≡ full_stop) ⊎ (c ≢ full_stop) → (c ≡ caret) ⊎ (c ≢ caret) → (c ≡ dollar_sign) ⊎ (c ≢ dollar_sign)
+        → (c ≡ backslash) ⊎ (c ≢ backslash) → (c ≡ open_bracket) ⊎ (c ≢ open_bracket)
+        → EndsGap true (c ∷ t) ⊎ NoSign c
+    by_sign (inl e) _ _ _ _ = sign full_stop (refl, λ h. omega (arith, h)) e
+    by_sign (inr _) (inl e) _ _ _ = sign caret (refl, λ h. omega (arith, h)) e
+    by_sign (inr _) (inr _) (inl e) _ _ = sign dollar_sign (refl, λ h. omega (arith, h)) e
+    by_sign (inr _) (inr _) (inr _) (inl e) _ = sign backslash (refl, λ h. omega (arith, h)) e
+    by_sign (inr _) (inr _) (inr _) (inr _) (inl e) = sign open_bracket (refl, λ h. omega (arith, h)) e
+    by_sign (inr stop) (inr caret) (inr dollar) (inr slash) (inr bracket) =
+        inr (record {
+          no_full_stop = stop;
+          no_caret = caret;
+          no_dollar = dollar;
+          no_backslash = slash;
+          no_bracket = bracket;
+        })
+
 atom_ends : (flags : Flags) (t rest : Text) (a : Tree) → Atom flags t rest a → EndsGap flags.ignore_whitespace t
 atom_ends flags t rest a d =
-    let verbose = flags.ignore_whitespace in
-    subst (λ u. EndsGap verbose u) (sym d.begins) (first_ends (cases_Bool (is_literal verbose d.first)))
+    let first = first_ends (cases_Bool literal) (sign_or_none d.first d.past_first) in
+    subst (λ u. EndsGap flags.ignore_whitespace u) (sym d.begins) first
   where
     literal : Bool
     literal = is_literal flags.ignore_whitespace d.first
 
-    first_ends : (literal ≡ true) ⊎ (literal ≡ false) → EndsGap flags.ignore_whitespace (d.first ∷ d.past_first)
-    first_ends (inl stands) = literal_ends flags.ignore_whitespace d.first d.past_first stands
-    first_ends (inr other) = absurd (no_literal flags t rest a d.first d.past_first d.begins other d)
+    first_ends : (literal ≡ true) ⊎ (literal ≡ false) → EndsGap true (d.first ∷ d.past_first) ⊎ NoSign d.first
+        → EndsGap flags.ignore_whitespace (d.first ∷ d.past_first)
+    first_ends (inl stands) _ = literal_ends flags.ignore_whitespace d.first d.past_first stands
+    first_ends (inr other) (inl ends) = ends_any flags.ignore_whitespace (d.first ∷ d.past_first) ends
+    first_ends (inr other) (inr none) =
+        absurd (no_literal flags t rest a d.first d.past_first d.begins none other d)
 
 pub asks_atom : (flags : Flags) (t rest : Text) (a : Tree) → Atom flags t rest a → Asks flags.ignore_whitespace t atom
 asks_atom flags t rest a d =

@@ -6,11 +6,11 @@ use Rattle.regex_lite_syntax.specs.Gaps.{Gap}
 use Rattle.regex_lite_syntax.specs.Tree.{Tree, sequence_of, choice_of, repeated}
 use Rattle.regex_lite_syntax.specs.Operators.{Operator}
 use Rattle.regex_lite_syntax.specs.Atoms.{Atom}
-use Rattle.regex_lite_syntax.specs.Grammar.{Point, onward, PastGap, GroupKind, group_tree, outside, Head, Item, atom, group, Branch, nothing, item, Alternatives, only, further, Grammar}
+use Rattle.regex_lite_syntax.specs.Grammar.{Point, onward, PastGap, GroupKind, group_tree, outside, Head, Directive, Item, atom, group, Branch, nothing, item, directive, Alternatives, only, further, Grammar}
 use Rattle.regex_lite_syntax.specs.Grammar.Branch.{operator}
 use Rattle.regex_lite_syntax.specs.Machine.{Frame, State, first_state, ended, opened, closed, parted, with_items, Leads, stay, go}
 use Rattle.regex_lite_syntax.proofs.Machine.{leads_to, leads_as}
-use Rattle.regex_lite_syntax.proofs.Steps.{step_open, step_close, step_part, step_operate, step_atom}
+use Rattle.regex_lite_syntax.proofs.Steps.{step_open, step_direct, step_close, step_part, step_operate, step_atom}
 
 -- the state with these parts
 abbrev pub standing : Point → List Frame → (branches items : List Tree) → State
@@ -41,6 +41,12 @@ over_operator p here q min max greedy frames branches before a past o e =
     let s = standing p frames branches (before ++ a ∷ []) in
     let st = step_operate s here q.rest before a min max greedy past refl o in
     go _ st (stay (cc e))
+
+over_directive : (p here q : Point) (frames : List Frame) (branches items : List Tree) → PastGap p here
+    → Directive here q → Leads (standing p frames branches items) (standing q frames branches items)
+unfolding with_items
+over_directive p here q frames branches items past d =
+    go _ (step_direct (standing p frames branches items) here q past d) (stay refl)
 
 over_bar : (p here : Point) (rest : Text) (frames : List Frame) (branches items : List Tree) → PastGap p here
     → here.rest ≡ vertical_bar ∷ rest
@@ -120,6 +126,9 @@ mutual
   branch_leads {q} (operator last here before a min max greedy d past o e items_are) frames branches depth =
       let over = over_operator last here q min max greedy frames branches before a past o e in
       leads_as (leads_to (branch_leads d frames branches depth) over) (cc items_are)
+  branch_leads {q} {items} (directive last here d past s) frames branches depth =
+      let over = over_directive last here q frames branches items past s in
+      leads_to (branch_leads d frames branches depth) over
 
   alternatives_lead : {level : ℕ} {p q : Point} {branches : List Tree} → Alternatives level p q branches
       → (frames : List Frame) → level ≡ length frames → Underway p q frames branches

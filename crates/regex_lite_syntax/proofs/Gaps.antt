@@ -2,7 +2,8 @@
 use Rattle.std.proofs.Common.{inl, inr, ◌≡◌, refl, sym, ◌∙◌, ap, subst, ℕ, Bool, true, false, [], ◌∷◌, IsTrue}
 use Rattle.std.proofs.lemmas.Bool.{both_ways, not-true}
 use Rattle.regex_lite_syntax.specs.Text.{Text, number_sign}
-use Rattle.regex_lite_syntax.specs.Gaps.{is_white_space, Blank, Gap, EndsGap, WholeGap}
+use Rattle.regex_lite_syntax.specs.Characters.{is_white_space}
+use Rattle.regex_lite_syntax.specs.Gaps.{Blank, Gap, EndsGap, WholeGap}
 
 -- what no gap can go on with in verbose mode, no gap can go on with at all
 pub ends_any : (verbose : Bool) (t : Text) → EndsGap true t → EndsGap verbose t

@@ -1,5 +1,5 @@
 -- No state of the machine has two steps, and a gap may be left before a step or with it.
-use Rattle.std.proofs.Common.{◌≡◌, refl, sym, ◌∙◌, ap, subst, []}
+use Rattle.std.proofs.Common.{inl, inr, ◌≡◌, refl, sym, ◌∙◌, ap, subst, []}
 use Rattle.regex_lite_syntax.specs.Text.{Text}
 use Rattle.regex_lite_syntax.specs.Gaps.{Gap, EndsGap, WholeGap}
 use Rattle.regex_lite_syntax.specs.Grammar.{Point, onward, PastGap}
@@ -8,13 +8,16 @@ use Rattle.regex_lite_syntax.proofs.Lists.{same_head, same_tail, snoc_same}
 use Rattle.regex_lite_syntax.proofs.Gaps.{empty_gap, gap_at_end, gap_to_end, whole_gap_once}
 use Rattle.regex_lite_syntax.proofs.Operators.{operator_once}
 use Rattle.regex_lite_syntax.proofs.Atoms.{atom_once}
-use Rattle.regex_lite_syntax.proofs.Heads.{head_once}
+use Rattle.regex_lite_syntax.proofs.Heads.{head_once, directive_once, head_or_directive}
 
 does_once : (k : Kind) (s : State) (p : Point) (a b : State) → Does k s p a → Does k s p b → a ≡ b
 does_once stop s p a b u v = absurd u
-does_once paren s p a b u v =
+does_once paren s p a b (inl u) (inl v) =
     let head = head_once u.2 v.2 in
     cc (u.3, v.3, head.same_point, head.same_kind)
+does_once paren s p a b (inl u) (inr v) = absurd (head_or_directive u.2 v.1)
+does_once paren s p a b (inr u) (inl v) = absurd (head_or_directive v.2 u.1)
+does_once paren s p a b (inr u) (inr v) = cc (u.2, v.2, directive_once u.1 v.1)
 does_once closing s p a b u v =
     let frames = sym u.4 ∙ v.4 in
     cc (u.5, v.5, same_tail (sym u.3 ∙ v.3), same_head frames, same_tail frames)

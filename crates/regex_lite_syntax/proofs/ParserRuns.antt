@@ -1,17 +1,12 @@
 -- What the parser has come to says of the pattern.
 use Rattle.std.proofs.Common.{◌≡◌, sym, ◌∙◌, ap, subst, ℕ, List, [], map, reverse, length}
 use Rattle.std.proofs.lemmas.List.{length-reverse, length-map}
-use Rattle.regex_lite_syntax.specs.declared.error.Error.{Error}
-use Rattle.regex_lite_syntax.specs.declared.error.ErrorKind.{ErrorKind}
-use Rattle.regex_lite_syntax.specs.declared.error.ErrorKind.TheVariants as kind
 use Rattle.regex_lite_syntax.specs.declared.flags.Flags.{Flags}
 use Rattle.regex_lite_syntax.specs.declared.parse.Parser.{Parser}
-use Rattle.regex_lite_syntax.specs.Errors.{kind_of}
 use Rattle.regex_lite_syntax.specs.Text.{Text}
 use Rattle.regex_lite_syntax.specs.Gaps.{Gap, WholeGap}
 use Rattle.regex_lite_syntax.specs.Tree.{Tree}
 use Rattle.regex_lite_syntax.specs.Grammar.{IsTree, HasTree}
-use Rattle.regex_lite_syntax.specs.Refusals.{KindDenies, Denies}
 use Rattle.regex_lite_syntax.specs.Machine.{Leads, first_state}
 use Rattle.regex_lite_syntax.specs.ParserStates.{frame_of, state, Reads, CanRead, Finishes}
 use Rattle.regex_lite_syntax.proofs.Gaps.{gap_to_end}
@@ -62,17 +57,3 @@ stuck_refused flags pattern p t u r whole more stuck =
     let verbose = p.here.flags.ignore_whitespace in
     refuses flags pattern s r.1 (λ q st. stuck (r.0, q, step_past_gap s q u whole st))
     (λ _ gap. more (gap_to_end verbose t u whole gap))
-
--- a refusal of the one reading is a refusal of the other
-pub denies_as : (e : Error) (P Q : Type 0) → ((P → ⊥) → Q → ⊥) → Denies e P → Denies e Q
-denies_as e P Q f denies = by_kind (kind_of e) denies
-  where
-    by_kind : (k : ErrorKind) → KindDenies k P → KindDenies k Q
-    by_kind kind.Syntax d = f d
-    by_kind kind.Memory d = tt
-    by_kind kind.Nesting d = d
-    by_kind kind.Groups d = d
-    by_kind kind.Size d = d
-    by_kind kind.Places d = d
-    by_kind kind.Slots d = d
-    by_kind kind.Replace d = d

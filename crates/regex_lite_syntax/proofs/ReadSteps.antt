@@ -1,42 +1,71 @@
 -- What the parser reads is a step of the machine, and where it refuses there is none.
-use Rattle.std.proofs.Common.{◌≡◌, refl, sym, ◌∙◌, ap, subst, ℕ, ◌+◌, Bool, true, false, not, if◌then◌else◌, [], ◌∷◌, Option, Some, map, reverse, length}
+use Rattle.std.proofs.Common.{inl, inr, ◌≡◌, ◌≢◌, refl, sym, ◌∙◌, ap, subst, ℕ, ◌+◌, Bool, true, false, not, if◌then◌else◌, [], ◌∷◌, Option, Some, map, reverse, length}
 use Rattle.std.specs.Bool.{beq}
 use Rattle.std.specs.Prelude.{max as greatest}
 use Rattle.regex_lite_syntax.specs.declared.flags.Flags.{Flags}
 use Rattle.regex_lite_syntax.specs.declared.parse.Parser.{Parser}
 use Rattle.regex_lite_syntax.specs.Text.{Text, Begins, open_paren, close_paren, question_mark, colon, vertical_bar}
 use Rattle.regex_lite_syntax.specs.Gaps.{Gap, EndsGap, WholeGap}
-use Rattle.regex_lite_syntax.specs.Tree.{character}
+use Rattle.regex_lite_syntax.specs.Tree.{Tree}
 use Rattle.regex_lite_syntax.specs.Operators.{bounds, greed, Operator, uncounted, uncounted_lazy}
-use Rattle.regex_lite_syntax.specs.Atoms.{is_literal}
+use Rattle.regex_lite_syntax.specs.Atoms.{Atom}
+use Rattle.regex_lite_syntax.specs.FlagLetters.{FlagLetters}
+use Rattle.regex_lite_syntax.specs.FlagRuns.{EndedFlags}
 use Rattle.regex_lite_syntax.specs.Views.{tree_of}
-use Rattle.regex_lite_syntax.specs.Grammar.{non_capturing, inside, Head, plain}
+use Rattle.regex_lite_syntax.specs.Grammar.{non_capturing, inside, Head, plain, Directive, sets}
 use Rattle.regex_lite_syntax.specs.Machine.{Step, BeginsAtom}
-use Rattle.regex_lite_syntax.specs.ParserStates.{frame_of, state, Reads, CanRead, Opens, Closes, Parts, Adds, Repeats}
-use Rattle.regex_lite_syntax.proofs.Atoms.{literal_atom, no_literal}
-use Rattle.regex_lite_syntax.proofs.Heads.{no_head}
-use Rattle.regex_lite_syntax.proofs.Steps.{at_once, step_open, step_close, step_part, step_operate, step_atom, no_open, no_close, no_operand, no_item}
+use Rattle.regex_lite_syntax.specs.ParserStates.{frame_of, state, Reads, CanRead, Opens, Directs, Closes, Parts, Adds, Repeats}
+use Rattle.regex_lite_syntax.proofs.Steps.{at_once, step_open, step_direct, step_close, step_part, step_operate, step_atom, no_question, no_flags, no_empty, no_close, no_operand, no_item}
 
-pub reads_head : (p q : Parser) (t opened rest : Text) → t ≡ open_paren ∷ opened
-    → Gap p.here.flags.ignore_whitespace opened (question_mark ∷ colon ∷ rest) → Opens p q → Reads p q t rest
+pub reads_head : (p q : Parser) (t opened first rest : Text) (new : Flags) → t ≡ open_paren ∷ opened
+    → Gap p.here.flags.ignore_whitespace opened (question_mark ∷ first)
+    → FlagLetters p.here.flags first (colon ∷ rest) new → Opens p q new → Reads p q t rest
 unfolding state
-reads_head p q t opened rest e gap opens d =
+reads_head p q t opened first rest new e gap letters opens d =
     let s = state p t d in
     let level = length s.frames in
-    let first = inside level s.point s.point.flags rest in
-    let head : Head level s.point first non_capturing = plain opened rest e gap refl refl in (
+    let into = inside level s.point new rest in
+    let head : Head level s.point into non_capturing = plain opened first rest new e gap letters refl refl in (
       greatest d (level + 1),
-      subst (λ x. Step s x) (sym (opens t rest d)) (step_open s s.point first non_capturing (at_once s.point) head),
+      subst (λ x. Step s x) (sym (opens t rest d)) (step_open s s.point into non_capturing (at_once s.point) head),
     )
 
-pub reads_no_head : (p : Parser) (t opened u : Text) → t ≡ open_paren ∷ opened
-    → WholeGap p.here.flags.ignore_whitespace opened u → ((rest : Text) → u ≡ question_mark ∷ colon ∷ rest → ⊥)
-    → CanRead p t → ⊥
+pub reads_directive : (p q : Parser) (t opened first rest : Text) (new : Flags) → t ≡ open_paren ∷ opened
+    → Gap p.here.flags.ignore_whitespace opened (question_mark ∷ first) → first ≢ close_paren ∷ rest
+    → FlagLetters p.here.flags first (close_paren ∷ rest) new → Directs p q new → Reads p q t rest
 unfolding state
-reads_no_head p t opened u e whole none can =
+reads_directive p q t opened first rest new e gap some letters directs d =
+    let s = state p t d in
+    let next = record s.point { rest = rest; flags = new } in
+    let directive : Directive s.point next = sets opened first rest new e gap some letters refl in
+    (d, subst (λ x. Step s x) (sym (directs t rest d)) (step_direct s s.point next (at_once s.point) directive))
+
+pub reads_no_question : (p : Parser) (t opened u : Text) → t ≡ open_paren ∷ opened
+    → WholeGap p.here.flags.ignore_whitespace opened u → (Begins question_mark u → ⊥) → CanRead p t → ⊥
+unfolding state
+reads_no_question p t opened u e whole none can =
     let s = state p t can.0 in
-    no_open s can.1 s.point opened (at_once s.point) e
-    (λ first kind head. no_head (length s.frames) s.point first kind opened u e whole none head) can.2
+    no_question s can.1 s.point opened u (at_once s.point) e whole
+    (λ first begins. none (subst (λ v. Begins question_mark v) (sym begins) refl)) can.2
+
+pub reads_no_flags : (p : Parser) (t opened u first : Text) → t ≡ open_paren ∷ opened
+    → WholeGap p.here.flags.ignore_whitespace opened u → u ≡ question_mark ∷ first
+    → ((rest : Text) (new : Flags) → EndedFlags p.here.flags first rest new → ⊥) → CanRead p t → ⊥
+unfolding state
+reads_no_flags p t opened u first e whole begins none can =
+    let s = state p t can.0 in
+    let gap = subst (λ v. WholeGap p.here.flags.ignore_whitespace opened v) begins whole in
+    no_flags s can.1 s.point opened first (at_once s.point) e gap
+    (λ rest new letters. none (colon ∷ rest) new (record { letters = letters; ends = inl refl }))
+    (λ rest new letters. none (close_paren ∷ rest) new (record { letters = letters; ends = inr refl })) can.2
+
+pub reads_no_empty : (p : Parser) (t opened u rest : Text) → t ≡ open_paren ∷ opened
+    → WholeGap p.here.flags.ignore_whitespace opened u → u ≡ question_mark ∷ close_paren ∷ rest → CanRead p t → ⊥
+unfolding state
+reads_no_empty p t opened u rest e whole begins can =
+    let s = state p t can.0 in
+    let gap = subst (λ v. WholeGap p.here.flags.ignore_whitespace opened v) begins whole in
+    no_empty s can.1 s.point opened rest (at_once s.point) e gap can.2
 
 pub reads_end : (p q : Parser) (t rest : Text) → t ≡ close_paren ∷ rest → Closes p q → Reads p q t rest
 unfolding state
@@ -97,20 +126,15 @@ reads_no_operator p t rest c b e has none can =
     let s = state p t can.0 in
     no_operand s can.1 s.point c b rest (at_once s.point) e has (ap (map tree_of) none) can.2
 
-pub reads_literal : (p q : Parser) (t rest : Text) (c : ℕ) → t ≡ c ∷ rest
-    → is_literal p.here.flags.ignore_whitespace c ≡ true → Adds p q (character c) → Reads p q t rest
+pub reads_atom : (p q : Parser) (t rest : Text) (a : Tree) → Atom p.here.flags t rest a → Adds p q a → Reads p q t rest
 unfolding state
-reads_literal p q t rest c e literal adds d =
-    let s = state p t d in (
-      d,
-      subst (λ x. Step s x) (sym (adds t rest d))
-          (step_atom s s.point rest (character c) (at_once s.point) (literal_atom p.here.flags c t rest e literal)),
-    )
+reads_atom p q t rest a d adds n =
+    let s = state p t n in
+    (n, subst (λ x. Step s x) (sym (adds t rest n)) (step_atom s s.point rest a (at_once s.point) d))
 
-pub reads_no_literal : (p : Parser) (t rest : Text) (c : ℕ) → EndsGap p.here.flags.ignore_whitespace t → BeginsAtom t
-    → t ≡ c ∷ rest → is_literal p.here.flags.ignore_whitespace c ≡ false → CanRead p t → ⊥
+pub reads_no_atom : (p : Parser) (t : Text) → EndsGap p.here.flags.ignore_whitespace t → BeginsAtom t
+    → ((rest : Text) (a : Tree) → Atom p.here.flags t rest a → ⊥) → CanRead p t → ⊥
 unfolding state
-reads_no_literal p t rest c ends begins e refused can =
+reads_no_atom p t ends begins none can =
     let s = state p t can.0 in
-    no_item s can.1 s.point (at_once s.point) ends begins
-    (λ u a item. no_literal p.here.flags t u a c rest e refused item) can.2
+    no_item s can.1 s.point (at_once s.point) ends begins none can.2

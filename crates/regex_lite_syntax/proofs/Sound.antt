@@ -1,11 +1,11 @@
 -- What the machine runs, the grammar derives.
-use Rattle.std.proofs.Common.{◌≡◌, refl, sym, ap, subst, ℕ, Bool, length, List, [], ◌∷◌, ◌++◌, Option, add-one}
+use Rattle.std.proofs.Common.{inl, inr, ◌≡◌, refl, sym, ap, subst, ℕ, Bool, length, List, [], ◌∷◌, ◌++◌, Option, add-one}
 use Rattle.regex_lite_syntax.specs.declared.flags.Flags.{Flags}
 use Rattle.regex_lite_syntax.specs.Text.{Text, close_paren, vertical_bar}
 use Rattle.regex_lite_syntax.specs.Gaps.{Gap}
 use Rattle.regex_lite_syntax.specs.Tree.{Tree, sequence_of, choice_of, repeated}
 use Rattle.regex_lite_syntax.specs.Operators.{Operator}
-use Rattle.regex_lite_syntax.specs.Grammar.{Point, onward, PastGap, Head, Item, group, Branch, nothing, item, Alternatives, only, further, start, Grammar}
+use Rattle.regex_lite_syntax.specs.Grammar.{Point, onward, PastGap, Head, Directive, Item, group, Branch, nothing, item, directive, Alternatives, only, further, start, Grammar}
 use Rattle.regex_lite_syntax.specs.Grammar.Branch.{operator as operated}
 use Rattle.regex_lite_syntax.specs.Grammar.Item.{atom as atom_item}
 use Rattle.regex_lite_syntax.specs.Machine.{Frame, State, first_state, ended, opened, closed, parted, with_items, Kind, stop, paren, closing, bar, operator, atom, kind_at, Does, Leads, stay, go}
@@ -55,6 +55,13 @@ with_operator level from p here q branches items before a min max greedy items_a
     let read = subst (λ x. Branch level (onward bar_at rest) p x) items_are b in
     later last bar_at rest d past_last e (operated p here before a min max greedy read past o q_is refl)
 
+with_directive : (level : ℕ) (from p here q : Point) (branches items : List Tree)
+    → Partial level from p branches items → PastGap p here → Directive here q
+    → Partial level from q branches items
+with_directive level from p here q branches items (first e b) past i = first e (directive p here b past i)
+with_directive level from p here q branches items (later last bar_at rest d past_last e b) past i =
+    later last bar_at rest d past_last e (directive p here b past i)
+
 -- a group is closed
 closes : (begin : Point) (s : State) (p : Point) (f : Frame) (frames : List Frame) (rest : Text) → s.frames ≡ f ∷ frames
     → Stands begin s → PastGap s.point p → p.rest ≡ close_paren ∷ rest → Stands begin (closed s p f frames rest)
@@ -76,12 +83,15 @@ does_keeps : (k : Kind) (begin : Point) (s : State) (p : Point) (q : State) → 
     → Does k s p q → Stands begin q
 unfolding opened parted with_items
 does_keeps stop begin s p q h past d = absurd d
-does_keeps paren begin s p q h past d =
+does_keeps paren begin s p q h past (inl d) =
     subst (λ x. Stands begin x) (sym d.3) (record {
       from = d.0;
       below = (h.from, s.point, p, h.here, past, d.2, refl, h.below);
       here = first refl (nothing refl refl);
     })
+does_keeps paren begin s p q h past (inr d) =
+    let partial = with_directive _ h.from s.point p d.0 s.branches s.items h.here past d.1 in
+    subst (λ x. Stands begin x) (sym d.2) (record { from = h.from; below = h.below; here = partial })
 does_keeps closing begin s p q h past d =
     subst (λ x. Stands begin x) (sym d.5) (closes begin s p d.1 d.2 d.0 d.4 h past d.3)
 does_keeps bar begin s p q h past d =

@@ -1,11 +1,12 @@
 -- The grammar, as relations: a pattern is cut into parts in any way that fits.
-use Rattle.std.specs.Prelude.{◌≡◌, ℕ, ◌+◌, max, Bool, List, [], ◌∷◌, ◌++◌, Option}
+use Rattle.std.specs.Prelude.{◌≡◌, ◌≢◌, ℕ, ◌+◌, max, Bool, List, [], ◌∷◌, ◌++◌, Option}
 use Rattle.regex_lite_syntax.specs.declared.flags.Flags.{Flags}
 use Rattle.regex_lite_syntax.specs.Text.{Text, open_paren, close_paren, question_mark, colon, vertical_bar}
 use Rattle.regex_lite_syntax.specs.Gaps.{Gap}
 use Rattle.regex_lite_syntax.specs.Tree.{Tree, sequence_of, choice_of, repeated}
 use Rattle.regex_lite_syntax.specs.Operators.{Operator}
 use Rattle.regex_lite_syntax.specs.Atoms.{Atom}
+use Rattle.regex_lite_syntax.specs.FlagLetters.{FlagLetters}
 
 -- a place in a pattern, with all that the parts after it depend on
 pub record Point : Type 0 where
@@ -45,9 +46,18 @@ outside before end t = record end { rest = t; flags = before.flags }
 
 -- the head of a group, from its parenthesis to where its alternatives begin
 pub data Head (level : ℕ) (p q : Point) (kind : GroupKind) : Type 0 where
-  plain : (opened rest : Text) → p.rest ≡ open_paren ∷ opened
-      → Gap p.flags.ignore_whitespace opened (question_mark ∷ colon ∷ rest)
-      → q ≡ inside level p p.flags rest → kind ≡ non_capturing → Head level p q kind
+  plain : (opened first rest : Text) (new : Flags) → p.rest ≡ open_paren ∷ opened
+      → Gap p.flags.ignore_whitespace opened (question_mark ∷ first)
+      → FlagLetters p.flags first (colon ∷ rest) new
+      → q ≡ inside level p new rest → kind ≡ non_capturing → Head level p q kind
+
+-- a directive: from here on these flags hold, until the enclosing group closes
+pub data Directive (p q : Point) : Type 0 where
+  sets : (opened first rest : Text) (new : Flags) → p.rest ≡ open_paren ∷ opened
+      → Gap p.flags.ignore_whitespace opened (question_mark ∷ first)
+      → first ≢ close_paren ∷ rest
+      → FlagLetters p.flags first (close_paren ∷ rest) new
+      → q ≡ record p { rest = rest; flags = new } → Directive p q
 
 mutual
   -- one item that stands in so many groups, and its tree
@@ -87,6 +97,12 @@ mutual
         → Operator here.flags here.rest q.rest min max greedy
         → q ≡ onward here q.rest
         → items ≡ before ++ repeated min max greedy a ∷ []
+        → Branch level p q items
+    directive : {level : ℕ} {p q : Point} {items : List Tree}
+        (last here : Point)
+        → Branch level p last items
+        → PastGap last here
+        → Directive here q
         → Branch level p q items
 
   -- branches with `|` between them

@@ -1,7 +1,9 @@
--- Laws of the grammar.
-use Rattle.std.specs.Prelude.{◌≡◌, ℕ}
+-- Laws of the definitions.
+use Rattle.std.specs.Prelude.{◌≡◌, ℕ, List}
+use Rattle.regex_lite_syntax.specs.declared.class.ClassRange.{ClassRange}
 use Rattle.regex_lite_syntax.specs.declared.flags.Flags.{Flags}
 use Rattle.regex_lite_syntax.specs.Text.{Text}
+use Rattle.regex_lite_syntax.specs.Ranges.{in_ranges, AreRuns}
 use Rattle.regex_lite_syntax.specs.Tree.{Tree}
 use Rattle.regex_lite_syntax.specs.Grammar.{Grammar}
 
@@ -11,3 +13,9 @@ AtMostOneTree =
     (flags : Flags) (pattern : Text) (a b : Tree) (groups groups' deepest deepest' : ℕ)
     → Grammar flags pattern a groups deepest → Grammar flags pattern b groups' deepest'
     → (a ≡ b) × (groups ≡ groups') × (deepest ≡ deepest')
+
+-- a set of characters has one list of maximal runs
+abbrev pub EqualSetsHaveEqualRanges : Type 0
+EqualSetsHaveEqualRanges =
+    (a b : List ClassRange) → AreRuns 0 a → AreRuns 0 b
+    → ((c : ℕ) → in_ranges a c ≡ in_ranges b c) → a ≡ b

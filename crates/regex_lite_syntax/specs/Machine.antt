@@ -1,12 +1,12 @@
 -- What the parser has read, as the states of a machine that never has a choice.
-use Rattle.std.specs.Prelude.{◌≡◌, ℕ, Bool, ◌==◌, length, List, [], ◌∷◌, ◌++◌, Option, is_some, if◌then◌else◌}
+use Rattle.std.specs.Prelude.{◌≡◌, ◌⊎◌, ℕ, Bool, ◌==◌, length, List, [], ◌∷◌, ◌++◌, Option, is_some, if◌then◌else◌}
 use Rattle.regex_lite_syntax.specs.declared.flags.Flags.{Flags}
 use Rattle.regex_lite_syntax.specs.Text.{Text, open_paren, close_paren, vertical_bar}
 use Rattle.regex_lite_syntax.specs.Gaps.{EndsGap}
 use Rattle.regex_lite_syntax.specs.Tree.{Tree, sequence_of, choice_of, repeated}
 use Rattle.regex_lite_syntax.specs.Operators.{bounds, Operator}
 use Rattle.regex_lite_syntax.specs.Atoms.{Atom}
-use Rattle.regex_lite_syntax.specs.Grammar.{Point, onward, PastGap, GroupKind, group_tree, Head, start}
+use Rattle.regex_lite_syntax.specs.Grammar.{Point, onward, PastGap, GroupKind, group_tree, Head, Directive, start}
 
 -- what surrounds an open group: the flags and the ended branches and items before it, and its kind
 pub record Frame : Type 0 where
@@ -74,8 +74,9 @@ kind_at (c ∷ t) =
 abbrev pub Does : Kind → State → Point → State → Type 0
 Does stop s p q = ⊥
 Does paren s p q =
-    (first : Point) × (kind : GroupKind) × Head (length s.frames) p first kind
-    × (q ≡ opened s p first kind)
+    ((first : Point) × (kind : GroupKind) × Head (length s.frames) p first kind
+    × (q ≡ opened s p first kind))
+    ⊎ ((past : Point) × Directive p past × (q ≡ with_items s past s.items))
 Does closing s p q =
     (rest : Text) × (f : Frame) × (frames : List Frame) × (p.rest ≡ close_paren ∷ rest)
     × (s.frames ≡ f ∷ frames) × (q ≡ closed s p f frames rest)

@@ -1,7 +1,9 @@
 -- The match relation: a tree matches a haystack from one position to another, in some way.
-use Rattle.std.specs.Prelude.{◌≡◌, ◌⊎◌, ◌≤◌, ℕ, zero, suc, Option, Some, None, length}
+use Rattle.std.specs.Prelude.{◌≡◌, ◌⊎◌, ◌≤◌, ℕ, zero, suc, Option, Some, None, IsTrue, length}
 use Rattle.regex_lite_syntax.specs.Text.{Text, after}
-use Rattle.regex_lite_syntax.specs.Tree.{Tree, empty, character, repetition, concat, alternation, Trees, none, more}
+use Rattle.regex_lite_syntax.specs.Ranges.{in_ranges}
+use Rattle.regex_lite_syntax.specs.Looks.{Holds}
+use Rattle.regex_lite_syntax.specs.Tree.{Tree, empty, character, class, look, repetition, concat, alternation, Trees, none, more}
 
 -- so many passes, one after another, lead from the one position to the other
 abbrev pub Passes : (pass : ℕ → ℕ → Type 0) → ℕ → ℕ → ℕ → Type 0
@@ -18,6 +20,9 @@ module _ (haystack : Text) where
     pub Matches : Tree → ℕ → ℕ → Type 0
     Matches empty i j = i ≡ j
     Matches (character c) i j = (after haystack i ≡ Some c) × (j ≡ suc i)
+    Matches (class ranges) i j =
+        (c : ℕ) × (after haystack i ≡ Some c) × IsTrue (in_ranges ranges c) × (j ≡ suc i)
+    Matches (look test) i j = Holds test haystack i × (i ≡ j)
     Matches (repetition least most greedy body) i j =
         (n : ℕ) × (least ≤ n) × AtMost n most × Passes (Matches body) n i j
     Matches (concat parts) i j = Chain parts i j

@@ -1,6 +1,7 @@
 -- The parser as a state of the machine, and what each of its steps does to it.
 use Rattle.std.specs.Prelude.{◌≡◌, ℕ, ◌+◌, ◌<◌, ◌≤◌, Bool, List, [], ◌∷◌, ◌++◌, Option, map, reverse, length, drop}
 use Rattle.std.specs.Prelude.{max as greatest}
+use Rattle.regex_lite_syntax.specs.declared.flags.Flags.{Flags}
 use Rattle.regex_lite_syntax.specs.declared.parse.level.Level.{Level}
 use Rattle.regex_lite_syntax.specs.declared.parse.Parser.{Parser}
 use Rattle.regex_lite_syntax.specs.Text.{Text}
@@ -42,13 +43,19 @@ pub record Advances (before after : Parser) (pattern : Text) (at next : ℕ) : T
 abbrev pub CanRead : Parser → Text → Type 0
 CanRead p t = (d : ℕ) × (q : State) × Step (state p t d) q
 
--- a group was opened
-abbrev pub Opens : (before after : Parser) → Type 0
-Opens before after = (t u : Text) (d : ℕ) →
+-- a group was opened, in which these flags hold
+abbrev pub Opens : (before after : Parser) → Flags → Type 0
+Opens before after flags = (t u : Text) (d : ℕ) →
     let s = state before t d in
     let level = length s.frames in
-    let first = inside level s.point s.point.flags u in
+    let first = inside level s.point flags u in
     state after u (greatest d (level + 1)) ≡ opened s s.point first non_capturing
+
+-- these flags hold from here on
+abbrev pub Directs : (before after : Parser) → Flags → Type 0
+Directs before after flags = (t u : Text) (d : ℕ) →
+    let s = state before t d in
+    state after u d ≡ with_items s (record s.point { rest = u; flags = flags }) s.items
 
 -- the innermost group was closed
 abbrev pub Closes : (before after : Parser) → Type 0

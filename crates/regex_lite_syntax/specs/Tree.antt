@@ -1,10 +1,15 @@
 -- The tree of a pattern.
 use Rattle.std.specs.Prelude.{ℕ, zero, suc, Bool, List, [], ◌∷◌, Option, Some}
+use Rattle.regex_lite_syntax.specs.declared.class.ClassRange.{ClassRange}
+use Rattle.regex_lite_syntax.specs.declared.hir.look.Look.{Look}
 
 mutual
   pub data Tree : Type 0 where
     empty : Tree
     character : (c : ℕ) → Tree
+    -- a character of the set with these maximal runs
+    class : (ranges : List ClassRange) → Tree
+    look : Look → Tree
     -- the body so often, one pass after another, with no upper bound where `max` is `None`
     repetition : (min : ℕ) (max : Option ℕ) (greedy : Bool) (body : Tree) → Tree
     concat : (parts : Trees) → Tree

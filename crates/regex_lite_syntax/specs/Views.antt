@@ -1,5 +1,5 @@
 -- The values of the code as those that the definitions speak of.
-use Rattle.regex_lite_syntax.specs.Tree.{Tree, trees, empty, character, repetition, concat, alternation}
+use Rattle.regex_lite_syntax.specs.Tree.{Tree, trees, empty, character, class, look, repetition, concat, alternation}
 use Rattle.regex_lite_syntax.specs.declared.hir.Hir.{Hir}
 use Rattle.regex_lite_syntax.specs.declared.hir.Hir.TheOpen.{Hir-F}
 use Rattle.regex_lite_syntax.specs.declared.hir.Hir.TheFolds.{fold-Hir}
@@ -8,6 +8,8 @@ use Rattle.regex_lite_syntax.specs.declared.hir.Hir.TheFolds.{fold-Hir}
 abbrev pub node_tree : Hir-F Tree → Tree
 node_tree Hir-F.Empty = empty
 node_tree (Hir-F.Char c) = character c
+node_tree (Hir-F.Class set) = class set.ranges.items
+node_tree (Hir-F.Look test) = look test
 node_tree (Hir-F.Repetition min max greedy sub) = repetition min max greedy sub.value
 node_tree (Hir-F.Concat parts) = concat (trees parts.items)
 node_tree (Hir-F.Alternation branches) = alternation (trees branches.items)

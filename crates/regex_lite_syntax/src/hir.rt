@@ -3,6 +3,10 @@ ghost use Rattle.std.specs.Prelude.{◌≡◌, map, IfOk};
 ghost use Rattle.regex_lite_syntax.specs.Tree.{sequence_of, choice_of, repeated};
 ghost use Rattle.regex_lite_syntax.specs.Views.{tree_of};
 
+pub(crate) mod look;
+
+use crate::class::Class;
+use look::Look;
 use std::alloc::{AllocError, Global};
 
 /// A pattern as a tree.
@@ -11,6 +15,10 @@ pub enum Hir {
     Empty,
     /// This character.
     Char(char),
+    /// A character of this set.
+    Class(Class),
+    /// A test of the position.
+    Look(Look),
     /// `sub` at least `min` times, and at most `max` times where there is a limit.
     Repetition {
         min: u32,
@@ -33,6 +41,8 @@ impl Drop for Hir {
             match self {
                 Hir::Empty => return,
                 Hir::Char(_) => return,
+                Hir::Class(_set) => return,
+                Hir::Look(_) => return,
                 Hir::Concat(_parts) => return,
                 Hir::Alternation(_branches) => return,
                 Hir::Repetition {

@@ -1,6 +1,7 @@
 //! What a pattern says: its errors, its tree and its grammar.
 #![tactic(auto)]
 
+mod class;
 mod error;
 mod flags;
 mod hir;
@@ -9,6 +10,8 @@ mod parse;
 #[cfg(test)]
 mod tests;
 
+pub use class::{Class, ClassRange};
 pub use error::{Error, ErrorKind, SyntaxFault};
 pub use flags::Flags;
 pub use hir::Hir;
+pub use hir::look::Look;

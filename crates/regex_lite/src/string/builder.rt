@@ -12,6 +12,10 @@ use std::marker::Model;
 
 /// A pattern with the settings under which it is to be built.
 ///
+/// A setter says whether a flag is on at the pattern's first character. From there on the pattern
+/// itself can turn it on and off, as by `(?i)` and `(?-i)`. Of several calls of a setter the last
+/// counts.
+///
 /// ```
 /// let builder = RegexBuilder::new(alloc, "(?:ab)*c")?;
 /// let regex = builder.build()?;
@@ -61,6 +65,87 @@ impl RegexBuilder {
             nest_limit: 50,
             size_limit: 10_485_760,
         })
+    }
+
+    /// Whether letters match in either case: the flag `i`.
+    ///
+    /// A letter here is one of `A` to `Z` and `a` to `z`; no other character has a second case. A
+    /// letter, also one that is written as an escape, then matches both of its cases. A class in
+    /// brackets takes in both cases of the letters that it lists: `[^x]` leaves out `X` too.
+    ///
+    /// ```
+    /// let regex = RegexBuilder::new(alloc, "fro[c-e]o")?.case_insensitive(true).build()?;
+    /// assert!(rt; regex.is_match("FRODO")?);
+    /// ```
+    ///
+    /// The test `tests::examples::either_case` runs this example.
+    pub fn case_insensitive(&mut self, yes: bool) -> &mut RegexBuilder
+        ensures same_reference { result.ghost_name ≡ self.entry.ghost_name }
+        ensures value { result.now ≡
+            record self.old { flags = record self.old.flags { case_insensitive = yes } } }
+    {
+        self.flags.case_insensitive = yes;
+        self
+    }
+
+    /// Whether `^` and `$` match at every line: the flag `m`.
+    ///
+    /// `^` then matches also behind the end of a line, and `$` also before it. Without the flag `^`
+    /// matches only at the haystack's start and `$` only at its end, as `\A` and `\z` always do.
+    ///
+    /// ```
+    /// let regex = RegexBuilder::new(alloc, "^sam$")?.multi_line(true).build()?;
+    /// assert!(rt; regex.is_match("frodo\nsam\n")?);
+    /// ```
+    ///
+    /// The test `tests::examples::every_line` runs this example.
+    pub fn multi_line(&mut self, yes: bool) -> &mut RegexBuilder
+        ensures same_reference { result.ghost_name ≡ self.entry.ghost_name }
+        ensures value { result.now ≡
+            record self.old { flags = record self.old.flags { multi_line = yes } } }
+    {
+        self.flags.multi_line = yes;
+        self
+    }
+
+    /// Whether `.` matches every character: the flag `s`.
+    ///
+    /// Without the flag it leaves out the line feed and, where `crlf` is on, the carriage return.
+    pub fn dot_matches_new_line(&mut self, yes: bool) -> &mut RegexBuilder
+        ensures same_reference { result.ghost_name ≡ self.entry.ghost_name }
+        ensures value { result.now ≡
+            record self.old { flags = record self.old.flags { dot_matches_new_line = yes } } }
+    {
+        self.flags.dot_matches_new_line = yes;
+        self
+    }
+
+    /// Whether a carriage return ends a line too: the flag `R`.
+    ///
+    /// Without the flag a line ends with a line feed. With it a line ends with a line feed, with a
+    /// carriage return or with the two in this order: `\r\n`. Between these two neither `^` nor `$`
+    /// matches. Both look for lines only where `multi_line` is on. `.` leaves out both characters
+    /// even where that is off, unless `dot_matches_new_line` is on.
+    pub fn crlf(&mut self, yes: bool) -> &mut RegexBuilder
+        ensures same_reference { result.ghost_name ≡ self.entry.ghost_name }
+        ensures value { result.now ≡
+            record self.old { flags = record self.old.flags { crlf = yes } } }
+    {
+        self.flags.crlf = yes;
+        self
+    }
+
+    /// Whether greedy and lazy operators change places: the flag `U`.
+    ///
+    /// `*`, `+` and `?` then prefer few passes, and `*?`, `+?` and `??` many. That never changes
+    /// whether a pattern matches somewhere.
+    pub fn swap_greed(&mut self, yes: bool) -> &mut RegexBuilder
+        ensures same_reference { result.ghost_name ≡ self.entry.ghost_name }
+        ensures value { result.now ≡
+            record self.old { flags = record self.old.flags { swap_greed = yes } } }
+    {
+        self.flags.swap_greed = yes;
+        self
     }
 
     /// The regex of the pattern. The builder can build again.

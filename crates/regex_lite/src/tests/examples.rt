@@ -22,6 +22,26 @@ fn builder(rt: HostRuntime) -> Result<(), Fail> {
     Ok(())
 }
 
+/// At `RegexBuilder::case_insensitive`.
+#[test]
+fn either_case(rt: HostRuntime) -> Result<(), Fail> {
+    let alloc = rt.alloc();
+    let regex = RegexBuilder::new(alloc, "fro[c-e]o")?
+        .case_insensitive(true)
+        .build()?;
+    assert!(rt; regex.is_match("FRODO")?);
+    Ok(())
+}
+
+/// At `RegexBuilder::multi_line`.
+#[test]
+fn every_line(rt: HostRuntime) -> Result<(), Fail> {
+    let alloc = rt.alloc();
+    let regex = RegexBuilder::new(alloc, "^sam$")?.multi_line(true).build()?;
+    assert!(rt; regex.is_match("frodo\nsam\n")?);
+    Ok(())
+}
+
 /// At `Regex::new`.
 #[test]
 fn pattern(rt: HostRuntime) -> Result<(), Fail> {

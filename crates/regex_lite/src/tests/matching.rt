@@ -1,9 +1,9 @@
 //! Whether a pattern matches somewhere in a haystack.
-use crate::{Regex, RegexBuilder};
+use crate::RegexBuilder;
+use crate::tests::{Row, expect_rows};
 use std::test::Fail;
 
-/// A pattern, a haystack, and whether the one matches in the other.
-const ROWS: [(&str, &str, bool); 11] = [
+const ROWS: [Row; 11] = [
     ("samwise|sam", "samwise", true),
     ("samwise|sam", "frodo", false),
     ("", "", true),
@@ -19,12 +19,7 @@ const ROWS: [(&str, &str, bool); 11] = [
 
 #[test]
 fn rows(rt: HostRuntime) -> Result<(), Fail> {
-    for (pattern, haystack, wanted) in ROWS {
-        let regex = Regex::new(rt.alloc(), pattern)?;
-        let found = regex.is_match(haystack)?;
-        assert_eq!(rt; found, wanted, "{pattern:?} in {haystack:?}");
-    }
-    Ok(())
+    expect_rows(&rt, &ROWS)
 }
 
 /// A builder is unchanged by building.

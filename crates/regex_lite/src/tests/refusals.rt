@@ -11,15 +11,20 @@ const NOT_CLOSED: &str = "found open group without closing ')'";
 const NOT_YET: &str = "not supported yet";
 
 /// A pattern, and the text of its refusal.
-const ROWS: [(&str, &str); 8] = [
+const ROWS: [(&str, &str); 13] = [
     ("*", NOTHING_TO_REPEAT),
     ("|?", NOTHING_TO_REPEAT),
     ("(?:+)", NOTHING_TO_REPEAT),
     ("a)", NOT_OPENED),
     ("(?:a", NOT_CLOSED),
-    ("a.b", NOT_YET),
+    ("(?i)?", NOTHING_TO_REPEAT),
+    ("\\x{D800}", "got invalid hexadecimal number in braces"),
+    ("[[:loower:]]", "nested character classes are not supported"),
+    ("[a--b]", "character class difference is not supported"),
     ("a{2}", NOT_YET),
     ("(a)", NOT_YET),
+    ("(?<n>a)", NOT_YET),
+    ("(?x)a", NOT_YET),
 ];
 
 #[test]

@@ -1,16 +1,127 @@
 //! Items that are no groups.
-ghost use Rattle.std.specs.Prelude.{◌≡◌};
-ghost use Rattle.regex_lite_syntax.specs.Atoms.{is_literal};
+ghost use Rattle.std.specs.Prelude.{◌≡◌, ◌<◌, ◌≤◌, drop, length, IfOk, IfErr};
+ghost use Rattle.regex_lite_syntax.specs.Text.{Text};
+ghost use Rattle.regex_lite_syntax.specs.Ranges.{AreRunsOf};
+ghost use Rattle.regex_lite_syntax.specs.Escapes.{one};
+ghost use Rattle.regex_lite_syntax.specs.Tree.{Tree};
+ghost use Rattle.regex_lite_syntax.specs.Atoms.{is_literal, dot, anchor, PieceTree, Atom};
+ghost use Rattle.regex_lite_syntax.specs.Refusals.{Denies};
+ghost use Rattle.regex_lite_syntax.specs.Pieces.{piece_of};
+ghost use Rattle.regex_lite_syntax.specs.Views.{tree_of};
 
+use crate::class::{Class, ClassRange};
+use crate::error::{Error, SyntaxFault};
+use crate::flags::Flags;
+use crate::hir::Hir;
+use crate::hir::look::Look;
+use crate::parse::bracket::read_class;
+use crate::parse::escape::{Piece, read_escape};
 use crate::parse::gap::is_white_space_char;
+use std::alloc::{AllocError, Global};
+
+/// Reads the item that stands at the index, which is no group, and answers the index behind it.
+pub(crate) fn read_atom(
+    alloc: Global,
+    chars: &[char],
+    at: usize,
+    flags: Flags,
+) -> Result<(usize, Hir), Error>
+    requires { at < length chars.now }
+    ensures inside { IfOk result (λ r. (at < r.0) × (r.0 ≤ length chars.now)) }
+    ensures ok { IfOk result (λ r.
+        Atom flags (drop at chars.now) (drop r.0 chars.now) (tree_of r.1)) }
+    ensures err { IfErr result (λ e. Denies e
+        ((rest : Text) × (a : Tree) × Atom flags (drop at chars.now) rest a)) }
+{
+    let verbose = flags.ignore_whitespace;
+    match chars[at] {
+        '.' => Ok((at + 1, Hir::Class(dot_class(alloc, flags)?))),
+        '^' => {
+            let look = anchor_look(flags, Look::Start, Look::StartLF, Look::StartCRLF);
+            Ok((at + 1, Hir::Look(look)))
+        }
+        '$' => {
+            let look = anchor_look(flags, Look::End, Look::EndLF, Look::EndCRLF);
+            Ok((at + 1, Hir::Look(look)))
+        }
+        '\\' => {
+            let (end, piece) = read_escape(chars, at + 1, verbose)?;
+            Ok((end, piece_tree(alloc, flags, piece)?))
+        }
+        '[' => {
+            let (end, class) = read_class(alloc, chars, at, flags.case_insensitive, verbose)?;
+            Ok((end, Hir::Class(class)))
+        }
+        c if is_literal_char(c, verbose) => Ok((at + 1, char_tree(alloc, flags, c)?)),
+        _ => Err(SyntaxFault::NotSupportedYet.into()),
+    }
+}
 
 /// Whether the character stands for itself.
-pub(crate) fn is_literal_char(c: char, verbose: bool) -> bool
+fn is_literal_char(c: char, verbose: bool) -> bool
     ensures { result ≡ is_literal verbose c }
 {
     match c {
         '\\' | '.' | '^' | '$' | '(' | ')' | '[' | '|' | '?' | '*' | '+' | '{' => false,
         '#' => !verbose,
         _ => !(verbose && is_white_space_char(c)),
+    }
+}
+
+/// What `.` stands for.
+fn dot_class(alloc: Global, flags: Flags) -> Result<Class, AllocError>
+    ensures { IfOk result (λ class. AreRunsOf class.ranges.items (dot flags)) }
+{
+    let mut ends = Vec::new(alloc);
+    if !flags.dot_matches_new_line {
+        ends.push(only('\n'))?;
+        if flags.crlf {
+            ends.push(only('\r'))?;
+        }
+    }
+    Class::new(alloc, ends)?.negate(alloc)
+}
+
+/// The range of one character.
+fn only(c: char) -> ClassRange
+    ensures { result ≡ record { start = c; end = c } }
+{
+    ClassRange { start: c, end: c }
+}
+
+/// What `^` or `$` stands for: the haystack's end, or under `m` that of a line of either kind.
+fn anchor_look(flags: Flags, whole: Look, line: Look, crlf_line: Look) -> Look
+    ensures { result ≡ anchor flags whole line crlf_line }
+{
+    if !flags.multi_line {
+        whole
+    } else if flags.crlf {
+        crlf_line
+    } else {
+        line
+    }
+}
+
+/// The tree of a character: under `i` an ASCII letter stands for both its cases.
+fn char_tree(alloc: Global, flags: Flags, c: char) -> Result<Hir, AllocError>
+    ensures { IfOk result (λ hir. PieceTree flags (one c) (tree_of hir)) }
+{
+    if !flags.case_insensitive || !c.is_ascii_alphabetic() {
+        return Ok(Hir::Char(c));
+    }
+    let mut letter = Vec::new(alloc);
+    letter.push(only(c))?;
+    let class = Class::new(alloc, letter)?.ascii_case_fold(alloc)?;
+    Ok(Hir::Class(class))
+}
+
+/// The tree of what an escape gives.
+fn piece_tree(alloc: Global, flags: Flags, piece: Piece) -> Result<Hir, AllocError>
+    ensures { IfOk result (λ hir. PieceTree flags (piece_of piece) (tree_of hir)) }
+{
+    match piece {
+        Piece::Char(c) => char_tree(alloc, flags, c),
+        Piece::Set { set, negated } => Ok(Hir::Class(Class::named(alloc, set, negated)?)),
+        Piece::Look(look) => Ok(Hir::Look(look)),
     }
 }

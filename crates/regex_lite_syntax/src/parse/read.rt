@@ -1,6 +1,15 @@
 //! Single characters of a pattern, by their index.
-ghost use Rattle.std.specs.Prelude.{◌≡◌, ◌<◌, ◌≤◌, ◌+◌, ◌∷◌, IsTrue, false, drop, length};
-ghost use Rattle.regex_lite_syntax.specs.Text.{Text, Begins, question_mark, colon};
+ghost use Rattle.std.specs.Prelude.{◌≡◌, ◌<◌, ◌≤◌, ◌+◌, [], ◌∷◌, IsTrue, false, MatchOption, drop, length};
+ghost use Rattle.regex_lite_syntax.specs.Text.{Begins};
+
+/// The character at the index, if one is left there.
+pub(crate) fn char_at(chars: &[char], at: usize) -> Option<char>
+    requires { at ≤ length chars.now }
+    ensures { MatchOption result (drop at chars.now ≡ [])
+        (λ c. (at < length chars.now) × (drop at chars.now ≡ c ∷ drop (at + 1) chars.now)) }
+{
+    chars.get(at).copied()
+}
 
 /// Whether this character stands at the index.
 pub(crate) fn is_at(chars: &[char], at: usize, c: char) -> bool
@@ -10,15 +19,4 @@ pub(crate) fn is_at(chars: &[char], at: usize, c: char) -> bool
     ensures absent { result ≡ false → Begins c (drop at chars.now) → ⊥ }
 {
     at < chars.len() && chars[at] == c
-}
-
-/// Whether `?:` stands at the index.
-pub(crate) fn is_plain_head_at(chars: &[char], at: usize) -> bool
-    requires { at ≤ length chars.now }
-    ensures there { IsTrue result → (at + 2 ≤ length chars.now)
-        × (drop at chars.now ≡ question_mark ∷ colon ∷ drop (at + 2) chars.now) }
-    ensures absent { result ≡ false →
-        (rest : Text) → drop at chars.now ≡ question_mark ∷ colon ∷ rest → ⊥ }
-{
-    is_at(chars, at, '?') && is_at(chars, at + 1, ':')
 }

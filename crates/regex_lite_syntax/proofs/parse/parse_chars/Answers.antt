@@ -8,8 +8,9 @@ use Rattle.regex_lite_syntax.specs.Grammar.{IsTree, HasTree}
 use Rattle.regex_lite_syntax.specs.Refusals.{Denies}
 use Rattle.regex_lite_syntax.specs.Machine.{stay}
 use Rattle.regex_lite_syntax.specs.ParserStates.{CanRead, Finishes}
-use Rattle.regex_lite_syntax.proofs.States.{drop_at}
-use Rattle.regex_lite_syntax.proofs.ParserRuns.{reaches_next, reaches_tree, open_refused, stuck_refused, denies_as}
+use Rattle.regex_lite_syntax.proofs.Indices.{drop_at}
+use Rattle.regex_lite_syntax.proofs.Denials.{denies_as}
+use Rattle.regex_lite_syntax.proofs.ParserRuns.{reaches_next, reaches_tree, open_refused, stuck_refused}
 use Rattle.regex_lite_syntax.proofs.parse.parse_chars.Goals as goal
 
 pub loop-parser-init : goal.loop-parser-init

@@ -2,7 +2,7 @@ use Rattle.std.proofs.Common.{◌≡◌, refl, sym, ◌∙◌, ap, subst, arith,
 use Rattle.regex_lite_syntax.specs.Text.{question_mark}
 use Rattle.regex_lite_syntax.specs.Refusals.{Denies}
 use Rattle.regex_lite_syntax.specs.ParserStates.{CanRead}
-use Rattle.regex_lite_syntax.proofs.States.{drop_at}
+use Rattle.regex_lite_syntax.proofs.Indices.{drop_at}
 use Rattle.regex_lite_syntax.proofs.ReadSteps.{greed_as, reads_operator, reads_lazy_operator, reads_no_operator}
 use Rattle.regex_lite_syntax.proofs.parse.Parser.read_operator.Goals as goal
 

@@ -1,5 +1,5 @@
 use Rattle.std.proofs.Common.{◌∙◌, ap, arith, drop, ◌+◌, ◌∷◌}
-use Rattle.regex_lite_syntax.proofs.States.{drop_char}
+use Rattle.regex_lite_syntax.proofs.Indices.{drop_char}
 use Rattle.regex_lite_syntax.proofs.ReadSteps.{reads_bar}
 use Rattle.regex_lite_syntax.proofs.parse.Parser.step.Goals as goal
 

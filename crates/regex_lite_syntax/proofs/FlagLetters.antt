@@ -1,0 +1,79 @@
+-- Flags are read in one way.
+use Rattle.std.proofs.Common.{◌≡◌, ◌≢◌, refl, sym, ◌∙◌, ap, subst, ℕ, Bool, true, false, [], ◌∷◌, arith}
+use Rattle.regex_lite_syntax.specs.declared.flags.Flags.{Flags}
+use Rattle.regex_lite_syntax.specs.Text.{Text, Spelled, AllPass, dash, colon, close_paren}
+use Rattle.regex_lite_syntax.specs.FlagLetters.{is_flag_letter, with_flags, FlagLetters, setting, clearing}
+use Rattle.regex_lite_syntax.proofs.Lists.{same_head, same_tail}
+use Rattle.regex_lite_syntax.proofs.Words.{word_once as longest_once}
+
+-- characters of one kind up to one of another kind
+pub word_once : (kind : ℕ → Bool) (word word' t : Text) (c d : ℕ) (r s : Text) → kind c ≡ false → kind d ≡ false
+    → Spelled word t (c ∷ r) → Spelled word' t (d ∷ s) → AllPass kind word → AllPass kind word'
+    → (word ≡ word') × (c ≡ d) × (r ≡ s)
+word_once kind word word' t c d r s ends ends' p q all all' =
+    let both = longest_once kind word word' t (c ∷ r) (d ∷ s) p q all all' ends ends' in
+    (both.0, same_head both.1, same_tail both.1)
+
+-- the character is no part of flags
+pub record EndsFlags (c : ℕ) : Type 0 where
+  pub no_letter : is_flag_letter c ≡ false
+  pub no_dash : c ≢ dash
+
+pub colon_ends_flags : EndsFlags colon
+colon_ends_flags = record { no_letter = refl; no_dash = λ e. omega (arith, e) }
+
+pub paren_ends_flags : EndsFlags close_paren
+paren_ends_flags = record { no_letter = refl; no_dash = λ e. omega (arith, e) }
+
+-- flags that set alone and flags with a dash do not stand at one place
+one_sort : (on on' t past : Text) (c : ℕ) (r : Text) → EndsFlags c → Spelled on t (c ∷ r) → AllPass is_flag_letter on
+    → Spelled on' t (dash ∷ past) → AllPass is_flag_letter on' → ⊥
+one_sort on on' t past c r ends p all q all' =
+    ends.no_dash (word_once is_flag_letter on on' t c dash r past ends.no_letter refl p q all all').1
+
+-- two that end before what is no part of flags
+pub letters_once : (old new new' : Flags) (t : Text) (c d : ℕ) (r s : Text) → EndsFlags c → EndsFlags d
+    → FlagLetters old t (c ∷ r) new → FlagLetters old t (d ∷ s) new' → (new ≡ new') × (c ≡ d) × (r ≡ s)
+letters_once old new new' t c d r s ends ends' (setting on p all differ e) (setting on' p' all' differ' e') =
+    let same = word_once is_flag_letter on on' t c d r s ends.no_letter ends'.no_letter p p' all all' in
+    (e ∙ ap (λ w. with_flags true w old) same.0 ∙ sym e', same.1, same.2)
+letters_once old new new' t c d r s ends ends' (setting on p all differ e)
+    (clearing on' off past p' q some all' all_off differ' e') =
+    absurd (one_sort on on' t past c r ends p all p' all')
+letters_once old new new' t c d r s ends ends' (clearing on off past p q some all all_off differ e)
+    (setting on' p' all' differ' e') =
+    absurd (one_sort on' on t past d s ends' p' all' p all)
+letters_once old new new' t c d r s ends ends' (clearing on off past p q some all all_off differ e)
+    (clearing on' off' past' p' q' some' all' all_off' differ' e') =
+    let first = word_once is_flag_letter on on' t dash dash past past' refl refl p p' all all' in
+    let from = subst (λ u. Spelled off' u (d ∷ s)) (sym first.2) q' in
+    let same = word_once is_flag_letter off off' past c d r s ends.no_letter ends'.no_letter q from all_off all_off' in
+    let cleared = ap (λ w. with_flags false w (with_flags true on old)) same.0 in
+    let set = ap (λ w. with_flags false off' (with_flags true w old)) first.0 in
+    (e ∙ cleared ∙ set ∙ sym e', same.1, same.2)
+
+-- flags that end before one character do not end before another
+pub other_end : (old new new' : Flags) (t : Text) (c d : ℕ) (r s : Text) → EndsFlags c → EndsFlags d → c ≢ d
+    → FlagLetters old t (c ∷ r) new → FlagLetters old t (d ∷ s) new' → ⊥
+other_end old new new' t c d r s ends ends' differ p q =
+    differ (letters_once old new new' t c d r s ends ends' p q).1
+
+-- no flags stand directly before a `)`
+no_flags : (old : Flags) (t rest : Text) → t ≡ close_paren ∷ rest → FlagLetters old t (close_paren ∷ rest) old
+no_flags old t rest e = setting [] e tt refl refl
+
+-- so no head ends there
+pub empty_head : (old : Flags) (t rest r : Text) (new : Flags) → t ≡ close_paren ∷ rest
+    → FlagLetters old t (colon ∷ r) new → ⊥
+empty_head old t rest r new e letters =
+    other_end old new old t colon close_paren r rest colon_ends_flags paren_ends_flags (λ c. omega (arith, c)) letters
+    (no_flags old t rest e)
+
+-- and no directive
+pub empty_directive : (old : Flags) (t rest r : Text) (new : Flags) → t ≡ close_paren ∷ rest → t ≢ close_paren ∷ r
+    → FlagLetters old t (close_paren ∷ r) new → ⊥
+empty_directive old t rest r new e differ letters =
+    let ends = paren_ends_flags in
+    let none = no_flags old t rest e in
+    let same = letters_once old new old t close_paren close_paren r rest ends ends letters none in
+    differ (e ∙ ap (λ u. close_paren ∷ u) (sym same.2))

@@ -1,0 +1,50 @@
+-- What a range behind the last run adds, joined to it or apart.
+use Rattle.std.proofs.Common.{◌≡◌, ℕ, ◌+◌, ◌≤◌, ◌||◌, List, [], ◌∷◌, ◌++◌, IsTrue, arith, All, nat_cmp, length}
+use Rattle.std.specs.Ordering.{ord_max}
+use Rattle.std.proofs.lemmas.Bool.Decides.{nat_tests}
+use Rattle.std.proofs.lemmas.Grind.{common_steps}
+use Rattle.regex_lite_syntax.specs.Characters.{is_character}
+use Rattle.regex_lite_syntax.specs.Sets.{span}
+use Rattle.regex_lite_syntax.specs.declared.class.ClassRange.{ClassRange}
+use Rattle.regex_lite_syntax.specs.Ranges.{in_ranges, next_character, AreRuns}
+use Rattle.regex_lite_syntax.proofs.RangeLemmas.{next_least, in_ranges-push}
+
+pub max_above : (a b : ℕ) → a ≤ ord_max nat_cmp a b
+max_above a b = grind (arith, nat_tests)
+
+-- the range with another end
+abbrev pub until : ℕ → ClassRange → ClassRange
+until end r = record { start = r.start; end = end }
+
+-- more runs behind the last
+pub runs_append : (n : ℕ) (a b : List ClassRange) (last : ClassRange) → AreRuns n (a ++ last ∷ []) → AreRuns (next_character last.end + 1) b
+    → AreRuns n ((a ++ last ∷ []) ++ b)
+runs_append n [] b last p q = (p.0, p.1, p.2, p.3, q)
+runs_append n (r ∷ a) b last p q = (p.0, p.1, p.2, p.3, runs_append (next_character r.end + 1) a b last p.4 q)
+
+-- a later end of the last
+pub runs_until : (n : ℕ) (a : List ClassRange) (last : ClassRange) (end : ℕ) → AreRuns n (a ++ last ∷ []) → IsTrue (is_character end)
+    → last.end ≤ end → AreRuns n (a ++ until end last ∷ [])
+runs_until n [] last end p is later = (p.0, p.1, is, omega arith, tt)
+runs_until n (r ∷ a) last end p is later = (p.0, p.1, p.2, p.3, runs_until (next_character r.end + 1) a last end p.4 is later)
+
+-- where no character stands between two ranges, they hold what both together hold
+span_joined : (start end first last c : ℕ) → start ≤ first → first ≤ next_character end
+    → span start (ord_max nat_cmp end last) c ≡ (span start end c || span first last c)
+span_joined start end first last c in_order near = grind (arith, nat_tests, next_least end c)
+
+pub in_joined : (a : List ClassRange) (last r : ClassRange) (end c : ℕ) → last.start ≤ r.start → r.start ≤ next_character last.end
+    → end ≡ ord_max nat_cmp last.end r.end
+    → in_ranges (a ++ until end last ∷ []) c ≡ (in_ranges (a ++ last ∷ []) c || span r.start r.end c)
+in_joined a last r end c in_order near is =
+    let before = in_ranges-push a last c in
+    let after = in_ranges-push a (until end last) c in
+    let both = span_joined last.start last.end r.start r.end c in_order near in
+    grind (arith, common_steps)
+
+pub starts_until : (n end : ℕ) (a : List ClassRange) (last : ClassRange) → All (λ run. run.start ≤ n) (a ++ last ∷ [])
+    → All (λ run. run.start ≤ n) (a ++ until end last ∷ [])
+starts_until n end a last all k d inside = grind (arith, common_steps, all k d)
+
+pub starts_last : (n : ℕ) (a : List ClassRange) (last : ClassRange) → All (λ run. run.start ≤ n) (a ++ last ∷ []) → last.start ≤ n
+starts_last n a last all = let here = all (length a) last in grind (arith, common_steps)

@@ -1,0 +1,10 @@
+use Rattle.std.proofs.Common.{◌≡◌, ℕ, ◌||◌, ◌&&◌, take}
+use Rattle.regex_lite_syntax.specs.Characters.{is_letter, other_case}
+use Rattle.regex_lite_syntax.specs.Ranges.{in_ranges}
+use Rattle.regex_lite_syntax.proofs.class.Class.ascii_case_fold.Given as goal
+
+abbrev pub invariant-loop-range : goal.invariant-loop-range
+invariant-loop-range l =
+    (c : ℕ) → in_ranges l.ranges.items c
+    ≡ (in_ranges l.self.ranges.items c
+    || (is_letter c && in_ranges (take l.range-index l.range-items) (other_case c)))

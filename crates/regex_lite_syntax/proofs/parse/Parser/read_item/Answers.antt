@@ -1,0 +1,18 @@
+use Rattle.std.proofs.lemmas.Result.{err_from_is_err_and}
+use Rattle.regex_lite_syntax.proofs.Denials.{denies_as}
+use Rattle.regex_lite_syntax.proofs.ReadSteps.{reads_atom, reads_no_atom}
+use Rattle.regex_lite_syntax.proofs.parse.Parser.read_item.Goals as goal
+
+pub returns-in_err-end-clause-err : goal.returns-in_err-end-clause-err
+returns-in_err-end-clause-err c =
+    let left = err_from_is_err_and c.from_residual.result c.from_residual.ensures.1 in
+    rw (left.1, left.2) (denies_as c.in_err-end.field-0.0 _ _
+    (λ none. reads_no_atom c.args.self.now _ c.requires.past_gap c.requires.begins (λ rest a atom. none (rest, a, atom)))
+    c.in_err-end.ensures.err)
+
+pub returns-clause-ok : goal.returns-clause-ok
+returns-clause-ok c = record {
+  further = c.in_ok-end.ensures.inside.0;
+  in_pattern = c.in_ok-end.ensures.inside.1;
+  reads = reads_atom c.args.self.now c.add.new.self _ _ _ c.in_ok-end.ensures.ok c.in_ok-add.ensures;
+}

@@ -1,0 +1,8 @@
+use Rattle.std.proofs.Common.{refl}
+use Rattle.regex_lite_syntax.specs.Machine.{with_items}
+use Rattle.regex_lite_syntax.specs.ParserStates.{state}
+use Rattle.regex_lite_syntax.proofs.parse.Parser.set_flags.Goals as goal
+
+pub returns : goal.returns
+unfolding state with_items
+returns c t u d = refl

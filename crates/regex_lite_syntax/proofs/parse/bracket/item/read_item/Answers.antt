@@ -1,0 +1,74 @@
+use Rattle.std.proofs.Common.{refl, drop}
+use Rattle.std.proofs.lemmas.Result.{err_from_is_err_and, IfOk-weaker, IfErr-weaker}
+use Rattle.regex_lite_syntax.specs.Text.{Text}
+use Rattle.regex_lite_syntax.specs.Sets.{Set}
+use Rattle.regex_lite_syntax.specs.Escapes.{Piece as Given}
+use Rattle.regex_lite_syntax.specs.Classes.{Part, ClassItem}
+use Rattle.regex_lite_syntax.specs.ClassParts.{element_piece, IsElement, item_set, RangeTo, HasItems}
+use Rattle.regex_lite_syntax.specs.Refusals.{Denies}
+use Rattle.regex_lite_syntax.proofs.Denials.{denies_whole}
+use Rattle.regex_lite_syntax.proofs.Indices.{left_inside}
+use Rattle.regex_lite_syntax.proofs.ClassItems.{begins_item, item_part, item_named, item_alone, item_range, item_range_to, open_items}
+use Rattle.regex_lite_syntax.proofs.parse.bracket.item.read_item.Goals as goal
+
+pub returns-in-Some-clause-ok : goal.returns-in-Some-clause-ok
+returns-in-Some-clause-ok c = item_named _ _ _ _ c.in-Some.ensures.found
+
+pub returns-in_err-past-clause-err : goal.returns-in_err-past-clause-err
+returns-in_err-past-clause-err c =
+    let verbose = c.args.verbose in
+    let t = drop c.args.at c.args.chars.now in
+    let left = err_from_is_err_and c.from_residual.result c.from_residual.ensures.1 in
+    rw (left.1, left.2) (denies_whole _ ((r : Text) × (p : Given) × IsElement p × Part verbose t r p) (HasItems verbose t)
+    (λ items. item_part verbose t _ _ (c.if-is_at.ensures.absent refl) items.3.2) c.in_err-past.ensures.err)
+
+pub returns-in_err-find_range_end-clause-err : goal.returns-in_err-find_range_end-clause-err
+returns-in_err-find_range_end-clause-err c =
+    let verbose = c.args.verbose in
+    let t = drop c.args.at c.args.chars.now in
+    let left = err_from_is_err_and c.from_residual-in_err-find_range_end.result c.from_residual-in_err-find_range_end.ensures.1 in
+    rw (left.1, left.2) (open_items verbose t _ _ (c.if-is_at.ensures.absent refl) c.in_ok-past.ensures.ok
+    c.in_err-find_range_end.ensures.err)
+
+pub returns-in-None-2-clause-ok : goal.returns-in-None-2-clause-ok
+returns-in-None-2-clause-ok c =
+    let here = left_inside c.args.chars.now c.args.at c.requires.inside c.if-at-chars.false in
+    let none = rw c.in-None-2.is at c.in_ok-find_range_end.ensures.ok in
+    item_alone _ _ _ _ (begins_item _ _ _ here c.requires.goes_on (c.if-is_at.ensures.absent refl) c.in_default.ensures)
+    c.in_ok-past.ensures.ok none
+
+pub returns-in-Some-2-clause-ok : goal.returns-in-Some-2-clause-ok
+returns-in-Some-2-clause-ok c =
+    let verbose = c.args.verbose in
+    let xs = c.args.chars.now in
+    let t = drop c.args.at xs in
+    let first = element_piece c.in_ok-past.element in
+    let last = drop c.in-Some-2.last xs in
+    let here = left_inside xs c.args.at c.requires.inside c.if-at-chars.false in
+    let follows = rw c.in-Some-2.is at c.in_ok-find_range_end.ensures.ok in
+    let begins = begins_item t _ _ here c.requires.goes_on (c.if-is_at.ensures.absent refl) c.in_default.ensures in
+    IfOk-weaker c.read_range.result
+    (λ r. RangeTo verbose first last (drop r.0 xs) (item_set r.1))
+    (λ r. ClassItem verbose t (drop r.0 xs) (item_set r.1))
+    (λ r to. item_range verbose t (drop c.in_ok-past.past xs) last _ first _ begins c.in_ok-past.ensures.ok follows to)
+    c.read_range.ensures.ok
+
+pub returns-in-Some-2-clause-err : goal.returns-in-Some-2-clause-err
+returns-in-Some-2-clause-err c =
+    let verbose = c.args.verbose in
+    let xs = c.args.chars.now in
+    let t = drop c.args.at xs in
+    let first = element_piece c.in_ok-past.element in
+    let last = drop c.in-Some-2.last xs in
+    let follows = rw c.in-Some-2.is at c.in_ok-find_range_end.ensures.ok in
+    IfErr-weaker c.read_range.result
+    (λ e. Denies e ((r : Text) × (s : Set) × RangeTo verbose first last r s))
+    (λ e. Denies e (HasItems verbose t))
+    (λ e. denies_whole e ((r : Text) × (s : Set) × RangeTo verbose first last r s) (HasItems verbose t)
+    (λ items. (
+      items.3.0,
+      items.0,
+      item_range_to verbose t (drop c.in_ok-past.past xs) last items.3.0 first items.0
+          (c.if-is_at.ensures.absent refl) c.in_ok-past.ensures.ok follows items.3.2,
+    )))
+    c.read_range.ensures.err

@@ -1,0 +1,23 @@
+use Rattle.std.proofs.Common.{sym, subst, ◌<◌, ◌+◌, drop, length, arith, IsTrue}
+use Rattle.std.proofs.lemmas.List.{get_or_read}
+use Rattle.regex_lite_syntax.specs.Text.{Spelled, AllPass}
+use Rattle.regex_lite_syntax.specs.Characters.{is_lower}
+use Rattle.regex_lite_syntax.proofs.Words.{pass_push, spelled_push, take_push}
+use Rattle.regex_lite_syntax.proofs.Indices.{drop_char}
+use Rattle.regex_lite_syntax.proofs.parse.bracket.named.skip_lower.Goals as goal
+
+pub loop-end-preserved : goal.loop-end-preserved
+loop-end-preserved c =
+    let xs = c.args.chars.now in
+    let end = c.loop-end.end in
+    let below : end < length xs = c.loop-end-test.true in
+    let letter : IsTrue (is_lower c.index-chars-end.result) = sym c.if-is_ascii_lowercase.ensures.value in
+    let here = drop_char xs end c.index-chars-end.result below c.index-chars-end.is in
+    let longer = take_push xs c.args.at end c.index-chars-end.result c.loop-end.invariant.inside.0 below
+    (get_or_read xs _ _ below c.index-chars-end.is 0) in
+    record {
+      inside = (omega arith, omega arith);
+      letters = subst (λ w. AllPass is_lower w) (sym longer) (pass_push _ _ _ c.loop-end.invariant.letters letter);
+      spelled = subst (λ w. Spelled w (drop c.args.at xs) (drop (end + 1) xs)) (sym longer)
+          (spelled_push _ _ _ _ _ c.loop-end.invariant.spelled here);
+    }

@@ -1,0 +1,70 @@
+use Rattle.std.proofs.Common.{◌≡◌, sym, subst, drop, List, ◌∷◌, ℕ}
+use Rattle.std.proofs.lemmas.Result.{err_from_is_err_and}
+use Rattle.regex_lite_syntax.specs.Text.{Text, dash, close_bracket}
+use Rattle.regex_lite_syntax.specs.Sets.{Set, just, union}
+use Rattle.regex_lite_syntax.specs.Ranges.{in_ranges}
+use Rattle.regex_lite_syntax.specs.Classes.{ClassItems, only_if, BracketedClass}
+use Rattle.regex_lite_syntax.specs.Refusals.{Denies}
+use Rattle.regex_lite_syntax.proofs.Denials.{denies_whole}
+use Rattle.regex_lite_syntax.proofs.Indices.{left_at_end}
+use Rattle.regex_lite_syntax.proofs.ClassItems.{nothing_left}
+use Rattle.regex_lite_syntax.proofs.ClassOpenings.{class_from, class_items}
+use Rattle.regex_lite_syntax.proofs.ClassSets.{holds_all, class_as}
+use Rattle.regex_lite_syntax.proofs.parse.bracket.read_class.Goals as goal
+use Rattle.regex_lite_syntax.proofs.parse.bracket.read_class.Goals.{In_ok-class}
+
+pub returns-then-start-chars-clause-err : goal.returns-then-start-chars-clause-err
+returns-then-start-chars-clause-err c =
+    let verbose = c.args.verbose in
+    let xs = c.args.chars.now in
+    let t = drop c.args.at xs in
+    let start = c.read_opening-start.result.0 in
+    subst (λ e. Denies e ((r : Text) × (s : Set) × BracketedClass c.args.insensitive verbose t r s)) (sym c.into.ensures)
+    (λ found. nothing_left verbose found.2.sets found.0
+    (subst (λ u. ClassItems verbose found.2.sets u found.0) (left_at_end xs start c.if-start-chars.true)
+    (class_items c.args.insensitive verbose t (drop start xs) found.0 _ found.1 c.read_opening-start.ensures.opens found.2)))
+
+pub returns-in_err-end-clause-err : goal.returns-in_err-end-clause-err
+returns-in_err-end-clause-err c =
+    let verbose = c.args.verbose in
+    let xs = c.args.chars.now in
+    let t = drop c.args.at xs in
+    let u = drop c.read_opening-start.result.0 xs in
+    let left = err_from_is_err_and c.from_residual-in_err-end.result c.from_residual-in_err-end.ensures.1 in
+    rw (left.1, left.2) (denies_whole _
+    ((r : Text) × (sets : List Set) × ClassItems verbose sets u r)
+    ((r : Text) × (s : Set) × BracketedClass c.args.insensitive verbose t r s)
+    (λ found. (
+      found.0,
+      found.2.sets,
+      class_items c.args.insensitive verbose t u found.0 _ found.1 c.read_opening-start.ensures.opens found.2,
+    ))
+    c.in_err-end.ensures.err)
+
+-- what the class is the union of
+dash_set : In_ok-class → Set
+dash_set c = only_if c.read_opening-start.result.1.dash (just dash)
+
+bracket_set : In_ok-class → Set
+bracket_set c = only_if c.read_opening-start.result.1.bracket (just close_bracket)
+
+holds : (c : In_ok-class) (d : ℕ)
+    → in_ranges c.read_items.new.ranges.items d ≡ union (dash_set c ∷ bracket_set c ∷ c.in_ok-end.ensures.ok.0) d
+unfolding dash_set bracket_set
+holds c d =
+    holds_all _ _ _ (dash_set c) (bracket_set c) c.in_ok-end.ensures.ok.0 d c.new-ranges.ensures.items
+    (c.in_ok-push_opening.ensures d) (c.in_ok-end.ensures.ok.2 d)
+
+pub returns-clause-ok : goal.returns-clause-ok
+unfolding dash_set bracket_set
+returns-clause-ok c =
+    let sets = dash_set c ∷ bracket_set c ∷ c.in_ok-end.ensures.ok.0 in
+    let runs = c.in_ok-class.ensures sets (holds c) in
+    class_as c.args.insensitive c.args.verbose _ _ _ _ runs.members
+    (class_from c.args.insensitive c.args.verbose _ _ _ _ c.in_ok-end.ensures.ok.0
+    c.read_opening-start.ensures.opens c.in_ok-end.ensures.ok.1)
+
+pub returns-clause-runs : goal.returns-clause-runs
+returns-clause-runs c =
+    let sets = dash_set c ∷ bracket_set c ∷ c.in_ok-end.ensures.ok.0 in
+    (c.in_ok-class.ensures sets (holds c)).runs

@@ -1,0 +1,49 @@
+use Rattle.std.proofs.Common.{refl, subst, ◌+◌, ◌++◌, drop, List, [], ◌∷◌, arith}
+use Rattle.std.proofs.lemmas.List.{append-nil}
+use Rattle.std.proofs.lemmas.Result.{err_from_is_err_and}
+use Rattle.regex_lite_syntax.specs.Text.{Text}
+use Rattle.regex_lite_syntax.specs.Sets.{Set}
+use Rattle.regex_lite_syntax.specs.Classes.{ClassItems}
+use Rattle.regex_lite_syntax.specs.ClassParts.{item_set, HasItems}
+use Rattle.regex_lite_syntax.proofs.Denials.{denies_whole}
+use Rattle.regex_lite_syntax.proofs.ClassItems.{has_items, items_push, items_next}
+use Rattle.regex_lite_syntax.proofs.ClassSets.{holds_more}
+use Rattle.regex_lite_syntax.proofs.parse.bracket.read_items.Goals as goal
+
+pub returns-in_err-past-clause-err : goal.returns-in_err-past-clause-err
+returns-in_err-past-clause-err c =
+    let verbose = c.args.verbose in
+    let xs = c.args.chars.now in
+    let left = err_from_is_err_and c.from_residual.result c.from_residual.ensures.1 in
+    rw (left.1, left.2) (denies_whole _ (HasItems verbose (drop c.items.end xs))
+    ((r : Text) × (sets : List Set) × ClassItems verbose sets (drop c.args.at xs) r)
+    (λ found.
+    let more = c.items.invariant.back found.1 found.0 found.2 in
+    has_items verbose more.0 _ _ (c.items-test.ensures.absent refl) more.1)
+    c.in_err-past.ensures.err)
+
+pub items-preserved : goal.items-preserved
+items-preserved c =
+    let so_far = c.items.invariant in
+    let s = item_set c.in_ok-past.item in
+    let item = c.in_ok-past.ensures.ok in
+    let gap = c.skip_gap-end.ensures.gap in
+    record {
+      inside = (omega (arith, c.in_ok-past.ensures.inside), c.skip_gap-end.ensures.inside.1);
+      past_gap = gap.1;
+      sets = so_far.sets ++ s ∷ [];
+      holds = λ d. holds_more _ _ _ so_far.sets s d (so_far.holds d) (c.in_ok-push_item.ensures d);
+      goes = λ more rest items. items_push _ so_far.sets more s _ _ _ _ rest so_far.goes item gap items;
+      back = λ all rest items.
+          let more = so_far.back all rest items in items_next _ more.0 s _ _ _ rest item gap more.1;
+    }
+
+pub returns-clause-ok : goal.returns-clause-ok
+returns-clause-ok c =
+    let xs = c.args.chars.now in
+    let so_far = c.items.invariant in (
+      so_far.sets,
+      subst (λ sets. ClassItems c.args.verbose sets (drop c.args.at xs) (drop (c.items.end + 1) xs)) (append-nil so_far.sets)
+          (so_far.goes [] _ (c.items-test.ensures.there refl).1),
+      so_far.holds,
+    )

@@ -1,0 +1,24 @@
+use Rattle.std.proofs.Common.{◌≡◌, ◌≤◌, ◌-◌, ◌++◌, ◌||◌, drop, length, ℕ, List}
+use Rattle.regex_lite_syntax.specs.Text.{Text}
+use Rattle.regex_lite_syntax.specs.Gaps.{EndsGap}
+use Rattle.regex_lite_syntax.specs.Sets.{Set, union}
+use Rattle.regex_lite_syntax.specs.Ranges.{in_ranges}
+use Rattle.regex_lite_syntax.specs.Classes.{ClassItems}
+use Rattle.regex_lite_syntax.proofs.parse.bracket.read_items.Given as goal
+
+abbrev pub invariant-items : goal.invariant-items
+invariant-items l = record {
+  inside : (l.at ≤ l.end) × (l.end ≤ length l.chars);
+  past_gap : EndsGap l.verbose (drop l.end l.chars);
+  -- the sets of the items so far
+  sets : List Set;
+  holds : (c : ℕ) → in_ranges l.ranges.items c ≡ (in_ranges l.initial.ranges.items c || union sets c);
+  -- items from here on are items from the start on, and the other way round
+  goes : (more : List Set) (rest : Text) → ClassItems l.verbose more (drop l.end l.chars) rest
+      → ClassItems l.verbose (sets ++ more) (drop l.at l.chars) rest;
+  back : (all : List Set) (rest : Text) → ClassItems l.verbose all (drop l.at l.chars) rest
+      → (more : List Set) × ClassItems l.verbose more (drop l.end l.chars) rest;
+}
+
+abbrev pub decreases-items : goal.decreases-items
+decreases-items l = length l.chars - l.end

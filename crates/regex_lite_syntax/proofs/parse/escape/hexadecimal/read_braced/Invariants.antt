@@ -1,0 +1,20 @@
+use Rattle.std.proofs.Common.{ℕ, ◌≤◌, ◌-◌, drop, length}
+use Rattle.regex_lite_syntax.specs.Text.{Text}
+use Rattle.regex_lite_syntax.specs.Escapes.{BracedDigits}
+use Rattle.regex_lite_syntax.proofs.Digits.{BracedFrom}
+use Rattle.regex_lite_syntax.proofs.parse.escape.hexadecimal.read_braced.Given as goal
+
+abbrev pub invariant-loop-c : goal.invariant-loop-c
+invariant-loop-c l = record {
+  inside : (l.at ≤ l.end) × (l.end ≤ length l.chars);
+  small : l.number ≤ 0x10FFFF;
+  -- what goes on from here is what goes on from the start
+  goes : (rest : Text) (c : ℕ)
+      → BracedFrom l.verbose l.number (l.end - l.at) (drop l.end l.chars) rest c
+      → BracedDigits l.verbose (drop l.at l.chars) rest c;
+  back : (rest : Text) (c : ℕ) → BracedDigits l.verbose (drop l.at l.chars) rest c
+      → BracedFrom l.verbose l.number (l.end - l.at) (drop l.end l.chars) rest c;
+}
+
+abbrev pub decreases-loop-c : goal.decreases-loop-c
+decreases-loop-c l = length l.chars - l.end

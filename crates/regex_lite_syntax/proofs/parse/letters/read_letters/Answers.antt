@@ -1,0 +1,88 @@
+use Rattle.std.proofs.Common.{◌≡◌, sym, ◌∙◌, ap, subst, ◌++◌, ◌||◌, true, drop, slice_range, IsTrue, arith}
+use Rattle.std.proofs.lemmas.Bool.{or_left, or_right}
+use Rattle.std.proofs.lemmas.List.{drop_all}
+use Rattle.std.proofs.lemmas.Result.{err_from_is_err_and}
+use Rattle.regex_lite_syntax.specs.Text.{Text, AllPass}
+use Rattle.regex_lite_syntax.specs.Characters.{is_one_of}
+use Rattle.regex_lite_syntax.specs.FlagLetters.{is_flag_letter, with_flag, with_flags, all_differ}
+use Rattle.regex_lite_syntax.specs.FlagRuns.{EndsRun, LetterRun}
+use Rattle.regex_lite_syntax.proofs.Indices.{drop_char}
+use Rattle.regex_lite_syntax.proofs.Slices.{slice_spelled, slice_more}
+use Rattle.regex_lite_syntax.proofs.FlagRuns.{all_pass_more, with_flags_more, differ_more, no_run_end, no_run_other, no_run_twice}
+use Rattle.regex_lite_syntax.proofs.parse.letters.read_letters.Goals as goal
+use Rattle.regex_lite_syntax.proofs.parse.letters.read_letters.Goals.{then-contains-via-then-contains, then-contains-via-else-contains+then-contains-2}
+
+pub loop-end-preserved : goal.loop-end-preserved
+loop-end-preserved c =
+    let xs = c.args.chars.now in
+    let before = c.args.before.now in
+    let letter = c.index-chars-end.result in
+    let read = slice_range xs c.args.at c.loop-end.end in
+    let known = c.loop-end.invariant in
+    let longer = slice_more xs c.args.at c.loop-end.end letter (omega arith) (omega arith) c.index-chars-end.is in
+    let none = sym c.contains.ensures.value ∙ c.if-contains.false in
+    let none_read = sym c.contains-else-contains.ensures.value ∙ c.if-contains-2.false in
+    let flags = c.in_ok-flags.ensures.ok.1 ∙ ap (with_flag c.args.set letter) known.flags in
+    record {
+      all = subst (λ w. AllPass is_flag_letter w) (sym longer)
+          (all_pass_more is_flag_letter read letter known.all c.in_ok-flags.ensures.ok.0);
+      differ = subst (λ w. IsTrue (all_differ (before ++ w))) (sym longer)
+          (differ_more before read letter known.differ none none_read);
+      flags = flags ∙ sym (with_flags_more c.args.set read letter c.args.old)
+          ∙ ap (λ w. with_flags c.args.set w c.args.old) (sym longer);
+    }
+
+pub returns-then-ends_letters-clause-ok : goal.returns-then-ends_letters-clause-ok
+returns-then-ends_letters-clause-ok c =
+    let xs = c.args.chars.now in
+    let end = c.loop-end.end in
+    let here = drop_char xs end _ (omega arith) c.index-chars-end.is in
+    record {
+      written = slice_spelled xs c.args.at end (omega arith);
+      all = c.loop-end.invariant.all;
+      differ = c.loop-end.invariant.differ;
+      ends = subst (λ u. EndsRun u) (sym here) (sym c.ends_letters.ensures ∙ c.if-ends_letters.true);
+    }
+
+pub returns-in_err-flags-clause-err : goal.returns-in_err-flags-clause-err
+returns-in_err-flags-clause-err c =
+    let xs = c.args.chars.now in
+    let end = c.loop-end.end in
+    let read = slice_range xs c.args.at end in
+    let here = drop_char xs end _ (omega arith) c.index-chars-end.is in
+    let no_end = sym c.ends_letters.ensures ∙ c.if-ends_letters.false in
+    let written = slice_spelled xs c.args.at end (omega arith) in
+    let left = err_from_is_err_and c.from_residual.result c.from_residual.ensures.1 in
+    rw (left.1, left.2) (λ run. no_run_other c.args.before.now read run.0 _ _ run.1 _ _ written c.loop-end.invariant.all
+    here c.in_err-flags.ensures.err no_end run.2)
+
+pub returns-then-contains-clause-err : goal.returns-then-contains-clause-err
+returns-then-contains-clause-err c =
+    let xs = c.args.chars.now in
+    let before = c.args.before.now in
+    let end = c.loop-end.end in
+    let letter = c.index-chars-end.result in
+    let read = slice_range xs c.args.at end in
+    let here = drop_char xs end _ (omega arith) c.index-chars-end.is in
+    let written = slice_spelled xs c.args.at end (omega arith) in
+    let twice : (is_one_of before letter || is_one_of read letter) ≡ true = elim c.then-contains.branch [
+      | then-contains-via-then-contains w ↦ or_left _ _ (sym c.contains.ensures.value ∙ w.if-contains.true)
+      | then-contains-via-else-contains+then-contains-2 w ↦
+          or_right _ _ (sym w.contains-else-contains.ensures.value ∙ w.if-contains-2.true)
+    ] in
+    let refused = λ (run : (letters : Text) × (rest : Text) × LetterRun before letters (drop c.args.at xs) rest).
+    no_run_twice before read run.0 _ _ run.1 _ _ written c.loop-end.invariant.all here c.in_ok-flags.ensures.ok.0 twice
+    run.2 in
+    rw c.into.ensures refused
+
+pub returns-clause-err : goal.returns-clause-err
+returns-clause-err c =
+    let xs = c.args.chars.now in
+    let before = c.args.before.now in
+    let end = c.loop-end.end in
+    let read = slice_range xs c.args.at end in
+    let none = drop_all end xs (omega arith) in
+    let written = slice_spelled xs c.args.at end (omega arith) in
+    let refused = λ (run : (letters : Text) × (rest : Text) × LetterRun before letters (drop c.args.at xs) rest).
+    no_run_end before read run.0 _ _ run.1 written c.loop-end.invariant.all none run.2 in
+    rw c.into-2.ensures refused

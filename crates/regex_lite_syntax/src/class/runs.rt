@@ -1,0 +1,65 @@
+//! Ranges that are joined where no character stands between them.
+ghost use Rattle.std.specs.Prelude.{◌≡◌, ℕ, ◌<◌, ◌≤◌, ◌||◌, All, MatchBool, OnOk};
+ghost use Rattle.regex_lite_syntax.specs.Sets.{span};
+ghost use Rattle.regex_lite_syntax.specs.Ranges.{in_ranges, next_character, AreRuns};
+ghost use Rattle.regex_lite_syntax.specs.Bounds.{span_of, start_of};
+
+use super::ClassRange;
+use super::neighbours::next_char;
+use std::alloc::AllocError;
+
+/// Adds the range, which starts no earlier than any of the runs.
+pub(crate) fn append(runs: &mut Vec<ClassRange>, range: ClassRange) -> Result<(), AllocError>
+    requires runs { AreRuns 0 runs.old.items }
+    requires in_order { All (λ run. run.start ≤ range.start) runs.old.items }
+    ensures runs { OnOk result (AreRuns 0 runs.new.items) }
+    ensures in_order { OnOk result (All (λ run. run.start ≤ range.start) runs.new.items) }
+    ensures members { OnOk result ((c : ℕ) → in_ranges runs.new.items c
+        ≡ (in_ranges runs.old.items c || span range.start range.end c)) }
+{
+    if range.start > range.end {
+        return Ok(());
+    }
+    match runs.pop() {
+        None => runs.push(range)?,
+        Some(last) if are_joined(last.end, range.start) => {
+            let start = last.start;
+            let end = last.end.max(range.end);
+            runs.push(ClassRange { start, end })?;
+        }
+        Some(last) => {
+            runs.push(last)?;
+            runs.push(range)?;
+        }
+    }
+    Ok(())
+}
+
+/// Adds the characters from `start` to `end`, where there are both.
+pub(crate) fn append_between(
+    runs: &mut Vec<ClassRange>,
+    start: Option<char>,
+    end: Option<char>,
+) -> Result<(), AllocError>
+    requires runs { AreRuns 0 runs.old.items }
+    requires in_order { All (λ run. run.start ≤ start_of start) runs.old.items }
+    ensures runs { OnOk result (AreRuns 0 runs.new.items) }
+    ensures in_order { OnOk result (All (λ run. run.start ≤ start_of start) runs.new.items) }
+    ensures members { OnOk result ((c : ℕ) → in_ranges runs.new.items c
+        ≡ (in_ranges runs.old.items c || span_of start end c)) }
+{
+    match (start, end) {
+        (Some(start), Some(end)) => append(runs, ClassRange { start, end }),
+        _ => Ok(()),
+    }
+}
+
+/// Whether no character stands between the end of a range and the start of a later one.
+fn are_joined(end: char, start: char) -> bool
+    ensures { MatchBool result (start ≤ next_character end) (next_character end < start) }
+{
+    match next_char(end) {
+        None => true,
+        Some(next) => start <= next,
+    }
+}

@@ -1,0 +1,84 @@
+//! Tests of a position.
+ghost use Rattle.std.specs.Prelude.{◌≡◌};
+ghost use Rattle.regex_lite_syntax.specs.Looks.{holds_between, is, is_word};
+
+/// A test of a position of the haystack by the characters beside it.
+#[derive(Clone, Copy, PartialEq, Eq, Debug)]
+pub enum Look {
+    /// The haystack starts here.
+    Start,
+    /// The haystack ends here.
+    End,
+    /// A line starts here, where lines end with a line feed.
+    StartLF,
+    /// A line ends here, where lines end with a line feed.
+    EndLF,
+    /// A line starts here, where lines end with a carriage return, a line feed or both.
+    StartCRLF,
+    /// A line ends here, where lines end with a carriage return, a line feed or both.
+    EndCRLF,
+    /// A word starts or ends here.
+    Word,
+    /// No word starts or ends here.
+    WordNegate,
+    /// A word starts here.
+    WordStart,
+    /// A word ends here.
+    WordEnd,
+    /// No word character stands before.
+    WordStartHalf,
+    /// No word character stands after.
+    WordEndHalf,
+}
+
+impl Look {
+    /// Whether the test holds between the characters before and after a position, of which one is
+    /// missing at the start and at the end of the haystack.
+    #[tactic(auto, unfolding(crate::specs::Looks::holds_between))]
+    pub fn holds(self, before: Option<char>, after: Option<char>) -> bool
+        ensures { result ≡ holds_between self before after }
+    {
+        match self {
+            Look::Start => before.is_none(),
+            Look::End => after.is_none(),
+            Look::StartLF => before.is_none() || is_char(before, '\n'),
+            Look::EndLF => after.is_none() || is_char(after, '\n'),
+            Look::StartCRLF => {
+                before.is_none()
+                    || is_char(before, '\n')
+                    || is_char(before, '\r') && !is_char(after, '\n')
+            }
+            Look::EndCRLF => {
+                after.is_none()
+                    || is_char(after, '\r')
+                    || is_char(after, '\n') && !is_char(before, '\r')
+            }
+            Look::Word => is_word_char(before) != is_word_char(after),
+            Look::WordNegate => is_word_char(before) == is_word_char(after),
+            Look::WordStart => !is_word_char(before) && is_word_char(after),
+            Look::WordEnd => is_word_char(before) && !is_word_char(after),
+            Look::WordStartHalf => !is_word_char(before),
+            Look::WordEndHalf => !is_word_char(after),
+        }
+    }
+}
+
+/// Whether there is a character, and it is this one.
+fn is_char(neighbour: Option<char>, c: char) -> bool
+    ensures { result ≡ is neighbour c }
+{
+    match neighbour {
+        Some(found) => found == c,
+        None => false,
+    }
+}
+
+/// Whether there is a character, and it is one of a word.
+fn is_word_char(neighbour: Option<char>) -> bool
+    ensures { result ≡ is_word neighbour }
+{
+    match neighbour {
+        Some(c) => c.is_ascii_alphanumeric() || c == '_',
+        None => false,
+    }
+}

@@ -1,0 +1,79 @@
+//! Bracketed classes.
+ghost use Rattle.std.specs.Prelude.{◌≡◌, ◌<◌, ◌≤◌, ◌+◌, ◌∷◌, ◌||◌, ℕ, List, drop, length, IfOk, IfErr};
+ghost use Rattle.regex_lite_syntax.specs.Text.{Text, open_bracket};
+ghost use Rattle.regex_lite_syntax.specs.Gaps.{EndsGap};
+ghost use Rattle.regex_lite_syntax.specs.Sets.{Set, union};
+ghost use Rattle.regex_lite_syntax.specs.Ranges.{in_ranges, AreRuns};
+ghost use Rattle.regex_lite_syntax.specs.Classes.{ClassItems, BracketedClass};
+ghost use Rattle.regex_lite_syntax.specs.Refusals.{Denies};
+
+mod item;
+mod named;
+mod opening;
+mod set;
+#[cfg(test)]
+mod tests;
+
+use crate::class::{Class, ClassRange};
+use crate::error::Error;
+use crate::parse::gap::skip_gap;
+use crate::parse::read::is_at;
+use item::read_item;
+use opening::read_opening;
+use set::{class_of, push_item, push_opening};
+use std::alloc::Global;
+
+/// Reads a class from its opening bracket on, and answers the index behind it and its set.
+pub(crate) fn read_class(
+    alloc: Global,
+    chars: &[char],
+    at: usize,
+    insensitive: bool,
+    verbose: bool,
+) -> Result<(usize, Class), Error>
+    requires inside { at < length chars.now }
+    requires begins { drop at chars.now ≡ open_bracket ∷ drop (at + 1) chars.now }
+    ensures inside { IfOk result (λ r. (at < r.0) × (r.0 ≤ length chars.now)) }
+    ensures ok { IfOk result (λ r. BracketedClass insensitive verbose
+        (drop at chars.now) (drop r.0 chars.now) (in_ranges r.1.ranges.items)) }
+    ensures runs { IfOk result (λ r. AreRuns 0 r.1.ranges.items) }
+    ensures err { IfErr result (λ e. Denies e ((rest : Text) × (s : Set)
+        × BracketedClass insensitive verbose (drop at chars.now) rest s)) }
+{
+    let (start, opening) = read_opening(chars, at, verbose);
+    if start == chars.len() {
+        return Err(opening.unclosed().into());
+    }
+    let mut ranges = Vec::new(alloc);
+    push_opening(&mut ranges, opening)?;
+    let end = read_items(alloc, chars, start, verbose, &mut ranges)?;
+    let class = class_of(alloc, ranges, insensitive, opening.negated)?;
+    Ok((end, class))
+}
+
+/// Reads the items of a class and the bracket that closes it, and adds the items' sets.
+fn read_items(
+    alloc: Global,
+    chars: &[char],
+    at: usize,
+    verbose: bool,
+    ranges: &mut Vec<ClassRange>,
+) -> Result<usize, Error>
+    requires inside { at ≤ length chars.now }
+    requires past_gap { EndsGap verbose (drop at chars.now) }
+    ensures inside { IfOk result (λ end. (at < end) × (end ≤ length chars.now)) }
+    ensures ok { IfOk result (λ end. (sets : List Set)
+        × ClassItems verbose sets (drop at chars.now) (drop end chars.now)
+        × ((c : ℕ) →
+        in_ranges ranges.new.items c ≡ (in_ranges ranges.old.items c || union sets c))) }
+    ensures err { IfErr result (λ e. Denies e
+        ((rest : Text) × (sets : List Set) × ClassItems verbose sets (drop at chars.now) rest)) }
+{
+    let mut end = at;
+    'items: while !is_at(chars, end, ']') {
+        let (past, item) = read_item(chars, end, verbose)?;
+        push_item(alloc, ranges, item)?;
+        end = skip_gap(chars, past, verbose);
+    }
+    Ok(end + 1)
+}

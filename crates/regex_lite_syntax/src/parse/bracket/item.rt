@@ -1,0 +1,156 @@
+//! Items of a class.
+ghost use Rattle.std.specs.Prelude.{◌<◌, ◌≤◌, drop, length, IfOk, IfErr, IfSome, MatchOption};
+ghost use Rattle.regex_lite_syntax.specs.Text.{Text, Begins, close_bracket};
+ghost use Rattle.regex_lite_syntax.specs.Gaps.{EndsGap};
+ghost use Rattle.regex_lite_syntax.specs.Sets.{Set};
+ghost use Rattle.regex_lite_syntax.specs.Escapes.{Piece as Given};
+ghost use Rattle.regex_lite_syntax.specs.Classes.{Part, RangeFollows, ClassItem};
+ghost use Rattle.regex_lite_syntax.specs.ClassParts.{element_piece, IsElement, item_set, BeginsOperator, RangeTo, EndsOpen, HasItems};
+ghost use Rattle.regex_lite_syntax.specs.Refusals.{Denies};
+
+use crate::class::named::NamedSet;
+use crate::error::{Error, SyntaxFault};
+use crate::parse::bracket::named::read_named_set;
+use crate::parse::escape::{Piece, read_escape};
+use crate::parse::gap::skip_gap;
+use crate::parse::read::is_at;
+
+/// One character, or one escape.
+#[derive(Clone, Copy, PartialEq, Eq, Debug)]
+pub(crate) enum Element {
+    /// This character.
+    Char(char),
+    /// The set with this name, or all other characters.
+    Set { set: NamedSet, negated: bool },
+}
+
+/// What a class is the union of.
+#[derive(Clone, Copy, PartialEq, Eq, Debug)]
+pub(crate) enum Item {
+    Alone(Element),
+    /// The characters from `start` to `end`, both included.
+    Range { start: char, end: char },
+}
+
+/// Reads an item, and answers the index behind it. No `]` stands at the index.
+pub(crate) fn read_item(chars: &[char], at: usize, verbose: bool) -> Result<(usize, Item), Error>
+    requires inside { at ≤ length chars.now }
+    requires past_gap { EndsGap verbose (drop at chars.now) }
+    requires goes_on { Begins close_bracket (drop at chars.now) → ⊥ }
+    ensures inside { IfOk result (λ r. (at < r.0) × (r.0 ≤ length chars.now)) }
+    ensures ok { IfOk result (λ r.
+        ClassItem verbose (drop at chars.now) (drop r.0 chars.now) (item_set r.1)) }
+    ensures err { IfErr result (λ e. Denies e (HasItems verbose (drop at chars.now))) }
+{
+    if at == chars.len() {
+        return Err(SyntaxFault::ClassUnclosed.into());
+    }
+    if is_at(chars, at, '[') {
+        return match read_named_set(chars, at) {
+            Some((end, element)) => Ok((end, Item::Alone(element))),
+            None => Err(SyntaxFault::ClassNestUnsupported.into()),
+        };
+    }
+    if let Some(fault) = operator_fault(chars, at) {
+        return Err(fault.into());
+    }
+    let (past, element) = read_element(chars, at, verbose)?;
+    match find_range_end(chars, past, verbose)? {
+        None => Ok((past, Item::Alone(element))),
+        Some(last) => read_range(chars, element, last, verbose),
+    }
+}
+
+/// The fault where a doubled `&`, `-` or `~` stands at the index.
+fn operator_fault(chars: &[char], at: usize) -> Option<SyntaxFault>
+    requires { at < length chars.now }
+    ensures { MatchOption result
+        (BeginsOperator (drop at chars.now) → ⊥) (λ _. BeginsOperator (drop at chars.now)) }
+{
+    let c = chars[at];
+    if !is_at(chars, at + 1, c) {
+        return None;
+    }
+    match c {
+        '&' => Some(SyntaxFault::ClassIntersectionUnsupported),
+        '-' => Some(SyntaxFault::ClassDifferenceUnsupported),
+        '~' => Some(SyntaxFault::ClassSymmetricDifferenceUnsupported),
+        _ => None,
+    }
+}
+
+/// Reads one character or one escape, and answers the index behind it.
+fn read_element(chars: &[char], at: usize, verbose: bool) -> Result<(usize, Element), Error>
+    requires inside { at < length chars.now }
+    requires past_gap { EndsGap verbose (drop at chars.now) }
+    ensures inside { IfOk result (λ r. (at < r.0) × (r.0 ≤ length chars.now)) }
+    ensures ok { IfOk result (λ r.
+        Part verbose (drop at chars.now) (drop r.0 chars.now) (element_piece r.1)) }
+    ensures err { IfErr result (λ e. Denies e
+        ((rest : Text) × (p : Given) × IsElement p × Part verbose (drop at chars.now) rest p)) }
+{
+    let c = chars[at];
+    if c != '\\' {
+        return Ok((at + 1, Element::Char(c)));
+    }
+    match read_escape(chars, at + 1, verbose)? {
+        (end, Piece::Char(c)) => Ok((end, Element::Char(c))),
+        (end, Piece::Set { set, negated }) => Ok((end, Element::Set { set, negated })),
+        (_, Piece::Look(_)) => Err(SyntaxFault::ClassInvalidItem.into()),
+    }
+}
+
+/// Where the end of a range stands, if a dash makes a range of the element before the index.
+fn find_range_end(chars: &[char], at: usize, verbose: bool) -> Result<Option<usize>, SyntaxFault>
+    requires { at ≤ length chars.now }
+    ensures inside { IfOk result (λ found. IfSome found (λ last.
+        (at < last) × (last < length chars.now) × EndsGap verbose (drop last chars.now))) }
+    ensures ok { IfOk result (λ found. MatchOption found
+        ((last : Text) → RangeFollows verbose (drop at chars.now) last → ⊥)
+        (λ last. RangeFollows verbose (drop at chars.now) (drop last chars.now))) }
+    ensures err { IfErr result (λ _. EndsOpen verbose (drop at chars.now)) }
+{
+    let dash = skip_gap(chars, at, verbose);
+    if dash == chars.len() {
+        return Err(SyntaxFault::ClassUnclosedAfterItem);
+    }
+    if !is_at(chars, dash, '-') {
+        return Ok(None);
+    }
+    let last = skip_gap(chars, dash + 1, verbose);
+    if last == chars.len() {
+        return Err(SyntaxFault::ClassUnclosedAfterDash);
+    }
+    match chars[last] {
+        ']' | '-' => Ok(None),
+        _ => Ok(Some(last)),
+    }
+}
+
+/// Reads the end of a range from this element on, and answers the index behind it.
+fn read_range(
+    chars: &[char],
+    start: Element,
+    last: usize,
+    verbose: bool,
+) -> Result<(usize, Item), Error>
+    requires inside { last < length chars.now }
+    requires past_gap { EndsGap verbose (drop last chars.now) }
+    ensures inside { IfOk result (λ r. (last < r.0) × (r.0 ≤ length chars.now)) }
+    ensures ok { IfOk result (λ r. RangeTo verbose (element_piece start)
+        (drop last chars.now) (drop r.0 chars.now) (item_set r.1)) }
+    ensures err { IfErr result (λ e. Denies e ((rest : Text) × (s : Set)
+        × RangeTo verbose (element_piece start) (drop last chars.now) rest s)) }
+{
+    let Element::Char(start) = start else {
+        return Err(SyntaxFault::ClassInvalidRangeItem.into());
+    };
+    let (past, element) = read_element(chars, last, verbose)?;
+    let Element::Char(end) = element else {
+        return Err(SyntaxFault::ClassInvalidRangeItem.into());
+    };
+    if start > end {
+        return Err(SyntaxFault::ClassInvalidRange.into());
+    }
+    Ok((past, Item::Range { start, end }))
+}

@@ -1,0 +1,103 @@
+//! What a class begins with.
+ghost use Rattle.std.specs.Prelude.{◌≡◌, ◌<◌, ◌≤◌, ◌+◌, ◌∷◌, ℕ, nat_lt, drop, length};
+ghost use Rattle.regex_lite_syntax.specs.Text.{open_bracket};
+ghost use Rattle.regex_lite_syntax.specs.Gaps.{EndsGap};
+ghost use Rattle.regex_lite_syntax.specs.Classes.{Takes, Dashes, FirstBracket};
+ghost use Rattle.regex_lite_syntax.specs.ClassParts.{Opens};
+
+use crate::error::SyntaxFault;
+use crate::parse::gap::skip_gap;
+use crate::parse::read::is_at;
+
+/// What stands first in a class, each for itself.
+#[derive(Clone, Copy, PartialEq, Eq, Debug)]
+pub(crate) struct Opening {
+    pub(crate) negated: bool,
+    pub(crate) dash: bool,
+    pub(crate) bracket: bool,
+}
+
+impl Opening {
+    /// The fault of a pattern that ends behind this.
+    pub(crate) fn unclosed(self) -> SyntaxFault {
+        if self.dash {
+            SyntaxFault::ClassUnclosedAfterDash
+        } else if self.bracket {
+            SyntaxFault::ClassUnclosedAfterClosing
+        } else if self.negated {
+            SyntaxFault::ClassUnclosedAfterNegation
+        } else {
+            SyntaxFault::ClassUnclosed
+        }
+    }
+}
+
+/// Reads what a class begins with, from its bracket on, and answers the index of what follows.
+pub(crate) fn read_opening(chars: &[char], at: usize, verbose: bool) -> (usize, Opening)
+    requires inside { at < length chars.now }
+    requires begins { drop at chars.now ≡ open_bracket ∷ drop (at + 1) chars.now }
+    ensures inside { (at < result.0) × (result.0 ≤ length chars.now) }
+    ensures past_gap { EndsGap verbose (drop result.0 chars.now) }
+    ensures opens { Opens verbose (drop at chars.now) (drop result.0 chars.now) result.1 }
+{
+    let first = skip_gap(chars, at + 1, verbose);
+    let (past_caret, negated) = take(chars, first, '^', verbose);
+    let (past_dashes, dash) = take_dashes(chars, past_caret, verbose);
+    let (start, bracket) = take_bracket(chars, past_dashes, dash, verbose);
+    let opening = Opening {
+        negated,
+        dash,
+        bracket,
+    };
+    (start, opening)
+}
+
+/// Passes this character with the gap after it, and answers whether it stands there.
+fn take(chars: &[char], at: usize, c: char, verbose: bool) -> (usize, bool)
+    requires inside { at ≤ length chars.now }
+    requires past_gap { EndsGap verbose (drop at chars.now) }
+    ensures inside { (at ≤ result.0) × (result.0 ≤ length chars.now) }
+    ensures past_gap { EndsGap verbose (drop result.0 chars.now) }
+    ensures takes { Takes verbose c (drop at chars.now) (drop result.0 chars.now) result.1 }
+{
+    if is_at(chars, at, c) {
+        (skip_gap(chars, at + 1, verbose), true)
+    } else {
+        (at, false)
+    }
+}
+
+/// Passes all dashes, each with the gap after it, and answers whether any stand there.
+fn take_dashes(chars: &[char], at: usize, verbose: bool) -> (usize, bool)
+    requires inside { at ≤ length chars.now }
+    requires past_gap { EndsGap verbose (drop at chars.now) }
+    ensures inside { (at ≤ result.0) × (result.0 ≤ length chars.now) }
+    ensures past_gap { EndsGap verbose (drop result.0 chars.now) }
+    ensures takes { (dashes : ℕ)
+        × Dashes verbose dashes (drop at chars.now) (drop result.0 chars.now)
+        × (result.1 ≡ nat_lt 0 dashes) }
+{
+    let mut end = at;
+    let mut found = false;
+    while is_at(chars, end, '-') {
+        end = skip_gap(chars, end + 1, verbose);
+        found = true;
+    }
+    (end, found)
+}
+
+/// Passes a `]` that stands for itself with the gap after it, where no dash stood before it.
+fn take_bracket(chars: &[char], at: usize, dash: bool, verbose: bool) -> (usize, bool)
+    requires inside { at ≤ length chars.now }
+    requires past_gap { EndsGap verbose (drop at chars.now) }
+    ensures inside { (at ≤ result.0) × (result.0 ≤ length chars.now) }
+    ensures past_gap { EndsGap verbose (drop result.0 chars.now) }
+    ensures takes { (dashes : ℕ) → dash ≡ nat_lt 0 dashes →
+        FirstBracket verbose dashes (drop at chars.now) (drop result.0 chars.now) result.1 }
+{
+    if dash {
+        (at, false)
+    } else {
+        take(chars, at, ']', verbose)
+    }
+}

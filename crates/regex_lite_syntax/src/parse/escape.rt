@@ -1,0 +1,135 @@
+//! Escapes: what follows a backslash, and what it gives.
+ghost use Rattle.std.specs.Prelude.{◌≡◌, ◌<◌, ◌≤◌, drop, length, IfOk, IfErr, if◌then◌else◌};
+ghost use Rattle.regex_lite_syntax.specs.Text.{Text};
+ghost use Rattle.regex_lite_syntax.specs.Sets.{complement};
+ghost use Rattle.regex_lite_syntax.specs.NamedSets.{members};
+ghost use Rattle.regex_lite_syntax.specs.Escapes.{Piece as Given, Escape, one, some_of, gives, refused, escape_kind, is_escapable};
+ghost use Rattle.regex_lite_syntax.specs.Refusals.{Denies};
+ghost use Rattle.regex_lite_syntax.specs.Pieces.{piece_of, escape_kind_of};
+
+mod boundary;
+mod hexadecimal;
+#[cfg(test)]
+mod tests;
+
+use crate::class::named::NamedSet;
+use crate::error::{Error, SyntaxFault};
+use crate::hir::look::Look;
+use crate::parse::read::char_at;
+use boundary::read_word_boundary;
+use hexadecimal::read_hexadecimal;
+
+/// What an escape gives.
+#[derive(Clone, Copy, PartialEq, Eq, Debug)]
+pub(crate) enum Piece {
+    /// This character.
+    Char(char),
+    /// The set with this name, or all other characters.
+    Set { set: NamedSet, negated: bool },
+    Look(Look),
+}
+
+/// What the character after a backslash asks for.
+#[derive(Clone, Copy)]
+enum Meaning {
+    /// This, and no more is read.
+    Gives(Piece),
+    /// What stands at the start or the end of a word, perhaps with a name in braces.
+    WordBoundary,
+    /// So many hexadecimal digits, or some in braces.
+    Hexadecimal(u32),
+    Refused,
+}
+
+/// Reads an escape from behind its backslash on, and answers the index behind it.
+pub(crate) fn read_escape(chars: &[char], at: usize, verbose: bool) -> Result<(usize, Piece), Error>
+    requires { at ≤ length chars.now }
+    ensures inside { IfOk result (λ r. (at < r.0) × (r.0 ≤ length chars.now)) }
+    ensures ok { IfOk result (λ r.
+        Escape verbose (drop at chars.now) (drop r.0 chars.now) (piece_of r.1)) }
+    ensures err { IfErr result (λ e. Denies e
+        ((rest : Text) × (p : Given) × Escape verbose (drop at chars.now) rest p)) }
+{
+    let Some(c) = char_at(chars, at) else {
+        return Err(SyntaxFault::EscapeUnexpectedEof.into());
+    };
+    match meaning_of(c) {
+        Meaning::Gives(piece) => Ok((at + 1, piece)),
+        Meaning::WordBoundary => {
+            let (end, look) = read_word_boundary(chars, at + 1, verbose)?;
+            Ok((end, Piece::Look(look)))
+        }
+        Meaning::Hexadecimal(digits) => {
+            let (end, scalar) = read_hexadecimal(chars, at + 1, verbose, digits)?;
+            Ok((end, Piece::Char(scalar)))
+        }
+        Meaning::Refused => Err(refusal_of(c).into()),
+    }
+}
+
+/// What the character after a backslash asks for.
+fn meaning_of(c: char) -> Meaning
+    ensures { escape_kind_of result ≡ escape_kind c }
+{
+    match c {
+        'a' => Meaning::Gives(Piece::Char('\u{07}')),
+        'f' => Meaning::Gives(Piece::Char('\u{0C}')),
+        't' => Meaning::Gives(Piece::Char('\t')),
+        'n' => Meaning::Gives(Piece::Char('\n')),
+        'r' => Meaning::Gives(Piece::Char('\r')),
+        'v' => Meaning::Gives(Piece::Char('\u{0B}')),
+        'A' => Meaning::Gives(Piece::Look(Look::Start)),
+        'z' => Meaning::Gives(Piece::Look(Look::End)),
+        'B' => Meaning::Gives(Piece::Look(Look::WordNegate)),
+        '<' => Meaning::Gives(Piece::Look(Look::WordStart)),
+        '>' => Meaning::Gives(Piece::Look(Look::WordEnd)),
+        'b' => Meaning::WordBoundary,
+        'd' => members_of(NamedSet::Digit),
+        's' => members_of(NamedSet::Space),
+        'w' => members_of(NamedSet::Word),
+        'D' => others_than(NamedSet::Digit),
+        'S' => others_than(NamedSet::Space),
+        'W' => others_than(NamedSet::Word),
+        'x' => Meaning::Hexadecimal(2),
+        'u' => Meaning::Hexadecimal(4),
+        'U' => Meaning::Hexadecimal(8),
+        _ => other_meaning(c),
+    }
+}
+
+/// The characters of the set are asked for.
+fn members_of(set: NamedSet) -> Meaning
+    ensures { escape_kind_of result ≡ gives (some_of (members set)) }
+{
+    Meaning::Gives(Piece::Set {
+        set,
+        negated: false,
+    })
+}
+
+/// All characters but those of the set are asked for.
+fn others_than(set: NamedSet) -> Meaning
+    ensures { escape_kind_of result ≡ gives (some_of (complement (members set))) }
+{
+    Meaning::Gives(Piece::Set { set, negated: true })
+}
+
+/// What a character asks for that has no meaning of its own after a backslash.
+fn other_meaning(c: char) -> Meaning
+    ensures { escape_kind_of result ≡ (if is_escapable c then gives (one c) else refused) }
+{
+    if c.is_ascii() && !c.is_ascii_alphanumeric() && c != '<' && c != '>' {
+        Meaning::Gives(Piece::Char(c))
+    } else {
+        Meaning::Refused
+    }
+}
+
+/// Why a character is refused after a backslash.
+fn refusal_of(c: char) -> SyntaxFault {
+    match c {
+        '0'..='9' => SyntaxFault::BackreferenceUnsupported,
+        'p' | 'P' => SyntaxFault::UnicodeClassUnsupported,
+        _ => SyntaxFault::EscapeUnrecognized,
+    }
+}

@@ -1,0 +1,112 @@
+//! Starts and ends of words: `\b`, and its forms with a name in braces.
+ghost use Rattle.std.specs.Prelude.{◌≡◌, ◌≤◌, ◌∷◌, drop, length, IsTrue, IfOk, IfErr, IfSome, IfNone};
+ghost use Rattle.std.specs.List.{list_all};
+ghost use Rattle.regex_lite_syntax.specs.declared.hir.look.Look.{Look};
+ghost use Rattle.regex_lite_syntax.specs.Text.{Text, close_brace};
+ghost use Rattle.regex_lite_syntax.specs.Gaps.{Gap, Spaced};
+ghost use Rattle.regex_lite_syntax.specs.Escapes.{is_boundary_character, BoundaryName, WordBoundary};
+ghost use Rattle.regex_lite_syntax.specs.Refusals.{Denies};
+
+use crate::error::{Error, SyntaxFault};
+use crate::hir::look::Look;
+use crate::parse::gap::skip_gap;
+use crate::parse::read::{char_at, is_at};
+
+/// Reads which look `\b` is, from behind it on. A brace may begin a counted operator, which
+/// doesn't belong to it.
+pub(super) fn read_word_boundary(
+    chars: &[char],
+    at: usize,
+    verbose: bool,
+) -> Result<(usize, Look), Error>
+    requires { at ≤ length chars.now }
+    ensures inside { IfOk result (λ r. (at ≤ r.0) × (r.0 ≤ length chars.now)) }
+    ensures ok { IfOk result (λ r.
+        WordBoundary verbose (drop at chars.now) (drop r.0 chars.now) r.1) }
+    ensures err { IfErr result (λ e. Denies e
+        ((rest : Text) × (look : Look) × WordBoundary verbose (drop at chars.now) rest look)) }
+{
+    if !is_at(chars, at, '{') {
+        return Ok((at, Look::Word));
+    }
+    let first = skip_gap(chars, at + 1, verbose);
+    match char_at(chars, first) {
+        None => Err(SyntaxFault::SpecialWordOrRepetitionUnexpectedEof.into()),
+        Some(c) if is_name_char(c) => read_name(chars, at + 1, verbose),
+        Some(_) => Ok((at, Look::Word)),
+    }
+}
+
+/// Reads a name from behind the opening brace on, and the brace that closes.
+fn read_name(chars: &[char], at: usize, verbose: bool) -> Result<(usize, Look), Error>
+    requires { at ≤ length chars.now }
+    ensures inside { IfOk result (λ r. (at ≤ r.0) × (r.0 ≤ length chars.now)) }
+    ensures ok { IfOk result (λ r.
+        BoundaryName verbose (drop at chars.now) (drop r.0 chars.now) r.1) }
+    ensures err { IfErr result (λ e. Denies e
+        ((rest : Text) × (look : Look) × BoundaryName verbose (drop at chars.now) rest look)) }
+{
+    if let Some(end) = skip_name(chars, at, verbose, "start") {
+        return Ok((end, Look::WordStart));
+    }
+    if let Some(end) = skip_name(chars, at, verbose, "end") {
+        return Ok((end, Look::WordEnd));
+    }
+    if let Some(end) = skip_name(chars, at, verbose, "start-half") {
+        return Ok((end, Look::WordStartHalf));
+    }
+    if let Some(end) = skip_name(chars, at, verbose, "end-half") {
+        return Ok((end, Look::WordEndHalf));
+    }
+    Err(fault_of_name(chars, at, verbose).into())
+}
+
+/// Where the brace ends that closes this name, if both stand there.
+fn skip_name(chars: &[char], at: usize, verbose: bool, name: &str) -> Option<usize>
+    requires inside { at ≤ length chars.now }
+    requires letters { IsTrue (list_all is_boundary_character name.now) }
+    ensures inside { IfSome result (λ end. (at ≤ end) × (end ≤ length chars.now)) }
+    ensures there { IfSome result (λ end. (last : Text)
+        × Spaced verbose is_boundary_character name.now (drop at chars.now) last
+        × Gap verbose last (close_brace ∷ drop end chars.now)) }
+    ensures absent { IfNone result ((last rest : Text)
+        → Spaced verbose is_boundary_character name.now (drop at chars.now) last
+        → Gap verbose last (close_brace ∷ rest) → ⊥) }
+{
+    let mut end = at;
+    for letter in name.as_bytes() {
+        let next = skip_gap(chars, end, verbose);
+        if !is_at(chars, next, char::from(*letter)) {
+            return None;
+        }
+        end = next + 1;
+    }
+    let close = skip_gap(chars, end, verbose);
+    if is_at(chars, close, '}') {
+        Some(close + 1)
+    } else {
+        None
+    }
+}
+
+/// Why no name stands there: it isn't closed, or it is none of the names.
+fn fault_of_name(chars: &[char], at: usize, verbose: bool) -> SyntaxFault
+    requires { at ≤ length chars.now }
+{
+    let mut next = skip_gap(chars, at, verbose);
+    while next < chars.len() && is_name_char(chars[next]) {
+        next = skip_gap(chars, next + 1, verbose);
+    }
+    if is_at(chars, next, '}') {
+        SyntaxFault::SpecialWordBoundaryUnrecognized
+    } else {
+        SyntaxFault::SpecialWordBoundaryUnclosed
+    }
+}
+
+/// Whether the character may stand in a name.
+fn is_name_char(c: char) -> bool
+    ensures { result ≡ is_boundary_character c }
+{
+    c.is_ascii_alphabetic() || c == '-'
+}

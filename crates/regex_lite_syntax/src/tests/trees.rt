@@ -1,0 +1,103 @@
+//! The trees of patterns.
+use super::{expect_rows, verbose};
+use crate::Flags;
+use std::test::Fail;
+
+#[test]
+fn items_and_operators(rt: HostRuntime) -> Result<(), Fail> {
+    let rows = [
+        ("", "empty"),
+        ("a", "a"),
+        ("ab", "cat(a,b)"),
+        ("a|b", "alt(a,b)"),
+        ("||", "alt(empty,empty,empty)"),
+        ("(?:a)", "a"),
+        ("(?:ab)c", "cat(cat(a,b),c)"),
+        ("(?:a|b)|c", "alt(alt(a,b),c)"),
+        ("a?", "rep(0,1,greedy,a)"),
+        ("a??", "rep(0,1,lazy,a)"),
+        ("a???", "rep(0,1,greedy,rep(0,1,lazy,a))"),
+        ("a*?", "rep(0,inf,lazy,a)"),
+        ("a+", "rep(1,inf,greedy,a)"),
+        ("a**", "rep(0,inf,greedy,rep(0,inf,greedy,a))"),
+        ("ab*", "cat(a,rep(0,inf,greedy,b))"),
+        ("(?:a|b)*", "rep(0,inf,greedy,alt(a,b))"),
+        ("(?:)+", "rep(1,inf,greedy,empty)"),
+        ("]}", "cat(],})"),
+        ("a b", "cat(a, ,b)"),
+        ("#é😃", "cat(#,é,😃)"),
+        ("^$", "cat(Start,End)"),
+        (".", "set(0-9,B-10FFFF)"),
+    ];
+    expect_rows(&rt, rt.alloc(), Flags::default(), &rows)
+}
+
+#[test]
+fn flags(rt: HostRuntime) -> Result<(), Fail> {
+    let rows = [
+        ("(?i)", "empty"),
+        ("a(?:(?i)a)a", "cat(a,set(41,61),a)"),
+        ("a(?i:a)a", "cat(a,set(41,61),a)"),
+        ("(?i)1β", "cat(1,β)"),
+        ("(?i)a(?-i:a)a", "cat(set(41,61),a,set(41,61))"),
+        ("(?:a(?i)b|c)d", "cat(alt(cat(a,set(42,62)),set(43,63)),d)"),
+        ("a(?i)*", "rep(0,inf,greedy,a)"),
+        ("(?u)a(?-u:b)", "cat(a,b)"),
+        ("(?s).", "set(0-10FFFF)"),
+        ("(?R).", "set(0-9,B-C,E-10FFFF)"),
+        ("(?R)(?s).", "set(0-10FFFF)"),
+        ("(?sR:.)", "set(0-10FFFF)"),
+        ("(?s-i).(?i-s).", "cat(set(0-10FFFF),set(0-9,B-10FFFF))"),
+        ("(?U)a*", "rep(0,inf,lazy,a)"),
+        ("(?U)a*?", "rep(0,inf,greedy,a)"),
+        ("(?m)^$", "cat(StartLF,EndLF)"),
+        ("(?mR)^$", "cat(StartCRLF,EndCRLF)"),
+        ("(?R)^$", "cat(Start,End)"),
+    ];
+    expect_rows(&rt, rt.alloc(), Flags::default(), &rows)
+}
+
+#[test]
+fn escapes_and_classes(rt: HostRuntime) -> Result<(), Fail> {
+    let rows = [
+        ("\\d\\D", "cat(set(30-39),set(0-2F,3A-10FFFF))"),
+        ("\\x41", "A"),
+        ("(?i)\\x41", "set(41,61)"),
+        ("\\b", "Word"),
+        ("\\b{start}", "WordStart"),
+        ("[a-c]", "set(61-63)"),
+        ("[--a]", "set(2D,61)"),
+        ("[---a]", "set(2D,61)"),
+        ("[^-a]", "set(0-2C,2E-60,62-10FFFF)"),
+        ("[a\\-z]", "set(2D,61,7A)"),
+        ("[]\\[]", "set(5B,5D)"),
+        ("[^^]", "set(0-5D,5F-10FFFF)"),
+        ("[☃-⛄]", "set(2603-26C4)"),
+        ("(?i)[k]", "set(4B,6B)"),
+        ("(?i)[β]", "set(3B2)"),
+        ("[a\\wz]", "set(30-39,41-5A,5F,61-7A)"),
+    ];
+    expect_rows(&rt, rt.alloc(), Flags::default(), &rows)
+}
+
+#[test]
+fn verbose_mode(rt: HostRuntime) -> Result<(), Fail> {
+    let rows = [
+        (" a # b\n c\u{2028}", "cat(a,c)"),
+        ("a #", "a"),
+        ("# )", "empty"),
+        ("a +", "rep(1,inf,greedy,a)"),
+        ("a??", "rep(0,1,lazy,a)"),
+        ("a? ?", "rep(0,1,greedy,rep(0,1,greedy,a))"),
+        ("a | #", "alt(a,empty)"),
+        ("(   ?:  a )", "a"),
+        ("( #\n?i) a ( ?-i: a ) ", "cat(set(41,61),a)"),
+        ("\\x { 53 }", "S"),
+        ("\\ ", " "),
+        ("[ - a]", "set(2D,61)"),
+        ("[ ] a]", "set(5D,61)"),
+        ("[ ^  a]", "set(0-60,62-10FFFF)"),
+        ("[ / - ]", "set(2D,2F)"),
+    ];
+    expect_rows(&rt, rt.alloc(), verbose(), &rows)
+}
