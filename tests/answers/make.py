@@ -1,7 +1,10 @@
 #!/usr/bin/env python3
 """make.py JUDGE: rewrites the lists of cases beside this script.
 
-JUDGE is a program over the Rust crate regex-lite 0.1.9 with the two changes that README.md tells,
+With `--fresh SEED NUMBER` it writes that many new cases of the whole grammar to standard output
+instead, and no file.
+
+JUDGE is a program over the Rust crate regex-lite 0.1.9 with the changes that README.md tells,
 started as `JUDGE batch`. For each line of standard input it writes one line. A question has four
 fields with a tab between: the word `is-match`, a `-` for default settings, the pattern, the
 haystack. In a field a backslash begins one of the escapes \\t, \\n, \\r, \\\\ and \\u{H}, where
@@ -16,8 +19,8 @@ from pathlib import Path
 sys.dont_write_bytecode = True  # nothing but the lists is written here
 
 import flags_and_classes
-import not_supported_yet
 import plain_grammar
+import whole_grammar
 
 HERE = Path(__file__).resolve().parent
 
@@ -30,11 +33,20 @@ def write(name, lines):
 def main():
     parser = argparse.ArgumentParser(description='Writes the lists of cases beside this script.')
     parser.add_argument('judge', help='a program over the Rust crate, as the head comment says')
-    judge = parser.parse_args().judge
+    parser.add_argument(
+        '--fresh', nargs=2, type=int, metavar=('SEED', 'NUMBER'),
+        help='write so many new cases of this seed to standard output, and no file',
+    )
+    arguments = parser.parse_args()
+    judge = arguments.judge
+    if arguments.fresh:
+        lines = whole_grammar.fresh_lines(judge, *arguments.fresh)
+        sys.stdout.buffer.write(''.join(lines).encode())
+        return
     lists = {
         'plain-grammar.tsv': plain_grammar.lines(judge),
         'flags-and-classes.tsv': flags_and_classes.lines(judge),
-        'not-supported-yet.tsv': not_supported_yet.lines(),
+        'whole-grammar.tsv': whole_grammar.lines(judge),
     }
     for name, lines in lists.items():
         write(name, lines)

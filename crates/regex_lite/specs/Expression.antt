@@ -1,8 +1,11 @@
--- A regex as contracts see it, and what a search of it finds.
+-- A regex as contracts see it, what is built and what is refused, and what a search finds.
 use Rattle.std.specs.Prelude.{ℕ, List, chars}
 use Rattle.regex_lite_syntax.specs.declared.flags.Flags.{Flags}
 use Rattle.regex_lite_syntax.specs.Tree.{Tree}
+use Rattle.regex_lite_syntax.specs.declared.error.Error.{Error}
+use Rattle.regex_lite_syntax.specs.Errors.{kind_of}
 use Rattle.regex_lite_syntax.specs.Grammar.{IsTree, HasTree}
+use Rattle.regex_lite_syntax.specs.Limits.{IsAdmitted, SaysOf}
 use Rattle.regex_lite_syntax.specs.Matches.{HasMatch}
 use Rattle.regex_lite.specs.Settings.{Settings, no_flags}
 
@@ -22,6 +25,16 @@ default_expression pattern = record { pattern = pattern; flags = no_flags }
 -- the grammar gives the pattern a tree
 abbrev pub IsWellFormed : Expression → Type 0
 IsWellFormed re = HasTree re.flags (chars re.pattern)
+
+-- under these settings the grammar gives the pattern a tree, and no limit is passed
+abbrev pub IsAccepted : Settings → Type 0
+IsAccepted settings =
+    (tree : Tree) × IsAdmitted settings.flags settings.nest_limit (chars settings.pattern) tree
+
+-- what the error says of the pattern under these settings is so
+abbrev pub IsRefusal : Settings → Error → Type 0
+IsRefusal settings error =
+    SaysOf settings.flags settings.nest_limit (chars settings.pattern) (kind_of error)
 
 -- the pattern matches somewhere in the haystack, which is given as its bytes
 abbrev pub MatchesIn : Expression → List ℕ → Type 0

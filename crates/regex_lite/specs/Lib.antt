@@ -4,8 +4,8 @@ pub mod Expression
 pub use Rattle.regex_lite_syntax.specs.Errors
 pub use Rattle.regex_lite_syntax.specs.Text
 pub use Rattle.regex_lite_syntax.specs.Grammar
+pub use Rattle.regex_lite_syntax.specs.Limits
 pub use Rattle.regex_lite_syntax.specs.Matches
-pub use Rattle.regex_lite_syntax.specs.Refusals
 -- what every regex keeps
 pub mod Program
 -- what the plain search promises inside

@@ -44,6 +44,11 @@ fn after_tree(
             greedy: _,
             sub,
         } => after_repetition(alloc, *min, *max, sub, haystack, from),
+        Hir::Capture {
+            index: _,
+            name: _,
+            sub,
+        } => after_tree(alloc, sub, haystack, from),
         Hir::Concat(parts) => after_each(alloc, parts, haystack, from),
         Hir::Alternation(branches) => after_any(alloc, branches, haystack, from),
     }
@@ -265,6 +270,10 @@ fn add_pass(
     ensures { IfOk result
         (AddsPass (Matches haystack.now (tree_of sub.now)) reached.old reached.new) }
 {
+    // No pass starts nowhere, and repetitions may stand in one another many times.
+    if reached.is_empty() {
+        return Ok(false);
+    }
     let next = after_tree(alloc, sub, haystack, reached)?;
     Ok(reached.add_all(&next))
 }

@@ -1,17 +1,21 @@
 //! What no clause says: that calls succeed, what is printed, and that the clauses mean what was
 //! meant. The wanted answers are those of the Rust crate `regex-lite`, unless a table says
-//! otherwise. This crate does not read all of its syntax yet.
+//! otherwise.
 mod classes;
+mod conversions;
+mod counts;
 mod errors;
 mod examples;
+mod groups;
 mod hostile;
+mod limits;
 mod looks;
 mod matching;
 mod refusals;
 mod setters;
 mod values;
 
-use crate::Regex;
+use crate::{Error, ErrorKind, Regex};
 use std::process::Abort;
 use std::test::Fail;
 
@@ -24,6 +28,25 @@ fn expect_rows<H: Abort + AllocGlobal>(rt: &H, rows: &[Row]) -> Result<(), Fail>
         let regex = Regex::new(rt.alloc(), pattern)?;
         let found = regex.is_match(haystack)?;
         assert_eq!(rt; found, *wanted, "{pattern:?} in {haystack:?}");
+    }
+    Ok(())
+}
+
+/// What was built is refused, by this kind and with this text. A failure names it.
+fn expect_refusal<H: Abort + AllocGlobal>(
+    rt: &H,
+    name: &str,
+    built: Result<Regex, Error>,
+    kind: ErrorKind,
+    text: &str,
+) -> Result<(), Fail> {
+    match built {
+        Ok(_) => assert!(rt; false, "{name:?} is accepted"),
+        Err(error) => {
+            assert_eq!(rt; error.kind(), kind, "{name:?}");
+            let written = format!(in rt.alloc(); "{error}")?;
+            assert_eq!(rt; written.as_str(), text, "{name:?}");
+        }
     }
     Ok(())
 }

@@ -2,13 +2,14 @@
 use Rattle.std.proofs.Common.{inl, inr, ◌⊎◌, ◌≡◌, ◌≢◌, refl, sym, ◌∙◌, ap, subst, ℕ, Bool, true, false, ◌∷◌, Option, Some, None, ◌==◌, arith}
 use Rattle.std.proofs.lemmas.Bool.{cases_Bool, cases_eq, ne_eqb, eqb-false, and_parts, or_parts, not-true}
 use Rattle.regex_lite_syntax.specs.declared.flags.Flags.{Flags}
-use Rattle.regex_lite_syntax.specs.Text.{Text, number_sign, full_stop, caret, dollar_sign, backslash, open_bracket, open_paren, close_paren, vertical_bar, question_mark, asterisk, plus_sign}
+use Rattle.regex_lite_syntax.specs.Text.{Text, number_sign, full_stop, caret, dollar_sign, backslash, open_bracket, open_paren, close_paren, open_brace, vertical_bar, question_mark, asterisk, plus_sign}
 use Rattle.regex_lite_syntax.specs.Characters.{is_white_space}
 use Rattle.regex_lite_syntax.specs.Gaps.{EndsGap}
 use Rattle.regex_lite_syntax.specs.Tree.{Tree}
-use Rattle.regex_lite_syntax.specs.Operators.{bounds, Operator, uncounted, uncounted_lazy}
+use Rattle.regex_lite_syntax.specs.Operators.{bounds, Operator, uncounted, uncounted_lazy, counted, counted_lazy}
 use Rattle.regex_lite_syntax.specs.Atoms.{is_literal, no_atom, atom_kind, Atom}
-use Rattle.regex_lite_syntax.specs.Grammar.{Point, GroupKind, Head, plain, Directive, sets}
+use Rattle.regex_lite_syntax.specs.Points.{Point}
+use Rattle.regex_lite_syntax.specs.Groups.{GroupKind, Head, numbered, named, plain, Directive, sets}
 use Rattle.regex_lite_syntax.specs.Machine.{Kind, paren, closing, bar, operator, atom, kind_at}
 use Rattle.regex_lite_syntax.proofs.Gaps.{ends_any, ends_before}
 use Rattle.regex_lite_syntax.proofs.Atoms.{NoSign, no_atom_at, no_literal}
@@ -33,8 +34,13 @@ asks_closing verbose t rest e = asks verbose close_paren t rest closing e (refl,
 pub asks_bar : (verbose : Bool) (t rest : Text) → t ≡ vertical_bar ∷ rest → Asks verbose t bar
 asks_bar verbose t rest e = asks verbose vertical_bar t rest bar e (refl, λ h. omega (arith, h)) refl
 
+pub asks_brace : (verbose : Bool) (t rest : Text) → t ≡ open_brace ∷ rest → Asks verbose t operator
+asks_brace verbose t rest e = asks verbose open_brace t rest operator e (refl, λ h. omega (arith, h)) refl
+
 pub asks_head : {level : ℕ} {p q : Point} {kind : GroupKind} → Head level p q kind
     → Asks p.flags.ignore_whitespace p.rest paren
+asks_head {p} (numbered rest e none h k) = asks_paren p.flags.ignore_whitespace p.rest rest e
+asks_head {p} (named opened first rest name e g n h k) = asks_paren p.flags.ignore_whitespace p.rest opened e
 asks_head {p} (plain opened first rest new e g letters h k) = asks_paren p.flags.ignore_whitespace p.rest opened e
 
 pub asks_directive : {p q : Point} → Directive p q → Asks p.flags.ignore_whitespace p.rest paren
@@ -73,17 +79,25 @@ pub asks_operator : {flags : Flags} {t rest : Text} {min : ℕ} {max : Option �
     → Operator flags t rest min max greedy → (verbose : Bool) → Asks verbose t operator
 asks_operator {t} {rest} {min} {max} (uncounted c e b n g) verbose = asks_bounded verbose c (min, max) t rest e b
 asks_operator {t} {rest} {min} {max} (uncounted_lazy c e b g) verbose = asks_bounded verbose c (min, max) t _ e b
+asks_operator {t} (counted opened e k n g) verbose = asks_brace verbose t opened e
+asks_operator {t} (counted_lazy opened past e k q g) verbose = asks_brace verbose t opened e
 
--- a character that is no group's, no bar and no operator asks for an atom
-kind_other : (c : ℕ) (t : Text) → (c ≢ open_paren) → (c ≢ close_paren) → (c ≢ vertical_bar) → bounds c ≡ None
-    → kind_at (c ∷ t) ≡ atom
-kind_other c t no_open no_close no_bar none =
-    rw (ne_eqb c open_paren no_open, ne_eqb c close_paren no_close, ne_eqb c vertical_bar no_bar, none) refl
+-- a character that is no group's, no bar and begins no operator asks for an atom
+pub kind_other : (c : ℕ) (t : Text) → (c ≢ open_paren) → (c ≢ close_paren) → (c ≢ vertical_bar) → (c ≢ open_brace)
+    → bounds c ≡ None → kind_at (c ∷ t) ≡ atom
+kind_other c t no_open no_close no_bar no_brace none =
+    rw (
+      ne_eqb c open_paren no_open,
+      ne_eqb c close_paren no_close,
+      ne_eqb c vertical_bar no_bar,
+      ne_eqb c open_brace no_brace,
+      none,
+    ) refl
 
 atom_kind_is : (flags : Flags) (t rest : Text) (a : Tree) → Atom flags t rest a → kind_at t ≡ atom
 atom_kind_is flags t rest a d =
     let no_group = kind_other d.first d.past_first (no open_paren refl) (no close_paren refl) in
-    ap kind_at d.begins ∙ no_group (no vertical_bar refl) none
+    ap kind_at d.begins ∙ no_group (no vertical_bar refl) (no open_brace refl) none
   where
     no : (c : ℕ) → atom_kind flags c ≡ no_atom → d.first ≢ c
     no c kind e = no_atom_at flags t rest a c d.past_first (d.begins ∙ ap (λ x. x ∷ d.past_first) e) kind d

@@ -5,7 +5,8 @@ use Rattle.regex_lite_syntax.specs.declared.flags.Flags.{Flags}
 use Rattle.regex_lite_syntax.specs.Text.{Text, dollar_sign, full_stop, open_bracket, backslash, caret}
 use Rattle.regex_lite_syntax.specs.Characters.{is_letter}
 use Rattle.regex_lite_syntax.specs.Sets.{Set, just, case_closure}
-use Rattle.regex_lite_syntax.specs.Escapes.{Piece, one, some_of, look_at}
+use Rattle.regex_lite_syntax.specs.Escapes.{Piece, one, some_of, look_at, Escape}
+use Rattle.regex_lite_syntax.specs.Classes.{BracketedClass}
 use Rattle.regex_lite_syntax.specs.Tree.{Tree, character, class}
 use Rattle.regex_lite_syntax.specs.Atoms.{is_literal, AtomKind, single, escape, bracketed, no_atom, atom_kind, IsClassOf, PieceTree, AtomFrom, Atom}
 use Rattle.regex_lite_syntax.proofs.Lists.{same_head, same_tail}
@@ -139,3 +140,24 @@ pub no_literal : (flags : Flags) (t rest : Text) (a : Tree) (c : ℕ) (u : Text)
     → is_literal flags.ignore_whitespace c ≡ false → Atom flags t rest a → ⊥
 no_literal flags t rest a c u e sign literal d =
     no_atom_at flags t rest a c u e (other_kind flags c sign literal) d
+
+-- an escape
+pub escape_atom : (flags : Flags) (t past rest : Text) (p : Piece) (a : Tree) → t ≡ backslash ∷ past
+    → Escape flags.ignore_whitespace past rest p → PieceTree flags p a → Atom flags t rest a
+escape_atom flags t past rest p a e d tree = atom_by flags escape backslash t past rest a e refl (p, d, tree)
+
+pub no_escape : (flags : Flags) (t past rest : Text) (a : Tree) → t ≡ backslash ∷ past
+    → ((rest : Text) (p : Piece) → Escape flags.ignore_whitespace past rest p → ⊥) → Atom flags t rest a → ⊥
+no_escape flags t past rest a e none d =
+    let from = by_kind flags escape backslash t past rest a e refl d in none rest from.0 from.1
+
+-- a bracketed class
+pub class_atom : (flags : Flags) (t past rest : Text) (s : Set) (a : Tree) → t ≡ open_bracket ∷ past
+    → BracketedClass flags.case_insensitive flags.ignore_whitespace t rest s → IsClassOf s a → Atom flags t rest a
+class_atom flags t past rest s a e d tree = atom_by flags bracketed open_bracket t past rest a e refl (s, d, tree)
+
+pub no_class : (flags : Flags) (t past rest : Text) (a : Tree) → t ≡ open_bracket ∷ past
+    → ((rest : Text) (s : Set) → BracketedClass flags.case_insensitive flags.ignore_whitespace t rest s → ⊥)
+    → Atom flags t rest a → ⊥
+no_class flags t past rest a e none d =
+    let from = by_kind flags bracketed open_bracket t past rest a e refl d in none rest from.0 from.1

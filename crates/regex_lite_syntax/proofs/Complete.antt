@@ -6,7 +6,10 @@ use Rattle.regex_lite_syntax.specs.Gaps.{Gap}
 use Rattle.regex_lite_syntax.specs.Tree.{Tree, sequence_of, choice_of, repeated}
 use Rattle.regex_lite_syntax.specs.Operators.{Operator}
 use Rattle.regex_lite_syntax.specs.Atoms.{Atom}
-use Rattle.regex_lite_syntax.specs.Grammar.{Point, onward, PastGap, GroupKind, group_tree, outside, Head, Directive, Item, atom, group, Branch, nothing, item, directive, Alternatives, only, further, Grammar}
+use Rattle.regex_lite_syntax.specs.GroupNames.{NamesDiffer}
+use Rattle.regex_lite_syntax.specs.Points.{Point, onward, PastGap}
+use Rattle.regex_lite_syntax.specs.Groups.{GroupKind, group_tree, outside, Head, Directive}
+use Rattle.regex_lite_syntax.specs.Grammar.{Item, atom, group, Branch, nothing, item, directive, Alternatives, only, further, Grammar}
 use Rattle.regex_lite_syntax.specs.Grammar.Branch.{operator}
 use Rattle.regex_lite_syntax.specs.Machine.{Frame, State, first_state, ended, opened, closed, parted, with_items, Leads, stay, go}
 use Rattle.regex_lite_syntax.proofs.Machine.{leads_to, leads_as}
@@ -152,6 +155,7 @@ pub record Ends (flags : Flags) (pattern : Text) (tree : Tree) (groups deepest :
   pub tree_is : tree ≡ choice_of (ended last)
   pub groups_are : groups ≡ last.point.groups
   pub deepest_is : deepest ≡ last.point.deepest
+  pub names_differ : NamesDiffer last.point.names
 
 pub complete : (flags : Flags) (pattern : Text) (tree : Tree) (groups deepest : ℕ)
     → Grammar flags pattern tree groups deepest → Ends flags pattern tree groups deepest
@@ -165,4 +169,5 @@ complete flags pattern tree groups deepest g =
       tree_is = g.tree_is ∙ ap choice_of u.branches_are;
       groups_are = g.groups_are;
       deepest_is = g.deepest_is;
+      names_differ = g.names_differ;
     }

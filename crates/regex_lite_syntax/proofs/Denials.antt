@@ -5,8 +5,11 @@ use Rattle.regex_lite_syntax.specs.declared.error.Error.{Error}
 use Rattle.regex_lite_syntax.specs.declared.error.ErrorKind.{ErrorKind}
 use Rattle.regex_lite_syntax.specs.declared.error.ErrorKind.TheVariants as kind
 use Rattle.regex_lite_syntax.specs.declared.error.syntax.SyntaxFault.{SyntaxFault}
+use Rattle.regex_lite_syntax.specs.declared.parse.Parser.{Parser}
+use Rattle.regex_lite_syntax.specs.Text.{Text}
 use Rattle.regex_lite_syntax.specs.Errors.{kind_of, syntax_error}
 use Rattle.regex_lite_syntax.specs.Refusals.{KindDenies, Denies}
+use Rattle.regex_lite_syntax.specs.ParserStates.{CanRead, BeginsCapture, StepSays, Refuses, NumberSays}
 
 -- a refusal of the one reading is a refusal of the other
 pub denies_as : (e : Error) (P Q : Type 0) → ((P → ⊥) → Q → ⊥) → Denies e P → Denies e Q
@@ -38,3 +41,32 @@ fault_denies {reading} e fault is none = subst (λ d. Denies d reading) (sym is)
 pub err_denies_less : {T whole part : Type 0} (r : Result T Error) → (part → whole) → IfErr r (λ e. Denies e whole)
     → IfErr r (λ e. Denies e part)
 err_denies_less r whole_of denied = MatchResult-weaker r denied (λ _ t. t) (λ e none. denies_less e whole_of none)
+
+-- what denies that anything can be read refuses to read on
+pub refuses_as : (e : Error) (p : Parser) (t : Text) (P : Type 0) → ((P → ⊥) → CanRead p t → ⊥) → Denies e P
+    → Refuses p t e
+refuses_as e p t P f denies = by_kind (kind_of e) denies
+  where
+    by_kind : (k : ErrorKind) → KindDenies k P → StepSays p t k
+    by_kind kind.Syntax d = f d
+    by_kind kind.Memory d = tt
+    by_kind kind.Nesting d = absurd d
+    by_kind kind.Groups d = absurd d
+    by_kind kind.Size d = absurd d
+    by_kind kind.Places d = absurd d
+    by_kind kind.Slots d = absurd d
+    by_kind kind.Replace d = absurd d
+
+-- what refuses to number a group that begins there refuses to read on
+pub number_refuses : (e : Error) (p : Parser) (t : Text) → NumberSays p (kind_of e) → BeginsCapture p t → Refuses p t e
+number_refuses e p t says capture = by_kind (kind_of e) says
+  where
+    by_kind : (k : ErrorKind) → NumberSays p k → StepSays p t k
+    by_kind kind.Groups d = (d, capture)
+    by_kind kind.Memory d = tt
+    by_kind kind.Syntax d = absurd d
+    by_kind kind.Nesting d = absurd d
+    by_kind kind.Size d = absurd d
+    by_kind kind.Places d = absurd d
+    by_kind kind.Slots d = absurd d
+    by_kind kind.Replace d = absurd d

@@ -6,13 +6,13 @@ use Rattle.regex_lite_syntax.specs.FlagLetters.{is_flag_letter, with_flags, Flag
 use Rattle.regex_lite_syntax.proofs.Lists.{same_head, same_tail}
 use Rattle.regex_lite_syntax.proofs.Words.{word_once as longest_once}
 
--- characters of one kind up to one of another kind
+-- letters of one kind up to a character of another kind
 pub word_once : (kind : ℕ → Bool) (word word' t : Text) (c d : ℕ) (r s : Text) → kind c ≡ false → kind d ≡ false
     → Spelled word t (c ∷ r) → Spelled word' t (d ∷ s) → AllPass kind word → AllPass kind word'
     → (word ≡ word') × (c ≡ d) × (r ≡ s)
 word_once kind word word' t c d r s ends ends' p q all all' =
-    let both = longest_once kind word word' t (c ∷ r) (d ∷ s) p q all all' ends ends' in
-    (both.0, same_head both.1, same_tail both.1)
+    let same = longest_once kind word word' t (c ∷ r) (d ∷ s) p q all all' ends ends' in
+    (same.0, same_head same.1, same_tail same.1)
 
 -- the character is no part of flags
 pub record EndsFlags (c : ℕ) : Type 0 where
@@ -58,22 +58,28 @@ pub other_end : (old new new' : Flags) (t : Text) (c d : ℕ) (r s : Text) → E
 other_end old new new' t c d r s ends ends' differ p q =
     differ (letters_once old new new' t c d r s ends ends' p q).1
 
--- no flags stand directly before a `)`
-no_flags : (old : Flags) (t rest : Text) → t ≡ close_paren ∷ rest → FlagLetters old t (close_paren ∷ rest) old
-no_flags old t rest e = setting [] e tt refl refl
+-- no flags at all stand directly before any character
+no_flags : (old : Flags) (t rest : Text) (c : ℕ) → t ≡ c ∷ rest → FlagLetters old t (c ∷ rest) old
+no_flags old t rest c e = setting [] e tt refl refl
 
--- so no head ends there
+-- so where a character stands that is no part of flags, none end before another
+pub flags_elsewhere : (old new : Flags) (t u : Text) (c d : ℕ) (r : Text) → EndsFlags c → EndsFlags d → t ≡ c ∷ u
+    → c ≢ d → FlagLetters old t (d ∷ r) new → ⊥
+flags_elsewhere old new t u c d r ends ends' e differ letters =
+    other_end old old new t c d u r ends ends' differ (no_flags old t u c e) letters
+
+-- no head ends directly before a `)`
 pub empty_head : (old : Flags) (t rest r : Text) (new : Flags) → t ≡ close_paren ∷ rest
     → FlagLetters old t (colon ∷ r) new → ⊥
 empty_head old t rest r new e letters =
-    other_end old new old t colon close_paren r rest colon_ends_flags paren_ends_flags (λ c. omega (arith, c)) letters
-    (no_flags old t rest e)
+    flags_elsewhere old new t rest close_paren colon r paren_ends_flags colon_ends_flags e (λ c. omega (arith, c))
+    letters
 
 -- and no directive
 pub empty_directive : (old : Flags) (t rest r : Text) (new : Flags) → t ≡ close_paren ∷ rest → t ≢ close_paren ∷ r
     → FlagLetters old t (close_paren ∷ r) new → ⊥
 empty_directive old t rest r new e differ letters =
     let ends = paren_ends_flags in
-    let none = no_flags old t rest e in
+    let none = no_flags old t rest close_paren e in
     let same = letters_once old new old t close_paren close_paren r rest ends ends letters none in
     differ (e ∙ ap (λ u. close_paren ∷ u) (sym same.2))

@@ -2,7 +2,7 @@
 use Rattle.std.proofs.Common.{inl, inr, ◌≡◌, refl, sym, ◌∙◌, ap, subst, []}
 use Rattle.regex_lite_syntax.specs.Text.{Text}
 use Rattle.regex_lite_syntax.specs.Gaps.{Gap, EndsGap, WholeGap}
-use Rattle.regex_lite_syntax.specs.Grammar.{Point, onward, PastGap}
+use Rattle.regex_lite_syntax.specs.Points.{Point, onward, PastGap}
 use Rattle.regex_lite_syntax.specs.Machine.{State, opened, closed, parted, with_items, Kind, stop, paren, closing, bar, operator, atom, kind_at, Does, Step, Leads, stay, go}
 use Rattle.regex_lite_syntax.proofs.Lists.{same_head, same_tail, snoc_same}
 use Rattle.regex_lite_syntax.proofs.Gaps.{empty_gap, gap_at_end, gap_to_end, whole_gap_once}

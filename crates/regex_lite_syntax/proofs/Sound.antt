@@ -5,7 +5,10 @@ use Rattle.regex_lite_syntax.specs.Text.{Text, close_paren, vertical_bar}
 use Rattle.regex_lite_syntax.specs.Gaps.{Gap}
 use Rattle.regex_lite_syntax.specs.Tree.{Tree, sequence_of, choice_of, repeated}
 use Rattle.regex_lite_syntax.specs.Operators.{Operator}
-use Rattle.regex_lite_syntax.specs.Grammar.{Point, onward, PastGap, Head, Directive, Item, group, Branch, nothing, item, directive, Alternatives, only, further, start, Grammar}
+use Rattle.regex_lite_syntax.specs.GroupNames.{NamesDiffer}
+use Rattle.regex_lite_syntax.specs.Points.{Point, onward, PastGap, start}
+use Rattle.regex_lite_syntax.specs.Groups.{Head, Directive}
+use Rattle.regex_lite_syntax.specs.Grammar.{Item, group, Branch, nothing, item, directive, Alternatives, only, further, Grammar}
 use Rattle.regex_lite_syntax.specs.Grammar.Branch.{operator as operated}
 use Rattle.regex_lite_syntax.specs.Grammar.Item.{atom as atom_item}
 use Rattle.regex_lite_syntax.specs.Machine.{Frame, State, first_state, ended, opened, closed, parted, with_items, Kind, stop, paren, closing, bar, operator, atom, kind_at, Does, Leads, stay, go}
@@ -117,11 +120,11 @@ stands_first : (flags : Flags) (pattern : Text) → Stands (start flags pattern)
 stands_first flags pattern =
     record { from = start flags pattern; below = refl; here = first refl (nothing refl refl) }
 
--- a run to where only a gap is left, with no group open, gives the pattern its tree
+-- a run to where only a gap is left, with no group open and no name twice, gives the pattern its tree
 pub sound : (flags : Flags) (pattern : Text) (s : State) → Leads (first_state flags pattern) s → s.frames ≡ []
-    → Gap s.point.flags.ignore_whitespace s.point.rest []
+    → Gap s.point.flags.ignore_whitespace s.point.rest [] → NamesDiffer s.point.names
     → Grammar flags pattern (choice_of (ended s)) s.point.groups s.point.deepest
-sound flags pattern s l outermost g =
+sound flags pattern s l outermost g differ =
     let begin = start flags pattern in
     let h = leads_keeps (stands_first flags pattern) l in
     let from_is = subst (λ x. Stacked begin x h.from) outermost h.below in
@@ -135,4 +138,5 @@ sound flags pattern s l outermost g =
       tree_is = refl;
       groups_are = refl;
       deepest_is = refl;
+      names_differ = differ;
     }

@@ -1,20 +1,26 @@
 -- The steps of the machine by what stands past the gap, and the places that have no step.
-use Rattle.std.proofs.Common.{inl, inr, ◌≡◌, ◌≢◌, refl, sym, ◌∙◌, ap, subst, ℕ, Bool, length, List, [], ◌∷◌, ◌++◌, Option, Some}
+use Rattle.std.proofs.Common.{inl, inr, ◌≡◌, ◌≢◌, refl, sym, ◌∙◌, ap, subst, ℕ, ◌+◌, Bool, length, List, [], ◌∷◌, ◌++◌, Option, Some, arith}
 use Rattle.regex_lite_syntax.specs.declared.flags.Flags.{Flags}
-use Rattle.regex_lite_syntax.specs.Text.{Text, open_paren, close_paren, question_mark, colon, vertical_bar}
-use Rattle.regex_lite_syntax.specs.Gaps.{EndsGap, WholeGap}
+use Rattle.regex_lite_syntax.specs.Text.{Text, open_paren, close_paren, open_brace, question_mark, colon, vertical_bar}
+use Rattle.regex_lite_syntax.specs.Gaps.{Gap, EndsGap, WholeGap}
 use Rattle.regex_lite_syntax.specs.Tree.{Tree, repeated}
+use Rattle.regex_lite_syntax.specs.Counts.{Counted}
 use Rattle.regex_lite_syntax.specs.Operators.{bounds, Operator}
 use Rattle.regex_lite_syntax.specs.Atoms.{Atom}
 use Rattle.regex_lite_syntax.specs.FlagLetters.{FlagLetters}
-use Rattle.regex_lite_syntax.specs.Grammar.{Point, onward, PastGap, GroupKind, Head, Directive}
+use Rattle.regex_lite_syntax.specs.GroupNames.{NameWritten, NameOpening, Named}
+use Rattle.regex_lite_syntax.specs.Points.{Point, onward, PastGap}
+use Rattle.regex_lite_syntax.specs.Groups.{GroupKind, capturing, numbered_on, named_on, inside, Head, Directive}
 use Rattle.regex_lite_syntax.specs.Machine.{Frame, State, opened, closed, parted, with_items, Kind, paren, closing, bar, operator, atom, kind_at, Does, Step}
-use Rattle.regex_lite_syntax.proofs.Lists.{same_tail, no_last}
+use Rattle.regex_lite_syntax.proofs.Lists.{no_last}
 use Rattle.regex_lite_syntax.proofs.Gaps.{empty_gap}
+use Rattle.regex_lite_syntax.proofs.Operators.{counts_of}
 use Rattle.regex_lite_syntax.proofs.FlagLetters.{empty_head, empty_directive}
-use Rattle.regex_lite_syntax.proofs.Heads.{no_head, no_directive}
+use Rattle.regex_lite_syntax.proofs.NameLemmas.{past_opening}
+use Rattle.regex_lite_syntax.proofs.NameOpenings.{opening_question, opening_or_plain, opening_or_directive, no_opening}
+use Rattle.regex_lite_syntax.proofs.Heads.{named_head, no_head, no_directive}
 use Rattle.regex_lite_syntax.proofs.Machine.{past_gap_once}
-use Rattle.regex_lite_syntax.proofs.Asks.{Asks, asks_paren, asks_closing, asks_bar, asks_bounded, asks_head, asks_directive, asks_operator, asks_atom}
+use Rattle.regex_lite_syntax.proofs.Asks.{Asks, asks_paren, asks_closing, asks_bar, asks_brace, asks_bounded, asks_head, asks_directive, asks_operator, asks_atom}
 
 -- no gap need stand before what is read: so `here` may be the point of the state below
 pub at_once : (p : Point) → PastGap p p
@@ -46,6 +52,14 @@ pub step_open : (s : State) (here first : Point) (kind : GroupKind) → PastGap 
     → Head (length s.frames) here first kind → Step s (opened s here first kind)
 step_open s here first kind past head = step_by paren s here _ past (asks_head head) (inl (first, kind, head, refl))
 
+-- a group that has a name
+pub step_named : (s : State) (here : Point) (begun first rest name : Text) → PastGap s.point here
+    → here.rest ≡ open_paren ∷ begun → Gap here.flags.ignore_whitespace begun first → Named first rest name
+    → Step s (opened s here (named_on (numbered_on (inside (length s.frames) here here.flags rest)) name)
+    (capturing (here.groups + 1) (Some name)))
+step_named s here begun first rest name past e g n =
+    step_open s here _ _ past (named_head (length s.frames) here begun first rest name e g n)
+
 pub step_direct : (s : State) (here next : Point) → PastGap s.point here → Directive here next
     → Step s (with_items s next s.items)
 step_direct s here next past d = step_by paren s here _ past (asks_directive d) (inr (next, d, refl))
@@ -74,7 +88,7 @@ pub step_atom : (s : State) (here : Point) (rest : Text) (a : Tree) → PastGap 
 step_atom s here rest a past d =
     step_by atom s here _ past (asks_atom here.flags here.rest rest a d) (rest, a, d, refl)
 
--- no step at a `(` where neither a head nor a directive stands
+-- nor at a `(` where neither a head nor a directive stands
 pub no_open : (s q : State) (here : Point) (rest : Text) → PastGap s.point here → here.rest ≡ open_paren ∷ rest
     → ((first : Point) (kind : GroupKind) → Head (length s.frames) here first kind → ⊥)
     → ((next : Point) → Directive here next → ⊥) → Step s q → ⊥
@@ -85,34 +99,30 @@ no_open s q here rest past e no_group no_flags st =
     neither (inl d) = no_group d.0 d.1 d.2
     neither (inr d) = no_flags d.0 d.1
 
--- so not at a `(` past which, and past the gap, no `?` stands
-pub no_question : (s q : State) (here : Point) (opened u : Text) → PastGap s.point here
-    → here.rest ≡ open_paren ∷ opened → WholeGap here.flags.ignore_whitespace opened u
-    → ((first : Text) → u ≡ question_mark ∷ first → ⊥) → Step s q → ⊥
-no_question s q here opened u past e whole none =
-    no_open s q here opened past e
-    (λ into kind. no_head (length s.frames) here into kind opened u e whole (λ t rest new f letters. none t f))
-    (λ next. no_directive here next opened u e whole (λ t rest new f differ letters. none t f))
-
--- nor where past the `?` no flags lead to a `:` or a `)`
+-- so not where past the `?` no name stands and no flags lead to a `:` or a `)`
 pub no_flags : (s q : State) (here : Point) (opened first : Text) → PastGap s.point here
     → here.rest ≡ open_paren ∷ opened → WholeGap here.flags.ignore_whitespace opened (question_mark ∷ first)
+    → ((rest name : Text) → Named (question_mark ∷ first) rest name → ⊥)
     → ((rest : Text) (new : Flags) → FlagLetters here.flags first (colon ∷ rest) new → ⊥)
     → ((rest : Text) (new : Flags) → FlagLetters here.flags first (close_paren ∷ rest) new → ⊥) → Step s q → ⊥
-no_flags s q here opened first past e whole no_colon no_paren =
+no_flags s q here opened first past e whole no_named no_colon no_paren =
     no_open s q here opened past e
-    (λ into kind. no_head (length s.frames) here into kind opened _ e whole of_head)
-    (λ next. no_directive here next opened _ e whole of_directive)
-  where
-    of_head : (t rest : Text) (new : Flags) → question_mark ∷ first ≡ question_mark ∷ t
-        → FlagLetters here.flags t (colon ∷ rest) new → ⊥
-    of_head t rest new f letters =
-        no_colon rest new (subst (λ u. FlagLetters here.flags u (colon ∷ rest) new) (sym (same_tail f)) letters)
+    (λ into kind. no_head (length s.frames) here into kind opened first e whole no_named no_colon)
+    (λ next. no_directive here next opened first e whole (λ rest new differ. no_paren rest new))
 
-    of_directive : (t rest : Text) (new : Flags) → question_mark ∷ first ≡ question_mark ∷ t → t ≢ close_paren ∷ rest
-        → FlagLetters here.flags t (close_paren ∷ rest) new → ⊥
-    of_directive t rest new f differ letters =
-        no_paren rest new (subst (λ u. FlagLetters here.flags u (close_paren ∷ rest) new) (sym (same_tail f)) letters)
+-- nor where a name is opened and none follows
+pub no_name : (s q : State) (here : Point) (opened u begun : Text) → PastGap s.point here
+    → here.rest ≡ open_paren ∷ opened → WholeGap here.flags.ignore_whitespace opened u → NameOpening u begun
+    → ((rest name : Text) → NameWritten begun rest name → ⊥) → Step s q → ⊥
+no_name s q here opened u begun past e whole opens none =
+    let verbose = here.flags.ignore_whitespace in
+    let question = opening_question u begun opens in
+    let first = question.0 in
+    let there = subst (λ t. NameOpening t begun) question.1 opens in
+    no_flags s q here opened first past e (subst (λ t. WholeGap verbose opened t) question.1 whole)
+    (λ rest name n. none rest name (past_opening (question_mark ∷ first) begun rest name there n))
+    (λ rest new. opening_or_plain here.flags new first begun rest there)
+    (λ rest new. opening_or_directive here.flags new first begun rest there)
 
 -- nor at a directive that writes nothing
 pub no_empty : (s q : State) (here : Point) (opened rest : Text) → PastGap s.point here
@@ -120,16 +130,18 @@ pub no_empty : (s q : State) (here : Point) (opened rest : Text) → PastGap s.p
     → WholeGap here.flags.ignore_whitespace opened (question_mark ∷ close_paren ∷ rest) → Step s q → ⊥
 no_empty s q here opened rest past e whole =
     no_open s q here opened past e
-    (λ into kind. no_head (length s.frames) here into kind opened _ e whole of_head)
-    (λ next. no_directive here next opened _ e whole of_directive)
+    (λ into kind. no_head (length s.frames) here into kind opened (close_paren ∷ rest) e whole of_name of_head)
+    (λ next. no_directive here next opened (close_paren ∷ rest) e whole of_directive)
   where
-    of_head : (t r : Text) (new : Flags) → question_mark ∷ close_paren ∷ rest ≡ question_mark ∷ t
-        → FlagLetters here.flags t (colon ∷ r) new → ⊥
-    of_head t r new f = empty_head here.flags t rest r new (sym (same_tail f))
+    of_name : (r name : Text) → Named (question_mark ∷ close_paren ∷ rest) r name → ⊥
+    of_name r name n = no_opening close_paren rest n.past (λ c. omega (arith, c)) (λ c. omega (arith, c)) n.opens
 
-    of_directive : (t r : Text) (new : Flags) → question_mark ∷ close_paren ∷ rest ≡ question_mark ∷ t
-        → t ≢ close_paren ∷ r → FlagLetters here.flags t (close_paren ∷ r) new → ⊥
-    of_directive t r new f = empty_directive here.flags t rest r new (sym (same_tail f))
+    of_head : (r : Text) (new : Flags) → FlagLetters here.flags (close_paren ∷ rest) (colon ∷ r) new → ⊥
+    of_head r new = empty_head here.flags (close_paren ∷ rest) rest r new refl
+
+    of_directive : (r : Text) (new : Flags) → close_paren ∷ rest ≢ close_paren ∷ r
+        → FlagLetters here.flags (close_paren ∷ rest) (close_paren ∷ r) new → ⊥
+    of_directive r new = empty_directive here.flags (close_paren ∷ rest) rest r new refl
 
 -- nor at a `)` where no group is open
 pub no_close : (s q : State) (here : Point) (rest : Text) → PastGap s.point here → here.rest ≡ close_paren ∷ rest
@@ -145,6 +157,22 @@ no_operand s q here c b rest past e has none st =
     let asked = asks_bounded here.flags.ignore_whitespace c b here.rest rest e has in
     let d = does_by operator s here q past asked st in
     no_last d.1 d.2 (sym none ∙ d.6)
+
+-- nor at a counted operator that stands after none
+pub no_counted_operand : (s q : State) (here : Point) (rest : Text) → PastGap s.point here
+    → here.rest ≡ open_brace ∷ rest → s.items ≡ [] → Step s q → ⊥
+no_counted_operand s q here rest past e none st =
+    let d = does_by operator s here q past (asks_brace here.flags.ignore_whitespace here.rest rest e) st in
+    no_last d.1 d.2 (sym none ∙ d.6)
+
+-- nor at a brace that opens no counts
+pub no_counts : (s q : State) (here : Point) (rest : Text) → PastGap s.point here → here.rest ≡ open_brace ∷ rest
+    → ((past : Text) (min : ℕ) (max : Option ℕ) → Counted here.flags.ignore_whitespace rest past min max → ⊥)
+    → Step s q → ⊥
+no_counts s q here rest past e none st =
+    let d = does_by operator s here q past (asks_brace here.flags.ignore_whitespace here.rest rest e) st in
+    let counts = counts_of here.flags here.rest rest d.0 d.3 d.4 d.5 e d.7 in
+    none counts.0 d.3 d.4 counts.1
 
 -- nor where an item would have to begin and none does
 pub no_item : (s q : State) (here : Point) → PastGap s.point here → EndsGap here.flags.ignore_whitespace here.rest

@@ -6,7 +6,7 @@ use Rattle.regex_lite_syntax.specs.declared.error.ErrorKind.TheVariants as kind
 use Rattle.regex_lite_syntax.specs.declared.error.Fault.{Fault}
 use Rattle.regex_lite_syntax.specs.declared.error.Fault.TheVariants.{Syntax, Nesting, Groups, Size, Places, Slots, Memory, Replace}
 use Rattle.regex_lite_syntax.specs.declared.error.syntax.SyntaxFault.{SyntaxFault}
-use Rattle.regex_lite_syntax.specs.declared.error.syntax.SyntaxFault.TheVariants.{DuplicateCaptureName, UnclosedGroup, UnclosedGroupQuestion, UnopenedGroup, LookUnsupported, EmptyFlags, MissingGroupName, InvalidGroupName, UnclosedGroupName, EmptyGroupName, FlagUnrecognized, FlagRepeatedNegation, FlagDuplicate, FlagUnexpectedEof, FlagDanglingNegation, DecimalNoDigits, DecimalInvalid, HexBraceInvalidDigit, HexBraceUnexpectedEof, HexBraceEmpty, HexBraceInvalid, HexFixedUnexpectedEof, HexFixedInvalidDigit, HexFixedInvalid, HexUnexpectedEof, EscapeUnexpectedEof, BackreferenceUnsupported, UnicodeClassUnsupported, EscapeUnrecognized, UncountedRepetitionSubMissing, CountedRepetitionSubMissing, CountedRepetitionUnclosed, CountedRepetitionMinUnclosed, CountedRepetitionCommaUnclosed, CountedRepetitionMinMaxUnclosed, CountedRepetitionInvalid, CountedRepetitionInvalidRange, ClassUnclosedAfterItem, ClassInvalidRangeItem, ClassInvalidItem, ClassUnclosedAfterDash, ClassUnclosedAfterNegation, ClassUnclosedAfterClosing, ClassInvalidRange, ClassUnclosed, ClassNestUnsupported, ClassIntersectionUnsupported, ClassDifferenceUnsupported, ClassSymmetricDifferenceUnsupported, SpecialWordBoundaryUnclosed, SpecialWordBoundaryUnrecognized, SpecialWordOrRepetitionUnexpectedEof, NotSupportedYet}
+use Rattle.regex_lite_syntax.specs.declared.error.syntax.SyntaxFault.TheVariants.{DuplicateCaptureName, UnclosedGroup, UnclosedGroupQuestion, UnopenedGroup, LookUnsupported, EmptyFlags, MissingGroupName, InvalidGroupName, UnclosedGroupName, EmptyGroupName, FlagUnrecognized, FlagRepeatedNegation, FlagDuplicate, FlagUnexpectedEof, FlagDanglingNegation, DecimalNoDigits, DecimalInvalid, HexBraceInvalidDigit, HexBraceUnexpectedEof, HexBraceEmpty, HexBraceInvalid, HexFixedUnexpectedEof, HexFixedInvalidDigit, HexFixedInvalid, HexUnexpectedEof, EscapeUnexpectedEof, BackreferenceUnsupported, UnicodeClassUnsupported, EscapeUnrecognized, UncountedRepetitionSubMissing, CountedRepetitionSubMissing, CountedRepetitionUnclosed, CountedRepetitionMinUnclosed, CountedRepetitionCommaUnclosed, CountedRepetitionMinMaxUnclosed, CountedRepetitionInvalid, CountedRepetitionInvalidRange, ClassUnclosedAfterItem, ClassInvalidRangeItem, ClassInvalidItem, ClassUnclosedAfterDash, ClassUnclosedAfterNegation, ClassUnclosedAfterClosing, ClassInvalidRange, ClassUnclosed, ClassNestUnsupported, ClassIntersectionUnsupported, ClassDifferenceUnsupported, ClassSymmetricDifferenceUnsupported, SpecialWordBoundaryUnclosed, SpecialWordBoundaryUnrecognized, SpecialWordOrRepetitionUnexpectedEof}
 
 -- the text of each rule of the grammar that a pattern can break
 abbrev pub fault_text : SyntaxFault → List ℕ
@@ -81,7 +81,6 @@ fault_text SpecialWordBoundaryUnclosed =
 fault_text SpecialWordBoundaryUnrecognized = codes "special word boundary assertion is unrecognized"
 fault_text SpecialWordOrRepetitionUnexpectedEof =
     codes "found start of special word boundary or repetition without an end"
-fault_text NotSupportedYet = codes "not supported yet"
 
 -- what kind of refusal a fault is
 abbrev pub kind_of_fault : Fault → ErrorKind
@@ -116,6 +115,14 @@ text_of error = text_of_fault error.fault
 -- the refusal of a pattern that breaks this rule
 abbrev pub syntax_error : SyntaxFault → Error
 syntax_error fault = record { fault = Syntax fault }
+
+-- the refusal of a pattern that passes the limit on nesting
+abbrev pub too_deep : Error
+too_deep = record { fault = Nesting }
+
+-- the refusal of a pattern with more groups than can be numbered
+abbrev pub too_many_groups : Error
+too_many_groups = record { fault = Groups }
 
 -- the refusal of a growth
 abbrev pub out_of_memory : Error

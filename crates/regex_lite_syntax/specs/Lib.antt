@@ -11,17 +11,23 @@ pub mod Looks
 pub mod Escapes
 pub mod Classes
 pub mod FlagLetters
+pub mod Counts
 pub mod Operators
 pub mod Atoms
+pub mod GroupNames
+pub mod Points
+pub mod Groups
 pub mod Grammar
+pub mod Regular
+pub mod Limits
 pub mod Matches
 pub mod Views
 pub mod Refusals
 pub mod Laws
 -- what the functions inside promise one another
 pub mod Machine
-pub mod ParserStates
-pub mod FlagRuns
 pub mod Pieces
 pub mod ClassParts
 pub mod Bounds
+pub mod FlagRuns
+pub mod ParserStates

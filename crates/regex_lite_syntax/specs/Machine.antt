@@ -1,12 +1,13 @@
 -- What the parser has read, as the states of a machine that never has a choice.
-use Rattle.std.specs.Prelude.{◌≡◌, ◌⊎◌, ℕ, Bool, ◌==◌, length, List, [], ◌∷◌, ◌++◌, Option, is_some, if◌then◌else◌}
+use Rattle.std.specs.Prelude.{◌≡◌, ◌⊎◌, ℕ, Bool, ◌||◌, ◌==◌, length, List, [], ◌∷◌, ◌++◌, Option, is_some, if◌then◌else◌}
 use Rattle.regex_lite_syntax.specs.declared.flags.Flags.{Flags}
-use Rattle.regex_lite_syntax.specs.Text.{Text, open_paren, close_paren, vertical_bar}
+use Rattle.regex_lite_syntax.specs.Text.{Text, open_paren, close_paren, open_brace, vertical_bar}
 use Rattle.regex_lite_syntax.specs.Gaps.{EndsGap}
 use Rattle.regex_lite_syntax.specs.Tree.{Tree, sequence_of, choice_of, repeated}
 use Rattle.regex_lite_syntax.specs.Operators.{bounds, Operator}
 use Rattle.regex_lite_syntax.specs.Atoms.{Atom}
-use Rattle.regex_lite_syntax.specs.Grammar.{Point, onward, PastGap, GroupKind, group_tree, Head, Directive, start}
+use Rattle.regex_lite_syntax.specs.Points.{Point, onward, PastGap, start}
+use Rattle.regex_lite_syntax.specs.Groups.{GroupKind, group_tree, Head, Directive}
 
 -- what surrounds an open group: the flags and the ended branches and items before it, and its kind
 pub record Frame : Type 0 where
@@ -67,7 +68,7 @@ kind_at (c ∷ t) =
     if c == open_paren then paren
     else if c == close_paren then closing
     else if c == vertical_bar then bar
-    else if is_some (bounds c) then operator
+    else if is_some (bounds c) || c == open_brace then operator
     else atom
 
 -- at p, past the gap, such a character leads from the one state to the other

@@ -3,7 +3,7 @@
 //! A text of a syntax fault stands in one place, `SyntaxFault::text`, so that it tells which rule
 //! of the grammar a pattern broke.
 ghost use Rattle.std.specs.Prelude.{◌≡◌, Some};
-ghost use Rattle.regex_lite_syntax.specs.Errors.{kind_of, text_of, syntax_error, out_of_memory, refused_replacement};
+ghost use Rattle.regex_lite_syntax.specs.Errors.{kind_of, text_of, syntax_error, too_deep, too_many_groups, out_of_memory, refused_replacement};
 
 mod syntax;
 
@@ -64,6 +64,24 @@ impl Error {
             Fault::Slots => ErrorKind::Slots,
             Fault::Memory => ErrorKind::Memory,
             Fault::Replace => ErrorKind::Replace,
+        }
+    }
+
+    /// The refusal of a pattern that passes the limit on nesting.
+    pub(crate) fn nesting() -> Error
+        ensures { result ≡ too_deep }
+    {
+        Error {
+            fault: Fault::Nesting,
+        }
+    }
+
+    /// The refusal of a pattern with more groups than can be numbered.
+    pub(crate) fn groups() -> Error
+        ensures { result ≡ too_many_groups }
+    {
+        Error {
+            fault: Fault::Groups,
         }
     }
 

@@ -1,7 +1,8 @@
 //! The tree of a pattern.
-ghost use Rattle.std.specs.Prelude.{◌≡◌, map, IfOk};
-ghost use Rattle.regex_lite_syntax.specs.Tree.{sequence_of, choice_of, repeated};
-ghost use Rattle.regex_lite_syntax.specs.Views.{tree_of};
+ghost use Rattle.std.specs.Prelude.{◌≡◌, ◌<◌, ◌↔◌, map, option_map, IsTrue, IfOk};
+ghost use Rattle.regex_lite_syntax.specs.Tree.{capture, sequence_of, choice_of, repeated, trees as trees_of};
+ghost use Rattle.regex_lite_syntax.specs.Limits.{depth, depth_of_list};
+ghost use Rattle.regex_lite_syntax.specs.Views.{text_of_string, tree_of};
 
 pub(crate) mod look;
 
@@ -27,6 +28,12 @@ pub enum Hir {
         greedy: bool,
         sub: Box<Hir>,
     },
+    /// `sub`, whose span is that of the group with this index, and with this name if it has one.
+    Capture {
+        index: u32,
+        name: Option<String>,
+        sub: Box<Hir>,
+    },
     /// One after another.
     Concat(Vec<Hir>),
     /// One of these, the earlier preferred.
@@ -49,6 +56,11 @@ impl Drop for Hir {
                     min: _,
                     max: _,
                     greedy: _,
+                    sub,
+                } => self = Box::into_inner(sub),
+                Hir::Capture {
+                    index: _,
+                    name: _name,
                     sub,
                 } => self = Box::into_inner(sub),
             }
@@ -83,6 +95,20 @@ impl Hir {
         }
     }
 
+    /// A group with this body.
+    pub(crate) fn capture(
+        alloc: Global,
+        index: u32,
+        name: Option<String>,
+        body: Hir,
+    ) -> Result<Hir, AllocError>
+        ensures { IfOk result (λ hir.
+            tree_of hir ≡ capture index (option_map text_of_string name) (tree_of body)) }
+    {
+        let sub = Box::new(alloc, body)?;
+        Ok(Hir::Capture { index, name, sub })
+    }
+
     /// What an operator makes of an item.
     pub(crate) fn repetition(
         alloc: Global,
@@ -107,4 +133,33 @@ impl Hir {
             sub,
         })
     }
+
+    /// Whether more nodes than the limit stand in one another below the root.
+    #[cycle(deeper)]
+    pub(crate) fn is_deeper_than(&self, limit: u32) -> bool
+        ensures { IsTrue result ↔ (limit < depth (tree_of self.now)) }
+    {
+        match self {
+            Hir::Empty | Hir::Char(_) | Hir::Class(_) | Hir::Look(_) => false,
+            Hir::Repetition { sub, .. } | Hir::Capture { sub, .. } => {
+                limit == 0 || sub.is_deeper_than(limit - 1)
+            }
+            Hir::Concat(parts) | Hir::Alternation(parts) => {
+                limit == 0 || is_one_deeper_than(parts, limit - 1)
+            }
+        }
+    }
+}
+
+/// Whether that holds of one of the trees.
+#[cycle(deeper)]
+fn is_one_deeper_than(trees: &[Hir], limit: u32) -> bool
+    ensures { IsTrue result ↔ (limit < depth_of_list (trees_of (map tree_of trees.now))) }
+{
+    for tree in trees {
+        if tree.is_deeper_than(limit) {
+            return true;
+        }
+    }
+    false
 }

@@ -15,3 +15,4 @@ pub use error::{Error, ErrorKind, SyntaxFault};
 pub use flags::Flags;
 pub use hir::Hir;
 pub use hir::look::Look;
+pub use parse::Config;

@@ -4,22 +4,25 @@
 //! pattern, however deep its groups stand in one another, is read by recursion. It takes one
 //! thing after another: an item of a branch, an operator, a `|`, the head of a group or its end,
 //! or a directive.
-ghost use Rattle.std.specs.Prelude.{◌≡◌, ◌<◌, ◌≤◌, ◌∷◌, [], drop, length, chars, IfOk, IfErr, OnOk};
+ghost use Rattle.std.specs.Prelude.{◌≡◌, ◌<◌, ◌≤◌, ◌^◌, ◌↔◌, ◌∷◌, [], drop, length, chars, IsTrue, IfOk, IfErr, OnOk};
+ghost use Rattle.regex_lite_syntax.specs.Errors.{kind_of};
 ghost use Rattle.regex_lite_syntax.specs.Text.{Text};
 ghost use Rattle.regex_lite_syntax.specs.Gaps.{EndsGap, WholeGap};
-ghost use Rattle.regex_lite_syntax.specs.Grammar.{IsTree, HasTree};
-ghost use Rattle.regex_lite_syntax.specs.Refusals.{Denies};
+ghost use Rattle.regex_lite_syntax.specs.Limits.{IsAdmitted, SaysOf, depth};
+ghost use Rattle.regex_lite_syntax.specs.Regular.{IsRegular};
 ghost use Rattle.regex_lite_syntax.specs.Views.{tree_of};
 ghost use Rattle.regex_lite_syntax.specs.Machine.{first_state, BeginsAtom};
-ghost use Rattle.regex_lite_syntax.specs.ParserStates.{state, Advances, CanRead, Parts, Adds, Finishes};
+ghost use Rattle.regex_lite_syntax.specs.ParserStates.{state, Advances, Refuses, Parts, Adds, Finishes, EndSays};
 
 mod atom;
 mod bracket;
+mod counted;
 mod escape;
 mod gap;
 mod group;
 mod letters;
 mod level;
+mod name;
 mod operator;
 mod read;
 
@@ -28,30 +31,49 @@ use crate::flags::Flags;
 use crate::hir::Hir;
 use atom::read_atom;
 use gap::skip_gap;
-use level::Level;
+use level::{Level, OpenGroup};
 use std::alloc::{AllocError, Global};
 
-/// The parser at a place of the pattern: the open groups, the innermost apart.
+/// What a pattern is read under.
+#[derive(Clone, Copy, PartialEq, Eq, Debug)]
+pub struct Config {
+    /// The flags at its first character.
+    pub flags: Flags,
+    /// How deep groups may stand in one another, and the tree's nodes below its root.
+    pub nest_limit: u32,
+}
+
+/// The parser at a place of the pattern.
 #[derive(Drop)]
 pub(crate) struct Parser {
     alloc: Global,
-    below: Vec<Level>,
+    /// How many groups have been numbered.
+    groups: u32,
+    /// Their names, in order.
+    names: Vec<String>,
+    /// The open groups, the innermost last.
+    below: Vec<OpenGroup>,
+    /// What has been read of the innermost one, or outside them all.
     here: Level,
 }
 
 impl Hir {
-    /// The tree of a pattern that is read under these flags.
+    /// The tree of a pattern.
     ///
     /// # Errors
     ///
-    /// `Syntax` where the grammar gives the pattern no tree, and `Memory` where a growth was
+    /// `Syntax` where the grammar gives the pattern no tree, `Nesting` where it nests too deep,
+    /// `Groups` where it has more groups than can be numbered, and `Memory` where a growth was
     /// refused.
-    pub fn parse(alloc: Global, flags: Flags, pattern: &str) -> Result<Hir, Error>
-        ensures tree { IfOk result (λ hir. IsTree flags (chars pattern.now) (tree_of hir)) }
-        ensures refused { IfErr result (λ e. Denies e (HasTree flags (chars pattern.now))) }
+    pub fn parse(alloc: Global, config: Config, pattern: &str) -> Result<Hir, Error>
+        ensures tree { IfOk result (λ hir.
+            IsAdmitted config.flags config.nest_limit (chars pattern.now) (tree_of hir)) }
+        ensures regular { IfOk result (λ hir. IsRegular (tree_of hir)) }
+        ensures refused { IfErr result (λ e.
+            SaysOf config.flags config.nest_limit (chars pattern.now) (kind_of e)) }
     {
         let chars = characters(alloc, pattern)?;
-        parse_chars(alloc, flags, &chars)
+        parse_chars(alloc, config, &chars)
     }
 }
 
@@ -63,28 +85,37 @@ fn characters(alloc: Global, pattern: &str) -> Result<Vec<char>, AllocError>
 }
 
 /// The tree of the pattern with these characters.
-fn parse_chars(alloc: Global, flags: Flags, chars: &[char]) -> Result<Hir, Error>
-    ensures tree { IfOk result (λ hir. IsTree flags chars.now (tree_of hir)) }
-    ensures refused { IfErr result (λ e. Denies e (HasTree flags chars.now)) }
+fn parse_chars(alloc: Global, config: Config, chars: &[char]) -> Result<Hir, Error>
+    ensures tree { IfOk result (λ hir.
+        IsAdmitted config.flags config.nest_limit chars.now (tree_of hir)) }
+    ensures regular { IfOk result (λ hir. IsRegular (tree_of hir)) }
+    ensures refused { IfErr result (λ e.
+        SaysOf config.flags config.nest_limit chars.now (kind_of e)) }
 {
-    let mut parser = Parser::new(alloc, flags);
+    let mut parser = Parser::new(alloc, config.flags);
     let mut at = 0;
     loop {
         let here = parser.skip_gap(chars, at);
         if here == chars.len() {
-            return parser.finish();
+            return parser.finish(config.nest_limit);
         }
         at = parser.step(chars, here)?;
+        if parser.is_deeper_than(config.nest_limit) {
+            return Err(Error::nesting());
+        }
     }
 }
 
 impl Parser {
     /// Before the first character.
     fn new(alloc: Global, flags: Flags) -> Parser
-        ensures { (pattern : Text) → state result pattern 0 ≡ first_state flags pattern }
+        ensures state { (pattern : Text) → state result pattern 0 ≡ first_state flags pattern }
+        ensures names { result.names.items ≡ [] }
     {
         Parser {
             alloc,
+            groups: 0,
+            names: Vec::new(alloc),
             below: Vec::new(alloc),
             here: Level::new(alloc, flags),
         }
@@ -100,12 +131,19 @@ impl Parser {
         skip_gap(chars, at, self.here.flags.ignore_whitespace)
     }
 
+    /// Whether more groups are open than the limit.
+    fn is_deeper_than(&self, nest_limit: u32) -> bool
+        ensures { IsTrue result ↔ (nest_limit < length self.now.below.items) }
+    {
+        self.below.len() > nest_limit as usize
+    }
+
     /// Reads what stands at the index, past the gap, and answers the index behind it.
     fn step(&mut self, chars: &[char], at: usize) -> Result<usize, Error>
         requires inside { at < length chars.now }
         requires past_gap { EndsGap self.old.here.flags.ignore_whitespace (drop at chars.now) }
         ensures ok { IfOk result (Advances self.old self.new chars.now at) }
-        ensures err { IfErr result (λ e. Denies e (CanRead self.old (drop at chars.now))) }
+        ensures err { IfErr result (Refuses self.old (drop at chars.now)) }
     {
         match chars[at] {
             '(' => self.read_group_head(chars, at),
@@ -117,19 +155,27 @@ impl Parser {
             '?' => self.read_operator(chars, at, 0, Some(1)),
             '*' => self.read_operator(chars, at, 0, None),
             '+' => self.read_operator(chars, at, 1, None),
+            '{' => self.read_counted_operator(chars, at),
             _ => self.read_item(chars, at),
         }
     }
 
-    /// The end of the pattern: the tree, if no group is open.
-    fn finish(self) -> Result<Hir, Error>
-        ensures ok { IfOk result (λ hir. Finishes self (tree_of hir)) }
-        ensures err { IfErr result (λ e. Denies e (self.below.items ≡ [])) }
+    /// The end of the pattern: the tree, if no group is open and the tree is no deeper than the
+    /// limit.
+    fn finish(self, nest_limit: u32) -> Result<Hir, Error>
+        ensures ok { IfOk result (λ hir.
+            Finishes self (tree_of hir) × (nest_limit < depth (tree_of hir) → ⊥)) }
+        ensures groups { self.groups < 2 ^ 32 }
+        ensures err { IfErr result (λ e. EndSays self nest_limit (kind_of e)) }
     {
         if !self.below.is_empty() {
             return Err(SyntaxFault::UnclosedGroup.into());
         }
-        Ok(self.here.into_tree()?)
+        let hir = self.here.into_tree()?;
+        if hir.is_deeper_than(nest_limit) {
+            return Err(Error::nesting());
+        }
+        Ok(hir)
     }
 
     /// An item that is no group stands at the index, if anything that the grammar has does.
@@ -138,7 +184,7 @@ impl Parser {
         requires past_gap { EndsGap self.old.here.flags.ignore_whitespace (drop at chars.now) }
         requires begins { BeginsAtom (drop at chars.now) }
         ensures ok { IfOk result (Advances self.old self.new chars.now at) }
-        ensures err { IfErr result (λ e. Denies e (CanRead self.old (drop at chars.now))) }
+        ensures err { IfErr result (Refuses self.old (drop at chars.now)) }
     {
         let (end, item) = read_atom(self.alloc, chars, at, self.here.flags)?;
         self.add(item)?;

@@ -1,9 +1,11 @@
 //! Trees and refusals of single patterns, and patterns of hostile size.
+mod limits;
 mod refusals;
 mod sizes;
 mod trees;
+mod verbose_mode;
 
-use crate::{ClassRange, Flags, Hir};
+use crate::{ClassRange, Config, Flags, Hir};
 use std::alloc::Global;
 use std::process::Abort;
 use std::test::Fail;
@@ -24,6 +26,14 @@ fn write_tree(out: &mut String, hir: &Hir) -> Result<(), Fail> {
         } => {
             write_bounds(out, *min, *max)?;
             out.push_str(if *greedy { ",greedy," } else { ",lazy," })?;
+            write_tree(out, sub)?;
+            out.push(')')?;
+        }
+        Hir::Capture { index, name, sub } => {
+            write!(out, "group({index},")?;
+            if let Some(name) = name {
+                write!(out, "{name},")?;
+            }
             write_tree(out, sub)?;
             out.push(')')?;
         }
@@ -73,9 +83,9 @@ fn write_bounds(out: &mut String, min: u32, max: Option<u32>) -> Result<(), Fail
 }
 
 /// The tree of a pattern, or the text of the refusal.
-fn tree_text(alloc: Global, flags: Flags, pattern: &str) -> Result<String, Fail> {
+fn tree_text(alloc: Global, config: Config, pattern: &str) -> Result<String, Fail> {
     let mut out = String::new(alloc);
-    match Hir::parse(alloc, flags, pattern) {
+    match Hir::parse(alloc, config, pattern) {
         Ok(hir) => write_tree(&mut out, &hir)?,
         Err(e) => write!(out, "{e}")?,
     }
@@ -90,10 +100,24 @@ fn expect_rows(
     rows: &[(&str, &str)],
 ) -> Result<(), Fail> {
     for (pattern, want) in rows {
-        let text = tree_text(alloc, flags, pattern)?;
+        let text = tree_text(alloc, within(flags, 50), pattern)?;
         assert_eq!(rt; text.as_str(), *want, "at {pattern}");
     }
     Ok(())
+}
+
+/// These flags and this limit on nesting.
+fn within(flags: Flags, nest_limit: u32) -> Config {
+    Config { flags, nest_limit }
+}
+
+/// A pattern of so many times the piece.
+fn many(alloc: Global, piece: &str, n: usize) -> Result<String, Fail> {
+    let mut pattern = String::new(alloc);
+    for _ in 0..n {
+        pattern.push_str(piece)?;
+    }
+    Ok(pattern)
 }
 
 /// The flags of verbose mode alone.

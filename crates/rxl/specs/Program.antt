@@ -1,7 +1,8 @@
 -- What the program tells by its exit status.
 use Rattle.std.specs.Prelude.{◌≡◌, ◌↔◌, ℕ, Bool, true, false, List, [], ◌∷◌, Option, IfSome, IsUtf8, map, codes}
 use Rattle.std.specs.Borrow.{Bor}
-use Rattle.regex_lite.specs.Expression.{IsWellFormed, MatchesIn, default_expression}
+use Rattle.regex_lite.specs.Settings.{default_settings}
+use Rattle.regex_lite.specs.Expression.{IsAccepted, IsWellFormed, MatchesIn, default_expression}
 
 -- the exit status of a run that found a match, or found that there is none
 abbrev pub status_of : (found : Bool) → ℕ
@@ -18,6 +19,8 @@ pub record IsPatternAnswered (pattern : List ℕ) (input : Option (List ℕ)) (s
     : Type 0 where
   -- the grammar gives the pattern a tree
   pub well_formed : IsWellFormed (default_expression pattern)
+  -- and no limit is passed
+  pub accepted : IsAccepted (default_settings pattern)
   -- the input is a text
   pub is_text : IfSome input IsUtf8
   -- status 0 is a match

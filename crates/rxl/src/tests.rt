@@ -3,6 +3,7 @@ use crate::program::run;
 use std::io;
 use std::io::Read;
 use std::process::Abort;
+use std::test::Fail;
 
 const USAGE: &str = "usage: rxl is-match|find|captures|split|replace|escape PATTERN [TEXT]\n";
 
@@ -48,7 +49,7 @@ fn unreadable() -> Broken {
 }
 
 /// A pattern, standard input, and the status.
-const ROWS: [(&str, &str, u8); 9] = [
+const ROWS: [(&str, &str, u8); 11] = [
     ("samwise|sam", "samwise", 0),
     ("samwise|sam", "frodo", 1),
     ("", "", 0),
@@ -58,6 +59,8 @@ const ROWS: [(&str, &str, u8); 9] = [
     ("a??b", "b", 0),
     ("a??b", "a", 1),
     ("]}", "x]}", 0),
+    ("^(?<n>a){2}$", "aa", 0),
+    ("^(?<n>a){2}$", "a", 1),
 ];
 
 #[test]
@@ -84,6 +87,16 @@ fn refused_patterns(rt: HostRuntime) {
     expect(&rt, &["is-match", "a)"], &mut unreadable(), 2, report);
     let report = "found open group without closing ')'\n";
     expect(&rt, &["is-match", "(?:a"], &mut unreadable(), 2, report);
+}
+
+/// So is one that nests deeper than 50.
+#[test]
+fn nesting(rt: HostRuntime) -> Result<(), Fail> {
+    let pattern = "(".repeat(rt.alloc(), 51)?;
+    let args = ["is-match", pattern.as_str()];
+    let report = "pattern has too much nesting\n";
+    expect(&rt, &args, &mut unreadable(), 2, report);
+    Ok(())
 }
 
 #[test]

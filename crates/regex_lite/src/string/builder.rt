@@ -1,12 +1,11 @@
 //! The settings under which a pattern is built.
-ghost use Rattle.std.specs.Prelude.{◌≡◌, IfOk, IfErr};
+ghost use Rattle.std.specs.Prelude.{◌≡◌, ◌-◌, ◌^◌, min, IfOk, IfErr};
 ghost use Rattle.regex_lite_syntax.specs.Errors.{out_of_memory};
-ghost use Rattle.regex_lite_syntax.specs.Refusals.{Denies};
 ghost use Rattle.regex_lite.specs.Settings.{default_settings};
-ghost use Rattle.regex_lite.specs.Expression.{expression_of, IsWellFormed};
+ghost use Rattle.regex_lite.specs.Expression.{expression_of, IsAccepted, IsRefusal};
 
 use crate::string::regex::Regex;
-use regex_lite_syntax::{Error, Flags};
+use regex_lite_syntax::{Config, Error, Flags};
 use std::alloc::Global;
 use std::marker::Model;
 
@@ -148,20 +147,69 @@ impl RegexBuilder {
         self
     }
 
+    /// Whether white space and comments are left out of the pattern: the flag `x`.
+    ///
+    /// White space then stands for itself only where it is escaped, and so does `#`, which begins a
+    /// comment that ends with the next line feed. Both are left out inside a class in brackets too.
+    ///
+    /// ```
+    /// let mut builder = RegexBuilder::new(alloc, "sam (?:wise)?  # of many")?;
+    /// let regex = builder.ignore_whitespace(true).build()?;
+    /// assert!(rt; regex.is_match("samwise")?);
+    /// ```
+    ///
+    /// The test `tests::examples::verbose` runs this example.
+    pub fn ignore_whitespace(&mut self, yes: bool) -> &mut RegexBuilder
+        ensures same_reference { result.ghost_name ≡ self.entry.ghost_name }
+        ensures value { result.now ≡
+            record self.old { flags = record self.old.flags { ignore_whitespace = yes } } }
+    {
+        self.flags.ignore_whitespace = yes;
+        self
+    }
+
+    /// How deep a pattern may nest.
+    ///
+    /// The limit bounds both how many groups stand in one another and how many nodes of the
+    /// pattern's tree stand in one another below its root. With 0 a pattern may be one character,
+    /// class or look, or empty. A limit above 2^32 - 2 counts as 2^32 - 2.
+    ///
+    /// ```
+    /// let mut builder = RegexBuilder::new(alloc, "(?:a|(?:b|c+))")?;
+    /// assert!(rt; builder.nest_limit(2).build().is_err());
+    /// assert!(rt; builder.nest_limit(3).build()?.is_match("c")?);
+    /// ```
+    ///
+    /// The test `tests::examples::depth` runs this example.
+    pub fn nest_limit(&mut self, limit: u32) -> &mut RegexBuilder
+        ensures same_reference { result.ghost_name ≡ self.entry.ghost_name }
+        ensures value { result.now ≡ record self.old { nest_limit = min limit (2 ^ 32 - 2) } }
+    {
+        self.nest_limit = limit.min(u32::MAX - 1);
+        self
+    }
+
     /// The regex of the pattern. The builder can build again.
     ///
-    /// Neither limit is tested yet.
+    /// The size limit isn't tested yet.
     ///
     /// # Errors
     ///
-    /// `Syntax` where the grammar gives the pattern no tree, and `Memory` where a growth is
-    /// refused.
+    /// `Syntax` where the grammar gives the pattern no tree, `Nesting` where the pattern nests
+    /// deeper than the nest limit, `Groups` where it has more capture groups than can be numbered,
+    /// and `Memory` where a growth is refused.
+    ///
+    /// Reading stops at the first fault. So a pattern without a tree can also be refused by
+    /// `Nesting` or `Groups`, but only if it holds so many `(` that it could pass that limit.
     pub fn build(&self) -> Result<Regex, Error>
         ensures ok { IfOk result (λ regex. regex ≡ expression_of self.now) }
-        ensures well_formed { IfOk result (λ regex. IsWellFormed regex) }
-        ensures refused { IfErr result
-            (λ error. Denies error (IsWellFormed (expression_of self.now))) }
+        ensures well_formed { IfOk result (λ _. IsAccepted self.now) }
+        ensures refused { IfErr result (λ error. IsRefusal self.now error) }
     {
-        Regex::build(self.alloc, self.flags, self.pattern.as_str())
+        let config = Config {
+            flags: self.flags,
+            nest_limit: self.nest_limit,
+        };
+        Regex::build(self.alloc, config, self.pattern.as_str())
     }
 }

@@ -1,12 +1,14 @@
 //! A regex, and what can be asked of it.
-ghost use Rattle.std.specs.Prelude.{◌≡◌, ◌↔◌, Some, IfOk, IfErr, IsTrue, chars};
-ghost use Rattle.regex_lite_syntax.specs.Errors.{out_of_memory};
-ghost use Rattle.regex_lite_syntax.specs.Refusals.{Denies};
-ghost use Rattle.regex_lite.specs.Expression.{IsWellFormed, MatchesIn, default_expression};
+ghost use Rattle.std.specs.Prelude.{◌≡◌, ◌↔◌, Some, IfOk, IfErr, IsTrue, chars, string_bytes};
+ghost use Rattle.regex_lite_syntax.specs.Errors.{kind_of, out_of_memory};
+ghost use Rattle.regex_lite_syntax.specs.Limits.{IsAdmitted, SaysOf};
+ghost use Rattle.regex_lite_syntax.specs.Tree.{Tree};
+ghost use Rattle.regex_lite.specs.Settings.{default_settings};
+ghost use Rattle.regex_lite.specs.Expression.{IsAccepted, IsRefusal, MatchesIn, default_expression};
 
 use crate::plain::has_match;
 use crate::string::builder::RegexBuilder;
-use regex_lite_syntax::{Error, Flags, Hir};
+use regex_lite_syntax::{Config, Error, Flags, Hir};
 use std::alloc::{AllocError, Global};
 use std::fmt;
 use std::marker::Model;
@@ -57,32 +59,96 @@ impl Regex {
     ///
     /// # Errors
     ///
-    /// `Syntax` where the grammar gives the pattern no tree, and `Memory` where a growth is
-    /// refused.
+    /// `Syntax` where the grammar gives the pattern no tree, `Nesting` where the pattern nests
+    /// deeper than 50, `Groups` where it has more capture groups than can be numbered, and `Memory`
+    /// where a growth is refused. [`RegexBuilder::build`] says more.
     pub fn new(alloc: Global, pattern: &str) -> Result<Regex, Error>
         ensures ok { IfOk result (λ regex. regex ≡ default_expression pattern.now) }
-        ensures well_formed { IfOk result (λ regex. IsWellFormed regex) }
+        ensures well_formed { IfOk result (λ _. IsAccepted (default_settings pattern.now)) }
         ensures refused { IfErr result
-            (λ error. Denies error (IsWellFormed (default_expression pattern.now))) }
+            (λ error. IsRefusal (default_settings pattern.now) error) }
     {
         RegexBuilder::new(alloc, pattern)?.build()
     }
 
-    /// The regex of a pattern under these flags.
-    pub(crate) fn build(alloc: Global, flags: Flags, pattern: &str) -> Result<Regex, Error>
-        ensures ok { IfOk result
-            (λ regex. regex ≡ record { pattern = pattern.now; flags = flags }) }
-        ensures well_formed { IfOk result (λ regex. IsWellFormed regex) }
-        ensures refused { IfErr result (λ error. Denies error
-            (IsWellFormed (record { pattern = pattern.now; flags = flags }))) }
+    /// The same as [`Regex::new`].
+    ///
+    /// ```
+    /// let regex = Regex::from_str(alloc, "(a)")?;
+    /// assert!(rt; regex.is_match("a")?);
+    /// ```
+    ///
+    /// The test `tests::examples::conversions` runs this example.
+    ///
+    /// # Errors
+    ///
+    /// Those of [`Regex::new`].
+    pub fn from_str(alloc: Global, s: &str) -> Result<Regex, Error>
+        ensures ok { IfOk result (λ regex. regex ≡ default_expression s.now) }
+        ensures well_formed { IfOk result (λ _. IsAccepted (default_settings s.now)) }
+        ensures refused { IfErr result (λ error. IsRefusal (default_settings s.now) error) }
     {
-        let hir = Hir::parse(alloc, flags, pattern)?;
+        Regex::new(alloc, s)
+    }
+
+    /// The same as [`Regex::new`].
+    ///
+    /// ```
+    /// let regex = Regex::try_from(alloc, "(a)")?;
+    /// assert!(rt; regex.is_match("a")?);
+    /// ```
+    ///
+    /// The test `tests::examples::conversions` runs this example.
+    ///
+    /// # Errors
+    ///
+    /// Those of [`Regex::new`].
+    pub fn try_from(alloc: Global, s: &str) -> Result<Regex, Error>
+        ensures ok { IfOk result (λ regex. regex ≡ default_expression s.now) }
+        ensures well_formed { IfOk result (λ _. IsAccepted (default_settings s.now)) }
+        ensures refused { IfErr result (λ error. IsRefusal (default_settings s.now) error) }
+    {
+        Regex::from_str(alloc, s)
+    }
+
+    /// The same as [`Regex::new`], for a pattern that is owned. A refused one is dropped.
+    ///
+    /// ```
+    /// let regex = Regex::try_from_string(alloc, String::from_str(alloc, "(a)")?)?;
+    /// assert!(rt; regex.is_match("a")?);
+    /// ```
+    ///
+    /// The test `tests::examples::conversions` runs this example.
+    ///
+    /// # Errors
+    ///
+    /// Those of [`Regex::new`].
+    pub fn try_from_string(alloc: Global, s: String) -> Result<Regex, Error>
+        ensures ok { IfOk result (λ regex. regex ≡ default_expression (string_bytes s)) }
+        ensures well_formed { IfOk result
+            (λ _. IsAccepted (default_settings (string_bytes s))) }
+        ensures refused { IfErr result
+            (λ error. IsRefusal (default_settings (string_bytes s)) error) }
+    {
+        Regex::new(alloc, s.as_str())
+    }
+
+    /// The regex of a pattern that is read under this configuration.
+    pub(crate) fn build(alloc: Global, config: Config, pattern: &str) -> Result<Regex, Error>
+        ensures ok { IfOk result
+            (λ regex. regex ≡ record { pattern = pattern.now; flags = config.flags }) }
+        ensures well_formed { IfOk result (λ _. (tree : Tree)
+            × IsAdmitted config.flags config.nest_limit (chars pattern.now) tree) }
+        ensures refused { IfErr result (λ error.
+            SaysOf config.flags config.nest_limit (chars pattern.now) (kind_of error)) }
+    {
+        let hir = Hir::parse(alloc, config, pattern)?;
         let pattern = String::from_str(alloc, pattern)?;
         let program = Rc::new(
             alloc,
             Program {
                 pattern,
-                flags,
+                flags: config.flags,
                 hir,
             },
         )?;

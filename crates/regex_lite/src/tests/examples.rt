@@ -42,12 +42,45 @@ fn every_line(rt: HostRuntime) -> Result<(), Fail> {
     Ok(())
 }
 
+/// At `RegexBuilder::ignore_whitespace`.
+#[test]
+fn verbose(rt: HostRuntime) -> Result<(), Fail> {
+    let alloc = rt.alloc();
+    let mut builder = RegexBuilder::new(alloc, "sam (?:wise)?  # of many")?;
+    let regex = builder.ignore_whitespace(true).build()?;
+    assert!(rt; regex.is_match("samwise")?);
+    Ok(())
+}
+
+/// At `RegexBuilder::nest_limit`.
+#[test]
+fn depth(rt: HostRuntime) -> Result<(), Fail> {
+    let alloc = rt.alloc();
+    let mut builder = RegexBuilder::new(alloc, "(?:a|(?:b|c+))")?;
+    assert!(rt; builder.nest_limit(2).build().is_err());
+    assert!(rt; builder.nest_limit(3).build()?.is_match("c")?);
+    Ok(())
+}
+
 /// At `Regex::new`.
 #[test]
 fn pattern(rt: HostRuntime) -> Result<(), Fail> {
     let alloc = rt.alloc();
     let regex = Regex::new(alloc, "a+")?;
     assert_eq!(rt; regex.as_str(), "a+");
+    Ok(())
+}
+
+/// At `Regex::from_str`, `Regex::try_from` and `Regex::try_from_string`.
+#[test]
+fn conversions(rt: HostRuntime) -> Result<(), Fail> {
+    let alloc = rt.alloc();
+    let regex = Regex::from_str(alloc, "(a)")?;
+    assert!(rt; regex.is_match("a")?);
+    let regex = Regex::try_from(alloc, "(a)")?;
+    assert!(rt; regex.is_match("a")?);
+    let regex = Regex::try_from_string(alloc, String::from_str(alloc, "(a)")?)?;
+    assert!(rt; regex.is_match("a")?);
     Ok(())
 }
 

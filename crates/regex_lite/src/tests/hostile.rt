@@ -1,4 +1,5 @@
-//! Patterns of a great size are read or refused, and nothing overflows.
+//! Patterns of a great size are refused, and nothing overflows.
+use crate::tests::expect_refusal;
 use crate::{ErrorKind, Regex};
 use std::test::Fail;
 
@@ -6,30 +7,39 @@ const MILLION: usize = 1_000_000;
 
 const DEEP: usize = 300_000;
 
+const TOO_DEEP: &str = "pattern has too much nesting";
+
 #[test]
 fn operators(rt: HostRuntime) -> Result<(), Fail> {
-    let mut pattern = String::from_str(rt.alloc(), "a")?;
-    pattern.push_str("+".repeat(rt.alloc(), MILLION)?.as_str())?;
-    let regex = Regex::new(rt.alloc(), pattern.as_str())?;
-    assert_eq!(rt; regex.as_str().len(), 1_000_001);
+    let alloc = rt.alloc();
+    for operator in ["+", "*"] {
+        let mut pattern = String::from_str(alloc, "a")?;
+        pattern.push_str(operator.repeat(alloc, MILLION)?.as_str())?;
+        let built = Regex::new(alloc, pattern.as_str());
+        expect_refusal(&rt, operator, built, ErrorKind::Nesting, TOO_DEEP)?;
+    }
     Ok(())
 }
 
 #[test]
 fn open_groups(rt: HostRuntime) -> Result<(), Fail> {
-    let pattern = "(?:".repeat(rt.alloc(), MILLION)?;
-    match Regex::new(rt.alloc(), pattern.as_str()) {
-        Ok(_) => assert!(rt; false, "it is a regex"),
-        Err(error) => assert_eq!(rt; error.kind(), ErrorKind::Syntax),
+    let alloc = rt.alloc();
+    for opening in ["(", "(?:", "(?i:"] {
+        let pattern = opening.repeat(alloc, MILLION)?;
+        let built = Regex::new(alloc, pattern.as_str());
+        expect_refusal(&rt, opening, built, ErrorKind::Nesting, TOO_DEEP)?;
     }
     Ok(())
 }
 
 #[test]
 fn nested_groups(rt: HostRuntime) -> Result<(), Fail> {
-    let mut pattern = "(?:".repeat(rt.alloc(), DEEP)?;
-    pattern.push_str(")".repeat(rt.alloc(), DEEP)?.as_str())?;
-    let regex = Regex::new(rt.alloc(), pattern.as_str())?;
-    assert_eq!(rt; regex.as_str().len(), 1_200_000);
+    let alloc = rt.alloc();
+    for opening in ["(", "(?:"] {
+        let mut pattern = opening.repeat(alloc, DEEP)?;
+        pattern.push_str(")".repeat(alloc, DEEP)?.as_str())?;
+        let built = Regex::new(alloc, pattern.as_str());
+        expect_refusal(&rt, opening, built, ErrorKind::Nesting, TOO_DEEP)?;
+    }
     Ok(())
 }

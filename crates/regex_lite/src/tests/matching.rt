@@ -3,7 +3,7 @@ use crate::RegexBuilder;
 use crate::tests::{Row, expect_rows};
 use std::test::Fail;
 
-const ROWS: [Row; 11] = [
+const ROWS: [Row; 13] = [
     ("samwise|sam", "samwise", true),
     ("samwise|sam", "frodo", false),
     ("", "", true),
@@ -15,6 +15,8 @@ const ROWS: [Row; 11] = [
     ("a??b", "a", false),
     ("]}", "x]}", true),
     ("]}", "x}]", false),
+    ("(?x)a b # c", "ab", true),
+    ("(?x)a b # c", "a b", false),
 ];
 
 #[test]

@@ -1,44 +1,54 @@
-//! Which patterns are refused, and with which text.
+//! Which patterns are refused by the grammar, and with which text.
+use crate::tests::expect_refusal;
 use crate::{ErrorKind, Regex, RegexBuilder};
 use std::test::Fail;
 
 const NOTHING_TO_REPEAT: &str = "uncounted repetition operator must be applied to a sub-expression";
 
+const NOTHING_TO_COUNT: &str = "counted repetition operator must be applied to a sub-expression";
+
 const NOT_OPENED: &str = "found closing ')' without matching '('";
 
 const NOT_CLOSED: &str = "found open group without closing ')'";
 
-const NOT_YET: &str = "not supported yet";
+const NO_NAME: &str = "invalid group name";
 
 /// A pattern, and the text of its refusal.
-const ROWS: [(&str, &str); 13] = [
+const ROWS: [(&str, &str); 18] = [
     ("*", NOTHING_TO_REPEAT),
     ("|?", NOTHING_TO_REPEAT),
     ("(?:+)", NOTHING_TO_REPEAT),
+    ("(?i)?", NOTHING_TO_REPEAT),
+    ("{2}", NOTHING_TO_COUNT),
     ("a)", NOT_OPENED),
     ("(?:a", NOT_CLOSED),
-    ("(?i)?", NOTHING_TO_REPEAT),
+    ("(a", NOT_CLOSED),
     ("\\x{D800}", "got invalid hexadecimal number in braces"),
     ("[[:loower:]]", "nested character classes are not supported"),
     ("[a--b]", "character class difference is not supported"),
-    ("a{2}", NOT_YET),
-    ("(a)", NOT_YET),
-    ("(?<n>a)", NOT_YET),
-    ("(?x)a", NOT_YET),
+    ("(?<¾>z)", NO_NAME),
+    ("(?<a☃>z)", NO_NAME),
+    ("(?<x>a){0}(?<x>b)", "duplicate capture group name"),
+    ("a{4294967296}", "got invalid decimal number"),
+    (
+        "a{2,1}",
+        "found counted repetition with a min bigger than its max",
+    ),
+    (
+        "\\b{foo}",
+        "special word boundary assertion is unrecognized",
+    ),
+    (
+        "\\b{",
+        "found start of special word boundary or repetition without an end",
+    ),
 ];
 
 #[test]
 fn rows(rt: HostRuntime) -> Result<(), Fail> {
-    let alloc = rt.alloc();
     for (pattern, text) in ROWS {
-        match Regex::new(alloc, pattern) {
-            Ok(_) => assert!(rt; false, "{pattern:?} is a regex"),
-            Err(error) => {
-                assert_eq!(rt; error.kind(), ErrorKind::Syntax, "{pattern:?}");
-                let written = format!(in alloc; "{error}")?;
-                assert_eq!(rt; written.as_str(), text, "{pattern:?}");
-            }
-        }
+        let built = Regex::new(rt.alloc(), pattern);
+        expect_refusal(&rt, pattern, built, ErrorKind::Syntax, text)?;
     }
     Ok(())
 }
@@ -47,9 +57,5 @@ fn rows(rt: HostRuntime) -> Result<(), Fail> {
 #[test]
 fn by_build(rt: HostRuntime) -> Result<(), Fail> {
     let builder = RegexBuilder::new(rt.alloc(), "a)")?;
-    match builder.build() {
-        Ok(_) => assert!(rt; false, "it is a regex"),
-        Err(error) => assert_eq!(rt; error.kind(), ErrorKind::Syntax),
-    }
-    Ok(())
+    expect_refusal(&rt, "a)", builder.build(), ErrorKind::Syntax, NOT_OPENED)
 }

@@ -10,6 +10,7 @@ enum Flag {
     DotMatchesNewLine,
     Crlf,
     SwapGreed,
+    IgnoreWhitespace,
 }
 
 impl Flag {
@@ -21,6 +22,7 @@ impl Flag {
             Flag::DotMatchesNewLine => builder.dot_matches_new_line(yes),
             Flag::Crlf => builder.crlf(yes),
             Flag::SwapGreed => builder.swap_greed(yes),
+            Flag::IgnoreWhitespace => builder.ignore_whitespace(yes),
         };
     }
 
@@ -32,13 +34,14 @@ impl Flag {
             Flag::DotMatchesNewLine => 's',
             Flag::Crlf => 'R',
             Flag::SwapGreed => 'U',
+            Flag::IgnoreWhitespace => 'x',
         }
     }
 }
 
 /// A flag, a pattern, a haystack, and whether the one matches in the other with the flag and
 /// without it.
-const ROWS: [(Flag, &str, &str, bool, bool); 8] = [
+const ROWS: [(Flag, &str, &str, bool, bool); 11] = [
     (Flag::CaseInsensitive, "sam", "SAM", true, false),
     (Flag::CaseInsensitive, "[^s]", "S", false, true),
     (Flag::MultiLine, "^b", "a\nb", true, false),
@@ -47,6 +50,9 @@ const ROWS: [(Flag, &str, &str, bool, bool); 8] = [
     (Flag::Crlf, "a.b", "a\rb", false, true),
     (Flag::Crlf, "(?m)^b", "a\rb", true, false),
     (Flag::SwapGreed, "^a+b", "aab", true, true),
+    (Flag::IgnoreWhitespace, "a b # c", "ab", true, false),
+    (Flag::IgnoreWhitespace, "a b", "a b", false, true),
+    (Flag::IgnoreWhitespace, "#", "", true, false),
 ];
 
 /// Whether what the builder builds matches in the haystack.
@@ -100,9 +106,10 @@ fn chained(rt: HostRuntime) -> Result<(), Fail> {
         .dot_matches_new_line(true)
         .crlf(true)
         .swap_greed(true)
+        .ignore_whitespace(true)
         .build()?;
     assert!(rt; regex.is_match(HAYSTACK)?);
-    let inline = Regex::new(alloc, "(?imsRU)^sam.frodo$")?;
+    let inline = Regex::new(alloc, "(?imsRUx)^sam.frodo$")?;
     assert!(rt; inline.is_match(HAYSTACK)?);
     Ok(())
 }

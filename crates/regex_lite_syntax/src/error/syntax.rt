@@ -57,7 +57,6 @@ pub enum SyntaxFault {
     SpecialWordBoundaryUnclosed,
     SpecialWordBoundaryUnrecognized,
     SpecialWordOrRepetitionUnexpectedEof,
-    NotSupportedYet,
 }
 
 impl SyntaxFault {
@@ -172,7 +171,6 @@ impl SyntaxFault {
             SyntaxFault::SpecialWordOrRepetitionUnexpectedEof => {
                 "found start of special word boundary or repetition without an end"
             }
-            SyntaxFault::NotSupportedYet => "not supported yet",
         }
     }
 }

@@ -1,22 +1,23 @@
 //! Items that are no groups.
 ghost use Rattle.std.specs.Prelude.{◌≡◌, ◌<◌, ◌≤◌, drop, length, IfOk, IfErr};
 ghost use Rattle.regex_lite_syntax.specs.Text.{Text};
+ghost use Rattle.regex_lite_syntax.specs.Gaps.{EndsGap};
 ghost use Rattle.regex_lite_syntax.specs.Ranges.{AreRunsOf};
 ghost use Rattle.regex_lite_syntax.specs.Escapes.{one};
 ghost use Rattle.regex_lite_syntax.specs.Tree.{Tree};
-ghost use Rattle.regex_lite_syntax.specs.Atoms.{is_literal, dot, anchor, PieceTree, Atom};
+ghost use Rattle.regex_lite_syntax.specs.Atoms.{dot, anchor, PieceTree, Atom};
+ghost use Rattle.regex_lite_syntax.specs.Machine.{BeginsAtom};
 ghost use Rattle.regex_lite_syntax.specs.Refusals.{Denies};
 ghost use Rattle.regex_lite_syntax.specs.Pieces.{piece_of};
 ghost use Rattle.regex_lite_syntax.specs.Views.{tree_of};
 
 use crate::class::{Class, ClassRange};
-use crate::error::{Error, SyntaxFault};
+use crate::error::Error;
 use crate::flags::Flags;
 use crate::hir::Hir;
 use crate::hir::look::Look;
 use crate::parse::bracket::read_class;
 use crate::parse::escape::{Piece, read_escape};
-use crate::parse::gap::is_white_space_char;
 use std::alloc::{AllocError, Global};
 
 /// Reads the item that stands at the index, which is no group, and answers the index behind it.
@@ -26,7 +27,9 @@ pub(crate) fn read_atom(
     at: usize,
     flags: Flags,
 ) -> Result<(usize, Hir), Error>
-    requires { at < length chars.now }
+    requires inside { at < length chars.now }
+    requires past_gap { EndsGap flags.ignore_whitespace (drop at chars.now) }
+    requires begins { BeginsAtom (drop at chars.now) }
     ensures inside { IfOk result (λ r. (at < r.0) × (r.0 ≤ length chars.now)) }
     ensures ok { IfOk result (λ r.
         Atom flags (drop at chars.now) (drop r.0 chars.now) (tree_of r.1)) }
@@ -52,19 +55,7 @@ pub(crate) fn read_atom(
             let (end, class) = read_class(alloc, chars, at, flags.case_insensitive, verbose)?;
             Ok((end, Hir::Class(class)))
         }
-        c if is_literal_char(c, verbose) => Ok((at + 1, char_tree(alloc, flags, c)?)),
-        _ => Err(SyntaxFault::NotSupportedYet.into()),
-    }
-}
-
-/// Whether the character stands for itself.
-fn is_literal_char(c: char, verbose: bool) -> bool
-    ensures { result ≡ is_literal verbose c }
-{
-    match c {
-        '\\' | '.' | '^' | '$' | '(' | ')' | '[' | '|' | '?' | '*' | '+' | '{' => false,
-        '#' => !verbose,
-        _ => !(verbose && is_white_space_char(c)),
+        c => Ok((at + 1, char_tree(alloc, flags, c)?)),
     }
 }
 

@@ -1,14 +1,18 @@
 //! Groups and directives.
-ghost use Rattle.std.specs.Prelude.{◌≡◌, ◌<◌, ◌+◌, ◌∷◌, [], true, false, drop, length, IfOk, IfErr, OnOk};
-ghost use Rattle.regex_lite_syntax.specs.Text.{open_paren, close_paren};
-ghost use Rattle.regex_lite_syntax.specs.Refusals.{Denies};
-ghost use Rattle.regex_lite_syntax.specs.ParserStates.{Advances, CanRead, Opens, Closes, Directs};
+ghost use Rattle.std.specs.Prelude.{◌≡◌, ◌<◌, ◌≤◌, ◌+◌, ◌∷◌, [], true, false, drop, length, option_map, IfOk, IfErr, OnOk};
+ghost use Rattle.regex_lite_syntax.specs.Errors.{kind_of};
+ghost use Rattle.regex_lite_syntax.specs.Text.{Text, open_paren, close_paren, question_mark};
+ghost use Rattle.regex_lite_syntax.specs.Gaps.{WholeGap};
+ghost use Rattle.regex_lite_syntax.specs.GroupNames.{NameOpening, Named};
+ghost use Rattle.regex_lite_syntax.specs.Views.{text_of_string};
+ghost use Rattle.regex_lite_syntax.specs.ParserStates.{group_kind, Advances, Refuses, NumberSays, Opens, OpensCapture, Closes, Directs};
 
 use crate::error::{Error, SyntaxFault};
 use crate::flags::Flags;
 use crate::parse::Parser;
 use crate::parse::letters::read_head;
-use crate::parse::level::Level;
+use crate::parse::level::{GroupKind, Level, OpenGroup};
+use crate::parse::name::{is_among, read_name, skip_name_opening, string_of};
 use crate::parse::read::is_at;
 use std::alloc::AllocError;
 use std::mem;
@@ -19,12 +23,63 @@ impl Parser {
         requires inside { at < length chars.now }
         requires begins { drop at chars.now ≡ open_paren ∷ drop (at + 1) chars.now }
         ensures ok { IfOk result (Advances self.old self.new chars.now at) }
-        ensures err { IfErr result (λ e. Denies e (CanRead self.old (drop at chars.now))) }
+        ensures err { IfErr result (Refuses self.old (drop at chars.now)) }
     {
-        let question = self.skip_gap(chars, at + 1);
-        if !is_at(chars, question, '?') {
-            return Err(SyntaxFault::NotSupportedYet.into());
+        let first = self.skip_gap(chars, at + 1);
+        if !is_at(chars, first, '?') {
+            self.open_capture(None)?;
+            return Ok(at + 1);
         }
+        match skip_name_opening(chars, first) {
+            Some(name) => self.read_named_head(chars, at, first, name),
+            None => self.read_flags_head(chars, at, first),
+        }
+    }
+
+    /// A `(` stands at the index, and past the gap, from `first` on, what opens a name.
+    fn read_named_head(
+        &mut self,
+        chars: &[char],
+        at: usize,
+        first: usize,
+        start: usize,
+    ) -> Result<usize, Error>
+        requires inside { (at < first) × (first < start) × (start ≤ length chars.now) }
+        requires begins { drop at chars.now ≡ open_paren ∷ drop (at + 1) chars.now }
+        requires gap { WholeGap self.old.here.flags.ignore_whitespace
+            (drop (at + 1) chars.now) (drop first chars.now) }
+        requires opens { NameOpening (drop first chars.now) (drop start chars.now) }
+        ensures ok { IfOk result (Advances self.old self.new chars.now at) }
+        ensures err { IfErr result (Refuses self.old (drop at chars.now)) }
+    {
+        let end = read_name(chars, start)?;
+        let letters = &chars[start..end - 1];
+        let name = string_of(self.alloc, letters)?;
+        if is_among(&name, &self.names) {
+            return Err(SyntaxFault::DuplicateCaptureName.into());
+        }
+        self.names.push(string_of(self.alloc, letters)?)?;
+        self.open_capture(Some(name))?;
+        Ok(end)
+    }
+
+    /// A `(` stands at the index, and past the gap, at `question`, a `?` that opens no name.
+    fn read_flags_head(
+        &mut self,
+        chars: &[char],
+        at: usize,
+        question: usize,
+    ) -> Result<usize, Error>
+        requires inside { (at < question) × (question < length chars.now) }
+        requires begins { drop at chars.now ≡ open_paren ∷ drop (at + 1) chars.now }
+        requires gap { WholeGap self.old.here.flags.ignore_whitespace
+            (drop (at + 1) chars.now) (drop question chars.now) }
+        requires question { drop question chars.now
+            ≡ question_mark ∷ drop (question + 1) chars.now }
+        requires unnamed { (rest name : Text) → Named (drop question chars.now) rest name → ⊥ }
+        ensures ok { IfOk result (Advances self.old self.new chars.now at) }
+        ensures err { IfErr result (Refuses self.old (drop at chars.now)) }
+    {
         if is_at(chars, question + 1, ')') {
             return Err(SyntaxFault::EmptyFlags.into());
         }
@@ -33,7 +88,7 @@ impl Parser {
             self.set_flags(flags);
             return Ok(end + 1);
         }
-        self.open(flags)?;
+        self.open(GroupKind::NonCapturing, flags)?;
         Ok(end + 1)
     }
 
@@ -42,7 +97,7 @@ impl Parser {
         requires inside { at < length chars.now }
         requires begins { drop at chars.now ≡ close_paren ∷ drop (at + 1) chars.now }
         ensures ok { IfOk result (Advances self.old self.new chars.now at) }
-        ensures err { IfErr result (λ e. Denies e (CanRead self.old (drop at chars.now))) }
+        ensures err { IfErr result (Refuses self.old (drop at chars.now)) }
     {
         if !self.close()? {
             return Err(SyntaxFault::UnopenedGroup.into());
@@ -50,13 +105,28 @@ impl Parser {
         Ok(at + 1)
     }
 
+    /// A group with the next number begins.
+    fn open_capture(&mut self, name: Option<String>) -> Result<(), Error>
+        ensures ok { OnOk result
+            (OpensCapture self.old self.new (option_map text_of_string name)) }
+        ensures err { IfErr result (λ e. NumberSays self.old (kind_of e)) }
+    {
+        let Some(index) = self.groups.checked_add(1) else {
+            return Err(Error::groups());
+        };
+        self.groups = index;
+        let flags = self.here.flags;
+        self.open(GroupKind::Capturing { index, name }, flags)?;
+        Ok(())
+    }
+
     /// A group begins, in which these flags hold.
-    fn open(&mut self, flags: Flags) -> Result<(), AllocError>
-        ensures { OnOk result (Opens self.old self.new flags) }
+    fn open(&mut self, kind: GroupKind, flags: Flags) -> Result<(), AllocError>
+        ensures { OnOk result (Opens self.old self.new (group_kind kind) flags) }
     {
         let inner = Level::new(self.alloc, flags);
         let outer = mem::replace(&mut self.here, inner);
-        self.below.push(outer)?;
+        self.below.push(OpenGroup { kind, outer })?;
         Ok(())
     }
 
@@ -67,9 +137,10 @@ impl Parser {
     {
         match self.below.pop() {
             None => Ok(false),
-            Some(outer) => {
+            Some(OpenGroup { kind, outer }) => {
                 let inner = mem::replace(&mut self.here, outer);
-                self.here.items.push(inner.into_tree()?)?;
+                let body = inner.into_tree()?;
+                self.here.items.push(kind.into_tree(self.alloc, body)?)?;
                 Ok(true)
             }
         }

@@ -35,14 +35,8 @@ fn other_head(chars: &[char], at: usize) -> Option<SyntaxFault>
     if at == chars.len() {
         return Some(SyntaxFault::UnclosedGroupQuestion);
     }
-    let next = at + 1;
     match chars[at] {
         '=' | '!' => Some(SyntaxFault::LookUnsupported),
-        '<' if is_at(chars, next, '=') || is_at(chars, next, '!') => {
-            Some(SyntaxFault::LookUnsupported)
-        }
-        '<' => Some(SyntaxFault::NotSupportedYet),
-        'P' if is_at(chars, next, '<') => Some(SyntaxFault::NotSupportedYet),
         _ => None,
     }
 }
@@ -133,8 +127,11 @@ fn with_letter(flags: Flags, set: bool, c: char) -> Result<Flags, SyntaxFault>
             ..flags
         }),
         'R' => Ok(Flags { crlf: set, ..flags }),
+        'x' => Ok(Flags {
+            ignore_whitespace: set,
+            ..flags
+        }),
         'u' => Ok(flags),
-        'x' => Err(SyntaxFault::NotSupportedYet),
         _ => Err(SyntaxFault::FlagUnrecognized),
     }
 }

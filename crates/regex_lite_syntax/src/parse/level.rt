@@ -1,12 +1,44 @@
 //! What has been read of one group.
 ghost use Rattle.std.specs.Prelude.{◌≡◌, ◌++◌, ◌∷◌, [], map, IfOk, OnOk};
 ghost use Rattle.regex_lite_syntax.specs.Tree.{sequence_of, choice_of};
+ghost use Rattle.regex_lite_syntax.specs.Groups.{group_tree};
 ghost use Rattle.regex_lite_syntax.specs.Views.{tree_of};
+ghost use Rattle.regex_lite_syntax.specs.ParserStates.{group_kind};
 
 use crate::flags::Flags;
 use crate::hir::Hir;
 use std::alloc::{AllocError, Global};
 use std::mem;
+
+/// What a group makes of its alternatives.
+#[derive(Drop)]
+pub(crate) enum GroupKind {
+    /// They stand for themselves.
+    NonCapturing,
+    /// The group has this index, and this name if it has one.
+    Capturing { index: u32, name: Option<String> },
+}
+
+impl GroupKind {
+    /// The tree of a group with these alternatives.
+    pub(crate) fn into_tree(self, alloc: Global, body: Hir) -> Result<Hir, AllocError>
+        ensures { IfOk result (λ hir.
+            tree_of hir ≡ group_tree (group_kind self) (tree_of body)) }
+    {
+        match self {
+            GroupKind::NonCapturing => Ok(body),
+            GroupKind::Capturing { index, name } => Hir::capture(alloc, index, name, body),
+        }
+    }
+}
+
+/// A group that is open.
+#[derive(Drop)]
+pub(crate) struct OpenGroup {
+    pub(crate) kind: GroupKind,
+    /// What had been read outside it, where it began.
+    pub(crate) outer: Level,
+}
 
 /// The branches of a group that have ended, and the items of the one under way.
 #[derive(Drop)]

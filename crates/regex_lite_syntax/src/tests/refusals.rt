@@ -1,5 +1,5 @@
 //! The refusals of patterns.
-use super::{expect_rows, verbose};
+use super::expect_rows;
 use crate::Flags;
 use std::test::Fail;
 
@@ -14,11 +14,16 @@ fn groups_and_operators(rt: HostRuntime) -> Result<(), Fail> {
         ("+", no_operand),
         ("|?", no_operand),
         ("(?:*)", no_operand),
+        ("(+)", no_operand),
         ("(?i)*", no_operand),
+        ("(?:a|+)", no_operand),
         ("a|(?i)*", no_operand),
         (")", unopened),
         ("a)", unopened),
         ("(?i))", unopened),
+        ("(", unclosed),
+        ("(a", unclosed),
+        ("(?<a>b", unclosed),
         ("(?:a", unclosed),
         ("(?i:", unclosed),
         ("(?:(?:)", unclosed),
@@ -59,25 +64,72 @@ fn flags(rt: HostRuntime) -> Result<(), Fail> {
 }
 
 #[test]
-fn not_supported_yet(rt: HostRuntime) -> Result<(), Fail> {
-    let patterns = [
-        "a{2}", "{2}", "(", "(a)", "(|a)", "( ?:a)", "(?P<a>b)", "(?<a>b)", "(?<", "(?x)a",
-        "(?x:a)", "(?-x)",
+fn names(rt: HostRuntime) -> Result<(), Fail> {
+    let duplicate = "duplicate capture group name";
+    let missing = "expected capture group name, but got end of pattern";
+    let invalid = "invalid group name";
+    let unclosed = "expected end of capture group name, but got end of pattern";
+    let empty = "empty capture group names are not allowed";
+    let rows = [
+        ("(?P<a>y)(?P<a>z)", duplicate),
+        ("(?<x>a){0}(?<x>b)", duplicate),
+        ("(?<a>(?P<a>z))", duplicate),
+        ("(?<", missing),
+        ("(?P<", missing),
+        ("(?<1abc>z)", invalid),
+        ("(?<a b>z)", invalid),
+        ("(?<¾>z)", invalid),
+        ("(?<¾a>z)", invalid),
+        ("(?<a☃>z)", invalid),
+        ("(?< a>z)", invalid),
+        ("(?<foo", unclosed),
+        ("(?<>z)", empty),
+        ("(?P<>z)", empty),
     ];
-    for pattern in patterns {
-        expect_rows(
-            &rt,
-            rt.alloc(),
-            Flags::default(),
-            &[(pattern, "not supported yet")],
-        )?;
-    }
-    expect_rows(
-        &rt,
-        rt.alloc(),
-        verbose(),
-        &[("(? :a)", "unrecognized inline flag")],
-    )
+    expect_rows(&rt, rt.alloc(), Flags::default(), &rows)
+}
+
+#[test]
+fn counted_operators(rt: HostRuntime) -> Result<(), Fail> {
+    let no_operand = "counted repetition operator must be applied to a sub-expression";
+    let no_digits = "expected decimal number, but found no digits";
+    let no_number = "got invalid decimal number";
+    let no_brace = "expected closing brace for counted repetition, but got something else";
+    let rows = [
+        ("{5}", no_operand),
+        ("({5})", no_operand),
+        ("(?i){5}", no_operand),
+        ("a|{5}", no_operand),
+        ("{", no_operand),
+        ("a{}", no_digits),
+        ("a{]}", no_digits),
+        ("a{,5}", no_digits),
+        ("a{5, }", no_digits),
+        ("a{999999999999999}", no_number),
+        ("a{4294967296}", no_number),
+        ("a{1,4294967296}", no_number),
+        ("a{", "found unclosed counted repetition operator"),
+        (
+            "a{5",
+            "found incomplete and unclosed counted repetition operator",
+        ),
+        (
+            "a{5,",
+            "found counted repetition operator with a comma that is unclosed",
+        ),
+        (
+            "a{5,6",
+            "found counted repetition with min and max that is unclosed",
+        ),
+        ("a{5,6Z", no_brace),
+        ("a{5Z}", no_brace),
+        ("a{5 6}", no_brace),
+        (
+            "a{6,5}",
+            "found counted repetition with a min bigger than its max",
+        ),
+    ];
+    expect_rows(&rt, rt.alloc(), Flags::default(), &rows)
 }
 
 #[test]
@@ -170,20 +222,4 @@ fn classes(rt: HostRuntime) -> Result<(), Fail> {
         ),
     ];
     expect_rows(&rt, rt.alloc(), Flags::default(), &rows)
-}
-
-#[test]
-fn verbose_mode(rt: HostRuntime) -> Result<(), Fail> {
-    let after_dash = "non-empty character class has no closing bracket after dash";
-    let rows = [
-        ("[a ", "non-empty character class has no closing bracket"),
-        ("[-#]", after_dash),
-        ("[a- ", after_dash),
-        ("[   ", "found unclosed character class"),
-        (
-            "\\b{ ",
-            "found start of special word boundary or repetition without an end",
-        ),
-    ];
-    expect_rows(&rt, rt.alloc(), verbose(), &rows)
 }

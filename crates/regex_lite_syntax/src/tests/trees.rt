@@ -1,5 +1,5 @@
 //! The trees of patterns.
-use super::{expect_rows, verbose};
+use super::expect_rows;
 use crate::Flags;
 use std::test::Fail;
 
@@ -81,23 +81,58 @@ fn escapes_and_classes(rt: HostRuntime) -> Result<(), Fail> {
 }
 
 #[test]
-fn verbose_mode(rt: HostRuntime) -> Result<(), Fail> {
+fn groups(rt: HostRuntime) -> Result<(), Fail> {
     let rows = [
-        (" a # b\n c\u{2028}", "cat(a,c)"),
-        ("a #", "a"),
-        ("# )", "empty"),
-        ("a +", "rep(1,inf,greedy,a)"),
-        ("a??", "rep(0,1,lazy,a)"),
-        ("a? ?", "rep(0,1,greedy,rep(0,1,greedy,a))"),
-        ("a | #", "alt(a,empty)"),
-        ("(   ?:  a )", "a"),
-        ("( #\n?i) a ( ?-i: a ) ", "cat(set(41,61),a)"),
-        ("\\x { 53 }", "S"),
-        ("\\ ", " "),
-        ("[ - a]", "set(2D,61)"),
-        ("[ ] a]", "set(5D,61)"),
-        ("[ ^  a]", "set(0-60,62-10FFFF)"),
-        ("[ / - ]", "set(2D,2F)"),
+        ("(a)", "group(1,a)"),
+        ("()", "group(1,empty)"),
+        ("(|a)", "group(1,alt(empty,a))"),
+        (
+            "(ax|(by|(cz)))",
+            "group(1,alt(cat(a,x),group(2,alt(cat(b,y),group(3,cat(c,z))))))",
+        ),
+        ("(a)(?:(b))(c)", "cat(group(1,a),group(2,b),group(3,c))"),
+        ("(a){0}(b)", "cat(empty,group(2,b))"),
+        ("(?<a[1]>z)", "group(1,a[1],z)"),
+        ("(?P<a.1>z)", "group(1,a.1,z)"),
+        ("(?<_>z)", "group(1,_,z)"),
+        ("(?<名字>z)", "group(1,名字,z)"),
+        ("(?<a¾>z)", "group(1,a¾,z)"),
+        ("(?<a>y)(?<b>z)", "cat(group(1,a,y),group(2,b,z))"),
+        (
+            "(?<a>(?<b>z))*",
+            "rep(0,inf,greedy,group(1,a,group(2,b,z)))",
+        ),
+        ("a((?i)a)a", "cat(a,group(1,set(41,61)),a)"),
+        (
+            "(a|ab|c|bcd){4,10}(d*)",
+            "cat(rep(4,10,greedy,group(1,alt(a,cat(a,b),c,cat(b,c,d)))),\
+            group(2,rep(0,inf,greedy,d)))",
+        ),
     ];
-    expect_rows(&rt, rt.alloc(), verbose(), &rows)
+    expect_rows(&rt, rt.alloc(), Flags::default(), &rows)
+}
+
+#[test]
+fn counted_operators(rt: HostRuntime) -> Result<(), Fail> {
+    let rows = [
+        ("a{5}", "rep(5,5,greedy,a)"),
+        ("a{5}?", "rep(5,5,lazy,a)"),
+        ("a{5,}", "rep(5,inf,greedy,a)"),
+        ("a{5,9}?", "rep(5,9,lazy,a)"),
+        ("^a{ 5 , 9 }$", "cat(Start,rep(5,9,greedy,a),End)"),
+        ("a{0}", "empty"),
+        ("a{0,0}?", "empty"),
+        ("a{1}", "a"),
+        ("a{1,1}?", "a"),
+        ("a{0,1}", "rep(0,1,greedy,a)"),
+        ("a{007}", "rep(7,7,greedy,a)"),
+        ("a{4294967295}", "rep(4294967295,4294967295,greedy,a)"),
+        ("a{2}{3}", "rep(3,3,greedy,rep(2,2,greedy,a))"),
+        ("a{2}??", "rep(0,1,greedy,rep(2,2,lazy,a))"),
+        ("a{2} ?", "cat(rep(2,2,greedy,a),rep(0,1,greedy, ))"),
+        ("(?U)a{2,3}", "rep(2,3,lazy,a)"),
+        ("\\b{5}", "rep(5,5,greedy,Word)"),
+        ("ab{2}", "cat(a,rep(2,2,greedy,b))"),
+    ];
+    expect_rows(&rt, rt.alloc(), Flags::default(), &rows)
 }

@@ -19,7 +19,7 @@ fn read(
 ) -> Result<(usize, Class), Error> {
     let chars: Vec<char> = pattern.chars().collect(alloc)?;
     if !is_at(&chars, 0, '[') {
-        return Err(SyntaxFault::NotSupportedYet.into());
+        return Err(SyntaxFault::ClassUnclosed.into());
     }
     read_class(alloc, &chars, 0, insensitive, verbose)
 }

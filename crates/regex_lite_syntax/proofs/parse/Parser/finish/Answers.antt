@@ -1,13 +1,28 @@
 use Rattle.std.proofs.Common.{sym, ◌∙◌, ap, map, reverse}
-use Rattle.std.proofs.lemmas.Bool.{eqb-true}
+use Rattle.std.proofs.lemmas.Bool.{both_ways, eqb-true}
+use Rattle.regex_lite_syntax.specs.Views.{tree_of}
 use Rattle.regex_lite_syntax.specs.ParserStates.{state, frame_of}
 use Rattle.regex_lite_syntax.proofs.States.{none_left}
 use Rattle.regex_lite_syntax.proofs.parse.Parser.finish.Goals as goal
 
 pub returns-clause-ok : goal.returns-clause-ok
 unfolding state
-returns-clause-ok c t d =
+returns-clause-ok c =
+    let below = c.args.self.below in
+    let none = none_left below.items
+    (sym below.ok.0 ∙ eqb-true _ 0 (sym c.is_empty.ensures ∙ c.if-not-is_empty.false)) in (
+      λ t d. (ap (λ groups. reverse (map frame_of groups)) none, c.in_ok-hir.ensures),
+      λ deep. both_ways _ c.if-is_deeper_than.false (c.is_deeper_than.ensures.1 deep),
+    )
+
+pub returns-then-is_deeper_than-clause-err : goal.returns-then-is_deeper_than-clause-err
+unfolding state
+returns-then-is_deeper_than-clause-err c =
     let below = c.args.self.below in
     let none = none_left below.items
     (sym below.ok.0 ∙ eqb-true _ 0 (sym c.is_empty.ensures ∙ c.if-not-is_empty.false)) in
-    (ap (λ levels. reverse (map frame_of levels)) none, c.in_ok-into_tree.ensures)
+    rw c.nesting.ensures (
+      tree_of c.in_ok-hir.hir,
+      (λ t d. (ap (λ groups. reverse (map frame_of groups)) none, c.in_ok-hir.ensures)),
+      c.is_deeper_than.ensures.0 c.if-is_deeper_than.true,
+    )

@@ -1,14 +1,11 @@
-use Rattle.std.proofs.Common.{sym, subst, arith, drop}
-use Rattle.regex_lite_syntax.specs.Refusals.{Denies}
-use Rattle.regex_lite_syntax.specs.ParserStates.{CanRead}
+use Rattle.std.proofs.Common.{arith, drop}
 use Rattle.regex_lite_syntax.proofs.ReadSteps.{reads_end, reads_no_end}
 use Rattle.regex_lite_syntax.proofs.parse.Parser.read_group_end.Goals as goal
 
 pub returns-then-not-branch-clause-err : goal.returns-then-not-branch-clause-err
 returns-then-not-branch-clause-err c =
     let t = drop c.args.at c.args.chars.now in
-    subst (λ e. Denies e (CanRead c.args.self.now t)) (sym c.into.ensures)
-    (reads_no_end c.args.self.now t _ c.requires.begins (c.in_ok-close.ensures.none c.if-not-branch.true))
+    rw c.into.ensures (reads_no_end c.args.self.now t _ c.requires.begins (c.in_ok-close.ensures.none c.if-not-branch.true))
 
 pub returns-clause-ok : goal.returns-clause-ok
 returns-clause-ok c =

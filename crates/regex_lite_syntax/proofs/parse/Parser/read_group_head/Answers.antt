@@ -1,78 +1,23 @@
-use Rattle.std.proofs.Common.{inl, inr, ◌⊎◌, ◌≡◌, ◌≢◌, Bool, ◌∷◌, ◌+◌, sym, ◌∙◌, ap, subst, refl, drop, arith}
+use Rattle.std.proofs.Common.{drop, ◌+◌, arith}
 use Rattle.std.proofs.lemmas.Result.{err_from_is_err_and}
-use Rattle.regex_lite_syntax.specs.Text.{Text, Begins, close_paren, question_mark, colon}
-use Rattle.regex_lite_syntax.specs.Gaps.{Gap, WholeGap}
-use Rattle.regex_lite_syntax.specs.FlagLetters.{FlagLetters}
-use Rattle.regex_lite_syntax.proofs.Denials.{denies_as}
-use Rattle.regex_lite_syntax.proofs.Indices.{drop_begins}
-use Rattle.regex_lite_syntax.proofs.ReadSteps.{reads_head, reads_directive, reads_no_question, reads_no_flags, reads_no_empty}
+use Rattle.regex_lite_syntax.proofs.Denials.{number_refuses}
+use Rattle.regex_lite_syntax.proofs.ReadHeads.{reads_numbered, begins_numbered}
 use Rattle.regex_lite_syntax.proofs.parse.Parser.read_group_head.Goals as goal
 
-pub returns-then-not-is_at-clause-err : goal.returns-then-not-is_at-clause-err
-returns-then-not-is_at-clause-err c =
-    rw c.into.ensures (reads_no_question c.args.self.now _ _ _ c.requires.begins c.skip_gap-question.ensures.gap
-    (c.is_at.ensures.absent c.if-not-is_at.true))
-
-pub returns-then-is_at-clause-err : goal.returns-then-is_at-clause-err
-returns-then-is_at-clause-err c =
-    let question = (c.is_at.ensures.there c.if-not-is_at.false).1 in
-    let closing = (c.is_at-2.ensures.there c.if-is_at.true).1 in
-    rw c.into-then-is_at.ensures (reads_no_empty c.args.self.now _ _ _ _ c.requires.begins
-    c.skip_gap-question.ensures.gap (question ∙ ap (λ t. question_mark ∷ t) closing))
-
-pub returns-in_err-end-clause-err : goal.returns-in_err-end-clause-err
-returns-in_err-end-clause-err c =
-    let question = (c.is_at.ensures.there c.if-not-is_at.false).1 in
+pub returns-in_err-open_capture-clause-err : goal.returns-in_err-open_capture-clause-err
+returns-in_err-open_capture-clause-err c =
     let left = err_from_is_err_and c.from_residual.result c.from_residual.ensures.1 in
-    rw (left.1, left.2) (denies_as c.in_err-end.field-0.0 _ _
-    (λ none. reads_no_flags c.args.self.now _ _ _ _ c.requires.begins c.skip_gap-question.ensures.gap question
-    (λ rest new flags. none (rest, new, flags)))
-    c.in_err-end.ensures.err)
+    let none = c.is_at.ensures.absent c.if-not-is_at.true in
+    rw (left.1, left.2) (number_refuses c.in_err-open_capture.field-0.0 c.args.self.now _ c.in_err-open_capture.ensures.err
+    (begins_numbered c.args.self.now _ _ _ c.requires.begins c.skip_gap-first.ensures.gap none))
 
--- past the gap after the `(` stands the `?`
-gap_to : (verbose : Bool) (t u first : Text) → WholeGap verbose t u → u ≡ question_mark ∷ first
-    → Gap verbose t (question_mark ∷ first)
-gap_to verbose t u first whole e = subst (λ v. Gap verbose t v) e whole.0
-
-pub returns-then-is_at-2-clause-ok : goal.returns-then-is_at-2-clause-ok
-returns-then-is_at-2-clause-ok c =
-    let p = c.args.self.now in
-    let end = c.in_ok-end.end in
-    let first = drop (c.skip_gap-question.result + 1) c.args.chars.now in
-    let rest = drop (end + 1) c.args.chars.now in
-    let question = (c.is_at.ensures.there c.if-not-is_at.false).1 in
-    let gap = gap_to p.here.flags.ignore_whitespace _ _ first c.skip_gap-question.ensures.gap question in
-    let closing = (c.is_at-3.ensures.there c.if-is_at-2.true).1 in
-    let letters = subst (λ t. FlagLetters p.here.flags first t c.in_ok-end.flags) closing c.in_ok-end.ensures.ok.letters in
-    let no_paren = c.is_at-2.ensures.absent c.if-is_at.false in
-    let some : first ≢ close_paren ∷ rest = λ e. no_paren (subst (λ t. Begins close_paren t) (sym e) refl) in
-    record {
-      further = omega (arith, c.skip_gap-question.ensures.inside, c.in_ok-end.ensures.inside);
-      in_pattern = omega (arith, c.in_ok-end.ensures.inside);
-      reads = reads_directive p c.set_flags.new.self _ _ first rest _ c.requires.begins gap some letters
-          c.set_flags.ensures;
-    }
-
--- what ends flags and is no `)` is a `:`
-colon_ends : (t : Text) → Begins colon t ⊎ Begins close_paren t → (Begins close_paren t → ⊥) → Begins colon t
-colon_ends t (inl is_colon) no_paren = is_colon
-colon_ends t (inr is_paren) no_paren = absurd (no_paren is_paren)
-
-pub returns-clause-ok : goal.returns-clause-ok
-returns-clause-ok c =
-    let p = c.args.self.now in
+pub returns-then-not-is_at-clause-ok : goal.returns-then-not-is_at-clause-ok
+returns-then-not-is_at-clause-ok c =
     let xs = c.args.chars.now in
-    let end = c.in_ok-end.end in
-    let first = drop (c.skip_gap-question.result + 1) xs in
-    let question = (c.is_at.ensures.there c.if-not-is_at.false).1 in
-    let gap = gap_to p.here.flags.ignore_whitespace _ _ first c.skip_gap-question.ensures.gap question in
-    let flags = c.in_ok-end.ensures.ok in
-    let is_colon = colon_ends _ flags.ends (c.is_at-3.ensures.absent c.if-is_at-2.false) in
-    let here = drop_begins xs end colon (omega (arith, c.in_ok-end.ensures.inside)) is_colon in
-    let letters = subst (λ t. FlagLetters p.here.flags first t c.in_ok-end.flags) here flags.letters in
     record {
-      further = omega (arith, c.skip_gap-question.ensures.inside, c.in_ok-end.ensures.inside);
-      in_pattern = omega (arith, c.in_ok-end.ensures.inside);
-      reads = reads_head p c.open.new.self _ _ first (drop (end + 1) xs) _ c.requires.begins gap letters
-          c.in_ok-open.ensures;
+      further = omega arith;
+      in_pattern = omega (arith, c.requires.inside);
+      reads = reads_numbered c.args.self.now c.open_capture.new.self (drop c.args.at xs) (drop (c.args.at + 1) xs) _
+          c.requires.begins c.skip_gap-first.ensures.gap (c.is_at.ensures.absent c.if-not-is_at.true)
+          c.in_ok-open_capture.ensures.ok;
     }

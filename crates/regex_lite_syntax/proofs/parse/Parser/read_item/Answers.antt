@@ -1,12 +1,12 @@
 use Rattle.std.proofs.lemmas.Result.{err_from_is_err_and}
-use Rattle.regex_lite_syntax.proofs.Denials.{denies_as}
+use Rattle.regex_lite_syntax.proofs.Denials.{refuses_as}
 use Rattle.regex_lite_syntax.proofs.ReadSteps.{reads_atom, reads_no_atom}
 use Rattle.regex_lite_syntax.proofs.parse.Parser.read_item.Goals as goal
 
 pub returns-in_err-end-clause-err : goal.returns-in_err-end-clause-err
 returns-in_err-end-clause-err c =
     let left = err_from_is_err_and c.from_residual.result c.from_residual.ensures.1 in
-    rw (left.1, left.2) (denies_as c.in_err-end.field-0.0 _ _
+    rw (left.1, left.2) (refuses_as c.in_err-end.field-0.0 _ _ _
     (λ none. reads_no_atom c.args.self.now _ c.requires.past_gap c.requires.begins (λ rest a atom. none (rest, a, atom)))
     c.in_err-end.ensures.err)
 

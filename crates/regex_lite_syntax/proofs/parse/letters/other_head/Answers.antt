@@ -27,12 +27,3 @@ returns-in-61 c =
       | inl e ↦ at 0x21 (omega arith) c.index-chars-at.is e refl refl
       | inr e ↦ at 0x3D (omega arith) c.index-chars-at.is e refl refl
     ]
-
-pub returns-in-60 : goal.returns-in-60
-returns-in-60 c = no_flags_at c.args.chars.now c.args.at _ 0x3C (omega arith) c.index-chars-at.is c.in-60.is refl refl
-
-pub returns-in-60-2 : goal.returns-in-60-2
-returns-in-60-2 c = no_flags_at c.args.chars.now c.args.at _ 0x3C (omega arith) c.index-chars-at.is c.in-60.is refl refl
-
-pub returns-in-P : goal.returns-in-P
-returns-in-P c = no_flags_at c.args.chars.now c.args.at _ 0x50 (omega arith) c.index-chars-at.is c.in-P.is refl refl

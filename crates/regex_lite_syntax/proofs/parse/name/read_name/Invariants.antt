@@ -1,0 +1,16 @@
+use Rattle.std.proofs.Common.{◌<◌, ◌≤◌, ◌-◌, drop, length, slice_range}
+use Rattle.regex_lite_syntax.specs.Text.{Text}
+use Rattle.regex_lite_syntax.specs.GroupNames.{NameWritten}
+use Rattle.regex_lite_syntax.proofs.NameReading.{NameLeft, NameSoFar}
+use Rattle.regex_lite_syntax.proofs.parse.name.read_name.Given as goal
+
+abbrev pub invariant-loop-c : goal.invariant-loop-c
+invariant-loop-c l = record {
+  inside : (l.at < l.end) × (l.end ≤ length l.chars);
+  so_far : NameSoFar (slice_range l.chars l.at l.end);
+  -- a name that stands at the start goes on from here
+  back : (rest name : Text) → NameWritten (drop l.at l.chars) rest name → NameLeft (drop l.end l.chars) rest;
+}
+
+abbrev pub decreases-loop-c : goal.decreases-loop-c
+decreases-loop-c l = length l.chars - l.end

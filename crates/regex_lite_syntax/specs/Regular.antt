@@ -1,0 +1,30 @@
+-- Trees as the grammar gives them.
+use Rattle.std.specs.Prelude.{◌≤◌, ℕ, Option, Some, None}
+use Rattle.regex_lite_syntax.specs.Tree.{Tree, Trees, empty, character, class, look, repetition, capture, concat, alternation, none, more}
+
+-- at most so many, where there is a limit
+abbrev pub InOrder : (least : ℕ) → (most : Option ℕ) → Type 0
+InOrder least None = Unit {0}
+InOrder least (Some most) = least ≤ most
+
+-- two trees or more
+abbrev pub HasTwo : Trees → Type 0
+HasTwo none = ⊥
+HasTwo (more a none) = ⊥
+HasTwo (more a (more b rest)) = Unit {0}
+
+-- a repetition's least number is at most its most, and a list has two parts or more
+abbrev mutual
+  pub IsRegular : Tree → Type 0
+  IsRegular (repetition least most greedy body) = InOrder least most × IsRegular body
+  IsRegular (capture index name body) = IsRegular body
+  IsRegular (concat parts) = HasTwo parts × AreRegular parts
+  IsRegular (alternation branches) = HasTwo branches × AreRegular branches
+  IsRegular empty = Unit {0}
+  IsRegular (character c) = Unit {0}
+  IsRegular (class ranges) = Unit {0}
+  IsRegular (look test) = Unit {0}
+
+  pub AreRegular : Trees → Type 0
+  AreRegular none = Unit {0}
+  AreRegular (more a rest) = IsRegular a × AreRegular rest

@@ -1,0 +1,144 @@
+//! Counted operators: how often they repeat, in braces.
+ghost use Rattle.std.specs.Prelude.{◌≡◌, ℕ, ◌+◌, ◌*◌, ◌^◌, ◌<◌, ◌≤◌, ◌∷◌, drop, length, Option, IsTrue, IfOk, IfErr, IfSome, IfNone, SomeIff};
+ghost use Rattle.regex_lite_syntax.specs.Text.{Text};
+ghost use Rattle.regex_lite_syntax.specs.Characters.{is_digit, digit_value};
+ghost use Rattle.regex_lite_syntax.specs.Gaps.{Gap};
+ghost use Rattle.regex_lite_syntax.specs.Counts.{WholeSide, Number, EndsNumber, Limit, Counted};
+ghost use Rattle.regex_lite_syntax.specs.Refusals.{Denies};
+
+#[cfg(test)]
+mod tests;
+
+use crate::error::{Error, SyntaxFault};
+use crate::parse::gap::{is_white_space_char, skip_gap};
+use crate::parse::read::char_at;
+
+/// How often an operator repeats: at least, and at most where there is a limit.
+#[derive(Clone, Copy, PartialEq, Eq, Debug)]
+pub(crate) struct Bounds {
+    pub(crate) min: u32,
+    pub(crate) max: Option<u32>,
+}
+
+/// Reads a counted operator from behind its opening brace on, and answers the index behind it.
+pub(crate) fn read_counted(
+    chars: &[char],
+    at: usize,
+    verbose: bool,
+) -> Result<(usize, Bounds), Error>
+    requires { at ≤ length chars.now }
+    ensures inside { IfOk result (λ r. (at < r.0) × (r.0 ≤ length chars.now)) }
+    ensures ok { IfOk result (λ r.
+        Counted verbose (drop at chars.now) (drop r.0 chars.now) r.1.min r.1.max) }
+    ensures err { IfErr result (λ e. Denies e ((rest : Text) × (min : ℕ) × (max : Option ℕ)
+        × Counted verbose (drop at chars.now) rest min max)) }
+{
+    let first = skip_gap(chars, at, verbose);
+    if first == chars.len() {
+        return Err(SyntaxFault::CountedRepetitionUnclosed.into());
+    }
+    let (past_min, min) = read_number(chars, at, verbose)?;
+    match char_at(chars, past_min) {
+        None => Err(SyntaxFault::CountedRepetitionMinUnclosed.into()),
+        Some('}') => {
+            let max = Some(min);
+            Ok((past_min + 1, Bounds { min, max }))
+        }
+        Some(',') => {
+            let (end, max) = read_limit(chars, past_min + 1, verbose)?;
+            match max {
+                Some(max) if max < min => Err(SyntaxFault::CountedRepetitionInvalidRange.into()),
+                _ => Ok((end, Bounds { min, max })),
+            }
+        }
+        Some(_) => Err(SyntaxFault::CountedRepetitionInvalid.into()),
+    }
+}
+
+/// Reads the limit, if there is one, from behind the comma on, and the brace that closes.
+fn read_limit(chars: &[char], at: usize, verbose: bool) -> Result<(usize, Option<u32>), Error>
+    requires { at ≤ length chars.now }
+    ensures inside { IfOk result (λ r. (at < r.0) × (r.0 ≤ length chars.now)) }
+    ensures ok { IfOk result (λ r. Limit verbose (drop at chars.now) (drop r.0 chars.now) r.1) }
+    ensures err { IfErr result (λ e. Denies e
+        ((rest : Text) × (max : Option ℕ) × Limit verbose (drop at chars.now) rest max)) }
+{
+    let first = skip_gap(chars, at, verbose);
+    match char_at(chars, first) {
+        None => return Err(SyntaxFault::CountedRepetitionCommaUnclosed.into()),
+        Some('}') => return Ok((first + 1, None)),
+        Some(_) => {}
+    }
+    let (end, max) = read_number(chars, at, verbose)?;
+    match char_at(chars, end) {
+        None => Err(SyntaxFault::CountedRepetitionMinMaxUnclosed.into()),
+        Some('}') => Ok((end + 1, Some(max))),
+        Some(_) => Err(SyntaxFault::CountedRepetitionInvalid.into()),
+    }
+}
+
+/// Reads a number with what stands on its sides.
+fn read_number(chars: &[char], at: usize, verbose: bool) -> Result<(usize, u32), Error>
+    requires { at ≤ length chars.now }
+    ensures inside { IfOk result (λ r. (at < r.0) × (r.0 ≤ length chars.now)) }
+    ensures ok { IfOk result (λ r. Number verbose (drop at chars.now) (drop r.0 chars.now) r.1) }
+    // No other number stands there that goes up to a comma or a brace.
+    ensures only { IfOk result (λ r.
+        (rest : Text) (n : ℕ) → Number verbose (drop at chars.now) rest n → EndsNumber rest
+        → (rest ≡ drop r.0 chars.now) × (n ≡ r.1)) }
+    ensures err { IfErr result (λ e. Denies e
+        ((rest : Text) × (n : ℕ) × Number verbose (drop at chars.now) rest n × EndsNumber rest)) }
+{
+    let first = skip_side(chars, at, verbose);
+    let mut end = first;
+    let mut number = 0;
+    while let Some((next, digit)) = next_digit(chars, end, verbose) {
+        let Some(longer) = with_digit(number, digit) else {
+            return Err(SyntaxFault::DecimalInvalid.into());
+        };
+        number = longer;
+        end = next;
+    }
+    if end == first {
+        return Err(SyntaxFault::DecimalNoDigits.into());
+    }
+    Ok((skip_side(chars, end, verbose), number))
+}
+
+/// Where what may stand on the side of a number ends.
+fn skip_side(chars: &[char], at: usize, verbose: bool) -> usize
+    requires { at ≤ length chars.now }
+    ensures inside { (at ≤ result) × (result ≤ length chars.now) }
+    ensures side { WholeSide verbose (drop at chars.now) (drop result chars.now) }
+{
+    if verbose {
+        return skip_gap(chars, at, verbose);
+    }
+    let mut end = at;
+    while end < chars.len() && is_white_space_char(chars[end]) {
+        end += 1;
+    }
+    end
+}
+
+/// The value of the digit past the gap at the index, with the index behind it.
+fn next_digit(chars: &[char], at: usize, verbose: bool) -> Option<(usize, u32)>
+    requires { at ≤ length chars.now }
+    ensures inside { IfSome result (λ r. (at < r.0) × (r.0 ≤ length chars.now)) }
+    ensures some { IfSome result (λ r.
+        (c : ℕ) × Gap verbose (drop at chars.now) (c ∷ drop r.0 chars.now)
+        × IsTrue (is_digit c) × (r.1 ≡ digit_value c)) }
+    ensures none { IfNone result ((c : ℕ) (rest : Text) →
+        Gap verbose (drop at chars.now) (c ∷ rest) → IsTrue (is_digit c) → ⊥) }
+{
+    let here = skip_gap(chars, at, verbose);
+    let digit = char_at(chars, here)?.to_digit(10)?;
+    Some((here + 1, digit))
+}
+
+/// The number with one more digit, where it is below 2^32.
+fn with_digit(number: u32, digit: u32) -> Option<u32>
+    ensures { SomeIff result (number * 10 + digit < 2 ^ 32) (number * 10 + digit) }
+{
+    number.checked_mul(10)?.checked_add(digit)
+}

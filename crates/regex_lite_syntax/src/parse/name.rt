@@ -1,0 +1,106 @@
+//! Names of capturing groups.
+ghost use Rattle.std.specs.Prelude.{◌≡◌, ◌<◌, ◌≤◌, ◌-◌, ◌↔◌, drop, length, chars as chars_of, slice_range, IsTrue, Contains, IfOk, IfErr, IfSome, IfNone};
+ghost use Rattle.regex_lite_syntax.specs.Text.{Text};
+ghost use Rattle.regex_lite_syntax.specs.GroupNames.{begins_name, continues_name, NameWritten, NameOpening, Named};
+ghost use Rattle.regex_lite_syntax.specs.Refusals.{Denies};
+ghost use Rattle.regex_lite_syntax.specs.Views.{text_of_string, names_of};
+
+#[cfg(test)]
+mod tests;
+
+use crate::error::{Error, SyntaxFault};
+use crate::parse::read::{char_at, is_at};
+use std::alloc::{AllocError, Global};
+use unicode::properties::{GeneralCategory, is_alphabetic};
+
+/// Where a name begins: the index behind `?P<` or `?<`, if one of them stands there.
+pub(crate) fn skip_name_opening(chars: &[char], at: usize) -> Option<usize>
+    requires { at ≤ length chars.now }
+    ensures inside { IfSome result (λ start. (at < start) × (start ≤ length chars.now)) }
+    ensures there { IfSome result (λ start.
+        NameOpening (drop at chars.now) (drop start chars.now)) }
+    ensures absent { IfNone result ((rest name : Text) → Named (drop at chars.now) rest name → ⊥) }
+{
+    if !is_at(chars, at, '?') {
+        return None;
+    }
+    if is_at(chars, at + 1, '<') {
+        return Some(at + 2);
+    }
+    if is_at(chars, at + 1, 'P') && is_at(chars, at + 2, '<') {
+        return Some(at + 3);
+    }
+    None
+}
+
+/// Reads a name from behind the `<` on, and answers the index behind the `>` that ends it.
+pub(crate) fn read_name(chars: &[char], at: usize) -> Result<usize, Error>
+    requires { at ≤ length chars.now }
+    ensures inside { IfOk result (λ end. (at < end) × (end ≤ length chars.now)) }
+    ensures ok { IfOk result (λ end. NameWritten (drop at chars.now) (drop end chars.now)
+        (slice_range chars.now at (end - 1))) }
+    ensures err { IfErr result (λ e. Denies e
+        ((rest : Text) × (name : Text) × NameWritten (drop at chars.now) rest name)) }
+{
+    match char_at(chars, at) {
+        None => return Err(SyntaxFault::MissingGroupName.into()),
+        Some('>') => return Err(SyntaxFault::EmptyGroupName.into()),
+        Some(c) if !may_begin_name(c) => return Err(fault_of_start(c).into()),
+        Some(_) => {}
+    }
+    let mut end = at + 1;
+    while let Some(c) = char_at(chars, end) {
+        if c == '>' {
+            return Ok(end + 1);
+        }
+        if !may_continue_name(c) {
+            return Err(SyntaxFault::InvalidGroupName.into());
+        }
+        end += 1;
+    }
+    Err(SyntaxFault::UnclosedGroupName.into())
+}
+
+/// The fault of what stands in a name's place and begins with this character: `(?<=` and `(?<!`
+/// open a look-around.
+fn fault_of_start(c: char) -> SyntaxFault {
+    match c {
+        '=' | '!' => SyntaxFault::LookUnsupported,
+        _ => SyntaxFault::InvalidGroupName,
+    }
+}
+
+/// Whether the character may stand first in a name.
+fn may_begin_name(c: char) -> bool
+    ensures { result ≡ begins_name c }
+{
+    c == '_' || is_alphabetic(c)
+}
+
+/// Whether the character may stand further on in a name.
+fn may_continue_name(c: char) -> bool
+    ensures { result ≡ continues_name c }
+{
+    matches!(c, '_' | '.' | '[' | ']')
+        || is_alphabetic(c)
+        || matches!(
+            GeneralCategory::for_char(c),
+            GeneralCategory::DecimalNumber
+                | GeneralCategory::LetterNumber
+                | GeneralCategory::OtherNumber
+        )
+}
+
+/// The string of these characters.
+pub(crate) fn string_of(alloc: Global, name: &[char]) -> Result<String, AllocError>
+    ensures { IfOk result (λ s. text_of_string s ≡ name.now) }
+{
+    name.iter().copied().collect(alloc)
+}
+
+/// Whether the name is one of those given.
+pub(crate) fn is_among(name: &str, given: &[String]) -> bool
+    ensures { IsTrue result ↔ Contains (names_of given.now) (chars_of name.now) }
+{
+    given.iter().any(|other| other.as_str() == name)
+}

@@ -1,0 +1,364 @@
+"""The cases of whole-grammar.tsv."""
+
+import itertools
+import re
+import string
+
+from cases import (
+    MISSING, OPERATORS, ROUNDS, SEED, UNCLOSED, UNOPENED, Dice, ask, edited, edited_often,
+    kept_lines, line_of, noise,
+)
+from flags_and_classes import (
+    ALPHABETS, FAULTS_OF_ITEMS, IGNORES_CASE, LINE_ENDS, MIXED, Directive, Group, Leaf, Maker,
+    framed, is_outside, near_of, some_flags,
+)
+from whole_grammar_picked import (
+    FAULTS, MISSING_COUNTED, NESTING, PICKED, ends_in_braces, systematic,
+)
+
+PATTERNS = 33_000  # how many generated patterns the judge is asked about
+LONGEST = 160  # characters of a generated pattern, unless it is nested too deeply
+LARGEST = 1000  # the product of all counts of a pattern is at most this
+TOO_LARGE = 'compiled regex exceeded size limit'
+
+STRUCTURE = (UNCLOSED, UNOPENED, MISSING, MISSING_COUNTED)  # faults that lie in no single item
+NEW_FAULTS = [fault for fault in FAULTS if fault[0] != MISSING_COUNTED]
+
+# How many generated cases of each kind are kept. The four numbers of a family are for matches and
+# for cases without a match, each of patterns that match the empty haystack and of others.
+FAMILIES = {
+    'groups': (100, 700, 40, 660),
+    'counts': (100, 900, 60, 840),
+    'verbose': (120, 900, 60, 860),
+    'all': (100, 400, 40, 360),
+    'changed': (20, 180, 10, 190),
+}
+QUOTAS = {
+    (family, *kind): number
+    for family, numbers in FAMILIES.items()
+    for kind, number in zip(((0, 0), (0, 1), (1, 0), (1, 1)), numbers)
+}
+QUOTAS.update({('broken', text): 30 for text in STRUCTURE})
+QUOTAS.update({('faulty', text): 12 for text, *_ in FAULTS_OF_ITEMS})
+QUOTAS.update({('faulty', text): 30 for text, *_ in NEW_FAULTS})
+
+NAMES = ('n', 'm', 'a', 'Z', '_', '_1', 'a.b', 'a[0]', 'name', 'é', 'ß', '名', '名字', 'Σ2', 'x¾',
+         'aⅧ', 'N', 'i', 'x', 'longer_name', 'k٣', 'aΩ', 'ª', 'P')
+COUNTS = ('{0}', '{1}', '{2}', '{2}', '{3}', '{0,}', '{1,}', '{2,}', '{0,1}', '{0,2}', '{1,2}',
+          '{1,3}', '{2,2}', '{2,4}', '{0,0}', '{1,1}', '{10}', '{03}', '{0,12}')
+GAPS = (' ', ' ', '  ', '\n', '\t ', '\u00a0', '\u2028', '\u3000 ', '\r', '#\n', '# c\n',
+        ' #)]\n ', '#\\(\n', '#é#\n\n')
+PLAIN_GAPS = (' ', '  ', '\t', '\n', '\u2003')
+WORD = re.compile(r'\[:\^?[a-z]+:\]|\\b\{|\\.|.', re.DOTALL)  # no gap is put into one of these
+NUMBER = re.compile(r'[{,](\d+)')
+
+# What changes put into a pattern.
+TOKENS = ('(', '(', '(?:', ')', ')', '|', '?', '*', '{2}', '{0,1}', '{2}', '(?x)', '(?-x)', '?')
+PIECES = tuple('ab ,0123?#{}()|') + ('{2}', '{1,2}', '{0}', '(?x)', '(a)', '# ', '\n', '?:', '\\ ')
+
+
+class WholeMaker(Maker):
+    """Makes trees of all rules. Its rows are the more likely to have groups that capture the
+    greater `capturing` is, and counted operators the greater `counting` is."""
+
+    def __init__(self, dice, letters, capturing, counting):
+        super().__init__(dice, letters, MIXED)
+        self.capturing = capturing
+        self.counting = counting
+        self.names = list(NAMES)
+
+    def branch(self, depth, stacking):
+        dice = self.dice
+        branch = []
+        for _ in range(dice.pick((0, 1, 1, 2, 2, 3))):
+            if dice.chance(0.06):
+                branch.append((Directive(f'(?{self.flags()})'), []))
+            elif depth > 0 and dice.chance(0.4):
+                group = Group(self.head(), self.tree(depth - 1, stacking))
+                branch.append((group, self.operators(stacking)))
+            else:
+                branch.append((self.leaf(), self.operators(stacking)))
+        return branch
+
+    def head(self):
+        dice = self.dice
+        if not dice.chance(self.capturing):
+            return f'(?{self.flags()}:' if dice.chance(0.4) else '(?:'
+        if self.names and dice.chance(0.4):
+            name = self.names.pop(dice.below(len(self.names)))
+            return f'{dice.pick(("(?", "(?P"))}<{name}>'
+        return '('
+
+    def flags(self):
+        flags = some_flags(self.dice)
+        if not self.dice.chance(0.2):
+            return flags
+        return self.dice.pick(('x', 'x-', '-x')) + flags.replace('-', '')
+
+    def operators(self, stacking):
+        dice = self.dice
+        operators = []
+        while len(operators) < 3 and dice.chance(stacking):
+            if dice.chance(self.counting):
+                operators.append(dice.pick(COUNTS) + dice.pick(('', '', '?')))
+            else:
+                operators.append(dice.pick(OPERATORS))
+        return operators
+
+
+class Writer:
+    """Writes trees as parts of patterns, with gaps where the flag x is set, each of which stands
+    with the probability `gaps`."""
+
+    def __init__(self, dice, gaps, verbose):
+        self.dice = dice
+        self.gaps = gaps
+        self.verbose = verbose
+
+    def gap(self):
+        if self.verbose and self.dice.chance(self.gaps):
+            return self.dice.pick(GAPS)
+        return ''
+
+    def parts(self, tree):
+        """The parts of the tree's pattern: whole leaves, heads, operators, `)` and `|`."""
+        parts = []
+        for number, branch in enumerate(tree):
+            if number > 0:
+                parts.append(self.gap() + '|')
+            for item, operators in branch:
+                parts += self.item(item)
+                parts += [self.gap() + self.operator(operator) for operator in operators]
+        return parts
+
+    def item(self, item):
+        if isinstance(item, Leaf):
+            return [self.gap() + self.leaf(item.text)]
+        gap = self.gap()
+        text = item.text if isinstance(item, Directive) else item.head
+        flags = re.match(r'\(\?([imsRUux]*)(-?[imsRUux]*)[:)]', text)
+        head = gap + '(' + self.gap() + text[1:]
+        outside = self.verbose
+        if flags and 'x' in flags[1] + flags[2]:
+            self.verbose = 'x' in flags[1]
+        if isinstance(item, Directive):
+            return [head]
+        inside = self.parts(item.tree) + [self.gap() + ')']
+        self.verbose = outside
+        return [head, *inside]
+
+    def leaf(self, text):
+        """The leaf with gaps, and so that its White_Space and `#` stand for themselves."""
+        if not self.verbose:
+            return text
+        return ''.join(for_itself(word) + self.gap() for word in WORD.findall(text))
+
+    def operator(self, text):
+        if text[0] != '{':
+            return text
+        out = []
+        for word in re.findall(r'\d+|.', text):
+            if self.verbose:
+                out += [character + self.gap() for character in word]
+            elif word.isdigit() and self.dice.chance(0.2):
+                out.append(self.dice.pick(PLAIN_GAPS) + word + self.dice.pick(PLAIN_GAPS))
+            else:
+                out.append(word)
+        return ''.join(out)
+
+
+def for_itself(word):
+    """The character as it stands for itself under x too."""
+    if not word.isspace() and word != '#':
+        return word
+    return '\\' + word if word in ' #' else f'\\x{{{ord(word):X}}}'
+
+
+def sample(dice, tree):
+    """A text that the tree often matches."""
+    branch = dice.pick(tree)
+    return ''.join(sample_piece(dice, item, operators) for item, operators in branch)
+
+
+def sample_piece(dice, item, operators):
+    if isinstance(item, Directive):
+        return ''
+    if operators:
+        times = rounds(dice, operators[-1])
+        return ''.join(sample_piece(dice, item, operators[:-1]) for _ in range(times))
+    if isinstance(item, Group):
+        return sample(dice, item.tree)
+    return dice.pick(item.samples or ('',))
+
+
+def rounds(dice, operator):
+    """How often a sample repeats the operator's item, sometimes once too often or too rarely."""
+    if operator[0] != '{':
+        return dice.pick(ROUNDS[operator[0]])
+    numbers = [int(number) for number in re.findall(r'\d+', operator)]
+    least, most = numbers[0], numbers[-1]
+    return max(0, dice.pick((least, least, most, most, (least + most) // 2, most + 1, least - 1)))
+
+
+def haystacks(dice, tree, pattern):
+    """A text that the tree often matches, perhaps with something round it, and a changed form."""
+    near = sample(dice, tree)[:60]
+    letters = near_of(tree) or 'ab'
+    if IGNORES_CASE.search(pattern):
+        near = ''.join(
+            c.swapcase() if len(c.swapcase()) == 1 and dice.chance(0.3) else c for c in near
+        )
+    if dice.chance(0.3):
+        near = noise(dice, letters) + near + noise(dice, letters)
+    if near and dice.chance(0.3):
+        at = dice.below(len(near))
+        return near, near[:at] + dice.pick(letters) + near[at + 1:]
+    return near, edited_often(dice, near, [*letters, *LINE_ENDS, 'a', '#', ' ', 'é', '💩'])
+
+
+def tree_of(dice, capturing, counting):
+    maker = WholeMaker(dice, dice.pick(ALPHABETS), capturing, counting)
+    tree = maker.tree(dice.below(4), dice.pick((0.2, 0.35, 0.6)))
+    if dice.chance(0.75):
+        tree = framed(dice, Group(maker.head(), tree), maker.operators(0.15))
+    return tree
+
+
+def written(dice, tree, verbose):
+    """The parts of the tree's pattern, perhaps in verbose mode from the start, and its writer."""
+    head = f'(?{dice.pick(("x", "x", "x", "xi", "x-s", "sx"))})' if verbose else ''
+    writer = Writer(dice, dice.pick((0.05, 0.15, 0.4)), verbose)
+    parts = writer.parts(tree)
+    return [head, *parts] if head else parts, writer
+
+
+def with_fault(dice, tree, verbose):
+    """A text of a refusal, and a pattern with one fault, which has this text. No fault is taken
+    that may be another under x."""
+    text, anywhere, last, _ = dice.pick(FAULTS_OF_ITEMS + NEW_FAULTS * 3)
+    fault = dice.pick([fault for fault in anywhere + last if not re.search(r'[\s#]', fault)])
+    if fault in last:
+        parts, _ = written(dice, tree, verbose)
+        return text, ''.join(parts) + dice.pick(('', '', '|')) + fault
+    branch = dice.pick(tree)
+    while branch and dice.chance(0.5):
+        item, _ = dice.pick(branch)
+        if isinstance(item, Group):
+            branch = dice.pick(item.tree)
+    mark = '\ue123'
+    branch.insert(dice.below(len(branch) + 1), (Leaf(mark, ('',)), []))
+    parts, _ = written(dice, tree, verbose)
+    return text, ''.join(parts).replace(mark, fault)
+
+
+def generated(dice):
+    """Makes rows without end: a family, a pattern and two haystacks, and for a faulty pattern the
+    text of its refusal."""
+    while True:
+        family, capturing, counting, verbose = shape(dice)
+        tree = tree_of(dice, capturing, counting)
+        parts, writer = written(dice, tree, verbose)
+        pattern, text = ''.join(parts), ''
+        near, far = haystacks(dice, tree, pattern)
+        if family == 'changed':
+            pattern = edited_often(dice, pattern, PIECES)
+        elif family == 'broken':
+            pattern = ''.join(edited(dice, parts, [[token] for token in TOKENS]))
+        elif family == 'faulty':
+            text, pattern = with_fault(dice, tree, verbose)
+        elif writer.verbose and dice.chance(0.15):
+            pattern += dice.pick(('# end', '#', ' #)', '#('))
+        if is_fit(pattern, text):
+            yield family, pattern, near, far, text
+
+
+def shape(dice):
+    """A family, how often its trees have groups that capture and counts, and whether x is on."""
+    kind = dice.random()
+    if kind < 0.19:
+        return 'groups', 0.8, 0.1, False
+    if kind < 0.45:
+        return 'counts', 0.2, 0.9, False
+    if kind < 0.68:
+        return 'verbose', 0.5, 0.3, True
+    if kind < 0.78:
+        return 'all', 0.6, 0.5, dice.chance(0.5)
+    if kind < 0.86:
+        return 'changed', 0.5, 0.5, dice.chance(0.5)
+    return 'broken' if kind < 0.91 else 'faulty', 0.5, 0.4, dice.chance(0.4)
+
+
+def has_new_rule(pattern, text):
+    """Whether the pattern, refused with this text, is in neither of the earlier grammars. They
+    have no limit on nesting either."""
+    return is_outside(pattern) or text == NESTING
+
+
+def is_fit(pattern, text):
+    """Whether the pattern has a new rule and is neither too long nor too large."""
+    if '\0' in pattern or ends_in_braces(pattern) or not has_new_rule(pattern, text):
+        return False
+    if len(pattern) > LONGEST and text != NESTING:
+        return False
+    product = 1
+    for number in NUMBER.findall(re.sub(r'\s|#[^\n]*\n', '', pattern)):
+        product *= max(1, int(number))
+    return text or product <= LARGEST
+
+
+def chosen_rows(judge, dice, count):
+    """Rows of so many generated patterns, without changed patterns that are refused and broken
+    ones that aren't refused for their structure. No other pattern is a surprise."""
+    rows = list(itertools.islice(generated(dice), count))
+    answers = ask(judge, [(pattern, '') for _, pattern, *_ in rows])
+    chosen = []
+    for (family, pattern, near, far, wanted), (_, text) in zip(rows, answers):
+        if family == 'changed' and text or family == 'broken' and text not in STRUCTURE:
+            continue
+        if text != wanted and family != 'broken':
+            raise SystemExit(f'unexpected answer to {pattern!r}: {text}')
+        chosen.append((family, pattern, near, far))
+    return chosen
+
+
+def picked_cases():
+    """The cases picked by hand, each with the text of its refusal, with an empty text, or with
+    None where the judge alone tells. The rows leave out what stands before them."""
+    chosen = [((pattern, haystack), '') for pattern, *texts in PICKED for haystack in texts]
+    for text, *patterns in FAULTS:
+        chosen += (((pattern, ''), text) for pattern in itertools.chain(*patterns))
+    before = {pattern for (pattern, _), _ in chosen}
+    rows = dict.fromkeys(case for case in systematic() if case[0] not in before)
+    return chosen + [(case, None) for case in rows]
+
+
+def picked_lines(judge):
+    """The lines of the cases picked by hand. A pattern of a row that is refused has one case."""
+    cases, texts = zip(*picked_cases())
+    found = []
+    refused = set()
+    for case, wanted, (status, text) in zip(cases, texts, ask(judge, cases)):
+        if not has_new_rule(case[0], text) or text == TOO_LARGE or wanted not in (None, text):
+            raise SystemExit(f'wrong among the picked cases: {case!r}: {text}')
+        if case[0] not in refused:
+            found.append(line_of(case, status, text))
+        if status == 2:
+            refused.add(case[0])
+    if len(set(found)) < len(found):
+        raise SystemExit('two picked cases are alike')
+    return found
+
+
+def lines(judge):
+    """The whole list."""
+    seen = {pattern for (pattern, _), _ in picked_cases()}
+    rows = chosen_rows(judge, Dice(SEED), PATTERNS)
+    return picked_lines(judge) + kept_lines(judge, rows, QUOTAS, seen)
+
+
+def fresh_lines(judge, seed, count):
+    """So many generated lines of another seed, without any choice among their kinds."""
+    rows = chosen_rows(judge, Dice(seed), count)
+    cases = [(pattern, haystack) for _, pattern, *texts in rows for haystack in texts]
+    cases = list(dict.fromkeys(cases))[:count]
+    return [line_of(case, *answer) for case, answer in zip(cases, ask(judge, cases))]
