@@ -18,9 +18,9 @@ returns-then-first-chars-clause-err c =
 
 pub returns-in_err-end-in-Some-eq44-clause-err : goal.returns-in_err-end-in-Some-eq44-clause-err
 returns-in_err-end-in-Some-eq44-clause-err c =
-    let p = err_from_is_err_and c.from_residual-in_err-end-in-Some-eq44.result
+    let refused = err_from_is_err_and c.from_residual-in_err-end-in-Some-eq44.result
     c.from_residual-in_err-end-in-Some-eq44.ensures.1 in
-    rw (p.1, p.2)
+    rw (refused.1, refused.2)
     (denies_less _
     (λ (rest, min, max, counted).
     let past = past_min c.in_ok-past_min.ensures.only counted in

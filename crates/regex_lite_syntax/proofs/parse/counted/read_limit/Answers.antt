@@ -17,8 +17,8 @@ returns-in-None-clause-err c =
 
 pub returns-in_err-end-clause-err : goal.returns-in_err-end-clause-err
 returns-in_err-end-clause-err c =
-    let p = err_from_is_err_and c.from_residual.result c.from_residual.ensures.1 in
-    rw (p.1, p.2)
+    let refused = err_from_is_err_and c.from_residual.result c.from_residual.ensures.1 in
+    rw (refused.1, refused.2)
     (denies_less _
     (λ (rest, max, limit).
     let number = limit_before_other _ _ _ c.skip_gap-first.ensures.gap c.in-Some.ensures.1 c.in-Some.field-0-test.1
