@@ -21,6 +21,7 @@ pub mod Grammar
 pub mod Regular
 pub mod Limits
 pub mod Matches
+pub mod Properties
 pub mod Views
 pub mod Refusals
 pub mod Laws

@@ -1,0 +1,10 @@
+-- what public contracts rest on
+pub mod Places
+pub mod Ways
+pub mod WrittenOut
+pub mod Counts
+pub mod Size
+pub mod Graphs
+pub mod Laws
+-- what the functions inside promise one another
+pub mod Layout

@@ -1,0 +1,24 @@
+//! The places of a graph.
+use crate::nfa::class::MappedClass;
+use regex_lite_syntax::Look;
+
+/// A place of a graph, with the numbers of the places that its arrows lead to.
+#[derive(Drop)]
+pub enum Place {
+    /// Goes on at once.
+    Empty { to: u32 },
+    /// Reads this character.
+    Char { c: char, to: u32 },
+    /// Reads a character of this set.
+    Class { set: MappedClass, to: u32 },
+    /// Goes on where the look holds.
+    Look { look: Look, to: u32 },
+    /// Marks the slot with the position.
+    Slot { slot: u32, to: u32 },
+    /// Goes on to the first, or else to the second.
+    Choice { first: u32, second: u32 },
+    /// Goes on to one of these, the earlier preferred.
+    Branches(Vec<u32>),
+    /// The match is complete.
+    Match,
+}
