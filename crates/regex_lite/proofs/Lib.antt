@@ -1,3 +1,4 @@
+pub mod Acceptance
 pub mod OneTree
 pub mod LookLemmas
 pub mod NodeLemmas

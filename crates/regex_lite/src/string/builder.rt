@@ -189,27 +189,52 @@ impl RegexBuilder {
         self
     }
 
+    /// How large a pattern may become.
+    ///
+    /// The size is that of the pattern written out: 32 for each place, 16 for each group, 4 for
+    /// each arrow of a choice, 8 for each range of a set in each copy, and for each named group 4
+    /// and the bytes of its name. A counted operator multiplies it: `a{100}` has the size 3312.
+    ///
+    /// ```
+    /// let mut builder = RegexBuilder::new(alloc, "a")?;
+    /// assert!(rt; builder.size_limit(143).build().is_err());
+    /// assert!(rt; builder.size_limit(144).build()?.is_match("a")?);
+    /// ```
+    ///
+    /// The test `tests::examples::size` runs this example.
+    pub fn size_limit(&mut self, limit: usize) -> &mut RegexBuilder
+        ensures same_reference { result.ghost_name ≡ self.entry.ghost_name }
+        ensures value { result.now ≡ record self.old { size_limit = limit } }
+    {
+        self.size_limit = limit;
+        self
+    }
+
     /// The regex of the pattern. The builder can build again.
     ///
-    /// The size limit isn't tested yet.
+    /// The limits are tested before the pattern is written out, so a refused pattern takes no
+    /// memory for it.
     ///
     /// # Errors
     ///
     /// `Syntax` where the grammar gives the pattern no tree, `Nesting` where the pattern nests
     /// deeper than the nest limit, `Groups` where it has more capture groups than can be numbered,
-    /// and `Memory` where a growth is refused.
+    /// `Size` where its size is above the size limit, `Places` where it has more places than can be
+    /// numbered, `Slots` where a group's slots can't be numbered, and `Memory` where a growth is
+    /// refused. Where several of `Size`, `Places` and `Slots` could come, any of them may.
     ///
     /// Reading stops at the first fault. So a pattern without a tree can also be refused by
     /// `Nesting` or `Groups`, but only if it holds so many `(` that it could pass that limit.
     pub fn build(&self) -> Result<Regex, Error>
         ensures ok { IfOk result (λ regex. regex ≡ expression_of self.now) }
-        ensures well_formed { IfOk result (λ _. IsAccepted self.now) }
+        ensures accepted { IfOk result (λ _. IsAccepted self.now) }
         ensures refused { IfErr result (λ error. IsRefusal self.now error) }
+        ensures complete { IfErr result (λ error. IsAccepted self.now → error ≡ out_of_memory) }
     {
         let config = Config {
             flags: self.flags,
             nest_limit: self.nest_limit,
         };
-        Regex::build(self.alloc, config, self.pattern.as_str())
+        Regex::build(self.alloc, config, self.size_limit, self.pattern.as_str())
     }
 }

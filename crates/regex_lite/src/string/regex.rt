@@ -1,13 +1,14 @@
 //! A regex, and what can be asked of it.
 ghost use Rattle.std.specs.Prelude.{◌≡◌, ◌↔◌, Some, IfOk, IfErr, IsTrue, chars, string_bytes};
 ghost use Rattle.regex_lite_syntax.specs.Errors.{kind_of, out_of_memory};
-ghost use Rattle.regex_lite_syntax.specs.Limits.{IsAdmitted, SaysOf};
-ghost use Rattle.regex_lite_syntax.specs.Tree.{Tree};
-ghost use Rattle.regex_lite.specs.Settings.{default_settings};
-ghost use Rattle.regex_lite.specs.Expression.{IsAccepted, IsRefusal, MatchesIn, default_expression};
+ghost use Rattle.regex_lite_syntax.specs.Properties.{captures_len, static_captures_len};
+ghost use Rattle.regex_lite_engine.specs.Counts.{whole_places, whole_arrows};
+ghost use Rattle.regex_lite.specs.Settings.{default_settings, settings_of};
+ghost use Rattle.regex_lite.specs.Expression.{IsAccepted, IsRefusal, OfTree, AreNames, MatchesIn, expression_of, default_expression};
 
 use crate::plain::has_match;
 use crate::string::builder::RegexBuilder;
+use regex_lite_engine::Graph;
 use regex_lite_syntax::{Config, Error, Flags, Hir};
 use std::alloc::{AllocError, Global};
 use std::fmt;
@@ -20,6 +21,7 @@ struct Program {
     pattern: String,
     flags: Flags,
     hir: Hir,
+    graph: Graph,
 }
 
 /// A pattern that is ready to be searched for.
@@ -64,9 +66,11 @@ impl Regex {
     /// where a growth is refused. [`RegexBuilder::build`] says more.
     pub fn new(alloc: Global, pattern: &str) -> Result<Regex, Error>
         ensures ok { IfOk result (λ regex. regex ≡ default_expression pattern.now) }
-        ensures well_formed { IfOk result (λ _. IsAccepted (default_settings pattern.now)) }
+        ensures accepted { IfOk result (λ _. IsAccepted (default_settings pattern.now)) }
         ensures refused { IfErr result
             (λ error. IsRefusal (default_settings pattern.now) error) }
+        ensures complete { IfErr result
+            (λ error. IsAccepted (default_settings pattern.now) → error ≡ out_of_memory) }
     {
         RegexBuilder::new(alloc, pattern)?.build()
     }
@@ -85,8 +89,10 @@ impl Regex {
     /// Those of [`Regex::new`].
     pub fn from_str(alloc: Global, s: &str) -> Result<Regex, Error>
         ensures ok { IfOk result (λ regex. regex ≡ default_expression s.now) }
-        ensures well_formed { IfOk result (λ _. IsAccepted (default_settings s.now)) }
+        ensures accepted { IfOk result (λ _. IsAccepted (default_settings s.now)) }
         ensures refused { IfErr result (λ error. IsRefusal (default_settings s.now) error) }
+        ensures complete { IfErr result
+            (λ error. IsAccepted (default_settings s.now) → error ≡ out_of_memory) }
     {
         Regex::new(alloc, s)
     }
@@ -105,8 +111,10 @@ impl Regex {
     /// Those of [`Regex::new`].
     pub fn try_from(alloc: Global, s: &str) -> Result<Regex, Error>
         ensures ok { IfOk result (λ regex. regex ≡ default_expression s.now) }
-        ensures well_formed { IfOk result (λ _. IsAccepted (default_settings s.now)) }
+        ensures accepted { IfOk result (λ _. IsAccepted (default_settings s.now)) }
         ensures refused { IfErr result (λ error. IsRefusal (default_settings s.now) error) }
+        ensures complete { IfErr result
+            (λ error. IsAccepted (default_settings s.now) → error ≡ out_of_memory) }
     {
         Regex::from_str(alloc, s)
     }
@@ -125,24 +133,32 @@ impl Regex {
     /// Those of [`Regex::new`].
     pub fn try_from_string(alloc: Global, s: String) -> Result<Regex, Error>
         ensures ok { IfOk result (λ regex. regex ≡ default_expression (string_bytes s)) }
-        ensures well_formed { IfOk result
+        ensures accepted { IfOk result
             (λ _. IsAccepted (default_settings (string_bytes s))) }
         ensures refused { IfErr result
             (λ error. IsRefusal (default_settings (string_bytes s)) error) }
+        ensures complete { IfErr result
+            (λ error. IsAccepted (default_settings (string_bytes s)) → error ≡ out_of_memory) }
     {
         Regex::new(alloc, s.as_str())
     }
 
     /// The regex of a pattern that is read under this configuration.
-    pub(crate) fn build(alloc: Global, config: Config, pattern: &str) -> Result<Regex, Error>
-        ensures ok { IfOk result
-            (λ regex. regex ≡ record { pattern = pattern.now; flags = config.flags }) }
-        ensures well_formed { IfOk result (λ _. (tree : Tree)
-            × IsAdmitted config.flags config.nest_limit (chars pattern.now) tree) }
-        ensures refused { IfErr result (λ error.
-            SaysOf config.flags config.nest_limit (chars pattern.now) (kind_of error)) }
+    pub(crate) fn build(
+        alloc: Global,
+        config: Config,
+        size_limit: usize,
+        pattern: &str,
+    ) -> Result<Regex, Error>
+        ensures ok { IfOk result (λ regex. regex ≡
+            expression_of (settings_of config size_limit pattern.now)) }
+        ensures accepted { IfOk result
+            (λ _. IsAccepted (settings_of config size_limit pattern.now)) }
+        ensures refused { IfErr result
+            (λ error. IsRefusal (settings_of config size_limit pattern.now) error) }
     {
         let hir = Hir::parse(alloc, config, pattern)?;
+        let graph = Graph::new(alloc, &hir, size_limit)?;
         let pattern = String::from_str(alloc, pattern)?;
         let program = Rc::new(
             alloc,
@@ -150,6 +166,7 @@ impl Regex {
                 pattern,
                 flags: config.flags,
                 hir,
+                graph,
             },
         )?;
         Ok(Regex { alloc, program })
@@ -183,6 +200,49 @@ impl Regex {
         ensures { result.now ≡ self.now.pattern }
     {
         self.program.pattern.as_str()
+    }
+
+    /// How many groups a match tells of, the whole match among them.
+    ///
+    /// This is one more than the greatest index of a group. A group that can never take part, since
+    /// it stands under `{0}`, counts only where a later one has a greater index.
+    ///
+    /// ```
+    /// Regex::new(alloc, "(a)(?<x>b)")?.captures_len(); // 3
+    /// ```
+    ///
+    /// The test `tests::examples::group_count` runs this example.
+    pub fn captures_len(&self) -> usize
+        ensures { OfTree self.now (λ tree. result ≡ captures_len tree) }
+    {
+        self.program.graph.capture_names().len()
+    }
+
+    /// How many groups take part in every match, the whole match among them, where that is known.
+    ///
+    /// It is the least such number that can be read off the pattern: `None` where a group stands
+    /// under an operator that needs no pass, or where branches differ in their number.
+    pub fn static_captures_len(&self) -> Option<usize>
+        ensures { OfTree self.now (λ tree. result ≡ static_captures_len tree) }
+    {
+        self.program.graph.static_captures_len()
+    }
+
+    /// How many places the pattern has when it is written out.
+    pub fn places(&self) -> usize
+        ensures { OfTree self.now (λ tree. result ≡ whole_places tree) }
+    {
+        self.program.graph.places()
+    }
+
+    /// How many arrows lead from place to place there.
+    ///
+    /// Where a search counts its steps, it tries at most this number and one more for each
+    /// character and for the end of the haystack.
+    pub fn arrows(&self) -> usize
+        ensures { OfTree self.now (λ tree. result ≡ whole_arrows tree) }
+    {
+        self.program.graph.arrows()
     }
 }
 

@@ -9,5 +9,5 @@ returns-clause-found c =
     let told : IsTrue c.in_ok-found.found ↔ MatchesIn c.args.self.now c.args.haystack.now =
     answers_for c.args.self.now c.args.haystack.now (tree_of c.deref.result.now.hir) c.as_slice.result.now
     c.in_ok-found.found (c.as_slice.ensures.value ∙ c.in_ok-text.ensures)
-    (rw (c.deref.ensures, ← c.self.view_is) c.self.invariant) c.in_ok-found.ensures in
+    (rw (c.deref.ensures, ← c.self.view_is) c.self.invariant.tree) c.in_ok-found.ensures in
     search (rules, told)
