@@ -1,6 +1,6 @@
 //! The tree of a pattern.
 ghost use Rattle.std.specs.Prelude.{◌≡◌, ◌<◌, ◌↔◌, map, option_map, IsTrue, IfOk};
-ghost use Rattle.regex_lite_syntax.specs.Tree.{capture, sequence_of, choice_of, repeated, trees as trees_of};
+ghost use Rattle.regex_lite_syntax.specs.Tree.{class, capture, sequence_of, choice_of, repeated, trees as trees_of};
 ghost use Rattle.regex_lite_syntax.specs.Limits.{depth, depth_of_list};
 ghost use Rattle.regex_lite_syntax.specs.Views.{text_of_string, tree_of};
 
@@ -9,6 +9,7 @@ pub(crate) mod look;
 use crate::class::Class;
 use look::Look;
 use std::alloc::{AllocError, Global};
+use std::rc::Rc;
 
 /// A pattern as a tree.
 pub enum Hir {
@@ -16,8 +17,8 @@ pub enum Hir {
     Empty,
     /// This character.
     Char(char),
-    /// A character of this set.
-    Class(Class),
+    /// A character of this set. Whatever is made of the tree shares the set with it.
+    Class(Rc<Class>),
     /// A test of the position.
     Look(Look),
     /// `sub` at least `min` times, and at most `max` times where there is a limit.
@@ -69,6 +70,13 @@ impl Drop for Hir {
 }
 
 impl Hir {
+    /// A character of this set.
+    pub(crate) fn class(alloc: Global, set: Class) -> Result<Hir, AllocError>
+        ensures { IfOk result (λ hir. tree_of hir ≡ class set.ranges.items) }
+    {
+        Ok(Hir::Class(Rc::new(alloc, set)?))
+    }
+
     /// A branch with these items.
     pub(crate) fn concat(mut items: Vec<Hir>) -> Hir
         ensures { tree_of result ≡ sequence_of (map tree_of items.items) }

@@ -38,7 +38,7 @@ pub(crate) fn read_atom(
 {
     let verbose = flags.ignore_whitespace;
     match chars[at] {
-        '.' => Ok((at + 1, Hir::Class(dot_class(alloc, flags)?))),
+        '.' => Ok((at + 1, Hir::class(alloc, dot_class(alloc, flags)?)?)),
         '^' => {
             let look = anchor_look(flags, Look::Start, Look::StartLF, Look::StartCRLF);
             Ok((at + 1, Hir::Look(look)))
@@ -53,7 +53,7 @@ pub(crate) fn read_atom(
         }
         '[' => {
             let (end, class) = read_class(alloc, chars, at, flags.case_insensitive, verbose)?;
-            Ok((end, Hir::Class(class)))
+            Ok((end, Hir::class(alloc, class)?))
         }
         c => Ok((at + 1, char_tree(alloc, flags, c)?)),
     }
@@ -103,7 +103,7 @@ fn char_tree(alloc: Global, flags: Flags, c: char) -> Result<Hir, AllocError>
     let mut letter = Vec::new(alloc);
     letter.push(only(c))?;
     let class = Class::new(alloc, letter)?.ascii_case_fold(alloc)?;
-    Ok(Hir::Class(class))
+    Hir::class(alloc, class)
 }
 
 /// The tree of what an escape gives.
@@ -112,7 +112,7 @@ fn piece_tree(alloc: Global, flags: Flags, piece: Piece) -> Result<Hir, AllocErr
 {
     match piece {
         Piece::Char(c) => char_tree(alloc, flags, c),
-        Piece::Set { set, negated } => Ok(Hir::Class(Class::named(alloc, set, negated)?)),
+        Piece::Set { set, negated } => Hir::class(alloc, Class::named(alloc, set, negated)?),
         Piece::Look(look) => Ok(Hir::Look(look)),
     }
 }
