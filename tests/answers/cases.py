@@ -1,5 +1,7 @@
-"""What all lists share: dice, the text of a line, small changes of a text, and the judge."""
+"""What all lists share: dice, the text of a line, small changes of a text, the judge, and the
+choice among generated cases."""
 
+import itertools
 import random
 import subprocess
 import unicodedata
@@ -102,6 +104,36 @@ def meaning(case, answer):
     if word == 'err' and text:
         return 2, text
     raise SystemExit(f'unexpected answer to {case!r}: {answer}')
+
+
+def quotas_of(families):
+    """How many cases of each kind are kept, from four numbers for each family: of matches and of
+    cases without a match, each of patterns that match the empty haystack and of others."""
+    kinds = list(itertools.product((0, 1), repeat=2))
+    return {
+        (family, *kind): number
+        for family, numbers in families.items()
+        for kind, number in zip(kinds, numbers)
+    }
+
+
+def chosen_rows(judge, rows, count, structure):
+    """So many rows from the front, but for those with a changed pattern that is refused or with a
+    broken one that isn't refused by one of the texts in `structure`.
+
+    A row is a family, a pattern, two haystacks, and the text by which the pattern is to be refused
+    or an empty text. Only changed and broken patterns may be answered otherwise. A row that is
+    chosen leaves the text out."""
+    rows = list(itertools.islice(rows, count))
+    answers = ask(judge, [(pattern, '') for _, pattern, *_ in rows])
+    chosen = []
+    for (family, pattern, near, far, wanted), (_, text) in zip(rows, answers):
+        if family == 'changed' and text or family == 'broken' and text not in structure:
+            continue
+        if text != wanted and family != 'broken':
+            raise SystemExit(f'unexpected answer to {pattern!r}: {text}')
+        chosen.append((family, pattern, near, far))
+    return chosen
 
 
 def kept_lines(judge, rows, quotas, seen):

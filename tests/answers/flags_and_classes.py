@@ -6,8 +6,8 @@ import string
 from typing import NamedTuple
 
 from cases import (
-    MISSING, OPERATORS, ROUNDS, SEED, UNCLOSED, UNOPENED, Dice, ask, edited, edited_often,
-    kept_lines, line_of, noise,
+    MISSING, OPERATORS, ROUNDS, SEED, UNCLOSED, UNOPENED, Dice, ask, chosen_rows, edited,
+    edited_often, kept_lines, line_of, noise, quotas_of,
 )
 from flags_and_classes_picked import FAULTS, LOOKS, PICKED, SETS, systematic
 
@@ -40,11 +40,7 @@ FAMILIES = {
     'both cases': (20, 220, 20, 140),
     'changed': (10, 120, 10, 110),
 }
-QUOTAS = {
-    (family, *kind): number
-    for family, numbers in FAMILIES.items()
-    for kind, number in zip(((0, 0), (0, 1), (1, 0), (1, 1)), numbers)
-}
+QUOTAS = quotas_of(FAMILIES)
 QUOTAS.update({('broken', text): 50 for text in STRUCTURE})
 QUOTAS.update({('faulty', text): 16 for text, *_ in FAULTS_OF_ITEMS})
 
@@ -475,21 +471,6 @@ def generated(dice):
             yield family, pattern, near, far, text
 
 
-def chosen_rows(judge, dice, count):
-    """Rows of so many generated patterns, without changed patterns that are refused and broken
-    ones that aren't. No other pattern is a surprise."""
-    rows = list(itertools.islice(generated(dice), count))
-    answers = ask(judge, [(pattern, '') for _, pattern, *_ in rows])
-    chosen = []
-    for (family, pattern, near, far, wanted), (_, text) in zip(rows, answers):
-        if family == 'changed' and text or family == 'broken' and not text:
-            continue
-        if text != wanted and family != 'broken':
-            raise SystemExit(f'unexpected answer to {pattern!r}: {text}')
-        chosen.append((family, pattern, near, far))
-    return chosen
-
-
 def picked_cases():
     """The cases picked by hand, each with the text of its refusal, or with an empty text."""
     for pattern, *texts in PICKED:
@@ -515,5 +496,5 @@ def picked_lines(judge):
 def lines(judge):
     """The whole list."""
     seen = {pattern for (pattern, _), _ in picked_cases()}
-    rows = chosen_rows(judge, Dice(SEED), PATTERNS)
+    rows = chosen_rows(judge, generated(Dice(SEED)), PATTERNS, STRUCTURE)
     return picked_lines(judge) + kept_lines(judge, rows, QUOTAS, seen)

@@ -2,19 +2,17 @@
 
 import itertools
 import re
-import string
 
 from cases import (
-    MISSING, OPERATORS, ROUNDS, SEED, UNCLOSED, UNOPENED, Dice, ask, edited, edited_often,
-    kept_lines, line_of, noise,
+    MISSING, OPERATORS, ROUNDS, SEED, UNCLOSED, UNOPENED, Dice, ask, chosen_rows, edited,
+    edited_often, kept_lines, line_of, noise, quotas_of,
 )
 from flags_and_classes import (
     ALPHABETS, FAULTS_OF_ITEMS, IGNORES_CASE, LINE_ENDS, MIXED, Directive, Group, Leaf, Maker,
     framed, is_outside, near_of, some_flags,
 )
-from whole_grammar_picked import (
-    FAULTS, MISSING_COUNTED, NESTING, PICKED, ends_in_braces, systematic,
-)
+from whole_grammar_faults import FAULTS, MISSING_COUNTED, NESTING
+from whole_grammar_picked import PICKED, ends_in_braces, systematic
 
 PATTERNS = 33_000  # how many generated patterns the judge is asked about
 LONGEST = 160  # characters of a generated pattern, unless it is nested too deeply
@@ -33,11 +31,7 @@ FAMILIES = {
     'all': (100, 400, 40, 360),
     'changed': (20, 180, 10, 190),
 }
-QUOTAS = {
-    (family, *kind): number
-    for family, numbers in FAMILIES.items()
-    for kind, number in zip(((0, 0), (0, 1), (1, 0), (1, 1)), numbers)
-}
+QUOTAS = quotas_of(FAMILIES)
 QUOTAS.update({('broken', text): 30 for text in STRUCTURE})
 QUOTAS.update({('faulty', text): 12 for text, *_ in FAULTS_OF_ITEMS})
 QUOTAS.update({('faulty', text): 30 for text, *_ in NEW_FAULTS})
@@ -306,21 +300,6 @@ def is_fit(pattern, text):
     return text or product <= LARGEST
 
 
-def chosen_rows(judge, dice, count):
-    """Rows of so many generated patterns, without changed patterns that are refused and broken
-    ones that aren't refused for their structure. No other pattern is a surprise."""
-    rows = list(itertools.islice(generated(dice), count))
-    answers = ask(judge, [(pattern, '') for _, pattern, *_ in rows])
-    chosen = []
-    for (family, pattern, near, far, wanted), (_, text) in zip(rows, answers):
-        if family == 'changed' and text or family == 'broken' and text not in STRUCTURE:
-            continue
-        if text != wanted and family != 'broken':
-            raise SystemExit(f'unexpected answer to {pattern!r}: {text}')
-        chosen.append((family, pattern, near, far))
-    return chosen
-
-
 def picked_cases():
     """The cases picked by hand, each with the text of its refusal, with an empty text, or with
     None where the judge alone tells. The rows leave out what stands before them."""
@@ -352,13 +331,13 @@ def picked_lines(judge):
 def lines(judge):
     """The whole list."""
     seen = {pattern for (pattern, _), _ in picked_cases()}
-    rows = chosen_rows(judge, Dice(SEED), PATTERNS)
+    rows = chosen_rows(judge, generated(Dice(SEED)), PATTERNS, STRUCTURE)
     return picked_lines(judge) + kept_lines(judge, rows, QUOTAS, seen)
 
 
 def fresh_lines(judge, seed, count):
     """So many generated lines of another seed, without any choice among their kinds."""
-    rows = chosen_rows(judge, Dice(seed), count)
+    rows = chosen_rows(judge, generated(Dice(seed)), count, STRUCTURE)
     cases = [(pattern, haystack) for _, pattern, *texts in rows for haystack in texts]
     cases = list(dict.fromkeys(cases))[:count]
     return [line_of(case, *answer) for case, answer in zip(cases, ask(judge, cases))]
