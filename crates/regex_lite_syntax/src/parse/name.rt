@@ -45,7 +45,7 @@ pub(crate) fn read_name(chars: &[char], at: usize) -> Result<usize, Error>
     match char_at(chars, at) {
         None => return Err(SyntaxFault::MissingGroupName.into()),
         Some('>') => return Err(SyntaxFault::EmptyGroupName.into()),
-        Some(c) if !may_begin_name(c) => return Err(fault_of_start(c).into()),
+        Some(c) if !may_begin_name(c) => return Err(fault_of_start(chars, at).into()),
         Some(_) => {}
     }
     let mut end = at + 1;
@@ -61,12 +61,16 @@ pub(crate) fn read_name(chars: &[char], at: usize) -> Result<usize, Error>
     Err(SyntaxFault::UnclosedGroupName.into())
 }
 
-/// The fault of what stands in a name's place and begins with this character: `(?<=` and `(?<!`
-/// open a look-around.
-fn fault_of_start(c: char) -> SyntaxFault {
-    match c {
-        '=' | '!' => SyntaxFault::LookUnsupported,
-        _ => SyntaxFault::InvalidGroupName,
+/// The fault of what stands at the index in a name's place and begins none: `(?<=` and `(?<!` open
+/// a look-around, but nothing behind `(?P<` does.
+fn fault_of_start(chars: &[char], at: usize) -> SyntaxFault
+    requires { at ≤ length chars.now }
+{
+    let may_be_look = at >= 2 && chars[at - 2] == '?';
+    if may_be_look && (is_at(chars, at, '=') || is_at(chars, at, '!')) {
+        SyntaxFault::LookUnsupported
+    } else {
+        SyntaxFault::InvalidGroupName
     }
 }
 

@@ -82,6 +82,8 @@ fn names(rt: HostRuntime) -> Result<(), Fail> {
         ("(?<¾a>z)", invalid),
         ("(?<a☃>z)", invalid),
         ("(?< a>z)", invalid),
+        ("(?P<=a)", invalid),
+        ("(?P<!a)", invalid),
         ("(?<foo", unclosed),
         ("(?<>z)", empty),
         ("(?P<>z)", empty),

@@ -49,13 +49,34 @@ fn refused_names(rt: HostRuntime) -> Result<(), Fail> {
         ("[a>z", SyntaxFault::InvalidGroupName),
         ("a b>z", SyntaxFault::InvalidGroupName),
         ("a-b>z", SyntaxFault::InvalidGroupName),
-        ("=a)", SyntaxFault::LookUnsupported),
-        ("!a)", SyntaxFault::LookUnsupported),
         ("foo", SyntaxFault::UnclosedGroupName),
         ("f", SyntaxFault::UnclosedGroupName),
     ] {
         match read(&rt, text)? {
             Ok((_, name)) => assert!(rt; false, "at {text:?}: {name}"),
+            Err(e) => assert!(rt; e == Error::from(fault), "at {text:?}"),
+        }
+    }
+    Ok(())
+}
+
+/// `(?<=` and `(?<!` open a look-around, but `(?P<` opens nothing but a name.
+#[test]
+fn look_around(rt: HostRuntime) -> Result<(), Fail> {
+    for (text, fault) in [
+        ("?<=a)", SyntaxFault::LookUnsupported),
+        ("?<!a)", SyntaxFault::LookUnsupported),
+        ("?P<=a)", SyntaxFault::InvalidGroupName),
+        ("?P<!a)", SyntaxFault::InvalidGroupName),
+        ("?<:a)", SyntaxFault::InvalidGroupName),
+    ] {
+        let chars: Vec<char> = text.chars().collect(rt.alloc())?;
+        let read = match skip_name_opening(&chars, 0) {
+            Some(start) => read_name(&chars, start),
+            None => Ok(0),
+        };
+        match read {
+            Ok(end) => assert!(rt; false, "at {text:?}: {end}"),
             Err(e) => assert!(rt; e == Error::from(fault), "at {text:?}"),
         }
     }
