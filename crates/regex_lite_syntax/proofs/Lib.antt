@@ -3,7 +3,6 @@ pub mod Asks
 pub mod AtomTrees
 pub mod Atoms
 pub mod BetweenRanges
-pub mod CharSets
 pub mod ClassItems
 pub mod ClassLemmas
 pub mod ClassOpenings

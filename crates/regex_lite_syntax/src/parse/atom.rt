@@ -1,6 +1,8 @@
 //! Items that are no groups.
-ghost use Rattle.std.specs.Prelude.{◌≡◌, ◌<◌, ◌≤◌, drop, length, IfOk, IfErr};
+ghost use Rattle.std.specs.Prelude.{◌≡◌, ◌<◌, ◌≤◌, drop, length, IsTrue, IfOk, IfErr};
 ghost use Rattle.regex_lite_syntax.specs.Text.{Text};
+ghost use Rattle.regex_lite_syntax.specs.Characters.{is_letter};
+ghost use Rattle.regex_lite_syntax.specs.Sets.{just, case_closure};
 ghost use Rattle.regex_lite_syntax.specs.Gaps.{EndsGap};
 ghost use Rattle.regex_lite_syntax.specs.Ranges.{AreRunsOf};
 ghost use Rattle.regex_lite_syntax.specs.Escapes.{one};
@@ -100,10 +102,19 @@ fn char_tree(alloc: Global, flags: Flags, c: char) -> Result<Hir, AllocError>
     if !flags.case_insensitive || !c.is_ascii_alphabetic() {
         return Ok(Hir::Char(c));
     }
-    let mut letter = Vec::new(alloc);
-    letter.push(only(c))?;
-    let class = Class::new(alloc, letter)?.ascii_case_fold(alloc)?;
+    let class = both_cases(alloc, c)?;
     Hir::class(alloc, class)
+}
+
+/// An ASCII letter in both its cases.
+fn both_cases(alloc: Global, letter: char) -> Result<Class, AllocError>
+    requires { IsTrue (is_letter letter) }
+    ensures { IfOk result (λ class. AreRunsOf class.ranges.items (case_closure (just letter))) }
+{
+    let upper = only(letter.to_ascii_uppercase());
+    let lower = only(letter.to_ascii_lowercase());
+    let ranges = vec![in alloc; upper, lower]?;
+    Ok(Class { ranges })
 }
 
 /// The tree of what an escape gives.

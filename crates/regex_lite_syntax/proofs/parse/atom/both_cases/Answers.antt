@@ -1,0 +1,11 @@
+use Rattle.std.proofs.Common.{◌≡◌, [], ◌∷◌}
+use Rattle.regex_lite_syntax.proofs.LetterCases.{alone, letter_class}
+use Rattle.std.specs.Char.{to_ascii_uppercase, to_ascii_lowercase}
+use Rattle.regex_lite_syntax.proofs.parse.atom.both_cases.Goals as goal
+
+pub returns : goal.returns
+returns c =
+    let upper = c.to_ascii_uppercase.ensures.value in
+    let lower = c.to_ascii_lowercase.ensures.value in
+    let items = c.in_ok-ranges.ensures.items in
+    rw (items, c.only-upper.ensures, c.only-lower.ensures, upper, lower) (letter_class c.args.letter c.requires)
