@@ -1,7 +1,7 @@
 -- From what a search found to what the exit status tells.
 use Rattle.std.proofs.Common.{◌≡◌, ◌↔◌, ℕ, Bool, true, false, IsTrue, List, Option, Some, None, IfSome, IsUtf8, subst, refl}
 use Rattle.regex_lite.specs.Settings.{default_settings}
-use Rattle.regex_lite.specs.Expression.{Expression, IsAccepted, IsWellFormed, MatchesIn, default_expression}
+use Rattle.regex_lite.specs.Expression.{Expression, IsAccepted, MatchesIn, default_expression}
 use Rattle.rxl.specs.Program.{IsPatternAnswered, status_of}
 
 -- the status is 0 where a match was found
@@ -9,23 +9,17 @@ told_by_status : (found : Bool) (P : Type 0) → (IsTrue found ↔ P) → (statu
 told_by_status true P told = (λ _. told.0 refl, λ _. refl)
 told_by_status false P told = (λ is_zero. cc, λ holds. let no_match : false ≡ true = told.1 holds in cc)
 
--- what is accepted has a tree
-has_tree : (pattern : List ℕ) → IsAccepted (default_settings pattern) → IsWellFormed (default_expression pattern)
-has_tree pattern (tree, admitted) = (tree, (admitted.0, admitted.1, admitted.2))
-
 -- a search of the whole input answers for the pattern
 pub answered_by_search : (pattern : List ℕ) (input : Option (List ℕ)) (re : Expression) (haystack : List ℕ)
     → re ≡ default_expression pattern → IsAccepted (default_settings pattern)
     → IfSome input (λ known. haystack ≡ known) → IsUtf8 haystack
     → (found : Bool) → (IsTrue found ↔ MatchesIn re haystack) → IsPatternAnswered pattern input (status_of found)
 answered_by_search pattern None re haystack re_is accepted whole is_utf8 found told = record {
-  well_formed = has_tree pattern accepted;
   accepted = accepted;
   is_text = tt;
   told = tt;
 }
 answered_by_search pattern (Some known) re haystack re_is accepted whole is_utf8 found told = record {
-  well_formed = has_tree pattern accepted;
   accepted = accepted;
   is_text = subst IsUtf8 whole is_utf8;
   told = told_by_status found (MatchesIn (default_expression pattern) known)

@@ -2,7 +2,7 @@
 use Rattle.std.specs.Prelude.{◌≡◌, ◌↔◌, ℕ, Bool, true, false, List, [], ◌∷◌, Option, IfSome, IsUtf8, map, codes}
 use Rattle.std.specs.Borrow.{Bor}
 use Rattle.regex_lite.specs.Settings.{default_settings}
-use Rattle.regex_lite.specs.Expression.{IsAccepted, IsWellFormed, MatchesIn, default_expression}
+use Rattle.regex_lite.specs.Expression.{IsAccepted, MatchesIn, default_expression}
 
 -- the exit status of a run that found a match, or found that there is none
 abbrev pub status_of : (found : Bool) → ℕ
@@ -17,9 +17,7 @@ AsksForMatch args pattern = map (λ arg. arg.now) args ≡ codes "is-match" ∷ 
 -- input. Of an input whose bytes aren't known nothing can be said
 pub record IsPatternAnswered (pattern : List ℕ) (input : Option (List ℕ)) (status : ℕ)
     : Type 0 where
-  -- the grammar gives the pattern a tree
-  pub well_formed : IsWellFormed (default_expression pattern)
-  -- and no limit is passed
+  -- the grammar gives the pattern a tree, and no limit is passed
   pub accepted : IsAccepted (default_settings pattern)
   -- the input is a text
   pub is_text : IfSome input IsUtf8
