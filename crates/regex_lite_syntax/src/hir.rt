@@ -5,6 +5,7 @@ ghost use Rattle.regex_lite_syntax.specs.Limits.{depth, depth_of_list};
 ghost use Rattle.regex_lite_syntax.specs.Views.{text_of_string, tree_of};
 
 pub(crate) mod look;
+mod properties;
 
 use crate::class::Class;
 use look::Look;
