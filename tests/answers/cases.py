@@ -80,19 +80,24 @@ def noise(dice, letters):
     return ''.join(dice.pick(letters + '\nz') for _ in range(dice.pick((0, 0, 1, 2, 4))))
 
 
+def answers(judge, questions):
+    """The judge's answers to these lines, one for each."""
+    done = subprocess.run(
+        [judge, 'batch'], input=''.join(questions).encode(), stdout=subprocess.PIPE, check=True
+    )
+    lines = done.stdout.decode().split('\n')[:-1]
+    if len(lines) != len(questions):
+        raise SystemExit(f'{len(questions)} questions, but {len(lines)} answers')
+    return lines
+
+
 def ask(judge, cases):
     """The judge's answers to pairs of pattern and haystack, as pairs: the exit status that a
     program owes, and the text of a refusal or an empty text."""
-    questions = ''.join(
+    questions = [
         f'is-match\t-\t{escaped(pattern)}\t{escaped(haystack)}\n' for pattern, haystack in cases
-    )
-    done = subprocess.run(
-        [judge, 'batch'], input=questions.encode(), stdout=subprocess.PIPE, check=True
-    )
-    answers = done.stdout.decode().split('\n')[:-1]
-    if len(answers) != len(cases):
-        raise SystemExit(f'{len(cases)} questions, but {len(answers)} answers')
-    return [meaning(case, answer) for case, answer in zip(cases, answers)]
+    ]
+    return [meaning(case, answer) for case, answer in zip(cases, answers(judge, questions))]
 
 
 def meaning(case, answer):

@@ -1,5 +1,5 @@
 #!/usr/bin/env python3
-"""make.py JUDGE: rewrites the lists of cases beside this script.
+"""make.py JUDGE: rewrites the lists beside this script, and the sizes in the tests of regex_lite.
 
 With `--fresh SEED NUMBER` it writes that many new cases of the whole grammar to standard output
 instead, and no file.
@@ -9,7 +9,8 @@ started as `JUDGE batch`. For each line of standard input it writes one line. A 
 fields with a tab between: the word `is-match`, a `-` for default settings, the pattern, the
 haystack. In a field a backslash begins one of the escapes \\t, \\n, \\r, \\\\ and \\u{H}, where
 H is a character's number in hexadecimal. The answer is `ok:true`, `ok:false`, or `err:` and the
-text with which the pattern is refused.
+text with which the pattern is refused. Another question has three fields: `limit:` and a size
+limit, flags, the pattern; its answer is `ok:`, or `err:` and a text as before.
 """
 
 import argparse
@@ -20,9 +21,11 @@ sys.dont_write_bytecode = True  # nothing but the lists is written here
 
 import flags_and_classes
 import plain_grammar
+import sizes
 import whole_grammar
 
 HERE = Path(__file__).resolve().parent
+TESTED_SIZES = '../../crates/regex_lite/src/tests/sizes/rows.rt'
 
 
 def write(name, lines):
@@ -31,7 +34,7 @@ def write(name, lines):
 
 
 def main():
-    parser = argparse.ArgumentParser(description='Writes the lists of cases beside this script.')
+    parser = argparse.ArgumentParser(description='Writes the lists and the tested sizes.')
     parser.add_argument('judge', help='a program over the Rust crate, as the head comment says')
     parser.add_argument(
         '--fresh', nargs=2, type=int, metavar=('SEED', 'NUMBER'),
@@ -43,10 +46,13 @@ def main():
         lines = whole_grammar.fresh_lines(judge, *arguments.fresh)
         sys.stdout.buffer.write(''.join(lines).encode())
         return
+    rows = sizes.table(judge)
     lists = {
         'plain-grammar.tsv': plain_grammar.lines(judge),
         'flags-and-classes.tsv': flags_and_classes.lines(judge),
         'whole-grammar.tsv': whole_grammar.lines(judge),
+        'sizes.tsv': sizes.lines(rows),
+        TESTED_SIZES: sizes.constants(rows),
     }
     for name, lines in lists.items():
         write(name, lines)

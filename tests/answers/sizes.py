@@ -1,0 +1,126 @@
+"""The rows of sizes.tsv, which the tests of regex_lite have too."""
+
+import re
+
+import flags_and_classes
+import sizes_picked
+import whole_grammar
+from cases import Dice, answers, escaped
+
+SEED = 2  # another than that of the lists of answers, so that the patterns are others too
+
+LIMIT = 10_485_760  # the default size limit; no pattern of the list is above it
+LONGEST = 72  # characters of a generated pattern as it is written in the list
+WIDEST = 100  # characters of a line of the tests
+ROWS_OF_CONSTANT = 50  # a check of the tests takes no constant of all rows
+
+HEAD = '//! Patterns with their sizes in upstream. `tests/answers/make.py` writes this file.\n'
+REFUSED = 'err:compiled regex exceeded size limit'
+
+# How many generated patterns of each family are in the list. The remaining families of the two
+# generators are refused, or are accepted only by chance.
+FAMILIES = {
+    whole_grammar: {'groups': 70, 'counts': 80, 'verbose': 60, 'all': 60},
+    flags_and_classes: {'mixed': 20, 'classes': 40, 'looks': 10, 'both cases': 17},
+}
+
+FLAGS_AT_THE_START = re.compile(r'\(\?([imsRUx]+)\)')
+
+# Upstream doesn't join a range that ends with U+D7FF and one that begins with U+E000, though no
+# character stands between them, and counts two ranges, or three in the complement. That is a
+# fault, so no class has both characters. All other sizes are the same as by the rule.
+BESIDE_THE_SURROGATES = ('\ud7ff|d7ff', '\ue000|e000')
+
+
+def is_fit(pattern):
+    """Whether the pattern is short, and upstream's size is the one that is wanted."""
+    tight = re.sub(r'\s|#[^\n]*\n', '', pattern)
+    is_joined = not all(re.search(either, tight, re.IGNORECASE) for either in BESIDE_THE_SURROGATES)
+    return is_joined and len(escaped(pattern)) <= LONGEST
+
+
+def generated(dice, seen):
+    """Flags and patterns of both generators that aren't in `seen`, as many of each family as are
+    wanted. Half of the patterns that begin with flags are built with these flags instead."""
+    for generator, families in FAMILIES.items():
+        left = dict(families)
+        rows = generator.generated(dice)
+        while any(left.values()):
+            family, pattern, *_ = next(rows)
+            start = FLAGS_AT_THE_START.match(pattern)
+            pair = '-', pattern
+            if start and dice.chance(0.5):
+                pair = start[1], pattern[start.end():]
+            if left.get(family) and pair not in seen and is_fit(pattern):
+                left[family] -= 1
+                seen.add(pair)
+                yield pair
+
+
+def chosen():
+    """The pairs of flags and a pattern, all different."""
+    picked = list(sizes_picked.cases())
+    seen = set(picked)
+    if len(seen) < len(picked):
+        raise SystemExit('two picked patterns are alike')
+    return picked + list(generated(Dice(SEED), seen))
+
+
+def are_accepted(judge, pairs, limits):
+    """Whether the judge builds each pattern with its flags under its size limit."""
+    questions = [
+        f'limit:{limit}\t{flags}\t{escaped(pattern)}\n'
+        for (flags, pattern), limit in zip(pairs, limits)
+    ]
+    told = answers(judge, questions)
+    for pair, answer in zip(pairs, told):
+        if answer not in ('ok:', REFUSED):
+            raise SystemExit(f'unexpected answer to {pair!r}: {answer}')
+    return [answer == 'ok:' for answer in told]
+
+
+def sizes_of(judge, pairs):
+    """The least size limit under which the judge builds each pattern, by halving."""
+    least = [0] * len(pairs)  # with these limits all are refused
+    most = [LIMIT] * len(pairs)  # with these all are accepted
+    for pair, is_accepted in zip(pairs, are_accepted(judge, pairs, most)):
+        if not is_accepted:
+            raise SystemExit(f'too large: {pair!r}')
+    while any(high - low > 1 for low, high in zip(least, most)):
+        middle = [(low + high) // 2 for low, high in zip(least, most)]
+        for at, is_accepted in enumerate(are_accepted(judge, pairs, middle)):
+            (most if is_accepted else least)[at] = middle[at]
+    return most
+
+
+def table(judge):
+    """The rows: flags, a pattern and its size."""
+    pairs = chosen()
+    return [(*pair, size) for pair, size in zip(pairs, sizes_of(judge, pairs))]
+
+
+def lines(rows):
+    """The lines of sizes.tsv."""
+    return [f'{flags}\t{escaped(pattern)}\t{size}\n' for flags, pattern, size in rows]
+
+
+def constants(rows):
+    """The lines of constants with these rows, in which the pattern itself sets the flags."""
+    found = [HEAD, 'use super::Row;\n']
+    for number, start in enumerate(range(0, len(rows), ROWS_OF_CONSTANT), 1):
+        part = rows[start:start + ROWS_OF_CONSTANT]
+        found += ['\n', '#[rattlefmt::skip]\n']
+        found.append(f'pub(super) const ROWS_{number}: [Row; {len(part)}] = [\n')
+        found += [row_of(*row) for row in part]
+        found.append('];\n')
+    return found
+
+
+def row_of(flags, pattern, size):
+    """The line of a row in a constant."""
+    directive = '' if flags == '-' else f'(?{flags})'
+    literal = escaped(directive + pattern).replace('"', '\\"')
+    row = f'    ("{literal}", {size}),\n'
+    if len(row) > WIDEST:
+        raise SystemExit(f'too long for a row: {pattern!r}')
+    return row
