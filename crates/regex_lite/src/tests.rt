@@ -13,6 +13,7 @@ mod looks;
 mod matching;
 mod refusals;
 mod setters;
+mod sizes;
 mod values;
 
 use crate::{Error, ErrorKind, Regex};
