@@ -15,6 +15,7 @@ mod refusals;
 mod setters;
 mod sizes;
 mod values;
+mod written_out;
 
 use crate::{Error, ErrorKind, Regex};
 use std::process::Abort;

@@ -26,16 +26,3 @@ const ROWS: [Row; 17] = [
 fn rows(rt: HostRuntime) -> Result<(), Fail> {
     expect_rows(&rt, &ROWS)
 }
-
-const BILLIONS: [Row; 4] = [
-    ("a{4294967295}", "a", false),
-    ("(?:){4294967295}", "", true),
-    ("(?:a|){4294967295}", "a", true),
-    ("^a{0,4294967295}$", "aaa", true),
-];
-
-/// Billions of passes are told at once.
-#[test]
-fn billions(rt: HostRuntime) -> Result<(), Fail> {
-    expect_rows(&rt, &BILLIONS)
-}

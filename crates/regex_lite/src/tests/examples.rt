@@ -93,3 +93,21 @@ fn search(rt: HostRuntime) -> Result<(), Fail> {
     assert!(rt; !regex.is_match("a")?);
     Ok(())
 }
+
+/// At `RegexBuilder::size_limit`.
+#[test]
+fn size(rt: HostRuntime) -> Result<(), Fail> {
+    let alloc = rt.alloc();
+    let mut builder = RegexBuilder::new(alloc, "a")?;
+    assert!(rt; builder.size_limit(143).build().is_err());
+    assert!(rt; builder.size_limit(144).build()?.is_match("a")?);
+    Ok(())
+}
+
+/// At `Regex::captures_len`.
+#[test]
+fn group_count(rt: HostRuntime) -> Result<(), Fail> {
+    let regex = Regex::new(rt.alloc(), "(a)(?<x>b)")?;
+    assert_eq!(rt; regex.captures_len(), 3);
+    Ok(())
+}

@@ -1,10 +1,14 @@
-//! The nest limit.
+//! The limits on nesting and on what is written out.
 use crate::tests::expect_refusal;
 use crate::{Error, ErrorKind, Regex, RegexBuilder};
 use std::alloc::Global;
 use std::test::Fail;
 
 const TOO_DEEP: &str = "pattern has too much nesting";
+
+const TOO_LARGE: &str = "compiled regex exceeded size limit";
+
+const TOO_MANY_PLACES: &str = "exhausted state IDs, too many states";
 
 /// A pattern in so many capturing groups.
 fn within_groups(alloc: Global, count: usize, pattern: &str) -> Result<String, Fail> {
@@ -73,5 +77,45 @@ fn greatest(rt: HostRuntime) -> Result<(), Fail> {
     assert!(rt; build_within(alloc, "a", u32::MAX)?.is_match("a")?);
     let nested = within_groups(alloc, 100, "a")?;
     assert!(rt; build_within(alloc, nested.as_str(), u32::MAX)?.is_match("a")?);
+    Ok(())
+}
+
+/// Without a call of the setter the size limit is 10485760.
+#[test]
+fn size_by_default(rt: HostRuntime) -> Result<(), Fail> {
+    let alloc = rt.alloc();
+    for (bars, wanted) in [(291_265, true), (291_266, false)] {
+        let pattern = "|".repeat(alloc, bars)?;
+        assert_eq!(rt; Regex::new(alloc, pattern.as_str()).is_ok(), wanted, "{bars}");
+    }
+    assert!(rt; Regex::new(alloc, "a{327676}").is_ok());
+    let built = Regex::new(alloc, "a{327677}");
+    expect_refusal(&rt, "a{327677}", built, ErrorKind::Size, TOO_LARGE)
+}
+
+/// Patterns of billions of places.
+const BILLIONS: [&str; 4] = [
+    "a{4294967295}",
+    "(?:a|){4294967295}",
+    "a{0,4294967295}",
+    "(?:){4294967295}{4294967295}",
+];
+
+/// Under no limit on the size.
+const TOO_MANY: [&str; 3] = ["a{4294967295}", "(?:a|){4294967295}", "a{0,4294967295}"];
+
+/// What is too large is refused at once, and takes no memory.
+#[test]
+fn billions(rt: HostRuntime) -> Result<(), Fail> {
+    let alloc = rt.alloc();
+    for pattern in BILLIONS {
+        let built = Regex::new(alloc, pattern);
+        expect_refusal(&rt, pattern, built, ErrorKind::Size, TOO_LARGE)?;
+    }
+    for pattern in TOO_MANY {
+        let mut builder = RegexBuilder::new(alloc, pattern)?;
+        let built = builder.size_limit(usize::MAX).build();
+        expect_refusal(&rt, pattern, built, ErrorKind::Places, TOO_MANY_PLACES)?;
+    }
     Ok(())
 }

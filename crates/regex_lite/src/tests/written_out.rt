@@ -1,0 +1,75 @@
+//! Patterns written out: their places, arrows and sizes, and what they say of their groups.
+use crate::{Regex, RegexBuilder};
+use std::test::Fail;
+
+/// A pattern with its places, its arrows and its size.
+const ROWS: [(&str, usize, usize, usize); 7] = [
+    ("a", 4, 3, 144),
+    ("[^\\s\\S]", 4, 2, 144),
+    ("(?:)*", 7, 8, 256),
+    ("(?:)+", 5, 5, 184),
+    ("(?:a|aa)+b", 10, 11, 352),
+    ("(?:(a)|(b)){2}", 19, 20, 672),
+    ("(?:a?){30}a{30}", 123, 152, 4192),
+];
+
+#[test]
+fn rows(rt: HostRuntime) -> Result<(), Fail> {
+    for (pattern, places, arrows, size) in ROWS {
+        let mut builder = RegexBuilder::new(rt.alloc(), pattern)?;
+        let regex = builder.size_limit(size).build()?;
+        assert_eq!(rt; regex.places(), places, "{pattern:?}");
+        assert_eq!(rt; regex.arrows(), arrows, "{pattern:?}");
+        assert!(rt; builder.size_limit(size - 1).build().is_err(), "{pattern:?}");
+    }
+    Ok(())
+}
+
+/// A lazy `?` is one operator and not two.
+#[test]
+fn lazy(rt: HostRuntime) -> Result<(), Fail> {
+    assert_eq!(rt; Regex::new(rt.alloc(), "a??")?.places(), 6);
+    Ok(())
+}
+
+/// A pattern with its number of groups, the whole match among them.
+const GROUPS: [(&str, usize); 7] = [
+    ("a", 1),
+    ("(a)", 2),
+    ("(?:a)", 1),
+    ("(a)(?<x>b)", 3),
+    ("(?<x>a){0}(b)", 3),
+    ("(a){0}", 1),
+    ("((a)|(b)){2,3}", 4),
+];
+
+#[test]
+fn groups(rt: HostRuntime) -> Result<(), Fail> {
+    for (pattern, wanted) in GROUPS {
+        let regex = Regex::new(rt.alloc(), pattern)?;
+        assert_eq!(rt; regex.captures_len(), wanted, "{pattern:?}");
+    }
+    Ok(())
+}
+
+/// A pattern with the number of groups that take part in every match, the whole match among them.
+const STATIC: [(&str, Option<usize>); 9] = [
+    ("a", Some(1)),
+    ("(a)|(b)", Some(2)),
+    ("(a)(b)?", None),
+    ("(?:(a)|b)", None),
+    ("(?:(a)|(b)){2}", Some(2)),
+    ("(a)(b)", Some(3)),
+    ("(a)+", Some(2)),
+    ("(a)*", None),
+    ("a*", Some(1)),
+];
+
+#[test]
+fn static_groups(rt: HostRuntime) -> Result<(), Fail> {
+    for (pattern, wanted) in STATIC {
+        let regex = Regex::new(rt.alloc(), pattern)?;
+        assert_eq!(rt; regex.static_captures_len(), wanted, "{pattern:?}");
+    }
+    Ok(())
+}
