@@ -82,8 +82,8 @@ after_passes-returns t c = elim c.loop-test.branch [
 pub after_tree-returns-in-Repetition : goal.after_tree-returns-in-Repetition
 after_tree-returns-in-Repetition t c =
     let r = c.in-Repetition in
-    let same : tree_of c.args.hir.now ≡ repetition r.min r.max r.greedy (tree_of c.deref.result.now) =
+    let same : tree_of c.args.hir.now ≡ repetition r.min r.max r.greedy (tree_of c.deref-in-Repetition.result.now) =
     ap tree_of r.is ∙ tree_of-Repetition r.min r.max r.greedy r.sub
-    ∙ ap (λ sub. repetition r.min r.max r.greedy (tree_of sub)) (sym c.deref.ensures) in
+    ∙ ap (λ sub. repetition r.min r.max r.greedy (tree_of sub)) (sym c.deref-in-Repetition.ensures) in
     subst (λ (tree : Tree). IfOk c.after_repetition.result (IsReached (Matches c.args.haystack.now tree) c.args.from.now))
     (sym same) c.after_repetition.ensures
