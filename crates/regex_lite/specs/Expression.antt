@@ -4,7 +4,7 @@ use Rattle.regex_lite_syntax.specs.declared.flags.Flags.{Flags}
 use Rattle.regex_lite_syntax.specs.Tree.{Tree}
 use Rattle.regex_lite_syntax.specs.declared.error.Error.{Error}
 use Rattle.regex_lite_syntax.specs.Errors.{kind_of}
-use Rattle.regex_lite_syntax.specs.Grammar.{IsTree, HasTree}
+use Rattle.regex_lite_syntax.specs.Grammar.{IsTree}
 use Rattle.regex_lite_syntax.specs.Limits.{IsAdmitted, SaysOf}
 use Rattle.regex_lite_syntax.specs.Matches.{HasMatch}
 use Rattle.regex_lite_syntax.specs.Properties.{captures_len, group_name}
@@ -23,10 +23,6 @@ expression_of settings = record { pattern = settings.pattern; flags = settings.f
 -- what is built of a pattern under the default settings
 abbrev pub default_expression : List ℕ → Expression
 default_expression pattern = record { pattern = pattern; flags = no_flags }
-
--- the grammar gives the pattern a tree
-abbrev pub IsWellFormed : Expression → Type 0
-IsWellFormed re = HasTree re.flags (chars re.pattern)
 
 -- under these settings the grammar gives the pattern this tree, and the limits on nesting and on the
 -- number of groups are not passed

@@ -3,7 +3,7 @@
 use Rattle.std.specs.Prelude.{◌≡◌, ℕ, zero, suc, ◌+◌, ◌-◌, ◌*◌, Bool, true, false, List, [], ◌∷◌, ◌++◌, length, map, Option, Some, None}
 use Rattle.regex_lite_syntax.specs.Tree.{Tree, Trees, empty, character, class, look, repetition, capture, concat, alternation, none, more}
 use Rattle.regex_lite_syntax.specs.Properties.{nullable}
-use Rattle.regex_lite_engine.specs.Places.{Place, leads, go, go_marking, go_holding, choice, one_char, one_of}
+use Rattle.regex_lite_engine.specs.Places.{Place, complete, leads, go, go_marking, go_holding, choice, one_char, one_of}
 
 -- places, and the number of the one where they are entered
 abbrev pub Part : Type 0
@@ -129,3 +129,10 @@ abbrev mutual
       let first = layout a base exit in
       let later = branches_layout rest (base + length first.0) exit in
       (first.0 ++ later.0, first.1 ∷ later.1)
+
+-- the layout of the whole pattern, behind the place with number 0 where the match is complete
+abbrev pub whole_layout : Tree → Part
+whole_layout tree = capture_layout 0 (layout tree) 1 0
+
+abbrev pub whole_table : Tree → List (Place ℕ)
+whole_table tree = complete ∷ (whole_layout tree).0

@@ -8,3 +8,7 @@ pub mod Graphs
 pub mod Laws
 -- what the functions inside promise one another
 pub mod Layout
+pub mod Saturation
+pub mod Groups
+pub mod Names
+pub mod AsciiMaps

@@ -7,9 +7,17 @@ ghost use Rattle.regex_lite_engine.specs.Graphs.{IsGraphOf};
 ghost use Rattle.regex_lite_engine.specs.Size.{Fits, SaysOfTree};
 
 pub mod class;
+mod count;
+mod groups;
+mod names;
 pub mod place;
+mod write;
 
+use count::Counts;
+use groups::static_captures_len;
+use names::capture_names;
 use place::Place;
+use write::write_out;
 use regex_lite_syntax::{Error, Hir};
 use std::alloc::Global;
 
@@ -44,10 +52,17 @@ impl Graph {
         ensures refused { IfErr result
             (λ error. SaysOfTree size_limit (tree_of hir.now) (kind_of error)) }
     {
-        let _ = alloc;
-        let _ = hir;
-        let _ = size_limit;
-        Err(Error::memory())
+        let counts = Counts::of(hir);
+        let count = counts.within(size_limit)?;
+        let capture_names = capture_names(alloc, hir)?;
+        let (places, start) = write_out(alloc, hir, count)?;
+        Ok(Graph {
+            places,
+            start,
+            arrows: counts.arrows(),
+            capture_names,
+            static_captures_len: static_captures_len(hir),
+        })
     }
 
     /// What stands at a place. No other call hands that out.

@@ -5,6 +5,8 @@ use Rattle.regex_lite_syntax.specs.declared.error.ErrorKind.{ErrorKind}
 use Rattle.regex_lite_syntax.specs.declared.error.ErrorKind.TheVariants as kind
 use Rattle.regex_lite_syntax.specs.declared.error.Fault.{Fault}
 use Rattle.regex_lite_syntax.specs.declared.error.Fault.TheVariants.{Syntax, Nesting, Groups, Size, Places, Slots, Memory, Replace}
+use Rattle.regex_lite_syntax.specs.declared.error.LimitFault.{LimitFault}
+use Rattle.regex_lite_syntax.specs.declared.error.LimitFault.TheVariants as limit
 use Rattle.regex_lite_syntax.specs.declared.error.syntax.SyntaxFault.{SyntaxFault}
 use Rattle.regex_lite_syntax.specs.declared.error.syntax.SyntaxFault.TheVariants.{DuplicateCaptureName, UnclosedGroup, UnclosedGroupQuestion, UnopenedGroup, LookUnsupported, EmptyFlags, MissingGroupName, InvalidGroupName, UnclosedGroupName, EmptyGroupName, FlagUnrecognized, FlagRepeatedNegation, FlagDuplicate, FlagUnexpectedEof, FlagDanglingNegation, DecimalNoDigits, DecimalInvalid, HexBraceInvalidDigit, HexBraceUnexpectedEof, HexBraceEmpty, HexBraceInvalid, HexFixedUnexpectedEof, HexFixedInvalidDigit, HexFixedInvalid, HexUnexpectedEof, EscapeUnexpectedEof, BackreferenceUnsupported, UnicodeClassUnsupported, EscapeUnrecognized, UncountedRepetitionSubMissing, CountedRepetitionSubMissing, CountedRepetitionUnclosed, CountedRepetitionMinUnclosed, CountedRepetitionCommaUnclosed, CountedRepetitionMinMaxUnclosed, CountedRepetitionInvalid, CountedRepetitionInvalidRange, ClassUnclosedAfterItem, ClassInvalidRangeItem, ClassInvalidItem, ClassUnclosedAfterDash, ClassUnclosedAfterNegation, ClassUnclosedAfterClosing, ClassInvalidRange, ClassUnclosed, ClassNestUnsupported, ClassIntersectionUnsupported, ClassDifferenceUnsupported, ClassSymmetricDifferenceUnsupported, SpecialWordBoundaryUnclosed, SpecialWordBoundaryUnrecognized, SpecialWordOrRepetitionUnexpectedEof}
 
@@ -123,6 +125,16 @@ too_deep = record { fault = Nesting }
 -- the refusal of a pattern with more groups than can be numbered
 abbrev pub too_many_groups : Error
 too_many_groups = record { fault = Groups }
+
+-- the fault of a pattern that passes a limit on what is written out
+abbrev pub limit_fault : LimitFault → Fault
+limit_fault limit.Size = Size
+limit_fault limit.Places = Places
+limit_fault limit.Slots = Slots
+
+-- the refusal of a pattern that passes it
+abbrev pub passed_limit : LimitFault → Error
+passed_limit fault = record { fault = limit_fault fault }
 
 -- the refusal of a growth
 abbrev pub out_of_memory : Error

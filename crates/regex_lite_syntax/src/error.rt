@@ -3,7 +3,7 @@
 //! A text of a syntax fault stands in one place, `SyntaxFault::text`, so that it tells which rule
 //! of the grammar a pattern broke.
 ghost use Rattle.std.specs.Prelude.{◌≡◌, Some};
-ghost use Rattle.regex_lite_syntax.specs.Errors.{kind_of, text_of, syntax_error, too_deep, too_many_groups, out_of_memory, refused_replacement};
+ghost use Rattle.regex_lite_syntax.specs.Errors.{kind_of, text_of, syntax_error, too_deep, too_many_groups, passed_limit, out_of_memory, refused_replacement};
 
 mod syntax;
 
@@ -30,6 +30,17 @@ pub enum ErrorKind {
     Memory,
     /// A caller's replacer refused.
     Replace,
+}
+
+/// Which limit on what is written out a pattern passes.
+#[derive(Clone, Copy, PartialEq, Eq, Debug)]
+pub enum LimitFault {
+    /// The size limit.
+    Size,
+    /// How many places can be numbered.
+    Places,
+    /// How many slots can be numbered.
+    Slots,
 }
 
 #[derive(Clone, Copy, PartialEq, Eq, Debug)]
@@ -137,6 +148,19 @@ impl From<SyntaxFault> for Error {
         Error {
             fault: Fault::Syntax(fault),
         }
+    }
+}
+
+impl From<LimitFault> for Error {
+    ghost from_gives = { λ fault error. error ≡ passed_limit fault };
+
+    fn from(fault: LimitFault) -> Error {
+        let fault = match fault {
+            LimitFault::Size => Fault::Size,
+            LimitFault::Places => Fault::Places,
+            LimitFault::Slots => Fault::Slots,
+        };
+        Error { fault }
     }
 }
 

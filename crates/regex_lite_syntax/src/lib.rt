@@ -11,7 +11,7 @@ mod parse;
 mod tests;
 
 pub use class::{Class, ClassRange};
-pub use error::{Error, ErrorKind, SyntaxFault};
+pub use error::{Error, ErrorKind, LimitFault, SyntaxFault};
 pub use flags::Flags;
 pub use hir::Hir;
 pub use hir::look::Look;

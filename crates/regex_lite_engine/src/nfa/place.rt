@@ -1,6 +1,7 @@
 //! The places of a graph.
 use crate::nfa::class::MappedClass;
 use regex_lite_syntax::Look;
+use std::mem::size_of;
 
 /// A place of a graph, with the numbers of the places that its arrows lead to.
 #[derive(Drop)]
@@ -10,7 +11,7 @@ pub enum Place {
     /// Reads this character.
     Char { c: char, to: u32 },
     /// Reads a character of this set.
-    Class { set: MappedClass, to: u32 },
+    Class { to: u32, set: MappedClass },
     /// Goes on where the look holds.
     Look { look: Look, to: u32 },
     /// Marks the slot with the position.
@@ -22,3 +23,6 @@ pub enum Place {
     /// The match is complete.
     Match,
 }
+
+// As small as it can be with the map of a set inside: a search reads many of them.
+const _: () = prove!(size_of::<Place>() == 32);

@@ -1,0 +1,15 @@
+use Rattle.std.proofs.Common.{◌<◌, length}
+use Rattle.regex_lite_syntax.specs.declared.class.ClassRange.{ClassRange}
+use Rattle.regex_lite_syntax.proofs.RangeLemmas.{in_ranges_more}
+use Rattle.regex_lite_engine.proofs.AsciiMaps.{bits_of_either}
+use Rattle.regex_lite_engine.proofs.nfa.class.map_of_ranges.Goals as goal
+
+pub loop-range-preserved : goal.loop-range-preserved
+loop-range-preserved c d within =
+    let inside : c.loop-range.range-index < length c.args.ranges.now = c.loop-range-test.true in
+    let none : ClassRange = record { start = 0; end = 0 } in
+    let bits = bits_of_either c.loop-range.map c.map_of_range-map.result d in
+    let before = c.loop-range.invariant d within in
+    let added = c.map_of_range-map.ensures d within in
+    let more = in_ranges_more c.args.ranges.now c.loop-range.range-index d none inside in
+    cc

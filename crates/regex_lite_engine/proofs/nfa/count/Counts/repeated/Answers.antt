@@ -1,0 +1,35 @@
+use Rattle.std.proofs.Common.{◌*◌, ap, arith, rules}
+use Rattle.regex_lite_engine.specs.Counts.{places, arrows, choice_arrows, ranges}
+use Rattle.regex_lite_engine.proofs.nfa.count.Counts.repeated.Goals as goal
+
+pub returns-then-min-eq0 : goal.returns-then-min-eq0
+returns-then-min-eq0 c = λ body greedy counted.
+    let p = c.times.ensures (places body) counted.places in
+    let a = c.times-2.ensures (arrows body) counted.arrows in
+    let o = c.times-3.ensures (choice_arrows body) counted.choice_arrows in
+    let r = c.times-4.ensures (ranges body) counted.ranges in
+    record {
+      places = cc;
+      arrows = cc;
+      choice_arrows = cc;
+      ranges = omega (arith, r, ap (λ n. n * ranges body) c.copies-copies.ensures);
+      names_size = counted.names_size;
+      greatest_index = counted.greatest_index;
+      nullable = search rules;
+    }
+
+pub returns-else-min-eq0 : goal.returns-else-min-eq0
+returns-else-min-eq0 c = λ body greedy counted.
+    let p = c.times.ensures (places body) counted.places in
+    let a = c.times-2.ensures (arrows body) counted.arrows in
+    let o = c.times-3.ensures (choice_arrows body) counted.choice_arrows in
+    let r = c.times-4.ensures (ranges body) counted.ranges in
+    record {
+      places = cc;
+      arrows = cc;
+      choice_arrows = cc;
+      ranges = omega (arith, r, ap (λ n. n * ranges body) c.copies-copies.ensures);
+      names_size = counted.names_size;
+      greatest_index = counted.greatest_index;
+      nullable = search rules;
+    }

@@ -1,0 +1,14 @@
+use Rattle.std.proofs.Common.{◌≡◌, ◌<◌, ℕ, map, drop, length}
+use Rattle.regex_lite_syntax.specs.Tree.{trees as trees_of}
+use Rattle.regex_lite_syntax.specs.Properties.{either, greatest_index_in, group_name_in}
+use Rattle.regex_lite_syntax.specs.Views.{tree_of}
+use Rattle.regex_lite_engine.specs.Names.{name_at}
+use Rattle.regex_lite_engine.proofs.nfa.names.+add.Given as goal
+
+abbrev pub invariant-add_all_names-loop-tree : goal.invariant-add_all_names-loop-tree
+invariant-add_all_names-loop-tree l =
+    let left = trees_of (map tree_of (drop l.tree-index l.trees)) in
+    let all = trees_of (map tree_of l.trees) in
+    (greatest_index_in left < length l.names)
+    × ((k : ℕ) → either (name_at l.names k) (group_name_in left k)
+    ≡ either (name_at l.initial.names k) (group_name_in all k))

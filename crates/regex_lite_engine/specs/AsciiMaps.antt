@@ -1,0 +1,20 @@
+-- Maps of ASCII characters: a bit for each, in a number or in two words of it.
+use Rattle.std.specs.Prelude.{◌≡◌, ℕ, ◌/◌, ◌%◌, ◌<◌, ◌==◌, List, slice_index}
+use Rattle.std.specs.Int.{bit_at}
+use Rattle.regex_lite_syntax.specs.Sets.{Set}
+
+-- the bit of an ASCII character tells whether the set holds it
+abbrev pub TellsOf : (bit : ℕ → ℕ) → Set → Type 0
+TellsOf bit set = (c : ℕ) → c < 128 → (bit c == 1) ≡ set c
+
+-- a bit of words of 64 bits, the lowest first
+abbrev pub bit_of_words : List ℕ → ℕ → ℕ
+bit_of_words words k = bit_at (slice_index words (k / 64)) (k % 64)
+
+-- the number is a map of the set
+abbrev pub IsMapOf : ℕ → Set → Type 0
+IsMapOf map = TellsOf (bit_at map)
+
+-- the words are a map of the set
+abbrev pub AreMapOf : List ℕ → Set → Type 0
+AreMapOf words = TellsOf (bit_of_words words)

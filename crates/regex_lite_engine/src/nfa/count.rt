@@ -1,0 +1,247 @@
+//! What a tree takes when it is written out, counted before anything is written: one walk over the
+//! tree, which takes no memory.
+//!
+//! A repetition is counted by multiplication, so a number may pass each one that can be stored. It
+//! stops at the greatest of them then, which passes every limit too.
+ghost use Rattle.std.specs.Prelude.{◌≡◌, ◌+◌, ◌*◌, ◌^◌, ◌<◌, ◌≤◌, ◌↔◌, ℕ, Bool, map, option_map, IfOk, IfErr};
+ghost use Rattle.regex_lite_syntax.specs.Errors.{kind_of, passed_limit};
+ghost use Rattle.regex_lite_syntax.specs.Regular.{IsRegular};
+ghost use Rattle.regex_lite_syntax.specs.Tree.{Tree, Trees, class, repetition, capture, concat, alternation, more, trees};
+ghost use Rattle.regex_lite_syntax.specs.Views.{text_of_string, tree_of};
+ghost use Rattle.regex_lite_engine.specs.Counts.{name_size, whole_places, whole_arrows};
+ghost use Rattle.regex_lite_engine.specs.Saturation.{saturated, AreCountsOf, AreSumsOf};
+ghost use Rattle.regex_lite_engine.specs.Size.{size, Fits, SaysOfTree};
+
+mod copies;
+#[cfg(test)]
+mod tests;
+
+use copies::{OwnPlaces, copies};
+use regex_lite_syntax::{Class, Hir, LimitFault};
+
+/// What a tree takes when it is written out. A number that cannot be stored stops at the greatest
+/// one.
+#[derive(Clone, Copy)]
+pub(crate) struct Counts {
+    pub(crate) places: u64,
+    pub(crate) arrows: u64,
+    pub(crate) choice_arrows: u64,
+    pub(crate) ranges: u64,
+    pub(crate) names_size: u64,
+    pub(crate) greatest_index: u32,
+    /// A repetition round the tree has other places where this holds.
+    pub(crate) nullable: bool,
+}
+
+/// What no tree at all takes.
+const NONE: Counts = Counts {
+    places: 0,
+    arrows: 0,
+    choice_arrows: 0,
+    ranges: 0,
+    names_size: 0,
+    greatest_index: 0,
+    nullable: true,
+};
+
+/// What a place takes that reads a character and leads on.
+const READING: Counts = Counts {
+    places: 1,
+    arrows: 1,
+    nullable: false,
+    ..NONE
+};
+
+/// What each place counts in the size of a pattern.
+const PLACE_SIZE: u128 = 32;
+
+/// What each group counts in it, the whole match among them.
+const GROUP_SIZE: u128 = 16;
+
+/// What each arrow of a choice counts in it.
+const ARROW_SIZE: u128 = 4;
+
+/// What each range of a set counts in it.
+const RANGE_SIZE: u128 = 8;
+
+/// The least index of a group whose slots cannot be numbered.
+const FIRST_PAST_SLOTS: u32 = 0x8000_0000;
+
+impl Counts {
+    /// What the tree takes.
+    #[cycle(count)]
+    pub(crate) fn of(hir: &Hir) -> Counts
+        ensures { AreCountsOf (tree_of hir.now) result }
+    {
+        match hir {
+            Hir::Empty | Hir::Look(_) => Counts {
+                nullable: true,
+                ..READING
+            },
+            Hir::Char(_) => READING,
+            Hir::Class(set) => Counts::of_class(set),
+            Hir::Repetition { min, max, sub, .. } => Counts::of(sub).repeated(*min, *max),
+            Hir::Capture { index, name, sub } => Counts::of(sub).captured(*index, name),
+            Hir::Concat(parts) => Counts::of_parts(parts),
+            Hir::Alternation(branches) => Counts::of_branches(branches),
+        }
+    }
+
+    /// What these parts take, one after another.
+    #[cycle(count)]
+    fn of_parts(parts: &[Hir]) -> Counts
+        ensures { AreCountsOf (concat (trees (map tree_of parts.now))) result }
+    {
+        let mut counts = NONE;
+        for i in (0..parts.len()).rev() {
+            counts = Counts::of(&parts[i]).then(counts);
+        }
+        counts
+    }
+
+    /// What these branches take, with their choice and their join.
+    #[cycle(count)]
+    fn of_branches(branches: &[Hir]) -> Counts
+        ensures { AreCountsOf (alternation (trees (map tree_of branches.now))) result }
+    {
+        let mut counts = Counts {
+            places: 2,
+            arrows: 1,
+            nullable: false,
+            ..NONE
+        };
+        for i in (0..branches.len()).rev() {
+            counts = Counts::of(&branches[i]).or(counts);
+        }
+        counts
+    }
+
+    /// What the place of a set takes. It has no arrow where the set is empty.
+    fn of_class(set: &Class) -> Counts
+        ensures { AreCountsOf (class set.now.ranges.items) result }
+    {
+        let ranges = set.ranges().len();
+        Counts {
+            arrows: if ranges == 0 { 0 } else { 1 },
+            ranges: ranges as u64,
+            ..READING
+        }
+    }
+
+    /// What this takes with what follows it.
+    fn then(self, rest: Counts) -> Counts
+        ensures { AreSumsOf self rest result }
+    {
+        Counts {
+            places: self.places.saturating_add(rest.places),
+            arrows: self.arrows.saturating_add(rest.arrows),
+            choice_arrows: self.choice_arrows.saturating_add(rest.choice_arrows),
+            ranges: self.ranges.saturating_add(rest.ranges),
+            names_size: self.names_size.saturating_add(rest.names_size),
+            greatest_index: self.greatest_index.max(rest.greatest_index),
+            nullable: self.nullable && rest.nullable,
+        }
+    }
+
+    /// What this branch takes with the others, which have an arrow less.
+    fn or(self, others: Counts) -> Counts
+        ensures { (branch : Tree) (rest : Trees)
+            → AreCountsOf branch self → AreCountsOf (alternation rest) others
+            → AreCountsOf (alternation (more branch rest)) result }
+    {
+        let both = self.then(others);
+        Counts {
+            arrows: both.arrows.saturating_add(1),
+            choice_arrows: both.choice_arrows.saturating_add(1),
+            nullable: self.nullable || others.nullable,
+            ..both
+        }
+    }
+
+    /// What a group round this takes.
+    fn captured(self, index: u32, name: &Option<String>) -> Counts
+        ensures { (body : Tree) → AreCountsOf body self
+            → AreCountsOf (capture index (option_map text_of_string name.now) body) result }
+    {
+        Counts {
+            places: self.places.saturating_add(2),
+            arrows: self.arrows.saturating_add(2),
+            names_size: self.names_size.saturating_add(name_size(name)),
+            greatest_index: self.greatest_index.max(index),
+            ..self
+        }
+    }
+
+    /// What a repetition of this takes.
+    fn repeated(self, min: u32, max: Option<u32>) -> Counts
+        ensures { (body : Tree) (greedy : Bool) → AreCountsOf body self
+            → AreCountsOf (repetition min max greedy body) result }
+    {
+        let copies = copies(min, max);
+        let own = OwnPlaces::of(min, max, self.nullable);
+        Counts {
+            places: times(copies, self.places, own.choices + own.others),
+            arrows: times(copies, self.arrows, 2 * own.choices + own.others),
+            choice_arrows: times(copies, self.choice_arrows, 2 * own.choices),
+            ranges: times(copies, self.ranges, 0),
+            nullable: min == 0 || self.nullable,
+            ..self
+        }
+    }
+
+    /// How many places the whole pattern has, where it passes none of the limits.
+    pub(crate) fn within(&self, size_limit: usize) -> Result<u32, LimitFault>
+        ensures ok { (tree : Tree) → AreCountsOf tree self.now
+            → IfOk result (λ places. (places ≡ whole_places tree) × Fits size_limit tree) }
+        ensures err { (tree : Tree) → AreCountsOf tree self.now
+            → IfErr result (λ fault. SaysOfTree size_limit tree (kind_of (passed_limit fault))) }
+    {
+        if self.size() > size_limit as u128 {
+            return Err(LimitFault::Size);
+        }
+        if self.greatest_index >= FIRST_PAST_SLOTS {
+            return Err(LimitFault::Slots);
+        }
+        match u32::try_from(self.places.saturating_add(3)) {
+            Ok(places) => Ok(places),
+            Err(_) => Err(LimitFault::Places),
+        }
+    }
+
+    /// The size of the whole pattern, or a number that passes each limit as that does.
+    fn size(&self) -> u128
+        ensures { (tree : Tree) (limit : ℕ) → AreCountsOf tree self.now → limit < 2 ^ 64
+            → (result ≤ limit) ↔ (size tree ≤ limit) }
+    {
+        PLACE_SIZE * (u128::from(self.places) + 3)
+            + GROUP_SIZE * (u128::from(self.greatest_index) + 1)
+            + ARROW_SIZE * u128::from(self.choice_arrows)
+            + RANGE_SIZE * u128::from(self.ranges)
+            + u128::from(self.names_size)
+    }
+
+    /// How many arrows the whole pattern has, where its places can be numbered.
+    pub(crate) fn arrows(&self) -> usize
+        ensures { (tree : Tree) → AreCountsOf tree self.now → IsRegular tree
+            → whole_places tree < 2 ^ 32 → result ≡ whole_arrows tree }
+    {
+        self.arrows.saturating_add(2) as usize
+    }
+}
+
+/// What the name takes, if there is one.
+fn name_size(name: &Option<String>) -> u64
+    ensures { result ≡ saturated (name_size (option_map text_of_string name.now)) }
+{
+    match name {
+        None => 0,
+        Some(name) => (name.len() as u64).saturating_add(4),
+    }
+}
+
+/// So many times what each takes, and so much more.
+fn times(copies: u64, each: u64, own: u64) -> u64
+    ensures { (n : ℕ) → each ≡ saturated n → result ≡ saturated (copies * n + own) }
+{
+    copies.saturating_mul(each).saturating_add(own)
+}

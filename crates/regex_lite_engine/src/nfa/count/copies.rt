@@ -1,0 +1,63 @@
+//! What a repetition is written out as: copies of its body, and places beside them.
+ghost use Rattle.std.specs.Prelude.{◌≡◌, ◌+◌, ◌*◌, ◌^◌, ◌<◌};
+ghost use Rattle.regex_lite_engine.specs.Counts.{copies, own_places, own_arrows, own_choice_arrows, bounded_places, bounded_arrows};
+
+/// How many copies of its body a repetition has.
+pub(crate) fn copies(min: u32, max: Option<u32>) -> u64
+    ensures { result ≡ copies min max }
+{
+    match max {
+        None => u64::from(min.max(1)),
+        Some(max) => u64::from(min.max(max)),
+    }
+}
+
+/// The places that a repetition has beside the copies of its body.
+#[derive(Clone, Copy)]
+pub(crate) struct OwnPlaces {
+    pub(crate) choices: u64,
+    /// A join, and an empty place.
+    pub(crate) others: u64,
+}
+
+impl OwnPlaces {
+    /// Those of a repetition with these bounds.
+    pub(crate) fn of(min: u32, max: Option<u32>, nullable_body: bool) -> OwnPlaces
+        ensures places { result.choices + result.others ≡ own_places min max nullable_body }
+        ensures arrows { 2 * result.choices + result.others ≡ own_arrows min max nullable_body }
+        ensures choice_arrows { 2 * result.choices ≡ own_choice_arrows min max nullable_body }
+        ensures few { (result.choices < 2 ^ 32) × (result.others < 3) }
+    {
+        let Some(max) = max else {
+            return if min == 0 && nullable_body {
+                OwnPlaces {
+                    choices: 2,
+                    others: 1,
+                }
+            } else {
+                OwnPlaces {
+                    choices: 1,
+                    others: 0,
+                }
+            };
+        };
+        let choices = max.saturating_sub(min);
+        OwnPlaces {
+            choices: u64::from(choices),
+            others: other_places(min, choices),
+        }
+    }
+}
+
+/// How many places a repetition with so many choices has that are no choices: no join where there
+/// is no choice, and an empty place where no copy stands before the choices.
+fn other_places(min: u32, choices: u32) -> u64
+    ensures places { choices + result ≡ bounded_places min choices }
+    ensures arrows { 2 * choices + result ≡ bounded_arrows min choices }
+    ensures few { result < 3 }
+{
+    if choices == 0 {
+        return if min == 0 { 1 } else { 0 };
+    }
+    if min > 0 || choices == 1 { 1 } else { 2 }
+}

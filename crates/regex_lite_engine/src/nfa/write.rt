@@ -1,0 +1,215 @@
+//! A tree written out as a table of places. The last part is written first, so that the number of
+//! what follows is known.
+ghost use Rattle.std.specs.Prelude.{◌≡◌, ◌<◌, ◌≤◌, ◌+◌, ◌*◌, ◌^◌, [], ◌∷◌, ◌++◌, length, map, drop, slice_set, slice_index_or, IfOk};
+ghost use Rattle.regex_lite_syntax.specs.Tree.{trees};
+ghost use Rattle.regex_lite_syntax.specs.Views.{tree_of};
+ghost use Rattle.regex_lite_syntax.specs.Properties.{greatest_index, greatest_index_in};
+ghost use Rattle.regex_lite_engine.specs.declared.nfa.place.Place.TheVariants.{Match};
+ghost use Rattle.regex_lite_engine.specs.Places.{complete, choice};
+ghost use Rattle.regex_lite_engine.specs.Graphs.{place_of};
+ghost use Rattle.regex_lite_engine.specs.Counts.{places, places_in, whole_places};
+ghost use Rattle.regex_lite_engine.specs.Layout.{IsAdded, layout, capture_layout, chain_layout, branches_layout, alternation_layout};
+
+mod repetition;
+
+use crate::nfa::class::MappedClass;
+use crate::nfa::place::Place;
+use regex_lite_syntax::Hir;
+use std::alloc::{AllocError, Global};
+use std::marker::Model;
+
+/// The table of the tree's places, with those of group 0 round it and the match at number 0, and
+/// the number where it is entered.
+///
+/// Condition: `count` is how many places there are. So the table needs memory only once.
+///
+/// # Errors
+///
+/// Where a growth was refused, or a set has as many owners as can be counted.
+pub(crate) fn write_out(
+    alloc: Global,
+    hir: &Hir,
+    count: u32,
+) -> Result<(Vec<Place>, u32), AllocError>
+    requires count { count ≡ whole_places (tree_of hir.now) }
+    requires slots { greatest_index (tree_of hir.now) < 2 ^ 31 }
+    ensures written { IfOk result (λ graph. IsAdded (complete ∷ []) (map place_of graph.0.items)
+        graph.1 (capture_layout 0 (layout (tree_of hir.now)) 1 0)) }
+    ensures length { IfOk result (λ graph.
+        length graph.0.items ≡ whole_places (tree_of hir.now)) }
+{
+    let mut writer = Writer::new(alloc, count)?;
+    let start = writer.write_capture(0, hir, 0)?;
+    Ok((writer.places, start))
+}
+
+/// The places that have been written.
+#[derive(Drop)]
+struct Writer {
+    alloc: Global,
+    places: Vec<Place>,
+}
+
+impl Model for Writer {
+    ghost use Rattle.std.specs.Prelude.{List};
+    ghost use Rattle.regex_lite_engine.specs.declared.nfa.place.Place.{Place};
+
+    ghost Value = { List Place };
+
+    ghost view = { λ writer. writer.places.items };
+}
+
+impl Writer {
+    /// The match alone, with memory for so many places.
+    fn new(alloc: Global, count: u32) -> Result<Writer, AllocError>
+        ensures { IfOk result (λ writer. writer ≡ Match ∷ []) }
+    {
+        let mut places = Vec::with_capacity(alloc, count as usize)?;
+        places.push(Place::Match)?;
+        Ok(Writer { alloc, places })
+    }
+
+    /// Adds a place, and answers its number.
+    fn add(&mut self, place: Place) -> Result<u32, AllocError>
+        requires { length self.old + 1 < 2 ^ 32 }
+        ensures number { IfOk result (λ number. number ≡ length self.old) }
+        ensures added { IfOk result (λ _. self.new ≡ self.old ++ place ∷ []) }
+    {
+        let number = self.places.len() as u32;
+        self.places.push(place)?;
+        Ok(number)
+    }
+
+    /// Puts another place at a number.
+    fn replace(&mut self, number: u32, place: Place)
+        requires { number < length self.old }
+        ensures { self.new ≡ slice_set self.old number place }
+    {
+        self.places[number as usize] = place;
+    }
+
+    /// Adds the places of the tree, which lead on to `exit`, and answers where they are entered.
+    #[cycle(write)]
+    fn write(&mut self, hir: &Hir, exit: u32) -> Result<u32, AllocError>
+        requires room { length self.old + places (tree_of hir.now) < 2 ^ 32 }
+        requires slots { greatest_index (tree_of hir.now) < 2 ^ 31 }
+        ensures written { IfOk result (λ entry. IsAdded
+            (map place_of self.old) (map place_of self.new) entry
+            (layout (tree_of hir.now) (length self.old) exit)) }
+        ensures grown { IfOk result (λ _.
+            length self.new ≡ length self.old + places (tree_of hir.now)) }
+    {
+        match hir {
+            Hir::Empty => self.add(Place::Empty { to: exit }),
+            Hir::Char(c) => self.add(Place::Char { c: *c, to: exit }),
+            Hir::Class(class) => {
+                let set = MappedClass::new(class)?;
+                self.add(Place::Class { set, to: exit })
+            }
+            Hir::Look(look) => self.add(Place::Look {
+                look: *look,
+                to: exit,
+            }),
+            Hir::Repetition {
+                min,
+                max,
+                greedy,
+                sub,
+            } => self.write_repetition(sub, *min, *max, *greedy, exit),
+            Hir::Capture { index, sub, .. } => self.write_capture(*index, sub, exit),
+            Hir::Concat(parts) => self.write_concat(parts, exit),
+            Hir::Alternation(branches) => self.write_alternation(branches, exit),
+        }
+    }
+
+    /// The same for a group: the place that closes it, its body, the place that opens it.
+    #[cycle(write)]
+    fn write_capture(&mut self, index: u32, sub: &Hir, exit: u32) -> Result<u32, AllocError>
+        requires room { length self.old + (places (tree_of sub.now) + 2) < 2 ^ 32 }
+        requires slots { (index < 2 ^ 31) × (greatest_index (tree_of sub.now) < 2 ^ 31) }
+        ensures written { IfOk result (λ entry. IsAdded
+            (map place_of self.old) (map place_of self.new) entry
+            (capture_layout index (layout (tree_of sub.now)) (length self.old) exit)) }
+        ensures grown { IfOk result (λ _.
+            length self.new ≡ length self.old + (places (tree_of sub.now) + 2)) }
+    {
+        let close = self.add(Place::Slot {
+            slot: 2 * index + 1,
+            to: exit,
+        })?;
+        let body = self.write(sub, close)?;
+        self.add(Place::Slot {
+            slot: 2 * index,
+            to: body,
+        })
+    }
+
+    /// The same for a chain, the last part first.
+    #[cycle(write)]
+    fn write_concat(&mut self, parts: &[Hir], exit: u32) -> Result<u32, AllocError>
+        requires room { length self.old + places_in (trees (map tree_of parts.now)) < 2 ^ 32 }
+        requires slots { greatest_index_in (trees (map tree_of parts.now)) < 2 ^ 31 }
+        ensures written { IfOk result (λ entry. IsAdded
+            (map place_of self.old) (map place_of self.new) entry
+            (chain_layout (trees (map tree_of parts.now)) (length self.old) exit)) }
+        ensures grown { IfOk result (λ _.
+            length self.new ≡ length self.old + places_in (trees (map tree_of parts.now))) }
+    {
+        let mut next = exit;
+        for i in (0..parts.len()).rev() {
+            next = self.write(part_at(parts, i), next)?;
+        }
+        Ok(next)
+    }
+
+    /// The same for alternatives: the join behind them, the branches in order, the choice.
+    #[cycle(write)]
+    fn write_alternation(&mut self, branches: &[Hir], exit: u32) -> Result<u32, AllocError>
+        requires room { let parts = trees (map tree_of branches.now) in
+            length self.old + (places_in parts + 2) < 2 ^ 32 }
+        requires slots { greatest_index_in (trees (map tree_of branches.now)) < 2 ^ 31 }
+        ensures written { let parts = trees (map tree_of branches.now) in
+            IfOk result (λ entry. IsAdded (map place_of self.old) (map place_of self.new) entry
+            (alternation_layout (branches_layout parts) (length self.old) exit)) }
+        ensures grown { let parts = trees (map tree_of branches.now) in
+            IfOk result (λ _. length self.new ≡ length self.old + (places_in parts + 2)) }
+    {
+        let mut entries = Vec::with_capacity(self.alloc, branches.len())?;
+        let join = self.add(Place::Empty { to: exit })?;
+        for branch in branches {
+            entries.push(self.write(branch, join)?)?;
+        }
+        self.add(Place::Branches(entries))
+    }
+}
+
+/// The part at the index.
+fn part_at(parts: &[Hir], i: usize) -> &Hir
+    requires { i < length parts.now }
+    ensures part { result.now ≡ slice_index_or parts.now i result.now }
+    // It takes no more than what is behind it leaves.
+    ensures room { places (tree_of result.now)
+        + places_in (trees (map tree_of (drop (i + 1) parts.now)))
+        ≤ places_in (trees (map tree_of parts.now)) }
+    ensures slots { greatest_index (tree_of result.now)
+        ≤ greatest_index_in (trees (map tree_of parts.now)) }
+{
+    &parts[i]
+}
+
+/// A choice between the body of a repetition and what else there is.
+fn choice_of(greedy: bool, body: u32, other: u32) -> Place
+    ensures { place_of result ≡ choice greedy body other }
+{
+    if greedy {
+        Place::Choice {
+            first: body,
+            second: other,
+        }
+    } else {
+        Place::Choice {
+            first: other,
+            second: body,
+        }
+    }
+}

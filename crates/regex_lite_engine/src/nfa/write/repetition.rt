@@ -1,0 +1,224 @@
+//! The places of a repetition.
+ghost use Rattle.std.specs.Prelude.{◌≡◌, ◌<◌, ◌+◌, ◌*◌, ◌^◌, ◌++◌, length, map, IfOk};
+ghost use Rattle.regex_lite_syntax.specs.Views.{tree_of};
+ghost use Rattle.regex_lite_syntax.specs.Properties.{nullable, greatest_index};
+ghost use Rattle.regex_lite_engine.specs.Graphs.{place_of};
+ghost use Rattle.regex_lite_engine.specs.Counts.{places, copies, own_places, bounded_places};
+ghost use Rattle.regex_lite_engine.specs.Layout.{IsAdded, layout, copies_layout, exactly_layout, choices_layout, star_layout, nullable_star_layout, at_least_layout, between_layout, repetition_layout};
+
+use super::{Writer, choice_of};
+use crate::nfa::place::Place;
+use regex_lite_syntax::Hir;
+use std::alloc::AllocError;
+
+impl Writer {
+    /// Adds the places of a repetition, which lead on to `exit`, and answers where they are
+    /// entered.
+    #[cycle(write)]
+    pub(super) fn write_repetition(
+        &mut self,
+        sub: &Hir,
+        min: u32,
+        max: Option<u32>,
+        greedy: bool,
+        exit: u32,
+    ) -> Result<u32, AllocError>
+        requires room { let body = tree_of sub.now in length self.old
+            + (copies min max * places body + own_places min max (nullable body)) < 2 ^ 32 }
+        requires slots { greatest_index (tree_of sub.now) < 2 ^ 31 }
+        ensures written { let body = tree_of sub.now in IfOk result (λ entry. IsAdded
+            (map place_of self.old) (map place_of self.new) entry
+            (repetition_layout greedy (layout body) min max (nullable body)
+            (length self.old) exit)) }
+        ensures grown { let body = tree_of sub.now in IfOk result (λ _. length self.new
+            ≡ length self.old + (copies min max * places body
+            + own_places min max (nullable body))) }
+    {
+        match max {
+            None => {
+                if min > 0 {
+                    self.write_at_least(sub, min - 1, greedy, exit)
+                } else if sub.is_nullable() {
+                    self.write_nullable_star(sub, greedy, exit)
+                } else {
+                    self.write_star(sub, greedy, exit)
+                }
+            }
+            Some(max) => {
+                if max <= min {
+                    self.write_exactly(sub, min, exit)
+                } else {
+                    self.write_between(sub, min, max - min, greedy, exit)
+                }
+            }
+        }
+    }
+
+    /// The choice and the body, which leads back to it.
+    #[cycle(write)]
+    fn write_star(&mut self, sub: &Hir, greedy: bool, exit: u32) -> Result<u32, AllocError>
+        requires room { length self.old + (places (tree_of sub.now) + 1) < 2 ^ 32 }
+        requires slots { greatest_index (tree_of sub.now) < 2 ^ 31 }
+        ensures written { IfOk result (λ entry. IsAdded
+            (map place_of self.old) (map place_of self.new) entry
+            (star_layout greedy (layout (tree_of sub.now)) (length self.old) exit)) }
+        ensures grown { IfOk result (λ _.
+            length self.new ≡ length self.old + (places (tree_of sub.now) + 1)) }
+    {
+        let (choice, _) = self.write_loop(sub, greedy, exit)?;
+        Ok(choice)
+    }
+
+    /// The join, a loop that is entered at its body, and the choice between the two. A body that
+    /// can match the empty text needs it: a pass that reads nothing then meets the choice of the
+    /// loop for the first time, and what follows the loop has its turn where it is preferred.
+    #[cycle(write)]
+    fn write_nullable_star(&mut self, sub: &Hir, greedy: bool, exit: u32) -> Result<u32, AllocError>
+        requires room { length self.old + (places (tree_of sub.now) + 3) < 2 ^ 32 }
+        requires slots { greatest_index (tree_of sub.now) < 2 ^ 31 }
+        ensures written { IfOk result (λ entry. IsAdded
+            (map place_of self.old) (map place_of self.new) entry
+            (nullable_star_layout greedy (layout (tree_of sub.now)) (length self.old) exit)) }
+        ensures grown { IfOk result (λ _.
+            length self.new ≡ length self.old + (places (tree_of sub.now) + 3)) }
+    {
+        let join = self.add(Place::Empty { to: exit })?;
+        let (_, body) = self.write_loop(sub, greedy, join)?;
+        self.add(choice_of(greedy, body, join))
+    }
+
+    /// A loop that is entered at its body, and so many copies before it.
+    #[cycle(write)]
+    fn write_at_least(
+        &mut self,
+        sub: &Hir,
+        before: u32,
+        greedy: bool,
+        exit: u32,
+    ) -> Result<u32, AllocError>
+        requires room { length self.old + ((before + 1) * places (tree_of sub.now) + 1) < 2 ^ 32 }
+        requires slots { greatest_index (tree_of sub.now) < 2 ^ 31 }
+        ensures written { IfOk result (λ entry. IsAdded
+            (map place_of self.old) (map place_of self.new) entry
+            (at_least_layout greedy (layout (tree_of sub.now)) before (length self.old) exit)) }
+        ensures grown { IfOk result (λ _.
+            length self.new ≡ length self.old + ((before + 1) * places (tree_of sub.now) + 1)) }
+    {
+        let (_, body) = self.write_loop(sub, greedy, exit)?;
+        self.write_copies(sub, before, body)
+    }
+
+    /// So many copies, or an empty place in the stead of none.
+    #[cycle(write)]
+    fn write_exactly(&mut self, sub: &Hir, count: u32, exit: u32) -> Result<u32, AllocError>
+        requires room { length self.old
+            + (count * places (tree_of sub.now) + bounded_places count 0) < 2 ^ 32 }
+        requires slots { greatest_index (tree_of sub.now) < 2 ^ 31 }
+        ensures written { IfOk result (λ entry. IsAdded
+            (map place_of self.old) (map place_of self.new) entry
+            (exactly_layout (layout (tree_of sub.now)) count (length self.old) exit)) }
+        ensures grown { IfOk result (λ _. length self.new
+            ≡ length self.old + (count * places (tree_of sub.now) + bounded_places count 0)) }
+    {
+        if count == 0 {
+            self.add(Place::Empty { to: exit })
+        } else {
+            self.write_copies(sub, count, exit)
+        }
+    }
+
+    /// The join, so many copies that may be left out, and before them those that are needed.
+    #[cycle(write)]
+    fn write_between(
+        &mut self,
+        sub: &Hir,
+        needed: u32,
+        above: u32,
+        greedy: bool,
+        exit: u32,
+    ) -> Result<u32, AllocError>
+        requires some { 0 < above }
+        requires room { let body = tree_of sub.now in length self.old
+            + ((needed + above) * places body + bounded_places needed above) < 2 ^ 32 }
+        requires slots { greatest_index (tree_of sub.now) < 2 ^ 31 }
+        ensures written { let body = layout (tree_of sub.now) in IfOk result (λ entry. IsAdded
+            (map place_of self.old) (map place_of self.new) entry
+            (between_layout greedy body needed above (length self.old) exit)) }
+        ensures grown { let body = tree_of sub.now in IfOk result (λ _. length self.new
+            ≡ length self.old + ((needed + above) * places body + bounded_places needed above)) }
+    {
+        let join = self.add(Place::Empty { to: exit })?;
+        let choices = self.write_choices(sub, above, greedy, join)?;
+        if needed > 0 {
+            self.write_copies(sub, needed, choices)
+        } else if above == 1 {
+            Ok(choices)
+        } else {
+            self.add(Place::Empty { to: choices })
+        }
+    }
+
+    /// So many copies in a row.
+    #[cycle(write)]
+    fn write_copies(&mut self, sub: &Hir, count: u32, exit: u32) -> Result<u32, AllocError>
+        requires room { length self.old + count * places (tree_of sub.now) < 2 ^ 32 }
+        requires slots { greatest_index (tree_of sub.now) < 2 ^ 31 }
+        ensures written { IfOk result (λ entry. IsAdded
+            (map place_of self.old) (map place_of self.new) entry
+            (copies_layout (layout (tree_of sub.now)) count (length self.old) exit)) }
+        ensures grown { IfOk result (λ _.
+            length self.new ≡ length self.old + count * places (tree_of sub.now)) }
+    {
+        let mut next = exit;
+        for _i in 0..count {
+            next = self.write(sub, next)?;
+        }
+        Ok(next)
+    }
+
+    /// So many copies in a row, each with a choice before it that may lead to the join.
+    #[cycle(write)]
+    fn write_choices(
+        &mut self,
+        sub: &Hir,
+        count: u32,
+        greedy: bool,
+        join: u32,
+    ) -> Result<u32, AllocError>
+        requires room { length self.old + count * (places (tree_of sub.now) + 1) < 2 ^ 32 }
+        requires slots { greatest_index (tree_of sub.now) < 2 ^ 31 }
+        ensures written { IfOk result (λ entry. IsAdded
+            (map place_of self.old) (map place_of self.new) entry
+            (choices_layout greedy (layout (tree_of sub.now)) count (length self.old) join)) }
+        ensures grown { IfOk result (λ _.
+            length self.new ≡ length self.old + count * (places (tree_of sub.now) + 1)) }
+    {
+        let mut next = join;
+        for _i in 0..count {
+            let body = self.write(sub, next)?;
+            next = self.add(choice_of(greedy, body, join))?;
+        }
+        Ok(next)
+    }
+
+    /// A loop: the choice and the body, with where each is entered. The choice stands first, and is
+    /// known only when the body has been written.
+    #[cycle(write)]
+    fn write_loop(&mut self, sub: &Hir, greedy: bool, exit: u32) -> Result<(u32, u32), AllocError>
+        requires room { length self.old + (places (tree_of sub.now) + 1) < 2 ^ 32 }
+        requires slots { greatest_index (tree_of sub.now) < 2 ^ 31 }
+        ensures choice { IfOk result (λ entries. entries.0 ≡ length self.old) }
+        ensures body { IfOk result (λ entries.
+            entries.1 ≡ (layout (tree_of sub.now) (length self.old + 1) (length self.old)).1) }
+        ensures written { let body = layout (tree_of sub.now) in IfOk result (λ _.
+            map place_of self.new
+            ≡ map place_of self.old ++ (star_layout greedy body (length self.old) exit).0) }
+        ensures grown { IfOk result (λ _.
+            length self.new ≡ length self.old + (places (tree_of sub.now) + 1)) }
+    {
+        let choice = self.add(Place::Empty { to: exit })?;
+        let body = self.write(sub, choice)?;
+        self.replace(choice, choice_of(greedy, body, exit));
+        Ok((choice, body))
+    }
+}
