@@ -1,4 +1,4 @@
--- How many arrows and how many groups a tree has, by its places.
+-- How many arrows a tree has, by its places.
 use Rattle.std.proofs.Common.{◌≤◌, ◌<◌, ℕ, zero, suc, ◌+◌, ◌-◌, ◌*◌, Bool, true, false, Option, Some, None, List, [], ◌∷◌, arith}
 use Rattle.std.proofs.Math.Nat.{suc-mul}
 use Rattle.regex_lite_syntax.specs.declared.class.ClassRange.{ClassRange}
@@ -36,7 +36,7 @@ set_few [] = omega arith
 set_few (range ∷ rest) = omega arith
 
 mutual
-  -- a tree has less than two arrows for each of its places
+  -- a tree has fewer arrows than twice its places
   pub arrows_few : (tree : Tree) → IsRegular tree → arrows tree < 2 * places tree
   arrows_few empty regular = omega arith
   arrows_few (character c) regular = omega arith

@@ -13,8 +13,6 @@ ghost use Rattle.regex_lite_engine.specs.Saturation.{saturated, AreCountsOf, Are
 ghost use Rattle.regex_lite_engine.specs.Size.{size, Fits, SaysOfTree};
 
 mod copies;
-#[cfg(test)]
-mod tests;
 
 use copies::{OwnPlaces, copies};
 use regex_lite_syntax::{Class, Hir, LimitFault};
