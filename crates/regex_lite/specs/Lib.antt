@@ -1,6 +1,7 @@
 -- what public contracts rest on
 pub mod Settings
 pub mod Expression
+pub mod CaptureNames
 pub use Rattle.regex_lite_syntax.specs.Errors
 pub use Rattle.regex_lite_syntax.specs.Text
 pub use Rattle.regex_lite_syntax.specs.Grammar

@@ -24,7 +24,7 @@ mod plain;
 mod string;
 
 pub use regex_lite_syntax::{Error, ErrorKind};
-pub use string::{Regex, RegexBuilder};
+pub use string::{CaptureNames, Regex, RegexBuilder};
 
 #[cfg(test)]
 mod tests;

@@ -1,6 +1,8 @@
 //! Regexes over haystacks that are `&str`, and the builder that makes them.
 mod builder;
+mod capture_names;
 mod regex;
 
 pub use builder::RegexBuilder;
+pub use capture_names::CaptureNames;
 pub use regex::Regex;

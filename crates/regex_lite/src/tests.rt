@@ -1,6 +1,7 @@
 //! What no clause says: that calls succeed, what is printed, and that the clauses mean what was
 //! meant. The wanted answers are those of the Rust crate `regex-lite`, unless a table says
 //! otherwise.
+mod capture_names;
 mod classes;
 mod conversions;
 mod counts;

@@ -1,0 +1,73 @@
+//! The names of a regex's groups, one after another.
+ghost use Rattle.std.specs.Prelude.{◌≡◌, Some, IfSome, length, map, option_map, string_bytes, ⊤};
+ghost use Rattle.std.specs.Iterator.{YieldsFirstBy, UpTo, item_count};
+ghost use Rattle.std.specs.Iterator.SizeHint.{IsWithinCount};
+
+use std::alloc::AllocError;
+use std::iter::FusedIterator;
+
+/// The names of a regex's groups by index, from group 0 on: `None` for a group that has no name.
+///
+/// How many are left is known exactly. A clone goes on from the same name, and takes no memory.
+#[derive(Debug, Drop)]
+pub struct CaptureNames<'r> {
+    names: &'r [Option<String>],
+}
+
+impl<'r> CaptureNames<'r> {
+    ghost use Rattle.regex_lite.specs.CaptureNames.{names_left};
+
+    /// These names, in this order.
+    pub(crate) fn new(names: &'r [Option<String>]) -> CaptureNames<'r>
+        ensures { names_left result ≡ map (option_map string_bytes) names.now }
+    {
+        CaptureNames { names }
+    }
+}
+
+impl<'r> Clone for CaptureNames<'r> {
+    ghost is_clone = { λ old new. new ≡ old };
+
+    ghost is_infallible = { λ _. ⊤ };
+
+    fn clone(&self) -> Result<CaptureNames<'r>, AllocError> {
+        Ok(CaptureNames { names: self.names })
+    }
+}
+
+impl<'r> Iterator for CaptureNames<'r> {
+    ghost use Rattle.regex_lite.specs.CaptureNames.{names_left};
+
+    type Item = Option<&'r str>;
+
+    ghost next_gives = { YieldsFirstBy (option_map (λ name. name.now)) names_left };
+
+    ghost remaining = { item_count names_left };
+
+    fn next(&mut self) -> Option<Option<&'r str>> {
+        let (first, rest) = self.names.split_first()?;
+        self.names = rest;
+        match first {
+            Some(name) => Some(Some(name.as_str())),
+            None => Some(None),
+        }
+    }
+
+    fn size_hint(&self) -> (usize, Option<usize>)
+        ensures lower { IsWithinCount result.0 (item_count names_left self.now) }
+        ensures upper { IfSome result.1 (UpTo (item_count names_left self.now)) }
+        ensures exact { result
+            ≡ (length (names_left self.now), Some (length (names_left self.now))) }
+    {
+        let len = self.names.len();
+        (len, Some(len))
+    }
+}
+
+impl<'r> ExactSizeIterator for CaptureNames<'r> {
+    fn len(&self) -> usize {
+        self.names.len()
+    }
+}
+
+impl<'r> FusedIterator for CaptureNames<'r> {}
