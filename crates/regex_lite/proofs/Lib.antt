@@ -1,4 +1,5 @@
 pub mod Acceptance
+pub mod GroupNames
 pub mod OneTree
 pub mod LookLemmas
 pub mod NodeLemmas

@@ -1,6 +1,7 @@
 -- A regex as contracts see it, what is built and what is refused, and what a regex tells.
 use Rattle.std.specs.Prelude.{◌≡◌, ◌⊎◌, ℕ, List, Option, None, chars, map, option_map, length, slice_index_or}
 use Rattle.regex_lite_syntax.specs.declared.flags.Flags.{Flags}
+use Rattle.regex_lite_syntax.specs.Text.{Text}
 use Rattle.regex_lite_syntax.specs.Tree.{Tree}
 use Rattle.regex_lite_syntax.specs.declared.error.Error.{Error}
 use Rattle.regex_lite_syntax.specs.Errors.{kind_of}
@@ -50,7 +51,12 @@ OfTree re property = (tree : Tree) × IsTree re.flags (chars re.pattern) tree ×
 abbrev pub MatchesIn : Expression → List ℕ → Type 0
 MatchesIn re haystack = OfTree re (λ tree. HasMatch tree (chars haystack))
 
--- these are the names, as bytes, of the groups of the tree by index, group 0 first
+-- the name at this index, where there is one. The names are given as their bytes
+abbrev pub name_at : List (Option (List ℕ)) → ℕ → Option Text
+name_at names k = slice_index_or (map (option_map chars) names) k None
+
+-- these are the names of the groups of the tree by index. Group 0 is the whole match and has none
 pub record AreNames (names : List (Option (List ℕ))) (tree : Tree) : Type 0 where
   pub each_group : length names ≡ captures_len tree
-  pub name : (k : ℕ) → slice_index_or (map (option_map chars) names) k None ≡ group_name tree k
+  pub name : (k : ℕ) → name_at names k ≡ group_name tree k
+  pub whole_match : name_at names 0 ≡ None

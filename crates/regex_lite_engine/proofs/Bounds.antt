@@ -46,7 +46,7 @@ mutual
       with_own (copies least most) (arrows body) (places body) (own_arrows least most (nullable body))
       (own_places least most (nullable body)) (arrows_few body regular.1)
       (repeated_few least most (nullable body))
-  arrows_few (capture index name body) regular = omega (arith, arrows_few body regular)
+  arrows_few (capture index name body) regular = omega (arith, arrows_few body regular.1)
   arrows_few (concat none) regular = absurd regular.0
   arrows_few (concat (more a rest)) regular =
       omega (arith, arrows_few a regular.1.0, arrows_in_few rest regular.1.1)

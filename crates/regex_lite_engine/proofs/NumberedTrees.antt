@@ -31,7 +31,7 @@ module _ (by : Numbering) where
     fits = fits;
   }
 
-  fits_capture : (index : ℕ) (name : Option Text) (body : Tree) → TreeFits body
+  pub fits_capture : (index : ℕ) (name : Option Text) (body : Tree) → TreeFits body
       → TreeFits (capture index name body)
   fits_capture index name body fits pre after base exit stands in_row =
       let content = place_at (capture index name body) pre after in
@@ -67,7 +67,7 @@ module _ (by : Numbering) where
         let fits = fits_repetition by pre greedy inner least most (nullable body) after base exit in
         fits stands in_row
     fits_tree (capture index name body) regular pre after base exit stands in_row =
-        let inner = fits_tree body regular in
+        let inner = fits_tree body regular.1 in
         fits_capture index name body inner pre after base exit stands in_row
     fits_tree (concat none) regular pre after base exit stands in_row = absurd regular.0
     fits_tree (concat (more a rest)) regular pre after base exit stands in_row =

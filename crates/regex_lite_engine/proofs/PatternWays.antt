@@ -1,5 +1,5 @@
 -- Matches of a pattern and ways through its written-out places.
-use Rattle.std.proofs.Common.{◌≡◌, ◌≢◌, ◌⊎◌, inl, inr, refl, ap, subst, ℕ, suc, List, [], ◌∷◌, length, arith}
+use Rattle.std.proofs.Common.{◌≡◌, ◌≢◌, ◌⊎◌, inl, inr, refl, ap, subst, ℕ, suc, List, [], ◌∷◌, None, length, arith}
 use Rattle.std.proofs.lemmas.Bool.{cases_eq}
 use Rattle.regex_lite_syntax.proofs.Lists.{same_head, same_tail}
 use Rattle.regex_lite_syntax.specs.Text.{Text}
@@ -12,7 +12,7 @@ use Rattle.regex_lite_engine.specs.WrittenOut.{Address, whole, start_address, en
 use Rattle.regex_lite_engine.proofs.Loops.{without_loops}
 use Rattle.regex_lite_engine.proofs.MatchWalks.{match_walk}
 use Rattle.regex_lite_engine.proofs.Rests.{Course, Rest}
-use Rattle.regex_lite_engine.proofs.WalkMatches.{walk_matches}
+use Rattle.regex_lite_engine.proofs.WalkMatches.{past_group, walk_matches}
 use Rattle.regex_lite_engine.proofs.WrittenTrees.{whole_stands}
 
 -- two addresses are one, or they differ
@@ -74,6 +74,7 @@ module _ (tree : Tree) (haystack : Text) where
         fewer = omega arith;
       } in
       let here = whole_stands tree regular in
-      let past = walk_matches course (whole tree) start_address end_address i n regular here rest in
+      let past = past_group course 0 None tree start_address end_address i n
+      (λ a b k m s r. walk_matches course tree a b k m regular s r) here rest in
       let at_end = stays_at_end past.rest.arrows past.to j past.rest.along in
       subst (λ k. Matches haystack tree i k) at_end past.pass

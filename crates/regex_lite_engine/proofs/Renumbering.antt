@@ -1,5 +1,5 @@
 -- The layout of the whole pattern is the written-out one, with numbers in the place of addresses.
-use Rattle.std.proofs.Common.{◌≡◌, ◌<◌, refl, sym, ap, subst, ◌∙◌, arith, ℕ, zero, suc, ◌+◌, inl, inr, List, [], ◌∷◌, ◌++◌, length, get_or, slice_get, append_assoc, length-append, Some}
+use Rattle.std.proofs.Common.{◌≡◌, ◌<◌, refl, sym, ap, subst, ◌∙◌, arith, ℕ, zero, suc, ◌+◌, inl, inr, List, [], ◌∷◌, ◌++◌, length, get_or, slice_get, append_assoc, length-append, Some, None}
 use Rattle.std.proofs.Math.Seq.{get_or-append_seam}
 use Rattle.regex_lite_syntax.specs.Tree.{Tree}
 use Rattle.regex_lite_syntax.specs.Regular.{IsRegular}
@@ -9,7 +9,7 @@ use Rattle.regex_lite_engine.specs.Graphs.{IsRenumbered}
 use Rattle.regex_lite_engine.specs.Layout.{whole_layout, whole_table}
 use Rattle.regex_lite_engine.proofs.Addresses.{in_part, addresses}
 use Rattle.regex_lite_engine.proofs.Numbering.{Numbering, InRow, IsAt, AreAt, Fits, LeadInside, as_many, part_at}
-use Rattle.regex_lite_engine.proofs.NumberedTrees.{fits_tree}
+use Rattle.regex_lite_engine.proofs.NumberedTrees.{fits_capture, fits_tree}
 use Rattle.regex_lite_engine.proofs.Apart.{Apart, apart_first, apart_part, apart_get}
 use Rattle.regex_lite_engine.proofs.ApartAddresses.{InPart, each_in_part, apart_addresses}
 use Rattle.regex_lite_engine.proofs.Among.{Among, among_part, number_of}
@@ -92,7 +92,8 @@ module _ (tree : Tree) (regular : IsRegular tree) where
       (whole_layout tree)
   whole_fits =
       let in_row = row_of all (end_address ∷ []) (addresses (whole tree)) refl in
-      let fits = fits_tree by (whole tree) regular (1 ∷ []) end_address 1 0 in
+      let inner = fits_tree by tree regular in
+      let fits = fits_capture by 0 None tree inner (1 ∷ []) end_address 1 0 in
       fits (refl, omega arith) in_row
 
   table_is : AreAt by (written_out tree) all (whole_table tree)

@@ -2,7 +2,7 @@
 use Rattle.std.proofs.Common.{◌≡◌, inl, inr, refl, sym, ap, subst, ◌∙◌, ℕ, zero, suc, ◌+◌, ◌*◌, Bool, true, false, IsTrue, List, [], ◌∷◌, Option, Some, None, if◌then◌else◌, slice_get}
 use Rattle.std.proofs.lemmas.Bool.{eqb-true}
 use Rattle.regex_lite_syntax.specs.declared.class.ClassRange.{ClassRange}
-use Rattle.regex_lite_syntax.specs.Text.{before, after}
+use Rattle.regex_lite_syntax.specs.Text.{Text, before, after}
 use Rattle.regex_lite_syntax.specs.Ranges.{in_ranges}
 use Rattle.regex_lite_syntax.specs.Sets.{Set, just}
 use Rattle.regex_lite_syntax.specs.Looks.{holds_between}
@@ -43,6 +43,19 @@ module _ {A : Type 0} (c : Course A) where
       let read = was_read set i next.0 (after c.haystack i) next.1 in
       record { to = next.0; pass = read; rest = next.2 }
 
+  -- a group of any index
+  pub past_group : (index : ℕ) (name : Option Text) (body : Tree) (enter exit : A) (i n : ℕ)
+      → ((a b : A) (k m : ℕ) → Stands c.place body a b → Rest c a k m
+          → Passed c (Matches c.haystack body) b k m)
+      → Stands c.place (capture index name body) enter exit → Rest c enter i n
+      → Passed c (Matches c.haystack body) exit i n
+  past_group index name body enter exit i n past_body stands rest =
+      let (first, close, opened, inner, closed) = stands in
+      let inside = after_mark (2 * index) opened rest in
+      let past = past_body first close i n inner inside in
+      let outside = after_mark (2 * index + 1) closed past.rest in
+      record { to = past.to; pass = past.pass; rest = outside }
+
   mutual
     pub walk_matches : (tree : Tree) (enter exit : A) (i n : ℕ) → IsRegular tree
         → Stands c.place tree enter exit → Rest c enter i n
@@ -65,11 +78,8 @@ module _ {A : Type 0} (c : Course A) where
         (λ a b k m s r. walk_matches body a b k m regular.1 s r) least most (nullable body)
         regular.0 stands rest
     walk_matches (capture index name body) enter exit i n regular stands rest =
-        let (first, close, opened, inner, closed) = stands in
-        let inside = after_mark (2 * index) opened rest in
-        let past = walk_matches body first close i n regular inner inside in
-        let outside = after_mark (2 * index + 1) closed past.rest in
-        record { to = past.to; pass = past.pass; rest = outside }
+        past_group index name body enter exit i n
+        (λ a b k m s r. walk_matches body a b k m regular.1 s r) stands rest
     walk_matches (concat parts) enter exit i n regular stands rest =
         past_chain parts enter exit i n regular.1 stands rest
     walk_matches (alternation branches) enter exit i n regular stands rest =

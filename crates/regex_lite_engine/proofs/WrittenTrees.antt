@@ -1,5 +1,6 @@
 -- A tree stands in the graph that has its places, and so a whole pattern where it is written out.
-use Rattle.std.proofs.Common.{refl, ap, ℕ, suc, [], ◌∷◌, unwrap_or}
+use Rattle.std.proofs.Common.{refl, ap, ℕ, suc, [], ◌∷◌, Option, None, unwrap_or}
+use Rattle.regex_lite_syntax.specs.Text.{Text}
 use Rattle.regex_lite_syntax.specs.Tree.{Tree, Trees, empty, character, class, look, repetition, capture, concat, alternation, none, more}
 use Rattle.regex_lite_syntax.specs.Properties.{nullable}
 use Rattle.regex_lite_syntax.specs.Regular.{IsRegular, AreRegular}
@@ -10,6 +11,19 @@ use Rattle.regex_lite_engine.proofs.WrittenParts.{HasRow, HasParts, has_part, ha
 use Rattle.regex_lite_engine.proofs.WrittenRepetitions.{repetition_stands}
 
 module _ (place : Address → Place Address) where
+  -- a group of any index
+  pub group_stands : (index : ℕ) (name : Option Text) (body : Tree) (pre exit : Address)
+      → ((a b : Address) → HasRow place a (place_at body a b) → Stands place body (entry body a) b)
+      → HasRow place pre (place_at (capture index name body) pre exit)
+      → Stands place (capture index name body) (own pre 0) exit
+  group_stands index name body pre exit body_stands has = (
+    entry body (part pre 0),
+    own pre 1,
+    has.at (0 ∷ 0 ∷ []) refl,
+    body_stands (part pre 0) (own pre 1) (has_part 0 has),
+    has.at (0 ∷ 1 ∷ []) refl,
+  )
+
   mutual
     pub tree_stands : (tree : Tree) (pre exit : Address) → IsRegular tree
         → HasRow place pre (place_at tree pre exit) → Stands place tree (entry tree pre) exit
@@ -20,13 +34,8 @@ module _ (place : Address → Place Address) where
     tree_stands (repetition least most greedy body) pre exit regular has =
         repetition_stands place pre greedy (entry body) (place_at body) (Stands place body)
         (λ a b h. tree_stands body a b regular.1 h) least most (nullable body) exit has
-    tree_stands (capture index name body) pre exit regular has = (
-      entry body (part pre 0),
-      own pre 1,
-      has.at (0 ∷ 0 ∷ []) refl,
-      tree_stands body (part pre 0) (own pre 1) regular (has_part 0 has),
-      has.at (0 ∷ 1 ∷ []) refl,
-    )
+    tree_stands (capture index name body) pre exit regular has =
+        group_stands index name body pre exit (λ a b h. tree_stands body a b regular.1 h) has
     tree_stands (concat none) pre exit regular has = absurd regular.0
     tree_stands (concat (more a rest)) pre exit regular has =
         chain_stands (more a rest) pre 0 exit regular.1 (has_parts has)
@@ -61,5 +70,6 @@ module _ (place : Address → Place Address) where
 pub whole_stands : (tree : Tree) → IsRegular tree
     → Stands (place_of_pattern tree) (whole tree) start_address end_address
 whole_stands tree regular =
-    tree_stands (place_of_pattern tree) (whole tree) (1 ∷ []) end_address regular
+    group_stands (place_of_pattern tree) 0 None tree (1 ∷ []) end_address
+    (λ a b h. tree_stands (place_of_pattern tree) tree a b regular h)
     (record { at = λ a e. ap (λ content. unwrap_or content (leads [])) e })

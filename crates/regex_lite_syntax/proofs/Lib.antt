@@ -44,4 +44,5 @@ pub mod Strings
 pub mod TreeDepths
 pub mod WholeFlags
 pub mod Whole
+pub mod WholeMatch
 pub mod Words

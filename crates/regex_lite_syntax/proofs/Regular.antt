@@ -1,5 +1,6 @@
--- The trees of patterns are regular: repetitions are in order, and lists have two parts or more.
-use Rattle.std.proofs.Common.{◌≡◌, refl, sym, subst, ℕ, zero, suc, Bool, true, false, ◌&&◌, List, [], ◌∷◌, ◌++◌, Option, Some, None, MatchBool, rules}
+-- The trees of patterns are regular: repetitions are in order, groups are numbered from 1, and lists
+-- have two parts or more.
+use Rattle.std.proofs.Common.{◌≡◌, ◌≤◌, refl, sym, subst, arith, ℕ, zero, suc, Bool, true, false, ◌&&◌, List, [], ◌∷◌, ◌++◌, Option, Some, None, MatchBool, rules}
 use Rattle.regex_lite_syntax.specs.declared.flags.Flags.{Flags}
 use Rattle.regex_lite_syntax.specs.Text.{Text}
 use Rattle.regex_lite_syntax.specs.Characters.{is_letter}
@@ -10,7 +11,7 @@ use Rattle.regex_lite_syntax.specs.Counts.{Counted}
 use Rattle.regex_lite_syntax.specs.Operators.{bounds, Operator, uncounted, uncounted_lazy, counted, counted_lazy}
 use Rattle.regex_lite_syntax.specs.Atoms.{AtomKind, single, escape, bracketed, no_atom, atom_kind, IsClassOf, PieceTree, AtomFrom, Atom}
 use Rattle.regex_lite_syntax.specs.Points.{Point}
-use Rattle.regex_lite_syntax.specs.Groups.{GroupKind, non_capturing, capturing, group_tree}
+use Rattle.regex_lite_syntax.specs.Groups.{GroupKind, non_capturing, capturing, group_tree, Head, numbered, named, plain}
 use Rattle.regex_lite_syntax.specs.Grammar.{Item, atom, group, Branch, nothing, item, directive, Alternatives, only, further, Grammar}
 use Rattle.regex_lite_syntax.specs.Grammar.Branch.{operator}
 use Rattle.regex_lite_syntax.specs.Regular.{InOrder, IsRegular, AreRegular}
@@ -55,9 +56,23 @@ repeated_regular (suc zero) (Some (suc zero)) greedy a order regular = regular
 repeated_regular (suc zero) (Some (suc (suc most))) greedy a order regular = (order, regular)
 repeated_regular (suc (suc least)) max greedy a order regular = (order, regular)
 
-pub group_regular : (kind : GroupKind) (a : Tree) → IsRegular a → IsRegular (group_tree kind a)
-group_regular non_capturing a regular = regular
-group_regular (capturing index name) a regular = regular
+-- a group that captures has an index
+abbrev pub IsNumbered : GroupKind → Type 0
+IsNumbered non_capturing = Unit {0}
+IsNumbered (capturing index name) = 1 ≤ index
+
+head_numbered : {level : ℕ} {p q : Point} {kind : GroupKind} → Head level p q kind → IsNumbered kind
+head_numbered {p} (numbered rest e n q_is kind_is) =
+    subst (λ k. IsNumbered k) (sym kind_is) (omega arith)
+head_numbered {p} (named opened first rest name e g n q_is kind_is) =
+    subst (λ k. IsNumbered k) (sym kind_is) (omega arith)
+head_numbered (plain opened first rest new e g f q_is kind_is) =
+    subst (λ k. IsNumbered k) (sym kind_is) tt
+
+pub group_regular : (kind : GroupKind) (a : Tree) → IsNumbered kind → IsRegular a
+    → IsRegular (group_tree kind a)
+group_regular non_capturing a from_one regular = regular
+group_regular (capturing index name) a from_one regular = (from_one, regular)
 
 -- bounds that are in order
 abbrev AreInOrder : Option (ℕ × Option ℕ) → Type 0
@@ -109,7 +124,7 @@ mutual
   item_regular {p} {q} {a} (atom d e) = atom_regular p.flags p.rest q.rest a d
   item_regular (group first last end kind branches rest head d past c e a_is) =
       let inner = choice_regular branches (alternatives_regular d) in
-      subst (λ x. IsRegular x) (sym a_is) (group_regular kind (choice_of branches) inner)
+      subst (λ x. IsRegular x) (sym a_is) (group_regular kind (choice_of branches) (head_numbered head) inner)
 
   branch_regular : {level : ℕ} {p q : Point} {items : List Tree} → Branch level p q items → AllRegular items
   branch_regular (nothing e items_are) = subst (λ x. AllRegular x) (sym items_are) tt

@@ -13,11 +13,12 @@ HasTwo none = ⊥
 HasTwo (more a none) = ⊥
 HasTwo (more a (more b rest)) = Unit {0}
 
--- a repetition's least number is at most its most, and a list has two parts or more
+-- a repetition's least number is at most its most, a group's index is at least 1, and a list has two
+-- parts or more
 abbrev mutual
   pub IsRegular : Tree → Type 0
   IsRegular (repetition least most greedy body) = InOrder least most × IsRegular body
-  IsRegular (capture index name body) = IsRegular body
+  IsRegular (capture index name body) = (1 ≤ index) × IsRegular body
   IsRegular (concat parts) = HasTwo parts × AreRegular parts
   IsRegular (alternation branches) = HasTwo branches × AreRegular branches
   IsRegular empty = Unit {0}

@@ -3,11 +3,13 @@ ghost use Rattle.std.specs.Prelude.{◌≡◌, ◌↔◌, Some, IfOk, IfErr, IsT
 ghost use Rattle.regex_lite_syntax.specs.Errors.{kind_of, out_of_memory};
 ghost use Rattle.regex_lite_syntax.specs.Properties.{captures_len, static_captures_len};
 ghost use Rattle.regex_lite_engine.specs.Counts.{whole_places, whole_arrows};
+ghost use Rattle.regex_lite.specs.CaptureNames.{names_left};
 ghost use Rattle.regex_lite.specs.Settings.{default_settings, settings_of};
 ghost use Rattle.regex_lite.specs.Expression.{IsAccepted, IsRefusal, OfTree, AreNames, MatchesIn, expression_of, default_expression};
 
 use crate::plain::has_match;
 use crate::string::builder::RegexBuilder;
+use crate::string::capture_names::CaptureNames;
 use regex_lite_engine::Graph;
 use regex_lite_syntax::{Config, Error, Flags, Hir};
 use std::alloc::{AllocError, Global};
@@ -216,6 +218,24 @@ impl Regex {
         ensures { OfTree self.now (λ tree. result ≡ captures_len tree) }
     {
         self.program.graph.capture_names().len()
+    }
+
+    /// The names of the groups by index, `None` for a group without a name.
+    ///
+    /// The first is that of the whole match, which has none. A group that can never take part, since
+    /// it stands under `{0}`, counts as one without a name, if it counts at all.
+    ///
+    /// ```
+    /// let regex = Regex::new(alloc, "(a)(?<x>b)")?;
+    /// let mut names = regex.capture_names();
+    /// names.nth(2); // Some(Some("x"))
+    /// ```
+    ///
+    /// The test `tests::examples::names` runs this example.
+    pub fn capture_names(&self) -> CaptureNames<'_>
+        ensures { OfTree self.now (AreNames (names_left result)) }
+    {
+        CaptureNames::new(self.program.graph.capture_names())
     }
 
     /// How many groups take part in every match, the whole match among them, where that is known.

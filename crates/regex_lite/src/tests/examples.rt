@@ -111,3 +111,12 @@ fn group_count(rt: HostRuntime) -> Result<(), Fail> {
     assert_eq!(rt; regex.captures_len(), 3);
     Ok(())
 }
+
+/// At `Regex::capture_names`.
+#[test]
+fn names(rt: HostRuntime) -> Result<(), Fail> {
+    let regex = Regex::new(rt.alloc(), "(a)(?<x>b)")?;
+    let mut names = regex.capture_names();
+    assert_eq!(rt; names.nth(2), Some(Some("x")));
+    Ok(())
+}

@@ -52,6 +52,28 @@ fn groups(rt: HostRuntime) -> Result<(), Fail> {
     Ok(())
 }
 
+/// A pattern with the names of its groups, group 0 first.
+const NAMES: [(&str, [Option<&str>; 3]); 4] = [
+    ("(?<x>a){0}(b)", [None, None, None]),
+    ("(?<x>a)(?P<y>b)", [None, Some("x"), Some("y")]),
+    ("(a)(?<x>b){2}", [None, None, Some("x")]),
+    ("(?<x>(a)|b)", [None, Some("x"), None]),
+];
+
+#[test]
+fn names(rt: HostRuntime) -> Result<(), Fail> {
+    for (pattern, wanted) in NAMES {
+        let regex = Regex::new(rt.alloc(), pattern)?;
+        let mut names = regex.capture_names();
+        assert_eq!(rt; names.len(), 3, "{pattern:?}");
+        for name in wanted {
+            assert!(rt; names.next() == Some(name), "{pattern:?}");
+        }
+        assert!(rt; names.next().is_none(), "{pattern:?}");
+    }
+    Ok(())
+}
+
 /// A pattern with the number of groups that take part in every match, the whole match among them.
 const STATIC: [(&str, Option<usize>); 9] = [
     ("a", Some(1)),

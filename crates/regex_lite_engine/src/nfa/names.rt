@@ -1,6 +1,6 @@
 //! The names of a pattern's groups.
 ghost use Rattle.std.specs.Prelude.{◌≡◌, ◌<◌, ℕ, None, IfOk, length, map, option_map, slice_index_or};
-ghost use Rattle.regex_lite_syntax.specs.Properties.{captures_len, either, greatest_index, greatest_index_in, group_name, group_name_in};
+ghost use Rattle.regex_lite_syntax.specs.Properties.{captures_len, greatest_index, greatest_index_in, group_name, group_name_in};
 ghost use Rattle.regex_lite_syntax.specs.Tree.{trees as trees_of};
 ghost use Rattle.regex_lite_syntax.specs.Views.{text_of_string, tree_of};
 ghost use Rattle.regex_lite_engine.specs.Names.{AddsNames, name_if_at};
