@@ -12,7 +12,7 @@ use Rattle.regex_lite.specs.Expression.{name_at, AreNames}
 -- the characters of the bytes of each
 same_texts : (names : List (Option (String Global)))
     → map (option_map chars) (map (option_map string_bytes) names)
-        ≡ map (option_map text_of_string) names
+    ≡ map (option_map text_of_string) names
 same_texts [] = refl
 same_texts (None ∷ rest) = ap (λ texts. None ∷ texts) (same_texts rest)
 same_texts (Some name ∷ rest) = ap (λ texts. Some (text_of_string name) ∷ texts) (same_texts rest)

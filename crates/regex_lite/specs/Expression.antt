@@ -41,7 +41,7 @@ abbrev pub IsRefusal : Settings → Error → Type 0
 IsRefusal settings error =
     SaysOf settings.flags settings.nest_limit (chars settings.pattern) (kind_of error)
     ⊎ ((tree : Tree) × IsReadAs settings tree
-        × SaysOfTree settings.size_limit tree (kind_of error))
+    × SaysOfTree settings.size_limit tree (kind_of error))
 
 -- the tree of the pattern has this property
 abbrev pub OfTree : Expression → (Tree → Type 0) → Type 0

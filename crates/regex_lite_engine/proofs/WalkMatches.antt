@@ -46,7 +46,7 @@ module _ {A : Type 0} (c : Course A) where
   -- a group of any index
   pub past_group : (index : ℕ) (name : Option Text) (body : Tree) (enter exit : A) (i n : ℕ)
       → ((a b : A) (k m : ℕ) → Stands c.place body a b → Rest c a k m
-          → Passed c (Matches c.haystack body) b k m)
+      → Passed c (Matches c.haystack body) b k m)
       → Stands c.place (capture index name body) enter exit → Rest c enter i n
       → Passed c (Matches c.haystack body) exit i n
   past_group index name body enter exit i n past_body stands rest =

@@ -23,10 +23,11 @@ before rest first = (rest.0 ++ first.0, first.1)
 -- the place that closes the group, the body, the place that opens it
 abbrev pub capture_layout : (index : ℕ) → (body : ℕ → ℕ → Part) → (base exit : ℕ) → Part
 capture_layout index body base exit =
-    let inner = body (base + 1) base in
-    (leads (go_marking (2 * index + 1) exit ∷ [])
-        ∷ (inner.0 ++ leads (go_marking (2 * index) inner.1 ∷ []) ∷ []),
-     base + 1 + length inner.0)
+    let inner = body (base + 1) base in (
+      leads (go_marking (2 * index + 1) exit ∷ [])
+          ∷ (inner.0 ++ leads (go_marking (2 * index) inner.1 ∷ []) ∷ []),
+      base + 1 + length inner.0,
+    )
 
 -- the join, the branches, the choice
 abbrev pub alternation_layout : (branches : ℕ → ℕ → List (Place ℕ) × List ℕ) → (base exit : ℕ) → Part
@@ -58,9 +59,10 @@ module _ (greedy : Bool) (body : ℕ → ℕ → Part) where
   choices_layout zero base join = ([], join)
   choices_layout (suc d) base join =
       let rest = choices_layout d base join in
-      let inner = body (base + length rest.0) rest.1 in
-      (rest.0 ++ (inner.0 ++ choice greedy inner.1 join ∷ []),
-       base + length rest.0 + length inner.0)
+      let inner = body (base + length rest.0) rest.1 in (
+        rest.0 ++ (inner.0 ++ choice greedy inner.1 join ∷ []),
+        base + length rest.0 + length inner.0,
+      )
 
   -- the choice, the body
   abbrev pub star_layout : (base exit : ℕ) → Part
@@ -72,9 +74,10 @@ module _ (greedy : Bool) (body : ℕ → ℕ → Part) where
   abbrev pub nullable_star_layout : (base exit : ℕ) → Part
   nullable_star_layout base exit =
       let plus = star_layout (base + 1) base in
-      let inner = body (base + 1 + 1) (base + 1) in
-      (leads (go exit ∷ []) ∷ (plus.0 ++ choice greedy inner.1 base ∷ []),
-       base + 1 + length plus.0)
+      let inner = body (base + 1 + 1) (base + 1) in (
+        leads (go exit ∷ []) ∷ (plus.0 ++ choice greedy inner.1 base ∷ []),
+        base + 1 + length plus.0,
+      )
 
   -- the last of n + 1 copies with the choice, and the others before it
   abbrev pub at_least_layout : (n : ℕ) → (base exit : ℕ) → Part

@@ -185,7 +185,7 @@ abbrev mutual
   place_at (concat parts) pre exit a = concat_row (place_in_chain parts pre 0 exit) a
   place_at (alternation branches) pre exit a =
       alternation_row (branch_entries branches pre 0) (place_in_branch branches pre 0 (own pre 1))
-          exit a
+      exit a
 
   -- in part c of the parts, which are numbered from k on
   pub place_in_chain : Trees → Address → ℕ → (exit : Address) → ℕ → Address → Content
@@ -224,4 +224,4 @@ place_of_pattern tree a = unwrap_or (written_out tree a) (leads [])
 abbrev pub IsWayThrough : Tree → Text → ℕ → (arrows : List ℕ) → ℕ → Type 0
 IsWayThrough tree haystack i arrows j =
     IsWay (Address × ℕ) (step haystack (place_of_pattern tree)) (start_address, i) arrows
-        (end_address, j)
+    (end_address, j)

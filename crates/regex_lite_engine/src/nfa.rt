@@ -17,9 +17,9 @@ use count::Counts;
 use groups::static_captures_len;
 use names::capture_names;
 use place::Place;
-use write::write_out;
 use regex_lite_syntax::{Error, Hir};
 use std::alloc::Global;
+use write::write_out;
 
 /// A pattern that is written out as a graph: a search starts at one place, and follows the arrows
 /// to the place where a match is complete.

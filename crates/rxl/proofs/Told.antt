@@ -26,3 +26,9 @@ answered_by_search pattern (Some known) re haystack re_is accepted whole is_utf8
       (subst (λ bytes. IsTrue found ↔ MatchesIn (default_expression pattern) bytes) whole
       (subst (λ r. IsTrue found ↔ MatchesIn r haystack) re_is told));
 }
+
+-- what was read whole is no text, so the input is none
+pub no_text : (input : Option (List ℕ)) (bytes : List ℕ) → IfSome input (λ known. bytes ≡ known)
+    → (IsUtf8 bytes → ⊥) → IfSome input (λ known. IsUtf8 known → ⊥)
+no_text None bytes whole broken = tt
+no_text (Some known) bytes whole broken = subst (λ b. IsUtf8 b → ⊥) whole broken

@@ -86,7 +86,11 @@ fn size_by_default(rt: HostRuntime) -> Result<(), Fail> {
     let alloc = rt.alloc();
     for (bars, wanted) in [(291_265, true), (291_266, false)] {
         let pattern = "|".repeat(alloc, bars)?;
-        assert_eq!(rt; Regex::new(alloc, pattern.as_str()).is_ok(), wanted, "{bars}");
+        assert_eq!(rt;
+            Regex::new(alloc, pattern.as_str()).is_ok(),
+            wanted,
+            "{bars}"
+        );
     }
     assert!(rt; Regex::new(alloc, "a{327676}").is_ok());
     let built = Regex::new(alloc, "a{327677}");

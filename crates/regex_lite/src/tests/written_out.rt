@@ -20,7 +20,10 @@ fn rows(rt: HostRuntime) -> Result<(), Fail> {
         let regex = builder.size_limit(size).build()?;
         assert_eq!(rt; regex.places(), places, "{pattern:?}");
         assert_eq!(rt; regex.arrows(), arrows, "{pattern:?}");
-        assert!(rt; builder.size_limit(size - 1).build().is_err(), "{pattern:?}");
+        assert!(rt;
+            builder.size_limit(size - 1).build().is_err(),
+            "{pattern:?}"
+        );
     }
     Ok(())
 }
