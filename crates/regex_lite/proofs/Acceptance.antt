@@ -1,11 +1,11 @@
 -- A pattern that is accepted is refused for want of memory alone.
-use Rattle.std.proofs.Common.{◌≡◌, ◌⊎◌, inl, inr, ◌<◌, ◌≤◌, ℕ, Result, Ok, Err, IfErr, chars, refl, subst, arith}
+use Rattle.std.proofs.Common.{◌≡◌, inl, inr, Result, Ok, Err, IfErr, chars, refl, subst, arith}
 use Rattle.regex_lite_syntax.specs.declared.error.Error.{Error}
 use Rattle.regex_lite_syntax.specs.declared.error.Fault.{Fault}
 use Rattle.regex_lite_syntax.specs.declared.error.Fault.TheVariants as fault
 use Rattle.regex_lite_syntax.specs.Tree.{Tree}
 use Rattle.regex_lite_syntax.specs.Errors.{out_of_memory}
-use Rattle.regex_lite_engine.specs.Size.{Fits, size}
+use Rattle.regex_lite_engine.specs.Size.{Fits}
 use Rattle.regex_lite.specs.Settings.{Settings}
 use Rattle.regex_lite.specs.Expression.{IsReadAs, IsAccepted, IsRefusal}
 use Rattle.regex_lite.proofs.OneTree.{one_tree}

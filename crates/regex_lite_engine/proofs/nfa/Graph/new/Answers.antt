@@ -1,7 +1,7 @@
-use Rattle.std.proofs.Common.{rules, ◌≡◌, ◌∙◌, ap, sym, subst, ℕ, List, map}
+use Rattle.std.proofs.Common.{◌≡◌, ◌∙◌, ap, sym, subst, ℕ, List, map}
 use Rattle.regex_lite_syntax.specs.Views.{tree_of}
 use Rattle.regex_lite_engine.specs.Places.{Place}
-use Rattle.regex_lite_engine.specs.Graphs.{IsGraphOf, IsRenumbered, place_of, arrows_of}
+use Rattle.regex_lite_engine.specs.Graphs.{IsRenumbered, place_of, arrows_of}
 use Rattle.regex_lite_engine.specs.Layout.{whole_layout, whole_table}
 use Rattle.regex_lite_engine.proofs.Renumbering.{renumbered}
 use Rattle.regex_lite_engine.proofs.ArrowCounts.{arrows_whole}

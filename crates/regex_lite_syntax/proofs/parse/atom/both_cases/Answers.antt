@@ -1,6 +1,4 @@
-use Rattle.std.proofs.Common.{◌≡◌, [], ◌∷◌}
-use Rattle.regex_lite_syntax.proofs.LetterCases.{alone, letter_class}
-use Rattle.std.specs.Char.{to_ascii_uppercase, to_ascii_lowercase}
+use Rattle.regex_lite_syntax.proofs.LetterCases.{letter_class}
 use Rattle.regex_lite_syntax.proofs.parse.atom.both_cases.Goals as goal
 
 pub returns : goal.returns

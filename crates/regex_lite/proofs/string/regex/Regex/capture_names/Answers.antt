@@ -1,4 +1,4 @@
-use Rattle.std.proofs.Common.{◌≡◌, ◌∙◌, ap, map, option_map, string_bytes}
+use Rattle.std.proofs.Common.{◌∙◌, ap, map, option_map, string_bytes}
 use Rattle.regex_lite_syntax.specs.Views.{tree_of}
 use Rattle.regex_lite.specs.Program.{IsBuilt}
 use Rattle.regex_lite.proofs.GroupNames.{are_names}

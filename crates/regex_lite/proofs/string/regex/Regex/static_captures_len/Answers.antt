@@ -1,5 +1,4 @@
-use Rattle.std.proofs.Common.{◌≡◌, ◌∙◌, Option, ℕ}
-use Rattle.regex_lite_syntax.specs.Properties.{static_captures_len}
+use Rattle.std.proofs.Common.{◌∙◌}
 use Rattle.regex_lite_syntax.specs.Views.{tree_of}
 use Rattle.regex_lite.proofs.string.regex.Regex.static_captures_len.Goals as goal
 
