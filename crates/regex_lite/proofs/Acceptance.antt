@@ -11,7 +11,8 @@ use Rattle.regex_lite.specs.Expression.{IsReadAs, IsAccepted, IsRefusal}
 use Rattle.regex_lite.proofs.OneTree.{one_tree}
 
 -- two trees that the pattern is read as are the same
-pub same_tree : (settings : Settings) (a b : Tree) → IsReadAs settings a → IsReadAs settings b → a ≡ b
+pub same_tree : (settings : Settings) (a b : Tree) → IsReadAs settings a → IsReadAs settings b
+    → a ≡ b
 same_tree settings a b p q =
     one_tree settings.flags (chars settings.pattern) a b (p.0, p.1, p.2) (q.0, q.1, q.2)
 

@@ -25,8 +25,8 @@ expression_of settings = record { pattern = settings.pattern; flags = settings.f
 abbrev pub default_expression : List ℕ → Expression
 default_expression pattern = record { pattern = pattern; flags = no_flags }
 
--- under these settings the grammar gives the pattern this tree, and the limits on nesting and on the
--- number of groups are not passed
+-- under these settings the grammar gives the pattern this tree, which passes neither the limit on
+-- nesting nor that on the number of groups
 abbrev pub IsReadAs : Settings → Tree → Type 0
 IsReadAs settings tree =
     IsAdmitted settings.flags settings.nest_limit (chars settings.pattern) tree

@@ -146,7 +146,8 @@ abbrev mutual
   names_size_in none = 0
   names_size_in (more a rest) = names_size a + names_size_in rest
 
--- the whole pattern: two places of group 0 with their arrows, and the one where the match is complete
+-- the whole pattern: two places of group 0 with their arrows, and the one where the match is
+-- complete
 abbrev pub whole_places : Tree → ℕ
 whole_places tree = places tree + 3
 

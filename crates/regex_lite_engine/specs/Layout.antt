@@ -30,7 +30,8 @@ capture_layout index body base exit =
     )
 
 -- the join, the branches, the choice
-abbrev pub alternation_layout : (branches : ℕ → ℕ → List (Place ℕ) × List ℕ) → (base exit : ℕ) → Part
+abbrev pub alternation_layout : (branches : ℕ → ℕ → List (Place ℕ) × List ℕ)
+    → (base exit : ℕ) → Part
 alternation_layout branches base exit =
     let inner = branches (base + 1) base in
     (leads (go exit ∷ []) ∷ (inner.0 ++ leads (map go inner.1) ∷ []), base + 1 + length inner.0)

@@ -49,8 +49,8 @@ abbrev mutual
   branch_entries none pre k = []
   branch_entries (more a rest) pre k = entry a (part pre k) ∷ branch_entries rest pre (suc k)
 
--- The rows of a repetition at `pre`: `enter` gives its body's entry, `inside` the body's places, and
--- `exit` is what follows.
+-- The rows of a repetition at `pre`: `enter` gives its body's entry, `inside` the body's places,
+-- and `exit` is what follows.
 module _ (pre : Address) (greedy : Bool) (enter : Address → Address)
     (inside : Address → (exit : Address) → Address → Content) where
   -- the entry of copy k where one more is left, or else what follows
@@ -219,8 +219,8 @@ written_out tree a = None
 abbrev pub place_of_pattern : Tree → Address → Place Address
 place_of_pattern tree a = unwrap_or (written_out tree a) (leads [])
 
--- a way from position i to position j: the number of the arrow that is taken at each place. No place
--- comes twice at one position
+-- a way from position i to position j: the number of the arrow that is taken at each place. No
+-- place comes twice at one position
 abbrev pub IsWayThrough : Tree → Text → ℕ → (arrows : List ℕ) → ℕ → Type 0
 IsWayThrough tree haystack i arrows j =
     IsWay (Address × ℕ) (step haystack (place_of_pattern tree)) (start_address, i) arrows

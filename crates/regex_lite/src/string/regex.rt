@@ -222,8 +222,8 @@ impl Regex {
 
     /// The names of the groups by index, `None` for a group without a name.
     ///
-    /// The first is that of the whole match, which has none. A group that can never take part, since
-    /// it stands under `{0}`, counts as one without a name, if it counts at all.
+    /// The first is that of the whole match, which has none. A group that stands under `{0}`, and
+    /// so can never take part, counts as one without a name, if it counts at all.
     ///
     /// ```
     /// let regex = Regex::new(alloc, "(a)(?<x>b)")?;
