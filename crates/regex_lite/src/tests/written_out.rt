@@ -28,6 +28,34 @@ fn rows(rt: HostRuntime) -> Result<(), Fail> {
     Ok(())
 }
 
+/// A pattern with its size.
+const SIZES: [(&str, usize); 11] = [
+    ("\\w", 176),
+    ("\\s", 160),
+    ("a*", 184),
+    ("a?", 216),
+    ("a|b", 248),
+    ("(?<x>a)", 229),
+    ("a{2,4}", 352),
+    ("a{0,2}", 320),
+    ("a{3,}", 248),
+    ("a{100}", 3312),
+    ("a{5}{5}{5}{5}{5}{5}", 500_112),
+];
+
+#[test]
+fn sizes(rt: HostRuntime) -> Result<(), Fail> {
+    for (pattern, size) in SIZES {
+        let mut builder = RegexBuilder::new(rt.alloc(), pattern)?;
+        assert!(rt; builder.size_limit(size).build().is_ok(), "{pattern:?}");
+        assert!(rt;
+            builder.size_limit(size - 1).build().is_err(),
+            "{pattern:?}"
+        );
+    }
+    Ok(())
+}
+
 /// A lazy `?` is one operator and not two.
 #[test]
 fn lazy(rt: HostRuntime) -> Result<(), Fail> {
