@@ -2,7 +2,7 @@
 use Rattle.std.proofs.Common.{ℕ, zero, suc, ◌-◌, Bool, true, false, List, [], ◌∷◌, ◌++◌, map, Option, Some, None}
 use Rattle.regex_lite_syntax.specs.Tree.{Tree, Trees, empty, character, class, look, repetition, capture, concat, alternation, none, more}
 use Rattle.regex_lite_syntax.specs.Properties.{nullable}
-use Rattle.regex_lite_engine.specs.WrittenOut.{Address}
+use Rattle.regex_lite_engine.specs.Addresses.{Address}
 
 -- the address of the tree's own place k
 abbrev pub own_place : ℕ → Address

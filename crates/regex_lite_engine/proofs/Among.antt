@@ -1,6 +1,6 @@
 -- That an address is in a list of addresses.
 use Rattle.std.proofs.Common.{◌≡◌, ◌<◌, refl, ap, subst, arith, ℕ, suc, ◌+◌, ◌⊎◌, inl, inr, List, [], ◌∷◌, ◌++◌, length, get_or}
-use Rattle.regex_lite_engine.specs.WrittenOut.{Address}
+use Rattle.regex_lite_engine.specs.Addresses.{Address}
 use Rattle.regex_lite_engine.proofs.Addresses.{own_place, in_part, framed}
 
 abbrev pub Among : Address → List Address → Type 0

@@ -1,6 +1,6 @@
 -- Lists of addresses in which none comes twice.
 use Rattle.std.proofs.Common.{◌≡◌, ◌<◌, refl, sym, ap, subst, arith, ℕ, zero, suc, List, [], ◌∷◌, ◌++◌, length, get_or}
-use Rattle.regex_lite_engine.specs.WrittenOut.{Address}
+use Rattle.regex_lite_engine.specs.Addresses.{Address}
 use Rattle.regex_lite_engine.proofs.Addresses.{in_part}
 
 abbrev pub Each : (Address → Type 0) → List Address → Type 0

@@ -2,7 +2,7 @@
 use Rattle.std.proofs.Common.{◌≡◌, ◌<◌, ◌≤◌, refl, ap, arith, ℕ, zero, suc, ◌+◌, ◌-◌, ◌⊎◌, inl, inr, Bool, true, false, List, [], ◌∷◌, ◌++◌, Option, Some, None}
 use Rattle.regex_lite_syntax.specs.Tree.{Tree, Trees, empty, character, class, look, repetition, capture, concat, alternation, none, more}
 use Rattle.regex_lite_syntax.specs.Properties.{nullable}
-use Rattle.regex_lite_engine.specs.WrittenOut.{Address}
+use Rattle.regex_lite_engine.specs.Addresses.{Address}
 use Rattle.regex_lite_engine.proofs.Addresses.{own_place, in_part, framed, copies_addresses, choices_addresses, bounded_addresses, repetition_addresses, addresses, chain_addresses, branches_addresses}
 use Rattle.regex_lite_engine.proofs.Apart.{Each, Apart, each_weaker, each_both, apart_both, apart_first, apart_last, apart_part}
 

@@ -1,6 +1,7 @@
 -- Copies in a row, and what is given by numbers from some one on.
 use Rattle.std.proofs.Common.{◌≡◌, refl, ap, subst, ◌∙◌, arith, ℕ, zero, suc, ◌+◌, Bool, ◌∷◌}
-use Rattle.regex_lite_engine.specs.WrittenOut.{Address, Content, part, next_copy, in_copies}
+use Rattle.regex_lite_engine.specs.Addresses.{Address, part}
+use Rattle.regex_lite_engine.specs.RepetitionRows.{Content, next_copy, in_copies}
 
 -- from part k on, what stands inside is given by part
 abbrev pub PartsAre : (content : Address → Content) → ℕ → (parts : ℕ → Address → Content) → Type 0

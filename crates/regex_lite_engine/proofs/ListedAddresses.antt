@@ -3,7 +3,9 @@ use Rattle.std.proofs.Common.{◌≡◌, refl, ℕ, zero, suc, ◌+◌, inl, inr
 use Rattle.regex_lite_syntax.specs.Tree.{Tree, Trees, empty, character, class, look, repetition, capture, concat, alternation, none, more}
 use Rattle.regex_lite_syntax.specs.Properties.{nullable}
 use Rattle.regex_lite_engine.specs.Places.{Place}
-use Rattle.regex_lite_engine.specs.WrittenOut.{Address, Content, part, own, entry, branch_entries, leaf_row, capture_row, alternation_row, concat_row, place_at, place_in_chain, place_in_branch}
+use Rattle.regex_lite_engine.specs.Addresses.{Address, part, own, entry, branch_entries}
+use Rattle.regex_lite_engine.specs.RepetitionRows.{Content}
+use Rattle.regex_lite_engine.specs.WrittenOut.{leaf_row, capture_row, alternation_row, concat_row, place_at, place_in_chain, place_in_branch}
 use Rattle.regex_lite_engine.proofs.Addresses.{own_place, in_part, framed, addresses, chain_addresses, branches_addresses}
 use Rattle.regex_lite_engine.proofs.Among.{Among, among_left, among_right, among_last, among_part, among_framed, from_0, from_first, from_later}
 use Rattle.regex_lite_engine.proofs.ListedRows.{ListsAll, listed_repetition}

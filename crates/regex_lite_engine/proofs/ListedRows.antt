@@ -1,7 +1,8 @@
 -- Each address at which a repetition has a place is among its addresses, given that of its body.
 use Rattle.std.proofs.Common.{◌≡◌, refl, sym, subst, ◌∙◌, arith, ℕ, zero, suc, ◌+◌, ◌-◌, ◌⊎◌, inl, inr, Bool, true, false, List, [], ◌∷◌, ◌++◌, Option, Some, None}
 use Rattle.regex_lite_engine.specs.Places.{Place}
-use Rattle.regex_lite_engine.specs.WrittenOut.{Address, Content, part, own, in_copies, no_place, choice_at, in_choices, optional_row, star_row, nullable_star_row, at_least_row, exactly_row, between_row, bounded_row, repetition_row}
+use Rattle.regex_lite_engine.specs.Addresses.{Address, part, own}
+use Rattle.regex_lite_engine.specs.RepetitionRows.{Content, in_copies, no_place, choice_at, in_choices, optional_row, star_row, nullable_star_row, at_least_row, exactly_row, between_row, bounded_row, repetition_row}
 use Rattle.regex_lite_engine.proofs.Addresses.{own_place, in_part, framed, copies_addresses, choices_addresses, bounded_addresses, repetition_addresses}
 use Rattle.regex_lite_engine.proofs.CopyRows.{copies_before}
 use Rattle.regex_lite_engine.proofs.Among.{Among, among_left, among_right, among_last, among_part, among_framed, from_0, from_first, from_later}

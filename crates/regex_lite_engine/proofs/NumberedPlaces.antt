@@ -2,7 +2,8 @@
 use Rattle.std.proofs.Common.{◌≡◌, refl, sym, ap, ◌∙◌, ℕ, Bool, true, false, List, [], ◌∷◌, map, Option, Some, None}
 use Rattle.regex_lite_syntax.specs.declared.class.ClassRange.{ClassRange}
 use Rattle.regex_lite_engine.specs.Places.{Condition, Place, leads, go, choice, one_of, free}
-use Rattle.regex_lite_engine.specs.WrittenOut.{Address, Content}
+use Rattle.regex_lite_engine.specs.Addresses.{Address}
+use Rattle.regex_lite_engine.specs.RepetitionRows.{Content}
 use Rattle.regex_lite_engine.specs.Graphs.{renamed, renamed_arrow}
 use Rattle.regex_lite_engine.proofs.Numbering.{Numbering, Stands, LeadInside, IsInside, IsAt}
 

@@ -1,7 +1,8 @@
 -- The layout of a repetition is its row of the written-out pattern, where that of its body is.
 use Rattle.std.proofs.Common.{◌≡◌, refl, sym, ap, subst, ◌∙◌, arith, ℕ, zero, suc, ◌+◌, ◌-◌, Bool, true, false, [], ◌∷◌, ◌++◌, length, append-nil, Option, Some, None}
 use Rattle.regex_lite_engine.specs.Places.{Place, choice}
-use Rattle.regex_lite_engine.specs.WrittenOut.{Address, Content, part, own, repetition_entry, next_copy, in_copies, no_place, choice_at, next_choice, in_choices, exactly_row, bounded_row, repetition_row}
+use Rattle.regex_lite_engine.specs.Addresses.{Address, part, own, repetition_entry}
+use Rattle.regex_lite_engine.specs.RepetitionRows.{Content, next_copy, in_copies, no_place, choice_at, next_choice, in_choices, exactly_row, bounded_row, repetition_row}
 use Rattle.regex_lite_engine.specs.Layout.{copies_layout, choices_layout, star_layout, bounded_layout, repetition_layout}
 use Rattle.regex_lite_engine.proofs.Addresses.{own_place, in_part, copies_addresses, choices_addresses, bounded_addresses, repetition_addresses}
 use Rattle.regex_lite_engine.proofs.CopyRows.{PartsAre, parts_from_0, first_part, later_parts, copy_last, next_before, copies_before, behind_copies}

@@ -6,7 +6,9 @@ use Rattle.regex_lite_syntax.specs.Sets.{just}
 use Rattle.regex_lite_syntax.specs.Properties.{nullable}
 use Rattle.regex_lite_syntax.specs.Regular.{IsRegular, AreRegular}
 use Rattle.regex_lite_engine.specs.Places.{free, holding, reading}
-use Rattle.regex_lite_engine.specs.WrittenOut.{Address, Content, part, own, entry, chain_entry, branch_entries, place_at, place_in_chain, place_in_branch}
+use Rattle.regex_lite_engine.specs.Addresses.{Address, part, own, entry, chain_entry, branch_entries}
+use Rattle.regex_lite_engine.specs.RepetitionRows.{Content}
+use Rattle.regex_lite_engine.specs.WrittenOut.{place_at, place_in_chain, place_in_branch}
 use Rattle.regex_lite_engine.specs.Layout.{layout, chain_layout, branches_layout}
 use Rattle.regex_lite_engine.proofs.Addresses.{own_place, in_part, addresses, chain_addresses, branches_addresses}
 use Rattle.regex_lite_engine.proofs.CopyRows.{PartsAre, parts_from_0, first_part, later_parts}

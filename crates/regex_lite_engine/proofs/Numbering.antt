@@ -1,7 +1,8 @@
 -- Numbers in the place of addresses, and that places in a row are what stands at their addresses.
 use Rattle.std.proofs.Common.{◌≡◌, ◌<◌, refl, sym, ap, subst, ◌∙◌, arith, ℕ, suc, ◌+◌, List, [], ◌∷◌, ◌++◌, length, append_assoc, Some}
 use Rattle.regex_lite_engine.specs.Places.{Arrow, Place, complete, leads}
-use Rattle.regex_lite_engine.specs.WrittenOut.{Address, Content, part}
+use Rattle.regex_lite_engine.specs.Addresses.{Address, part}
+use Rattle.regex_lite_engine.specs.RepetitionRows.{Content}
 use Rattle.regex_lite_engine.specs.Graphs.{renamed}
 use Rattle.regex_lite_engine.specs.Layout.{Part, before}
 use Rattle.regex_lite_engine.proofs.Addresses.{in_part}

@@ -8,7 +8,8 @@ use Rattle.regex_lite_syntax.specs.Regular.{IsRegular}
 use Rattle.regex_lite_syntax.specs.Matches.{Matches}
 use Rattle.regex_lite_engine.specs.Ways.{Leads}
 use Rattle.regex_lite_engine.specs.Places.{step}
-use Rattle.regex_lite_engine.specs.WrittenOut.{Address, whole, start_address, end_address, place_of_pattern, IsWayThrough}
+use Rattle.regex_lite_engine.specs.Addresses.{Address}
+use Rattle.regex_lite_engine.specs.WrittenOut.{whole, start_address, end_address, place_of_pattern, IsWayThrough}
 use Rattle.regex_lite_engine.proofs.Loops.{without_loops}
 use Rattle.regex_lite_engine.proofs.MatchWalks.{match_walk}
 use Rattle.regex_lite_engine.proofs.Rests.{Course, Rest}

@@ -4,7 +4,9 @@ use Rattle.std.proofs.Math.Seq.{get_or-append_seam}
 use Rattle.regex_lite_syntax.specs.Tree.{Tree}
 use Rattle.regex_lite_syntax.specs.Regular.{IsRegular}
 use Rattle.regex_lite_engine.specs.Places.{Arrow, Place, leads}
-use Rattle.regex_lite_engine.specs.WrittenOut.{Address, Content, end_address, entry, place_at, whole, written_out}
+use Rattle.regex_lite_engine.specs.Addresses.{Address, entry}
+use Rattle.regex_lite_engine.specs.RepetitionRows.{Content}
+use Rattle.regex_lite_engine.specs.WrittenOut.{end_address, place_at, whole, written_out}
 use Rattle.regex_lite_engine.specs.Graphs.{IsRenumbered}
 use Rattle.regex_lite_engine.specs.Layout.{whole_layout, whole_table}
 use Rattle.regex_lite_engine.proofs.Addresses.{in_part, addresses}

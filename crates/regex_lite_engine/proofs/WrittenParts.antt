@@ -1,7 +1,8 @@
 -- What a graph has at the addresses of a row of the table, and of its parts.
 use Rattle.std.proofs.Common.{◌≡◌, ap, subst, ◌∙◌, ℕ, suc, ◌+◌, [], ◌∷◌, ◌++◌, Some, arith, append_assoc}
 use Rattle.regex_lite_engine.specs.Places.{Place}
-use Rattle.regex_lite_engine.specs.WrittenOut.{Address, Content, part}
+use Rattle.regex_lite_engine.specs.Addresses.{Address, part}
+use Rattle.regex_lite_engine.specs.RepetitionRows.{Content}
 
 -- behind the address the graph has what the row gives
 pub record HasRow (place : Address → Place Address) (pre : Address) (row : Address → Content)

@@ -1,7 +1,8 @@
 -- A repetition stands in the graph that has its row, if its body does wherever it is written out.
 use Rattle.std.proofs.Common.{◌≡◌, refl, subst, ℕ, zero, suc, ◌+◌, ◌-◌, Bool, true, false, [], ◌∷◌, Option, Some, None, arith}
 use Rattle.regex_lite_engine.specs.Places.{Place}
-use Rattle.regex_lite_engine.specs.WrittenOut.{Address, Content, part, own, repetition_entry, next_copy, in_copies, no_place, choice_at, next_choice, in_choices, between_row, bounded_row, repetition_row}
+use Rattle.regex_lite_engine.specs.Addresses.{Address, part, own, repetition_entry}
+use Rattle.regex_lite_engine.specs.RepetitionRows.{Content, next_copy, in_copies, no_place, choice_at, next_choice, in_choices, between_row, bounded_row, repetition_row}
 use Rattle.regex_lite_engine.proofs.Standing.{InRow, InChoices, IsBetween, IsBounded, IsRepetition}
 use Rattle.regex_lite_engine.proofs.WrittenParts.{HasRow, HasParts, has_part, has_parts, first_part, later_parts}
 

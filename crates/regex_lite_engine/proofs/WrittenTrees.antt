@@ -5,7 +5,8 @@ use Rattle.regex_lite_syntax.specs.Tree.{Tree, Trees, empty, character, class, l
 use Rattle.regex_lite_syntax.specs.Properties.{nullable}
 use Rattle.regex_lite_syntax.specs.Regular.{IsRegular, AreRegular}
 use Rattle.regex_lite_engine.specs.Places.{Place, leads}
-use Rattle.regex_lite_engine.specs.WrittenOut.{Address, part, own, entry, chain_entry, branch_entries, place_at, place_in_chain, place_in_branch, whole, start_address, end_address, place_of_pattern}
+use Rattle.regex_lite_engine.specs.Addresses.{Address, part, own, entry, chain_entry, branch_entries}
+use Rattle.regex_lite_engine.specs.WrittenOut.{place_at, place_in_chain, place_in_branch, whole, start_address, end_address, place_of_pattern}
 use Rattle.regex_lite_engine.proofs.Standing.{Stands, StandInChain, StandAsBranches}
 use Rattle.regex_lite_engine.proofs.WrittenParts.{HasRow, HasParts, has_part, has_parts, first_part, later_parts}
 use Rattle.regex_lite_engine.proofs.WrittenRepetitions.{repetition_stands}

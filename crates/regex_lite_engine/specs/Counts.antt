@@ -1,8 +1,6 @@
 -- How many places and arrows a pattern has when it is written out, by cases on the tree.
-use Rattle.std.specs.Prelude.{ℕ, zero, suc, ◌+◌, ◌-◌, ◌*◌, Bool, true, false, List, [], ◌∷◌, length, Option, Some, None, sum_by}
-use Rattle.std.specs.Char.{len_utf8}
+use Rattle.std.specs.Prelude.{ℕ, zero, suc, ◌+◌, ◌-◌, ◌*◌, Bool, true, false, List, [], ◌∷◌, length, Option, Some, None}
 use Rattle.regex_lite_syntax.specs.declared.class.ClassRange.{ClassRange}
-use Rattle.regex_lite_syntax.specs.Text.{Text}
 use Rattle.regex_lite_syntax.specs.Tree.{Tree, Trees, empty, character, class, look, repetition, capture, concat, alternation, none, more}
 use Rattle.regex_lite_syntax.specs.Properties.{nullable}
 
@@ -124,27 +122,6 @@ abbrev mutual
   pub ranges_in : Trees → ℕ
   ranges_in none = 0
   ranges_in (more a rest) = ranges a + ranges_in rest
-
--- what a name takes: 4, and its bytes
-abbrev pub name_size : Option Text → ℕ
-name_size None = 0
-name_size (Some name) = 4 + sum_by len_utf8 name
-
-abbrev mutual
-  -- what the names of groups take, each once
-  pub names_size : Tree → ℕ
-  names_size empty = 0
-  names_size (character c) = 0
-  names_size (class ranges) = 0
-  names_size (look test) = 0
-  names_size (repetition least most greedy body) = names_size body
-  names_size (capture index name body) = name_size name + names_size body
-  names_size (concat parts) = names_size_in parts
-  names_size (alternation branches) = names_size_in branches
-
-  pub names_size_in : Trees → ℕ
-  names_size_in none = 0
-  names_size_in (more a rest) = names_size a + names_size_in rest
 
 -- the whole pattern: two places of group 0 with their arrows, and the one where the match is
 -- complete

@@ -5,7 +5,8 @@ use Rattle.regex_lite_syntax.specs.Tree.{Tree}
 use Rattle.regex_lite_syntax.specs.Properties.{captures_len, group_name, static_captures_len}
 use Rattle.regex_lite_syntax.specs.Views.{text_of_string}
 use Rattle.regex_lite_engine.specs.Places.{Arrow, Place, complete, leads, go, go_marking, go_holding, one_char, one_of}
-use Rattle.regex_lite_engine.specs.WrittenOut.{Address, written_out, start_address}
+use Rattle.regex_lite_engine.specs.Addresses.{Address}
+use Rattle.regex_lite_engine.specs.WrittenOut.{written_out, start_address}
 use Rattle.regex_lite_engine.specs.Counts.{whole_places, whole_arrows}
 use Rattle.regex_lite_engine.specs.declared.nfa.place.Place as code
 use Rattle.regex_lite_engine.specs.declared.nfa.place.Place.TheVariants as stored

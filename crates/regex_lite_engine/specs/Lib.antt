@@ -1,6 +1,8 @@
 -- what public contracts rest on
 pub mod Places
 pub mod Ways
+pub mod Addresses
+pub mod RepetitionRows
 pub mod WrittenOut
 pub mod Counts
 pub mod Size

@@ -3,6 +3,7 @@ use Rattle.std.specs.Prelude.{◌≡◌, ℕ, ◌+◌, ◌-◌, ◌^◌, ◌&&�
 use Rattle.regex_lite_syntax.specs.Tree.{Tree}
 use Rattle.regex_lite_syntax.specs.Properties as property
 use Rattle.regex_lite_engine.specs.Counts as count
+use Rattle.regex_lite_engine.specs.Size as size
 use Rattle.regex_lite_engine.specs.declared.nfa.count.Counts.{Counts}
 
 -- the number, or the greatest one that can be stored where it passes that
@@ -15,7 +16,7 @@ pub record AreCountsOf (tree : Tree) (counts : Counts) : Type 0 where
   pub arrows : counts.arrows ≡ saturated (count.arrows tree)
   pub choice_arrows : counts.choice_arrows ≡ saturated (count.choice_arrows tree)
   pub ranges : counts.ranges ≡ saturated (count.ranges tree)
-  pub names_size : counts.names_size ≡ saturated (count.names_size tree)
+  pub names_size : counts.names_size ≡ saturated (size.names_size tree)
   pub greatest_index : counts.greatest_index ≡ property.greatest_index tree
   pub nullable : counts.nullable ≡ property.nullable tree
 

@@ -1,10 +1,33 @@
 -- The size of a pattern, and the limits on what is written out.
-use Rattle.std.specs.Prelude.{◌+◌, ◌*◌, ◌^◌, ◌<◌, ◌≤◌, ℕ}
+use Rattle.std.specs.Prelude.{◌+◌, ◌*◌, ◌^◌, ◌<◌, ◌≤◌, ℕ, Option, Some, None, sum_by}
+use Rattle.std.specs.Char.{len_utf8}
 use Rattle.regex_lite_syntax.specs.declared.error.ErrorKind.{ErrorKind}
 use Rattle.regex_lite_syntax.specs.declared.error.ErrorKind.TheVariants.{Size, Places, Slots, Memory}
-use Rattle.regex_lite_syntax.specs.Tree.{Tree}
+use Rattle.regex_lite_syntax.specs.Text.{Text}
+use Rattle.regex_lite_syntax.specs.Tree.{Tree, Trees, empty, character, class, look, repetition, capture, concat, alternation, none, more}
 use Rattle.regex_lite_syntax.specs.Properties.{greatest_index, captures_len}
-use Rattle.regex_lite_engine.specs.Counts.{whole_places, choice_arrows, ranges, names_size}
+use Rattle.regex_lite_engine.specs.Counts.{whole_places, choice_arrows, ranges}
+
+-- what a name takes: 4, and its bytes
+abbrev pub name_size : Option Text → ℕ
+name_size None = 0
+name_size (Some name) = 4 + sum_by len_utf8 name
+
+abbrev mutual
+  -- what the names of groups take, each once
+  pub names_size : Tree → ℕ
+  names_size empty = 0
+  names_size (character c) = 0
+  names_size (class ranges) = 0
+  names_size (look test) = 0
+  names_size (repetition least most greedy body) = names_size body
+  names_size (capture index name body) = name_size name + names_size body
+  names_size (concat parts) = names_size_in parts
+  names_size (alternation branches) = names_size_in branches
+
+  pub names_size_in : Trees → ℕ
+  names_size_in none = 0
+  names_size_in (more a rest) = names_size a + names_size_in rest
 
 -- 32 a place, 16 a group, 4 for each arrow of a choice, 8 for each range of a set, and the names
 abbrev pub size : Tree → ℕ

@@ -13,8 +13,8 @@ HasTwo none = ⊥
 HasTwo (more a none) = ⊥
 HasTwo (more a (more b rest)) = Unit {0}
 
--- a repetition's least number is at most its most, a group's index is at least 1, and a list has two
--- parts or more
+-- a repetition's least number is at most its most, a group's index is at least 1, and a list has
+-- two parts or more
 abbrev mutual
   pub IsRegular : Tree → Type 0
   IsRegular (repetition least most greedy body) = InOrder least most × IsRegular body

@@ -191,9 +191,9 @@ impl RegexBuilder {
 
     /// How large a pattern may become.
     ///
-    /// The size is that of the pattern written out: 32 for each place, 16 for each group, 4 for
-    /// each arrow of a choice, 8 for each range of a set in each copy, and for each named group 4
-    /// and the bytes of its name. A counted operator multiplies it: `a{100}` has the size 3312.
+    /// The size is that of the pattern written out. A place counts 32, and a group 16, with 4 and
+    /// the bytes of its name if it has one. An arrow that leaves a choice counts 4, and a range of
+    /// a set 8. A counted operator multiplies what it stands behind: `a{100}` has the size 3312.
     ///
     /// ```
     /// let mut builder = RegexBuilder::new(alloc, "a")?;

@@ -206,8 +206,7 @@ impl Regex {
 
     /// How many groups a match tells of, the whole match among them.
     ///
-    /// This is one more than the greatest index of a group. A group that can never take part, since
-    /// it stands under `{0}`, counts only where a later one has a greater index.
+    /// This is one more than the greatest index of a group, where groups under `{0}` don't count.
     ///
     /// ```
     /// Regex::new(alloc, "(a)(?<x>b)")?.captures_len(); // 3
@@ -222,8 +221,7 @@ impl Regex {
 
     /// The names of the groups by index, `None` for a group without a name.
     ///
-    /// The first is that of the whole match, which has none. A group that stands under `{0}`, and
-    /// so can never take part, counts as one without a name, if it counts at all.
+    /// The whole match, which comes first, has none, and neither have groups under `{0}`.
     ///
     /// ```
     /// let regex = Regex::new(alloc, "(a)(?<x>b)")?;
@@ -240,8 +238,7 @@ impl Regex {
 
     /// How many groups take part in every match, the whole match among them, where that is known.
     ///
-    /// It is the least such number that can be read off the pattern: `None` where a group stands
-    /// under an operator that needs no pass, or where branches differ in their number.
+    /// It is `None` where a group may be passed over, or where branches differ in their number.
     pub fn static_captures_len(&self) -> Option<usize>
         ensures { OfTree self.now (λ tree. result ≡ static_captures_len tree) }
     {
@@ -256,9 +253,6 @@ impl Regex {
     }
 
     /// How many arrows lead from place to place there.
-    ///
-    /// Where a search counts its steps, it tries at most this number and one more for each
-    /// character and for the end of the haystack.
     pub fn arrows(&self) -> usize
         ensures { OfTree self.now (λ tree. result ≡ whole_arrows tree) }
     {

@@ -8,9 +8,9 @@ ghost use Rattle.regex_lite_syntax.specs.Errors.{kind_of, passed_limit};
 ghost use Rattle.regex_lite_syntax.specs.Regular.{IsRegular};
 ghost use Rattle.regex_lite_syntax.specs.Tree.{Tree, Trees, class, repetition, capture, concat, alternation, more, trees};
 ghost use Rattle.regex_lite_syntax.specs.Views.{text_of_string, tree_of};
-ghost use Rattle.regex_lite_engine.specs.Counts.{name_size, whole_places, whole_arrows};
+ghost use Rattle.regex_lite_engine.specs.Size.{name_size, size, Fits, SaysOfTree};
+ghost use Rattle.regex_lite_engine.specs.Counts.{whole_places, whole_arrows};
 ghost use Rattle.regex_lite_engine.specs.Saturation.{saturated, AreCountsOf, AreSumsOf};
-ghost use Rattle.regex_lite_engine.specs.Size.{size, Fits, SaysOfTree};
 
 mod copies;
 
