@@ -2,8 +2,9 @@
 //!
 //! A *pattern* is the text of a regular expression, and a [`Regex`] is what is built from it. A
 //! regex is asked about a *haystack*, the text that is searched. A *match* is a part of the
-//! haystack that the pattern fits; it may be empty. A *position* or an *offset* counts bytes of
-//! UTF-8 from the start of the haystack, and no match begins or ends inside a character.
+//! haystack that the pattern fits; it may be empty. An *offset* counts bytes of UTF-8 from the
+//! start of the haystack, and no match begins or ends inside a character. A regex holds its pattern
+//! written out: *places*, with *arrows* from one to another.
 //!
 //! ```
 //! let regex = Regex::new(alloc, "samwise|sam")?;

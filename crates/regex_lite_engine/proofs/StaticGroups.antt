@@ -1,5 +1,5 @@
--- How many groups take part in every match: at most as many as there are places, and none for sure
--- where there is no group.
+-- How many groups at least take part in every match: no more than there are places, and none where
+-- there is no group.
 use Rattle.std.proofs.Common.{◌≡◌, refl, ap, ◌∙◌, ◌≤◌, ◌<◌, ℕ, zero, suc, ◌+◌, ◌-◌, ◌*◌, ◌==◌, Bool, true, false, ◌||◌, if◌then◌else◌, Option, Some, None, IfSome, arith}
 use Rattle.std.proofs.Math.Nat.{suc-mul, zero-add}
 use Rattle.std.proofs.lemmas.Bool.Decides.{nat_tests}

@@ -6,7 +6,8 @@ use Rattle.regex_lite_syntax.specs.Regular.{IsRegular}
 use Rattle.regex_lite_syntax.specs.Matches.{Matches}
 use Rattle.regex_lite_engine.specs.WrittenOut.{IsWayThrough}
 
--- a tree matches from i to j exactly where a way through its written-out pattern leads from i to j
+-- a tree as the grammar gives it matches from i to j exactly where a way through its written-out
+-- pattern leads from i to j
 abbrev pub MatchesAreWays : Type 0
 MatchesAreWays =
     (tree : Tree) (haystack : Text) (i j : ℕ) → IsRegular tree →

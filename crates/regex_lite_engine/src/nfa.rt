@@ -37,14 +37,15 @@ pub struct Graph {
 impl Graph {
     /// The graph of a tree. Whether the limits are passed is found out before anything is written.
     ///
-    /// Condition: in each repetition the least number is at most the most, and each list has two
-    /// trees or more.
+    /// Condition: in each repetition the least number is at most the most, a group's index is at
+    /// least 1, and each list has two trees or more.
     ///
     /// # Errors
     ///
     /// `Size` where the size is above the limit, `Places` where there are more places than can be
     /// numbered, `Slots` where a group's slots can't be numbered, and `Memory` where a growth was
-    /// refused. Where several limits are passed, any of them may be named.
+    /// refused or a set has as many owners as can be counted. Where several limits are passed, any
+    /// of them may be named.
     pub fn new(alloc: Global, hir: &Hir, size_limit: usize) -> Result<Graph, Error>
         requires { IsRegular (tree_of hir.now) }
         ensures ok { IfOk result (λ graph. IsGraphOf (tree_of hir.now) graph) }
@@ -101,7 +102,8 @@ impl Graph {
         &self.capture_names
     }
 
-    /// How many groups take part in every match, the whole match among them, where that is known.
+    /// How many groups at least take part in every match, the whole match among them, where that is
+    /// known.
     pub fn static_captures_len(&self) -> Option<usize>
         ensures { result ≡ self.now.static_captures_len }
     {

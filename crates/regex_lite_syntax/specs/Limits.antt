@@ -35,7 +35,8 @@ PassesGroups groups = 2 ^ 32 ≤ groups
 abbrev pub openings : Text → ℕ
 openings pattern = count_by (λ c. c == open_paren) pattern
 
--- under these flags the grammar gives the pattern this tree, and no limit is passed
+-- under these flags the grammar gives the pattern this tree, which passes neither the limit on
+-- nesting nor that on the number of groups
 abbrev pub IsAdmitted : Flags → (nest_limit : ℕ) → Text → Tree → Type 0
 IsAdmitted flags nest_limit pattern tree =
     (groups : ℕ) × (deepest : ℕ) × Grammar flags pattern tree groups deepest

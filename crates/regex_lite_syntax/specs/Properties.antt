@@ -93,7 +93,7 @@ in_passes zero (Some zero) = Some zero
 in_passes zero _ = None
 
 abbrev mutual
-  -- how many groups take part in every match, where that is known
+  -- how many groups at least take part in every match, where that is known
   pub static_groups : Tree → Option ℕ
   static_groups empty = Some 0
   static_groups (character c) = Some 0
@@ -114,6 +114,6 @@ abbrev mutual
   static_common groups none = groups
   static_common groups (more a rest) = static_common (common groups (static_groups a)) rest
 
--- how many groups take part in every match, the whole match among them, where that is known
+-- how many groups at least take part in every match, the whole match among them, where known
 abbrev pub static_captures_len : Tree → Option ℕ
 static_captures_len tree = sum (Some 1) (static_groups tree)

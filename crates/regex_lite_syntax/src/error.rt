@@ -20,9 +20,9 @@ pub enum ErrorKind {
     Nesting,
     /// The pattern has more capture groups than can be numbered.
     Groups,
-    /// The size of the compiled pattern passes the size limit.
+    /// The size of the pattern written out passes the size limit.
     Size,
-    /// The compiled pattern has more places than can be numbered.
+    /// Written out, the pattern has more places than can be numbered.
     Places,
     /// A group's slots can't be numbered.
     Slots,

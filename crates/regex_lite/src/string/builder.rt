@@ -191,9 +191,10 @@ impl RegexBuilder {
 
     /// How large a pattern may become.
     ///
-    /// The size is that of the pattern written out. A place counts 32, and a group 16, with 4 and
-    /// the bytes of its name if it has one. An arrow that leaves a choice counts 4, and a range of
-    /// a set 8. A counted operator multiplies what it stands behind: `a{100}` has the size 3312.
+    /// The size is that of the pattern written out as places with arrows. A place counts 32, an
+    /// arrow that leaves a choice 4, and a range of a set 8. A counted operator multiplies these:
+    /// `a{100}` has the size 3312. Each of the `captures_len` groups counts 16, and a name 4 and
+    /// its bytes, however often its group is written out.
     ///
     /// ```
     /// let mut builder = RegexBuilder::new(alloc, "a")?;

@@ -64,8 +64,10 @@ impl Regex {
     /// # Errors
     ///
     /// `Syntax` where the grammar gives the pattern no tree, `Nesting` where the pattern nests
-    /// deeper than 50, `Groups` where it has more capture groups than can be numbered, and `Memory`
-    /// where a growth is refused. [`RegexBuilder::build`] says more.
+    /// deeper than 50, `Groups` where it has more capture groups than can be numbered, `Size` where
+    /// its size is above 10485760, and `Memory` where a growth is refused. A pattern with too many
+    /// places or slots is above that size too, and may be refused for them.
+    /// [`RegexBuilder::build`] says more.
     pub fn new(alloc: Global, pattern: &str) -> Result<Regex, Error>
         ensures ok { IfOk result (λ regex. regex ≡ default_expression pattern.now) }
         ensures accepted { IfOk result (λ _. IsAccepted (default_settings pattern.now)) }
@@ -77,7 +79,7 @@ impl Regex {
         RegexBuilder::new(alloc, pattern)?.build()
     }
 
-    /// The same as [`Regex::new`].
+    /// The same as [`Regex::new`], with the same errors.
     ///
     /// ```
     /// let regex = Regex::from_str(alloc, "(a)")?;
@@ -85,10 +87,6 @@ impl Regex {
     /// ```
     ///
     /// The test `tests::examples::conversions` runs this example.
-    ///
-    /// # Errors
-    ///
-    /// Those of [`Regex::new`].
     pub fn from_str(alloc: Global, s: &str) -> Result<Regex, Error>
         ensures ok { IfOk result (λ regex. regex ≡ default_expression s.now) }
         ensures accepted { IfOk result (λ _. IsAccepted (default_settings s.now)) }
@@ -99,7 +97,7 @@ impl Regex {
         Regex::new(alloc, s)
     }
 
-    /// The same as [`Regex::new`].
+    /// The same as [`Regex::new`], with the same errors.
     ///
     /// ```
     /// let regex = Regex::try_from(alloc, "(a)")?;
@@ -107,10 +105,6 @@ impl Regex {
     /// ```
     ///
     /// The test `tests::examples::conversions` runs this example.
-    ///
-    /// # Errors
-    ///
-    /// Those of [`Regex::new`].
     pub fn try_from(alloc: Global, s: &str) -> Result<Regex, Error>
         ensures ok { IfOk result (λ regex. regex ≡ default_expression s.now) }
         ensures accepted { IfOk result (λ _. IsAccepted (default_settings s.now)) }
@@ -121,7 +115,8 @@ impl Regex {
         Regex::from_str(alloc, s)
     }
 
-    /// The same as [`Regex::new`], for a pattern that is owned. A refused one is dropped.
+    /// The same as [`Regex::new`], with the same errors, for a pattern that is owned. A refused one
+    /// is dropped.
     ///
     /// ```
     /// let regex = Regex::try_from_string(alloc, String::from_str(alloc, "(a)")?)?;
@@ -129,10 +124,6 @@ impl Regex {
     /// ```
     ///
     /// The test `tests::examples::conversions` runs this example.
-    ///
-    /// # Errors
-    ///
-    /// Those of [`Regex::new`].
     pub fn try_from_string(alloc: Global, s: String) -> Result<Regex, Error>
         ensures ok { IfOk result (λ regex. regex ≡ default_expression (string_bytes s)) }
         ensures accepted { IfOk result
@@ -206,7 +197,8 @@ impl Regex {
 
     /// How many groups a match tells of, the whole match among them.
     ///
-    /// This is one more than the greatest index of a group, where groups under `{0}` don't count.
+    /// This is one more than the greatest index of a group that is left: groups under `{0}` are
+    /// numbered, but fall out.
     ///
     /// ```
     /// Regex::new(alloc, "(a)(?<x>b)")?.captures_len(); // 3
@@ -236,9 +228,12 @@ impl Regex {
         CaptureNames::new(self.program.graph.capture_names())
     }
 
-    /// How many groups take part in every match, the whole match among them, where that is known.
+    /// How many groups at least take part in every match, the whole match among them, where that is
+    /// known.
     ///
-    /// It is `None` where a group may be passed over, or where branches differ in their number.
+    /// It is `None` where a repetition that may make no pass has a group in it, or where branches
+    /// differ in their number. More groups may take part: `(?:(a)|(b)){2}` has 2, and in a match of
+    /// `ab` all three do.
     pub fn static_captures_len(&self) -> Option<usize>
         ensures { OfTree self.now (λ tree. result ≡ static_captures_len tree) }
     {
@@ -252,7 +247,7 @@ impl Regex {
         self.program.graph.places()
     }
 
-    /// How many arrows lead from place to place there.
+    /// How many arrows lead from place to place in the pattern written out.
     pub fn arrows(&self) -> usize
         ensures { OfTree self.now (λ tree. result ≡ whole_arrows tree) }
     {

@@ -105,7 +105,8 @@ fn names(rt: HostRuntime) -> Result<(), Fail> {
     Ok(())
 }
 
-/// A pattern with the number of groups that take part in every match, the whole match among them.
+/// A pattern with the number of groups that at least take part in every match, the whole match
+/// among them.
 const STATIC: [(&str, Option<usize>); 9] = [
     ("a", Some(1)),
     ("(a)|(b)", Some(2)),

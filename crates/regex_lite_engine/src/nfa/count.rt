@@ -1,8 +1,8 @@
 //! What a tree takes when it is written out, counted before anything is written: one walk over the
 //! tree, which takes no memory.
 //!
-//! A repetition is counted by multiplication, so a number may pass each one that can be stored. It
-//! stops at the greatest of them then, which passes every limit too.
+//! A repetition is counted by multiplication, so a number may be greater than any that can be
+//! stored. It then stops at the greatest one, and the pattern passes the size limit all the same.
 ghost use Rattle.std.specs.Prelude.{◌≡◌, ◌+◌, ◌*◌, ◌^◌, ◌<◌, ◌≤◌, ◌↔◌, ℕ, Bool, map, option_map, IfOk, IfErr};
 ghost use Rattle.regex_lite_syntax.specs.Errors.{kind_of, passed_limit};
 ghost use Rattle.regex_lite_syntax.specs.Regular.{IsRegular};
@@ -141,7 +141,7 @@ impl Counts {
         }
     }
 
-    /// What this branch takes with the others, which have an arrow less.
+    /// What this branch takes with the others, and the arrow of their choice that leads to it.
     fn or(self, others: Counts) -> Counts
         ensures { (branch : Tree) (rest : Trees)
             → AreCountsOf branch self → AreCountsOf (alternation rest) others
@@ -206,7 +206,8 @@ impl Counts {
         }
     }
 
-    /// The size of the whole pattern, or a number that passes each limit as that does.
+    /// The size of the whole pattern. Where a number has stopped it is another one, which is above
+    /// every limit too.
     fn size(&self) -> u128
         ensures { (tree : Tree) (limit : ℕ) → AreCountsOf tree self.now → limit < 2 ^ 64
             → (result ≤ limit) ↔ (size tree ≤ limit) }

@@ -8,7 +8,8 @@ ghost use Rattle.regex_lite_engine.specs.Groups.{has_group, one_has_group};
 
 use regex_lite_syntax::Hir;
 
-/// How many groups take part in every match, the whole match among them, where that is known.
+/// How many groups at least take part in every match, the whole match among them, where that is
+/// known.
 pub(crate) fn static_captures_len(hir: &Hir) -> Option<usize>
     requires { whole_places (tree_of hir.now) < 2 ^ 32 }
     ensures { result ≡ static_captures_len (tree_of hir.now) }
@@ -16,7 +17,7 @@ pub(crate) fn static_captures_len(hir: &Hir) -> Option<usize>
     Some(static_groups(hir)? + 1)
 }
 
-/// How many groups of the tree take part in every match.
+/// How many groups of the tree at least take part in every match, where that is known.
 #[cycle(static_groups)]
 fn static_groups(hir: &Hir) -> Option<usize>
     requires { places (tree_of hir.now) < 2 ^ 32 }
@@ -28,8 +29,8 @@ fn static_groups(hir: &Hir) -> Option<usize>
             if *min > 0 {
                 return static_groups(sub);
             }
-            // No pass is needed: a group may take part or not, so the number is known where there
-            // is none.
+            // No pass is needed, so each group may be passed over: the number is known only where
+            // the body has none.
             if has_group(sub) { None } else { Some(0) }
         }
         Hir::Capture { sub, .. } => Some(static_groups(sub)? + 1),

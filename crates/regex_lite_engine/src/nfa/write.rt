@@ -21,7 +21,8 @@ use std::marker::Model;
 /// The table of the tree's places, with those of group 0 round it and the match at number 0, and
 /// the number where it is entered.
 ///
-/// Condition: `count` is how many places there are. So the table needs memory only once.
+/// Condition: `count` is how many places there are, so the table needs memory only once, and each
+/// slot can be numbered.
 ///
 /// # Errors
 ///
@@ -144,7 +145,7 @@ impl Writer {
         })
     }
 
-    /// The same for a chain, the last part first.
+    /// The same for a concatenation, the last part first.
     #[cycle(write)]
     fn write_concat(&mut self, parts: &[Hir], exit: u32) -> Result<u32, AllocError>
         requires room { length self.old + places_in (trees (map tree_of parts.now)) < 2 ^ 32 }

@@ -70,8 +70,9 @@ impl Writer {
     }
 
     /// The join, a loop that is entered at its body, and the choice between the two. A body that
-    /// can match the empty text needs it: a pass that reads nothing then meets the choice of the
-    /// loop for the first time, and what follows the loop has its turn where it is preferred.
+    /// can match the empty text needs it: after a pass that reads nothing the way comes to the
+    /// choice of the loop for the first time at that position, and may leave by it. In a plain loop
+    /// it would come back to the choice where it set out.
     #[cycle(write)]
     fn write_nullable_star(&mut self, sub: &Hir, greedy: bool, exit: u32) -> Result<u32, AllocError>
         requires room { length self.old + (places (tree_of sub.now) + 3) < 2 ^ 32 }
