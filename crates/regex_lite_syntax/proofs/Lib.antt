@@ -32,6 +32,7 @@ pub mod Operators
 pub mod Parens
 pub mod ParserRuns
 pub mod RangeLemmas
+pub mod RangeSearches
 pub mod ReadHeads
 pub mod ReadSteps
 pub mod Regular

@@ -46,7 +46,7 @@ pub runs_of_same : (ranges : List ClassRange) (s t : Set) → ((c : ℕ) → s c
 runs_of_same ranges s t same of = record { runs = of.runs; members = λ c. of.members c ∙ same c }
 
 -- runs hold no character before their start
-runs_from : (n : ℕ) (ranges : List ClassRange) (c : ℕ) → AreRuns n ranges → IsTrue (in_ranges ranges c) → n ≤ c
+pub runs_from : (n : ℕ) (ranges : List ClassRange) (c : ℕ) → AreRuns n ranges → IsTrue (in_ranges ranges c) → n ≤ c
 runs_from n [] c runs held = grind arith
 runs_from n (r ∷ ranges) c runs held =
     let rest = runs_from (next_character r.end + 1) ranges c runs.4 in

@@ -1,7 +1,7 @@
 //! Sets of characters.
 ghost use Rattle.std.specs.Prelude.{◌≡◌, IfOk, if◌then◌else◌};
-ghost use Rattle.regex_lite_syntax.specs.Sets.{span, complement, case_closure};
-ghost use Rattle.regex_lite_syntax.specs.Ranges.{in_ranges, AreRuns, AreRunsOf};
+ghost use Rattle.regex_lite_syntax.specs.Sets.{complement, case_closure};
+ghost use Rattle.regex_lite_syntax.specs.Ranges.{in_ranges, AreRuns, AreRuns-prop, AreRunsOf};
 ghost use Rattle.regex_lite_syntax.specs.NamedSets.{members};
 
 mod letters;
@@ -24,20 +24,12 @@ pub struct ClassRange {
     pub end: char,
 }
 
-impl ClassRange {
-    /// Whether the range holds the character.
-    fn contains(self, c: char) -> bool
-        ensures { result ≡ span self.start self.end c }
-    {
-        self.start <= c && c <= self.end
-    }
-}
-
 /// A set of characters, as its maximal runs in order. U+D7FF and U+E000 are neighbours, so equal
 /// sets have equal ranges.
 #[derive(Debug, Drop)]
 pub struct Class {
     pub(crate) ranges: Vec<ClassRange>,
+    ghost runs: { AreRuns 0 ranges.items } by { AreRuns-prop 0 ranges.items },
 }
 
 impl Class {
@@ -81,7 +73,6 @@ impl Class {
 
     /// The characters that the set lacks.
     pub(crate) fn negate(&self, alloc: Global) -> Result<Class, AllocError>
-        requires { AreRuns 0 self.now.ranges.items }
         ensures { IfOk result (λ class. AreRunsOf class.ranges.items
             (complement (in_ranges self.now.ranges.items))) }
     {
@@ -99,7 +90,8 @@ impl Class {
     pub fn contains(&self, c: char) -> bool
         ensures { result ≡ in_ranges self.now.ranges.items c }
     {
-        self.ranges.iter().any(|range| range.contains(c))
+        let at = self.ranges.partition_point(|range| range.end < c);
+        at < self.ranges.len() && self.ranges[at].start <= c
     }
 
     /// The maximal runs of the set, in order.
