@@ -1,11 +1,16 @@
 -- The bits of maps of ASCII characters.
-use Rattle.std.proofs.Common.{◌≡◌, ℕ, ◌+◌, ◌-◌, ◌*◌, ◌/◌, ◌%◌, ◌^◌, ◌<◌, ◌||◌, ◌==◌, [], ◌∷◌, bit_and, bit_or, ap, sym, ◌∙◌, arith, inl, inr}
+use Rattle.std.proofs.Common.{◌≡◌, ℕ, zero, suc, Bool, true, false, IsTrue, refl, List, length, take, get_or, ◌+◌, ◌-◌, ◌*◌, ◌/◌, ◌%◌, ◌^◌, ◌<◌, ◌||◌, ◌==◌, [], ◌∷◌, bit_and, bit_or, ap, sym, ◌∙◌, arith, inl, inr}
 use Rattle.std.specs.Int.{bit_at}
+use Rattle.std.specs.Char.{is_ascii}
 use Rattle.std.proofs.lemmas.Bool.{cases_lt}
 use Rattle.std.proofs.lemmas.Bool.Decides.{nat_tests}
 use Rattle.std.proofs.lemmas.Nat.{shr-shr}
 use Rattle.std.proofs.lemmas.Nat.Bits.{ones_shl, ones_shr, bit_at_and, bit_at_or, bit_at-lt, bit_at_cat_low, bit_at_mask_inside, bit_at_mask_below, bit_at_ones, bit_at_ones_above}
 use Rattle.regex_lite_syntax.specs.Characters.{is_between}
+use Rattle.regex_lite_syntax.specs.declared.class.ClassRange.{ClassRange}
+use Rattle.regex_lite_syntax.specs.Sets.{span}
+use Rattle.regex_lite_syntax.specs.Ranges.{in_ranges, next_character, AreRuns}
+use Rattle.regex_lite_syntax.proofs.RangeLemmas.{next_above, runs_from}
 use Rattle.regex_lite_engine.specs.AsciiMaps.{bit_of_words}
 
 -- `MAX << start & MAX >> (127 - end)` has the ones from the start to the end
@@ -48,3 +53,26 @@ bits_of_words map c within = elim (cases_lt c 64) [
       let whole : 64 + (c - 64) ≡ c = omega arith in
       rw (word, bit) (ap (λ n. n % 2) (shr-shr map 64 (c - 64)) ∙ ap (bit_at map) whole)
 ]
+
+not_held : (held : Bool) → (IsTrue held → ⊥) → held ≡ false
+not_held true never = absurd (never refl)
+not_held false never = refl
+
+-- the ranges from one on that starts behind the character do not hold it
+pub held_before : (n : ℕ) (ranges : List ClassRange) (i c : ℕ) (d : ClassRange) → AreRuns n ranges
+    → i < length ranges → c < (get_or ranges i d).start
+    → in_ranges ranges c ≡ in_ranges (take i ranges) c
+held_before n [] i c d runs inside behind = absurd (omega (arith, inside))
+held_before n (r ∷ ranges) zero c d runs inside behind =
+    let later = runs_from (next_character r.end + 1) ranges c runs.4 in
+    let above = next_above r.end in
+    let rest : in_ranges ranges c ≡ false =
+    not_held (in_ranges ranges c) (λ held. omega (later held, above, behind, runs.3, arith)) in
+    grind (arith, nat_tests)
+held_before n (r ∷ ranges) (suc i) c d runs inside behind =
+    ap (λ held. span r.start r.end c || held)
+    (held_before (next_character r.end + 1) ranges i c d runs.4 (omega (arith, inside)) behind)
+
+-- what is not ASCII stands behind what is
+pub past_ascii : (c d : ℕ) → d < 128 → is_ascii c ≡ false → d < c
+past_ascii c d within past = grind (arith, nat_tests)

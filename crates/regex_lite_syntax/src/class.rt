@@ -96,7 +96,8 @@ impl Class {
 
     /// The maximal runs of the set, in order.
     pub fn ranges(&self) -> &[ClassRange]
-        ensures { result.now ≡ self.now.ranges.items }
+        ensures same { result.now ≡ self.now.ranges.items }
+        ensures runs { AreRuns 0 result.now }
     {
         &self.ranges
     }

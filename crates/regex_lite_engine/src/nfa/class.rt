@@ -1,7 +1,7 @@
 //! Sets of characters with a map of their ASCII characters.
 ghost use Rattle.std.specs.Prelude.{◌≡◌, IfOk};
 ghost use Rattle.regex_lite_syntax.specs.Sets.{span};
-ghost use Rattle.regex_lite_syntax.specs.Ranges.{in_ranges};
+ghost use Rattle.regex_lite_syntax.specs.Ranges.{in_ranges, AreRuns};
 ghost use Rattle.regex_lite_engine.specs.AsciiMaps.{IsMapOf};
 
 use regex_lite_syntax::{Class, ClassRange};
@@ -58,18 +58,23 @@ impl MappedClass {
 
     /// The maximal runs of the set, in order.
     pub fn ranges(&self) -> &[ClassRange]
-        ensures { result.now ≡ self.now }
+        ensures same { result.now ≡ self.now }
+        ensures runs { AreRuns 0 result.now }
     {
         self.class.ranges()
     }
 }
 
-/// The ASCII characters of the ranges, as a map.
+/// The ASCII characters of the ranges, which are in order, as a map.
 fn map_of_ranges(ranges: &[ClassRange]) -> u128
+    requires { AreRuns 0 ranges.now }
     ensures { IsMapOf result (in_ranges ranges.now) }
 {
     let mut map = 0;
     for range in ranges {
+        if !range.start.is_ascii() {
+            break;
+        }
         map |= map_of_range(*range);
     }
     map
