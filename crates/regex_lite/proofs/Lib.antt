@@ -1,11 +1,1 @@
-pub mod Acceptance
-pub mod GroupNames
-pub mod OneTree
-pub mod LookLemmas
-pub mod NodeLemmas
-pub mod PassLemmas
-pub mod PositionLemmas
-pub mod ReadLemmas
-pub mod TreeLemmas
-pub mod WayLemmas
-pub mod WholeLemmas
+-- lemmas that several modules use

@@ -7,9 +7,9 @@ use Rattle.regex_lite_syntax.specs.declared.error.Error.{Error}
 use Rattle.regex_lite_syntax.specs.Errors.{kind_of}
 use Rattle.regex_lite_syntax.specs.Grammar.{IsTree}
 use Rattle.regex_lite_syntax.specs.Limits.{IsAdmitted, SaysOf}
-use Rattle.regex_lite_syntax.specs.Matches.{HasMatch}
-use Rattle.regex_lite_syntax.specs.Properties.{captures_len, group_name}
-use Rattle.regex_lite_engine.specs.Size.{Fits, SaysOfTree}
+use Rattle.regex_lite_syntax.specs.Tree.Matches.{HasMatch}
+use Rattle.regex_lite_syntax.specs.Tree.Properties.{captures_len, group_name}
+use Rattle.regex_lite_engine.specs.Graph.Size.{Fits, SaysOfTree}
 use Rattle.regex_lite.specs.Settings.{Settings, no_flags}
 
 -- a pattern, as its bytes, and the flags under which it is read

@@ -1,4 +1,4 @@
--- what public contracts rest on
+-- Where to begin: Expression says what is built, what is refused and what a regex tells.
 pub mod Settings
 pub mod Expression
 pub mod CaptureNames
@@ -6,11 +6,10 @@ pub use Rattle.regex_lite_syntax.specs.Errors
 pub use Rattle.regex_lite_syntax.specs.Text
 pub use Rattle.regex_lite_syntax.specs.Grammar
 pub use Rattle.regex_lite_syntax.specs.Limits
-pub use Rattle.regex_lite_syntax.specs.Matches
-pub use Rattle.regex_lite_syntax.specs.Properties
-pub use Rattle.regex_lite_engine.specs.Counts
-pub use Rattle.regex_lite_engine.specs.Size
--- what every regex keeps
-pub mod Program
--- what the plain search promises inside
-pub mod Positions
+pub use Rattle.regex_lite_syntax.specs.Tree.Matches
+pub use Rattle.regex_lite_syntax.specs.Tree.Properties
+pub use Rattle.regex_lite_engine.specs.Graph.PlaceCounts
+pub use Rattle.regex_lite_engine.specs.Graph.Size
+-- What every regex keeps, and what the plain search promises inside.
+pub mod Compiled
+pub mod Plain

@@ -1,11 +1,11 @@
 //! The plainest search: from a set of positions, and node by node of the tree, to the set of the
 //! positions where a match that starts in the first can end.
 ghost use Rattle.std.specs.Prelude.{◌↔◌, ◌≤◌, IfOk, IsTrue, map};
-ghost use Rattle.regex_lite_syntax.specs.Looks.{Holds};
-ghost use Rattle.regex_lite_syntax.specs.Matches.{Chain, HasMatch, Matches, Passes, SomeBranch};
+ghost use Rattle.regex_lite_syntax.specs.Tree.Looks.{Holds};
+ghost use Rattle.regex_lite_syntax.specs.Tree.Matches.{Chain, HasMatch, Matches, Passes, SomeBranch};
 ghost use Rattle.regex_lite_syntax.specs.Tree.{trees, character, class, look};
-ghost use Rattle.regex_lite_syntax.specs.Views.{tree_of};
-ghost use Rattle.regex_lite.specs.Positions.{AddsPass, IsOver, IsReached, ReadsAsAnswered, SomePasses};
+ghost use Rattle.regex_lite_syntax.specs.Tree.Views.{tree_of};
+ghost use Rattle.regex_lite.specs.Plain.Positions.{AddsPass, IsOver, IsReached, ReadsAsAnswered, SomePasses};
 
 mod positions;
 
@@ -39,16 +39,16 @@ fn after_tree(
         Hir::Class(set) => after_class(alloc, set, haystack, from),
         Hir::Look(test) => after_look(alloc, *test, haystack, from),
         Hir::Repetition {
-            min,
-            max,
+            least,
+            most,
             greedy: _,
-            sub,
-        } => after_repetition(alloc, *min, *max, sub, haystack, from),
+            body,
+        } => after_repetition(alloc, *least, *most, body, haystack, from),
         Hir::Capture {
             index: _,
             name: _,
-            sub,
-        } => after_tree(alloc, sub, haystack, from),
+            body,
+        } => after_tree(alloc, body, haystack, from),
         Hir::Concat(parts) => after_each(alloc, parts, haystack, from),
         Hir::Alternation(branches) => after_any(alloc, branches, haystack, from),
     }
@@ -170,23 +170,23 @@ fn after_any(
 #[cycle(after)]
 fn after_repetition(
     alloc: Global,
-    min: u32,
-    max: Option<u32>,
-    sub: &Hir,
+    least: u32,
+    most: Option<u32>,
+    body: &Hir,
     haystack: &[char],
     from: &Positions,
 ) -> Result<Positions, AllocError>
     requires { IsOver haystack.now from.now }
     ensures { IfOk result
-        (IsReached (SomePasses (Matches haystack.now (tree_of sub.now)) min max) from.now) }
+        (IsReached (SomePasses (Matches haystack.now (tree_of body.now)) least most) from.now) }
 {
-    match max {
-        None => after_at_least(alloc, min, sub, haystack, from),
-        Some(max) => {
-            if max < min {
+    match most {
+        None => after_at_least(alloc, least, body, haystack, from),
+        Some(most) => {
+            if most < least {
                 return Positions::none(alloc, from.len());
             }
-            after_between(alloc, min, max, sub, haystack, from)
+            after_between(alloc, least, most, body, haystack, from)
         }
     }
 }
@@ -195,17 +195,17 @@ fn after_repetition(
 #[cycle(after)]
 fn after_at_least(
     alloc: Global,
-    min: u32,
-    sub: &Hir,
+    least: u32,
+    body: &Hir,
     haystack: &[char],
     from: &Positions,
 ) -> Result<Positions, AllocError>
     requires { IsOver haystack.now from.now }
     ensures { IfOk result
-        (IsReached (SomePasses (Matches haystack.now (tree_of sub.now)) min None) from.now) }
+        (IsReached (SomePasses (Matches haystack.now (tree_of body.now)) least None) from.now) }
 {
-    let mut reached = after_passes(alloc, min, sub, haystack, from)?;
-    while add_pass(alloc, sub, haystack, &mut reached)? {}
+    let mut reached = after_passes(alloc, least, body, haystack, from)?;
+    while add_pass(alloc, body, haystack, &mut reached)? {}
     Ok(reached)
 }
 
@@ -213,20 +213,20 @@ fn after_at_least(
 #[cycle(after)]
 fn after_between(
     alloc: Global,
-    min: u32,
-    max: u32,
-    sub: &Hir,
+    least: u32,
+    most: u32,
+    body: &Hir,
     haystack: &[char],
     from: &Positions,
 ) -> Result<Positions, AllocError>
     requires over { IsOver haystack.now from.now }
-    requires in_order { min ≤ max }
+    requires in_order { least ≤ most }
     ensures { IfOk result
-        (IsReached (SomePasses (Matches haystack.now (tree_of sub.now)) min (Some max)) from.now) }
+        (IsReached (SomePasses (Matches haystack.now (tree_of body.now)) least (Some most)) from.now) }
 {
-    let mut reached = after_passes(alloc, min, sub, haystack, from)?;
-    for _ in min..max {
-        if !add_pass(alloc, sub, haystack, &mut reached)? {
+    let mut reached = after_passes(alloc, least, body, haystack, from)?;
+    for _ in least..most {
+        if !add_pass(alloc, body, haystack, &mut reached)? {
             break;
         }
     }
@@ -238,17 +238,17 @@ fn after_between(
 fn after_passes(
     alloc: Global,
     count: u32,
-    sub: &Hir,
+    body: &Hir,
     haystack: &[char],
     from: &Positions,
 ) -> Result<Positions, AllocError>
     requires { IsOver haystack.now from.now }
     ensures { IfOk result
-        (IsReached (Passes (Matches haystack.now (tree_of sub.now)) count) from.now) }
+        (IsReached (Passes (Matches haystack.now (tree_of body.now)) count) from.now) }
 {
     let mut reached = from.try_clone()?;
     for _ in 0..count {
-        let next = after_tree(alloc, sub, haystack, &reached)?;
+        let next = after_tree(alloc, body, haystack, &reached)?;
         // No further pass changes the set, and there may be billions of them.
         if next.is_same(&reached) {
             break;
@@ -262,18 +262,18 @@ fn after_passes(
 #[cycle(after)]
 fn add_pass(
     alloc: Global,
-    sub: &Hir,
+    body: &Hir,
     haystack: &[char],
     reached: &mut Positions,
 ) -> Result<bool, AllocError>
     requires { IsOver haystack.now reached.old }
     ensures { IfOk result
-        (AddsPass (Matches haystack.now (tree_of sub.now)) reached.old reached.new) }
+        (AddsPass (Matches haystack.now (tree_of body.now)) reached.old reached.new) }
 {
     // No pass starts nowhere, and repetitions may stand in one another many times.
     if reached.is_empty() {
         return Ok(false);
     }
-    let next = after_tree(alloc, sub, haystack, reached)?;
+    let next = after_tree(alloc, body, haystack, reached)?;
     Ok(reached.add_all(&next))
 }

@@ -1,16 +1,6 @@
--- what public contracts rest on
-pub mod Places
-pub mod Ways
-pub mod Addresses
-pub mod RepetitionRows
-pub mod WrittenOut
-pub mod Counts
-pub mod Size
-pub mod Graphs
-pub mod Laws
--- what the functions inside promise one another
-pub mod Layout
-pub mod Saturation
-pub mod Groups
-pub mod Names
-pub mod AsciiMaps
+-- Where to begin: Graph.WrittenOut says what the written-out pattern of a tree is and what a way
+-- through it, Graph.Size what it takes, and WayLaws how ways and matches belong together.
+pub mod Graph
+pub mod WayLaws
+-- What the functions of nfa promise one another. No public contract rests on it.
+pub mod Nfa

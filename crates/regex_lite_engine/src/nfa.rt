@@ -1,10 +1,10 @@
 //! The graph of a pattern: numbered places with ordered arrows.
 ghost use Rattle.std.specs.Prelude.{◌≡◌, ◌<◌, length, slice_get, Some, IfOk, IfErr};
 ghost use Rattle.regex_lite_syntax.specs.Errors.{kind_of};
-ghost use Rattle.regex_lite_syntax.specs.Regular.{IsRegular};
-ghost use Rattle.regex_lite_syntax.specs.Views.{tree_of};
-ghost use Rattle.regex_lite_engine.specs.Graphs.{IsGraphOf};
-ghost use Rattle.regex_lite_engine.specs.Size.{Fits, SaysOfTree};
+ghost use Rattle.regex_lite_syntax.specs.Tree.Regular.{IsRegular};
+ghost use Rattle.regex_lite_syntax.specs.Tree.Views.{tree_of};
+ghost use Rattle.regex_lite_engine.specs.Graph.Renumbered.{IsGraphOf};
+ghost use Rattle.regex_lite_engine.specs.Graph.Size.{Fits, SaysOfTree};
 
 pub mod class;
 mod count;

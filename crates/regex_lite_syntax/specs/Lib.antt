@@ -1,34 +1,15 @@
--- what public contracts rest on
-pub mod Errors
+-- Where to begin: Grammar says which tree a pattern has, Tree.Matches where a tree matches, and
+-- Limits when a pattern is refused. What they rest on stands above them.
 pub mod Text
 pub mod Characters
-pub mod Gaps
 pub mod Sets
 pub mod Ranges
-pub mod Tree
 pub mod NamedSets
-pub mod Looks
-pub mod Escapes
-pub mod Classes
-pub mod FlagLetters
-pub mod Counts
-pub mod Operators
-pub mod Atoms
-pub mod GroupNames
-pub mod Points
-pub mod Groups
+pub mod Tree
 pub mod Grammar
-pub mod Regular
+pub mod Errors
 pub mod Limits
-pub mod Matches
-pub mod Properties
-pub mod Views
 pub mod Refusals
-pub mod Laws
--- what the functions inside promise one another
-pub mod Machine
-pub mod Pieces
-pub mod ClassParts
-pub mod Bounds
-pub mod FlagRuns
-pub mod ParserStates
+pub mod SyntaxLaws
+-- What the functions of the parser promise one another. No public contract rests on it.
+pub mod Parser

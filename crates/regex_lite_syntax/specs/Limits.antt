@@ -3,7 +3,7 @@ use Rattle.std.specs.Prelude.{◌⊎◌, ◌==◌, ◌+◌, ◌^◌, ◌<◌, �
 use Rattle.regex_lite_syntax.specs.declared.error.ErrorKind.{ErrorKind}
 use Rattle.regex_lite_syntax.specs.declared.error.ErrorKind.TheVariants.{Syntax, Nesting, Groups, Memory}
 use Rattle.regex_lite_syntax.specs.declared.flags.Flags.{Flags}
-use Rattle.regex_lite_syntax.specs.Text.{Text, open_paren}
+use Rattle.regex_lite_syntax.specs.Text.{Text, the}
 use Rattle.regex_lite_syntax.specs.Tree.{Tree, Trees, empty, character, class, look, repetition, capture, concat, alternation, none, more}
 use Rattle.regex_lite_syntax.specs.Grammar.{Grammar, HasTree}
 
@@ -33,7 +33,7 @@ PassesGroups groups = 2 ^ 32 ≤ groups
 
 -- how many groups could be opened in the text at most
 abbrev pub openings : Text → ℕ
-openings pattern = count_by (λ c. c == open_paren) pattern
+openings pattern = count_by (λ c. c == the "(") pattern
 
 -- under these flags the grammar gives the pattern this tree, which passes neither the limit on
 -- nesting nor that on the number of groups

@@ -2,7 +2,7 @@
 ghost use Rattle.std.specs.Prelude.{◌≡◌, ◌<◌, ◌↔◌, map, option_map, IsTrue, IfOk};
 ghost use Rattle.regex_lite_syntax.specs.Tree.{class, capture, sequence_of, choice_of, repeated, trees as trees_of};
 ghost use Rattle.regex_lite_syntax.specs.Limits.{depth, depth_of_list};
-ghost use Rattle.regex_lite_syntax.specs.Views.{text_of_string, tree_of};
+ghost use Rattle.regex_lite_syntax.specs.Tree.Views.{text_of_string, tree_of};
 
 pub(crate) mod look;
 mod properties;
@@ -22,19 +22,19 @@ pub enum Hir {
     Class(Rc<Class>),
     /// A test of the position.
     Look(Look),
-    /// `sub` at least `min` times, and at most `max` times where there is a limit.
+    /// `body` at least `least` times, and at most `most` times where there is a limit.
     Repetition {
-        min: u32,
-        max: Option<u32>,
+        least: u32,
+        most: Option<u32>,
         /// More passes are preferred to fewer.
         greedy: bool,
-        sub: Box<Hir>,
+        body: Box<Hir>,
     },
-    /// `sub`, whose span is that of the group with this index, and with this name if it has one.
+    /// `body`, whose span is that of the group with this index, and with this name if it has one.
     Capture {
         index: u32,
         name: Option<String>,
-        sub: Box<Hir>,
+        body: Box<Hir>,
     },
     /// One after another.
     Concat(Vec<Hir>),
@@ -55,16 +55,16 @@ impl Drop for Hir {
                 Hir::Concat(_parts) => return,
                 Hir::Alternation(_branches) => return,
                 Hir::Repetition {
-                    min: _,
-                    max: _,
+                    least: _,
+                    most: _,
                     greedy: _,
-                    sub,
-                } => self = Box::into_inner(sub),
+                    body,
+                } => self = Box::into_inner(body),
                 Hir::Capture {
                     index: _,
                     name: _name,
-                    sub,
-                } => self = Box::into_inner(sub),
+                    body,
+                } => self = Box::into_inner(body),
             }
         }
     }
@@ -114,32 +114,32 @@ impl Hir {
         ensures { IfOk result (λ hir.
             tree_of hir ≡ capture index (option_map text_of_string name) (tree_of body)) }
     {
-        let sub = Box::new(alloc, body)?;
-        Ok(Hir::Capture { index, name, sub })
+        let body = Box::new(alloc, body)?;
+        Ok(Hir::Capture { index, name, body })
     }
 
     /// What an operator makes of an item.
     pub(crate) fn repetition(
         alloc: Global,
-        min: u32,
-        max: Option<u32>,
+        least: u32,
+        most: Option<u32>,
         greedy: bool,
-        sub: Hir,
+        body: Hir,
     ) -> Result<Hir, AllocError>
-        ensures { IfOk result (λ hir. tree_of hir ≡ repeated min max greedy (tree_of sub)) }
+        ensures { IfOk result (λ hir. tree_of hir ≡ repeated least most greedy (tree_of body)) }
     {
-        if min == 0 && max == Some(0) {
+        if least == 0 && most == Some(0) {
             return Ok(Hir::Empty);
         }
-        if min == 1 && max == Some(1) {
-            return Ok(sub);
+        if least == 1 && most == Some(1) {
+            return Ok(body);
         }
-        let sub = Box::new(alloc, sub)?;
+        let body = Box::new(alloc, body)?;
         Ok(Hir::Repetition {
-            min,
-            max,
+            least,
+            most,
             greedy,
-            sub,
+            body,
         })
     }
 
@@ -150,8 +150,8 @@ impl Hir {
     {
         match self {
             Hir::Empty | Hir::Char(_) | Hir::Class(_) | Hir::Look(_) => false,
-            Hir::Repetition { sub, .. } | Hir::Capture { sub, .. } => {
-                limit == 0 || sub.is_deeper_than(limit - 1)
+            Hir::Repetition { body, .. } | Hir::Capture { body, .. } => {
+                limit == 0 || body.is_deeper_than(limit - 1)
             }
             Hir::Concat(parts) | Hir::Alternation(parts) => {
                 limit == 0 || is_one_deeper_than(parts, limit - 1)

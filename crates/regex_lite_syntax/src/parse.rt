@@ -7,12 +7,12 @@
 ghost use Rattle.std.specs.Prelude.{◌≡◌, ◌<◌, ◌≤◌, ◌^◌, ◌↔◌, ◌∷◌, [], drop, length, chars, IsTrue, IfOk, IfErr, OnOk};
 ghost use Rattle.regex_lite_syntax.specs.Errors.{kind_of};
 ghost use Rattle.regex_lite_syntax.specs.Text.{Text};
-ghost use Rattle.regex_lite_syntax.specs.Gaps.{EndsGap, WholeGap};
+ghost use Rattle.regex_lite_syntax.specs.Grammar.Gaps.{EndsGap, WholeGap};
 ghost use Rattle.regex_lite_syntax.specs.Limits.{IsAdmitted, SaysOf, depth};
-ghost use Rattle.regex_lite_syntax.specs.Regular.{IsRegular};
-ghost use Rattle.regex_lite_syntax.specs.Views.{tree_of};
-ghost use Rattle.regex_lite_syntax.specs.Machine.{first_state, BeginsAtom};
-ghost use Rattle.regex_lite_syntax.specs.ParserStates.{state, Advances, Refuses, Parts, Adds, Finishes, EndSays};
+ghost use Rattle.regex_lite_syntax.specs.Tree.Regular.{IsRegular};
+ghost use Rattle.regex_lite_syntax.specs.Tree.Views.{tree_of};
+ghost use Rattle.regex_lite_syntax.specs.Parser.Machine.{first_state, BeginsAtom};
+ghost use Rattle.regex_lite_syntax.specs.Parser.States.{state, Advances, Refuses, EndsBranch, Adds, Finishes, EndSays};
 
 mod atom;
 mod bracket;
@@ -201,7 +201,7 @@ impl Parser {
 
     /// A branch ends, and the next begins.
     fn end_branch(&mut self) -> Result<(), AllocError>
-        ensures { OnOk result (Parts self.old self.new) }
+        ensures { OnOk result (EndsBranch self.old self.new) }
     {
         self.here.end_branch(self.alloc)?;
         Ok(())

@@ -19,22 +19,22 @@ fn write_tree(out: &mut String, hir: &Hir) -> Result<(), Fail> {
         Hir::Class(set) => write_ranges(out, &set.ranges)?,
         Hir::Look(look) => write!(out, "{look:?}")?,
         Hir::Repetition {
-            min,
-            max,
+            least,
+            most,
             greedy,
-            sub,
+            body,
         } => {
-            write_bounds(out, *min, *max)?;
+            write_bounds(out, *least, *most)?;
             out.push_str(if *greedy { ",greedy," } else { ",lazy," })?;
-            write_tree(out, sub)?;
+            write_tree(out, body)?;
             out.push(')')?;
         }
-        Hir::Capture { index, name, sub } => {
+        Hir::Capture { index, name, body } => {
             write!(out, "group({index},")?;
             if let Some(name) = name {
                 write!(out, "{name},")?;
             }
-            write_tree(out, sub)?;
+            write_tree(out, body)?;
             out.push(')')?;
         }
         Hir::Concat(parts) => write_trees(out, "cat", parts)?,
@@ -74,10 +74,10 @@ fn write_ranges(out: &mut String, ranges: &[ClassRange]) -> Result<(), Fail> {
 }
 
 /// Writes how often something is repeated.
-fn write_bounds(out: &mut String, min: u32, max: Option<u32>) -> Result<(), Fail> {
-    match max {
-        None => write!(out, "rep({min},inf")?,
-        Some(max) => write!(out, "rep({min},{max}")?,
+fn write_bounds(out: &mut String, least: u32, most: Option<u32>) -> Result<(), Fail> {
+    match most {
+        None => write!(out, "rep({least},inf")?,
+        Some(most) => write!(out, "rep({least},{most}")?,
     }
     Ok(())
 }
@@ -111,11 +111,11 @@ fn within(flags: Flags, nest_limit: u32) -> Config {
     Config { flags, nest_limit }
 }
 
-/// A pattern of so many times the piece.
-fn many(alloc: Global, piece: &str, n: usize) -> Result<String, Fail> {
+/// A pattern of so many times the primitive.
+fn many(alloc: Global, primitive: &str, n: usize) -> Result<String, Fail> {
     let mut pattern = String::new(alloc);
     for _ in 0..n {
-        pattern.push_str(piece)?;
+        pattern.push_str(primitive)?;
     }
     Ok(pattern)
 }

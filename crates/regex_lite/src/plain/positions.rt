@@ -1,6 +1,6 @@
 //! Sets of positions of a haystack.
 ghost use Rattle.std.specs.Prelude.{◌≡◌, ◌↔◌, ◌<◌, ℕ, Bool, true, false, not, List, length, IfOk, IsTrue, MatchBool, replicate, slice_index_or, slice_set};
-ghost use Rattle.regex_lite.specs.Positions.{Has, IsUnion, lacking};
+ghost use Rattle.regex_lite.specs.Plain.Positions.{Has, IsUnion, lacking};
 
 use std::alloc::{AllocError, Global};
 use std::marker::Model;

@@ -1,8 +1,8 @@
 //! A regex, and what can be asked of it.
 ghost use Rattle.std.specs.Prelude.{◌≡◌, ◌↔◌, Some, IfOk, IfErr, IsTrue, chars, string_bytes};
 ghost use Rattle.regex_lite_syntax.specs.Errors.{kind_of, out_of_memory};
-ghost use Rattle.regex_lite_syntax.specs.Properties.{captures_len, static_captures_len};
-ghost use Rattle.regex_lite_engine.specs.Counts.{whole_places, whole_arrows};
+ghost use Rattle.regex_lite_syntax.specs.Tree.Properties.{captures_len, static_captures_len};
+ghost use Rattle.regex_lite_engine.specs.Graph.PlaceCounts.{whole_places, whole_arrows};
 ghost use Rattle.regex_lite.specs.CaptureNames.{names_left};
 ghost use Rattle.regex_lite.specs.Settings.{default_settings, settings_of};
 ghost use Rattle.regex_lite.specs.Expression.{IsAccepted, IsRefusal, OfTree, AreNames, MatchesIn, expression_of, default_expression};
@@ -19,7 +19,7 @@ use std::rc::Rc;
 
 /// What the clones of a regex share.
 #[derive(Drop)]
-struct Program {
+struct Compiled {
     pattern: String,
     flags: Flags,
     hir: Hir,
@@ -32,7 +32,7 @@ struct Program {
 #[derive(Drop)]
 pub struct Regex {
     alloc: Global,
-    program: Rc<Program>,
+    compiled: Rc<Compiled>,
 }
 
 impl Model for Regex {
@@ -41,14 +41,14 @@ impl Model for Regex {
 
     ghost Value = { Expression };
 
-    ghost use Rattle.regex_lite.specs.Program.{IsBuilt};
+    ghost use Rattle.regex_lite.specs.Compiled.{IsBuilt};
 
     ghost view = { λ regex. record {
-      pattern = string_bytes regex.program.value.pattern;
-      flags = regex.program.value.flags;
+      pattern = string_bytes regex.compiled.value.pattern;
+      flags = regex.compiled.value.flags;
     } };
 
-    ghost invariant = { λ regex. IsBuilt regex.program.value };
+    ghost invariant = { λ regex. IsBuilt regex.compiled.value };
 }
 
 impl Regex {
@@ -153,16 +153,16 @@ impl Regex {
         let hir = Hir::parse(alloc, config, pattern)?;
         let graph = Graph::new(alloc, &hir, size_limit)?;
         let pattern = String::from_str(alloc, pattern)?;
-        let program = Rc::new(
+        let compiled = Rc::new(
             alloc,
-            Program {
+            Compiled {
                 pattern,
                 flags: config.flags,
                 hir,
                 graph,
             },
         )?;
-        Ok(Regex { alloc, program })
+        Ok(Regex { alloc, compiled })
     }
 
     /// Whether the pattern matches somewhere in the haystack.
@@ -184,7 +184,7 @@ impl Regex {
         ensures refused { IfErr result (λ error. error ≡ out_of_memory) }
     {
         let text = characters(self.alloc, haystack)?;
-        let found = has_match(self.alloc, &self.program.hir, text.as_slice())?;
+        let found = has_match(self.alloc, &self.compiled.hir, text.as_slice())?;
         Ok(found)
     }
 
@@ -192,7 +192,7 @@ impl Regex {
     pub fn as_str(&self) -> &str
         ensures { result.now ≡ self.now.pattern }
     {
-        self.program.pattern.as_str()
+        self.compiled.pattern.as_str()
     }
 
     /// How many groups a match tells of, the whole match among them.
@@ -208,7 +208,7 @@ impl Regex {
     pub fn captures_len(&self) -> usize
         ensures { OfTree self.now (λ tree. result ≡ captures_len tree) }
     {
-        self.program.graph.capture_names().len()
+        self.compiled.graph.capture_names().len()
     }
 
     /// The names of the groups by index, `None` for a group without a name.
@@ -225,7 +225,7 @@ impl Regex {
     pub fn capture_names(&self) -> CaptureNames<'_>
         ensures { OfTree self.now (AreNames (names_left result)) }
     {
-        CaptureNames::new(self.program.graph.capture_names())
+        CaptureNames::new(self.compiled.graph.capture_names())
     }
 
     /// How many groups at least take part in every match, the whole match among them, where that is
@@ -237,21 +237,21 @@ impl Regex {
     pub fn static_captures_len(&self) -> Option<usize>
         ensures { OfTree self.now (λ tree. result ≡ static_captures_len tree) }
     {
-        self.program.graph.static_captures_len()
+        self.compiled.graph.static_captures_len()
     }
 
     /// How many places the pattern has when it is written out.
     pub fn places(&self) -> usize
         ensures { OfTree self.now (λ tree. result ≡ whole_places tree) }
     {
-        self.program.graph.places()
+        self.compiled.graph.places()
     }
 
     /// How many arrows lead from place to place in the pattern written out.
     pub fn arrows(&self) -> usize
         ensures { OfTree self.now (λ tree. result ≡ whole_arrows tree) }
     {
-        self.program.graph.arrows()
+        self.compiled.graph.arrows()
     }
 }
 
@@ -266,7 +266,7 @@ impl Clone for Regex {
     fn clone(&self) -> Result<Regex, AllocError> {
         Ok(Regex {
             alloc: self.alloc,
-            program: self.program.clone()?,
+            compiled: self.compiled.clone()?,
         })
     }
 }

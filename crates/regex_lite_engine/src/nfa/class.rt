@@ -2,7 +2,7 @@
 ghost use Rattle.std.specs.Prelude.{◌≡◌, IfOk};
 ghost use Rattle.regex_lite_syntax.specs.Sets.{span};
 ghost use Rattle.regex_lite_syntax.specs.Ranges.{in_ranges, AreRuns};
-ghost use Rattle.regex_lite_engine.specs.AsciiMaps.{IsMapOf};
+ghost use Rattle.regex_lite_engine.specs.Nfa.AsciiMaps.{IsMapOf};
 
 use regex_lite_syntax::{Class, ClassRange};
 use std::alloc::AllocError;
@@ -23,7 +23,7 @@ impl Model for MappedClass {
     ghost use Rattle.std.specs.Prelude.{List};
     ghost use Rattle.regex_lite_syntax.specs.declared.class.ClassRange.{ClassRange};
     ghost use Rattle.regex_lite_syntax.specs.Ranges.{in_ranges};
-    ghost use Rattle.regex_lite_engine.specs.AsciiMaps.{AreMapOf};
+    ghost use Rattle.regex_lite_engine.specs.Nfa.AsciiMaps.{AreMapOf};
 
     ghost Value = { List ClassRange };
 

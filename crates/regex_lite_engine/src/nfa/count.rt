@@ -5,12 +5,12 @@
 //! stored. It then stops at the greatest one, and the pattern passes the size limit all the same.
 ghost use Rattle.std.specs.Prelude.{◌≡◌, ◌+◌, ◌*◌, ◌^◌, ◌<◌, ◌≤◌, ◌↔◌, ℕ, Bool, map, option_map, IfOk, IfErr};
 ghost use Rattle.regex_lite_syntax.specs.Errors.{kind_of, passed_limit};
-ghost use Rattle.regex_lite_syntax.specs.Regular.{IsRegular};
+ghost use Rattle.regex_lite_syntax.specs.Tree.Regular.{IsRegular};
 ghost use Rattle.regex_lite_syntax.specs.Tree.{Tree, Trees, class, repetition, capture, concat, alternation, more, trees};
-ghost use Rattle.regex_lite_syntax.specs.Views.{text_of_string, tree_of};
-ghost use Rattle.regex_lite_engine.specs.Size.{name_size, size, Fits, SaysOfTree};
-ghost use Rattle.regex_lite_engine.specs.Counts.{whole_places, whole_arrows};
-ghost use Rattle.regex_lite_engine.specs.Saturation.{saturated, AreCountsOf, AreSumsOf};
+ghost use Rattle.regex_lite_syntax.specs.Tree.Views.{text_of_string, tree_of};
+ghost use Rattle.regex_lite_engine.specs.Graph.Size.{name_size, size, Fits, SaysOfTree};
+ghost use Rattle.regex_lite_engine.specs.Graph.PlaceCounts.{whole_places, whole_arrows};
+ghost use Rattle.regex_lite_engine.specs.Nfa.Saturation.{saturated, AreCountsOf, AreSumsOf};
 
 mod copies;
 
@@ -78,8 +78,13 @@ impl Counts {
             },
             Hir::Char(_) => READING,
             Hir::Class(set) => Counts::of_class(set),
-            Hir::Repetition { min, max, sub, .. } => Counts::of(sub).repeated(*min, *max),
-            Hir::Capture { index, name, sub } => Counts::of(sub).captured(*index, name),
+            Hir::Repetition {
+                least,
+                most,
+                body,
+                ..
+            } => Counts::of(body).repeated(*least, *most),
+            Hir::Capture { index, name, body } => Counts::of(body).captured(*index, name),
             Hir::Concat(parts) => Counts::of_parts(parts),
             Hir::Alternation(branches) => Counts::of_branches(branches),
         }
@@ -171,18 +176,18 @@ impl Counts {
     }
 
     /// What a repetition of this takes.
-    fn repeated(self, min: u32, max: Option<u32>) -> Counts
+    fn repeated(self, least: u32, most: Option<u32>) -> Counts
         ensures { (body : Tree) (greedy : Bool) → AreCountsOf body self
-            → AreCountsOf (repetition min max greedy body) result }
+            → AreCountsOf (repetition least most greedy body) result }
     {
-        let copies = copies(min, max);
-        let own = OwnPlaces::of(min, max, self.nullable);
+        let copies = copies(least, most);
+        let own = OwnPlaces::of(least, most, self.nullable);
         Counts {
             places: times(copies, self.places, own.choices + own.others),
             arrows: times(copies, self.arrows, 2 * own.choices + own.others),
             choice_arrows: times(copies, self.choice_arrows, 2 * own.choices),
             ranges: times(copies, self.ranges, 0),
-            nullable: min == 0 || self.nullable,
+            nullable: least == 0 || self.nullable,
             ..self
         }
     }

@@ -1,10 +1,10 @@
 //! What a tree says of its groups.
 ghost use Rattle.std.specs.Prelude.{◌≡◌, ◌<◌, ◌^◌, map};
 ghost use Rattle.regex_lite_syntax.specs.Tree.{alternation, concat, trees as trees_of};
-ghost use Rattle.regex_lite_syntax.specs.Properties.{static_groups, static_captures_len};
-ghost use Rattle.regex_lite_syntax.specs.Views.{tree_of};
-ghost use Rattle.regex_lite_engine.specs.Counts.{places, whole_places};
-ghost use Rattle.regex_lite_engine.specs.Groups.{has_group, one_has_group};
+ghost use Rattle.regex_lite_syntax.specs.Tree.Properties.{static_groups, static_captures_len};
+ghost use Rattle.regex_lite_syntax.specs.Tree.Views.{tree_of};
+ghost use Rattle.regex_lite_engine.specs.Graph.PlaceCounts.{places, whole_places};
+ghost use Rattle.regex_lite_engine.specs.Nfa.HasGroup.{has_group, one_has_group};
 
 use regex_lite_syntax::Hir;
 
@@ -25,15 +25,15 @@ fn static_groups(hir: &Hir) -> Option<usize>
 {
     match hir {
         Hir::Empty | Hir::Char(_) | Hir::Class(_) | Hir::Look(_) => Some(0),
-        Hir::Repetition { min, sub, .. } => {
-            if *min > 0 {
-                return static_groups(sub);
+        Hir::Repetition { least, body, .. } => {
+            if *least > 0 {
+                return static_groups(body);
             }
             // No pass is needed, so each group may be passed over: the number is known only where
             // the body has none.
-            if has_group(sub) { None } else { Some(0) }
+            if has_group(body) { None } else { Some(0) }
         }
-        Hir::Capture { sub, .. } => Some(static_groups(sub)? + 1),
+        Hir::Capture { body, .. } => Some(static_groups(body)? + 1),
         Hir::Concat(parts) => static_sum(parts),
         Hir::Alternation(branches) => static_common(branches),
     }
@@ -77,7 +77,7 @@ fn has_group(hir: &Hir) -> bool
 {
     match hir {
         Hir::Empty | Hir::Char(_) | Hir::Class(_) | Hir::Look(_) => false,
-        Hir::Repetition { sub, .. } => has_group(sub),
+        Hir::Repetition { body, .. } => has_group(body),
         Hir::Capture { .. } => true,
         Hir::Concat(trees) | Hir::Alternation(trees) => one_has_group(trees),
     }

@@ -1,9 +1,9 @@
 //! The names of a pattern's groups.
 ghost use Rattle.std.specs.Prelude.{◌≡◌, ◌<◌, ℕ, None, IfOk, length, map, option_map, slice_index_or};
-ghost use Rattle.regex_lite_syntax.specs.Properties.{captures_len, greatest_index, greatest_index_in, group_name, group_name_in};
+ghost use Rattle.regex_lite_syntax.specs.Tree.Properties.{captures_len, greatest_index, greatest_index_in, group_name, group_name_in};
 ghost use Rattle.regex_lite_syntax.specs.Tree.{trees as trees_of};
-ghost use Rattle.regex_lite_syntax.specs.Views.{text_of_string, tree_of};
-ghost use Rattle.regex_lite_engine.specs.Names.{AddsNames, name_if_at};
+ghost use Rattle.regex_lite_syntax.specs.Tree.Views.{text_of_string, tree_of};
+ghost use Rattle.regex_lite_engine.specs.Nfa.Names.{AddsNames, name_if_at};
 
 use regex_lite_syntax::Hir;
 use std::alloc::{AllocError, Global};
@@ -28,10 +28,10 @@ fn add_names(names: &mut [Option<String>], hir: &Hir) -> Result<(), AllocError>
 {
     match hir {
         Hir::Empty | Hir::Char(_) | Hir::Class(_) | Hir::Look(_) => Ok(()),
-        Hir::Repetition { sub, .. } => add_names(names, sub),
-        Hir::Capture { index, name, sub } => {
+        Hir::Repetition { body, .. } => add_names(names, body),
+        Hir::Capture { index, name, body } => {
             add_name(names, *index, name)?;
-            add_names(names, sub)
+            add_names(names, body)
         }
         Hir::Concat(parts) | Hir::Alternation(parts) => add_all_names(names, parts),
     }

@@ -2,13 +2,13 @@
 //! what follows is known.
 ghost use Rattle.std.specs.Prelude.{◌≡◌, ◌<◌, ◌≤◌, ◌+◌, ◌*◌, ◌^◌, [], ◌∷◌, ◌++◌, length, map, drop, slice_set, slice_index_or, IfOk};
 ghost use Rattle.regex_lite_syntax.specs.Tree.{trees};
-ghost use Rattle.regex_lite_syntax.specs.Views.{tree_of};
-ghost use Rattle.regex_lite_syntax.specs.Properties.{greatest_index, greatest_index_in};
+ghost use Rattle.regex_lite_syntax.specs.Tree.Views.{tree_of};
+ghost use Rattle.regex_lite_syntax.specs.Tree.Properties.{greatest_index, greatest_index_in};
 ghost use Rattle.regex_lite_engine.specs.declared.nfa.place.Place.TheVariants.{Match};
-ghost use Rattle.regex_lite_engine.specs.Places.{complete, choice};
-ghost use Rattle.regex_lite_engine.specs.Graphs.{place_of};
-ghost use Rattle.regex_lite_engine.specs.Counts.{places, places_in, whole_places};
-ghost use Rattle.regex_lite_engine.specs.Layout.{IsAdded, layout, capture_layout, chain_layout, branches_layout, alternation_layout};
+ghost use Rattle.regex_lite_engine.specs.Graph.Places.{complete, choice};
+ghost use Rattle.regex_lite_engine.specs.Graph.Renumbered.{place_of};
+ghost use Rattle.regex_lite_engine.specs.Graph.PlaceCounts.{places, places_in, whole_places};
+ghost use Rattle.regex_lite_engine.specs.Nfa.Layout.{IsAdded, layout, capture_layout, chain_layout, branches_layout, alternation_layout};
 
 mod repetition;
 
@@ -112,12 +112,12 @@ impl Writer {
                 to: exit,
             }),
             Hir::Repetition {
-                min,
-                max,
+                least,
+                most,
                 greedy,
-                sub,
-            } => self.write_repetition(sub, *min, *max, *greedy, exit),
-            Hir::Capture { index, sub, .. } => self.write_capture(*index, sub, exit),
+                body,
+            } => self.write_repetition(body, *least, *most, *greedy, exit),
+            Hir::Capture { index, body, .. } => self.write_capture(*index, body, exit),
             Hir::Concat(parts) => self.write_concat(parts, exit),
             Hir::Alternation(branches) => self.write_alternation(branches, exit),
         }
@@ -125,23 +125,23 @@ impl Writer {
 
     /// The same for a group: the place that closes it, its body, the place that opens it.
     #[cycle(write)]
-    fn write_capture(&mut self, index: u32, sub: &Hir, exit: u32) -> Result<u32, AllocError>
-        requires room { length self.old + (places (tree_of sub.now) + 2) < 2 ^ 32 }
-        requires slots { (index < 2 ^ 31) × (greatest_index (tree_of sub.now) < 2 ^ 31) }
+    fn write_capture(&mut self, index: u32, body: &Hir, exit: u32) -> Result<u32, AllocError>
+        requires room { length self.old + (places (tree_of body.now) + 2) < 2 ^ 32 }
+        requires slots { (index < 2 ^ 31) × (greatest_index (tree_of body.now) < 2 ^ 31) }
         ensures written { IfOk result (λ entry. IsAdded
             (map place_of self.old) (map place_of self.new) entry
-            (capture_layout index (layout (tree_of sub.now)) (length self.old) exit)) }
+            (capture_layout index (layout (tree_of body.now)) (length self.old) exit)) }
         ensures grown { IfOk result (λ _.
-            length self.new ≡ length self.old + (places (tree_of sub.now) + 2)) }
+            length self.new ≡ length self.old + (places (tree_of body.now) + 2)) }
     {
         let close = self.add(Place::Slot {
             slot: 2 * index + 1,
             to: exit,
         })?;
-        let body = self.write(sub, close)?;
+        let inner = self.write(body, close)?;
         self.add(Place::Slot {
             slot: 2 * index,
-            to: body,
+            to: inner,
         })
     }
 

@@ -1,6 +1,6 @@
 //! The sets of characters that have names.
 ghost use Rattle.std.specs.Prelude.{◌≡◌, IfOk, map};
-ghost use Rattle.regex_lite_syntax.specs.Bounds.{range_of};
+ghost use Rattle.regex_lite_syntax.specs.Parser.RangeEnds.{range_of};
 ghost use Rattle.regex_lite_syntax.specs.Ranges.{AreRunsOf};
 ghost use Rattle.regex_lite_syntax.specs.NamedSets.{members};
 
@@ -31,12 +31,12 @@ impl NamedSet {
     pub(crate) fn ranges(self, alloc: Global) -> Result<Vec<ClassRange>, AllocError>
         ensures { IfOk result (λ ranges. AreRunsOf ranges.items (members self)) }
     {
-        let ranges = ranges_of(alloc, self.bounds())?;
+        let ranges = ranges_of(alloc, self.ends())?;
         Ok(ranges)
     }
 
     /// The first and the last character of each of the maximal runs, in order.
-    fn bounds(self) -> &'static [(char, char)]
+    fn ends(self) -> &'static [(char, char)]
         ensures { AreRunsOf (map range_of result.now) (members self) }
     {
         match self {
@@ -58,12 +58,11 @@ impl NamedSet {
     }
 }
 
-/// The ranges with these bounds.
-fn ranges_of(alloc: Global, bounds: &[(char, char)]) -> Result<Vec<ClassRange>, AllocError>
-    ensures { IfOk result (λ ranges. ranges.items ≡ map range_of bounds.now) }
+/// The ranges with these ends.
+fn ranges_of(alloc: Global, ends: &[(char, char)]) -> Result<Vec<ClassRange>, AllocError>
+    ensures { IfOk result (λ ranges. ranges.items ≡ map range_of ends.now) }
 {
-    bounds
-        .iter()
+    ends.iter()
         .map(|&(start, end)| ClassRange { start, end })
         .collect(alloc)
 }

@@ -2,7 +2,7 @@
 ghost use Rattle.std.specs.Prelude.{◌≡◌, ℕ, ◌<◌, ◌≤◌, ◌||◌, All, MatchBool, OnOk};
 ghost use Rattle.regex_lite_syntax.specs.Sets.{span};
 ghost use Rattle.regex_lite_syntax.specs.Ranges.{in_ranges, next_character, AreRuns};
-ghost use Rattle.regex_lite_syntax.specs.Bounds.{span_of, start_of};
+ghost use Rattle.regex_lite_syntax.specs.Parser.RangeEnds.{span_of, start_of};
 
 use super::ClassRange;
 use super::neighbours::next_char;

@@ -1,6 +1,6 @@
 //! Tests of a position.
 ghost use Rattle.std.specs.Prelude.{◌≡◌};
-ghost use Rattle.regex_lite_syntax.specs.Looks.{holds_between, is, is_word};
+ghost use Rattle.regex_lite_syntax.specs.Tree.Looks.{holds_between, is, is_word};
 
 /// A test of a position of the haystack by the characters beside it.
 #[derive(Clone, Copy, PartialEq, Eq, Debug)]
@@ -34,7 +34,7 @@ pub enum Look {
 impl Look {
     /// Whether the test holds between the characters before and after a position, of which one is
     /// missing at the start and at the end of the haystack.
-    #[tactic(auto, unfolding(crate::specs::Looks::holds_between))]
+    #[tactic(auto, unfolding(crate::specs::Tree::Looks::holds_between))]
     pub fn holds(self, before: Option<char>, after: Option<char>) -> bool
         ensures { result ≡ holds_between self before after }
     {

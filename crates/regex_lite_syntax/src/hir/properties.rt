@@ -1,8 +1,8 @@
 //! Whether a tree can match the empty text, and how its groups are numbered.
 ghost use Rattle.std.specs.Prelude.{◌≡◌, map};
 ghost use Rattle.regex_lite_syntax.specs.Tree.{trees as trees_of};
-ghost use Rattle.regex_lite_syntax.specs.Views.{tree_of};
-ghost use Rattle.regex_lite_syntax.specs.Properties.{nullable, all_nullable, any_nullable, greatest_index, greatest_index_in};
+ghost use Rattle.regex_lite_syntax.specs.Tree.Views.{tree_of};
+ghost use Rattle.regex_lite_syntax.specs.Tree.Properties.{nullable, all_nullable, any_nullable, greatest_index, greatest_index_in};
 
 use super::Hir;
 
@@ -15,8 +15,8 @@ impl Hir {
         match self {
             Hir::Empty | Hir::Look(_) => true,
             Hir::Char(_) | Hir::Class(_) => false,
-            Hir::Repetition { min, sub, .. } => *min == 0 || sub.is_nullable(),
-            Hir::Capture { sub, .. } => sub.is_nullable(),
+            Hir::Repetition { least, body, .. } => *least == 0 || body.is_nullable(),
+            Hir::Capture { body, .. } => body.is_nullable(),
             Hir::Concat(parts) => are_all_nullable(parts),
             Hir::Alternation(branches) => is_any_nullable(branches),
         }
@@ -29,8 +29,8 @@ impl Hir {
     {
         match self {
             Hir::Empty | Hir::Char(_) | Hir::Class(_) | Hir::Look(_) => 0,
-            Hir::Repetition { sub, .. } => sub.greatest_index(),
-            Hir::Capture { index, sub, .. } => (*index).max(sub.greatest_index()),
+            Hir::Repetition { body, .. } => body.greatest_index(),
+            Hir::Capture { index, body, .. } => (*index).max(body.greatest_index()),
             Hir::Concat(parts) | Hir::Alternation(parts) => greatest_index_in(parts),
         }
     }

@@ -3,15 +3,15 @@ ghost use Rattle.std.specs.Prelude.{◌≡◌, ◌<◌, ◌≤◌, drop, length,
 ghost use Rattle.regex_lite_syntax.specs.Text.{Text};
 ghost use Rattle.regex_lite_syntax.specs.Characters.{is_letter};
 ghost use Rattle.regex_lite_syntax.specs.Sets.{just, case_closure};
-ghost use Rattle.regex_lite_syntax.specs.Gaps.{EndsGap};
+ghost use Rattle.regex_lite_syntax.specs.Grammar.Gaps.{EndsGap};
 ghost use Rattle.regex_lite_syntax.specs.Ranges.{AreRunsOf};
-ghost use Rattle.regex_lite_syntax.specs.Escapes.{one};
+ghost use Rattle.regex_lite_syntax.specs.Grammar.Escapes.{one};
 ghost use Rattle.regex_lite_syntax.specs.Tree.{Tree};
-ghost use Rattle.regex_lite_syntax.specs.Atoms.{dot, anchor, PieceTree, Atom};
-ghost use Rattle.regex_lite_syntax.specs.Machine.{BeginsAtom};
+ghost use Rattle.regex_lite_syntax.specs.Grammar.Atoms.{dot, anchor, PrimitiveTree, Atom};
+ghost use Rattle.regex_lite_syntax.specs.Parser.Machine.{BeginsAtom};
 ghost use Rattle.regex_lite_syntax.specs.Refusals.{Denies};
-ghost use Rattle.regex_lite_syntax.specs.Pieces.{piece_of};
-ghost use Rattle.regex_lite_syntax.specs.Views.{tree_of};
+ghost use Rattle.regex_lite_syntax.specs.Parser.Readings.{primitive_of};
+ghost use Rattle.regex_lite_syntax.specs.Tree.Views.{tree_of};
 
 use crate::class::{Class, ClassRange};
 use crate::error::Error;
@@ -19,7 +19,7 @@ use crate::flags::Flags;
 use crate::hir::Hir;
 use crate::hir::look::Look;
 use crate::parse::bracket::read_class;
-use crate::parse::escape::{Piece, read_escape};
+use crate::parse::escape::{Primitive, read_escape};
 use std::alloc::{AllocError, Global};
 
 /// Reads the item that stands at the index, which is no group, and answers the index behind it.
@@ -50,8 +50,8 @@ pub(crate) fn read_atom(
             Ok((at + 1, Hir::Look(look)))
         }
         '\\' => {
-            let (end, piece) = read_escape(chars, at + 1, verbose)?;
-            Ok((end, piece_tree(alloc, flags, piece)?))
+            let (end, primitive) = read_escape(chars, at + 1, verbose)?;
+            Ok((end, piece_tree(alloc, flags, primitive)?))
         }
         '[' => {
             let (end, class) = read_class(alloc, chars, at, flags.case_insensitive, verbose)?;
@@ -97,7 +97,7 @@ fn anchor_look(flags: Flags, whole: Look, line: Look, crlf_line: Look) -> Look
 
 /// The tree of a character: under `i` an ASCII letter stands for both its cases.
 fn char_tree(alloc: Global, flags: Flags, c: char) -> Result<Hir, AllocError>
-    ensures { IfOk result (λ hir. PieceTree flags (one c) (tree_of hir)) }
+    ensures { IfOk result (λ hir. PrimitiveTree flags (one c) (tree_of hir)) }
 {
     if !flags.case_insensitive || !c.is_ascii_alphabetic() {
         return Ok(Hir::Char(c));
@@ -118,12 +118,12 @@ fn both_cases(alloc: Global, letter: char) -> Result<Class, AllocError>
 }
 
 /// The tree of what an escape gives.
-fn piece_tree(alloc: Global, flags: Flags, piece: Piece) -> Result<Hir, AllocError>
-    ensures { IfOk result (λ hir. PieceTree flags (piece_of piece) (tree_of hir)) }
+fn piece_tree(alloc: Global, flags: Flags, primitive: Primitive) -> Result<Hir, AllocError>
+    ensures { IfOk result (λ hir. PrimitiveTree flags (primitive_of primitive) (tree_of hir)) }
 {
-    match piece {
-        Piece::Char(c) => char_tree(alloc, flags, c),
-        Piece::Set { set, negated } => Hir::class(alloc, Class::named(alloc, set, negated)?),
-        Piece::Look(look) => Ok(Hir::Look(look)),
+    match primitive {
+        Primitive::Char(c) => char_tree(alloc, flags, c),
+        Primitive::Set { set, negated } => Hir::class(alloc, Class::named(alloc, set, negated)?),
+        Primitive::Look(look) => Ok(Hir::Look(look)),
     }
 }

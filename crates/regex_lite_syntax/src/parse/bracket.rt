@@ -1,10 +1,10 @@
 //! Bracketed classes.
 ghost use Rattle.std.specs.Prelude.{◌≡◌, ◌<◌, ◌≤◌, ◌+◌, ◌∷◌, ◌||◌, ℕ, List, drop, length, IfOk, IfErr};
-ghost use Rattle.regex_lite_syntax.specs.Text.{Text, open_bracket};
-ghost use Rattle.regex_lite_syntax.specs.Gaps.{EndsGap};
+ghost use Rattle.regex_lite_syntax.specs.Text.{Text, the};
+ghost use Rattle.regex_lite_syntax.specs.Grammar.Gaps.{EndsGap};
 ghost use Rattle.regex_lite_syntax.specs.Sets.{Set, union};
 ghost use Rattle.regex_lite_syntax.specs.Ranges.{in_ranges, AreRuns};
-ghost use Rattle.regex_lite_syntax.specs.Classes.{ClassItems, BracketedClass};
+ghost use Rattle.regex_lite_syntax.specs.Grammar.Classes.{ClassItems, BracketedClass};
 ghost use Rattle.regex_lite_syntax.specs.Refusals.{Denies};
 
 mod item;
@@ -32,7 +32,7 @@ pub(crate) fn read_class(
     verbose: bool,
 ) -> Result<(usize, Class), Error>
     requires inside { at < length chars.now }
-    requires begins { drop at chars.now ≡ open_bracket ∷ drop (at + 1) chars.now }
+    requires begins { drop at chars.now ≡ the "[" ∷ drop (at + 1) chars.now }
     ensures inside { IfOk result (λ r. (at < r.0) × (r.0 ≤ length chars.now)) }
     ensures ok { IfOk result (λ r. BracketedClass insensitive verbose
         (drop at chars.now) (drop r.0 chars.now) (in_ranges r.1.ranges.items)) }

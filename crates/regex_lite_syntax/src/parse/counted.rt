@@ -2,8 +2,8 @@
 ghost use Rattle.std.specs.Prelude.{◌≡◌, ℕ, ◌+◌, ◌*◌, ◌^◌, ◌<◌, ◌≤◌, ◌∷◌, drop, length, Option, IsTrue, IfOk, IfErr, IfSome, IfNone, SomeIff};
 ghost use Rattle.regex_lite_syntax.specs.Text.{Text};
 ghost use Rattle.regex_lite_syntax.specs.Characters.{is_digit, digit_value};
-ghost use Rattle.regex_lite_syntax.specs.Gaps.{Gap};
-ghost use Rattle.regex_lite_syntax.specs.Counts.{WholeSide, Number, EndsNumber, Limit, Counted};
+ghost use Rattle.regex_lite_syntax.specs.Grammar.Gaps.{Gap};
+ghost use Rattle.regex_lite_syntax.specs.Grammar.Counted.{WholeSide, Number, EndsNumber, Limit, Counted};
 ghost use Rattle.regex_lite_syntax.specs.Refusals.{Denies};
 
 #[cfg(test)]
@@ -15,9 +15,9 @@ use crate::parse::read::char_at;
 
 /// How often an operator repeats: at least, and at most where there is a limit.
 #[derive(Clone, Copy, PartialEq, Eq, Debug)]
-pub(crate) struct Bounds {
-    pub(crate) min: u32,
-    pub(crate) max: Option<u32>,
+pub(crate) struct Times {
+    pub(crate) least: u32,
+    pub(crate) most: Option<u32>,
 }
 
 /// Reads a counted operator from behind its opening brace on, and answers the index behind it.
@@ -25,30 +25,32 @@ pub(crate) fn read_counted(
     chars: &[char],
     at: usize,
     verbose: bool,
-) -> Result<(usize, Bounds), Error>
+) -> Result<(usize, Times), Error>
     requires { at ≤ length chars.now }
     ensures inside { IfOk result (λ r. (at < r.0) × (r.0 ≤ length chars.now)) }
     ensures ok { IfOk result (λ r.
-        Counted verbose (drop at chars.now) (drop r.0 chars.now) r.1.min r.1.max) }
-    ensures err { IfErr result (λ e. Denies e ((rest : Text) × (min : ℕ) × (max : Option ℕ)
-        × Counted verbose (drop at chars.now) rest min max)) }
+        Counted verbose (drop at chars.now) (drop r.0 chars.now) r.1.least r.1.most) }
+    ensures err { IfErr result (λ e. Denies e ((rest : Text) × (least : ℕ) × (most : Option ℕ)
+        × Counted verbose (drop at chars.now) rest least most)) }
 {
     let first = skip_gap(chars, at, verbose);
     if first == chars.len() {
         return Err(SyntaxFault::CountedRepetitionUnclosed.into());
     }
-    let (past_min, min) = read_number(chars, at, verbose)?;
+    let (past_min, least) = read_number(chars, at, verbose)?;
     match char_at(chars, past_min) {
         None => Err(SyntaxFault::CountedRepetitionMinUnclosed.into()),
         Some('}') => {
-            let max = Some(min);
-            Ok((past_min + 1, Bounds { min, max }))
+            let most = Some(least);
+            Ok((past_min + 1, Times { least, most }))
         }
         Some(',') => {
-            let (end, max) = read_limit(chars, past_min + 1, verbose)?;
-            match max {
-                Some(max) if max < min => Err(SyntaxFault::CountedRepetitionInvalidRange.into()),
-                _ => Ok((end, Bounds { min, max })),
+            let (end, most) = read_limit(chars, past_min + 1, verbose)?;
+            match most {
+                Some(most) if most < least => Err(
+                    SyntaxFault::CountedRepetitionInvalidRange.into(),
+                ),
+                _ => Ok((end, Times { least, most })),
             }
         }
         Some(_) => Err(SyntaxFault::CountedRepetitionInvalid.into()),
@@ -61,7 +63,7 @@ fn read_limit(chars: &[char], at: usize, verbose: bool) -> Result<(usize, Option
     ensures inside { IfOk result (λ r. (at < r.0) × (r.0 ≤ length chars.now)) }
     ensures ok { IfOk result (λ r. Limit verbose (drop at chars.now) (drop r.0 chars.now) r.1) }
     ensures err { IfErr result (λ e. Denies e
-        ((rest : Text) × (max : Option ℕ) × Limit verbose (drop at chars.now) rest max)) }
+        ((rest : Text) × (most : Option ℕ) × Limit verbose (drop at chars.now) rest most)) }
 {
     let first = skip_gap(chars, at, verbose);
     match char_at(chars, first) {
@@ -69,10 +71,10 @@ fn read_limit(chars: &[char], at: usize, verbose: bool) -> Result<(usize, Option
         Some('}') => return Ok((first + 1, None)),
         Some(_) => {}
     }
-    let (end, max) = read_number(chars, at, verbose)?;
+    let (end, most) = read_number(chars, at, verbose)?;
     match char_at(chars, end) {
         None => Err(SyntaxFault::CountedRepetitionMinMaxUnclosed.into()),
-        Some('}') => Ok((end + 1, Some(max))),
+        Some('}') => Ok((end + 1, Some(most))),
         Some(_) => Err(SyntaxFault::CountedRepetitionInvalid.into()),
     }
 }

@@ -3,9 +3,9 @@ ghost use Rattle.std.specs.Prelude.{◌≡◌, ◌<◌, ◌≤◌, drop, length,
 ghost use Rattle.regex_lite_syntax.specs.Text.{Text};
 ghost use Rattle.regex_lite_syntax.specs.Sets.{complement};
 ghost use Rattle.regex_lite_syntax.specs.NamedSets.{members};
-ghost use Rattle.regex_lite_syntax.specs.Escapes.{Piece as Given, Escape, one, some_of, gives, refused, escape_kind, is_escapable};
+ghost use Rattle.regex_lite_syntax.specs.Grammar.Escapes.{Primitive as Given, Escape, one, some_of, gives, refused, escape_kind, is_escapable};
 ghost use Rattle.regex_lite_syntax.specs.Refusals.{Denies};
-ghost use Rattle.regex_lite_syntax.specs.Pieces.{piece_of, escape_kind_of};
+ghost use Rattle.regex_lite_syntax.specs.Parser.Readings.{primitive_of, escape_kind_of};
 
 mod boundary;
 mod hexadecimal;
@@ -21,7 +21,7 @@ use hexadecimal::read_hexadecimal;
 
 /// What an escape gives.
 #[derive(Clone, Copy, PartialEq, Eq, Debug)]
-pub(crate) enum Piece {
+pub(crate) enum Primitive {
     /// This character.
     Char(char),
     /// The set with this name, or all other characters.
@@ -33,7 +33,7 @@ pub(crate) enum Piece {
 #[derive(Clone, Copy)]
 enum Meaning {
     /// This, and no more is read.
-    Gives(Piece),
+    Gives(Primitive),
     /// What stands at the start or the end of a word, perhaps with a name in braces.
     WordBoundary,
     /// So many hexadecimal digits, or some in braces.
@@ -42,11 +42,15 @@ enum Meaning {
 }
 
 /// Reads an escape from behind its backslash on, and answers the index behind it.
-pub(crate) fn read_escape(chars: &[char], at: usize, verbose: bool) -> Result<(usize, Piece), Error>
+pub(crate) fn read_escape(
+    chars: &[char],
+    at: usize,
+    verbose: bool,
+) -> Result<(usize, Primitive), Error>
     requires { at ≤ length chars.now }
     ensures inside { IfOk result (λ r. (at < r.0) × (r.0 ≤ length chars.now)) }
     ensures ok { IfOk result (λ r.
-        Escape verbose (drop at chars.now) (drop r.0 chars.now) (piece_of r.1)) }
+        Escape verbose (drop at chars.now) (drop r.0 chars.now) (primitive_of r.1)) }
     ensures err { IfErr result (λ e. Denies e
         ((rest : Text) × (p : Given) × Escape verbose (drop at chars.now) rest p)) }
 {
@@ -54,14 +58,14 @@ pub(crate) fn read_escape(chars: &[char], at: usize, verbose: bool) -> Result<(u
         return Err(SyntaxFault::EscapeUnexpectedEof.into());
     };
     match meaning_of(c) {
-        Meaning::Gives(piece) => Ok((at + 1, piece)),
+        Meaning::Gives(primitive) => Ok((at + 1, primitive)),
         Meaning::WordBoundary => {
             let (end, look) = read_word_boundary(chars, at + 1, verbose)?;
-            Ok((end, Piece::Look(look)))
+            Ok((end, Primitive::Look(look)))
         }
         Meaning::Hexadecimal(digits) => {
             let (end, scalar) = read_hexadecimal(chars, at + 1, verbose, digits)?;
-            Ok((end, Piece::Char(scalar)))
+            Ok((end, Primitive::Char(scalar)))
         }
         Meaning::Refused => Err(refusal_of(c).into()),
     }
@@ -72,17 +76,17 @@ fn meaning_of(c: char) -> Meaning
     ensures { escape_kind_of result ≡ escape_kind c }
 {
     match c {
-        'a' => Meaning::Gives(Piece::Char('\u{07}')),
-        'f' => Meaning::Gives(Piece::Char('\u{0C}')),
-        't' => Meaning::Gives(Piece::Char('\t')),
-        'n' => Meaning::Gives(Piece::Char('\n')),
-        'r' => Meaning::Gives(Piece::Char('\r')),
-        'v' => Meaning::Gives(Piece::Char('\u{0B}')),
-        'A' => Meaning::Gives(Piece::Look(Look::Start)),
-        'z' => Meaning::Gives(Piece::Look(Look::End)),
-        'B' => Meaning::Gives(Piece::Look(Look::WordNegate)),
-        '<' => Meaning::Gives(Piece::Look(Look::WordStart)),
-        '>' => Meaning::Gives(Piece::Look(Look::WordEnd)),
+        'a' => Meaning::Gives(Primitive::Char('\u{07}')),
+        'f' => Meaning::Gives(Primitive::Char('\u{0C}')),
+        't' => Meaning::Gives(Primitive::Char('\t')),
+        'n' => Meaning::Gives(Primitive::Char('\n')),
+        'r' => Meaning::Gives(Primitive::Char('\r')),
+        'v' => Meaning::Gives(Primitive::Char('\u{0B}')),
+        'A' => Meaning::Gives(Primitive::Look(Look::Start)),
+        'z' => Meaning::Gives(Primitive::Look(Look::End)),
+        'B' => Meaning::Gives(Primitive::Look(Look::WordNegate)),
+        '<' => Meaning::Gives(Primitive::Look(Look::WordStart)),
+        '>' => Meaning::Gives(Primitive::Look(Look::WordEnd)),
         'b' => Meaning::WordBoundary,
         'd' => members_of(NamedSet::Digit),
         's' => members_of(NamedSet::Space),
@@ -101,7 +105,7 @@ fn meaning_of(c: char) -> Meaning
 fn members_of(set: NamedSet) -> Meaning
     ensures { escape_kind_of result ≡ gives (some_of (members set)) }
 {
-    Meaning::Gives(Piece::Set {
+    Meaning::Gives(Primitive::Set {
         set,
         negated: false,
     })
@@ -111,7 +115,7 @@ fn members_of(set: NamedSet) -> Meaning
 fn others_than(set: NamedSet) -> Meaning
     ensures { escape_kind_of result ≡ gives (some_of (complement (members set))) }
 {
-    Meaning::Gives(Piece::Set { set, negated: true })
+    Meaning::Gives(Primitive::Set { set, negated: true })
 }
 
 /// What a character asks for that has no meaning of its own after a backslash.
@@ -119,7 +123,7 @@ fn other_meaning(c: char) -> Meaning
     ensures { escape_kind_of result ≡ (if is_escapable c then gives (one c) else refused) }
 {
     if c.is_ascii() && !c.is_ascii_alphanumeric() && c != '<' && c != '>' {
-        Meaning::Gives(Piece::Char(c))
+        Meaning::Gives(Primitive::Char(c))
     } else {
         Meaning::Refused
     }

@@ -1,7 +1,7 @@
 //! White space and comments between the parts of a pattern.
 ghost use Rattle.std.specs.Prelude.{◌≡◌, ◌≤◌, drop, length};
 ghost use Rattle.regex_lite_syntax.specs.Characters.{is_white_space};
-ghost use Rattle.regex_lite_syntax.specs.Gaps.{WholeGap};
+ghost use Rattle.regex_lite_syntax.specs.Grammar.Gaps.{WholeGap};
 
 /// Whether the character has Unicode's property White_Space.
 pub(crate) fn is_white_space_char(c: char) -> bool

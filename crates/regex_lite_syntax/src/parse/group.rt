@@ -1,11 +1,11 @@
 //! Groups and directives.
 ghost use Rattle.std.specs.Prelude.{◌≡◌, ◌<◌, ◌≤◌, ◌+◌, ◌∷◌, [], true, false, drop, length, option_map, IfOk, IfErr, OnOk};
 ghost use Rattle.regex_lite_syntax.specs.Errors.{kind_of};
-ghost use Rattle.regex_lite_syntax.specs.Text.{Text, open_paren, close_paren, question_mark};
-ghost use Rattle.regex_lite_syntax.specs.Gaps.{WholeGap};
-ghost use Rattle.regex_lite_syntax.specs.GroupNames.{NameOpening, Named};
-ghost use Rattle.regex_lite_syntax.specs.Views.{text_of_string};
-ghost use Rattle.regex_lite_syntax.specs.ParserStates.{group_kind, Advances, Refuses, NumberSays, Opens, OpensCapture, Closes, Directs};
+ghost use Rattle.regex_lite_syntax.specs.Text.{Text, the};
+ghost use Rattle.regex_lite_syntax.specs.Grammar.Gaps.{WholeGap};
+ghost use Rattle.regex_lite_syntax.specs.Grammar.GroupNames.{NameOpening, Named};
+ghost use Rattle.regex_lite_syntax.specs.Tree.Views.{text_of_string};
+ghost use Rattle.regex_lite_syntax.specs.Parser.States.{group_kind, Advances, Refuses, NumberSays, OpensGroup, OpensCapture, Closes, Directs};
 
 use crate::error::{Error, SyntaxFault};
 use crate::flags::Flags;
@@ -21,7 +21,7 @@ impl Parser {
     /// A `(` stands at the index: a group begins, or a directive stands there.
     pub(crate) fn read_group_head(&mut self, chars: &[char], at: usize) -> Result<usize, Error>
         requires inside { at < length chars.now }
-        requires begins { drop at chars.now ≡ open_paren ∷ drop (at + 1) chars.now }
+        requires begins { drop at chars.now ≡ the "(" ∷ drop (at + 1) chars.now }
         ensures ok { IfOk result (Advances self.old self.new chars.now at) }
         ensures err { IfErr result (Refuses self.old (drop at chars.now)) }
     {
@@ -45,7 +45,7 @@ impl Parser {
         start: usize,
     ) -> Result<usize, Error>
         requires inside { (at < first) × (first < start) × (start ≤ length chars.now) }
-        requires begins { drop at chars.now ≡ open_paren ∷ drop (at + 1) chars.now }
+        requires begins { drop at chars.now ≡ the "(" ∷ drop (at + 1) chars.now }
         requires gap { WholeGap self.old.here.flags.ignore_whitespace
             (drop (at + 1) chars.now) (drop first chars.now) }
         requires opens { NameOpening (drop first chars.now) (drop start chars.now) }
@@ -71,11 +71,11 @@ impl Parser {
         question: usize,
     ) -> Result<usize, Error>
         requires inside { (at < question) × (question < length chars.now) }
-        requires begins { drop at chars.now ≡ open_paren ∷ drop (at + 1) chars.now }
+        requires begins { drop at chars.now ≡ the "(" ∷ drop (at + 1) chars.now }
         requires gap { WholeGap self.old.here.flags.ignore_whitespace
             (drop (at + 1) chars.now) (drop question chars.now) }
         requires question { drop question chars.now
-            ≡ question_mark ∷ drop (question + 1) chars.now }
+            ≡ the "?" ∷ drop (question + 1) chars.now }
         requires unnamed { (rest name : Text) → Named (drop question chars.now) rest name → ⊥ }
         ensures ok { IfOk result (Advances self.old self.new chars.now at) }
         ensures err { IfErr result (Refuses self.old (drop at chars.now)) }
@@ -95,7 +95,7 @@ impl Parser {
     /// A `)` stands at the index.
     pub(crate) fn read_group_end(&mut self, chars: &[char], at: usize) -> Result<usize, Error>
         requires inside { at < length chars.now }
-        requires begins { drop at chars.now ≡ close_paren ∷ drop (at + 1) chars.now }
+        requires begins { drop at chars.now ≡ the ")" ∷ drop (at + 1) chars.now }
         ensures ok { IfOk result (Advances self.old self.new chars.now at) }
         ensures err { IfErr result (Refuses self.old (drop at chars.now)) }
     {
@@ -122,7 +122,7 @@ impl Parser {
 
     /// A group begins, in which these flags hold.
     fn open(&mut self, kind: GroupKind, flags: Flags) -> Result<(), AllocError>
-        ensures { OnOk result (Opens self.old self.new (group_kind kind) flags) }
+        ensures { OnOk result (OpensGroup self.old self.new (group_kind kind) flags) }
     {
         let inner = Level::new(self.alloc, flags);
         let outer = mem::replace(&mut self.here, inner);

@@ -1,10 +1,10 @@
 //! Flags that are written in a pattern.
 ghost use Rattle.std.specs.Prelude.{◌≡◌, ◌<◌, ◌≤◌, ◌++◌, IsTrue, true, false, drop, length, slice_range, codes, IfOk, IfErr, OnErr, OnSome};
 ghost use Rattle.regex_lite_syntax.specs.declared.flags.Flags.{Flags};
-ghost use Rattle.regex_lite_syntax.specs.Text.{Text};
+ghost use Rattle.regex_lite_syntax.specs.Text.{Text, ◌∈◌};
 ghost use Rattle.regex_lite_syntax.specs.Characters.{is_one_of};
-ghost use Rattle.regex_lite_syntax.specs.FlagLetters.{is_flag_letter, with_flag, with_flags, all_differ};
-ghost use Rattle.regex_lite_syntax.specs.FlagRuns.{EndedFlags, LetterRun};
+ghost use Rattle.regex_lite_syntax.specs.Grammar.FlagLetters.{is_flag_letter, with_flag, with_flags, all_differ};
+ghost use Rattle.regex_lite_syntax.specs.Parser.FlagRuns.{EndedFlags, LetterRun};
 ghost use Rattle.regex_lite_syntax.specs.Refusals.{Denies};
 
 use crate::error::{Error, SyntaxFault};
@@ -99,7 +99,7 @@ fn read_letters(
 
 /// Whether the character ends a run of flag letters.
 fn ends_letters(c: char) -> bool
-    ensures { result ≡ is_one_of (codes "-:)") c }
+    ensures { result ≡ c ∈ "-:)" }
 {
     matches!(c, '-' | ':' | ')')
 }

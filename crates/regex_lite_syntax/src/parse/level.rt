@@ -1,9 +1,9 @@
 //! What has been read of one group.
 ghost use Rattle.std.specs.Prelude.{◌≡◌, ◌++◌, ◌∷◌, [], map, IfOk, OnOk};
 ghost use Rattle.regex_lite_syntax.specs.Tree.{sequence_of, choice_of};
-ghost use Rattle.regex_lite_syntax.specs.Groups.{group_tree};
-ghost use Rattle.regex_lite_syntax.specs.Views.{tree_of};
-ghost use Rattle.regex_lite_syntax.specs.ParserStates.{group_kind};
+ghost use Rattle.regex_lite_syntax.specs.Grammar.Heads.{group_tree};
+ghost use Rattle.regex_lite_syntax.specs.Tree.Views.{tree_of};
+ghost use Rattle.regex_lite_syntax.specs.Parser.States.{group_kind};
 
 use crate::flags::Flags;
 use crate::hir::Hir;

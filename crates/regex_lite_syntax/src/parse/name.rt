@@ -1,9 +1,9 @@
 //! Names of capturing groups.
 ghost use Rattle.std.specs.Prelude.{◌≡◌, ◌<◌, ◌≤◌, ◌-◌, ◌↔◌, drop, length, chars as chars_of, slice_range, IsTrue, Contains, IfOk, IfErr, IfSome, IfNone};
 ghost use Rattle.regex_lite_syntax.specs.Text.{Text};
-ghost use Rattle.regex_lite_syntax.specs.GroupNames.{begins_name, continues_name, NameWritten, NameOpening, Named};
+ghost use Rattle.regex_lite_syntax.specs.Grammar.GroupNames.{begins_name, continues_name, NameWritten, NameOpening, Named};
 ghost use Rattle.regex_lite_syntax.specs.Refusals.{Denies};
-ghost use Rattle.regex_lite_syntax.specs.Views.{text_of_string, names_of};
+ghost use Rattle.regex_lite_syntax.specs.Tree.Views.{text_of_string, names_of};
 
 #[cfg(test)]
 mod tests;

@@ -1,12 +1,12 @@
 -- Each goal is a step or the end of a loop, which the lemmas on ways and passes give.
 use Rattle.std.proofs.Common.{◌≡◌, ◌-◌, None, Some, IfOk, sym, ap, ◌∙◌, subst}
 use Rattle.regex_lite_syntax.specs.Tree.{Tree, repetition}
-use Rattle.regex_lite_syntax.specs.Matches.{Matches}
-use Rattle.regex_lite_syntax.specs.Views.{tree_of}
-use Rattle.regex_lite.specs.Positions.{IsReached}
-use Rattle.regex_lite.proofs.NodeLemmas.{chain_more, chain_last, branch_more}
-use Rattle.regex_lite.proofs.PassLemmas.{some_passes_first, passes_more, passes_last, passes_over, some_passes_more, some_passes_over, limited_more, limited_last}
-use Rattle.regex_lite.proofs.TreeLemmas.{tree_of-Repetition}
+use Rattle.regex_lite_syntax.specs.Tree.Matches.{Matches}
+use Rattle.regex_lite_syntax.specs.Tree.Views.{tree_of}
+use Rattle.regex_lite.specs.Plain.Positions.{IsReached}
+use Rattle.regex_lite.proofs.plain.NodeLemmas.{chain_more, chain_last, branch_more}
+use Rattle.regex_lite.proofs.plain.PassLemmas.{some_passes_first, passes_more, passes_last, passes_over, some_passes_more, some_passes_over, limited_more, limited_last}
+use Rattle.regex_lite_syntax.proofs.TreeLemmas.{tree_of-Repetition}
 use Rattle.regex_lite.proofs.plain.+after.Goals as goal
 use Rattle.regex_lite.proofs.plain.+after.Goals.{after_between-else-loop-test, after_between-then-loop-test+in_ok-add_pass+then-not-branch, after_passes-else-loop-test, after_passes-then-loop-test+in_ok-next+then-is_same}
 
@@ -29,61 +29,61 @@ after_any-loop-branch-preserved t c =
 
 pub after_at_least-loop-reached-init : goal.after_at_least-loop-reached-init
 after_at_least-loop-reached-init t c =
-    some_passes_first (Matches c.args.haystack.now (tree_of c.args.sub.now)) c.args.from.now c.in_ok-reached.reached
-    c.args.min None tt c.in_ok-reached.ensures
+    some_passes_first (Matches c.args.haystack.now (tree_of c.args.body.now)) c.args.from.now c.in_ok-reached.reached
+    c.args.least None tt c.in_ok-reached.ensures
 
 pub after_at_least-loop-reached-preserved : goal.after_at_least-loop-reached-preserved
 after_at_least-loop-reached-preserved t c =
-    some_passes_more (Matches c.args.haystack.now (tree_of c.args.sub.now)) _ c.args.from.now c.loop-reached.reached
+    some_passes_more (Matches c.args.haystack.now (tree_of c.args.body.now)) _ c.args.from.now c.loop-reached.reached
     c.add_pass.new.reached c.in_ok-add_pass.field-0 None c.loop-reached.invariant c.in_ok-add_pass.ensures
 
 pub after_at_least-returns : goal.after_at_least-returns
 after_at_least-returns t c =
-    some_passes_over (Matches c.args.haystack.now (tree_of c.args.sub.now)) _ c.args.from.now c.loop-reached.reached
+    some_passes_over (Matches c.args.haystack.now (tree_of c.args.body.now)) _ c.args.from.now c.loop-reached.reached
     c.add_pass.new.reached c.in_ok-add_pass.field-0 None c.if-branch.false c.loop-reached.invariant c.in_ok-add_pass.ensures
 
 pub after_between-loop-init : goal.after_between-loop-init
 after_between-loop-init t c =
-    some_passes_first (Matches c.args.haystack.now (tree_of c.args.sub.now)) c.args.from.now c.in_ok-reached.reached
-    c.args.min (Some c.args.max) c.requires.in_order c.in_ok-reached.ensures
+    some_passes_first (Matches c.args.haystack.now (tree_of c.args.body.now)) c.args.from.now c.in_ok-reached.reached
+    c.args.least (Some c.args.most) c.requires.in_order c.in_ok-reached.ensures
 
 pub after_between-loop-preserved : goal.after_between-loop-preserved
 after_between-loop-preserved t c =
-    limited_more (Matches c.args.haystack.now (tree_of c.args.sub.now)) _ c.args.from.now c.loop.reached
-    c.add_pass.new.reached c.in_ok-add_pass.field-0 c.args.max c.loop.counter c.loop-test.true c.loop.invariant
+    limited_more (Matches c.args.haystack.now (tree_of c.args.body.now)) _ c.args.from.now c.loop.reached
+    c.add_pass.new.reached c.in_ok-add_pass.field-0 c.args.most c.loop.counter c.loop-test.true c.loop.invariant
     c.in_ok-add_pass.ensures
 
 pub after_between-returns : goal.after_between-returns
 after_between-returns t c = elim c.loop-test.branch [
   | after_between-else-loop-test w ↦ rw w.reached-is
-      (limited_last (Matches c.args.haystack.now (tree_of c.args.sub.now)) _ c.args.from.now c.loop.reached c.args.max
+      (limited_last (Matches c.args.haystack.now (tree_of c.args.body.now)) _ c.args.from.now c.loop.reached c.args.most
       c.loop.counter w.loop-test.false c.loop.invariant)
   | after_between-then-loop-test+in_ok-add_pass+then-not-branch w ↦ rw w.reached-is
-      (some_passes_over (Matches c.args.haystack.now (tree_of c.args.sub.now)) _ c.args.from.now c.loop.reached
-      w.add_pass.new.reached w.in_ok-add_pass.field-0 (Some (c.args.max - c.loop.counter)) w.if-not-branch.true
+      (some_passes_over (Matches c.args.haystack.now (tree_of c.args.body.now)) _ c.args.from.now c.loop.reached
+      w.add_pass.new.reached w.in_ok-add_pass.field-0 (Some (c.args.most - c.loop.counter)) w.if-not-branch.true
       c.loop.invariant w.in_ok-add_pass.ensures)
 ]
 
 pub after_passes-loop-preserved : goal.after_passes-loop-preserved
 after_passes-loop-preserved t c =
-    passes_more (Matches c.args.haystack.now (tree_of c.args.sub.now)) _ c.args.from.now c.loop.reached c.in_ok-next.next
+    passes_more (Matches c.args.haystack.now (tree_of c.args.body.now)) _ c.args.from.now c.loop.reached c.in_ok-next.next
     c.args.count c.loop.counter c.loop-test.true c.loop.invariant c.in_ok-next.ensures
 
 pub after_passes-returns : goal.after_passes-returns
 after_passes-returns t c = elim c.loop-test.branch [
   | after_passes-else-loop-test w ↦
-      passes_last (Matches c.args.haystack.now (tree_of c.args.sub.now)) _ c.args.from.now c.loop.reached c.args.count
+      passes_last (Matches c.args.haystack.now (tree_of c.args.body.now)) _ c.args.from.now c.loop.reached c.args.count
       c.loop.counter w.loop-test.false c.loop.invariant
   | after_passes-then-loop-test+in_ok-next+then-is_same w ↦
-      passes_over (Matches c.args.haystack.now (tree_of c.args.sub.now)) _ c.args.from.now c.loop.reached w.in_ok-next.next
+      passes_over (Matches c.args.haystack.now (tree_of c.args.body.now)) _ c.args.from.now c.loop.reached w.in_ok-next.next
       (c.args.count - c.loop.counter) c.loop.invariant w.in_ok-next.ensures (w.is_same.ensures.0 w.if-is_same.true)
 ]
 
 pub after_tree-returns-in-Repetition : goal.after_tree-returns-in-Repetition
 after_tree-returns-in-Repetition t c =
     let r = c.in-Repetition in
-    let same : tree_of c.args.hir.now ≡ repetition r.min r.max r.greedy (tree_of c.deref-in-Repetition.result.now) =
-    ap tree_of r.is ∙ tree_of-Repetition r.min r.max r.greedy r.sub
-    ∙ ap (λ sub. repetition r.min r.max r.greedy (tree_of sub)) (sym c.deref-in-Repetition.ensures) in
+    let same : tree_of c.args.hir.now ≡ repetition r.least r.most r.greedy (tree_of c.deref-in-Repetition.result.now) =
+    ap tree_of r.is ∙ tree_of-Repetition r.least r.most r.greedy r.body
+    ∙ ap (λ body. repetition r.least r.most r.greedy (tree_of body)) (sym c.deref-in-Repetition.ensures) in
     subst (λ (tree : Tree). IfOk c.after_repetition.result (IsReached (Matches c.args.haystack.now tree) c.args.from.now))
     (sym same) c.after_repetition.ensures

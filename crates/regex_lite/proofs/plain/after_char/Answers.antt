@@ -1,5 +1,5 @@
 use Rattle.std.proofs.Common.{rules}
-use Rattle.regex_lite.proofs.ReadLemmas.{char_read}
+use Rattle.regex_lite.proofs.plain.ReadLemmas.{char_read}
 use Rattle.regex_lite.proofs.plain.after_char.Goals as goal
 
 pub returns : goal.returns

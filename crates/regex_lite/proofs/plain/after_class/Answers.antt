@@ -1,5 +1,5 @@
 use Rattle.std.proofs.Common.{rules}
-use Rattle.regex_lite.proofs.ReadLemmas.{class_read}
+use Rattle.regex_lite.proofs.plain.ReadLemmas.{class_read}
 use Rattle.regex_lite.proofs.plain.after_class.Goals as goal
 
 pub returns : goal.returns

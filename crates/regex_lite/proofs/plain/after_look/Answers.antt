@@ -1,7 +1,7 @@
 -- One position on, the test holds there, or it doesn't, or the position is not in the set.
 use Rattle.std.proofs.Common.{sym}
 use Rattle.std.proofs.lemmas.Bool.{both_ways}
-use Rattle.regex_lite.proofs.LookLemmas.{kept_one, kept_none}
+use Rattle.regex_lite.proofs.plain.LookLemmas.{kept_one, kept_none}
 use Rattle.regex_lite.proofs.plain.after_look.Goals as goal
 use Rattle.regex_lite.proofs.plain.after_look.Goals.{then-contains+then-holds_at, else-contains, else-contains-via-then-contains+else-holds_at, else-contains-via-else-contains}
 

@@ -1,5 +1,5 @@
-use Rattle.regex_lite_syntax.specs.Looks.{Holds}
-use Rattle.regex_lite.proofs.LookLemmas.{IsKeptBelow}
+use Rattle.regex_lite_syntax.specs.Tree.Looks.{Holds}
+use Rattle.regex_lite.proofs.plain.LookLemmas.{IsKeptBelow}
 use Rattle.regex_lite.proofs.plain.after_look.Given as goal
 
 abbrev pub invariant-loop-i : goal.invariant-loop-i

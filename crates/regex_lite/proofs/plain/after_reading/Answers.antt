@@ -1,7 +1,7 @@
 -- One position on, a character was read, or it did not pass, or the position is not in the set.
 use Rattle.std.proofs.Common.{◌≡◌, Some, slice_get, refl, arith}
 use Rattle.std.proofs.lemmas.Option.{slice_get_read}
-use Rattle.regex_lite.proofs.ReadLemmas.{read_more_absent, read_more_failed, read_more_passed, read_all}
+use Rattle.regex_lite.proofs.plain.ReadLemmas.{read_more_absent, read_more_failed, read_more_passed, read_all}
 use Rattle.regex_lite.proofs.plain.after_reading.Goals as goal
 use Rattle.regex_lite.proofs.plain.after_reading.Goals.{then-contains+then-test, else-contains, else-contains-via-then-contains+else-test, else-contains-via-else-contains}
 

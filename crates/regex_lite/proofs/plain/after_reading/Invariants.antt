@@ -1,4 +1,4 @@
-use Rattle.regex_lite.proofs.ReadLemmas.{IsReadBelow}
+use Rattle.regex_lite.proofs.plain.ReadLemmas.{IsReadBelow}
 use Rattle.regex_lite.proofs.plain.after_reading.Given as goal
 
 abbrev pub invariant-loop-i : goal.invariant-loop-i

@@ -1,5 +1,5 @@
-use Rattle.regex_lite.proofs.WholeLemmas.{found}
-use Rattle.regex_lite_syntax.specs.Views.{tree_of}
+use Rattle.regex_lite.proofs.plain.WholeLemmas.{found}
+use Rattle.regex_lite_syntax.specs.Tree.Views.{tree_of}
 use Rattle.regex_lite.proofs.plain.has_match.Goals as goal
 
 pub returns : goal.returns

@@ -1,4 +1,4 @@
-use Rattle.regex_lite_engine.proofs.PatternWays.{match_way, walk_match}
+use Rattle.regex_lite_engine.proofs.laws.PatternWayLemmas.{match_way, walk_match}
 use Rattle.regex_lite_engine.proofs.laws.matches_are_ways.Goals as goal
 
 pub returns : goal.returns

@@ -1,14 +1,14 @@
 //! What a repetition is written out as: copies of its body, and places beside them.
 ghost use Rattle.std.specs.Prelude.{◌≡◌, ◌+◌, ◌*◌, ◌^◌, ◌<◌};
-ghost use Rattle.regex_lite_engine.specs.Counts.{copies, own_places, own_arrows, own_choice_arrows, bounded_places, bounded_arrows};
+ghost use Rattle.regex_lite_engine.specs.Graph.PlaceCounts.{copies, own_places, own_arrows, own_choice_arrows, bounded_places, bounded_arrows};
 
 /// How many copies of its body a repetition has.
-pub(crate) fn copies(min: u32, max: Option<u32>) -> u64
-    ensures { result ≡ copies min max }
+pub(crate) fn copies(least: u32, most: Option<u32>) -> u64
+    ensures { result ≡ copies least most }
 {
-    match max {
-        None => u64::from(min.max(1)),
-        Some(max) => u64::from(min.max(max)),
+    match most {
+        None => u64::from(least.max(1)),
+        Some(most) => u64::from(least.max(most)),
     }
 }
 
@@ -22,14 +22,14 @@ pub(crate) struct OwnPlaces {
 
 impl OwnPlaces {
     /// Those of a repetition with these bounds.
-    pub(crate) fn of(min: u32, max: Option<u32>, nullable_body: bool) -> OwnPlaces
-        ensures places { result.choices + result.others ≡ own_places min max nullable_body }
-        ensures arrows { 2 * result.choices + result.others ≡ own_arrows min max nullable_body }
-        ensures choice_arrows { 2 * result.choices ≡ own_choice_arrows min max nullable_body }
+    pub(crate) fn of(least: u32, most: Option<u32>, nullable_body: bool) -> OwnPlaces
+        ensures places { result.choices + result.others ≡ own_places least most nullable_body }
+        ensures arrows { 2 * result.choices + result.others ≡ own_arrows least most nullable_body }
+        ensures choice_arrows { 2 * result.choices ≡ own_choice_arrows least most nullable_body }
         ensures few { (result.choices < 2 ^ 32) × (result.others < 3) }
     {
-        let Some(max) = max else {
-            return if min == 0 && nullable_body {
+        let Some(most) = most else {
+            return if least == 0 && nullable_body {
                 OwnPlaces {
                     choices: 2,
                     others: 1,
@@ -41,23 +41,23 @@ impl OwnPlaces {
                 }
             };
         };
-        let choices = max.saturating_sub(min);
+        let choices = most.saturating_sub(least);
         OwnPlaces {
             choices: u64::from(choices),
-            others: other_places(min, choices),
+            others: other_places(least, choices),
         }
     }
 }
 
 /// How many places a repetition with so many choices has that are no choices: no join where there
 /// is no choice, and an empty place where no copy stands before the choices.
-fn other_places(min: u32, choices: u32) -> u64
-    ensures places { choices + result ≡ bounded_places min choices }
-    ensures arrows { 2 * choices + result ≡ bounded_arrows min choices }
+fn other_places(least: u32, choices: u32) -> u64
+    ensures places { choices + result ≡ bounded_places least choices }
+    ensures arrows { 2 * choices + result ≡ bounded_arrows least choices }
     ensures few { result < 3 }
 {
     if choices == 0 {
-        return if min == 0 { 1 } else { 0 };
+        return if least == 0 { 1 } else { 0 };
     }
-    if min > 0 || choices == 1 { 1 } else { 2 }
+    if least > 0 || choices == 1 { 1 } else { 2 }
 }

@@ -1,10 +1,10 @@
 //! The places of a repetition.
 ghost use Rattle.std.specs.Prelude.{◌≡◌, ◌<◌, ◌+◌, ◌*◌, ◌^◌, ◌++◌, length, map, IfOk};
-ghost use Rattle.regex_lite_syntax.specs.Views.{tree_of};
-ghost use Rattle.regex_lite_syntax.specs.Properties.{nullable, greatest_index};
-ghost use Rattle.regex_lite_engine.specs.Graphs.{place_of};
-ghost use Rattle.regex_lite_engine.specs.Counts.{places, copies, own_places, bounded_places};
-ghost use Rattle.regex_lite_engine.specs.Layout.{IsAdded, layout, copies_layout, exactly_layout, choices_layout, star_layout, nullable_star_layout, at_least_layout, between_layout, repetition_layout};
+ghost use Rattle.regex_lite_syntax.specs.Tree.Views.{tree_of};
+ghost use Rattle.regex_lite_syntax.specs.Tree.Properties.{nullable, greatest_index};
+ghost use Rattle.regex_lite_engine.specs.Graph.Renumbered.{place_of};
+ghost use Rattle.regex_lite_engine.specs.Graph.PlaceCounts.{places, copies, own_places, bounded_places};
+ghost use Rattle.regex_lite_engine.specs.Nfa.Layout.{IsAdded, layout, copies_layout, exactly_layout, choices_layout, star_layout, nullable_star_layout, at_least_layout, between_layout, repetition_layout};
 
 use super::{Writer, choice_of};
 use crate::nfa::place::Place;
@@ -17,38 +17,38 @@ impl Writer {
     #[cycle(write)]
     pub(super) fn write_repetition(
         &mut self,
-        sub: &Hir,
-        min: u32,
-        max: Option<u32>,
+        body: &Hir,
+        least: u32,
+        most: Option<u32>,
         greedy: bool,
         exit: u32,
     ) -> Result<u32, AllocError>
-        requires room { let body = tree_of sub.now in length self.old
-            + (copies min max * places body + own_places min max (nullable body)) < 2 ^ 32 }
-        requires slots { greatest_index (tree_of sub.now) < 2 ^ 31 }
-        ensures written { let body = tree_of sub.now in IfOk result (λ entry. IsAdded
+        requires room { let body = tree_of body.now in length self.old
+            + (copies least most * places body + own_places least most (nullable body)) < 2 ^ 32 }
+        requires slots { greatest_index (tree_of body.now) < 2 ^ 31 }
+        ensures written { let body = tree_of body.now in IfOk result (λ entry. IsAdded
             (map place_of self.old) (map place_of self.new) entry
-            (repetition_layout greedy (layout body) min max (nullable body)
+            (repetition_layout greedy (layout body) least most (nullable body)
             (length self.old) exit)) }
-        ensures grown { let body = tree_of sub.now in IfOk result (λ _. length self.new
-            ≡ length self.old + (copies min max * places body
-            + own_places min max (nullable body))) }
+        ensures grown { let body = tree_of body.now in IfOk result (λ _. length self.new
+            ≡ length self.old + (copies least most * places body
+            + own_places least most (nullable body))) }
     {
-        match max {
+        match most {
             None => {
-                if min > 0 {
-                    self.write_at_least(sub, min - 1, greedy, exit)
-                } else if sub.is_nullable() {
-                    self.write_nullable_star(sub, greedy, exit)
+                if least > 0 {
+                    self.write_at_least(body, least - 1, greedy, exit)
+                } else if body.is_nullable() {
+                    self.write_nullable_star(body, greedy, exit)
                 } else {
-                    self.write_star(sub, greedy, exit)
+                    self.write_star(body, greedy, exit)
                 }
             }
-            Some(max) => {
-                if max <= min {
-                    self.write_exactly(sub, min, exit)
+            Some(most) => {
+                if most <= least {
+                    self.write_exactly(body, least, exit)
                 } else {
-                    self.write_between(sub, min, max - min, greedy, exit)
+                    self.write_between(body, least, most - least, greedy, exit)
                 }
             }
         }
@@ -56,16 +56,16 @@ impl Writer {
 
     /// The choice and the body, which leads back to it.
     #[cycle(write)]
-    fn write_star(&mut self, sub: &Hir, greedy: bool, exit: u32) -> Result<u32, AllocError>
-        requires room { length self.old + (places (tree_of sub.now) + 1) < 2 ^ 32 }
-        requires slots { greatest_index (tree_of sub.now) < 2 ^ 31 }
+    fn write_star(&mut self, body: &Hir, greedy: bool, exit: u32) -> Result<u32, AllocError>
+        requires room { length self.old + (places (tree_of body.now) + 1) < 2 ^ 32 }
+        requires slots { greatest_index (tree_of body.now) < 2 ^ 31 }
         ensures written { IfOk result (λ entry. IsAdded
             (map place_of self.old) (map place_of self.new) entry
-            (star_layout greedy (layout (tree_of sub.now)) (length self.old) exit)) }
+            (star_layout greedy (layout (tree_of body.now)) (length self.old) exit)) }
         ensures grown { IfOk result (λ _.
-            length self.new ≡ length self.old + (places (tree_of sub.now) + 1)) }
+            length self.new ≡ length self.old + (places (tree_of body.now) + 1)) }
     {
-        let (choice, _) = self.write_loop(sub, greedy, exit)?;
+        let (choice, _) = self.write_loop(body, greedy, exit)?;
         Ok(choice)
     }
 
@@ -74,57 +74,62 @@ impl Writer {
     /// choice of the loop for the first time at that position, and may leave by it. In a plain loop
     /// it would come back to the choice where it set out.
     #[cycle(write)]
-    fn write_nullable_star(&mut self, sub: &Hir, greedy: bool, exit: u32) -> Result<u32, AllocError>
-        requires room { length self.old + (places (tree_of sub.now) + 3) < 2 ^ 32 }
-        requires slots { greatest_index (tree_of sub.now) < 2 ^ 31 }
+    fn write_nullable_star(
+        &mut self,
+        body: &Hir,
+        greedy: bool,
+        exit: u32,
+    ) -> Result<u32, AllocError>
+        requires room { length self.old + (places (tree_of body.now) + 3) < 2 ^ 32 }
+        requires slots { greatest_index (tree_of body.now) < 2 ^ 31 }
         ensures written { IfOk result (λ entry. IsAdded
             (map place_of self.old) (map place_of self.new) entry
-            (nullable_star_layout greedy (layout (tree_of sub.now)) (length self.old) exit)) }
+            (nullable_star_layout greedy (layout (tree_of body.now)) (length self.old) exit)) }
         ensures grown { IfOk result (λ _.
-            length self.new ≡ length self.old + (places (tree_of sub.now) + 3)) }
+            length self.new ≡ length self.old + (places (tree_of body.now) + 3)) }
     {
         let join = self.add(Place::Empty { to: exit })?;
-        let (_, body) = self.write_loop(sub, greedy, join)?;
-        self.add(choice_of(greedy, body, join))
+        let (_, inner) = self.write_loop(body, greedy, join)?;
+        self.add(choice_of(greedy, inner, join))
     }
 
     /// A loop that is entered at its body, and so many copies before it.
     #[cycle(write)]
     fn write_at_least(
         &mut self,
-        sub: &Hir,
+        body: &Hir,
         before: u32,
         greedy: bool,
         exit: u32,
     ) -> Result<u32, AllocError>
-        requires room { length self.old + ((before + 1) * places (tree_of sub.now) + 1) < 2 ^ 32 }
-        requires slots { greatest_index (tree_of sub.now) < 2 ^ 31 }
+        requires room { length self.old + ((before + 1) * places (tree_of body.now) + 1) < 2 ^ 32 }
+        requires slots { greatest_index (tree_of body.now) < 2 ^ 31 }
         ensures written { IfOk result (λ entry. IsAdded
             (map place_of self.old) (map place_of self.new) entry
-            (at_least_layout greedy (layout (tree_of sub.now)) before (length self.old) exit)) }
+            (at_least_layout greedy (layout (tree_of body.now)) before (length self.old) exit)) }
         ensures grown { IfOk result (λ _.
-            length self.new ≡ length self.old + ((before + 1) * places (tree_of sub.now) + 1)) }
+            length self.new ≡ length self.old + ((before + 1) * places (tree_of body.now) + 1)) }
     {
-        let (_, body) = self.write_loop(sub, greedy, exit)?;
-        self.write_copies(sub, before, body)
+        let (_, inner) = self.write_loop(body, greedy, exit)?;
+        self.write_copies(body, before, inner)
     }
 
     /// So many copies, or an empty place in the stead of none.
     #[cycle(write)]
-    fn write_exactly(&mut self, sub: &Hir, count: u32, exit: u32) -> Result<u32, AllocError>
+    fn write_exactly(&mut self, body: &Hir, count: u32, exit: u32) -> Result<u32, AllocError>
         requires room { length self.old
-            + (count * places (tree_of sub.now) + bounded_places count 0) < 2 ^ 32 }
-        requires slots { greatest_index (tree_of sub.now) < 2 ^ 31 }
+            + (count * places (tree_of body.now) + bounded_places count 0) < 2 ^ 32 }
+        requires slots { greatest_index (tree_of body.now) < 2 ^ 31 }
         ensures written { IfOk result (λ entry. IsAdded
             (map place_of self.old) (map place_of self.new) entry
-            (exactly_layout (layout (tree_of sub.now)) count (length self.old) exit)) }
+            (exactly_layout (layout (tree_of body.now)) count (length self.old) exit)) }
         ensures grown { IfOk result (λ _. length self.new
-            ≡ length self.old + (count * places (tree_of sub.now) + bounded_places count 0)) }
+            ≡ length self.old + (count * places (tree_of body.now) + bounded_places count 0)) }
     {
         if count == 0 {
             self.add(Place::Empty { to: exit })
         } else {
-            self.write_copies(sub, count, exit)
+            self.write_copies(body, count, exit)
         }
     }
 
@@ -132,26 +137,26 @@ impl Writer {
     #[cycle(write)]
     fn write_between(
         &mut self,
-        sub: &Hir,
+        body: &Hir,
         needed: u32,
         above: u32,
         greedy: bool,
         exit: u32,
     ) -> Result<u32, AllocError>
         requires some { 0 < above }
-        requires room { let body = tree_of sub.now in length self.old
+        requires room { let body = tree_of body.now in length self.old
             + ((needed + above) * places body + bounded_places needed above) < 2 ^ 32 }
-        requires slots { greatest_index (tree_of sub.now) < 2 ^ 31 }
-        ensures written { let body = layout (tree_of sub.now) in IfOk result (λ entry. IsAdded
+        requires slots { greatest_index (tree_of body.now) < 2 ^ 31 }
+        ensures written { let body = layout (tree_of body.now) in IfOk result (λ entry. IsAdded
             (map place_of self.old) (map place_of self.new) entry
             (between_layout greedy body needed above (length self.old) exit)) }
-        ensures grown { let body = tree_of sub.now in IfOk result (λ _. length self.new
+        ensures grown { let body = tree_of body.now in IfOk result (λ _. length self.new
             ≡ length self.old + ((needed + above) * places body + bounded_places needed above)) }
     {
         let join = self.add(Place::Empty { to: exit })?;
-        let choices = self.write_choices(sub, above, greedy, join)?;
+        let choices = self.write_choices(body, above, greedy, join)?;
         if needed > 0 {
-            self.write_copies(sub, needed, choices)
+            self.write_copies(body, needed, choices)
         } else if above == 1 {
             Ok(choices)
         } else {
@@ -161,18 +166,18 @@ impl Writer {
 
     /// So many copies in a row.
     #[cycle(write)]
-    fn write_copies(&mut self, sub: &Hir, count: u32, exit: u32) -> Result<u32, AllocError>
-        requires room { length self.old + count * places (tree_of sub.now) < 2 ^ 32 }
-        requires slots { greatest_index (tree_of sub.now) < 2 ^ 31 }
+    fn write_copies(&mut self, body: &Hir, count: u32, exit: u32) -> Result<u32, AllocError>
+        requires room { length self.old + count * places (tree_of body.now) < 2 ^ 32 }
+        requires slots { greatest_index (tree_of body.now) < 2 ^ 31 }
         ensures written { IfOk result (λ entry. IsAdded
             (map place_of self.old) (map place_of self.new) entry
-            (copies_layout (layout (tree_of sub.now)) count (length self.old) exit)) }
+            (copies_layout (layout (tree_of body.now)) count (length self.old) exit)) }
         ensures grown { IfOk result (λ _.
-            length self.new ≡ length self.old + count * places (tree_of sub.now)) }
+            length self.new ≡ length self.old + count * places (tree_of body.now)) }
     {
         let mut next = exit;
         for _i in 0..count {
-            next = self.write(sub, next)?;
+            next = self.write(body, next)?;
         }
         Ok(next)
     }
@@ -181,23 +186,23 @@ impl Writer {
     #[cycle(write)]
     fn write_choices(
         &mut self,
-        sub: &Hir,
+        body: &Hir,
         count: u32,
         greedy: bool,
         join: u32,
     ) -> Result<u32, AllocError>
-        requires room { length self.old + count * (places (tree_of sub.now) + 1) < 2 ^ 32 }
-        requires slots { greatest_index (tree_of sub.now) < 2 ^ 31 }
+        requires room { length self.old + count * (places (tree_of body.now) + 1) < 2 ^ 32 }
+        requires slots { greatest_index (tree_of body.now) < 2 ^ 31 }
         ensures written { IfOk result (λ entry. IsAdded
             (map place_of self.old) (map place_of self.new) entry
-            (choices_layout greedy (layout (tree_of sub.now)) count (length self.old) join)) }
+            (choices_layout greedy (layout (tree_of body.now)) count (length self.old) join)) }
         ensures grown { IfOk result (λ _.
-            length self.new ≡ length self.old + count * (places (tree_of sub.now) + 1)) }
+            length self.new ≡ length self.old + count * (places (tree_of body.now) + 1)) }
     {
         let mut next = join;
         for _i in 0..count {
-            let body = self.write(sub, next)?;
-            next = self.add(choice_of(greedy, body, join))?;
+            let inner = self.write(body, next)?;
+            next = self.add(choice_of(greedy, inner, join))?;
         }
         Ok(next)
     }
@@ -205,21 +210,21 @@ impl Writer {
     /// A loop: the choice and the body, with where each is entered. The choice stands first, and is
     /// known only when the body has been written.
     #[cycle(write)]
-    fn write_loop(&mut self, sub: &Hir, greedy: bool, exit: u32) -> Result<(u32, u32), AllocError>
-        requires room { length self.old + (places (tree_of sub.now) + 1) < 2 ^ 32 }
-        requires slots { greatest_index (tree_of sub.now) < 2 ^ 31 }
+    fn write_loop(&mut self, body: &Hir, greedy: bool, exit: u32) -> Result<(u32, u32), AllocError>
+        requires room { length self.old + (places (tree_of body.now) + 1) < 2 ^ 32 }
+        requires slots { greatest_index (tree_of body.now) < 2 ^ 31 }
         ensures choice { IfOk result (λ entries. entries.0 ≡ length self.old) }
         ensures body { IfOk result (λ entries.
-            entries.1 ≡ (layout (tree_of sub.now) (length self.old + 1) (length self.old)).1) }
-        ensures written { let body = layout (tree_of sub.now) in IfOk result (λ _.
+            entries.1 ≡ (layout (tree_of body.now) (length self.old + 1) (length self.old)).1) }
+        ensures written { let body = layout (tree_of body.now) in IfOk result (λ _.
             map place_of self.new
             ≡ map place_of self.old ++ (star_layout greedy body (length self.old) exit).0) }
         ensures grown { IfOk result (λ _.
-            length self.new ≡ length self.old + (places (tree_of sub.now) + 1)) }
+            length self.new ≡ length self.old + (places (tree_of body.now) + 1)) }
     {
         let choice = self.add(Place::Empty { to: exit })?;
-        let body = self.write(sub, choice)?;
-        self.replace(choice, choice_of(greedy, body, exit));
-        Ok((choice, body))
+        let inner = self.write(body, choice)?;
+        self.replace(choice, choice_of(greedy, inner, exit));
+        Ok((choice, inner))
     }
 }

@@ -1,8 +1,8 @@
 use Rattle.std.proofs.Common.{◌≡◌, refl, ℕ, max, ◌<◌, false, arith}
 use Rattle.std.proofs.lemmas.Bool.{both_ways}
 use Rattle.regex_lite_syntax.specs.Limits.{depth}
-use Rattle.regex_lite_syntax.specs.Views.{tree_of}
-use Rattle.regex_lite_syntax.proofs.TreeDepths.{depth_from, depth_more, depth_last}
+use Rattle.regex_lite_syntax.specs.Tree.Views.{tree_of}
+use Rattle.regex_lite_syntax.proofs.hir.DepthLemmas.{depth_from, depth_more, depth_last}
 use Rattle.regex_lite_syntax.proofs.hir.+deeper.Goals as goal
 
 pub is_one_deeper_than-returns-then-is_deeper_than :

@@ -1,5 +1,5 @@
 use Rattle.std.proofs.Common.{◌<◌, ◌↔◌}
-use Rattle.regex_lite_syntax.proofs.TreeDepths.{depth_from}
+use Rattle.regex_lite_syntax.proofs.hir.DepthLemmas.{depth_from}
 use Rattle.regex_lite_syntax.proofs.hir.+deeper.Given as goal
 
 abbrev pub invariant-is_one_deeper_than-loop-tree : goal.invariant-is_one_deeper_than-loop-tree

@@ -1,7 +1,7 @@
 use Rattle.std.proofs.Common.{◌≡◌, max, map, drop}
 use Rattle.regex_lite_syntax.specs.Tree.{trees as trees_of}
-use Rattle.regex_lite_syntax.specs.Properties.{greatest_index_in}
-use Rattle.regex_lite_syntax.specs.Views.{tree_of}
+use Rattle.regex_lite_syntax.specs.Tree.Properties.{greatest_index_in}
+use Rattle.regex_lite_syntax.specs.Tree.Views.{tree_of}
 use Rattle.regex_lite_syntax.proofs.hir.+greatest.Given as goal
 
 abbrev pub invariant-properties::greatest_index_in-loop-tree :

@@ -1,4 +1,4 @@
-use Rattle.regex_lite_syntax.proofs.Whole.{grammar_once}
+use Rattle.regex_lite_syntax.proofs.machine.WholeLemmas.{grammar_once}
 use Rattle.regex_lite_syntax.proofs.laws.at_most_one_tree.Goals as goal
 
 pub returns : goal.returns

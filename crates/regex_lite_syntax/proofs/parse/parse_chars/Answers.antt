@@ -4,16 +4,16 @@ use Rattle.std.proofs.lemmas.List.{drop_all}
 use Rattle.std.proofs.lemmas.Result.{IfOk-weaker, IfErr-weaker, err_from_is_err_and}
 use Rattle.regex_lite_syntax.specs.Errors.{kind_of}
 use Rattle.regex_lite_syntax.specs.Text.{Text}
-use Rattle.regex_lite_syntax.specs.Gaps.{Gap, WholeGap}
+use Rattle.regex_lite_syntax.specs.Grammar.Gaps.{Gap, WholeGap}
 use Rattle.regex_lite_syntax.specs.Limits.{IsAdmitted, SaysOf, depth}
-use Rattle.regex_lite_syntax.specs.Regular.{IsRegular}
-use Rattle.regex_lite_syntax.specs.Views.{names_of, tree_of}
-use Rattle.regex_lite_syntax.specs.GroupNames.{NamesDiffer}
-use Rattle.regex_lite_syntax.specs.Machine.{stay}
-use Rattle.regex_lite_syntax.specs.ParserStates.{Finishes, EndSays}
-use Rattle.regex_lite_syntax.proofs.Indices.{drop_at}
-use Rattle.regex_lite_syntax.proofs.NameLemmas.{no_names_differ}
-use Rattle.regex_lite_syntax.proofs.ParserRuns.{reaches_next, too_deep, admitted, end_says, step_says}
+use Rattle.regex_lite_syntax.specs.Tree.Regular.{IsRegular}
+use Rattle.regex_lite_syntax.specs.Tree.Views.{names_of, tree_of}
+use Rattle.regex_lite_syntax.specs.Grammar.GroupNames.{NamesDiffer}
+use Rattle.regex_lite_syntax.specs.Parser.Machine.{stay}
+use Rattle.regex_lite_syntax.specs.Parser.States.{Finishes, EndSays}
+use Rattle.regex_lite_syntax.proofs.parse.IndexLemmas.{drop_at}
+use Rattle.regex_lite_syntax.proofs.grammar.NameLemmas.{no_names_differ}
+use Rattle.regex_lite_syntax.proofs.machine.RunLemmas.{reaches_next, too_deep, admitted, end_says, step_says}
 use Rattle.regex_lite_syntax.proofs.parse.parse_chars.Goals as goal
 
 pub loop-parser-init : goal.loop-parser-init

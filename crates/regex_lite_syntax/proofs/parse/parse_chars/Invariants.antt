@@ -1,5 +1,5 @@
 use Rattle.std.proofs.Common.{◌≤◌, ◌-◌, drop, length}
-use Rattle.regex_lite_syntax.proofs.ParserRuns.{Reaches}
+use Rattle.regex_lite_syntax.proofs.machine.RunLemmas.{Reaches}
 use Rattle.regex_lite_syntax.proofs.parse.parse_chars.Given as goal
 
 abbrev pub invariant-loop-parser : goal.invariant-loop-parser

@@ -1,17 +1,17 @@
 //! Items of a class.
 ghost use Rattle.std.specs.Prelude.{◌<◌, ◌≤◌, drop, length, IfOk, IfErr, IfSome, MatchOption};
-ghost use Rattle.regex_lite_syntax.specs.Text.{Text, Begins, close_bracket};
-ghost use Rattle.regex_lite_syntax.specs.Gaps.{EndsGap};
+ghost use Rattle.regex_lite_syntax.specs.Text.{Text, Begins, the};
+ghost use Rattle.regex_lite_syntax.specs.Grammar.Gaps.{EndsGap};
 ghost use Rattle.regex_lite_syntax.specs.Sets.{Set};
-ghost use Rattle.regex_lite_syntax.specs.Escapes.{Piece as Given};
-ghost use Rattle.regex_lite_syntax.specs.Classes.{Part, RangeFollows, ClassItem};
-ghost use Rattle.regex_lite_syntax.specs.ClassParts.{element_piece, IsElement, item_set, BeginsOperator, RangeTo, EndsOpen, HasItems};
+ghost use Rattle.regex_lite_syntax.specs.Grammar.Escapes.{Primitive as Given};
+ghost use Rattle.regex_lite_syntax.specs.Grammar.Classes.{ClassElement, RangeFollows, ClassItem};
+ghost use Rattle.regex_lite_syntax.specs.Parser.ClassReadings.{element_primitive, IsElement, item_set, BeginsOperator, RangeTo, EndsOpen, HasItems};
 ghost use Rattle.regex_lite_syntax.specs.Refusals.{Denies};
 
 use crate::class::named::NamedSet;
 use crate::error::{Error, SyntaxFault};
 use crate::parse::bracket::named::read_named_set;
-use crate::parse::escape::{Piece, read_escape};
+use crate::parse::escape::{Primitive, read_escape};
 use crate::parse::gap::skip_gap;
 use crate::parse::read::is_at;
 
@@ -36,7 +36,7 @@ pub(crate) enum Item {
 pub(crate) fn read_item(chars: &[char], at: usize, verbose: bool) -> Result<(usize, Item), Error>
     requires inside { at ≤ length chars.now }
     requires past_gap { EndsGap verbose (drop at chars.now) }
-    requires goes_on { Begins close_bracket (drop at chars.now) → ⊥ }
+    requires goes_on { Begins (the "]") (drop at chars.now) → ⊥ }
     ensures inside { IfOk result (λ r. (at < r.0) × (r.0 ≤ length chars.now)) }
     ensures ok { IfOk result (λ r.
         ClassItem verbose (drop at chars.now) (drop r.0 chars.now) (item_set r.1)) }
@@ -85,18 +85,18 @@ fn read_element(chars: &[char], at: usize, verbose: bool) -> Result<(usize, Elem
     requires past_gap { EndsGap verbose (drop at chars.now) }
     ensures inside { IfOk result (λ r. (at < r.0) × (r.0 ≤ length chars.now)) }
     ensures ok { IfOk result (λ r.
-        Part verbose (drop at chars.now) (drop r.0 chars.now) (element_piece r.1)) }
+        ClassElement verbose (drop at chars.now) (drop r.0 chars.now) (element_primitive r.1)) }
     ensures err { IfErr result (λ e. Denies e
-        ((rest : Text) × (p : Given) × IsElement p × Part verbose (drop at chars.now) rest p)) }
+        ((rest : Text) × (p : Given) × IsElement p × ClassElement verbose (drop at chars.now) rest p)) }
 {
     let c = chars[at];
     if c != '\\' {
         return Ok((at + 1, Element::Char(c)));
     }
     match read_escape(chars, at + 1, verbose)? {
-        (end, Piece::Char(c)) => Ok((end, Element::Char(c))),
-        (end, Piece::Set { set, negated }) => Ok((end, Element::Set { set, negated })),
-        (_, Piece::Look(_)) => Err(SyntaxFault::ClassInvalidItem.into()),
+        (end, Primitive::Char(c)) => Ok((end, Element::Char(c))),
+        (end, Primitive::Set { set, negated }) => Ok((end, Element::Set { set, negated })),
+        (_, Primitive::Look(_)) => Err(SyntaxFault::ClassInvalidItem.into()),
     }
 }
 
@@ -137,10 +137,10 @@ fn read_range(
     requires inside { last < length chars.now }
     requires past_gap { EndsGap verbose (drop last chars.now) }
     ensures inside { IfOk result (λ r. (last < r.0) × (r.0 ≤ length chars.now)) }
-    ensures ok { IfOk result (λ r. RangeTo verbose (element_piece start)
+    ensures ok { IfOk result (λ r. RangeTo verbose (element_primitive start)
         (drop last chars.now) (drop r.0 chars.now) (item_set r.1)) }
     ensures err { IfErr result (λ e. Denies e ((rest : Text) × (s : Set)
-        × RangeTo verbose (element_piece start) (drop last chars.now) rest s)) }
+        × RangeTo verbose (element_primitive start) (drop last chars.now) rest s)) }
 {
     let Element::Char(start) = start else {
         return Err(SyntaxFault::ClassInvalidRangeItem.into());

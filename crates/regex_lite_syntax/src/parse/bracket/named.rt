@@ -2,7 +2,7 @@
 ghost use Rattle.std.specs.Prelude.{◌≡◌, ◌<◌, ◌≤◌, ◌-◌, drop, take, length, IfSome, MatchOption, find};
 ghost use Rattle.regex_lite_syntax.specs.Text.{Spelled, AllPass, is_text};
 ghost use Rattle.regex_lite_syntax.specs.Characters.{is_lower};
-ghost use Rattle.regex_lite_syntax.specs.ClassParts.{set_name, Lacks, IsNamedSet, HasNamedSet};
+ghost use Rattle.regex_lite_syntax.specs.Parser.ClassReadings.{set_name, Lacks, IsNamedSet, HasNamedSet};
 
 use crate::class::named::NamedSet;
 use crate::parse::bracket::item::Element;

@@ -1,9 +1,9 @@
 //! What a class begins with.
 ghost use Rattle.std.specs.Prelude.{◌≡◌, ◌<◌, ◌≤◌, ◌+◌, ◌∷◌, ℕ, nat_lt, drop, length};
-ghost use Rattle.regex_lite_syntax.specs.Text.{open_bracket};
-ghost use Rattle.regex_lite_syntax.specs.Gaps.{EndsGap};
-ghost use Rattle.regex_lite_syntax.specs.Classes.{Takes, Dashes, FirstBracket};
-ghost use Rattle.regex_lite_syntax.specs.ClassParts.{Opens};
+ghost use Rattle.regex_lite_syntax.specs.Text.{the};
+ghost use Rattle.regex_lite_syntax.specs.Grammar.Gaps.{EndsGap};
+ghost use Rattle.regex_lite_syntax.specs.Grammar.Classes.{Takes, Dashes, FirstBracket};
+ghost use Rattle.regex_lite_syntax.specs.Parser.ClassReadings.{ClassOpening};
 
 use crate::error::SyntaxFault;
 use crate::parse::gap::skip_gap;
@@ -35,10 +35,10 @@ impl Opening {
 /// Reads what a class begins with, from its bracket on, and answers the index of what follows.
 pub(crate) fn read_opening(chars: &[char], at: usize, verbose: bool) -> (usize, Opening)
     requires inside { at < length chars.now }
-    requires begins { drop at chars.now ≡ open_bracket ∷ drop (at + 1) chars.now }
+    requires begins { drop at chars.now ≡ the "[" ∷ drop (at + 1) chars.now }
     ensures inside { (at < result.0) × (result.0 ≤ length chars.now) }
     ensures past_gap { EndsGap verbose (drop result.0 chars.now) }
-    ensures opens { Opens verbose (drop at chars.now) (drop result.0 chars.now) result.1 }
+    ensures opens { ClassOpening verbose (drop at chars.now) (drop result.0 chars.now) result.1 }
 {
     let first = skip_gap(chars, at + 1, verbose);
     let (past_caret, negated) = take(chars, first, '^', verbose);

@@ -1,10 +1,10 @@
 //! The set of a class, from what stands in it.
 ghost use Rattle.std.specs.Prelude.{◌≡◌, ◌||◌, ◌∷◌, [], ℕ, List, IfOk, OnOk};
-ghost use Rattle.regex_lite_syntax.specs.Text.{dash, close_bracket};
+ghost use Rattle.regex_lite_syntax.specs.Text.{the};
 ghost use Rattle.regex_lite_syntax.specs.Sets.{Set, just, union};
 ghost use Rattle.regex_lite_syntax.specs.Ranges.{in_ranges, AreRunsOf};
-ghost use Rattle.regex_lite_syntax.specs.Classes.{only_if, class_set};
-ghost use Rattle.regex_lite_syntax.specs.ClassParts.{item_set};
+ghost use Rattle.regex_lite_syntax.specs.Grammar.Classes.{only_if, class_set};
+ghost use Rattle.regex_lite_syntax.specs.Parser.ClassReadings.{item_set};
 
 use crate::class::{Class, ClassRange};
 use crate::parse::bracket::item::{Element, Item};
@@ -14,8 +14,8 @@ use std::alloc::{AllocError, Global};
 /// Adds what stands first in a class.
 pub(crate) fn push_opening(ranges: &mut Vec<ClassRange>, opening: Opening) -> Result<(), AllocError>
     ensures { OnOk result ((c : ℕ) → in_ranges ranges.new.items c ≡ (in_ranges ranges.old.items c
-        || union (only_if opening.dash (just dash)
-        ∷ only_if opening.bracket (just close_bracket) ∷ []) c)) }
+        || union (only_if opening.dash (just (the "-"))
+        ∷ only_if opening.bracket (just (the "]")) ∷ []) c)) }
 {
     if opening.dash {
         push_char(ranges, '-')?;

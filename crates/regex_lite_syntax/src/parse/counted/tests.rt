@@ -1,5 +1,5 @@
 //! Counted operators: their bounds and where they end, or why they are refused.
-use super::{Bounds, read_counted};
+use super::{Times, read_counted};
 use crate::error::{Error, SyntaxFault};
 use std::test::Fail;
 
@@ -8,14 +8,14 @@ fn read(
     rt: &HostRuntime,
     verbose: bool,
     text: &str,
-) -> Result<Result<(usize, Bounds), Error>, Fail> {
+) -> Result<Result<(usize, Times), Error>, Fail> {
     let chars: Vec<char> = text.chars().collect(rt.alloc())?;
     Ok(read_counted(&chars, 0, verbose))
 }
 
 #[test]
 fn accepted(rt: HostRuntime) -> Result<(), Fail> {
-    for (text, verbose, end, min, max) in [
+    for (text, verbose, end, least, most) in [
         ("5}", false, 2, 5, Some(5)),
         ("5,}", false, 3, 5, None),
         ("5,9}", false, 4, 5, Some(9)),
@@ -35,7 +35,7 @@ fn accepted(rt: HostRuntime) -> Result<(), Fail> {
         ("1 0,1#c\n 3 }", true, 12, 10, Some(13)),
     ] {
         let found = read(&rt, verbose, text)?;
-        assert!(rt; found == Ok((end, Bounds { min, max })), "at {text:?}");
+        assert!(rt; found == Ok((end, Times { least, most })), "at {text:?}");
     }
     Ok(())
 }

@@ -2,9 +2,9 @@
 ghost use Rattle.std.specs.Prelude.{◌≡◌, ◌≤◌, ◌∷◌, drop, length, IsTrue, IfOk, IfErr, IfSome, IfNone};
 ghost use Rattle.std.specs.List.{list_all};
 ghost use Rattle.regex_lite_syntax.specs.declared.hir.look.Look.{Look};
-ghost use Rattle.regex_lite_syntax.specs.Text.{Text, close_brace};
-ghost use Rattle.regex_lite_syntax.specs.Gaps.{Gap, Spaced};
-ghost use Rattle.regex_lite_syntax.specs.Escapes.{is_boundary_character, BoundaryName, WordBoundary};
+ghost use Rattle.regex_lite_syntax.specs.Text.{Text, the};
+ghost use Rattle.regex_lite_syntax.specs.Grammar.Gaps.{Gap, Spaced};
+ghost use Rattle.regex_lite_syntax.specs.Grammar.Escapes.{is_boundary_character, BoundaryName, WordBoundary};
 ghost use Rattle.regex_lite_syntax.specs.Refusals.{Denies};
 
 use crate::error::{Error, SyntaxFault};
@@ -68,10 +68,10 @@ fn skip_name(chars: &[char], at: usize, verbose: bool, name: &str) -> Option<usi
     ensures inside { IfSome result (λ end. (at ≤ end) × (end ≤ length chars.now)) }
     ensures there { IfSome result (λ end. (last : Text)
         × Spaced verbose is_boundary_character name.now (drop at chars.now) last
-        × Gap verbose last (close_brace ∷ drop end chars.now)) }
+        × Gap verbose last (the "}" ∷ drop end chars.now)) }
     ensures absent { IfNone result ((last rest : Text)
         → Spaced verbose is_boundary_character name.now (drop at chars.now) last
-        → Gap verbose last (close_brace ∷ rest) → ⊥) }
+        → Gap verbose last (the "}" ∷ rest) → ⊥) }
 {
     let mut end = at;
     for letter in name.as_bytes() {

@@ -2,7 +2,7 @@
 ghost use Rattle.std.specs.Prelude.{◌≡◌, ℕ, ◌<◌, ◌≤◌, drop, length, IsTrue, false, MatchOption, IfOk, IfErr};
 ghost use Rattle.regex_lite_syntax.specs.Text.{Text};
 ghost use Rattle.regex_lite_syntax.specs.Characters.{is_hex_digit, digit_value as value_of_digit};
-ghost use Rattle.regex_lite_syntax.specs.Escapes.{FixedDigits, BracedDigits, Hexadecimal};
+ghost use Rattle.regex_lite_syntax.specs.Grammar.Escapes.{FixedDigits, BracedDigits, Hexadecimal};
 ghost use Rattle.regex_lite_syntax.specs.Refusals.{Denies};
 
 use crate::error::{Error, SyntaxFault};

@@ -1,5 +1,5 @@
 //! What follows a backslash: what it gives and where it ends, or why it is refused.
-use super::{Piece, read_escape};
+use super::{Primitive, read_escape};
 use crate::class::named::NamedSet;
 use crate::error::{Error, SyntaxFault};
 use crate::hir::look::Look;
@@ -10,7 +10,7 @@ fn read(
     rt: &HostRuntime,
     verbose: bool,
     text: &str,
-) -> Result<Result<(usize, Piece), Error>, Fail> {
+) -> Result<Result<(usize, Primitive), Error>, Fail> {
     let chars: Vec<char> = text.chars().collect(rt.alloc())?;
     Ok(read_escape(&chars, 0, verbose))
 }
@@ -37,7 +37,7 @@ fn characters(rt: HostRuntime) -> Result<(), Fail> {
     ] {
         for verbose in [false, true] {
             let found = read(&rt, verbose, text)?;
-            assert!(rt; found == Ok((1, Piece::Char(wanted))), "at {text:?}");
+            assert!(rt; found == Ok((1, Primitive::Char(wanted))), "at {text:?}");
         }
     }
     Ok(())
@@ -64,7 +64,7 @@ fn looks(rt: HostRuntime) -> Result<(), Fail> {
         ("b {start}", true, 1, Look::Word),
     ] {
         let found = read(&rt, verbose, text)?;
-        assert!(rt; found == Ok((end, Piece::Look(look))), "at {text:?}");
+        assert!(rt; found == Ok((end, Primitive::Look(look))), "at {text:?}");
     }
     Ok(())
 }
@@ -79,7 +79,7 @@ fn sets(rt: HostRuntime) -> Result<(), Fail> {
         ("S", NamedSet::Space, true),
         ("W", NamedSet::Word, true),
     ] {
-        let wanted = Piece::Set { set, negated };
+        let wanted = Primitive::Set { set, negated };
         assert!(rt; read(&rt, false, text)? == Ok((1, wanted)), "at {text:?}");
     }
     Ok(())
@@ -100,7 +100,7 @@ fn hexadecimal(rt: HostRuntime) -> Result<(), Fail> {
         ("x#c\n5 3 ", true, 7, 'S'),
     ] {
         let found = read(&rt, verbose, text)?;
-        assert!(rt; found == Ok((end, Piece::Char(wanted))), "at {text:?}");
+        assert!(rt; found == Ok((end, Primitive::Char(wanted))), "at {text:?}");
     }
     Ok(())
 }

@@ -1,6 +1,6 @@
 use Rattle.std.proofs.Common.{ℕ, List, []}
 use Rattle.std.specs.Borrow.{Bor}
-use Rattle.rxl.proofs.Asked.{refused_as_asked, two_arguments}
+use Rattle.rxl.proofs.program.AskedLemmas.{refused_as_asked, two_arguments}
 use Rattle.rxl.proofs.program.answer.Goals as goal
 
 pub returns-in-text-clause-refused : goal.returns-in-text-clause-refused

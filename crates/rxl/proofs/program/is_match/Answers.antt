@@ -1,5 +1,5 @@
 use Rattle.std.proofs.Common.{◌≡◌, IfSome, IsUtf8, rules}
-use Rattle.rxl.proofs.Told.{answered_by_search, no_text}
+use Rattle.rxl.proofs.program.ToldLemmas.{answered_by_search, no_text}
 use Rattle.rxl.proofs.program.is_match.Goals as goal
 
 pub returns-clause-ok : goal.returns-clause-ok

@@ -1,10 +1,10 @@
 use Rattle.std.proofs.Common.{◌≡◌, ◌∙◌, ap, sym, subst, ℕ, List, map}
-use Rattle.regex_lite_syntax.specs.Views.{tree_of}
-use Rattle.regex_lite_engine.specs.Places.{Place}
-use Rattle.regex_lite_engine.specs.Graphs.{IsRenumbered, place_of, arrows_of}
-use Rattle.regex_lite_engine.specs.Layout.{whole_layout, whole_table}
-use Rattle.regex_lite_engine.proofs.Renumbering.{renumbered}
-use Rattle.regex_lite_engine.proofs.ArrowCounts.{arrows_whole}
+use Rattle.regex_lite_syntax.specs.Tree.Views.{tree_of}
+use Rattle.regex_lite_engine.specs.Graph.Places.{Place}
+use Rattle.regex_lite_engine.specs.Graph.Renumbered.{IsRenumbered, place_of, arrows_of}
+use Rattle.regex_lite_engine.specs.Nfa.Layout.{whole_layout, whole_table}
+use Rattle.regex_lite_engine.proofs.nfa.write.RenumberingLemmas.{renumbered}
+use Rattle.regex_lite_engine.proofs.nfa.count.ArrowCountLemmas.{arrows_whole}
 use Rattle.regex_lite_engine.proofs.nfa.Graph.new.Goals as goal
 
 pub returns-clause-ok : goal.returns-clause-ok

@@ -1,6 +1,6 @@
 use Rattle.std.proofs.Common.{◌<◌, arith}
 use Rattle.std.proofs.lemmas.Bool.Decides.{nat_tests}
-use Rattle.regex_lite_engine.proofs.AsciiMaps.{bits_between}
+use Rattle.regex_lite_engine.proofs.nfa.class.AsciiMapLemmas.{bits_between}
 use Rattle.regex_lite_engine.proofs.nfa.class.map_of_range.Goals as goal
 
 pub returns : goal.returns

@@ -1,7 +1,7 @@
 use Rattle.std.proofs.Common.{◌<◌, ◌∙◌, sym, length, get_or}
 use Rattle.regex_lite_syntax.specs.declared.class.ClassRange.{ClassRange}
 use Rattle.regex_lite_syntax.proofs.RangeLemmas.{in_ranges_more}
-use Rattle.regex_lite_engine.proofs.AsciiMaps.{bits_of_either, held_before, past_ascii}
+use Rattle.regex_lite_engine.proofs.nfa.class.AsciiMapLemmas.{bits_of_either, held_before, past_ascii}
 use Rattle.regex_lite_engine.proofs.nfa.class.map_of_ranges.Goals as goal
 
 pub loop-range-preserved : goal.loop-range-preserved

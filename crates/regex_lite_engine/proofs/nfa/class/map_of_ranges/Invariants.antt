@@ -1,6 +1,6 @@
 use Rattle.std.proofs.Common.{take}
 use Rattle.regex_lite_syntax.specs.Ranges.{in_ranges}
-use Rattle.regex_lite_engine.specs.AsciiMaps.{IsMapOf}
+use Rattle.regex_lite_engine.specs.Nfa.AsciiMaps.{IsMapOf}
 use Rattle.regex_lite_engine.proofs.nfa.class.map_of_ranges.Given as goal
 
 abbrev pub invariant-loop-range : goal.invariant-loop-range

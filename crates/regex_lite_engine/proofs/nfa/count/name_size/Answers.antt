@@ -1,5 +1,5 @@
 use Rattle.std.proofs.Common.{arith}
-use Rattle.regex_lite_engine.proofs.NameSizes.{string_length}
+use Rattle.regex_lite_engine.proofs.nfa.count.NameSizeLemmas.{string_length}
 use Rattle.regex_lite_engine.proofs.nfa.count.name_size.Goals as goal
 
 pub returns-in-Some : goal.returns-in-Some

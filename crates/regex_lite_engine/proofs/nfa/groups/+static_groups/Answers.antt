@@ -1,12 +1,11 @@
 use Rattle.std.proofs.Common.{◌≡◌, sym, ap, ◌∙◌, Some, drop, ◌+◌, arith}
 use Rattle.regex_lite_syntax.specs.Tree.{alternation}
-use Rattle.regex_lite_syntax.specs.Properties.{sum, common, static_groups, static_sum, static_common, in_passes}
-use Rattle.regex_lite_syntax.specs.Views.{tree_of}
-use Rattle.regex_lite_engine.specs.Counts.{places, places_in}
-use Rattle.regex_lite_engine.specs.Groups.{has_group}
-use Rattle.regex_lite_engine.proofs.StaticGroups.{sum_more, sum_first, none_common, common_differ, known_few, passes_needed, passes_with, passes_without}
-use Rattle.regex_lite_engine.proofs.TreeLemmas.{tree_of-Repetition, tree_of-Capture}
-use Rattle.regex_lite_engine.proofs.TreeLists.{trees_of, trees_more}
+use Rattle.regex_lite_syntax.specs.Tree.Properties.{sum, common, static_groups, static_sum, static_common, in_passes}
+use Rattle.regex_lite_syntax.specs.Tree.Views.{tree_of}
+use Rattle.regex_lite_engine.specs.Graph.PlaceCounts.{places, places_in}
+use Rattle.regex_lite_engine.specs.Nfa.HasGroup.{has_group}
+use Rattle.regex_lite_engine.proofs.nfa.groups.StaticGroupLemmas.{sum_more, sum_first, none_common, common_differ, known_few, passes_needed, passes_with, passes_without}
+use Rattle.regex_lite_syntax.proofs.TreeLemmas.{tree_of-Repetition, tree_of-Capture, trees_of, trees_more}
 use Rattle.regex_lite_engine.proofs.nfa.groups.+static_groups.Goals as goal
 
 pub static_groups-overflow_add-result : goal.static_groups-overflow_add-result
@@ -15,38 +14,38 @@ static_groups-overflow_add-result t c =
     let groups = c.in_ok-static_groups-in-Capture in
     let few = known_few body groups.field-0 (sym c.static_groups-in-Capture.ensures ∙ groups.was) in
     let r = c.in-Capture in
-    let whole = ap (λ hir. places (tree_of hir)) r.is ∙ ap places (tree_of-Capture r.index r.name r.sub) in
-    let inside = ap (λ sub. places (tree_of sub)) c.deref-in-Capture.ensures in
+    let whole = ap (λ hir. places (tree_of hir)) r.is ∙ ap places (tree_of-Capture r.index r.name r.body) in
+    let inside = ap (λ body. places (tree_of body)) c.deref-in-Capture.ensures in
     omega arith
 
-pub static_groups-returns-then-min-gt0 : goal.static_groups-returns-then-min-gt0
-static_groups-returns-then-min-gt0 t c =
+pub static_groups-returns-then-least-gt0 : goal.static_groups-returns-then-least-gt0
+static_groups-returns-then-least-gt0 t c =
     let r = c.in-Repetition in
     let whole = ap (λ hir. static_groups (tree_of hir)) r.is
-    ∙ ap static_groups (tree_of-Repetition r.min r.max r.greedy r.sub) in
-    let body = ap (λ sub. static_groups (tree_of sub)) c.deref.ensures in
+    ∙ ap static_groups (tree_of-Repetition r.least r.most r.greedy r.body) in
+    let body = ap (λ body. static_groups (tree_of body)) c.deref.ensures in
     c.static_groups.ensures ∙ body
-    ∙ sym (whole ∙ passes_needed r.min (static_groups (tree_of r.sub.value)) c.if-min-gt0.true)
+    ∙ sym (whole ∙ passes_needed r.least (static_groups (tree_of r.body.value)) c.if-least-gt0.true)
 
 pub static_groups-returns-then-has_group : goal.static_groups-returns-then-has_group
 static_groups-returns-then-has_group t c =
     let r = c.in-Repetition in
-    let none : r.min ≡ 0 = omega arith in
+    let none : r.least ≡ 0 = omega arith in
     let whole = ap (λ hir. static_groups (tree_of hir)) r.is
-    ∙ ap static_groups (tree_of-Repetition r.min r.max r.greedy r.sub)
-    ∙ ap (λ min. in_passes min (static_groups (tree_of r.sub.value))) none in
-    let has = ap (λ sub. has_group (tree_of sub)) (sym c.deref-in-Repetition.ensures) ∙ sym c.has_group.ensures in
-    sym (whole ∙ passes_with (tree_of r.sub.value) (has ∙ c.if-has_group.true))
+    ∙ ap static_groups (tree_of-Repetition r.least r.most r.greedy r.body)
+    ∙ ap (λ least. in_passes least (static_groups (tree_of r.body.value))) none in
+    let has = ap (λ body. has_group (tree_of body)) (sym c.deref-in-Repetition.ensures) ∙ sym c.has_group.ensures in
+    sym (whole ∙ passes_with (tree_of r.body.value) (has ∙ c.if-has_group.true))
 
 pub static_groups-returns-else-has_group : goal.static_groups-returns-else-has_group
 static_groups-returns-else-has_group t c =
     let r = c.in-Repetition in
-    let none : r.min ≡ 0 = omega arith in
+    let none : r.least ≡ 0 = omega arith in
     let whole = ap (λ hir. static_groups (tree_of hir)) r.is
-    ∙ ap static_groups (tree_of-Repetition r.min r.max r.greedy r.sub)
-    ∙ ap (λ min. in_passes min (static_groups (tree_of r.sub.value))) none in
-    let has = ap (λ sub. has_group (tree_of sub)) (sym c.deref-in-Repetition.ensures) ∙ sym c.has_group.ensures in
-    sym (whole ∙ passes_without (tree_of r.sub.value) (has ∙ c.if-has_group.false))
+    ∙ ap static_groups (tree_of-Repetition r.least r.most r.greedy r.body)
+    ∙ ap (λ least. in_passes least (static_groups (tree_of r.body.value))) none in
+    let has = ap (λ body. has_group (tree_of body)) (sym c.deref-in-Repetition.ensures) ∙ sym c.has_group.ensures in
+    sym (whole ∙ passes_without (tree_of r.body.value) (has ∙ c.if-has_group.false))
 
 pub static_sum-loop-part-init : goal.static_sum-loop-part-init
 static_sum-loop-part-init t c = (sum_first (static_sum (trees_of c.args.parts.now)), omega arith)

@@ -1,8 +1,8 @@
 use Rattle.std.proofs.Common.{◌≡◌, ◌+◌, ◌≤◌, Some, map, drop}
 use Rattle.regex_lite_syntax.specs.Tree.{alternation, trees}
-use Rattle.regex_lite_syntax.specs.Properties.{sum, static_groups, static_sum, static_common}
-use Rattle.regex_lite_syntax.specs.Views.{tree_of}
-use Rattle.regex_lite_engine.specs.Counts.{places_in}
+use Rattle.regex_lite_syntax.specs.Tree.Properties.{sum, static_groups, static_sum, static_common}
+use Rattle.regex_lite_syntax.specs.Tree.Views.{tree_of}
+use Rattle.regex_lite_engine.specs.Graph.PlaceCounts.{places_in}
 use Rattle.regex_lite_engine.proofs.nfa.groups.+static_groups.Given as goal
 
 abbrev pub invariant-static_common-loop-branch : goal.invariant-static_common-loop-branch

@@ -1,6 +1,6 @@
 use Rattle.std.proofs.Common.{sym, ◌∙◌, arith}
-use Rattle.regex_lite_syntax.specs.Views.{tree_of}
-use Rattle.regex_lite_engine.proofs.StaticGroups.{known_few}
+use Rattle.regex_lite_syntax.specs.Tree.Views.{tree_of}
+use Rattle.regex_lite_engine.proofs.nfa.groups.StaticGroupLemmas.{known_few}
 use Rattle.regex_lite_engine.proofs.nfa.groups.static_captures_len.Goals as goal
 
 pub overflow_add-result : goal.overflow_add-result

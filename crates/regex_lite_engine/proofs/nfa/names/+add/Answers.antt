@@ -1,23 +1,13 @@
 use Rattle.std.proofs.Common.{◌≡◌, ◌∙◌, ◌⊎◌, inl, inr, sym, ap, subst, IfOk, Result, List, Option, String, Vec, Global, map}
 use Rattle.std.specs.declared.alloc.AllocError.{AllocError}
-use Rattle.regex_lite_syntax.specs.Properties.{group_name, group_name_in}
-use Rattle.regex_lite_syntax.specs.Tree.{Tree, concat, alternation, trees as trees_of}
-use Rattle.regex_lite_syntax.specs.Views.{tree_of, node_tree}
-use Rattle.regex_lite_syntax.specs.declared.hir.Hir.{Hir, Hir-F, fold-roll-Hir}
-use Rattle.regex_lite_syntax.specs.declared.hir.Hir.TheVariants.{Concat, rolls-Concat, Alternation, rolls-Alternation}
-use Rattle.regex_lite_engine.specs.Names.{AddsNames}
+use Rattle.regex_lite_syntax.specs.Tree.Properties.{group_name, group_name_in}
+use Rattle.regex_lite_syntax.specs.Tree.{Tree, trees as trees_of}
+use Rattle.regex_lite_syntax.specs.Tree.Views.{tree_of}
+use Rattle.regex_lite_syntax.specs.declared.hir.Hir.{Hir}
+use Rattle.regex_lite_syntax.specs.declared.hir.Hir.TheVariants.{Concat, Alternation}
+use Rattle.regex_lite_engine.specs.Nfa.Names.{AddsNames}
 use Rattle.regex_lite_engine.proofs.nfa.names.+add.Goals as goal
-
-tree_of-Concat : (parts : Vec Hir Global)
-    → tree_of (Concat parts) ≡ concat (trees_of (map tree_of parts.items))
-tree_of-Concat parts =
-    ap tree_of (sym (rolls-Concat parts)) ∙ fold-roll-Hir Tree node_tree (Hir-F.Concat parts)
-
-tree_of-Alternation : (branches : Vec Hir Global)
-    → tree_of (Alternation branches) ≡ alternation (trees_of (map tree_of branches.items))
-tree_of-Alternation branches =
-    ap tree_of (sym (rolls-Alternation branches))
-    ∙ fold-roll-Hir Tree node_tree (Hir-F.Alternation branches)
+use Rattle.regex_lite_syntax.proofs.TreeLemmas.{tree_of-Concat, tree_of-Alternation}
 
 -- the names of a list of trees are those of the node that has them
 of_node : (result : Result (Unit {0}) AllocError) (before after : List (Option (String Global)))

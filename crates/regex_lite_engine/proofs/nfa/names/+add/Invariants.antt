@@ -1,8 +1,8 @@
 use Rattle.std.proofs.Common.{◌≡◌, ◌<◌, ℕ, map, drop, length}
 use Rattle.regex_lite_syntax.specs.Tree.{trees as trees_of}
-use Rattle.regex_lite_syntax.specs.Properties.{either, greatest_index_in, group_name_in}
-use Rattle.regex_lite_syntax.specs.Views.{tree_of}
-use Rattle.regex_lite_engine.specs.Names.{name_at}
+use Rattle.regex_lite_syntax.specs.Tree.Properties.{either, greatest_index_in, group_name_in}
+use Rattle.regex_lite_syntax.specs.Tree.Views.{tree_of}
+use Rattle.regex_lite_engine.specs.Nfa.Names.{name_at}
 use Rattle.regex_lite_engine.proofs.nfa.names.+add.Given as goal
 
 abbrev pub invariant-add_all_names-loop-tree : goal.invariant-add_all_names-loop-tree

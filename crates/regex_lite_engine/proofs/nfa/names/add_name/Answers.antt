@@ -2,9 +2,9 @@ use Rattle.std.proofs.Common.{rules, ◌≡◌, ◌≢◌, ◌==◌, ◌<◌, �
 use Rattle.std.proofs.lemmas.Bool.{eqb-true, eq-eqb}
 use Rattle.std.proofs.lemmas.List.{map-set, length-map, get_or-map}
 use Rattle.regex_lite_syntax.specs.Text.{Text}
-use Rattle.regex_lite_syntax.specs.Properties.{either, name_if}
-use Rattle.regex_lite_syntax.specs.Views.{text_of_string}
-use Rattle.regex_lite_engine.specs.Names.{AddsNames, name_at, name_if_at}
+use Rattle.regex_lite_syntax.specs.Tree.Properties.{either, name_if}
+use Rattle.regex_lite_syntax.specs.Tree.Views.{text_of_string}
+use Rattle.regex_lite_engine.specs.Nfa.Names.{AddsNames, name_at, name_if_at}
 use Rattle.regex_lite_engine.proofs.nfa.names.add_name.Goals as goal
 
 either-none : (name : Option Text) → either name None ≡ name

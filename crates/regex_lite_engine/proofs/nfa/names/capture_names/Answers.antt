@@ -1,9 +1,9 @@
 use Rattle.std.proofs.Common.{rules, ◌≡◌, ◌∙◌, refl, ap, arith, ℕ, zero, suc, List, ◌++◌, Option, None, String, Global, length, take, drop, replicate}
 use Rattle.std.proofs.lemmas.List.{take_at}
 use Rattle.regex_lite_syntax.specs.Tree.{Tree}
-use Rattle.regex_lite_syntax.specs.Properties.{captures_len, either, group_name}
-use Rattle.regex_lite_syntax.specs.Views.{tree_of}
-use Rattle.regex_lite_engine.specs.Names.{AddsNames, name_at}
+use Rattle.regex_lite_syntax.specs.Tree.Properties.{captures_len, either, group_name}
+use Rattle.regex_lite_syntax.specs.Tree.Views.{tree_of}
+use Rattle.regex_lite_engine.specs.Nfa.Names.{AddsNames, name_at}
 use Rattle.regex_lite_engine.proofs.nfa.names.capture_names.Goals as goal
 
 none_at : (n k : ℕ) → name_at (replicate n None) k ≡ None

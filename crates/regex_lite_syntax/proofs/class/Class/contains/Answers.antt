@@ -4,7 +4,7 @@ use Rattle.regex_lite_syntax.specs.Characters.{is_character}
 use Rattle.regex_lite_syntax.specs.Ranges.{in_ranges}
 use Rattle.std.specs.List.Sorted.{IsNonDecreasingBy}
 use Rattle.std.proofs.lemmas.List.Sorted.{IsPartitionPoint-from_clause, IsPartitionedBy-ltb}
-use Rattle.regex_lite_syntax.proofs.RangeSearches.{ends_rise, held_nowhere, held_there}
+use Rattle.regex_lite_syntax.proofs.class.RangeSearchLemmas.{ends_rise, held_nowhere, held_there}
 use Rattle.regex_lite_syntax.proofs.class.Class.contains.Goals as goal
 
 pub returns-then-at-len : goal.returns-then-at-len

@@ -2,9 +2,9 @@ use Rattle.std.proofs.Common.{◌+◌, ◌<◌, ◌≤◌, length, drop, get_or,
 use Rattle.std.proofs.lemmas.List.{drop_more}
 use Rattle.regex_lite_syntax.specs.declared.class.ClassRange.{ClassRange}
 use Rattle.regex_lite_syntax.specs.Ranges.{next_character}
-use Rattle.regex_lite_syntax.specs.Bounds.{start_of}
+use Rattle.regex_lite_syntax.specs.Parser.RangeEnds.{start_of}
 use Rattle.regex_lite_syntax.proofs.RangeLemmas.{next_above, in_ranges_more}
-use Rattle.regex_lite_syntax.proofs.BetweenRanges.{span_before, start_next, before_next, gap_step, runs_sooner}
+use Rattle.regex_lite_syntax.proofs.class.BetweenRangeLemmas.{span_before, start_next, before_next, gap_step, runs_sooner}
 use Rattle.regex_lite_syntax.proofs.class.Class.negate.Goals as goal
 
 pub loop-range-preserved : goal.loop-range-preserved

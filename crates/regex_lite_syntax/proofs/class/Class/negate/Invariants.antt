@@ -1,7 +1,7 @@
 use Rattle.std.proofs.Common.{◌≡◌, ℕ, ◌<◌, ◌≤◌, ◌&&◌, All, IsTrue, take, drop, nat_lt}
 use Rattle.regex_lite_syntax.specs.Sets.{complement}
 use Rattle.regex_lite_syntax.specs.Ranges.{in_ranges, AreRuns}
-use Rattle.regex_lite_syntax.specs.Bounds.{start_of}
+use Rattle.regex_lite_syntax.specs.Parser.RangeEnds.{start_of}
 use Rattle.regex_lite_syntax.proofs.class.Class.negate.Given as goal
 
 abbrev pub invariant-loop-range : goal.invariant-loop-range

@@ -1,5 +1,5 @@
 use Rattle.regex_lite_syntax.proofs.RangeLemmas.{in_ranges-push}
-use Rattle.regex_lite_syntax.proofs.LetterCases.{upper_case}
+use Rattle.regex_lite_syntax.proofs.LetterCaseLemmas.{upper_case}
 use Rattle.regex_lite_syntax.proofs.class.letters.push_upper_case.Goals as goal
 
 pub returns-in_ok-push : goal.returns-in_ok-push

@@ -2,7 +2,7 @@ use Rattle.std.proofs.Common.{rules, ◌+◌, ◌≤◌, [], ◌∷◌, ◌++◌
 use Rattle.regex_lite_syntax.specs.Characters.{is_character}
 use Rattle.regex_lite_syntax.specs.Ranges.{next_character, AreRuns}
 use Rattle.regex_lite_syntax.proofs.RangeLemmas.{in_ranges-push}
-use Rattle.regex_lite_syntax.proofs.JoinedRanges.{max_above, runs_append, runs_until, in_joined, starts_until, starts_last}
+use Rattle.regex_lite_syntax.proofs.class.JoinedRangeLemmas.{max_above, runs_append, runs_until, in_joined, starts_until, starts_last}
 use Rattle.regex_lite_syntax.proofs.class.runs.append.Goals as goal
 
 pub returns-in_ok-push-in-Some-clause-runs : goal.returns-in_ok-push-in-Some-clause-runs

@@ -1,8 +1,8 @@
 use Rattle.std.proofs.Common.{refl}
-use Rattle.regex_lite_syntax.specs.Views.{tree_of}
-use Rattle.regex_lite_syntax.specs.Machine.{with_items}
-use Rattle.regex_lite_syntax.specs.ParserStates.{state}
-use Rattle.regex_lite_syntax.proofs.States.{map_pushed}
+use Rattle.regex_lite_syntax.specs.Tree.Views.{tree_of}
+use Rattle.regex_lite_syntax.specs.Parser.Machine.{with_items}
+use Rattle.regex_lite_syntax.specs.Parser.States.{state}
+use Rattle.regex_lite_syntax.proofs.machine.StateLemmas.{map_pushed}
 use Rattle.regex_lite_syntax.proofs.parse.Parser.add.Goals as goal
 
 pub returns : goal.returns

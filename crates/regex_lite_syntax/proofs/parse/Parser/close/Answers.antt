@@ -1,8 +1,8 @@
 use Rattle.std.proofs.Common.{refl, map, reverse}
-use Rattle.regex_lite_syntax.specs.Views.{tree_of}
-use Rattle.regex_lite_syntax.specs.Machine.{closed}
-use Rattle.regex_lite_syntax.specs.ParserStates.{state, frame_of}
-use Rattle.regex_lite_syntax.proofs.States.{map_pushed, reverse_pushed}
+use Rattle.regex_lite_syntax.specs.Tree.Views.{tree_of}
+use Rattle.regex_lite_syntax.specs.Parser.Machine.{closed}
+use Rattle.regex_lite_syntax.specs.Parser.States.{state, frame_of}
+use Rattle.regex_lite_syntax.proofs.machine.StateLemmas.{map_pushed, reverse_pushed}
 use Rattle.regex_lite_syntax.proofs.parse.Parser.close.Goals as goal
 
 pub returns-in_ok-push-in-Some-clause-closed : goal.returns-in_ok-push-in-Some-clause-closed

@@ -1,5 +1,5 @@
 use Rattle.std.proofs.Common.{refl}
-use Rattle.regex_lite_syntax.specs.ParserStates.{state}
+use Rattle.regex_lite_syntax.specs.Parser.States.{state}
 use Rattle.regex_lite_syntax.proofs.parse.Parser.new.Goals as goal
 
 pub returns-clause-state : goal.returns-clause-state

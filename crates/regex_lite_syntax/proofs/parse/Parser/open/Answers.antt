@@ -1,7 +1,7 @@
 use Rattle.std.proofs.Common.{refl}
-use Rattle.regex_lite_syntax.specs.Machine.{opened}
-use Rattle.regex_lite_syntax.specs.ParserStates.{state, frame_of}
-use Rattle.regex_lite_syntax.proofs.States.{reverse_pushed}
+use Rattle.regex_lite_syntax.specs.Parser.Machine.{opened}
+use Rattle.regex_lite_syntax.specs.Parser.States.{state, frame_of}
+use Rattle.regex_lite_syntax.proofs.machine.StateLemmas.{reverse_pushed}
 use Rattle.regex_lite_syntax.proofs.parse.Parser.open.Goals as goal
 
 pub returns : goal.returns

@@ -1,8 +1,8 @@
 use Rattle.std.proofs.Common.{◌≡◌, ◌∙◌, ap, ◌+◌, option_map, length, arith}
-use Rattle.regex_lite_syntax.specs.Groups.{capturing, inside}
-use Rattle.regex_lite_syntax.specs.Views.{text_of_string}
-use Rattle.regex_lite_syntax.specs.Machine.{opened}
-use Rattle.regex_lite_syntax.specs.ParserStates.{state}
+use Rattle.regex_lite_syntax.specs.Grammar.Heads.{capturing, inside}
+use Rattle.regex_lite_syntax.specs.Tree.Views.{text_of_string}
+use Rattle.regex_lite_syntax.specs.Parser.Machine.{opened}
+use Rattle.regex_lite_syntax.specs.Parser.States.{state}
 use Rattle.regex_lite_syntax.proofs.parse.Parser.open_capture.Goals as goal
 
 pub returns-clause-ok : goal.returns-clause-ok

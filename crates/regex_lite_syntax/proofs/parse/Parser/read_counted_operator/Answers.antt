@@ -1,14 +1,14 @@
 use Rattle.std.proofs.Common.{refl, sym, ◌∙◌, ap, subst, map, arith, drop, ◌+◌}
 use Rattle.std.proofs.lemmas.Result.{err_from_is_err_and}
-use Rattle.regex_lite_syntax.specs.Gaps.{Gap}
-use Rattle.regex_lite_syntax.specs.Operators.{greed, counted_lazy}
-use Rattle.regex_lite_syntax.specs.Views.{tree_of}
-use Rattle.regex_lite_syntax.specs.Machine.{with_items}
-use Rattle.regex_lite_syntax.specs.ParserStates.{state}
-use Rattle.regex_lite_syntax.proofs.Denials.{refuses_as}
-use Rattle.regex_lite_syntax.proofs.Operators.{counted_greedy}
-use Rattle.regex_lite_syntax.proofs.States.{map_pushed, none_left}
-use Rattle.regex_lite_syntax.proofs.ReadSteps.{reads_repeated, reads_no_counted, reads_no_counts}
+use Rattle.regex_lite_syntax.specs.Grammar.Gaps.{Gap}
+use Rattle.regex_lite_syntax.specs.Grammar.Operators.{greed, counted_lazy}
+use Rattle.regex_lite_syntax.specs.Tree.Views.{tree_of}
+use Rattle.regex_lite_syntax.specs.Parser.Machine.{with_items}
+use Rattle.regex_lite_syntax.specs.Parser.States.{state}
+use Rattle.regex_lite_syntax.proofs.parse.DenialLemmas.{refuses_as}
+use Rattle.regex_lite_syntax.proofs.grammar.OperatorLemmas.{counted_greedy}
+use Rattle.regex_lite_syntax.proofs.machine.StateLemmas.{map_pushed, none_left}
+use Rattle.regex_lite_syntax.proofs.machine.ReadStepLemmas.{reads_repeated, reads_no_counted, reads_no_counts}
 use Rattle.regex_lite_syntax.proofs.parse.Parser.read_counted_operator.Goals as goal
 
 pub returns-in_default-clause-err : goal.returns-in_default-clause-err
@@ -21,7 +21,7 @@ pub returns-in_err-end-clause-err : goal.returns-in_err-end-clause-err
 returns-in_err-end-clause-err c =
     let left = err_from_is_err_and c.from_residual.result c.from_residual.ensures.1 in
     rw (left.1, left.2) (refuses_as c.in_err-end.field-0.0 c.args.self.now _ _
-    (λ none. reads_no_counts c.args.self.now _ _ c.requires.begins (λ past min max counted. none (past, min, max, counted)))
+    (λ none. reads_no_counts c.args.self.now _ _ c.requires.begins (λ past least most counted. none (past, least, most, counted)))
     c.in_err-end.ensures.err)
 
 pub returns-then-lazy-clause-ok : goal.returns-then-lazy-clause-ok

@@ -1,18 +1,18 @@
 use Rattle.std.proofs.Common.{inl, inr, ◌⊎◌, ◌≡◌, ◌≢◌, Bool, ◌∷◌, ◌+◌, sym, ◌∙◌, ap, subst, refl, drop, arith}
 use Rattle.std.proofs.lemmas.Result.{err_from_is_err_and}
-use Rattle.regex_lite_syntax.specs.Text.{Text, Begins, close_paren, question_mark, colon}
-use Rattle.regex_lite_syntax.specs.Gaps.{Gap, WholeGap}
-use Rattle.regex_lite_syntax.specs.FlagLetters.{FlagLetters}
-use Rattle.regex_lite_syntax.proofs.Denials.{refuses_as}
-use Rattle.regex_lite_syntax.proofs.Indices.{drop_begins}
-use Rattle.regex_lite_syntax.proofs.ReadHeads.{reads_head, reads_directive, reads_no_flags, reads_no_empty}
+use Rattle.regex_lite_syntax.specs.Text.{Text, Begins, the}
+use Rattle.regex_lite_syntax.specs.Grammar.Gaps.{Gap, WholeGap}
+use Rattle.regex_lite_syntax.specs.Grammar.FlagLetters.{FlagLetters}
+use Rattle.regex_lite_syntax.proofs.parse.DenialLemmas.{refuses_as}
+use Rattle.regex_lite_syntax.proofs.parse.IndexLemmas.{drop_begins}
+use Rattle.regex_lite_syntax.proofs.machine.ReadHeadLemmas.{reads_head, reads_directive, reads_no_flags, reads_no_empty}
 use Rattle.regex_lite_syntax.proofs.parse.Parser.read_flags_head.Goals as goal
 
 pub returns-then-is_at-clause-err : goal.returns-then-is_at-clause-err
 returns-then-is_at-clause-err c =
     let closing = (c.is_at.ensures.there c.if-is_at.true).1 in
     rw c.into.ensures (reads_no_empty c.args.self.now _ _ _ _ c.requires.begins
-    c.requires.gap (c.requires.question ∙ ap (λ t. question_mark ∷ t) closing))
+    c.requires.gap (c.requires.question ∙ ap (λ t. (the "?") ∷ t) closing))
 
 pub returns-in_err-end-clause-err : goal.returns-in_err-end-clause-err
 returns-in_err-end-clause-err c =
@@ -23,8 +23,8 @@ returns-in_err-end-clause-err c =
     c.in_err-end.ensures.err)
 
 -- past the gap after the `(` stands the `?`
-gap_to : (verbose : Bool) (t u first : Text) → WholeGap verbose t u → u ≡ question_mark ∷ first
-    → Gap verbose t (question_mark ∷ first)
+gap_to : (verbose : Bool) (t u first : Text) → WholeGap verbose t u → u ≡ the "?" ∷ first
+    → Gap verbose t (the "?" ∷ first)
 gap_to verbose t u first whole e = subst (λ v. Gap verbose t v) e whole.0
 
 pub returns-then-is_at-2-clause-ok : goal.returns-then-is_at-2-clause-ok
@@ -37,7 +37,7 @@ returns-then-is_at-2-clause-ok c =
     let closing = (c.is_at-2.ensures.there c.if-is_at-2.true).1 in
     let letters = subst (λ t. FlagLetters p.here.flags first t c.in_ok-end.flags) closing c.in_ok-end.ensures.ok.letters in
     let no_paren = c.is_at.ensures.absent c.if-is_at.false in
-    let some : first ≢ close_paren ∷ rest = λ e. no_paren (subst (λ t. Begins close_paren t) (sym e) refl) in
+    let some : first ≢ the ")" ∷ rest = λ e. no_paren (subst (λ t. Begins (the ")") t) (sym e) refl) in
     record {
       further = omega (arith, c.requires.inside, c.in_ok-end.ensures.inside);
       in_pattern = omega (arith, c.in_ok-end.ensures.inside);
@@ -46,7 +46,7 @@ returns-then-is_at-2-clause-ok c =
     }
 
 -- what ends flags and is no `)` is a `:`
-colon_ends : (t : Text) → Begins colon t ⊎ Begins close_paren t → (Begins close_paren t → ⊥) → Begins colon t
+colon_ends : (t : Text) → Begins (the ":") t ⊎ Begins (the ")") t → (Begins (the ")") t → ⊥) → Begins (the ":") t
 colon_ends t (inl is_colon) no_paren = is_colon
 colon_ends t (inr is_paren) no_paren = absurd (no_paren is_paren)
 
@@ -59,7 +59,7 @@ returns-clause-ok c =
     let gap = gap_to p.here.flags.ignore_whitespace _ _ first c.requires.gap c.requires.question in
     let flags = c.in_ok-end.ensures.ok in
     let is_colon = colon_ends _ flags.ends (c.is_at-2.ensures.absent c.if-is_at-2.false) in
-    let here = drop_begins xs end colon (omega (arith, c.in_ok-end.ensures.inside)) is_colon in
+    let here = drop_begins xs end (the ":") (omega (arith, c.in_ok-end.ensures.inside)) is_colon in
     let letters = subst (λ t. FlagLetters p.here.flags first t c.in_ok-end.flags) here flags.letters in
     record {
       further = omega (arith, c.requires.inside, c.in_ok-end.ensures.inside);

@@ -1,5 +1,5 @@
 use Rattle.std.proofs.Common.{arith, drop}
-use Rattle.regex_lite_syntax.proofs.ReadSteps.{reads_end, reads_no_end}
+use Rattle.regex_lite_syntax.proofs.machine.ReadStepLemmas.{reads_end, reads_no_end}
 use Rattle.regex_lite_syntax.proofs.parse.Parser.read_group_end.Goals as goal
 
 pub returns-then-not-branch-clause-err : goal.returns-then-not-branch-clause-err

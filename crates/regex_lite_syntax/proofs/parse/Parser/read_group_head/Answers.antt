@@ -1,7 +1,7 @@
 use Rattle.std.proofs.Common.{drop, ◌+◌, arith}
 use Rattle.std.proofs.lemmas.Result.{err_from_is_err_and}
-use Rattle.regex_lite_syntax.proofs.Denials.{number_refuses}
-use Rattle.regex_lite_syntax.proofs.ReadHeads.{reads_numbered, begins_numbered}
+use Rattle.regex_lite_syntax.proofs.parse.DenialLemmas.{number_refuses}
+use Rattle.regex_lite_syntax.proofs.machine.ReadHeadLemmas.{reads_numbered, begins_numbered}
 use Rattle.regex_lite_syntax.proofs.parse.Parser.read_group_head.Goals as goal
 
 pub returns-in_err-open_capture-clause-err : goal.returns-in_err-open_capture-clause-err

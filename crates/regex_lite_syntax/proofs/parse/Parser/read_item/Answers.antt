@@ -1,6 +1,6 @@
 use Rattle.std.proofs.lemmas.Result.{err_from_is_err_and}
-use Rattle.regex_lite_syntax.proofs.Denials.{refuses_as}
-use Rattle.regex_lite_syntax.proofs.ReadSteps.{reads_atom, reads_no_atom}
+use Rattle.regex_lite_syntax.proofs.parse.DenialLemmas.{refuses_as}
+use Rattle.regex_lite_syntax.proofs.machine.ReadStepLemmas.{reads_atom, reads_no_atom}
 use Rattle.regex_lite_syntax.proofs.parse.Parser.read_item.Goals as goal
 
 pub returns-in_err-end-clause-err : goal.returns-in_err-end-clause-err

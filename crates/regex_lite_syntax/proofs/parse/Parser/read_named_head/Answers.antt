@@ -2,11 +2,11 @@ use Rattle.std.proofs.Common.{◌≡◌, ◌∷◌, ◌++◌, [], sym, ◌∙◌
 use Rattle.std.proofs.lemmas.Bool.{both_ways}
 use Rattle.std.proofs.lemmas.Result.{err_from_is_err_and}
 use Rattle.regex_lite_syntax.specs.Text.{Text}
-use Rattle.regex_lite_syntax.specs.GroupNames.{NameOpening, NameWritten, Named}
-use Rattle.regex_lite_syntax.specs.Views.{text_of_string, names_of}
-use Rattle.regex_lite_syntax.proofs.Denials.{refuses_as, number_refuses}
-use Rattle.regex_lite_syntax.proofs.States.{map_pushed}
-use Rattle.regex_lite_syntax.proofs.ReadHeads.{reads_named, begins_named, reads_no_name, reads_no_second}
+use Rattle.regex_lite_syntax.specs.Grammar.GroupNames.{NameOpening, NameWritten, Named}
+use Rattle.regex_lite_syntax.specs.Tree.Views.{text_of_string, names_of}
+use Rattle.regex_lite_syntax.proofs.parse.DenialLemmas.{refuses_as, number_refuses}
+use Rattle.regex_lite_syntax.proofs.machine.StateLemmas.{map_pushed}
+use Rattle.regex_lite_syntax.proofs.machine.ReadHeadLemmas.{reads_named, begins_named, reads_no_name, reads_no_second}
 use Rattle.regex_lite_syntax.proofs.parse.Parser.read_named_head.Goals as goal
 
 pub returns-in_err-end-clause-err : goal.returns-in_err-end-clause-err

@@ -1,12 +1,12 @@
 use Rattle.std.proofs.Common.{◌≡◌, refl, sym, ◌∙◌, ap, map, arith, drop, get_or, ◌+◌, ◌∷◌}
-use Rattle.regex_lite_syntax.specs.Text.{question_mark}
-use Rattle.regex_lite_syntax.specs.Operators.{greed, uncounted, uncounted_lazy}
-use Rattle.regex_lite_syntax.specs.Views.{tree_of}
-use Rattle.regex_lite_syntax.specs.Machine.{with_items}
-use Rattle.regex_lite_syntax.specs.ParserStates.{state}
-use Rattle.regex_lite_syntax.proofs.Indices.{drop_at}
-use Rattle.regex_lite_syntax.proofs.States.{map_pushed, none_left}
-use Rattle.regex_lite_syntax.proofs.ReadSteps.{reads_repeated, reads_no_operator}
+use Rattle.regex_lite_syntax.specs.Text.{the}
+use Rattle.regex_lite_syntax.specs.Grammar.Operators.{greed, uncounted, uncounted_lazy}
+use Rattle.regex_lite_syntax.specs.Tree.Views.{tree_of}
+use Rattle.regex_lite_syntax.specs.Parser.Machine.{with_items}
+use Rattle.regex_lite_syntax.specs.Parser.States.{state}
+use Rattle.regex_lite_syntax.proofs.parse.IndexLemmas.{drop_at}
+use Rattle.regex_lite_syntax.proofs.machine.StateLemmas.{map_pushed, none_left}
+use Rattle.regex_lite_syntax.proofs.machine.ReadStepLemmas.{reads_repeated, reads_no_operator}
 use Rattle.regex_lite_syntax.proofs.parse.Parser.read_operator.Goals as goal
 
 pub returns-in_default-clause-err : goal.returns-in_default-clause-err
@@ -26,7 +26,7 @@ returns-then-lazy-clause-ok c =
     let e = drop_at xs i c.requires.inside in
     let there = c.if-lazy.ensures.there refl in
     let two : i + 1 + 1 ≡ i + 2 = omega arith in
-    let begins = e ∙ ap (λ t. get_or xs i 0 ∷ t) (there.1 ∙ ap (λ n. question_mark ∷ drop n xs) two) in
+    let begins = e ∙ ap (λ t. get_or xs i 0 ∷ t) (there.1 ∙ ap (λ n. (the "?") ∷ drop n xs) two) in
     let operator = uncounted_lazy _ begins (c.requires.bounded _ e) (ap (λ lazy. greed flags lazy) c.if-lazy.true) in
     record {
       further = omega arith;

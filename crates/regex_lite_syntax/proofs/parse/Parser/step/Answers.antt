@@ -1,6 +1,6 @@
 use Rattle.std.proofs.Common.{◌∙◌, ap, arith, drop, ◌+◌, ◌∷◌}
-use Rattle.regex_lite_syntax.proofs.Indices.{drop_char}
-use Rattle.regex_lite_syntax.proofs.ReadSteps.{reads_bar}
+use Rattle.regex_lite_syntax.proofs.parse.IndexLemmas.{drop_char}
+use Rattle.regex_lite_syntax.proofs.machine.ReadStepLemmas.{reads_bar}
 use Rattle.regex_lite_syntax.proofs.parse.Parser.step.Goals as goal
 
 pub returns-in_ok-end_branch-in-124-clause-ok : goal.returns-in_ok-end_branch-in-124-clause-ok

@@ -1,4 +1,4 @@
-use Rattle.regex_lite_syntax.proofs.LetterCases.{letter_class}
+use Rattle.regex_lite_syntax.proofs.LetterCaseLemmas.{letter_class}
 use Rattle.regex_lite_syntax.proofs.parse.atom.both_cases.Goals as goal
 
 pub returns : goal.returns

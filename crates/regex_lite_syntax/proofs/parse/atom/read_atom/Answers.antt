@@ -1,7 +1,7 @@
 use Rattle.std.proofs.Common.{arith}
-use Rattle.regex_lite_syntax.proofs.Atoms.{NoSign}
-use Rattle.regex_lite_syntax.proofs.Indices.{drop_char}
-use Rattle.regex_lite_syntax.proofs.Literals.{other_atom}
+use Rattle.regex_lite_syntax.proofs.grammar.AtomLemmas.{NoSign}
+use Rattle.regex_lite_syntax.proofs.parse.IndexLemmas.{drop_char}
+use Rattle.regex_lite_syntax.proofs.parse.atom.LiteralLemmas.{other_atom}
 use Rattle.regex_lite_syntax.proofs.parse.atom.read_atom.Goals as goal
 
 pub returns-in_ok-char_tree-in_default-clause-ok :

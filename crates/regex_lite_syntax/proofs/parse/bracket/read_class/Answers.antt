@@ -1,15 +1,15 @@
 use Rattle.std.proofs.Common.{◌≡◌, sym, subst, drop, List, ◌∷◌, ℕ}
 use Rattle.std.proofs.lemmas.Result.{err_from_is_err_and}
-use Rattle.regex_lite_syntax.specs.Text.{Text, dash, close_bracket}
+use Rattle.regex_lite_syntax.specs.Text.{Text, the}
 use Rattle.regex_lite_syntax.specs.Sets.{Set, just, union}
 use Rattle.regex_lite_syntax.specs.Ranges.{in_ranges}
-use Rattle.regex_lite_syntax.specs.Classes.{ClassItems, only_if, BracketedClass}
+use Rattle.regex_lite_syntax.specs.Grammar.Classes.{ClassItems, only_if, BracketedClass}
 use Rattle.regex_lite_syntax.specs.Refusals.{Denies}
-use Rattle.regex_lite_syntax.proofs.Denials.{denies_whole}
-use Rattle.regex_lite_syntax.proofs.Indices.{left_at_end}
-use Rattle.regex_lite_syntax.proofs.ClassItems.{nothing_left}
-use Rattle.regex_lite_syntax.proofs.ClassOpenings.{class_from, class_items}
-use Rattle.regex_lite_syntax.proofs.ClassSets.{holds_all, class_as}
+use Rattle.regex_lite_syntax.proofs.parse.DenialLemmas.{denies_whole}
+use Rattle.regex_lite_syntax.proofs.parse.IndexLemmas.{left_at_end}
+use Rattle.regex_lite_syntax.proofs.parse.bracket.ClassItemLemmas.{nothing_left}
+use Rattle.regex_lite_syntax.proofs.parse.bracket.ClassOpeningLemmas.{class_from, class_items}
+use Rattle.regex_lite_syntax.proofs.parse.bracket.ClassSetLemmas.{holds_all, class_as}
 use Rattle.regex_lite_syntax.proofs.parse.bracket.read_class.Goals as goal
 use Rattle.regex_lite_syntax.proofs.parse.bracket.read_class.Goals.{In_ok-class}
 
@@ -43,10 +43,10 @@ returns-in_err-end-clause-err c =
 
 -- what the class is the union of
 dash_set : In_ok-class → Set
-dash_set c = only_if c.read_opening-start.result.1.dash (just dash)
+dash_set c = only_if c.read_opening-start.result.1.dash (just (the "-"))
 
 bracket_set : In_ok-class → Set
-bracket_set c = only_if c.read_opening-start.result.1.bracket (just close_bracket)
+bracket_set c = only_if c.read_opening-start.result.1.bracket (just (the "]"))
 
 holds : (c : In_ok-class) (d : ℕ)
     → in_ranges c.read_items.new.ranges.items d ≡ union (dash_set c ∷ bracket_set c ∷ c.in_ok-end.ensures.ok.0) d

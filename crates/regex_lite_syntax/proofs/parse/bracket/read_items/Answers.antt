@@ -3,11 +3,11 @@ use Rattle.std.proofs.lemmas.List.{append-nil}
 use Rattle.std.proofs.lemmas.Result.{err_from_is_err_and}
 use Rattle.regex_lite_syntax.specs.Text.{Text}
 use Rattle.regex_lite_syntax.specs.Sets.{Set}
-use Rattle.regex_lite_syntax.specs.Classes.{ClassItems}
-use Rattle.regex_lite_syntax.specs.ClassParts.{item_set, HasItems}
-use Rattle.regex_lite_syntax.proofs.Denials.{denies_whole}
-use Rattle.regex_lite_syntax.proofs.ClassItems.{has_items, items_push, items_next}
-use Rattle.regex_lite_syntax.proofs.ClassSets.{holds_more}
+use Rattle.regex_lite_syntax.specs.Grammar.Classes.{ClassItems}
+use Rattle.regex_lite_syntax.specs.Parser.ClassReadings.{item_set, HasItems}
+use Rattle.regex_lite_syntax.proofs.parse.DenialLemmas.{denies_whole}
+use Rattle.regex_lite_syntax.proofs.parse.bracket.ClassItemLemmas.{has_items, items_push, items_next}
+use Rattle.regex_lite_syntax.proofs.parse.bracket.ClassSetLemmas.{holds_more}
 use Rattle.regex_lite_syntax.proofs.parse.bracket.read_items.Goals as goal
 
 pub returns-in_err-past-clause-err : goal.returns-in_err-past-clause-err

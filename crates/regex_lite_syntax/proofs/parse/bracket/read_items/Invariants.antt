@@ -1,9 +1,9 @@
 use Rattle.std.proofs.Common.{◌≡◌, ◌≤◌, ◌-◌, ◌++◌, ◌||◌, drop, length, ℕ, List}
 use Rattle.regex_lite_syntax.specs.Text.{Text}
-use Rattle.regex_lite_syntax.specs.Gaps.{EndsGap}
+use Rattle.regex_lite_syntax.specs.Grammar.Gaps.{EndsGap}
 use Rattle.regex_lite_syntax.specs.Sets.{Set, union}
 use Rattle.regex_lite_syntax.specs.Ranges.{in_ranges}
-use Rattle.regex_lite_syntax.specs.Classes.{ClassItems}
+use Rattle.regex_lite_syntax.specs.Grammar.Classes.{ClassItems}
 use Rattle.regex_lite_syntax.proofs.parse.bracket.read_items.Given as goal
 
 abbrev pub invariant-items : goal.invariant-items

@@ -1,11 +1,11 @@
 use Rattle.std.proofs.Common.{◌≡◌, ◌∙◌, subst, drop, arith}
 use Rattle.std.proofs.lemmas.List.{drop_all}
 use Rattle.std.proofs.lemmas.Result.{err_from_is_err_and}
-use Rattle.regex_lite_syntax.specs.Gaps.{WholeGap}
-use Rattle.regex_lite_syntax.specs.Counts.{Counted}
-use Rattle.regex_lite_syntax.proofs.NumberLemmas.{no_ender, nothing_left, other_ender}
-use Rattle.regex_lite_syntax.proofs.CountLemmas.{counted_to, first_number, limit_once, limit_past, past_min}
-use Rattle.regex_lite_syntax.proofs.Denials.{denies_less, fault_denies}
+use Rattle.regex_lite_syntax.specs.Grammar.Gaps.{WholeGap}
+use Rattle.regex_lite_syntax.specs.Grammar.Counted.{Counted}
+use Rattle.regex_lite_syntax.proofs.grammar.NumberLemmas.{no_ender, nothing_left, other_ender}
+use Rattle.regex_lite_syntax.proofs.grammar.CountLemmas.{counted_to, first_number, limit_once, limit_past, past_min}
+use Rattle.regex_lite_syntax.proofs.parse.DenialLemmas.{denies_less, fault_denies}
 use Rattle.regex_lite_syntax.proofs.parse.counted.read_counted.Goals as goal
 
 pub returns-then-first-chars-clause-err : goal.returns-then-first-chars-clause-err
@@ -14,7 +14,7 @@ returns-then-first-chars-clause-err c =
     let left = subst (λ u. WholeGap c.args.verbose (drop c.args.at c.args.chars.now) u) none
     c.skip_gap-first.ensures.gap in
     fault_denies _ _ c.into.ensures
-    (λ (rest, min, max, counted). nothing_left left (first_number counted).1)
+    (λ (rest, least, most, counted). nothing_left left (first_number counted).1)
 
 pub returns-in_err-end-in-Some-eq44-clause-err : goal.returns-in_err-end-in-Some-eq44-clause-err
 returns-in_err-end-in-Some-eq44-clause-err c =
@@ -22,47 +22,47 @@ returns-in_err-end-in-Some-eq44-clause-err c =
     c.from_residual-in_err-end-in-Some-eq44.ensures.1 in
     rw (refused.1, refused.2)
     (denies_less _
-    (λ (rest, min, max, counted).
+    (λ (rest, least, most, counted).
     let past = past_min c.in_ok-past_min.ensures.only counted in
     let limit = limit_past _ _ _ c.in-Some-eq44.ensures.1 c.in-Some-eq44.field-0-test past.1 in
-    (rest, max, limit.0))
+    (rest, most, limit.0))
     c.in_err-end-in-Some-eq44.ensures.err)
 
 pub returns-in-None-clause-err : goal.returns-in-None-clause-err
 returns-in-None-clause-err c =
     fault_denies _ _ c.into-in-None.ensures
-    (λ (rest, min, max, counted). no_ender _ c.in-None.ensures (past_min c.in_ok-past_min.ensures.only counted).0)
+    (λ (rest, least, most, counted). no_ender _ c.in-None.ensures (past_min c.in_ok-past_min.ensures.only counted).0)
 
-pub returns-in-Some-max-clause-err : goal.returns-in-Some-max-clause-err
-returns-in-Some-max-clause-err c =
-    fault_denies _ _ c.into-in-Some-max.ensures
-    (λ (rest, min, max, counted).
+pub returns-in-Some-most-clause-err : goal.returns-in-Some-most-clause-err
+returns-in-Some-most-clause-err c =
+    fault_denies _ _ c.into-in-Some-most.ensures
+    (λ (rest, least, most, counted).
     let past = past_min c.in_ok-past_min.ensures.only counted in
     let limit = limit_past _ _ _ c.in-Some-eq44.ensures.1 c.in-Some-eq44.field-0-test past.1 in
     let same = limit_once _ _ _ _ _ _ limit.0 c.in_ok-end-in-Some-eq44.ensures.ok in
-    let order = limit.1 c.in-Some-max.max (same.1 ∙ c.in-Some-max.is) in
-    omega (arith, order, c.if-max-min.true))
+    let order = limit.1 c.in-Some-most.most (same.1 ∙ c.in-Some-most.is) in
+    omega (arith, order, c.if-most-least.true))
 
 pub returns-in_default-clause-ok : goal.returns-in_default-clause-ok
 returns-in_default-clause-ok c =
     let comma_at = c.in-Some-eq44 in
     let limit = c.in_ok-end-in-Some-eq44 in
     let chars = c.args.chars.now in
-    subst (λ m. Counted c.args.verbose (drop c.args.at chars) (drop limit.end chars) c.in_ok-past_min.min m)
-    c.in-Some-max.is
-    (counted_to limit.max _ _ _ c.in_ok-past_min.ensures.ok comma_at.ensures.1 comma_at.field-0-test limit.ensures.ok
-    (λ n some. let same : c.in-Some-max.max ≡ n = cc (some, c.in-Some-max.is) in omega (arith, same)))
+    subst (λ m. Counted c.args.verbose (drop c.args.at chars) (drop limit.end chars) c.in_ok-past_min.least m)
+    c.in-Some-most.is
+    (counted_to limit.most _ _ _ c.in_ok-past_min.ensures.ok comma_at.ensures.1 comma_at.field-0-test limit.ensures.ok
+    (λ n some. let same : c.in-Some-most.most ≡ n = cc (some, c.in-Some-most.is) in omega (arith, same)))
 
 pub returns-in_default-2-clause-ok : goal.returns-in_default-2-clause-ok
 returns-in_default-2-clause-ok c =
     let comma_at = c.in-Some-eq44 in
-    counted_to c.in_ok-end-in-Some-eq44.max _ _ _ c.in_ok-past_min.ensures.ok comma_at.ensures.1 comma_at.field-0-test
+    counted_to c.in_ok-end-in-Some-eq44.most _ _ _ c.in_ok-past_min.ensures.ok comma_at.ensures.1 comma_at.field-0-test
     c.in_ok-end-in-Some-eq44.ensures.ok
     (λ n some. cc (some, c.in_default.is))
 
 pub returns-in-Some-clause-err : goal.returns-in-Some-clause-err
 returns-in-Some-clause-err c =
     fault_denies _ _ c.into-in-Some.ensures
-    (λ (rest, min, max, counted).
+    (λ (rest, least, most, counted).
     other_ender _ _ _ c.in-Some.ensures.1 (λ is. omega (arith, is, c.in-Some.field-0-test))
     (λ is. omega (arith, is, c.in-Some.field-0-test)) (past_min c.in_ok-past_min.ensures.only counted).0)

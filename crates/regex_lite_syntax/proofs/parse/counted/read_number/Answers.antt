@@ -1,6 +1,6 @@
 use Rattle.std.proofs.Common.{refl, subst, drop, arith}
-use Rattle.regex_lite_syntax.proofs.NumberLemmas.{NoDigit, digit_read, no_digits_read, no_number, number_only, number_read, number_too_large}
-use Rattle.regex_lite_syntax.proofs.Denials.{fault_denies}
+use Rattle.regex_lite_syntax.proofs.grammar.NumberLemmas.{NoDigit, digit_read, no_digits_read, no_number, number_only, number_read, number_too_large}
+use Rattle.regex_lite_syntax.proofs.parse.DenialLemmas.{fault_denies}
 use Rattle.regex_lite_syntax.proofs.parse.counted.read_number.Goals as goal
 
 pub loop-next-init : goal.loop-next-init

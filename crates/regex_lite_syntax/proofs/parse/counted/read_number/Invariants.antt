@@ -1,5 +1,5 @@
 use Rattle.std.proofs.Common.{◌^◌, ◌<◌, ◌≤◌, ◌-◌, drop, length}
-use Rattle.regex_lite_syntax.proofs.NumberLemmas.{DigitsRead}
+use Rattle.regex_lite_syntax.proofs.grammar.NumberLemmas.{DigitsRead}
 use Rattle.regex_lite_syntax.proofs.parse.counted.read_number.Given as goal
 
 abbrev pub invariant-loop-next : goal.invariant-loop-next

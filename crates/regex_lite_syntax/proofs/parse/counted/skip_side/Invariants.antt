@@ -1,13 +1,13 @@
 use Rattle.std.proofs.Common.{◌≤◌, ◌-◌, drop, length}
 use Rattle.regex_lite_syntax.specs.Text.{Text}
-use Rattle.regex_lite_syntax.specs.Counts.{White}
+use Rattle.regex_lite_syntax.specs.Grammar.Counted.{WhiteSpace}
 use Rattle.regex_lite_syntax.proofs.parse.counted.skip_side.Given as goal
 
 abbrev pub invariant-loop-end : goal.invariant-loop-end
 invariant-loop-end l = record {
   inside : (l.at ≤ l.end) × (l.end ≤ length l.chars);
   -- white space from here is white space from the start
-  goes : (rest : Text) → White (drop l.end l.chars) rest → White (drop l.at l.chars) rest;
+  goes : (rest : Text) → WhiteSpace (drop l.end l.chars) rest → WhiteSpace (drop l.at l.chars) rest;
 }
 
 abbrev pub decreases-loop-end : goal.decreases-loop-end

@@ -1,7 +1,7 @@
 use Rattle.std.proofs.Common.{refl}
 use Rattle.std.proofs.lemmas.Result.{err_from_is_err_and}
-use Rattle.regex_lite_syntax.proofs.EscapeLemmas.{escape_as, escape_from}
-use Rattle.regex_lite_syntax.proofs.Denials.{denies_less}
+use Rattle.regex_lite_syntax.proofs.grammar.EscapeLemmas.{escape_as, escape_from}
+use Rattle.regex_lite_syntax.proofs.parse.DenialLemmas.{denies_less}
 use Rattle.regex_lite_syntax.proofs.parse.escape.read_escape.Goals as goal
 
 pub returns-in_err-end-in-WordBoundary-clause-err :
@@ -10,8 +10,8 @@ returns-in_err-end-in-WordBoundary-clause-err c =
     let refused = err_from_is_err_and c.from_residual.result c.from_residual.ensures.1 in
     rw (refused.1, refused.2)
     (denies_less _
-    (λ (rest, piece, escape).
-    let boundary = escape_from _ _ _ rest piece _ _ c.in-Some.ensures.1 c.in-WordBoundary.ensures escape in
+    (λ (rest, primitive, escape).
+    let boundary = escape_from _ _ _ rest primitive _ _ c.in-Some.ensures.1 c.in-WordBoundary.ensures escape in
     (rest, boundary.0, boundary.1))
     c.in_err-end-in-WordBoundary.ensures.err)
 

@@ -1,13 +1,13 @@
 use Rattle.std.proofs.Common.{◌≤◌, ◌-◌, drop, length, false}
 use Rattle.regex_lite_syntax.specs.Text.{Text}
-use Rattle.regex_lite_syntax.specs.Gaps.{Blank}
+use Rattle.regex_lite_syntax.specs.Grammar.Gaps.{Spacing}
 use Rattle.regex_lite_syntax.proofs.parse.gap.skip_gap.Given as goal
 
 abbrev pub invariant-loop-end : goal.invariant-loop-end
 invariant-loop-end l = record {
   inside : (l.at ≤ l.end) × (l.end ≤ length l.chars);
   -- a gap from here is one from the start
-  goes : (rest : Text) → Blank l.in_comment (drop l.end l.chars) rest → Blank false (drop l.at l.chars) rest;
+  goes : (rest : Text) → Spacing l.in_comment (drop l.end l.chars) rest → Spacing false (drop l.at l.chars) rest;
 }
 
 abbrev pub decreases-loop-end : goal.decreases-loop-end

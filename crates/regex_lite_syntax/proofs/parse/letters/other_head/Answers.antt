@@ -3,10 +3,10 @@ use Rattle.std.proofs.lemmas.List.{drop_all}
 use Rattle.regex_lite_syntax.specs.declared.flags.Flags.{Flags}
 use Rattle.regex_lite_syntax.specs.Text.{Text}
 use Rattle.regex_lite_syntax.specs.Characters.{is_one_of}
-use Rattle.regex_lite_syntax.specs.FlagLetters.{is_flag_letter}
-use Rattle.regex_lite_syntax.specs.FlagRuns.{EndedFlags}
-use Rattle.regex_lite_syntax.proofs.Indices.{drop_char}
-use Rattle.regex_lite_syntax.proofs.WholeFlags.{no_flags_end, no_flags_other}
+use Rattle.regex_lite_syntax.specs.Grammar.FlagLetters.{is_flag_letter}
+use Rattle.regex_lite_syntax.specs.Parser.FlagRuns.{EndedFlags}
+use Rattle.regex_lite_syntax.proofs.parse.IndexLemmas.{drop_char}
+use Rattle.regex_lite_syntax.proofs.parse.letters.WholeFlagLemmas.{no_flags_end, no_flags_other}
 use Rattle.regex_lite_syntax.proofs.parse.letters.other_head.Goals as goal
 
 -- no flags stand where this character does

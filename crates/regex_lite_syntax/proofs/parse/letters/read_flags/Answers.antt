@@ -1,9 +1,9 @@
 use Rattle.std.proofs.Common.{false, ◌+◌, ◌∙◌, ap, drop, slice_range, arith}
 use Rattle.std.proofs.lemmas.Result.{err_from_is_err_and}
-use Rattle.regex_lite_syntax.specs.FlagLetters.{with_flags}
-use Rattle.regex_lite_syntax.proofs.Denials.{denies_as}
-use Rattle.regex_lite_syntax.proofs.Slices.{slice_length}
-use Rattle.regex_lite_syntax.proofs.WholeFlags.{first_run, second_run, no_second_dash, some_second, flags_set, flags_cleared}
+use Rattle.regex_lite_syntax.specs.Grammar.FlagLetters.{with_flags}
+use Rattle.regex_lite_syntax.proofs.parse.DenialLemmas.{denies_as}
+use Rattle.regex_lite_syntax.proofs.parse.letters.SliceLemmas.{slice_length}
+use Rattle.regex_lite_syntax.proofs.parse.letters.WholeFlagLemmas.{first_run, second_run, no_second_dash, some_second, flags_set, flags_cleared}
 use Rattle.regex_lite_syntax.proofs.parse.letters.read_flags.Goals as goal
 
 pub returns-in_err-middle-clause-err : goal.returns-in_err-middle-clause-err

@@ -4,11 +4,11 @@ use Rattle.std.proofs.lemmas.List.{drop_all}
 use Rattle.std.proofs.lemmas.Result.{err_from_is_err_and}
 use Rattle.regex_lite_syntax.specs.Text.{Text, AllPass}
 use Rattle.regex_lite_syntax.specs.Characters.{is_one_of}
-use Rattle.regex_lite_syntax.specs.FlagLetters.{is_flag_letter, with_flag, with_flags, all_differ}
-use Rattle.regex_lite_syntax.specs.FlagRuns.{EndsRun, LetterRun}
-use Rattle.regex_lite_syntax.proofs.Indices.{drop_char}
-use Rattle.regex_lite_syntax.proofs.Slices.{slice_spelled, slice_more}
-use Rattle.regex_lite_syntax.proofs.FlagRuns.{all_pass_more, with_flags_more, differ_more, no_run_end, no_run_other, no_run_twice}
+use Rattle.regex_lite_syntax.specs.Grammar.FlagLetters.{is_flag_letter, with_flag, with_flags, all_differ}
+use Rattle.regex_lite_syntax.specs.Parser.FlagRuns.{EndsRun, LetterRun}
+use Rattle.regex_lite_syntax.proofs.parse.IndexLemmas.{drop_char}
+use Rattle.regex_lite_syntax.proofs.parse.letters.SliceLemmas.{slice_spelled, slice_more}
+use Rattle.regex_lite_syntax.proofs.parse.letters.FlagRunLemmas.{all_pass_more, with_flags_more, differ_more, no_run_end, no_run_other, no_run_twice}
 use Rattle.regex_lite_syntax.proofs.parse.letters.read_letters.Goals as goal
 use Rattle.regex_lite_syntax.proofs.parse.letters.read_letters.Goals.{then-contains-via-then-contains, then-contains-via-else-contains+then-contains-2}
 

@@ -1,6 +1,6 @@
 use Rattle.std.proofs.Common.{◌≡◌, ◌≢◌, string_bytes, rules, tests}
 use Rattle.std.proofs.lemmas.Iterator.{YieldsList-from_slice, cases_from_any}
-use Rattle.regex_lite_syntax.proofs.Strings.{among_given}
+use Rattle.regex_lite_syntax.proofs.parse.name.StringLemmas.{among_given}
 use Rattle.regex_lite_syntax.proofs.parse.name.is_among.Goals as goal
 
 pub returns : goal.returns

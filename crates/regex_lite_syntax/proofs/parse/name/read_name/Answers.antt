@@ -1,7 +1,7 @@
 use Rattle.std.proofs.Common.{sym, arith}
 use Rattle.std.proofs.lemmas.Bool.{both_ways}
-use Rattle.regex_lite_syntax.proofs.NameReading.{name_goes_on, name_read, next_of_name, nothing_left_at_end, range_more}
-use Rattle.regex_lite_syntax.proofs.Denials.{fault_denies}
+use Rattle.regex_lite_syntax.proofs.grammar.NameReadingLemmas.{name_goes_on, name_read, next_of_name, nothing_left_at_end, range_more}
+use Rattle.regex_lite_syntax.proofs.parse.DenialLemmas.{fault_denies}
 use Rattle.regex_lite_syntax.proofs.parse.name.read_name.Goals as goal
 
 pub returns-then-c-eq62-clause-ok : goal.returns-then-c-eq62-clause-ok

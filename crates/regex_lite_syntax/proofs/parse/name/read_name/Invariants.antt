@@ -1,7 +1,7 @@
 use Rattle.std.proofs.Common.{◌<◌, ◌≤◌, ◌-◌, drop, length, slice_range}
 use Rattle.regex_lite_syntax.specs.Text.{Text}
-use Rattle.regex_lite_syntax.specs.GroupNames.{NameWritten}
-use Rattle.regex_lite_syntax.proofs.NameReading.{NameLeft, NameSoFar}
+use Rattle.regex_lite_syntax.specs.Grammar.GroupNames.{NameWritten}
+use Rattle.regex_lite_syntax.proofs.grammar.NameReadingLemmas.{NameLeft, NameSoFar}
 use Rattle.regex_lite_syntax.proofs.parse.name.read_name.Given as goal
 
 abbrev pub invariant-loop-c : goal.invariant-loop-c

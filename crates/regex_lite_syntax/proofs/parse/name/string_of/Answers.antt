@@ -1,6 +1,6 @@
 use Rattle.std.proofs.lemmas.Iterator.{YieldsList-from_slice, text_from_collect}
 use Rattle.std.proofs.lemmas.Iterator.Consumers.{YieldsList-from_copied}
-use Rattle.regex_lite_syntax.proofs.Strings.{text_of_made}
+use Rattle.regex_lite_syntax.proofs.parse.name.StringLemmas.{text_of_made}
 use Rattle.regex_lite_syntax.proofs.parse.name.string_of.Goals as goal
 
 pub returns : goal.returns

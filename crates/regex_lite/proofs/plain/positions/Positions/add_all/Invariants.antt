@@ -1,4 +1,4 @@
-use Rattle.regex_lite.proofs.PositionLemmas.{IsUnionBelow}
+use Rattle.regex_lite.proofs.plain.PositionLemmas.{IsUnionBelow}
 use Rattle.regex_lite.proofs.plain.positions.Positions.add_all.Given as goal
 
 abbrev pub invariant-loop-i : goal.invariant-loop-i

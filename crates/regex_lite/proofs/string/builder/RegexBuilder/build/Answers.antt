@@ -1,4 +1,4 @@
-use Rattle.regex_lite.proofs.Acceptance.{refused_for_memory}
+use Rattle.regex_lite.proofs.string.AcceptanceLemmas.{refused_for_memory}
 use Rattle.regex_lite.proofs.string.builder.RegexBuilder.build.Goals as goal
 
 pub returns-clause-accepted : goal.returns-clause-accepted

@@ -1,7 +1,7 @@
 use Rattle.std.proofs.Common.{◌∙◌, ap, map, option_map, string_bytes}
-use Rattle.regex_lite_syntax.specs.Views.{tree_of}
-use Rattle.regex_lite.specs.Program.{IsBuilt}
-use Rattle.regex_lite.proofs.GroupNames.{are_names}
+use Rattle.regex_lite_syntax.specs.Tree.Views.{tree_of}
+use Rattle.regex_lite.specs.Compiled.{IsBuilt}
+use Rattle.regex_lite.proofs.string.GroupNameLemmas.{are_names}
 use Rattle.regex_lite.proofs.string.regex.Regex.capture_names.Goals as goal
 
 pub returns : goal.returns

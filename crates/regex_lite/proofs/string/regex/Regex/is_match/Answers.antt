@@ -1,7 +1,7 @@
 use Rattle.std.proofs.Common.{◌∙◌, ◌↔◌, IsTrue, rules}
-use Rattle.regex_lite_syntax.specs.Views.{tree_of}
+use Rattle.regex_lite_syntax.specs.Tree.Views.{tree_of}
 use Rattle.regex_lite.specs.Expression.{MatchesIn}
-use Rattle.regex_lite.proofs.OneTree.{answers_for}
+use Rattle.regex_lite.proofs.string.OneTreeLemmas.{answers_for}
 use Rattle.regex_lite.proofs.string.regex.Regex.is_match.Goals as goal
 
 pub returns-clause-found : goal.returns-clause-found

@@ -1,5 +1,5 @@
 use Rattle.std.proofs.Common.{◌∙◌}
-use Rattle.regex_lite_syntax.specs.Views.{tree_of}
+use Rattle.regex_lite_syntax.specs.Tree.Views.{tree_of}
 use Rattle.regex_lite.proofs.string.regex.Regex.static_captures_len.Goals as goal
 
 pub returns : goal.returns

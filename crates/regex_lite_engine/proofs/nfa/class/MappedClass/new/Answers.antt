@@ -1,4 +1,4 @@
-use Rattle.regex_lite_engine.proofs.AsciiMaps.{bits_of_words}
+use Rattle.regex_lite_engine.proofs.nfa.class.AsciiMapLemmas.{bits_of_words}
 use Rattle.regex_lite_engine.proofs.nfa.class.MappedClass.new.Goals as goal
 
 pub invariant_of-result : goal.invariant_of-result

@@ -1,7 +1,7 @@
 use Rattle.std.proofs.Common.{map, drop}
 use Rattle.regex_lite_syntax.specs.Tree.{concat, alternation, trees}
-use Rattle.regex_lite_syntax.specs.Views.{tree_of}
-use Rattle.regex_lite_engine.specs.Saturation.{AreCountsOf}
+use Rattle.regex_lite_syntax.specs.Tree.Views.{tree_of}
+use Rattle.regex_lite_engine.specs.Nfa.Saturation.{AreCountsOf}
 use Rattle.regex_lite_engine.proofs.nfa.count.Counts.+count.Given as goal
 
 abbrev pub invariant-of_branches-loop-i : goal.invariant-of_branches-loop-i

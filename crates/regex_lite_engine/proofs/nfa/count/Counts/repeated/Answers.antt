@@ -1,9 +1,9 @@
 use Rattle.std.proofs.Common.{◌*◌, ap, arith, rules}
-use Rattle.regex_lite_engine.specs.Counts.{places, arrows, choice_arrows, ranges}
+use Rattle.regex_lite_engine.specs.Graph.PlaceCounts.{places, arrows, choice_arrows, ranges}
 use Rattle.regex_lite_engine.proofs.nfa.count.Counts.repeated.Goals as goal
 
-pub returns-then-min-eq0 : goal.returns-then-min-eq0
-returns-then-min-eq0 c = λ body greedy counted.
+pub returns-then-least-eq0 : goal.returns-then-least-eq0
+returns-then-least-eq0 c = λ body greedy counted.
     let p = c.times.ensures (places body) counted.places in
     let a = c.times-2.ensures (arrows body) counted.arrows in
     let o = c.times-3.ensures (choice_arrows body) counted.choice_arrows in
@@ -18,8 +18,8 @@ returns-then-min-eq0 c = λ body greedy counted.
       nullable = search rules;
     }
 
-pub returns-else-min-eq0 : goal.returns-else-min-eq0
-returns-else-min-eq0 c = λ body greedy counted.
+pub returns-else-least-eq0 : goal.returns-else-least-eq0
+returns-else-least-eq0 c = λ body greedy counted.
     let p = c.times.ensures (places body) counted.places in
     let a = c.times-2.ensures (arrows body) counted.arrows in
     let o = c.times-3.ensures (choice_arrows body) counted.choice_arrows in

@@ -1,10 +1,10 @@
 use Rattle.std.proofs.Common.{◌≡◌, ◌++◌, ◌<◌, ◌*◌, ◌^◌, ◌+◌, map, length, drop}
 use Rattle.regex_lite_syntax.specs.Tree.{trees}
-use Rattle.regex_lite_syntax.specs.Views.{tree_of}
-use Rattle.regex_lite_syntax.specs.Properties.{greatest_index_in}
-use Rattle.regex_lite_engine.specs.Graphs.{place_of}
-use Rattle.regex_lite_engine.specs.Counts.{places, places_in}
-use Rattle.regex_lite_engine.specs.Layout.{IsAdded, layout, chain_layout, branches_layout, copies_layout, choices_layout}
+use Rattle.regex_lite_syntax.specs.Tree.Views.{tree_of}
+use Rattle.regex_lite_syntax.specs.Tree.Properties.{greatest_index_in}
+use Rattle.regex_lite_engine.specs.Graph.Renumbered.{place_of}
+use Rattle.regex_lite_engine.specs.Graph.PlaceCounts.{places, places_in}
+use Rattle.regex_lite_engine.specs.Nfa.Layout.{IsAdded, layout, chain_layout, branches_layout, copies_layout, choices_layout}
 use Rattle.regex_lite_engine.proofs.nfa.write.Writer.+write.Given as goal
 
 -- the parts from i on are written
@@ -33,7 +33,7 @@ invariant-write_alternation-loop-branch l =
 
 abbrev pub invariant-write_copies-loop-i : goal.invariant-write_copies-loop-i
 invariant-write_copies-loop-i l =
-    let body = tree_of l.sub in
+    let body = tree_of l.body in
     let old = l.initial.self in record {
       written : IsAdded (map place_of old) (map place_of l.self) l.next
           (copies_layout (layout body) l._i (length old) l.initial.exit);
@@ -42,7 +42,7 @@ invariant-write_copies-loop-i l =
 
 abbrev pub invariant-write_choices-loop-i : goal.invariant-write_choices-loop-i
 invariant-write_choices-loop-i l =
-    let body = tree_of l.sub in
+    let body = tree_of l.body in
     let old = l.initial.self in record {
       written : IsAdded (map place_of old) (map place_of l.self) l.next
           (choices_layout l.greedy (layout body) l._i (length old) l.join);

@@ -1,9 +1,9 @@
 use Rattle.std.proofs.Common.{inl, inr, refl, sym, ◌∙◌, subst, ◌+◌, drop, arith}
-use Rattle.regex_lite_syntax.specs.Gaps.{WholeGap}
-use Rattle.regex_lite_syntax.specs.ClassParts.{past_dash}
-use Rattle.regex_lite_syntax.proofs.Lists.{same_head}
-use Rattle.regex_lite_syntax.proofs.Indices.{drop_char, left_at_end}
-use Rattle.regex_lite_syntax.proofs.ClassItems.{no_dash, no_end}
+use Rattle.regex_lite_syntax.specs.Grammar.Gaps.{WholeGap}
+use Rattle.regex_lite_syntax.specs.Parser.ClassReadings.{past_dash}
+use Rattle.regex_lite_syntax.proofs.ListLemmas.{same_head}
+use Rattle.regex_lite_syntax.proofs.parse.IndexLemmas.{drop_char, left_at_end}
+use Rattle.regex_lite_syntax.proofs.parse.bracket.ClassItemLemmas.{no_dash, no_end}
 use Rattle.regex_lite_syntax.proofs.parse.bracket.item.find_range_end.Goals as goal
 
 pub returns-then-not-is_at-clause-ok : goal.returns-then-not-is_at-clause-ok

@@ -2,13 +2,13 @@ use Rattle.std.proofs.Common.{refl, drop}
 use Rattle.std.proofs.lemmas.Result.{err_from_is_err_and, IfOk-weaker, IfErr-weaker}
 use Rattle.regex_lite_syntax.specs.Text.{Text}
 use Rattle.regex_lite_syntax.specs.Sets.{Set}
-use Rattle.regex_lite_syntax.specs.Escapes.{Piece as Given}
-use Rattle.regex_lite_syntax.specs.Classes.{Part, ClassItem}
-use Rattle.regex_lite_syntax.specs.ClassParts.{element_piece, IsElement, item_set, RangeTo, HasItems}
+use Rattle.regex_lite_syntax.specs.Grammar.Escapes.{Primitive as Given}
+use Rattle.regex_lite_syntax.specs.Grammar.Classes.{ClassElement, ClassItem}
+use Rattle.regex_lite_syntax.specs.Parser.ClassReadings.{element_primitive, IsElement, item_set, RangeTo, HasItems}
 use Rattle.regex_lite_syntax.specs.Refusals.{Denies}
-use Rattle.regex_lite_syntax.proofs.Denials.{denies_whole}
-use Rattle.regex_lite_syntax.proofs.Indices.{left_inside}
-use Rattle.regex_lite_syntax.proofs.ClassItems.{begins_item, item_part, item_named, item_alone, item_range, item_range_to, open_items}
+use Rattle.regex_lite_syntax.proofs.parse.DenialLemmas.{denies_whole}
+use Rattle.regex_lite_syntax.proofs.parse.IndexLemmas.{left_inside}
+use Rattle.regex_lite_syntax.proofs.parse.bracket.ClassItemLemmas.{begins_item, item_part, item_named, item_alone, item_range, item_range_to, open_items}
 use Rattle.regex_lite_syntax.proofs.parse.bracket.item.read_item.Goals as goal
 
 pub returns-in-Some-clause-ok : goal.returns-in-Some-clause-ok
@@ -19,7 +19,7 @@ returns-in_err-past-clause-err c =
     let verbose = c.args.verbose in
     let t = drop c.args.at c.args.chars.now in
     let left = err_from_is_err_and c.from_residual.result c.from_residual.ensures.1 in
-    rw (left.1, left.2) (denies_whole _ ((r : Text) × (p : Given) × IsElement p × Part verbose t r p) (HasItems verbose t)
+    rw (left.1, left.2) (denies_whole _ ((r : Text) × (p : Given) × IsElement p × ClassElement verbose t r p) (HasItems verbose t)
     (λ items. item_part verbose t _ _ (c.if-is_at.ensures.absent refl) items.3.2) c.in_err-past.ensures.err)
 
 pub returns-in_err-find_range_end-clause-err : goal.returns-in_err-find_range_end-clause-err
@@ -42,7 +42,7 @@ returns-in-Some-2-clause-ok c =
     let verbose = c.args.verbose in
     let xs = c.args.chars.now in
     let t = drop c.args.at xs in
-    let first = element_piece c.in_ok-past.element in
+    let first = element_primitive c.in_ok-past.element in
     let last = drop c.in-Some-2.last xs in
     let here = left_inside xs c.args.at c.requires.inside c.if-at-chars.false in
     let follows = rw c.in-Some-2.is at c.in_ok-find_range_end.ensures.ok in
@@ -58,7 +58,7 @@ returns-in-Some-2-clause-err c =
     let verbose = c.args.verbose in
     let xs = c.args.chars.now in
     let t = drop c.args.at xs in
-    let first = element_piece c.in_ok-past.element in
+    let first = element_primitive c.in_ok-past.element in
     let last = drop c.in-Some-2.last xs in
     let follows = rw c.in-Some-2.is at c.in_ok-find_range_end.ensures.ok in
     IfErr-weaker c.read_range.result

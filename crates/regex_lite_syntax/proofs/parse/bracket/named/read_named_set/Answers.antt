@@ -2,12 +2,12 @@ use Rattle.std.proofs.Common.{◌≡◌, refl, sym, ◌∙◌, ap, ◌+◌, ◌-
 use Rattle.std.specs.Prelude.{find}
 use Rattle.regex_lite_syntax.specs.declared.class.named.NamedSet.{NamedSet}
 use Rattle.regex_lite_syntax.specs.declared.parse.bracket.named.TheConstants.{ALL}
-use Rattle.regex_lite_syntax.specs.Text.{Text, open_bracket, close_bracket, caret, colon, is_text}
+use Rattle.regex_lite_syntax.specs.Text.{Text, is_text, the}
 use Rattle.regex_lite_syntax.specs.NamedSets.{set_named}
-use Rattle.regex_lite_syntax.specs.Classes.{NamedClass}
-use Rattle.regex_lite_syntax.specs.ClassParts.{set_name, HasNamedSet}
-use Rattle.regex_lite_syntax.proofs.Lists.{same_tail}
-use Rattle.regex_lite_syntax.proofs.ClassLemmas.{begins, name_once}
+use Rattle.regex_lite_syntax.specs.Grammar.Classes.{NamedClass}
+use Rattle.regex_lite_syntax.specs.Parser.ClassReadings.{set_name, HasNamedSet}
+use Rattle.regex_lite_syntax.proofs.ListLemmas.{same_tail}
+use Rattle.regex_lite_syntax.proofs.grammar.ClassLemmas.{begins, name_once}
 use Rattle.regex_lite_syntax.proofs.parse.bracket.named.read_named_set.Goals as goal
 use Rattle.regex_lite_syntax.proofs.parse.bracket.named.read_named_set.Goals.{After-skip_lower-end, then-negated, else-negated, then-not-is_at-3-via-then-not-is_at-3, then-not-is_at-3-via-else-not-is_at-3+then-not-is_at-4}
 
@@ -19,19 +19,19 @@ none_named w name set none same named =
     let clash = none ∙ grammar ∙ ap set_named same ∙ named in
     cc clash
 
-opened_at : (xs : Text) (at : ℕ) → drop at xs ≡ open_bracket ∷ drop (at + 1) xs
-    → drop (at + 1) xs ≡ colon ∷ drop (at + 1 + 1) xs → drop at xs ≡ open_bracket ∷ colon ∷ drop (at + 2) xs
+opened_at : (xs : Text) (at : ℕ) → drop at xs ≡ the "[" ∷ drop (at + 1) xs
+    → drop (at + 1) xs ≡ the ":" ∷ drop (at + 1 + 1) xs → drop at xs ≡ the "[" ∷ the ":" ∷ drop (at + 2) xs
 opened_at xs at e f =
     let two : at + 1 + 1 ≡ at + 2 = omega arith in
-    e ∙ ap (λ t. open_bracket ∷ t) (f ∙ ap (λ n. colon ∷ drop n xs) two)
+    e ∙ ap (λ t. (the "[") ∷ t) (f ∙ ap (λ n. (the ":") ∷ drop n xs) two)
 
-negated_at : (xs : Text) (at begin : ℕ) (negated : Bool) → drop (at + 2) xs ≡ caret ∷ drop (at + 2 + 1) xs → begin ≡ at + 3
-    → negated ≡ true → drop (at + 2) xs ≡ (if negated then caret ∷ drop begin xs else drop begin xs)
-negated_at xs at begin true e b h = let three : at + 2 + 1 ≡ begin = omega (arith, b) in e ∙ ap (λ n. caret ∷ drop n xs) three
+negated_at : (xs : Text) (at begin : ℕ) (negated : Bool) → drop (at + 2) xs ≡ the "^" ∷ drop (at + 2 + 1) xs → begin ≡ at + 3
+    → negated ≡ true → drop (at + 2) xs ≡ (if negated then the "^" ∷ drop begin xs else drop begin xs)
+negated_at xs at begin true e b h = let three : at + 2 + 1 ≡ begin = omega (arith, b) in e ∙ ap (λ n. (the "^") ∷ drop n xs) three
 negated_at xs at begin false e b h = cc h
 
 bare_at : (xs : Text) (at begin : ℕ) (negated : Bool) → begin ≡ at + 2 → negated ≡ false
-    → drop (at + 2) xs ≡ (if negated then caret ∷ drop begin xs else drop begin xs)
+    → drop (at + 2) xs ≡ (if negated then the "^" ∷ drop begin xs else drop begin xs)
 bare_at xs at begin true b h = cc h
 bare_at xs at begin false b h = ap (λ n. drop n xs) (sym b)
 
@@ -46,7 +46,7 @@ once c rest n set p =
     let begin = c.if-negated.begin in
     let negated = c.is_at-negated.result in
     let opens = opened_at xs at (c.if-not-is_at.ensures.there refl).1 (c.if-not-is_at-2.ensures.there refl).1 in
-    let negation : drop (at + 2) xs ≡ (if negated then caret ∷ drop begin xs else drop begin xs) =
+    let negation : drop (at + 2) xs ≡ (if negated then the "^" ∷ drop begin xs else drop begin xs) =
     elim c.if-negated.branch [
       | then-negated w ↦ negated_at xs at begin negated (w.if-negated.ensures.there refl).1 w.begin-is w.if-negated.true
       | else-negated w ↦ bare_at xs at begin negated w.begin-is w.if-negated.false
@@ -59,10 +59,10 @@ returns-then-not-is_at-3-clause-found c has =
     let same = once (goal.at.returns-then-not-is_at-3-clause-found c).After-skip_lower-end has.0 has.1 has.2 has.3 in
     let closes = same.2 ∙ has.3.closes in
     elim c.then-not-is_at-3.branch [
-      | then-not-is_at-3-via-then-not-is_at-3 w ↦ w.if-not-is_at-3.ensures.absent refl (begins colon _ _ closes)
+      | then-not-is_at-3-via-then-not-is_at-3 w ↦ w.if-not-is_at-3.ensures.absent refl (begins (the ":") _ _ closes)
       | then-not-is_at-3-via-else-not-is_at-3+then-not-is_at-4 w ↦
           w.if-not-is_at-4.ensures.absent refl
-          (begins close_bracket _ _ (same_tail (sym (w.if-not-is_at-3.ensures.there refl).1 ∙ closes)))
+          (begins (the "]") _ _ (same_tail (sym (w.if-not-is_at-3.ensures.there refl).1 ∙ closes)))
     ]
 
 pub returns-in_err-set-clause-found : goal.returns-in_err-set-clause-found

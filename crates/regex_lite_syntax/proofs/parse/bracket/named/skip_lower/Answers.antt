@@ -2,8 +2,8 @@ use Rattle.std.proofs.Common.{sym, subst, ◌<◌, ◌+◌, drop, length, arith,
 use Rattle.std.proofs.lemmas.List.{get_or_read}
 use Rattle.regex_lite_syntax.specs.Text.{Spelled, AllPass}
 use Rattle.regex_lite_syntax.specs.Characters.{is_lower}
-use Rattle.regex_lite_syntax.proofs.Words.{pass_push, spelled_push, take_push}
-use Rattle.regex_lite_syntax.proofs.Indices.{drop_char}
+use Rattle.regex_lite_syntax.proofs.grammar.WordLemmas.{pass_push, spelled_push, take_push}
+use Rattle.regex_lite_syntax.proofs.parse.IndexLemmas.{drop_char}
 use Rattle.regex_lite_syntax.proofs.parse.bracket.named.skip_lower.Goals as goal
 
 pub loop-end-preserved : goal.loop-end-preserved

@@ -1,6 +1,6 @@
 use Rattle.std.proofs.Common.{sym, ◌∙◌}
 use Rattle.std.proofs.lemmas.Bool.{false≢true}
-use Rattle.regex_lite_syntax.proofs.ClassOpenings.{bracket_past}
+use Rattle.regex_lite_syntax.proofs.parse.bracket.ClassOpeningLemmas.{bracket_past}
 use Rattle.regex_lite_syntax.proofs.parse.bracket.opening.take_bracket.Goals as goal
 
 pub returns-else-dash-clause-takes : goal.returns-else-dash-clause-takes

@@ -1,5 +1,5 @@
 use Rattle.std.proofs.Common.{refl, ◌+◌, arith}
-use Rattle.regex_lite_syntax.proofs.ClassOpenings.{dashes_push, dashes_stop, some_dashes}
+use Rattle.regex_lite_syntax.proofs.parse.bracket.ClassOpeningLemmas.{dashes_push, dashes_stop, some_dashes}
 use Rattle.regex_lite_syntax.proofs.parse.bracket.opening.take_dashes.Goals as goal
 
 pub loop-found-preserved : goal.loop-found-preserved

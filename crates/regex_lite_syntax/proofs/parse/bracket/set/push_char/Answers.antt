@@ -1,7 +1,7 @@
 use Rattle.std.proofs.Common.{IsTrue, rules}
 use Rattle.regex_lite_syntax.specs.Characters.{is_character}
 use Rattle.regex_lite_syntax.specs.Sets.{just}
-use Rattle.regex_lite_syntax.proofs.ClassSets.{in_more, span_one}
+use Rattle.regex_lite_syntax.proofs.parse.bracket.ClassSetLemmas.{in_more, span_one}
 use Rattle.regex_lite_syntax.proofs.parse.bracket.set.push_char.Goals as goal
 
 pub returns : goal.returns

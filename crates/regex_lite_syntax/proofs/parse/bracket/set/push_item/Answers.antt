@@ -2,8 +2,8 @@ use Rattle.std.proofs.Common.{◌≡◌, sym, ◌∙◌, ap, rules}
 use Rattle.regex_lite_syntax.specs.declared.parse.bracket.item.Element.TheVariants.{Set}
 use Rattle.regex_lite_syntax.specs.declared.parse.bracket.item.Item.{Item}
 use Rattle.regex_lite_syntax.specs.declared.parse.bracket.item.Item.TheVariants.{Alone}
-use Rattle.regex_lite_syntax.specs.ClassParts.{item_set}
-use Rattle.regex_lite_syntax.proofs.ClassSets.{in_more, in_set}
+use Rattle.regex_lite_syntax.specs.Parser.ClassReadings.{item_set}
+use Rattle.regex_lite_syntax.proofs.parse.bracket.ClassSetLemmas.{in_more, in_set}
 use Rattle.regex_lite_syntax.proofs.parse.bracket.set.push_item.Goals as goal
 
 pub returns-in_ok-push-in-Range : goal.returns-in_ok-push-in-Range

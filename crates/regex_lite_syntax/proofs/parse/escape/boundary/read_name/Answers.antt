@@ -1,10 +1,10 @@
 use Rattle.std.proofs.Common.{◌⊎◌, inl, inr, ◌≡◌, refl, subst, Bool, true, false, cond, [], ◌∷◌, IsTrue, Option, Some, codes}
 use Rattle.std.proofs.lemmas.Bool.{and_parts, eqb-true}
 use Rattle.regex_lite_syntax.specs.declared.hir.look.Look.{Look}
-use Rattle.regex_lite_syntax.specs.Text.{Text, is_text, close_brace}
-use Rattle.regex_lite_syntax.specs.Gaps.{Gap, Spaced}
-use Rattle.regex_lite_syntax.specs.Escapes.{is_boundary_character, boundary_named, BoundaryName}
-use Rattle.regex_lite_syntax.proofs.Denials.{fault_denies}
+use Rattle.regex_lite_syntax.specs.Text.{Text, is_text, the}
+use Rattle.regex_lite_syntax.specs.Grammar.Gaps.{Gap, Spaced}
+use Rattle.regex_lite_syntax.specs.Grammar.Escapes.{is_boundary_character, boundary_named, BoundaryName}
+use Rattle.regex_lite_syntax.proofs.parse.DenialLemmas.{fault_denies}
 use Rattle.regex_lite_syntax.proofs.parse.escape.boundary.read_name.Goals as goal
 
 same_text : (t u : Text) → IsTrue (is_text t u) → t ≡ u
@@ -43,7 +43,7 @@ one_of_four name look e a b c d =
 -- the name does not stand there
 abbrev Absent : (verbose : Bool) → (name t : Text) → Type 0
 Absent verbose name t =
-    (last rest : Text) → Spaced verbose is_boundary_character name t last → Gap verbose last (close_brace ∷ rest) → ⊥
+    (last rest : Text) → Spaced verbose is_boundary_character name t last → Gap verbose last (the "}" ∷ rest) → ⊥
 
 no_name : (verbose : Bool) (t rest : Text) (look : Look) → Absent verbose (codes "start") t
     → Absent verbose (codes "end") t → Absent verbose (codes "start-half") t → Absent verbose (codes "end-half") t

@@ -1,8 +1,8 @@
 use Rattle.std.proofs.Common.{refl, sym}
 use Rattle.std.proofs.lemmas.Result.{IfOk-weaker}
-use Rattle.regex_lite_syntax.specs.Escapes.{before_count, named}
-use Rattle.regex_lite_syntax.proofs.EscapeLemmas.{no_boundary, name_in_braces, begins_count}
-use Rattle.regex_lite_syntax.proofs.Denials.{fault_denies, err_denies_less}
+use Rattle.regex_lite_syntax.specs.Grammar.Escapes.{before_count, named}
+use Rattle.regex_lite_syntax.proofs.grammar.EscapeLemmas.{no_boundary, name_in_braces, begins_count}
+use Rattle.regex_lite_syntax.proofs.parse.DenialLemmas.{fault_denies, err_denies_less}
 use Rattle.regex_lite_syntax.proofs.parse.escape.boundary.read_word_boundary.Goals as goal
 
 pub returns-in-None-clause-err : goal.returns-in-None-clause-err

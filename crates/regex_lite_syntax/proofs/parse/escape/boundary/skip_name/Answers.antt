@@ -2,10 +2,10 @@ use Rattle.std.proofs.Common.{refl, sym, subst, ◌≡◌, ℕ, Bool, [], ◌∷
 use Rattle.std.specs.List.{list_all}
 use Rattle.std.proofs.lemmas.Bool.{and_parts}
 use Rattle.std.proofs.lemmas.List.{drop_all, drop_more}
-use Rattle.regex_lite_syntax.specs.Text.{Text, Begins, close_brace}
-use Rattle.regex_lite_syntax.specs.Gaps.{Gap, WholeGap, Spaced}
-use Rattle.regex_lite_syntax.specs.Escapes.{is_boundary_character}
-use Rattle.regex_lite_syntax.proofs.Spaced.{boundary_characters_end, brace_past, next_spaced, spaced_before, spaced_begins}
+use Rattle.regex_lite_syntax.specs.Text.{Text, Begins, the}
+use Rattle.regex_lite_syntax.specs.Grammar.Gaps.{Gap, WholeGap, Spaced}
+use Rattle.regex_lite_syntax.specs.Grammar.Escapes.{is_boundary_character}
+use Rattle.regex_lite_syntax.proofs.grammar.SpacedLemmas.{boundary_characters_end, brace_past, next_spaced, spaced_before, spaced_begins}
 use Rattle.regex_lite_syntax.proofs.parse.escape.boundary.skip_name.Goals as goal
 
 -- of the letters that are left, the first is this one
@@ -39,11 +39,11 @@ further_allowed left letters l all allowed =
 
 -- where no letter is left, the brace that closes comes next
 brace_begins : (verbose : Bool) (left t u last rest : Text) → left ≡ [] → WholeGap verbose t u
-    → Spaced verbose is_boundary_character left t last → Gap verbose last (close_brace ∷ rest)
-    → Begins close_brace u
+    → Spaced verbose is_boundary_character left t last → Gap verbose last (the "}" ∷ rest)
+    → Begins (the "}") u
 brace_begins verbose left t u last rest none whole s closes =
     let ended = subst (λ ls. Spaced verbose is_boundary_character ls t last) none s in
-    subst (λ v. Begins close_brace v) (sym (brace_past verbose t u last rest whole ended closes)) refl
+    subst (λ v. Begins (the "}") v) (sym (brace_past verbose t u last rest whole ended closes)) refl
 
 pub returns-then-not-is_at-clause-absent : goal.returns-then-not-is_at-clause-absent
 returns-then-not-is_at-clause-absent c last rest written closes =

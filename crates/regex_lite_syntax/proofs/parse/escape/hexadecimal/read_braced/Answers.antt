@@ -1,9 +1,9 @@
 use Rattle.std.proofs.Common.{sym, ap, subst, arith}
-use Rattle.regex_lite_syntax.specs.Text.{Begins, close_brace}
+use Rattle.regex_lite_syntax.specs.Text.{Begins, the}
 use Rattle.regex_lite_syntax.specs.Characters.{is_hex_digit}
-use Rattle.regex_lite_syntax.proofs.Spaced.{Lacks}
-use Rattle.regex_lite_syntax.proofs.Digits.{digit_at, braced_after, braced_before, braced_scalar, braced_stuck, braced_too_large, no_character}
-use Rattle.regex_lite_syntax.proofs.Denials.{fault_denies}
+use Rattle.regex_lite_syntax.proofs.grammar.SpacedLemmas.{Lacks}
+use Rattle.regex_lite_syntax.proofs.parse.escape.DigitLemmas.{digit_at, braced_after, braced_before, braced_scalar, braced_stuck, braced_too_large, no_character}
+use Rattle.regex_lite_syntax.proofs.parse.DenialLemmas.{fault_denies}
 use Rattle.regex_lite_syntax.proofs.parse.escape.hexadecimal.read_braced.Goals as goal
 
 pub returns-in_default-clause-err : goal.returns-in_default-clause-err
@@ -11,7 +11,7 @@ returns-in_default-clause-err c =
     fault_denies _ _ c.into.ensures
     (λ (rest, d, b). braced_stuck _ c.skip_gap-next.ensures.gap
     (subst (λ u. Lacks is_hex_digit u) (sym c.in_default.ensures) tt)
-    (λ begins some. subst (λ u. Begins close_brace u) c.in_default.ensures begins)
+    (λ begins some. subst (λ u. Begins (the "}") u) c.in_default.ensures begins)
     (c.loop-c.invariant.back rest d b))
 
 pub returns-then-end-at-clause-err : goal.returns-then-end-at-clause-err
@@ -34,7 +34,7 @@ returns-in_default-hex_value-clause-err c =
     fault_denies _ _ c.into-in_default-hex_value.ensures
     (λ (rest, d, b). braced_stuck _ c.skip_gap-next.ensures.gap
     (subst (λ u. Lacks is_hex_digit u) (sym c.in-Some.ensures.1) c.in_default-hex_value.ensures)
-    (λ begins some. c.if-c-eq125.false (subst (λ u. Begins close_brace u) c.in-Some.ensures.1 begins))
+    (λ begins some. c.if-c-eq125.false (subst (λ u. Begins (the "}") u) c.in-Some.ensures.1 begins))
     (c.loop-c.invariant.back rest d b))
 
 pub returns-then-number-gt-LAST-clause-err : goal.returns-then-number-gt-LAST-clause-err

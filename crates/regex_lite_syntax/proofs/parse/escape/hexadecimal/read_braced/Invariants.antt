@@ -1,7 +1,7 @@
 use Rattle.std.proofs.Common.{ℕ, ◌≤◌, ◌-◌, drop, length}
 use Rattle.regex_lite_syntax.specs.Text.{Text}
-use Rattle.regex_lite_syntax.specs.Escapes.{BracedDigits}
-use Rattle.regex_lite_syntax.proofs.Digits.{BracedFrom}
+use Rattle.regex_lite_syntax.specs.Grammar.Escapes.{BracedDigits}
+use Rattle.regex_lite_syntax.proofs.parse.escape.DigitLemmas.{BracedFrom}
 use Rattle.regex_lite_syntax.proofs.parse.escape.hexadecimal.read_braced.Given as goal
 
 abbrev pub invariant-loop-c : goal.invariant-loop-c

@@ -1,11 +1,11 @@
 use Rattle.std.proofs.Common.{sym, subst}
 use Rattle.std.proofs.lemmas.Result.{IfOk-weaker}
-use Rattle.regex_lite_syntax.specs.Text.{Begins, open_brace}
+use Rattle.regex_lite_syntax.specs.Text.{Begins, the}
 use Rattle.regex_lite_syntax.specs.Characters.{is_hex_digit}
-use Rattle.regex_lite_syntax.proofs.Spaced.{Lacks}
-use Rattle.regex_lite_syntax.proofs.Digits.{no_fixed}
-use Rattle.regex_lite_syntax.proofs.EscapeLemmas.{from_braces, in_braces, without_braces}
-use Rattle.regex_lite_syntax.proofs.Denials.{fault_denies, err_denies_less}
+use Rattle.regex_lite_syntax.proofs.grammar.SpacedLemmas.{Lacks}
+use Rattle.regex_lite_syntax.proofs.parse.escape.DigitLemmas.{no_fixed}
+use Rattle.regex_lite_syntax.proofs.grammar.EscapeLemmas.{from_braces, in_braces, without_braces}
+use Rattle.regex_lite_syntax.proofs.parse.DenialLemmas.{fault_denies, err_denies_less}
 use Rattle.regex_lite_syntax.proofs.parse.escape.hexadecimal.read_hexadecimal.Goals as goal
 
 pub returns-in-None-clause-err : goal.returns-in-None-clause-err
@@ -14,7 +14,7 @@ returns-in-None-clause-err c =
     (λ (rest, d, h). no_fixed _ c.skip_gap-first.ensures.gap
     (subst (λ u. Lacks is_hex_digit u) (sym c.in-None.ensures) tt) c.requires.some
     (without_braces _ _ _ _ rest d c.skip_gap-first.ensures.gap
-    (λ begins. subst (λ u. Begins open_brace u) c.in-None.ensures begins) h))
+    (λ begins. subst (λ u. Begins (the "{") u) c.in-None.ensures begins) h))
 
 pub returns-in-Some-eq123-clause-ok : goal.returns-in-Some-eq123-clause-ok
 returns-in-Some-eq123-clause-ok c =
@@ -42,6 +42,6 @@ returns-in-Some-clause-err c =
       rest,
       d,
       without_braces _ _ _ _ rest d c.skip_gap-first.ensures.gap
-          (λ begins. c.in-Some.field-0-test.1 (subst (λ u. Begins open_brace u) c.in-Some.ensures.1 begins)) h,
+          (λ begins. c.in-Some.field-0-test.1 (subst (λ u. Begins (the "{") u) c.in-Some.ensures.1 begins)) h,
     ))
     c.read_fixed.ensures.err

@@ -1,0 +1,2 @@
+-- What the functions of the plain search promise one another.
+pub mod Positions

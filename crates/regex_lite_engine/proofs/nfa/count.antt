@@ -1,0 +1,5 @@
+-- lemmas that several proofs here share
+pub mod ArrowCountLemmas
+pub mod NameSizeLemmas
+pub mod PlaceCountLemmas
+pub mod SaturationLemmas

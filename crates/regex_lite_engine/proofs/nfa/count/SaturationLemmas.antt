@@ -1,0 +1,59 @@
+-- How many arrows a tree has, by its places.
+use Rattle.std.proofs.Common.{◌≤◌, ◌<◌, ℕ, zero, suc, ◌+◌, ◌-◌, ◌*◌, Bool, true, false, Option, Some, None, List, [], ◌∷◌, arith}
+use Rattle.std.proofs.Math.Nat.{suc-mul}
+use Rattle.regex_lite_syntax.specs.declared.class.ClassRange.{ClassRange}
+use Rattle.regex_lite_syntax.specs.Tree.{Tree, Trees, empty, character, class, look, repetition, capture, concat, alternation, none, more}
+use Rattle.regex_lite_syntax.specs.Tree.Properties.{nullable}
+use Rattle.regex_lite_syntax.specs.Tree.Regular.{IsRegular, AreRegular}
+use Rattle.regex_lite_engine.specs.Graph.PlaceCounts.{places, places_in, arrows, arrows_in, count, copies, own_places, own_arrows, bounded_places, bounded_arrows, class_arrows}
+
+-- so many copies of a body
+copied : (n a p : ℕ) → a < 2 * p → n * a + n ≤ 2 * (n * p)
+copied zero a p few = omega arith
+copied (suc n) a p few = omega (arith, copied n a p few, suc-mul n a, suc-mul n p)
+
+-- and the places beside them
+with_own : (n a p b q : ℕ) → a < 2 * p → b + 1 ≤ 2 * q + n → n * a + b < 2 * (n * p + q)
+with_own n a p b q few own = omega (arith, copied n a p few)
+
+own_few : (least above : ℕ) → bounded_arrows least above + 1 ≤ 2 * bounded_places least above + (least + above)
+own_few zero zero = omega arith
+own_few zero (suc zero) = omega arith
+own_few zero (suc (suc d)) = omega arith
+own_few (suc n) zero = omega arith
+own_few (suc n) (suc d) = omega arith
+
+repeated_few : (least : ℕ) (most : Option ℕ) (nullable_body : Bool)
+    → own_arrows least most nullable_body + 1 ≤ 2 * own_places least most nullable_body + copies least most
+repeated_few zero None true = omega arith
+repeated_few zero None false = omega arith
+repeated_few (suc n) None nullable_body = omega arith
+repeated_few zero (Some most) nullable_body = own_few zero (most - zero)
+repeated_few (suc n) (Some most) nullable_body = own_few (suc n) (most - suc n)
+
+set_few : (ranges : List ClassRange) → class_arrows ranges < 2
+set_few [] = omega arith
+set_few (range ∷ rest) = omega arith
+
+mutual
+  -- a tree has fewer arrows than twice its places
+  pub arrows_few : (tree : Tree) → IsRegular tree → arrows tree < 2 * places tree
+  arrows_few empty regular = omega arith
+  arrows_few (character c) regular = omega arith
+  arrows_few (class ranges) regular = set_few ranges
+  arrows_few (look test) regular = omega arith
+  arrows_few (repetition least most greedy body) regular =
+      with_own (copies least most) (arrows body) (places body) (own_arrows least most (nullable body))
+      (own_places least most (nullable body)) (arrows_few body regular.1)
+      (repeated_few least most (nullable body))
+  arrows_few (capture index name body) regular = omega (arith, arrows_few body regular.1)
+  arrows_few (concat none) regular = absurd regular.0
+  arrows_few (concat (more a rest)) regular =
+      omega (arith, arrows_few a regular.1.0, arrows_in_few rest regular.1.1)
+  arrows_few (alternation branches) regular = omega (arith, arrows_in_few branches regular.1)
+
+  arrows_in_few : (trees : Trees) → AreRegular trees
+      → arrows_in trees + count trees ≤ 2 * places_in trees
+  arrows_in_few none regular = omega arith
+  arrows_in_few (more a rest) regular =
+      omega (arith, arrows_few a regular.0, arrows_in_few rest regular.1)

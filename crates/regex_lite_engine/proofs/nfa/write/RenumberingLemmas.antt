@@ -1,0 +1,143 @@
+-- The layout of the whole pattern is the written-out one, with numbers in the place of addresses.
+use Rattle.std.proofs.Common.{◌≡◌, ◌<◌, refl, sym, ap, subst, ◌∙◌, arith, ℕ, zero, suc, ◌+◌, inl, inr, List, [], ◌∷◌, ◌++◌, length, get_or, slice_get, append_assoc, length-append, Some, None}
+use Rattle.std.proofs.Math.Seq.{get_or-append_seam}
+use Rattle.regex_lite_syntax.specs.Tree.{Tree}
+use Rattle.regex_lite_syntax.specs.Tree.Regular.{IsRegular}
+use Rattle.regex_lite_engine.specs.Graph.Places.{Arrow, Place, with_arrows}
+use Rattle.regex_lite_engine.specs.Graph.Addresses.{Address, entry}
+use Rattle.regex_lite_engine.specs.Graph.Repetitions.{Content}
+use Rattle.regex_lite_engine.specs.Graph.WrittenOut.{end_address, place_at, whole, written_out}
+use Rattle.regex_lite_engine.specs.Graph.Renumbered.{IsRenumbered}
+use Rattle.regex_lite_engine.specs.Nfa.Layout.{whole_layout, whole_table}
+use Rattle.regex_lite_engine.proofs.nfa.write.AddressLemmas.{in_part, addresses}
+use Rattle.regex_lite_engine.proofs.nfa.write.NumberingLemmas.{Numbering, InRow, IsAt, AreAt, Fits, LeadInside, as_many, part_at}
+use Rattle.regex_lite_engine.proofs.nfa.write.NumberedTreeLemmas.{fits_capture, fits_tree}
+use Rattle.regex_lite_engine.proofs.nfa.write.ApartLemmas.{Apart, apart_first, apart_part, apart_get}
+use Rattle.regex_lite_engine.proofs.nfa.write.ApartAddressLemmas.{InPart, each_in_part, apart_addresses}
+use Rattle.regex_lite_engine.proofs.nfa.write.AmongLemmas.{Among, among_part, number_of}
+use Rattle.regex_lite_engine.proofs.nfa.write.ListedAddressLemmas.{listed_tree}
+
+-- the addresses of the whole pattern, the place where the match is complete first
+abbrev whole_addresses : Tree → List Address
+whole_addresses tree = end_address ∷ in_part 0 (addresses (whole tree))
+
+-- numbers stand for the addresses of a list in its order
+abbrev numbering_of : List Address → Numbering
+numbering_of all = record { address = λ n. get_or all n []; end = length all }
+
+row_of : (all before list : List Address) → all ≡ before ++ in_part 0 list
+    → InRow (numbering_of all) (1 ∷ []) (length before) list
+row_of all before [] e = tt
+row_of all before (a ∷ list) e =
+    let rest = in_part 0 list in
+    let so_far = before ++ (1 ∷ a) ∷ [] in
+    let long = ap length e ∙ length-append before ((1 ∷ a) ∷ rest) in
+    let longer = length-append before ((1 ∷ a) ∷ []) in
+    let found = get_or-append_seam before (1 ∷ a) rest [] in
+    let here = ap (λ x. get_or x (length before) []) e ∙ found in
+    let moved = e ∙ sym (append_assoc before ((1 ∷ a) ∷ []) rest) in
+    let later = row_of all so_far list moved in
+    let same : length so_far ≡ length before + 1 = omega (arith, longer) in (
+      (here, omega (arith, long)),
+      subst (λ n. InRow (numbering_of all) (1 ∷ []) n list) same later,
+    )
+
+none_here : (q : ℕ) (place : Place ℕ) → slice_get {X = Place ℕ} [] q ≡ Some place → ⊥
+none_here zero place e = cc
+none_here (suc q) place e = cc
+
+is_at_number : (by : Numbering) (content : Address → Content) (list : List Address)
+    (ps : List (Place ℕ)) → AreAt by content list ps → (q : ℕ) (place : Place ℕ)
+    → slice_get ps q ≡ Some place → IsAt by content (get_or list q []) place
+is_at_number by content [] [] r q place e = absurd (none_here q place e)
+is_at_number by content [] (p ∷ ps) r q place e = absurd r
+is_at_number by content (a ∷ list) [] r q place e = absurd r
+is_at_number by content (a ∷ list) (p ∷ ps) r zero place e =
+    let same : p ≡ place = cc in subst (λ x. IsAt by content a x) same r.0
+is_at_number by content (a ∷ list) (p ∷ ps) r (suc q) place e =
+    is_at_number by content list ps r.1 q place e
+
+leads_inside : (by : Numbering) (arrows : List (Arrow ℕ)) → LeadInside by arrows → (k : ℕ)
+    (arrow : Arrow ℕ) → slice_get arrows k ≡ Some arrow → arrow.to < by.end
+leads_inside by [] r zero arrow e = absurd (cc)
+leads_inside by [] r (suc k) arrow e = absurd (cc)
+leads_inside by (first ∷ arrows) r zero arrow e =
+    let same : first ≡ arrow = cc in subst (λ x. x.to < by.end) same r.0
+leads_inside by (first ∷ arrows) r (suc k) arrow e = leads_inside by arrows r.1 k arrow e
+
+apart_whole : (tree : Tree) → Apart (whole_addresses tree)
+apart_whole tree =
+    let list = addresses (whole tree) in
+    let inner = apart_part 0 list (apart_addresses (whole tree)) in
+    let in_tree = each_in_part 0 list in
+    apart_first end_address (InPart 0) (λ r. omega arith) (in_part 0 list) in_tree inner
+
+listed_whole : (tree : Tree) (a : Address) (place : Place Address)
+    → written_out tree a ≡ Some place → Among a (whole_addresses tree)
+listed_whole tree (zero ∷ []) place e = inl refl
+listed_whole tree (suc zero ∷ a) place e =
+    let inner = listed_tree (whole tree) (1 ∷ []) end_address a place e in
+    inr (among_part 0 a (addresses (whole tree)) inner)
+listed_whole tree a place e = absurd (cc)
+
+module _ (tree : Tree) (regular : IsRegular tree) where
+  abbrev all : List Address
+  all = whole_addresses tree
+
+  abbrev by : Numbering
+  by = numbering_of all
+
+  abbrev content : Address → Content
+  content = place_at (whole tree) (1 ∷ []) end_address
+
+  whole_fits : Fits by content (addresses (whole tree)) (entry (whole tree) (1 ∷ []))
+      (whole_layout tree)
+  whole_fits =
+      let in_row = row_of all (end_address ∷ []) (addresses (whole tree)) refl in
+      let inner = fits_tree by tree regular in
+      let fits = fits_capture by 0 None tree inner (1 ∷ []) end_address 1 0 in
+      fits (refl, omega arith) in_row
+
+  table_is : AreAt by (written_out tree) all (whole_table tree)
+  table_is =
+      let list = addresses (whole tree) in
+      let inner = part_at by (written_out tree) content 0 list (whole_layout tree).0 in
+      ((refl, tt), inner (λ a. refl) whole_fits.1)
+
+  as_long : length (whole_table tree) ≡ length all
+  as_long = as_many by (written_out tree) all (whole_table tree) table_is
+
+  place_is : (q : ℕ) (place : Place ℕ) → slice_get (whole_table tree) q ≡ Some place
+      → IsAt by (written_out tree) (get_or all q []) place
+  place_is = is_at_number by (written_out tree) all (whole_table tree) table_is
+
+  apart_numbers : (p q : ℕ) → p < length (whole_table tree) → q < length (whole_table tree)
+      → by.address p ≡ by.address q → p ≡ q
+  apart_numbers p q l m same =
+      let less_p : p < length all = omega (arith, as_long) in
+      let less_q : q < length all = omega (arith, as_long) in
+      apart_get all (apart_whole tree) p q less_p less_q same
+
+  each_numbered : (a : Address) (place : Place Address) → written_out tree a ≡ Some place
+      → (q : ℕ) × (q < length (whole_table tree)) × (by.address q ≡ a)
+  each_numbered a place e =
+      let number = number_of a all (listed_whole tree a place e) in
+      (number.0, omega (arith, as_long, number.1), number.2)
+
+  arrows_inside : (q : ℕ) (arrows : List (Arrow ℕ)) (k : ℕ) (arrow : Arrow ℕ)
+      → slice_get (whole_table tree) q ≡ Some (with_arrows arrows) → slice_get arrows k ≡ Some arrow
+      → arrow.to < length (whole_table tree)
+  arrows_inside q arrows k arrow e f =
+      let less = leads_inside by arrows (place_is q (with_arrows arrows) e).1 k arrow f in
+      omega (arith, as_long, less)
+
+  pub renumbered : IsRenumbered tree (whole_table tree) (whole_layout tree).1
+  renumbered = record {
+    name = by.address;
+    starts = whole_fits.0.0;
+    start_inside = omega (arith, as_long, whole_fits.0.1);
+    apart = apart_numbers;
+    alike = λ q place e. (place_is q place e).0;
+    each = each_numbered;
+    inside = arrows_inside;
+  }

@@ -1,0 +1,26 @@
+-- What a part of a list of trees takes, beside what is behind it.
+use Rattle.std.proofs.Common.{◌≡◌, ◌≤◌, ◌<◌, ℕ, zero, suc, ◌+◌, List, [], ◌∷◌, map, drop, length, get_or, ap, arith}
+use Rattle.regex_lite_syntax.specs.declared.hir.Hir.{Hir}
+use Rattle.regex_lite_syntax.specs.Tree.{trees}
+use Rattle.regex_lite_syntax.specs.Tree.Views.{tree_of}
+use Rattle.regex_lite_syntax.specs.Tree.Properties.{greatest_index, greatest_index_in}
+use Rattle.regex_lite_engine.specs.Graph.PlaceCounts.{places, places_in}
+
+pub part_places : (parts : List Hir) (i : ℕ) (part : Hir) → i < length parts
+    → part ≡ get_or parts i part
+    → places (tree_of part) + places_in (trees (map tree_of (drop (suc i) parts)))
+    ≤ places_in (trees (map tree_of parts))
+part_places [] i part inside is = absurd (omega arith)
+part_places (a ∷ rest) zero part inside is =
+    let same = ap (λ hir. places (tree_of hir)) is in omega (arith, same)
+part_places (a ∷ rest) (suc i) part inside is =
+    omega (arith, part_places rest i part (omega arith) is)
+
+pub part_index : (parts : List Hir) (i : ℕ) (part : Hir) → i < length parts
+    → part ≡ get_or parts i part
+    → greatest_index (tree_of part) ≤ greatest_index_in (trees (map tree_of parts))
+part_index [] i part inside is = absurd (omega arith)
+part_index (a ∷ rest) zero part inside is =
+    let same = ap (λ hir. greatest_index (tree_of hir)) is in omega (arith, same)
+part_index (a ∷ rest) (suc i) part inside is =
+    omega (arith, part_index rest i part (omega arith) is)

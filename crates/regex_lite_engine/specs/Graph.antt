@@ -1,0 +1,9 @@
+-- The written-out pattern, its ways and its size, and the graph that stands for it.
+pub mod Places
+pub mod Ways
+pub mod Addresses
+pub mod Repetitions
+pub mod WrittenOut
+pub mod PlaceCounts
+pub mod Size
+pub mod Renumbered

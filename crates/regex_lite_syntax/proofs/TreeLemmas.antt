@@ -1,0 +1,40 @@
+-- The equations of `tree_of`, and the trees of a list from some index on.
+use Rattle.std.proofs.Common.{◌≡◌, ℕ, ◌+◌, ◌<◌, Bool, Option, option_map, List, ◌∷◌, drop, length, get_or, map, Vec, Box, Global, String, sym, ap, ◌∙◌}
+use Rattle.std.proofs.lemmas.List.{drop_more}
+use Rattle.regex_lite_syntax.specs.Tree.{Tree, Trees, trees, more, repetition, capture, concat, alternation}
+use Rattle.regex_lite_syntax.specs.Tree.Views.{text_of_string, tree_of, node_tree}
+use Rattle.regex_lite_syntax.specs.declared.hir.Hir.{Hir, Hir-F, fold-roll-Hir}
+use Rattle.regex_lite_syntax.specs.declared.hir.Hir.TheVariants.{Repetition, rolls-Repetition, Capture, rolls-Capture, Concat, rolls-Concat, Alternation, rolls-Alternation}
+
+pub tree_of-Repetition : (least : ℕ) (most : Option ℕ) (greedy : Bool) (body : Box Hir Global)
+    → tree_of (Repetition least most greedy body) ≡ repetition least most greedy (tree_of body.value)
+tree_of-Repetition least most greedy body =
+    ap tree_of (sym (rolls-Repetition least most greedy body))
+    ∙ fold-roll-Hir Tree node_tree (Hir-F.Repetition least most greedy body)
+
+pub tree_of-Capture : (index : ℕ) (name : Option (String Global)) (body : Box Hir Global)
+    → tree_of (Capture index name body)
+    ≡ capture index (option_map text_of_string name) (tree_of body.value)
+tree_of-Capture index name body =
+    ap tree_of (sym (rolls-Capture index name body))
+    ∙ fold-roll-Hir Tree node_tree (Hir-F.Capture index name body)
+
+pub tree_of-Concat : (parts : Vec Hir Global)
+    → tree_of (Concat parts) ≡ concat (trees (map tree_of parts.items))
+tree_of-Concat parts =
+    ap tree_of (sym (rolls-Concat parts)) ∙ fold-roll-Hir Tree node_tree (Hir-F.Concat parts)
+
+pub tree_of-Alternation : (branches : Vec Hir Global)
+    → tree_of (Alternation branches) ≡ alternation (trees (map tree_of branches.items))
+tree_of-Alternation branches =
+    ap tree_of (sym (rolls-Alternation branches))
+    ∙ fold-roll-Hir Tree node_tree (Hir-F.Alternation branches)
+
+-- the trees that these stand for
+abbrev pub trees_of : List Hir → Trees
+trees_of hirs = trees (map tree_of hirs)
+
+pub trees_more : (hirs : List Hir) (i : ℕ) (hir : Hir) → i < length hirs → hir ≡ get_or hirs i hir
+    → trees_of (drop i hirs) ≡ more (tree_of hir) (trees_of (drop (i + 1) hirs))
+trees_more hirs i hir inside is =
+    ap trees_of (drop_more hirs i hir inside ∙ ap (λ first. first ∷ drop (i + 1) hirs) (sym is))

@@ -1,0 +1,133 @@
+-- What the parser reads of a group's head is a step of the machine, and where it refuses there is none.
+use Rattle.std.proofs.Common.{inl, inr, ◌≡◌, ◌≢◌, refl, sym, ◌∙◌, ap, subst, ◌+◌, [], ◌∷◌, ◌++◌, Some, None, Contains, String, Vec, Global, length}
+use Rattle.std.specs.Prelude.{max as greatest}
+use Rattle.regex_lite_syntax.specs.declared.flags.Flags.{Flags}
+use Rattle.regex_lite_syntax.specs.declared.parse.Parser.{Parser}
+use Rattle.regex_lite_syntax.specs.Text.{Text, Begins, the}
+use Rattle.regex_lite_syntax.specs.Grammar.Gaps.{Gap, WholeGap}
+use Rattle.regex_lite_syntax.specs.Grammar.FlagLetters.{FlagLetters}
+use Rattle.regex_lite_syntax.specs.Parser.FlagRuns.{EndedFlags}
+use Rattle.regex_lite_syntax.specs.Grammar.GroupNames.{NameWritten, NameOpening, Named, NamesDiffer}
+use Rattle.regex_lite_syntax.specs.Grammar.Heads.{non_capturing, capturing, numbered_on, named_on, inside, Head, plain, Directive, sets}
+use Rattle.regex_lite_syntax.specs.Tree.Views.{names_of}
+use Rattle.regex_lite_syntax.specs.Parser.Machine.{State, Step, opened, with_items}
+use Rattle.regex_lite_syntax.specs.Parser.States.{state, StepsTo, CanRead, BeginsCapture, OpensGroup, OpensCapture, Directs}
+use Rattle.regex_lite_syntax.proofs.grammar.NameLemmas.{differ_more, no_second}
+use Rattle.regex_lite_syntax.proofs.grammar.HeadLemmas.{numbered_head, named_head}
+use Rattle.regex_lite_syntax.proofs.machine.OneStepLemmas.{step_once}
+use Rattle.regex_lite_syntax.proofs.machine.StepLemmas.{at_once, step_open, step_named, step_direct, no_flags, no_name, no_empty}
+use Rattle.regex_lite_syntax.proofs.machine.ReadStepLemmas.{fresh_step}
+
+-- a group under flags
+pub reads_head : (p q : Parser) (t begun first rest : Text) (new : Flags) → t ≡ the "(" ∷ begun
+    → Gap p.here.flags.ignore_whitespace begun (the "?" ∷ first)
+    → FlagLetters p.here.flags first (the ":" ∷ rest) new → OpensGroup p q non_capturing new → StepsTo p q t rest
+unfolding state opened
+reads_head p q t begun first rest new e gap letters opens d =
+    let s = state p t d in
+    let level = length s.frames in
+    let into = inside level s.point new rest in
+    let head : Head level s.point into non_capturing = plain begun first rest new e gap letters refl refl in (
+      greatest d (level + 1),
+      fresh_step (step_open s s.point into non_capturing (at_once s.point) head) (opens t rest d) refl,
+    )
+
+pub reads_directive : (p q : Parser) (t begun first rest : Text) (new : Flags) → t ≡ the "(" ∷ begun
+    → Gap p.here.flags.ignore_whitespace begun (the "?" ∷ first) → first ≢ the ")" ∷ rest
+    → FlagLetters p.here.flags first (the ")" ∷ rest) new → Directs p q new → StepsTo p q t rest
+unfolding state with_items
+reads_directive p q t begun first rest new e gap some letters directs d =
+    let s = state p t d in
+    let next = record s.point { rest = rest; flags = new } in
+    let directive : Directive s.point next = sets begun first rest new e gap some letters refl in
+    (d, fresh_step (step_direct s s.point next (at_once s.point) directive) (directs t rest d) refl)
+
+-- a group that is numbered alone
+pub reads_numbered : (p q : Parser) (t rest u : Text) → t ≡ the "(" ∷ rest
+    → WholeGap p.here.flags.ignore_whitespace rest u → (Begins (the "?") u → ⊥) → OpensCapture p q None
+    → StepsTo p q t rest
+unfolding state opened
+reads_numbered p q t rest u e whole none opens d =
+    let s = state p t d in
+    let level = length s.frames in
+    let head = numbered_head level s.point rest u e whole none in
+    (greatest d (level + 1), fresh_step (step_open s s.point _ _ (at_once s.point) head) (opens t rest d) refl)
+
+pub begins_numbered : (p : Parser) (t rest u : Text) → t ≡ the "(" ∷ rest
+    → WholeGap p.here.flags.ignore_whitespace rest u → (Begins (the "?") u → ⊥) → BeginsCapture p t
+unfolding state
+begins_numbered p t rest u e whole none =
+    (None, λ d. let s = state p t d in (_, numbered_head (length s.frames) s.point rest u e whole none))
+
+-- a group with a name, where the parser has first noted the name
+pub reads_named : (p q : Parser) (noted : Vec (String Global) Global) (t begun first rest name : Text)
+    → t ≡ the "(" ∷ begun → WholeGap p.here.flags.ignore_whitespace begun first → Named first rest name
+    → (Contains (names_of p.names.items) name → ⊥)
+    → names_of noted.items ≡ names_of p.names.items ++ name ∷ []
+    → OpensCapture (record p { names = noted }) q (Some name) → StepsTo p q t rest
+unfolding state opened
+reads_named p q noted t begun first rest name e whole named fresh is opens d =
+    let s = state p t d in
+    let level = length s.frames in
+    let into = named_on (numbered_on (inside level s.point s.point.flags rest)) name in
+    let kind = capturing (s.point.groups + 1) (Some name) in
+    let same : state q rest (greatest d (level + 1)) ≡ opened s s.point into kind =
+    opens t rest d ∙ ap (λ names. opened s s.point (record into { names = names }) kind) is in (
+      greatest d (level + 1),
+      (
+        subst (λ x. Step s x) (sym same)
+            (step_named s s.point begun first rest name (at_once s.point) e whole.0 named),
+        λ differ. subst (λ names. NamesDiffer names) (sym (ap (λ (x : State). x.point.names) same))
+            (differ_more s.point.names name differ fresh),
+      ),
+    )
+
+pub begins_named : (p : Parser) (t begun first rest name : Text) → t ≡ the "(" ∷ begun
+    → WholeGap p.here.flags.ignore_whitespace begun first → Named first rest name → BeginsCapture p t
+unfolding state
+begins_named p t begun first rest name e whole named =
+    (Some name, λ d. let s = state p t d in (_, named_head (length s.frames) s.point begun first rest name e whole.0 named))
+
+-- where a name is opened and none follows, nothing can be read
+pub reads_no_name : (p : Parser) (t begun first past : Text) → t ≡ the "(" ∷ begun
+    → WholeGap p.here.flags.ignore_whitespace begun first → NameOpening first past
+    → ((rest name : Text) → NameWritten past rest name → ⊥) → CanRead p t → ⊥
+unfolding state
+reads_no_name p t begun first past e whole opens none can =
+    let s = state p t can.0 in
+    no_name s can.1 s.point begun first past (at_once s.point) e whole opens none can.2
+
+-- nor where the name stands that another group has
+pub reads_no_second : (p : Parser) (t begun first rest name : Text) → t ≡ the "(" ∷ begun
+    → WholeGap p.here.flags.ignore_whitespace begun first → Named first rest name
+    → Contains (names_of p.names.items) name → CanRead p t → ⊥
+unfolding state opened
+reads_no_second p t begun first rest name e whole named twice can =
+    let s = state p t can.0 in
+    let st = step_named s s.point begun first rest name (at_once s.point) e whole.0 named in
+    let same = step_once s can.1 _ can.2 st in
+    no_second s.point.names name twice
+    (subst (λ names. NamesDiffer names) (ap (λ (x : State). x.point.names) same) can.3)
+
+-- nor where past the `?` no name stands and no flags do
+pub reads_no_flags : (p : Parser) (t begun u first : Text) → t ≡ the "(" ∷ begun
+    → WholeGap p.here.flags.ignore_whitespace begun u → u ≡ the "?" ∷ first
+    → ((rest name : Text) → Named u rest name → ⊥)
+    → ((rest : Text) (new : Flags) → EndedFlags p.here.flags first rest new → ⊥) → CanRead p t → ⊥
+unfolding state
+reads_no_flags p t begun u first e whole begins unnamed none can =
+    let s = state p t can.0 in
+    let gap = subst (λ v. WholeGap p.here.flags.ignore_whitespace begun v) begins whole in
+    no_flags s can.1 s.point begun first (at_once s.point) e gap
+    (λ rest name named. unnamed rest name (subst (λ v. Named v rest name) (sym begins) named))
+    (λ rest new letters. none (the ":" ∷ rest) new (record { letters = letters; ends = inl refl }))
+    (λ rest new letters. none (the ")" ∷ rest) new (record { letters = letters; ends = inr refl })) can.2
+
+-- nor where nothing stands there
+pub reads_no_empty : (p : Parser) (t begun u rest : Text) → t ≡ the "(" ∷ begun
+    → WholeGap p.here.flags.ignore_whitespace begun u → u ≡ the "?" ∷ the ")" ∷ rest → CanRead p t → ⊥
+unfolding state
+reads_no_empty p t begun u rest e whole begins can =
+    let s = state p t can.0 in
+    let gap = subst (λ v. WholeGap p.here.flags.ignore_whitespace begun v) begins whole in
+    no_empty s can.1 s.point begun rest (at_once s.point) e gap can.2

@@ -1,0 +1,170 @@
+-- What the parser has come to says of the pattern.
+use Rattle.std.proofs.Common.{inl, inr, ◌≡◌, refl, sym, ◌∙◌, ap, subst, ℕ, ◌+◌, ◌^◌, ◌<◌, ◌≤◌, List, [], map, reverse, length, arith}
+use Rattle.std.proofs.lemmas.List.{length-reverse, length-map}
+use Rattle.regex_lite_syntax.specs.declared.flags.Flags.{Flags}
+use Rattle.regex_lite_syntax.specs.declared.error.ErrorKind.{ErrorKind}
+use Rattle.regex_lite_syntax.specs.declared.error.ErrorKind.TheVariants as kind
+use Rattle.regex_lite_syntax.specs.declared.parse.Parser.{Parser}
+use Rattle.regex_lite_syntax.specs.Text.{Text}
+use Rattle.regex_lite_syntax.specs.Grammar.Gaps.{Gap, WholeGap}
+use Rattle.regex_lite_syntax.specs.Tree.{Tree}
+use Rattle.regex_lite_syntax.specs.Grammar.GroupNames.{NamesDiffer}
+use Rattle.regex_lite_syntax.specs.Grammar.{Grammar, HasTree}
+use Rattle.regex_lite_syntax.specs.Limits.{depth, IsAdmitted, SaysOf, PassesNesting, PassesGroups, NestingRefused, GroupsRefused}
+use Rattle.regex_lite_syntax.specs.Tree.Regular.{IsRegular}
+use Rattle.regex_lite_syntax.specs.Tree.Views.{names_of}
+use Rattle.regex_lite_syntax.specs.Parser.Machine.{LeadsOn, first_state}
+use Rattle.regex_lite_syntax.specs.Parser.States.{frame_of, state, StepsTo, CanRead, BeginsCapture, StepSays, Finishes, EndSays}
+use Rattle.regex_lite_syntax.proofs.grammar.GapLemmas.{gap_to_end}
+use Rattle.regex_lite_syntax.proofs.machine.OneStepLemmas.{step_over_gap, step_past_gap, at_end, leads_step}
+use Rattle.regex_lite_syntax.proofs.machine.StateLemmas.{none_left}
+use Rattle.regex_lite_syntax.proofs.machine.SoundLemmas.{sound}
+use Rattle.regex_lite_syntax.proofs.machine.WholeLemmas.{refuses, grammar_once}
+use Rattle.regex_lite_syntax.proofs.machine.RegularLemmas.{grammar_regular}
+use Rattle.regex_lite_syntax.proofs.machine.GrowthLemmas.{reaches, frames_in_parens, opens_number, more_parens}
+use Rattle.regex_lite_syntax.proofs.machine.DepthLemmas.{head_opens, step_deepest, frames_deep}
+
+-- under these flags the parser has come from the pattern to this text, within the limit
+pub record Reaches (flags : Flags) (nest_limit : ℕ) (pattern : Text) (p : Parser) (rest : Text) : Type 0 where
+  pub deepest : ℕ
+  pub leads : LeadsOn (first_state flags pattern) (state p rest deepest)
+  pub within : deepest ≤ nest_limit
+  pub differ : NamesDiffer (names_of p.names.items)
+
+-- as many frames as open groups
+frames_are : (p : Parser) (t : Text) (d : ℕ) → length (state p t d).frames ≡ length p.below.items
+unfolding state
+frames_are p t d = length-reverse (map frame_of p.below.items) ∙ length-map p.below.items frame_of
+
+-- over a gap and what stands past it
+pub reaches_next : (flags : Flags) (nest_limit : ℕ) (pattern : Text) (p q : Parser) (t u v : Text)
+    → Reaches flags nest_limit pattern p t → WholeGap p.here.flags.ignore_whitespace t u → StepsTo p q u v
+    → length q.below.items ≤ nest_limit → Reaches flags nest_limit pattern q v
+unfolding state
+reaches_next flags nest_limit pattern p q t u v r whole reads shallow =
+    let next = reads r.deepest in
+    let st = step_over_gap (state p t r.deepest) (state q v next.0) u whole next.1.0 in
+    record {
+      deepest = next.0;
+      leads = leads_step r.leads st;
+      within = omega (arith, step_deepest st, frames_are q v next.0, shallow, r.within);
+      differ = next.1.1 r.differ;
+    }
+
+-- where more groups are open than the limit
+pub too_deep : (flags : Flags) (nest_limit : ℕ) (pattern : Text) (p q : Parser) (t u v : Text)
+    → Reaches flags nest_limit pattern p t → WholeGap p.here.flags.ignore_whitespace t u → StepsTo p q u v
+    → nest_limit < length q.below.items → NestingRefused flags nest_limit pattern
+unfolding state
+too_deep flags nest_limit pattern p q t u v r whole reads deep =
+    let next = reads r.deepest in
+    let st = step_over_gap (state p t r.deepest) (state q v next.0) u whole next.1.0 in
+    let l = leads_step r.leads st in
+    let frames = frames_are q v next.0 in
+    record {
+      with_tree = λ tree groups deepest g.
+          inl (omega (arith, frames, deep, frames_deep l, (reaches l g).deepest_reach));
+      without = λ none. omega (arith, frames, deep, frames_in_parens l);
+    }
+
+-- at the end with no group open
+pub reaches_tree : (flags : Flags) (nest_limit : ℕ) (pattern : Text) (p : Parser) (t : Text) (a : Tree)
+    → (r : Reaches flags nest_limit pattern p t) → Gap p.here.flags.ignore_whitespace t [] → Finishes p a
+    → Grammar flags pattern a p.groups r.deepest
+unfolding state
+reaches_tree flags nest_limit pattern p t a r gap finishes =
+    let f = finishes t r.deepest in
+    let s = state p t r.deepest in
+    subst (λ b. Grammar flags pattern b p.groups r.deepest) (sym f.1) (sound flags pattern s r.leads f.0 gap r.differ)
+
+pub admitted : (flags : Flags) (nest_limit : ℕ) (pattern : Text) (p : Parser) (t : Text) (a : Tree)
+    → Reaches flags nest_limit pattern p t → Gap p.here.flags.ignore_whitespace t [] → p.groups < 2 ^ 32
+    → Finishes p a → (nest_limit < depth a → ⊥) → IsAdmitted flags nest_limit pattern a × IsRegular a
+admitted flags nest_limit pattern p t a r gap few finishes shallow =
+    let g = reaches_tree flags nest_limit pattern p t a r gap finishes in
+    ((p.groups, r.deepest, g, within, λ many. omega (arith, many, few)), grammar_regular flags pattern a p.groups r.deepest g)
+  where
+    within : PassesNesting nest_limit a r.deepest → ⊥
+    within (inl deep) = omega (arith, deep, r.within)
+    within (inr deep) = shallow deep
+
+no_levels : {X Y : Type 0} (f : X → Y) (xs : List X) → reverse (map f xs) ≡ [] → xs ≡ []
+no_levels f xs e =
+    none_left xs (sym (length-map xs f) ∙ sym (length-reverse (map f xs)) ∙ ap length e)
+
+-- with a group open there is no tree
+open_refused : (flags : Flags) (nest_limit : ℕ) (pattern : Text) (p : Parser) (t : Text)
+    → Reaches flags nest_limit pattern p t → Gap p.here.flags.ignore_whitespace t [] → (p.below.items ≡ [] → ⊥)
+    → HasTree flags pattern → ⊥
+unfolding state
+open_refused flags nest_limit pattern p t r gap open_groups =
+    let s = state p t r.deepest in
+    refuses flags pattern s r.leads (λ q st. at_end s q gap st)
+    (λ none _. open_groups (no_levels frame_of p.below.items none))
+
+-- and with a tree that is too deep no other
+tree_refused : (flags : Flags) (nest_limit : ℕ) (pattern : Text) (a : Tree) (groups deepest : ℕ)
+    → Grammar flags pattern a groups deepest → nest_limit < depth a → NestingRefused flags nest_limit pattern
+tree_refused flags nest_limit pattern a groups deepest g deep = record {
+  with_tree = λ tree groups' deepest' h.
+      let same = grammar_once flags pattern a tree groups groups' deepest deepest' g h in
+      inr (subst (λ b. nest_limit < depth b) same.0 deep);
+  without = λ none. absurd (none (a, (groups, deepest, g)));
+}
+
+pub end_says : (flags : Flags) (nest_limit : ℕ) (pattern : Text) (p : Parser) (t : Text) (k : ErrorKind)
+    → Reaches flags nest_limit pattern p t → Gap p.here.flags.ignore_whitespace t [] → EndSays p nest_limit k
+    → SaysOf flags nest_limit pattern k
+end_says flags nest_limit pattern p t kind.Syntax r gap d = open_refused flags nest_limit pattern p t r gap d
+end_says flags nest_limit pattern p t kind.Nesting r gap d =
+    let g = reaches_tree flags nest_limit pattern p t d.0 r gap d.1 in
+    tree_refused flags nest_limit pattern d.0 p.groups r.deepest g d.2
+end_says flags nest_limit pattern p t kind.Memory r gap d = tt
+end_says flags nest_limit pattern p t kind.Groups r gap d = absurd d
+end_says flags nest_limit pattern p t kind.Size r gap d = absurd d
+end_says flags nest_limit pattern p t kind.Places r gap d = absurd d
+end_says flags nest_limit pattern p t kind.Slots r gap d = absurd d
+end_says flags nest_limit pattern p t kind.Replace r gap d = absurd d
+
+-- before the end with nothing to be read, there is no tree either
+stuck_refused : (flags : Flags) (nest_limit : ℕ) (pattern : Text) (p : Parser) (t u : Text)
+    → Reaches flags nest_limit pattern p t → WholeGap p.here.flags.ignore_whitespace t u → (u ≡ [] → ⊥)
+    → (CanRead p u → ⊥) → HasTree flags pattern → ⊥
+unfolding state
+stuck_refused flags nest_limit pattern p t u r whole more stuck has =
+    let s = state p t r.deepest in
+    let verbose = p.here.flags.ignore_whitespace in
+    refuses flags pattern s r.leads
+    (λ q st. stuck (r.deepest, q, step_past_gap s q u whole st, (reaches (leads_step r.leads st) has.1.2).names_differ))
+    (λ _ gap. more (gap_to_end verbose t u whole gap)) has
+
+-- where a further group can't be numbered
+number_refused : (flags : Flags) (nest_limit : ℕ) (pattern : Text) (p : Parser) (t u : Text)
+    → Reaches flags nest_limit pattern p t → WholeGap p.here.flags.ignore_whitespace t u
+    → PassesGroups (p.groups + 1) → BeginsCapture p u → GroupsRefused flags pattern
+unfolding state
+number_refused flags nest_limit pattern p t u r whole many capture =
+    let s = state p t r.deepest in
+    let here = (state p u r.deepest).point in
+    let head = capture.1 r.deepest in
+    let begun = head_opens head.1 in
+    let more = more_parens s here begun.0 r.leads (whole.0, refl) begun.1 in
+    record {
+      with_tree = λ tree groups deepest g.
+          let number = opens_number s here head.0 r.leads (whole.0, refl) head.1 g in omega (arith, many, number);
+      without = λ none. omega (arith, many, more.1);
+    }
+
+pub step_says : (flags : Flags) (nest_limit : ℕ) (pattern : Text) (p : Parser) (t u : Text) (k : ErrorKind)
+    → Reaches flags nest_limit pattern p t → WholeGap p.here.flags.ignore_whitespace t u → (u ≡ [] → ⊥)
+    → StepSays p u k → SaysOf flags nest_limit pattern k
+step_says flags nest_limit pattern p t u kind.Syntax r whole more d =
+    stuck_refused flags nest_limit pattern p t u r whole more d
+step_says flags nest_limit pattern p t u kind.Groups r whole more d =
+    number_refused flags nest_limit pattern p t u r whole d.0 d.1
+step_says flags nest_limit pattern p t u kind.Memory r whole more d = tt
+step_says flags nest_limit pattern p t u kind.Nesting r whole more d = absurd d
+step_says flags nest_limit pattern p t u kind.Size r whole more d = absurd d
+step_says flags nest_limit pattern p t u kind.Places r whole more d = absurd d
+step_says flags nest_limit pattern p t u kind.Slots r whole more d = absurd d
+step_says flags nest_limit pattern p t u kind.Replace r whole more d = absurd d

@@ -1,0 +1,23 @@
+-- The trees of items that are no groups.
+use Rattle.std.proofs.Common.{◌≡◌, sym, subst, ℕ, true, IsTrue, MatchBool}
+use Rattle.std.proofs.lemmas.Bool.{and_from}
+use Rattle.regex_lite_syntax.specs.declared.flags.Flags.{Flags}
+use Rattle.regex_lite_syntax.specs.declared.class.Class.{Class}
+use Rattle.regex_lite_syntax.specs.Characters.{is_letter}
+use Rattle.regex_lite_syntax.specs.Sets.{Set, just, case_closure}
+use Rattle.regex_lite_syntax.specs.Ranges.{AreRunsOf}
+use Rattle.regex_lite_syntax.specs.Grammar.Escapes.{one}
+use Rattle.regex_lite_syntax.specs.Tree.{Tree, character, class}
+use Rattle.regex_lite_syntax.specs.Grammar.Atoms.{IsClassOf, PrimitiveTree}
+
+-- a class with the runs of a set is that set
+pub class_of : (s : Set) (set : Class) (a : Tree) → AreRunsOf set.ranges.items s → a ≡ class set.ranges.items
+    → IsClassOf s a
+class_of s set a are tree = (set.ranges.items, are, tree)
+
+-- under `i` a letter is the class of its two cases
+pub both_cases : (flags : Flags) (c : ℕ) (a : Tree) → flags.case_insensitive ≡ true → IsTrue (is_letter c)
+    → IsClassOf (case_closure (just c)) a → PrimitiveTree flags (one c) a
+both_cases flags c a folds letter is_class =
+    subst (λ b. MatchBool b (IsClassOf (case_closure (just c)) a) (a ≡ character c))
+    (sym (and_from flags.case_insensitive (is_letter c) folds letter)) is_class

@@ -1,0 +1,4 @@
+-- lemmas that several proofs here share
+pub mod ClassItemLemmas
+pub mod ClassOpeningLemmas
+pub mod ClassSetLemmas

@@ -1,0 +1,4 @@
+-- lemmas that several proofs here share
+pub mod FlagRunLemmas
+pub mod SliceLemmas
+pub mod WholeFlagLemmas

@@ -1,0 +1,149 @@
+-- Runs of flag letters, and what they say of a run that begins there.
+use Rattle.std.proofs.Common.{inl, inr, ◌≡◌, refl, sym, ◌∙◌, ap, subst, ℕ, Bool, true, false, ◌||◌, ◌==◌, [], ◌∷◌, ◌++◌, IsTrue, codes, append_assoc}
+use Rattle.std.proofs.lemmas.Bool.{both_ways, and_parts, and_from, or_parts, or_from, or_cases, not-true, not_from_false, eqb-true, eqb-false, ne_eqb}
+use Rattle.std.proofs.lemmas.List.Folds.{list_any-append}
+use Rattle.regex_lite_syntax.specs.declared.flags.Flags.{Flags}
+use Rattle.regex_lite_syntax.specs.Text.{Text, Spelled, AllPass, the}
+use Rattle.regex_lite_syntax.specs.Characters.{is_one_of}
+use Rattle.regex_lite_syntax.specs.Grammar.FlagLetters.{is_flag_letter, with_flag, with_flags, all_differ}
+use Rattle.regex_lite_syntax.specs.Parser.FlagRuns.{EndsRun, LetterRun}
+use Rattle.regex_lite_syntax.proofs.ListLemmas.{same_head, same_tail}
+use Rattle.regex_lite_syntax.proofs.grammar.FlagLetterLemmas.{word_once}
+
+-- what is read with one more letter
+pub all_pass_more : (kind : ℕ → Bool) (cs : Text) (c : ℕ) → AllPass kind cs → IsTrue (kind c) → AllPass kind (cs ++ c ∷ [])
+all_pass_more kind [] c all here = (here, tt)
+all_pass_more kind (d ∷ cs) c all here = (all.0, all_pass_more kind cs c all.1 here)
+
+all_pass_middle : (kind : ℕ → Bool) (cs : Text) (c : ℕ) (ds : Text) → AllPass kind (cs ++ c ∷ ds) → IsTrue (kind c)
+all_pass_middle kind [] c ds all = all.0
+all_pass_middle kind (d ∷ cs) c ds all = all_pass_middle kind cs c ds all.1
+
+pub with_flags_more : (set : Bool) (cs : Text) (c : ℕ) (flags : Flags)
+    → with_flags set (cs ++ c ∷ []) flags ≡ with_flag set c (with_flags set cs flags)
+with_flags_more set [] c flags = refl
+with_flags_more set (d ∷ cs) c flags = with_flags_more set cs c (with_flag set d flags)
+
+-- whether a character stands in a text that is followed by another
+pub one_of_both : (cs ds : Text) (c : ℕ) → is_one_of (cs ++ ds) c ≡ (is_one_of cs c || is_one_of ds c)
+one_of_both cs ds c = list_any-append (λ d. d == c) cs ds
+
+sym_false : (c d : ℕ) → (c == d) ≡ false → (d == c) ≡ false
+sym_false c d e = ne_eqb d c (λ h. eqb-false c d e (sym h))
+
+differ_one_more : (cs : Text) (c : ℕ) → IsTrue (all_differ cs) → is_one_of cs c ≡ false
+    → IsTrue (all_differ (cs ++ c ∷ []))
+differ_one_more [] c differ none = refl
+differ_one_more (d ∷ cs) c differ none =
+    let parts = and_parts _ _ differ in
+    let absent = or_parts (d == c) (is_one_of cs c) none in
+    let others = or_from (is_one_of cs d) (c == d || false) (not-true _ parts.0) (or_from (c == d) false (sym_false d c absent.0) refl) in
+    and_from _ _ (not_from_false _ (one_of_both cs (c ∷ []) d ∙ others)) (differ_one_more cs c parts.1 absent.1)
+
+pub differ_more : (before read : Text) (c : ℕ) → IsTrue (all_differ (before ++ read)) → is_one_of before c ≡ false
+    → is_one_of read c ≡ false → IsTrue (all_differ (before ++ (read ++ c ∷ [])))
+differ_more before read c differ none none_read =
+    let absent = one_of_both before read c ∙ or_from (is_one_of before c) (is_one_of read c) none none_read in
+    rw (← append_assoc) (differ_one_more (before ++ read) c differ absent)
+
+-- and a character that stands again
+differ_middle : (cs ds : Text) (c : ℕ) → IsTrue (all_differ (cs ++ c ∷ ds)) → is_one_of cs c ≡ false
+differ_middle [] ds c differ = refl
+differ_middle (d ∷ cs) ds c differ =
+    let parts = and_parts _ _ differ in
+    let absent = or_parts (is_one_of cs d) _ (sym (one_of_both cs (c ∷ ds) d) ∙ not-true _ parts.0) in
+    let here = or_parts (c == d) _ absent.1 in
+    or_from (d == c) (is_one_of cs c) (sym_false c d here.0) (differ_middle cs ds c parts.1)
+
+-- no flag letter ends a run
+ends_no_letter : (c : ℕ) → IsTrue (is_one_of (codes "-:)") c) → is_flag_letter c ≡ false
+ends_no_letter c ends =
+    elim (or_cases (the "-" == c) _ ends) [
+      | inl e ↦ same (the "-") refl e
+      | inr other ↦ elim (or_cases (the ":" == c) _ other) [
+        | inl e ↦ same (the ":") refl e
+        | inr last ↦ elim (or_cases (the ")" == c) _ last) [
+          | inl e ↦ same (the ")") refl e
+          | inr none ↦ absurd (both_ways false refl none)
+        ]
+      ]
+    ]
+  where
+    same : (d : ℕ) → is_flag_letter d ≡ false → (d == c) ≡ true → is_flag_letter c ≡ false
+    same d other e = subst (λ x. is_flag_letter x ≡ false) (eqb-true d c e) other
+
+-- a run goes on past letters that have been read
+goes_on : (read letters t u rest : Text) → Spelled read t u → AllPass is_flag_letter read → Spelled letters t rest
+    → EndsRun rest → (more : Text) × (letters ≡ read ++ more) × Spelled more u rest
+goes_on [] letters t u rest p all q ends = (letters, refl, subst (λ v. Spelled letters v rest) p q)
+goes_on (c ∷ read) [] t u rest p all q ends =
+    let end = subst (λ v. EndsRun v) (sym q ∙ p.1) ends in absurd (both_ways (is_flag_letter c) (ends_no_letter c end) all.0)
+goes_on (c ∷ read) (d ∷ letters) t u rest p all q ends =
+    let same = sym q.1 ∙ p.1 in
+    let from = subst (λ v. Spelled letters v rest) (same_tail same) q.2 in
+    let past = goes_on read letters p.0 u rest p.2 all.1 from ends in
+    (past.0, cc (same_head same, past.1), past.2)
+
+-- no run goes on past the end of the pattern
+pub no_run_end : (before read letters t u rest : Text) → Spelled read t u → AllPass is_flag_letter read → u ≡ []
+    → LetterRun before letters t rest → ⊥
+no_run_end before read letters t u rest p all none run =
+    let past = goes_on read letters t u rest p all run.written run.ends in at_end past.0 past.2
+  where
+    at_end : (more : Text) → Spelled more u rest → ⊥
+    at_end [] e = subst (λ v. EndsRun v) (sym e ∙ none) run.ends
+    at_end (c ∷ more) e = cc (none, e.1)
+
+-- nor past a character that is no flag letter and ends no run
+pub no_run_other : (before read letters t u rest : Text) (c : ℕ) (v : Text) → Spelled read t u
+    → AllPass is_flag_letter read → u ≡ c ∷ v → is_flag_letter c ≡ false → is_one_of (codes "-:)") c ≡ false
+    → LetterRun before letters t rest → ⊥
+no_run_other before read letters t u rest c v p all here no_flag no_end run =
+    let past = goes_on read letters t u rest p all run.written run.ends in at_other past.0 past.1 past.2
+  where
+    at_other : (more : Text) → letters ≡ read ++ more → Spelled more u rest → ⊥
+    at_other [] is e = both_ways _ no_end (subst (λ w. EndsRun w) (sym e ∙ here) run.ends)
+    at_other (d ∷ more) is e =
+        let passes = all_pass_middle is_flag_letter read d more (subst (λ w. AllPass is_flag_letter w) is run.all) in
+        let same = same_head (sym e.1 ∙ here) in
+        both_ways (is_flag_letter c) no_flag (subst (λ x. IsTrue (is_flag_letter x)) same passes)
+
+-- nor past a letter that stands before
+pub no_run_twice : (before read letters t u rest : Text) (c : ℕ) (v : Text) → Spelled read t u
+    → AllPass is_flag_letter read → u ≡ c ∷ v → IsTrue (is_flag_letter c)
+    → IsTrue (is_one_of before c || is_one_of read c) → LetterRun before letters t rest → ⊥
+no_run_twice before read letters t u rest c v p all here is_letter either run =
+    let past = goes_on read letters t u rest p all run.written run.ends in at_letter past.0 past.1 past.2
+  where
+    at_letter : (more : Text) → letters ≡ read ++ more → Spelled more u rest → ⊥
+    at_letter [] is e = both_ways _ (ends_no_letter c (subst (λ w. EndsRun w) (sym e ∙ here) run.ends)) is_letter
+    at_letter (d ∷ more) is e =
+        let again = is ∙ ap (λ x. read ++ x ∷ more) (same_head (sym e.1 ∙ here)) in
+        let parts : before ++ letters ≡ (before ++ read) ++ c ∷ more =
+        rw append_assoc (ap (λ w. before ++ w) again) in
+        both_ways _ (differ_middle (before ++ read) more c (subst (λ w. IsTrue (all_differ w)) parts run.differ)) (one_of_both before read c ∙ either)
+
+-- what ends a run
+record RunEnd (u : Text) : Type 0 where
+  first : ℕ
+  past : Text
+  is : u ≡ first ∷ past
+  ends : IsTrue (is_one_of (codes "-:)") first)
+
+run_end : (u : Text) → EndsRun u → RunEnd u
+run_end [] ends = absurd ends
+run_end (c ∷ u) ends = record { first = c; past = u; is = refl; ends = ends }
+
+-- a run from one place is one
+pub run_once : (before before' letters letters' t u u' : Text) → LetterRun before letters t u
+    → LetterRun before' letters' t u' → (letters ≡ letters') × (u ≡ u')
+run_once before before' letters letters' t u u' run run' =
+    let e = run_end u run.ends in
+    let e' = run_end u' run'.ends in
+    let p = subst (λ v. Spelled letters t v) e.is run.written in
+    let p' = subst (λ v. Spelled letters' t v) e'.is run'.written in
+    let no = ends_no_letter e.first e.ends in
+    let no' = ends_no_letter e'.first e'.ends in
+    let same =
+    word_once is_flag_letter letters letters' t e.first e'.first e.past e'.past no no' p p' run.all run'.all in
+    (same.0, cc (e.is, e'.is, same.1, same.2))

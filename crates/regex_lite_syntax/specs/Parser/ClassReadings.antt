@@ -1,0 +1,105 @@
+-- What the readers of a class give, as what the grammar gives.
+use Rattle.std.specs.Prelude.{◌≡◌, ◌≤◌, ℕ, Bool, false, nat_lt, List, [], ◌∷◌, IsTrue, codes}
+use Rattle.regex_lite_syntax.specs.declared.class.named.NamedSet.{NamedSet}
+use Rattle.regex_lite_syntax.specs.declared.class.named.NamedSet.TheVariants.{Alnum, Alpha, Ascii, Blank, Cntrl, Digit, Graph, Lower, Print, Punct, Space, Upper, Word, Xdigit}
+use Rattle.regex_lite_syntax.specs.declared.parse.bracket.item.Element.{Element}
+use Rattle.regex_lite_syntax.specs.declared.parse.bracket.item.Element.TheVariants as elements
+use Rattle.regex_lite_syntax.specs.declared.parse.bracket.item.Item.{Item}
+use Rattle.regex_lite_syntax.specs.declared.parse.bracket.item.Item.TheVariants as items
+use Rattle.regex_lite_syntax.specs.declared.parse.bracket.opening.Opening.{Opening}
+use Rattle.regex_lite_syntax.specs.Text.{Text, Begins, the, ◌∈◌}
+use Rattle.regex_lite_syntax.specs.Grammar.Gaps.{WholeGap}
+use Rattle.regex_lite_syntax.specs.Sets.{Set, just, span}
+use Rattle.regex_lite_syntax.specs.Grammar.Escapes.{Primitive, one, some_of, look_at}
+use Rattle.regex_lite_syntax.specs.Parser.Readings.{named_or_not}
+use Rattle.regex_lite_syntax.specs.Grammar.Classes.{ClassElement, NamedClass, ClassItems, Takes, Dashes, FirstBracket}
+
+-- what an element is in the grammar
+abbrev pub element_primitive : Element → Primitive
+element_primitive (elements.Char c) = one c
+element_primitive (elements.Set set negated) = some_of (named_or_not set negated)
+
+-- a primitive that a class may have: a look is none
+abbrev pub IsElement : Primitive → Type 0
+IsElement (look_at look) = ⊥
+IsElement _ = Unit {0}
+
+-- its set
+abbrev pub element_set : Element → Set
+element_set (elements.Char c) = just c
+element_set (elements.Set set negated) = named_or_not set negated
+
+-- the set of an item
+abbrev pub item_set : Item → Set
+item_set (items.Alone element) = element_set element
+item_set (items.Range start end) = span start end
+
+-- a doubled `&`, `-` or `~`
+abbrev pub BeginsOperator : Text → Type 0
+BeginsOperator [] = ⊥
+BeginsOperator (c ∷ t) = IsTrue (c ∈ "&-~") × Begins c t
+
+-- the end of a range that begins with this primitive, and the set of the range
+pub record RangeTo (verbose : Bool) (first : Primitive) (t rest : Text) (s : Set) : Type 0 where
+  pub start : ℕ
+  pub end : ℕ
+  pub starts : first ≡ one start
+  pub ends : ClassElement verbose t rest (one end)
+  pub ordered : start ≤ end
+  pub set_is : s ≡ span start end
+
+-- past a part no more is left than a gap, or a dash with its gaps
+pub data EndsOpen (verbose : Bool) (t : Text) : Type 0 where
+  at_once : WholeGap verbose t [] → EndsOpen verbose t
+  past_dash : (past : Text) → WholeGap verbose t (the "-" ∷ past) → WholeGap verbose past []
+      → EndsOpen verbose t
+
+-- some items follow, and the bracket that closes the class
+abbrev pub HasItems : (verbose : Bool) → Text → Type 0
+HasItems verbose t =
+    (s : Set) × (sets : List Set) × (rest : Text) × ClassItems verbose (s ∷ sets) t rest
+
+-- the text begins with no character of this kind
+abbrev pub Lacks : (kind : ℕ → Bool) → Text → Type 0
+Lacks kind [] = Unit {0}
+Lacks kind (c ∷ t) = kind c ≡ false
+
+-- the name of each set that has one
+abbrev pub set_name : NamedSet → Text
+set_name Alnum = codes "alnum"
+set_name Alpha = codes "alpha"
+set_name Ascii = codes "ascii"
+set_name Blank = codes "blank"
+set_name Cntrl = codes "cntrl"
+set_name Digit = codes "digit"
+set_name Graph = codes "graph"
+set_name Lower = codes "lower"
+set_name Print = codes "print"
+set_name Punct = codes "punct"
+set_name Space = codes "space"
+set_name Upper = codes "upper"
+set_name Word = codes "word"
+set_name Xdigit = codes "xdigit"
+
+-- a set stands there by its name, as `[:alpha:]`
+abbrev pub HasNamedSet : Text → Type 0
+HasNamedSet t = (rest : Text) × (negated : Bool) × (set : NamedSet) × NamedClass t rest negated set
+
+-- this element stands there so
+abbrev pub IsNamedSet : (t rest : Text) → Element → Type 0
+IsNamedSet t rest (elements.Char c) = ⊥
+IsNamedSet t rest (elements.Set set negated) = NamedClass t rest negated set
+
+-- what a class begins with, from its bracket on
+pub record ClassOpening (verbose : Bool) (t rest : Text) (opening : Opening) : Type 0 where
+  pub opened : Text
+  pub first : Text
+  pub past_caret : Text
+  pub past_dashes : Text
+  pub dashes : ℕ
+  pub opens : t ≡ the "[" ∷ opened
+  pub gap : WholeGap verbose opened first
+  pub negation : Takes verbose (the "^") first past_caret opening.negated
+  pub dashed : Dashes verbose dashes past_caret past_dashes
+  pub has_dash : opening.dash ≡ nat_lt 0 dashes
+  pub bracketed : FirstBracket verbose dashes past_dashes rest opening.bracket

@@ -1,0 +1,18 @@
+-- Ranges of characters by their ends, of which there may be none.
+use Rattle.std.specs.Prelude.{ℕ, false, Option, Some, None, unwrap_or}
+use Rattle.regex_lite_syntax.specs.declared.class.ClassRange.{ClassRange}
+use Rattle.regex_lite_syntax.specs.Sets.{Set, span}
+
+-- the range with these ends
+abbrev pub range_of : (ends : ℕ × ℕ) → ClassRange
+range_of ends = record { start = ends.0; end = ends.1 }
+
+-- the characters from the one to the other, where there are both
+abbrev pub span_of : (start end : Option ℕ) → Set
+span_of (Some start) (Some end) = span start end
+span_of (Some start) None = λ c. false
+span_of None end = λ c. false
+
+-- where to start from: past all characters, where there is no start
+abbrev pub start_of : Option ℕ → ℕ
+start_of start = unwrap_or start 0x110000

@@ -1,0 +1,26 @@
+-- What the readers give, as what the grammar gives.
+use Rattle.std.specs.Prelude.{Bool, if◌then◌else◌}
+use Rattle.regex_lite_syntax.specs.declared.parse.escape.Primitive.{Primitive as Read}
+use Rattle.regex_lite_syntax.specs.declared.parse.escape.Primitive.TheVariants as read
+use Rattle.regex_lite_syntax.specs.declared.parse.escape.Meaning.{Meaning}
+use Rattle.regex_lite_syntax.specs.declared.parse.escape.Meaning.TheVariants as meaning
+use Rattle.regex_lite_syntax.specs.declared.class.named.NamedSet.{NamedSet}
+use Rattle.regex_lite_syntax.specs.Sets.{Set, complement}
+use Rattle.regex_lite_syntax.specs.NamedSets.{members}
+use Rattle.regex_lite_syntax.specs.Grammar.Escapes.{Primitive, one, some_of, look_at, EscapeKind, gives, word_boundary, hexadecimal, refused}
+
+-- the set with a name, or all other characters
+abbrev pub named_or_not : NamedSet → (negated : Bool) → Set
+named_or_not set negated = if negated then complement (members set) else members set
+
+abbrev pub primitive_of : Read → Primitive
+primitive_of (read.Char c) = one c
+primitive_of (read.Set set negated) = some_of (named_or_not set negated)
+primitive_of (read.Look look) = look_at look
+
+-- what the character after a backslash asks for
+abbrev pub escape_kind_of : Meaning → EscapeKind
+escape_kind_of (meaning.Gives primitive) = gives (primitive_of primitive)
+escape_kind_of meaning.WordBoundary = word_boundary
+escape_kind_of (meaning.Hexadecimal digits) = hexadecimal digits
+escape_kind_of meaning.Refused = refused

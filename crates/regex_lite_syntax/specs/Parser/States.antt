@@ -1,0 +1,143 @@
+-- The parser as a state of the machine, and what each of its steps does to it.
+use Rattle.std.specs.Prelude.{◌≡◌, ℕ, ◌+◌, ◌<◌, ◌≤◌, List, [], ◌∷◌, ◌++◌, Option, map, option_map, reverse, length, drop}
+use Rattle.std.specs.Prelude.{max as greatest}
+use Rattle.regex_lite_syntax.specs.declared.error.Error.{Error}
+use Rattle.regex_lite_syntax.specs.declared.error.ErrorKind.{ErrorKind}
+use Rattle.regex_lite_syntax.specs.declared.error.ErrorKind.TheVariants.{Syntax, Nesting, Groups, Memory}
+use Rattle.regex_lite_syntax.specs.declared.flags.Flags.{Flags}
+use Rattle.regex_lite_syntax.specs.declared.parse.level.OpenGroup.{OpenGroup}
+use Rattle.regex_lite_syntax.specs.declared.parse.level.GroupKind.{GroupKind as Kind}
+use Rattle.regex_lite_syntax.specs.declared.parse.level.GroupKind.TheVariants.{NonCapturing, Capturing}
+use Rattle.regex_lite_syntax.specs.declared.parse.Parser.{Parser}
+use Rattle.regex_lite_syntax.specs.Text.{Text}
+use Rattle.regex_lite_syntax.specs.Tree.{Tree, choice_of}
+use Rattle.regex_lite_syntax.specs.Grammar.GroupNames.{NamesDiffer}
+use Rattle.regex_lite_syntax.specs.Grammar.Points.{Point, onward}
+use Rattle.regex_lite_syntax.specs.Grammar.Heads.{GroupKind, non_capturing, capturing, numbered_on, inside, Head}
+use Rattle.regex_lite_syntax.specs.Parser.Machine.{Frame, State, Step, ended, opened, closed, parted, with_items}
+use Rattle.regex_lite_syntax.specs.Limits.{PassesGroups, depth}
+use Rattle.regex_lite_syntax.specs.Errors.{kind_of}
+use Rattle.regex_lite_syntax.specs.Tree.Views.{text_of_string, names_of, tree_of}
+
+-- the kind of a group
+abbrev pub group_kind : Kind → GroupKind
+group_kind NonCapturing = non_capturing
+group_kind (Capturing index name) = capturing index (option_map text_of_string name)
+
+-- the frame of an open group
+abbrev pub frame_of : OpenGroup → Frame
+frame_of group = record {
+  flags = group.outer.flags;
+  kind = group_kind group.kind;
+  branches = map tree_of group.outer.branches.items;
+  items = map tree_of group.outer.items.items;
+}
+
+-- the parser as a state, with what is left of the pattern, and how many groups stood in one another
+-- at most
+unfoldable pub state : Parser → (rest : Text) → (deepest : ℕ) → State
+state p rest deepest = record {
+  point = record {
+    rest = rest;
+    flags = p.here.flags;
+    groups = p.groups;
+    names = names_of p.names.items;
+    deepest = deepest;
+  };
+  frames = reverse (map frame_of p.below.items);
+  branches = map tree_of p.here.branches.items;
+  items = map tree_of p.here.items.items;
+}
+
+-- a step of the machine leads from the one state to the other, and no name comes to stand twice
+abbrev pub FreshStep : (s q : State) → Type 0
+FreshStep s q = Step s q × (NamesDiffer s.point.names → NamesDiffer q.point.names)
+
+-- such a step leads from the parser before t to the parser before u
+abbrev pub StepsTo : (before after : Parser) → (t u : Text) → Type 0
+StepsTo before after t u = (d : ℕ) → (e : ℕ) × FreshStep (state before t d) (state after u e)
+
+-- the parser read on from one index of the pattern to a later one
+pub record Advances (before after : Parser) (pattern : Text) (at next : ℕ) : Type 0 where
+  pub further : at < next
+  pub in_pattern : next ≤ length pattern
+  pub reads : StepsTo before after (drop at pattern) (drop next pattern)
+
+-- the machine has a step where the parser stands before t, after which no name stands twice
+abbrev pub CanRead : Parser → Text → Type 0
+CanRead p t = (d : ℕ) × (q : State) × Step (state p t d) q × NamesDiffer q.point.names
+
+-- a group that is numbered begins where the parser stands before t
+abbrev pub BeginsCapture : Parser → Text → Type 0
+BeginsCapture p t = (name : Option Text) × ((d : ℕ) →
+    let s = state p t d in
+    (first : Point) × Head (length s.frames) s.point first (capturing (s.point.groups + 1) name))
+
+-- what the refusal of a step says
+abbrev pub StepSays : Parser → Text → ErrorKind → Type 0
+StepSays p t Syntax = CanRead p t → ⊥
+StepSays p t Groups = PassesGroups (p.groups + 1) × BeginsCapture p t
+StepSays p t Memory = Unit {0}
+StepSays p t _ = ⊥
+
+-- the parser refuses to read on before t
+abbrev pub Refuses : Parser → Text → Error → Type 0
+Refuses p t e = StepSays p t (kind_of e)
+
+-- what the refusal to number a group says
+abbrev pub NumberSays : Parser → ErrorKind → Type 0
+NumberSays p Groups = PassesGroups (p.groups + 1)
+NumberSays p Memory = Unit {0}
+NumberSays p _ = ⊥
+
+-- a group was opened, in which these flags hold
+abbrev pub OpensGroup : (before after : Parser) → GroupKind → Flags → Type 0
+OpensGroup before after kind flags = (t u : Text) (d : ℕ) →
+    let s = state before t d in
+    let level = length s.frames in
+    state after u (greatest d (level + 1)) ≡ opened s s.point (inside level s.point flags u) kind
+
+-- a numbered group was opened
+abbrev pub OpensCapture : (before after : Parser) → (name : Option Text) → Type 0
+OpensCapture before after name = (t u : Text) (d : ℕ) →
+    let s = state before t d in
+    let level = length s.frames in
+    let first = numbered_on (inside level s.point s.point.flags u) in
+    state after u (greatest d (level + 1))
+    ≡ opened s s.point first (capturing (s.point.groups + 1) name)
+
+-- these flags hold from here on
+abbrev pub Directs : (before after : Parser) → Flags → Type 0
+Directs before after flags = (t u : Text) (d : ℕ) →
+    let s = state before t d in
+    state after u d ≡ with_items s (record s.point { rest = u; flags = flags }) s.items
+
+-- the innermost group was closed
+abbrev pub Closes : (before after : Parser) → Type 0
+Closes before after = (t u : Text) (d : ℕ) →
+    let s = state before t d in
+    (f : Frame) × (frames : List Frame) × (s.frames ≡ f ∷ frames)
+    × (state after u d ≡ closed s s.point f frames u)
+
+-- a branch was ended
+abbrev pub EndsBranch : (before after : Parser) → Type 0
+EndsBranch before after = (t u : Text) (d : ℕ) →
+    let s = state before t d in state after u d ≡ parted s (onward s.point u)
+
+-- an item was added to the branch
+abbrev pub Adds : (before after : Parser) → Tree → Type 0
+Adds before after a = (t u : Text) (d : ℕ) →
+    let s = state before t d in
+    state after u d ≡ with_items s (onward s.point u) (s.items ++ a ∷ [])
+
+-- no group is open, and this is the tree of all that was read
+abbrev pub Finishes : Parser → Tree → Type 0
+Finishes p a = (t : Text) (d : ℕ) →
+    let s = state p t d in (s.frames ≡ []) × (a ≡ choice_of (ended s))
+
+-- what the refusal of the parser at the end of the pattern says
+abbrev pub EndSays : Parser → (nest_limit : ℕ) → ErrorKind → Type 0
+EndSays p nest_limit Syntax = p.below.items ≡ [] → ⊥
+EndSays p nest_limit Nesting = (a : Tree) × Finishes p a × (nest_limit < depth a)
+EndSays p nest_limit Memory = Unit {0}
+EndSays p nest_limit _ = ⊥
