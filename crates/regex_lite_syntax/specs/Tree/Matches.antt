@@ -5,6 +5,10 @@ use Rattle.regex_lite_syntax.specs.Ranges.{in_ranges}
 use Rattle.regex_lite_syntax.specs.Tree.Looks.{Holds}
 use Rattle.regex_lite_syntax.specs.Tree.{Tree, empty, character, class, look, capture, repetition, concat, alternation, Trees, none, more}
 
+-- a position of the haystack: one before each character, and one at its end
+abbrev pub IsPosition : Text → ℕ → Type 0
+IsPosition haystack i = i ≤ length haystack
+
 -- so many passes, one after another, lead from the one position to the other
 abbrev pub Passes : (pass : ℕ → ℕ → Type 0) → ℕ → ℕ → ℕ → Type 0
 Passes pass zero i j = i ≡ j
@@ -38,6 +42,6 @@ module _ (haystack : Text) where
     SomeBranch none i j = ⊥
     SomeBranch (more a rest) i j = Matches a i j ⊎ SomeBranch rest i j
 
--- the tree matches from some position to some position
+-- the tree matches from some position of the haystack
 abbrev pub HasMatch : Tree → Text → Type 0
-HasMatch tree haystack = (i : ℕ) × (j : ℕ) × (i ≤ length haystack) × Matches haystack tree i j
+HasMatch tree haystack = (i : ℕ) × (j : ℕ) × IsPosition haystack i × Matches haystack tree i j
