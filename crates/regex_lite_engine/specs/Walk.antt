@@ -1,0 +1,3 @@
+-- What the searches promise one another, over graphs whose places have numbers.
+pub mod Explored
+pub mod NumberedAnswer
