@@ -11,5 +11,6 @@ pub mod NameOpeningLemmas
 pub mod NameReadingLemmas
 pub mod NumberLemmas
 pub mod OperatorLemmas
+pub mod ScanLemmas
 pub mod SpacedLemmas
 pub mod WordLemmas

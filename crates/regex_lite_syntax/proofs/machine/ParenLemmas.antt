@@ -7,6 +7,7 @@ use Rattle.regex_lite_syntax.specs.declared.hir.look.Look.{Look}
 use Rattle.regex_lite_syntax.specs.declared.class.named.NamedSet.{NamedSet}
 use Rattle.regex_lite_syntax.specs.Text.{Text, Spelled, the}
 use Rattle.regex_lite_syntax.specs.Grammar.Gaps.{Spacing, Gap, Spaced}
+use Rattle.regex_lite_syntax.proofs.grammar.ScanLemmas.{Scan, scan_of_spacing}
 use Rattle.regex_lite_syntax.specs.Sets.{Set}
 use Rattle.regex_lite_syntax.specs.Grammar.Escapes.{Primitive, EscapeKind, gives, word_boundary, hexadecimal, refused, escape_kind, Hexadecimal, fixed, braced, WordBoundary, alone, before_count, named as boundary_named, EscapeFrom, Escape}
 use Rattle.regex_lite_syntax.specs.Grammar.Classes.{ClassElement, literal, escaped, RangeFollows, NamedClass, ClassItem, named_class, character, escaped_set, range, Takes, takes, leaves, Dashes, FirstBracket, ClassItems, BracketedClass}
@@ -48,16 +49,19 @@ spelled_reads : (cs t rest : Text) → Spelled cs t rest → NoMore t rest
 spelled_reads [] t rest s = nothing_read s
 spelled_reads (c ∷ cs) t rest s = then_read (one_read s.1) (spelled_reads cs s.0 rest s.2)
 
-blank_reads : (in_comment : Bool) (t rest : Text) → Spacing in_comment t rest → NoMore t rest
-blank_reads in_comment [] rest b = nothing_read (sym b)
-blank_reads false (c ∷ t) rest (inl b) = nothing_read (sym b)
-blank_reads false (c ∷ t) rest (inr (inl b)) = then_read (past_first c t) (blank_reads false t rest b.1)
-blank_reads false (c ∷ t) rest (inr (inr b)) = then_read (past_first c t) (blank_reads true t rest b.1)
-blank_reads true (c ∷ t) rest (inl b) = then_read (past_first c t) (blank_reads false t rest b.1)
-blank_reads true (c ∷ t) rest (inr b) = then_read (past_first c t) (blank_reads true t rest b.1)
+scan_reads : (in_comment : Bool) (t rest : Text) → Scan in_comment t rest → NoMore t rest
+scan_reads in_comment [] rest b = nothing_read (sym b)
+scan_reads false (c ∷ t) rest (inl b) = nothing_read (sym b)
+scan_reads false (c ∷ t) rest (inr (inl b)) = then_read (past_first c t) (scan_reads false t rest b.1)
+scan_reads false (c ∷ t) rest (inr (inr b)) = then_read (past_first c t) (scan_reads true t rest b.1)
+scan_reads true (c ∷ t) rest (inl b) = then_read (past_first c t) (scan_reads false t rest b.1)
+scan_reads true (c ∷ t) rest (inr b) = then_read (past_first c t) (scan_reads true t rest b.1)
+
+blank_reads : (t rest : Text) → Spacing t rest → NoMore t rest
+blank_reads t rest b = scan_reads false t rest (scan_of_spacing t rest b)
 
 pub gap_reads : (verbose : Bool) (t rest : Text) → Gap verbose t rest → NoMore t rest
-gap_reads true t rest g = blank_reads false t rest g
+gap_reads true t rest g = blank_reads t rest g
 gap_reads false t rest g = nothing_read (sym g)
 
 spaced_reads : (verbose : Bool) (kind : ℕ → Bool) (cs t rest : Text) → Spaced verbose kind cs t rest → NoMore t rest
@@ -77,7 +81,7 @@ white_reads (c ∷ t) rest (inl w) = nothing_read (sym w)
 white_reads (c ∷ t) rest (inr w) = then_read (past_first c t) (white_reads t rest w.1)
 
 side_reads : (verbose : Bool) (t rest : Text) → Side verbose t rest → NoMore t rest
-side_reads true t rest s = blank_reads false t rest s
+side_reads true t rest s = blank_reads t rest s
 side_reads false t rest s = white_reads t rest s
 
 number_reads : (verbose : Bool) (t rest : Text) (n c : ℕ) → Number verbose t (c ∷ rest) n → NoMore t rest
