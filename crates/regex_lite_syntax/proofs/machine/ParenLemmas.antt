@@ -10,7 +10,7 @@ use Rattle.regex_lite_syntax.specs.Grammar.Gaps.{Spacing, Gap, Spaced}
 use Rattle.regex_lite_syntax.proofs.grammar.ScanLemmas.{Scan, scan_of_spacing}
 use Rattle.regex_lite_syntax.specs.Sets.{Set}
 use Rattle.regex_lite_syntax.specs.Grammar.Escapes.{Primitive, EscapeKind, gives, word_boundary, hexadecimal, refused, escape_kind, Hexadecimal, fixed, braced, WordBoundary, alone, before_count, named as boundary_named, EscapeFrom, Escape}
-use Rattle.regex_lite_syntax.specs.Grammar.Classes.{ClassElement, literal, escaped, RangeFollows, NamedClass, ClassItem, named_class, character, escaped_set, range, Takes, takes, leaves, Dashes, FirstBracket, ClassItems, BracketedClass}
+use Rattle.regex_lite_syntax.specs.Grammar.Classes.{ClassElement, literal, escaped, RangeFollows, NamedClass, ClassItem, named_class, character, escaped_set, range, Takes, takes, leaves, Dashes, FirstBracket, ClassOpening, ClassItems, BracketedClass}
 use Rattle.regex_lite_syntax.specs.Tree.{Tree}
 use Rattle.regex_lite_syntax.specs.Grammar.FlagLetters.{FlagLetters, setting, clearing}
 use Rattle.regex_lite_syntax.specs.Grammar.Counted.{WhiteSpace, Side, Number, Counted, exactly, at_least, between}
@@ -181,14 +181,18 @@ items_read verbose (s ∷ sets) t rest d =
     let first = then_read (item_reads d.2) (gap_reads verbose d.0 d.1 d.3.0) in
     then_read first (items_read verbose sets d.1 rest d.4)
 
+opening_read : {verbose : Bool} {t rest : Text} {negated dash bracket : Bool} → ClassOpening verbose t rest negated dash bracket
+    → NoMore t rest
+opening_read {verbose} {t} {rest} {negated} {dash} {bracket} o =
+    let opened = then_read (one_read o.opens) (gap_reads verbose o.opened o.first o.gap.0) in
+    let dashes = dashes_read verbose o.dashes o.past_caret o.past_dashes o.dashed in
+    let brackets = bracket_reads verbose o.dashes o.past_dashes rest bracket o.bracketed in
+    then_read opened (then_read (takes_reads o.negation) (then_read dashes brackets))
+
 class_reads : (insensitive verbose : Bool) (t rest : Text) (s : Set) → BracketedClass insensitive verbose t rest s
     → NoMore t rest
 class_reads insensitive verbose t rest s c =
-    let opened = then_read (one_read c.opens) (gap_reads verbose c.opened c.first c.gap.0) in
-    let dashes = dashes_read verbose c.dashes c.past_caret c.past_dashes c.dashed in
-    let bracket = bracket_reads verbose c.dashes c.past_dashes c.past_bracket c.bracket c.bracketed in
-    let begun = then_read opened (then_read (takes_reads c.negation) (then_read dashes bracket)) in
-    then_read begun (items_read verbose c.sets c.past_bracket rest c.items)
+    then_read (opening_read c.opening) (items_read verbose c.sets c.past_opening rest c.items)
 
 atom_from_reads : (k : AtomKind) (flags : Flags) (t past rest : Text) (a : Tree) → NoMore t past
     → AtomFrom k flags t past rest a → NoMore t rest

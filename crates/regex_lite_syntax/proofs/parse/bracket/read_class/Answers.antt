@@ -22,7 +22,7 @@ returns-then-start-chars-clause-refused c =
     subst (λ e. Denies e ((r : Text) × (s : Set) × BracketedClass c.args.insensitive verbose t r s)) (sym c.into.ensures)
     (λ found. nothing_left verbose found.2.sets found.0
     (subst (λ u. ClassItems verbose found.2.sets u found.0) (left_at_end xs start c.if-start-chars.true)
-    (class_items c.args.insensitive verbose t (drop start xs) found.0 _ found.1 c.read_opening-start.ensures.opens found.2)))
+    (class_items c.args.insensitive verbose t (drop start xs) found.0 _ _ _ found.1 c.read_opening-start.ensures.opens found.2)))
 
 pub returns-in_err-end-clause-refused : goal.returns-in_err-end-clause-refused
 returns-in_err-end-clause-refused c =
@@ -37,7 +37,7 @@ returns-in_err-end-clause-refused c =
     (λ found. (
       found.0,
       found.2.sets,
-      class_items c.args.insensitive verbose t u found.0 _ found.1 c.read_opening-start.ensures.opens found.2,
+      class_items c.args.insensitive verbose t u found.0 _ _ _ found.1 c.read_opening-start.ensures.opens found.2,
     ))
     c.in_err-end.ensures.refused)
 
@@ -61,7 +61,7 @@ returns-clause-ok c =
     let sets = dash_set c ∷ bracket_set c ∷ c.in_ok-end.ensures.ok.0 in
     let runs = c.in_ok-class.ensures sets (holds c) in
     class_as c.args.insensitive c.args.verbose _ _ _ _ runs.members
-    (class_from c.args.insensitive c.args.verbose _ _ _ _ c.in_ok-end.ensures.ok.0
+    (class_from c.args.insensitive c.args.verbose _ _ _ _ _ _ c.in_ok-end.ensures.ok.0
     c.read_opening-start.ensures.opens c.in_ok-end.ensures.ok.1)
 
 pub returns-clause-runs : goal.returns-clause-runs
