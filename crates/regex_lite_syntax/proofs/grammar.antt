@@ -13,5 +13,6 @@ pub mod NumberLemmas
 pub mod NumberedTreeLemmas
 pub mod NumberingLemmas
 pub mod OperatorLemmas
+pub mod ScanLemmas
 pub mod SpacedLemmas
 pub mod WordLemmas

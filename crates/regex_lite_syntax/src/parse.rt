@@ -4,7 +4,7 @@
 //! pattern, however deep its groups stand in one another, is read by recursion. It takes one
 //! thing after another: an item of a branch, an operator, a `|`, the head of a group or its end,
 //! or a directive.
-ghost use Rattle.std.specs.Prelude.{◌≡◌, ◌<◌, ◌≤◌, ◌^◌, ◌↔◌, ◌∷◌, [], drop, length, chars, IsTrue, IfOk, IfErr, OnOk};
+ghost use Rattle.std.specs.Prelude.{◌≡◌, ◌<◌, ◌≤◌, ◌^◌, ◌↔◌, ◌≢◌, ◌∷◌, [], drop, length, chars, IsTrue, IfOk, IfErr, OnOk};
 ghost use Rattle.regex_lite_syntax.specs.Errors.{kind_of};
 ghost use Rattle.regex_lite_syntax.specs.Text.{Text};
 ghost use Rattle.regex_lite_syntax.specs.Grammar.Gaps.{EndsGap, WholeGap};
@@ -12,7 +12,8 @@ ghost use Rattle.regex_lite_syntax.specs.Limits.{IsAdmitted, SaysOf, depth};
 ghost use Rattle.regex_lite_syntax.specs.Tree.Regular.{IsRegular};
 ghost use Rattle.regex_lite_syntax.specs.Tree.Views.{tree_of};
 ghost use Rattle.regex_lite_syntax.specs.Parser.Machine.{first_state, BeginsAtom};
-ghost use Rattle.regex_lite_syntax.specs.Parser.States.{state, Advances, Refuses, EndsBranch, Adds, Finishes, EndSays};
+ghost use Rattle.regex_lite_syntax.specs.Refusals.{Refuses};
+ghost use Rattle.regex_lite_syntax.specs.Parser.States.{state, Advances, CanRead, BeginsTooMany, EndsBranch, Adds, Finishes, FinishesTooDeep};
 
 mod atom;
 mod bracket;
@@ -69,8 +70,8 @@ impl Hir {
         ensures tree { IfOk result (λ hir.
             IsAdmitted config.flags config.nest_limit (chars pattern.now) (tree_of hir)) }
         ensures regular { IfOk result (λ hir. IsRegular (tree_of hir)) }
-        ensures refused { IfErr result (λ e.
-            SaysOf config.flags config.nest_limit (chars pattern.now) (kind_of e)) }
+        ensures refused { IfErr result (λ error.
+            SaysOf config.flags config.nest_limit (chars pattern.now) (kind_of error)) }
     {
         let chars = characters(alloc, pattern)?;
         parse_chars(alloc, config, &chars)
@@ -89,8 +90,8 @@ fn parse_chars(alloc: Global, config: Config, chars: &[char]) -> Result<Hir, Err
     ensures tree { IfOk result (λ hir.
         IsAdmitted config.flags config.nest_limit chars.now (tree_of hir)) }
     ensures regular { IfOk result (λ hir. IsRegular (tree_of hir)) }
-    ensures refused { IfErr result (λ e.
-        SaysOf config.flags config.nest_limit chars.now (kind_of e)) }
+    ensures refused { IfErr result (λ error.
+        SaysOf config.flags config.nest_limit chars.now (kind_of error)) }
 {
     let mut parser = Parser::new(alloc, config.flags);
     let mut at = 0;
@@ -143,7 +144,8 @@ impl Parser {
         requires inside { at < length chars.now }
         requires past_gap { EndsGap self.old.here.flags.ignore_whitespace (drop at chars.now) }
         ensures ok { IfOk result (Advances self.old self.new chars.now at) }
-        ensures err { IfErr result (Refuses self.old (drop at chars.now)) }
+        ensures refused { let t = drop at chars.now in IfErr result (λ error.
+            Refuses (kind_of error) (¬ CanRead self.old t) ⊥ (BeginsTooMany self.old t)) }
     {
         match chars[at] {
             '(' => self.read_group_head(chars, at),
@@ -166,7 +168,8 @@ impl Parser {
         ensures ok { IfOk result (λ hir.
             Finishes self (tree_of hir) × (nest_limit < depth (tree_of hir) → ⊥)) }
         ensures groups { self.groups < 2 ^ 32 }
-        ensures err { IfErr result (λ e. EndSays self nest_limit (kind_of e)) }
+        ensures refused { IfErr result (λ error. Refuses (kind_of error)
+            (self.below.items ≢ []) (FinishesTooDeep self nest_limit) ⊥) }
     {
         if !self.below.is_empty() {
             return Err(SyntaxFault::UnclosedGroup.into());
@@ -184,7 +187,8 @@ impl Parser {
         requires past_gap { EndsGap self.old.here.flags.ignore_whitespace (drop at chars.now) }
         requires begins { BeginsAtom (drop at chars.now) }
         ensures ok { IfOk result (Advances self.old self.new chars.now at) }
-        ensures err { IfErr result (Refuses self.old (drop at chars.now)) }
+        ensures refused { let t = drop at chars.now in IfErr result (λ error.
+            Refuses (kind_of error) (¬ CanRead self.old t) ⊥ (BeginsTooMany self.old t)) }
     {
         let (end, item) = read_atom(self.alloc, chars, at, self.here.flags)?;
         self.add(item)?;

@@ -8,7 +8,7 @@ use Rattle.regex_lite_syntax.specs.Grammar.Gaps.{WholeGap}
 use Rattle.regex_lite_syntax.specs.Sets.{Set, just, span, complement}
 use Rattle.regex_lite_syntax.specs.NamedSets.{members, set_named}
 use Rattle.regex_lite_syntax.specs.Grammar.Escapes.{Primitive, one, some_of, Escape}
-use Rattle.regex_lite_syntax.specs.Grammar.Classes.{ClassElement, literal, escaped, RangeFollows, BeginsItem, NamedClass, ClassItem, named_class, character, escaped_set, range, Takes, takes, leaves, Dashes, FirstBracket, ClassItems, only_if, class_set, BracketedClass}
+use Rattle.regex_lite_syntax.specs.Grammar.Classes.{ClassElement, literal, escaped, RangeFollows, BeginsItem, NamedClass, ClassItem, named_class, character, escaped_set, range, Takes, takes, leaves, Dashes, FirstBracket, ClassOpening, ClassItems, only_if, class_set, BracketedClass}
 use Rattle.regex_lite_syntax.specs.Parser.ClassReadings.{Lacks}
 use Rattle.regex_lite_syntax.proofs.ListLemmas.{same_head, same_tail}
 use Rattle.regex_lite_syntax.proofs.grammar.GapLemmas.{whole_gap_once}
@@ -195,26 +195,33 @@ pub bracket_once : (verbose : Bool) (n : ℕ) (t r s : Text) (a b : Bool) → Fi
 bracket_once verbose zero t r s a b x y = takes_once verbose (the "]") t r s a b x y
 bracket_once verbose (suc n) t r s a b x y = (sym x.0 ∙ y.0, x.1 ∙ sym y.1)
 
+pub opening_once : (verbose : Bool) (t r s : Text) (n m d e b c : Bool) → ClassOpening verbose t r n d b
+    → ClassOpening verbose t s m e c → (r ≡ s) × (n ≡ m) × (d ≡ e) × (b ≡ c)
+opening_once verbose t r s n m d e b c x y =
+    let gaps = whole_gap_once verbose x.opened x.first y.first x.gap
+    (subst (λ u. WholeGap verbose u y.first) (sym (same_tail (sym x.opens ∙ y.opens))) y.gap) in
+    let carets = takes_once verbose (the "^") x.first x.past_caret y.past_caret n m x.negation
+    (subst (λ u. Takes verbose (the "^") u y.past_caret m) (sym gaps) y.negation) in
+    let counts = dashes_once verbose x.dashes y.dashes x.past_caret x.past_dashes y.past_dashes x.dashed
+    (subst (λ u. Dashes verbose y.dashes u y.past_dashes) (sym carets.0) y.dashed) in
+    let brackets = bracket_once verbose x.dashes x.past_dashes r s b c x.bracketed
+    (subst (λ k. FirstBracket verbose k x.past_dashes s c) (sym counts.0)
+    (subst (λ u. FirstBracket verbose y.dashes u s c) (sym counts.1) y.bracketed)) in
+    (brackets.0, carets.1, x.has_dash ∙ ap (λ k. nat_lt 0 k) counts.0 ∙ sym y.has_dash, brackets.1)
+
 -- the whole class
 pub class_once : (insensitive verbose : Bool) (t r s : Text) (a b : Set) → BracketedClass insensitive verbose t r a
     → BracketedClass insensitive verbose t s b → (r ≡ s) × (a ≡ b)
 class_once insensitive verbose t r s a b x y =
-    let gaps = whole_gap_once verbose x.opened x.first y.first x.gap
-    (subst (λ u. WholeGap verbose u y.first) (sym (same_tail (sym x.opens ∙ y.opens))) y.gap) in
-    let carets = takes_once verbose (the "^") x.first x.past_caret y.past_caret x.negated y.negated x.negation
-    (subst (λ u. Takes verbose (the "^") u y.past_caret y.negated) (sym gaps) y.negation) in
-    let counts = dashes_once verbose x.dashes y.dashes x.past_caret x.past_dashes y.past_dashes x.dashed
-    (subst (λ u. Dashes verbose y.dashes u y.past_dashes) (sym carets.0) y.dashed) in
-    let brackets = bracket_once verbose x.dashes x.past_dashes x.past_bracket y.past_bracket x.bracket y.bracket x.bracketed
-    (subst (λ n. FirstBracket verbose n x.past_dashes y.past_bracket y.bracket) (sym counts.0)
-    (subst (λ u. FirstBracket verbose y.dashes u y.past_bracket y.bracket) (sym counts.1) y.bracketed)) in
-    let items = items_once verbose x.sets y.sets x.past_bracket r s x.items
-    (subst (λ u. ClassItems verbose y.sets u s) (sym brackets.0) y.items) in (
+    let opened = opening_once verbose t x.past_opening y.past_opening x.negated y.negated x.dash y.dash x.bracket y.bracket
+    x.opening y.opening in
+    let items = items_once verbose x.sets y.sets x.past_opening r s x.items
+    (subst (λ u. ClassItems verbose y.sets u s) (sym opened.0) y.items) in (
       items.1,
       x.set_is
-          ∙ ap (λ z. class_set insensitive z (only_if (nat_lt 0 x.dashes) (just (the "-")) ∷ only_if x.bracket (just (the "]")) ∷ x.sets)) carets.1
-          ∙ ap (λ z. class_set insensitive y.negated (only_if (nat_lt 0 z) (just (the "-")) ∷ only_if x.bracket (just (the "]")) ∷ x.sets)) counts.0
-          ∙ ap (λ z. class_set insensitive y.negated (only_if (nat_lt 0 y.dashes) (just (the "-")) ∷ only_if z (just (the "]")) ∷ x.sets)) brackets.1
-          ∙ ap (λ z. class_set insensitive y.negated (only_if (nat_lt 0 y.dashes) (just (the "-")) ∷ only_if y.bracket (just (the "]")) ∷ z)) items.0
+          ∙ ap (λ z. class_set insensitive z (only_if x.dash (just (the "-")) ∷ only_if x.bracket (just (the "]")) ∷ x.sets)) opened.1
+          ∙ ap (λ z. class_set insensitive y.negated (only_if z (just (the "-")) ∷ only_if x.bracket (just (the "]")) ∷ x.sets)) opened.2
+          ∙ ap (λ z. class_set insensitive y.negated (only_if y.dash (just (the "-")) ∷ only_if z (just (the "]")) ∷ x.sets)) opened.3
+          ∙ ap (λ z. class_set insensitive y.negated (only_if y.dash (just (the "-")) ∷ only_if y.bracket (just (the "]")) ∷ z)) items.0
           ∙ sym y.set_is,
     )

@@ -4,7 +4,7 @@ use Rattle.std.proofs.lemmas.Bool.{and_parts, both_ways, leb-true, not-true}
 use Rattle.std.proofs.lemmas.List.Sums.{fold-append}
 use Rattle.regex_lite_syntax.specs.Text.{Text, the}
 use Rattle.regex_lite_syntax.specs.Characters.{is_white_space, is_digit, digit_value, number_of}
-use Rattle.regex_lite_syntax.specs.Grammar.Gaps.{Spacing, Gap, EndsGap, WholeGap, Spaced}
+use Rattle.regex_lite_syntax.specs.Grammar.Gaps.{Spacing, no_more, further, Gap, EndsGap, WholeGap, Spaced}
 use Rattle.regex_lite_syntax.specs.Grammar.Counted.{WhiteSpace, Side, EndsSide, WholeSide, Number, EndsNumber}
 use Rattle.regex_lite_syntax.proofs.ListLemmas.{same_head, same_tail}
 use Rattle.regex_lite_syntax.proofs.grammar.GapLemmas.{blank_once, empty_gap, ends_any, gap_once}
@@ -32,7 +32,7 @@ ends_side false [] ends = tt
 ends_side false (c ∷ t) ends = ends.0
 
 whole_side_once : (verbose : Bool) (t u v : Text) → WholeSide verbose t u → WholeSide verbose t v → u ≡ v
-whole_side_once true t u v g h = blank_once false t u v g.0 h.0 g.1 h.1
+whole_side_once true t u v g h = blank_once t u v g.0 h.0 g.1 h.1
 whole_side_once false t u v g h = white_once t u v g.0 h.0 g.1 h.1
 
 -- a whole side leads where any side leads that ends before what no gap goes on with
@@ -49,16 +49,12 @@ pub side_of : (verbose : Bool) (t u : Text) → Gap verbose t u → Side verbose
 side_of true t u gap = gap
 side_of false t u gap = subst (λ v. WhiteSpace t v) (sym gap) (empty_white t)
 
-blank_on : (in_comment : Bool) (t u v : Text) → Spacing in_comment t u → Spacing false u v → Spacing in_comment t v
-blank_on in_comment [] u v b d = subst (λ w. Spacing false w v) b d
-blank_on false (c ∷ t) u v (inl b) d = subst (λ w. Spacing false w v) b d
-blank_on false (c ∷ t) u v (inr (inl b)) d = inr (inl (b.0, blank_on false t u v b.1 d))
-blank_on false (c ∷ t) u v (inr (inr b)) d = inr (inr (b.0, blank_on true t u v b.1 d))
-blank_on true (c ∷ t) u v (inl b) d = inl (b.0, blank_on false t u v b.1 d)
-blank_on true (c ∷ t) u v (inr b) d = inr (b.0, blank_on true t u v b.1 d)
+blank_on : (t u v : Text) → Spacing t u → Spacing u v → Spacing t v
+blank_on t u v (no_more e) d = subst (λ w. Spacing w v) (sym e) d
+blank_on t u v (further past piece more) d = further past piece (blank_on past u v more d)
 
 side_on : (verbose : Bool) (t u v : Text) → Side verbose t u → Gap verbose u v → Side verbose t v
-side_on true t u v side gap = blank_on false t u v side gap
+side_on true t u v side gap = blank_on t u v side gap
 side_on false t u v side gap = subst (λ w. WhiteSpace t w) (sym gap) side
 
 -- Digits.

@@ -7,9 +7,10 @@ use Rattle.regex_lite_syntax.specs.declared.hir.look.Look.{Look}
 use Rattle.regex_lite_syntax.specs.declared.class.named.NamedSet.{NamedSet}
 use Rattle.regex_lite_syntax.specs.Text.{Text, Spelled, the}
 use Rattle.regex_lite_syntax.specs.Grammar.Gaps.{Spacing, Gap, Spaced}
+use Rattle.regex_lite_syntax.proofs.grammar.ScanLemmas.{Scan, scan_of_spacing}
 use Rattle.regex_lite_syntax.specs.Sets.{Set}
 use Rattle.regex_lite_syntax.specs.Grammar.Escapes.{Primitive, EscapeKind, gives, word_boundary, hexadecimal, refused, escape_kind, Hexadecimal, fixed, braced, WordBoundary, alone, before_count, named as boundary_named, EscapeFrom, Escape}
-use Rattle.regex_lite_syntax.specs.Grammar.Classes.{ClassElement, literal, escaped, RangeFollows, NamedClass, ClassItem, named_class, character, escaped_set, range, Takes, takes, leaves, Dashes, FirstBracket, ClassItems, BracketedClass}
+use Rattle.regex_lite_syntax.specs.Grammar.Classes.{ClassElement, literal, escaped, RangeFollows, NamedClass, ClassItem, named_class, character, escaped_set, range, Takes, takes, leaves, Dashes, FirstBracket, ClassOpening, ClassItems, BracketedClass}
 use Rattle.regex_lite_syntax.specs.Tree.{Tree}
 use Rattle.regex_lite_syntax.specs.Grammar.FlagLetters.{FlagLetters, setting, clearing}
 use Rattle.regex_lite_syntax.specs.Grammar.Counted.{WhiteSpace, Side, Number, Counted, exactly, at_least, between}
@@ -48,16 +49,19 @@ spelled_reads : (cs t rest : Text) → Spelled cs t rest → NoMore t rest
 spelled_reads [] t rest s = nothing_read s
 spelled_reads (c ∷ cs) t rest s = then_read (one_read s.1) (spelled_reads cs s.0 rest s.2)
 
-blank_reads : (in_comment : Bool) (t rest : Text) → Spacing in_comment t rest → NoMore t rest
-blank_reads in_comment [] rest b = nothing_read (sym b)
-blank_reads false (c ∷ t) rest (inl b) = nothing_read (sym b)
-blank_reads false (c ∷ t) rest (inr (inl b)) = then_read (past_first c t) (blank_reads false t rest b.1)
-blank_reads false (c ∷ t) rest (inr (inr b)) = then_read (past_first c t) (blank_reads true t rest b.1)
-blank_reads true (c ∷ t) rest (inl b) = then_read (past_first c t) (blank_reads false t rest b.1)
-blank_reads true (c ∷ t) rest (inr b) = then_read (past_first c t) (blank_reads true t rest b.1)
+scan_reads : (in_comment : Bool) (t rest : Text) → Scan in_comment t rest → NoMore t rest
+scan_reads in_comment [] rest b = nothing_read (sym b)
+scan_reads false (c ∷ t) rest (inl b) = nothing_read (sym b)
+scan_reads false (c ∷ t) rest (inr (inl b)) = then_read (past_first c t) (scan_reads false t rest b.1)
+scan_reads false (c ∷ t) rest (inr (inr b)) = then_read (past_first c t) (scan_reads true t rest b.1)
+scan_reads true (c ∷ t) rest (inl b) = then_read (past_first c t) (scan_reads false t rest b.1)
+scan_reads true (c ∷ t) rest (inr b) = then_read (past_first c t) (scan_reads true t rest b.1)
+
+blank_reads : (t rest : Text) → Spacing t rest → NoMore t rest
+blank_reads t rest b = scan_reads false t rest (scan_of_spacing t rest b)
 
 pub gap_reads : (verbose : Bool) (t rest : Text) → Gap verbose t rest → NoMore t rest
-gap_reads true t rest g = blank_reads false t rest g
+gap_reads true t rest g = blank_reads t rest g
 gap_reads false t rest g = nothing_read (sym g)
 
 spaced_reads : (verbose : Bool) (kind : ℕ → Bool) (cs t rest : Text) → Spaced verbose kind cs t rest → NoMore t rest
@@ -77,7 +81,7 @@ white_reads (c ∷ t) rest (inl w) = nothing_read (sym w)
 white_reads (c ∷ t) rest (inr w) = then_read (past_first c t) (white_reads t rest w.1)
 
 side_reads : (verbose : Bool) (t rest : Text) → Side verbose t rest → NoMore t rest
-side_reads true t rest s = blank_reads false t rest s
+side_reads true t rest s = blank_reads t rest s
 side_reads false t rest s = white_reads t rest s
 
 number_reads : (verbose : Bool) (t rest : Text) (n c : ℕ) → Number verbose t (c ∷ rest) n → NoMore t rest
@@ -177,14 +181,18 @@ items_read verbose (s ∷ sets) t rest d =
     let first = then_read (item_reads d.2) (gap_reads verbose d.0 d.1 d.3.0) in
     then_read first (items_read verbose sets d.1 rest d.4)
 
+opening_read : {verbose : Bool} {t rest : Text} {negated dash bracket : Bool} → ClassOpening verbose t rest negated dash bracket
+    → NoMore t rest
+opening_read {verbose} {t} {rest} {negated} {dash} {bracket} o =
+    let opened = then_read (one_read o.opens) (gap_reads verbose o.opened o.first o.gap.0) in
+    let dashes = dashes_read verbose o.dashes o.past_caret o.past_dashes o.dashed in
+    let brackets = bracket_reads verbose o.dashes o.past_dashes rest bracket o.bracketed in
+    then_read opened (then_read (takes_reads o.negation) (then_read dashes brackets))
+
 class_reads : (insensitive verbose : Bool) (t rest : Text) (s : Set) → BracketedClass insensitive verbose t rest s
     → NoMore t rest
 class_reads insensitive verbose t rest s c =
-    let opened = then_read (one_read c.opens) (gap_reads verbose c.opened c.first c.gap.0) in
-    let dashes = dashes_read verbose c.dashes c.past_caret c.past_dashes c.dashed in
-    let bracket = bracket_reads verbose c.dashes c.past_dashes c.past_bracket c.bracket c.bracketed in
-    let begun = then_read opened (then_read (takes_reads c.negation) (then_read dashes bracket)) in
-    then_read begun (items_read verbose c.sets c.past_bracket rest c.items)
+    then_read (opening_read c.opening) (items_read verbose c.sets c.past_opening rest c.items)
 
 atom_from_reads : (k : AtomKind) (flags : Flags) (t past rest : Text) (a : Tree) → NoMore t past
     → AtomFrom k flags t past rest a → NoMore t rest

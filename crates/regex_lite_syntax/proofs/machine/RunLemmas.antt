@@ -1,10 +1,11 @@
 -- What the parser has come to says of the pattern.
-use Rattle.std.proofs.Common.{inl, inr, ◌≡◌, refl, sym, ◌∙◌, ap, subst, ℕ, ◌+◌, ◌^◌, ◌<◌, ◌≤◌, List, [], map, reverse, length, arith}
+use Rattle.std.proofs.Common.{inl, inr, ◌≡◌, ◌≢◌, refl, sym, ◌∙◌, ap, subst, ℕ, ◌+◌, ◌^◌, ◌<◌, ◌≤◌, List, [], map, reverse, length, arith}
 use Rattle.std.proofs.lemmas.List.{length-reverse, length-map}
 use Rattle.regex_lite_syntax.specs.declared.flags.Flags.{Flags}
 use Rattle.regex_lite_syntax.specs.declared.error.ErrorKind.{ErrorKind}
 use Rattle.regex_lite_syntax.specs.declared.error.ErrorKind.TheVariants as kind
 use Rattle.regex_lite_syntax.specs.declared.parse.Parser.{Parser}
+use Rattle.regex_lite_syntax.specs.Refusals.{Refuses}
 use Rattle.regex_lite_syntax.specs.Text.{Text}
 use Rattle.regex_lite_syntax.specs.Grammar.Gaps.{Gap, WholeGap}
 use Rattle.regex_lite_syntax.specs.Tree.{Tree}
@@ -14,7 +15,7 @@ use Rattle.regex_lite_syntax.specs.Limits.{depth, IsAdmitted, SaysOf, PassesNest
 use Rattle.regex_lite_syntax.specs.Tree.Regular.{IsRegular}
 use Rattle.regex_lite_syntax.specs.Tree.Views.{names_of}
 use Rattle.regex_lite_syntax.specs.Parser.Machine.{LeadsOn, first_state}
-use Rattle.regex_lite_syntax.specs.Parser.States.{frame_of, state, StepsTo, CanRead, BeginsCapture, StepSays, Finishes, EndSays}
+use Rattle.regex_lite_syntax.specs.Parser.States.{frame_of, state, StepsTo, CanRead, BeginsCapture, BeginsTooMany, Finishes, FinishesTooDeep}
 use Rattle.regex_lite_syntax.proofs.grammar.GapLemmas.{gap_to_end}
 use Rattle.regex_lite_syntax.proofs.machine.OneStepLemmas.{step_over_gap, step_past_gap, at_end, leads_step}
 use Rattle.regex_lite_syntax.proofs.machine.StateLemmas.{none_left}
@@ -113,7 +114,7 @@ tree_refused flags nest_limit pattern a groups deepest g deep = record {
 }
 
 pub end_says : (flags : Flags) (nest_limit : ℕ) (pattern : Text) (p : Parser) (t : Text) (k : ErrorKind)
-    → Reaches flags nest_limit pattern p t → Gap p.here.flags.ignore_whitespace t [] → EndSays p nest_limit k
+    → Reaches flags nest_limit pattern p t → Gap p.here.flags.ignore_whitespace t [] → Refuses k (p.below.items ≢ []) (FinishesTooDeep p nest_limit) ⊥
     → SaysOf flags nest_limit pattern k
 end_says flags nest_limit pattern p t kind.Syntax r gap d = open_refused flags nest_limit pattern p t r gap d
 end_says flags nest_limit pattern p t kind.Nesting r gap d =
@@ -157,7 +158,7 @@ number_refused flags nest_limit pattern p t u r whole many capture =
 
 pub step_says : (flags : Flags) (nest_limit : ℕ) (pattern : Text) (p : Parser) (t u : Text) (k : ErrorKind)
     → Reaches flags nest_limit pattern p t → WholeGap p.here.flags.ignore_whitespace t u → (u ≡ [] → ⊥)
-    → StepSays p u k → SaysOf flags nest_limit pattern k
+    → Refuses k (¬ CanRead p u) ⊥ (BeginsTooMany p u) → SaysOf flags nest_limit pattern k
 step_says flags nest_limit pattern p t u kind.Syntax r whole more d =
     stuck_refused flags nest_limit pattern p t u r whole more d
 step_says flags nest_limit pattern p t u kind.Groups r whole more d =

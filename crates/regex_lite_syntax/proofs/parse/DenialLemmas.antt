@@ -1,72 +1,46 @@
 -- What the refusal of one reading says of another.
-use Rattle.std.proofs.Common.{◌≡◌, sym, subst, Result, IfErr}
-use Rattle.std.proofs.lemmas.Result.{MatchResult-weaker}
+use Rattle.std.proofs.Common.{◌+◌, Result, OnErr}
+use Rattle.std.proofs.lemmas.Result.{on_err_weaker}
 use Rattle.regex_lite_syntax.specs.declared.error.Error.{Error}
 use Rattle.regex_lite_syntax.specs.declared.error.ErrorKind.{ErrorKind}
 use Rattle.regex_lite_syntax.specs.declared.error.ErrorKind.TheVariants as kind
-use Rattle.regex_lite_syntax.specs.declared.error.syntax.SyntaxFault.{SyntaxFault}
 use Rattle.regex_lite_syntax.specs.declared.parse.Parser.{Parser}
 use Rattle.regex_lite_syntax.specs.Text.{Text}
-use Rattle.regex_lite_syntax.specs.Errors.{kind_of, syntax_error}
-use Rattle.regex_lite_syntax.specs.Refusals.{KindDenies, Denies}
-use Rattle.regex_lite_syntax.specs.Parser.States.{CanRead, BeginsCapture, StepSays, Refuses, NumberSays}
+use Rattle.regex_lite_syntax.specs.Errors.{kind_of}
+use Rattle.regex_lite_syntax.specs.Limits.{PassesGroups}
+use Rattle.regex_lite_syntax.specs.Refusals.{Refuses, Denies}
+use Rattle.regex_lite_syntax.specs.Parser.States.{CanRead, BeginsCapture, BeginsTooMany}
 
--- a refusal of the one reading is a refusal of the other
-pub denies_as : (e : Error) (P Q : Type 0) → ((P → ⊥) → Q → ⊥) → Denies e P → Denies e Q
-denies_as e P Q f denies = by_kind (kind_of e) denies
-  where
-    by_kind : (k : ErrorKind) → KindDenies k P → KindDenies k Q
-    by_kind kind.Syntax d = f d
-    by_kind kind.Memory d = tt
-    by_kind kind.Nesting d = d
-    by_kind kind.Groups d = d
-    by_kind kind.Size d = d
-    by_kind kind.Places d = d
-    by_kind kind.Slots d = d
-    by_kind kind.Replace d = d
+-- a refusal that says the one says what follows from it
+pub refuses_more : (k : ErrorKind) (s n g s' n' g' : Type 0) → (s → s') → (n → n') → (g → g') → Refuses k s n g
+    → Refuses k s' n' g'
+refuses_more kind.Syntax s n g s' n' g' of_s of_n of_g says = of_s says
+refuses_more kind.Nesting s n g s' n' g' of_s of_n of_g says = of_n says
+refuses_more kind.Groups s n g s' n' g' of_s of_n of_g says = of_g says
+refuses_more kind.Memory s n g s' n' g' of_s of_n of_g says = tt
+refuses_more kind.Size s n g s' n' g' of_s of_n of_g says = absurd says
+refuses_more kind.Places s n g s' n' g' of_s of_n of_g says = absurd says
+refuses_more kind.Slots s n g s' n' g' of_s of_n of_g says = absurd says
+refuses_more kind.Replace s n g s' n' g' of_s of_n of_g says = absurd says
+
+-- what denies a reading refuses what the reading is needed for
+pub denial_refuses : (e : Error) (reading s n g : Type 0) → ((reading → ⊥) → s) → Denies e reading
+    → Refuses (kind_of e) s n g
+denial_refuses e reading s n g of_none denied =
+    refuses_more (kind_of e) (reading → ⊥) ⊥ ⊥ s n g of_none (λ none. absurd none) (λ none. absurd none) denied
 
 -- what denies the one reading denies each that would give it
-pub denies_less : {whole part : Type 0} (e : Error) → (part → whole) → Denies e whole → Denies e part
-denies_less {whole} {part} e whole_of denied = denies_as e whole part (λ none p. none (whole_of p)) denied
+pub denies_part : (e : Error) (whole part : Type 0) → (part → whole) → Denies e whole → Denies e part
+denies_part e whole part whole_of denied =
+    denial_refuses e whole (part → ⊥) ⊥ ⊥ (λ none p. none (whole_of p)) denied
 
--- the same, with both readings written out
-pub denies_whole : (e : Error) (whole part : Type 0) → (part → whole) → Denies e whole → Denies e part
-denies_whole e whole part whole_of denied = denies_less e whole_of denied
-
--- a syntax fault denies what cannot be
-pub fault_denies : {reading : Type 0} (e : Error) (fault : SyntaxFault) → e ≡ syntax_error fault → (reading → ⊥)
-    → Denies e reading
-fault_denies {reading} e fault is none = subst (λ d. Denies d reading) (sym is) none
-
-pub err_denies_less : {T whole part : Type 0} (r : Result T Error) → (part → whole) → IfErr r (λ e. Denies e whole)
-    → IfErr r (λ e. Denies e part)
-err_denies_less r whole_of denied = MatchResult-weaker r denied (λ _ t. t) (λ e none. denies_less e whole_of none)
-
--- what denies that anything can be read refuses to read on
-pub refuses_as : (e : Error) (p : Parser) (t : Text) (P : Type 0) → ((P → ⊥) → CanRead p t → ⊥) → Denies e P
-    → Refuses p t e
-refuses_as e p t P f denies = by_kind (kind_of e) denies
-  where
-    by_kind : (k : ErrorKind) → KindDenies k P → StepSays p t k
-    by_kind kind.Syntax d = f d
-    by_kind kind.Memory d = tt
-    by_kind kind.Nesting d = absurd d
-    by_kind kind.Groups d = absurd d
-    by_kind kind.Size d = absurd d
-    by_kind kind.Places d = absurd d
-    by_kind kind.Slots d = absurd d
-    by_kind kind.Replace d = absurd d
+-- the same where a pure reader refuses
+pub none_of_part : {T E whole part : Type 0} (r : Result T E) → (part → whole) → OnErr r (¬ whole) → OnErr r (¬ part)
+none_of_part r whole_of none = on_err_weaker r (λ no p. no (whole_of p)) none
 
 -- what refuses to number a group that begins there refuses to read on
-pub number_refuses : (e : Error) (p : Parser) (t : Text) → NumberSays p (kind_of e) → BeginsCapture p t → Refuses p t e
-number_refuses e p t says capture = by_kind (kind_of e) says
-  where
-    by_kind : (k : ErrorKind) → NumberSays p k → StepSays p t k
-    by_kind kind.Groups d = (d, capture)
-    by_kind kind.Memory d = tt
-    by_kind kind.Syntax d = absurd d
-    by_kind kind.Nesting d = absurd d
-    by_kind kind.Size d = absurd d
-    by_kind kind.Places d = absurd d
-    by_kind kind.Slots d = absurd d
-    by_kind kind.Replace d = absurd d
+pub number_refuses : (e : Error) (p : Parser) (t : Text) → Refuses (kind_of e) ⊥ ⊥ (PassesGroups (p.groups + 1))
+    → BeginsCapture p t → Refuses (kind_of e) (¬ CanRead p t) ⊥ (BeginsTooMany p t)
+number_refuses e p t says begins =
+    refuses_more (kind_of e) ⊥ ⊥ (PassesGroups (p.groups + 1)) (¬ CanRead p t) ⊥ (BeginsTooMany p t)
+    (λ none. absurd none) (λ none. none) (λ passes. (passes, begins)) says

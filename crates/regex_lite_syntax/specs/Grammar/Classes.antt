@@ -78,6 +78,21 @@ abbrev pub FirstBracket : (verbose : Bool) → (dashes : ℕ) → Text → Text 
 FirstBracket verbose zero t rest taken = Takes verbose (the "]") t rest taken
 FirstBracket verbose (suc n) t rest taken = (t ≡ rest) × (taken ≡ false)
 
+-- what a class begins with, from its opening bracket on: `^` where it is negated, and then dashes, or
+-- where there are none a `]`, each for itself
+pub record ClassOpening (verbose : Bool) (t rest : Text) (negated dash bracket : Bool) : Type 0 where
+  pub opened : Text
+  pub first : Text
+  pub past_caret : Text
+  pub past_dashes : Text
+  pub dashes : ℕ
+  pub opens : t ≡ the "[" ∷ opened
+  pub gap : WholeGap verbose opened first
+  pub negation : Takes verbose (the "^") first past_caret negated
+  pub dashed : Dashes verbose dashes past_caret past_dashes
+  pub has_dash : dash ≡ nat_lt 0 dashes
+  pub bracketed : FirstBracket verbose dashes past_dashes rest bracket
+
 -- items with these sets, each with the gap after it, and the bracket that closes the class
 abbrev pub ClassItems : (verbose : Bool) → List Set → Text → Text → Type 0
 ClassItems verbose [] t rest = t ≡ the "]" ∷ rest
@@ -97,20 +112,12 @@ class_set insensitive negated sets =
 
 -- a class from its opening bracket up to its closing one, and its set
 pub record BracketedClass (insensitive verbose : Bool) (t rest : Text) (s : Set) : Type 0 where
-  pub opened : Text
-  pub first : Text
-  pub past_caret : Text
-  pub past_dashes : Text
-  pub past_bracket : Text
   pub negated : Bool
-  pub dashes : ℕ
+  pub dash : Bool
   pub bracket : Bool
+  pub past_opening : Text
   pub sets : List Set
-  pub opens : t ≡ the "[" ∷ opened
-  pub gap : WholeGap verbose opened first
-  pub negation : Takes verbose (the "^") first past_caret negated
-  pub dashed : Dashes verbose dashes past_caret past_dashes
-  pub bracketed : FirstBracket verbose dashes past_dashes past_bracket bracket
-  pub items : ClassItems verbose sets past_bracket rest
+  pub opening : ClassOpening verbose t past_opening negated dash bracket
+  pub items : ClassItems verbose sets past_opening rest
   pub set_is : s ≡ class_set insensitive negated
-      (only_if (nat_lt 0 dashes) (just (the "-")) ∷ only_if bracket (just (the "]")) ∷ sets)
+      (only_if dash (just (the "-")) ∷ only_if bracket (just (the "]")) ∷ sets)

@@ -11,7 +11,7 @@ WhiteSpace (c ∷ t) rest = (rest ≡ c ∷ t) ⊎ (IsTrue (is_white_space c) ×
 
 -- what may stand on either side of a number: white space, and in verbose mode comments too
 abbrev pub Side : (verbose : Bool) → Text → Text → Type 0
-Side true t rest = Spacing false t rest
+Side true t rest = Spacing t rest
 Side false t rest = WhiteSpace t rest
 
 -- no such side could go on here

@@ -1,21 +1,30 @@
 -- White space and comments, and the gaps that verbose mode allows between the parts of a pattern.
-use Rattle.std.specs.Prelude.{◌≡◌, ◌≢◌, ◌⊎◌, ℕ, Bool, true, false, not, [], ◌∷◌, IsTrue}
-use Rattle.regex_lite_syntax.specs.Text.{Text, the}
+use Rattle.std.specs.Prelude.{◌≡◌, ◌≢◌, ℕ, Bool, true, false, not, ◌==◌, [], ◌∷◌, ◌++◌, IsTrue}
+use Rattle.regex_lite_syntax.specs.Text.{Text, AllPass, the}
 use Rattle.regex_lite_syntax.specs.Characters.{is_white_space}
 
--- white space and comments, perhaps none. A comment goes from `#` up to and with the next line
--- feed, or to the end; the flag says that one is open where the part begins
-abbrev pub Spacing : Bool → Text → Text → Type 0
-Spacing in_comment [] rest = rest ≡ []
-Spacing false (c ∷ t) rest =
-    (rest ≡ c ∷ t)
-    ⊎ ((IsTrue (is_white_space c) × Spacing false t rest) ⊎ ((c ≡ the "#") × Spacing true t rest))
-Spacing true (c ∷ t) rest =
-    ((c ≡ the "\n") × Spacing false t rest) ⊎ ((c ≢ the "\n") × Spacing true t rest)
+-- a character of a comment: every one but a line feed
+abbrev pub is_in_comment : ℕ → Bool
+is_in_comment c = not (c == the "\n")
+
+-- a character of white space, or a comment: `#`, what is written in it, and then a line feed or the
+-- end of the pattern
+pub data SpacingPiece (t rest : Text) : Type 0 where
+  white_space : (c : ℕ) → t ≡ c ∷ rest → IsTrue (is_white_space c) → SpacingPiece t rest
+  comment : (written : Text) → t ≡ the "#" ∷ written ++ the "\n" ∷ rest
+      → AllPass is_in_comment written → SpacingPiece t rest
+  last_comment : (written : Text) → t ≡ the "#" ∷ written → rest ≡ []
+      → AllPass is_in_comment written → SpacingPiece t rest
+
+-- white space and comments, perhaps none
+pub data Spacing : (t rest : Text) → Type 0 where
+  no_more : {t rest : Text} → t ≡ rest → Spacing t rest
+  further : {t rest : Text} (past : Text) → SpacingPiece t past → Spacing past rest
+      → Spacing t rest
 
 -- in verbose mode white space and comments, else nothing
 abbrev pub Gap : (verbose : Bool) → Text → Text → Type 0
-Gap true t rest = Spacing false t rest
+Gap true t rest = Spacing t rest
 Gap false t rest = rest ≡ t
 
 -- no gap could go on here

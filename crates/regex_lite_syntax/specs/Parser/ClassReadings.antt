@@ -1,18 +1,17 @@
 -- What the readers of a class give, as what the grammar gives.
-use Rattle.std.specs.Prelude.{◌≡◌, ◌≤◌, ℕ, Bool, false, nat_lt, List, [], ◌∷◌, IsTrue, codes}
+use Rattle.std.specs.Prelude.{◌≡◌, ◌≤◌, ℕ, Bool, false, List, [], ◌∷◌, IsTrue, codes}
 use Rattle.regex_lite_syntax.specs.declared.class.named.NamedSet.{NamedSet}
 use Rattle.regex_lite_syntax.specs.declared.class.named.NamedSet.TheVariants.{Alnum, Alpha, Ascii, Blank, Cntrl, Digit, Graph, Lower, Print, Punct, Space, Upper, Word, Xdigit}
 use Rattle.regex_lite_syntax.specs.declared.parse.bracket.item.Element.{Element}
 use Rattle.regex_lite_syntax.specs.declared.parse.bracket.item.Element.TheVariants as elements
 use Rattle.regex_lite_syntax.specs.declared.parse.bracket.item.Item.{Item}
 use Rattle.regex_lite_syntax.specs.declared.parse.bracket.item.Item.TheVariants as items
-use Rattle.regex_lite_syntax.specs.declared.parse.bracket.opening.Opening.{Opening}
 use Rattle.regex_lite_syntax.specs.Text.{Text, Begins, the, ◌∈◌}
 use Rattle.regex_lite_syntax.specs.Grammar.Gaps.{WholeGap}
 use Rattle.regex_lite_syntax.specs.Sets.{Set, just, span}
 use Rattle.regex_lite_syntax.specs.Grammar.Escapes.{Primitive, one, some_of, look_at}
 use Rattle.regex_lite_syntax.specs.Parser.Readings.{named_or_not}
-use Rattle.regex_lite_syntax.specs.Grammar.Classes.{ClassElement, NamedClass, ClassItems, Takes, Dashes, FirstBracket}
+use Rattle.regex_lite_syntax.specs.Grammar.Classes.{ClassElement, NamedClass, ClassItems}
 
 -- what an element is in the grammar
 abbrev pub element_primitive : Element → Primitive
@@ -89,17 +88,3 @@ HasNamedSet t = (rest : Text) × (negated : Bool) × (set : NamedSet) × NamedCl
 abbrev pub IsNamedSet : (t rest : Text) → Element → Type 0
 IsNamedSet t rest (elements.Char c) = ⊥
 IsNamedSet t rest (elements.Set set negated) = NamedClass t rest negated set
-
--- what a class begins with, from its bracket on
-pub record ClassOpening (verbose : Bool) (t rest : Text) (opening : Opening) : Type 0 where
-  pub opened : Text
-  pub first : Text
-  pub past_caret : Text
-  pub past_dashes : Text
-  pub dashes : ℕ
-  pub opens : t ≡ the "[" ∷ opened
-  pub gap : WholeGap verbose opened first
-  pub negation : Takes verbose (the "^") first past_caret opening.negated
-  pub dashed : Dashes verbose dashes past_caret past_dashes
-  pub has_dash : opening.dash ≡ nat_lt 0 dashes
-  pub bracketed : FirstBracket verbose dashes past_dashes rest opening.bracket

@@ -1,9 +1,6 @@
 -- The parser as a state of the machine, and what each of its steps does to it.
 use Rattle.std.specs.Prelude.{◌≡◌, ℕ, ◌+◌, ◌<◌, ◌≤◌, List, [], ◌∷◌, ◌++◌, Option, map, option_map, reverse, length, drop}
 use Rattle.std.specs.Prelude.{max as greatest}
-use Rattle.regex_lite_syntax.specs.declared.error.Error.{Error}
-use Rattle.regex_lite_syntax.specs.declared.error.ErrorKind.{ErrorKind}
-use Rattle.regex_lite_syntax.specs.declared.error.ErrorKind.TheVariants.{Syntax, Nesting, Groups, Memory}
 use Rattle.regex_lite_syntax.specs.declared.flags.Flags.{Flags}
 use Rattle.regex_lite_syntax.specs.declared.parse.level.OpenGroup.{OpenGroup}
 use Rattle.regex_lite_syntax.specs.declared.parse.level.GroupKind.{GroupKind as Kind}
@@ -16,7 +13,6 @@ use Rattle.regex_lite_syntax.specs.Grammar.Points.{Point, onward}
 use Rattle.regex_lite_syntax.specs.Grammar.Heads.{GroupKind, non_capturing, capturing, numbered_on, inside, Head}
 use Rattle.regex_lite_syntax.specs.Parser.Machine.{Frame, State, Step, ended, opened, closed, parted, with_items}
 use Rattle.regex_lite_syntax.specs.Limits.{PassesGroups, depth}
-use Rattle.regex_lite_syntax.specs.Errors.{kind_of}
 use Rattle.regex_lite_syntax.specs.Tree.Views.{text_of_string, names_of, tree_of}
 
 -- the kind of a group
@@ -73,22 +69,9 @@ BeginsCapture p t = (name : Option Text) × ((d : ℕ) →
     let s = state p t d in
     (first : Point) × Head (length s.frames) s.point first (capturing (s.point.groups + 1) name))
 
--- what the refusal of a step says
-abbrev pub StepSays : Parser → Text → ErrorKind → Type 0
-StepSays p t Syntax = CanRead p t → ⊥
-StepSays p t Groups = PassesGroups (p.groups + 1) × BeginsCapture p t
-StepSays p t Memory = Unit {0}
-StepSays p t _ = ⊥
-
--- the parser refuses to read on before t
-abbrev pub Refuses : Parser → Text → Error → Type 0
-Refuses p t e = StepSays p t (kind_of e)
-
--- what the refusal to number a group says
-abbrev pub NumberSays : Parser → ErrorKind → Type 0
-NumberSays p Groups = PassesGroups (p.groups + 1)
-NumberSays p Memory = Unit {0}
-NumberSays p _ = ⊥
+-- a group begins there that can't be numbered
+abbrev pub BeginsTooMany : Parser → Text → Type 0
+BeginsTooMany p t = PassesGroups (p.groups + 1) × BeginsCapture p t
 
 -- a group was opened, in which these flags hold
 abbrev pub OpensGroup : (before after : Parser) → GroupKind → Flags → Type 0
@@ -135,9 +118,6 @@ abbrev pub Finishes : Parser → Tree → Type 0
 Finishes p a = (t : Text) (d : ℕ) →
     let s = state p t d in (s.frames ≡ []) × (a ≡ choice_of (ended s))
 
--- what the refusal of the parser at the end of the pattern says
-abbrev pub EndSays : Parser → (nest_limit : ℕ) → ErrorKind → Type 0
-EndSays p nest_limit Syntax = p.below.items ≡ [] → ⊥
-EndSays p nest_limit Nesting = (a : Tree) × Finishes p a × (nest_limit < depth a)
-EndSays p nest_limit Memory = Unit {0}
-EndSays p nest_limit _ = ⊥
+-- the tree of all that was read is deeper than the limit
+abbrev pub FinishesTooDeep : Parser → (nest_limit : ℕ) → Type 0
+FinishesTooDeep p nest_limit = (a : Tree) × Finishes p a × (nest_limit < depth a)

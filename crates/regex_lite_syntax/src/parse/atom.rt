@@ -35,7 +35,7 @@ pub(crate) fn read_atom(
     ensures inside { IfOk result (λ r. (at < r.0) × (r.0 ≤ length chars.now)) }
     ensures ok { IfOk result (λ r.
         Atom flags (drop at chars.now) (drop r.0 chars.now) (tree_of r.1)) }
-    ensures err { IfErr result (λ e. Denies e
+    ensures refused { IfErr result (λ error. Denies error
         ((rest : Text) × (a : Tree) × Atom flags (drop at chars.now) rest a)) }
 {
     let verbose = flags.ignore_whitespace;

@@ -37,7 +37,7 @@ pub(crate) fn read_class(
     ensures ok { IfOk result (λ r. BracketedClass insensitive verbose
         (drop at chars.now) (drop r.0 chars.now) (in_ranges r.1.ranges.items)) }
     ensures runs { IfOk result (λ r. AreRuns 0 r.1.ranges.items) }
-    ensures err { IfErr result (λ e. Denies e ((rest : Text) × (s : Set)
+    ensures refused { IfErr result (λ error. Denies error ((rest : Text) × (s : Set)
         × BracketedClass insensitive verbose (drop at chars.now) rest s)) }
 {
     let (start, opening) = read_opening(chars, at, verbose);
@@ -66,7 +66,7 @@ fn read_items(
         × ClassItems verbose sets (drop at chars.now) (drop end chars.now)
         × ((c : ℕ) →
         in_ranges ranges.new.items c ≡ (in_ranges ranges.old.items c || union sets c))) }
-    ensures err { IfErr result (λ e. Denies e
+    ensures refused { IfErr result (λ error. Denies error
         ((rest : Text) × (sets : List Set) × ClassItems verbose sets (drop at chars.now) rest)) }
 {
     let mut end = at;

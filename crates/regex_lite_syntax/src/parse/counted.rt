@@ -1,15 +1,14 @@
 //! Counted operators: how often they repeat, in braces.
-ghost use Rattle.std.specs.Prelude.{◌≡◌, ℕ, ◌+◌, ◌*◌, ◌^◌, ◌<◌, ◌≤◌, ◌∷◌, drop, length, Option, IsTrue, IfOk, IfErr, IfSome, IfNone, SomeIff};
+ghost use Rattle.std.specs.Prelude.{◌≡◌, ℕ, ◌+◌, ◌*◌, ◌^◌, ◌<◌, ◌≤◌, ◌∷◌, drop, length, Option, IsTrue, IfOk, OnErr, IfSome, IfNone, SomeIff};
 ghost use Rattle.regex_lite_syntax.specs.Text.{Text};
 ghost use Rattle.regex_lite_syntax.specs.Characters.{is_digit, digit_value};
 ghost use Rattle.regex_lite_syntax.specs.Grammar.Gaps.{Gap};
 ghost use Rattle.regex_lite_syntax.specs.Grammar.Counted.{WholeSide, Number, EndsNumber, Limit, Counted};
-ghost use Rattle.regex_lite_syntax.specs.Refusals.{Denies};
 
 #[cfg(test)]
 mod tests;
 
-use crate::error::{Error, SyntaxFault};
+use crate::error::SyntaxFault;
 use crate::parse::gap::{is_white_space_char, skip_gap};
 use crate::parse::read::char_at;
 
@@ -25,21 +24,22 @@ pub(crate) fn read_counted(
     chars: &[char],
     at: usize,
     verbose: bool,
-) -> Result<(usize, Times), Error>
+) -> Result<(usize, Times), SyntaxFault>
     requires { at ≤ length chars.now }
     ensures inside { IfOk result (λ r. (at < r.0) × (r.0 ≤ length chars.now)) }
     ensures ok { IfOk result (λ r.
         Counted verbose (drop at chars.now) (drop r.0 chars.now) r.1.least r.1.most) }
-    ensures err { IfErr result (λ e. Denies e ((rest : Text) × (least : ℕ) × (most : Option ℕ)
+    ensures refused { OnErr result
+        (¬ ((rest : Text) × (least : ℕ) × (most : Option ℕ)
         × Counted verbose (drop at chars.now) rest least most)) }
 {
     let first = skip_gap(chars, at, verbose);
     if first == chars.len() {
-        return Err(SyntaxFault::CountedRepetitionUnclosed.into());
+        return Err(SyntaxFault::CountedRepetitionUnclosed);
     }
     let (past_min, least) = read_number(chars, at, verbose)?;
     match char_at(chars, past_min) {
-        None => Err(SyntaxFault::CountedRepetitionMinUnclosed.into()),
+        None => Err(SyntaxFault::CountedRepetitionMinUnclosed),
         Some('}') => {
             let most = Some(least);
             Ok((past_min + 1, Times { least, most }))
@@ -47,40 +47,38 @@ pub(crate) fn read_counted(
         Some(',') => {
             let (end, most) = read_limit(chars, past_min + 1, verbose)?;
             match most {
-                Some(most) if most < least => Err(
-                    SyntaxFault::CountedRepetitionInvalidRange.into(),
-                ),
+                Some(most) if most < least => Err(SyntaxFault::CountedRepetitionInvalidRange),
                 _ => Ok((end, Times { least, most })),
             }
         }
-        Some(_) => Err(SyntaxFault::CountedRepetitionInvalid.into()),
+        Some(_) => Err(SyntaxFault::CountedRepetitionInvalid),
     }
 }
 
 /// Reads the limit, if there is one, from behind the comma on, and the brace that closes.
-fn read_limit(chars: &[char], at: usize, verbose: bool) -> Result<(usize, Option<u32>), Error>
+fn read_limit(chars: &[char], at: usize, verbose: bool) -> Result<(usize, Option<u32>), SyntaxFault>
     requires { at ≤ length chars.now }
     ensures inside { IfOk result (λ r. (at < r.0) × (r.0 ≤ length chars.now)) }
     ensures ok { IfOk result (λ r. Limit verbose (drop at chars.now) (drop r.0 chars.now) r.1) }
-    ensures err { IfErr result (λ e. Denies e
-        ((rest : Text) × (most : Option ℕ) × Limit verbose (drop at chars.now) rest most)) }
+    ensures refused { OnErr result
+        (¬ ((rest : Text) × (most : Option ℕ) × Limit verbose (drop at chars.now) rest most)) }
 {
     let first = skip_gap(chars, at, verbose);
     match char_at(chars, first) {
-        None => return Err(SyntaxFault::CountedRepetitionCommaUnclosed.into()),
+        None => return Err(SyntaxFault::CountedRepetitionCommaUnclosed),
         Some('}') => return Ok((first + 1, None)),
         Some(_) => {}
     }
     let (end, most) = read_number(chars, at, verbose)?;
     match char_at(chars, end) {
-        None => Err(SyntaxFault::CountedRepetitionMinMaxUnclosed.into()),
+        None => Err(SyntaxFault::CountedRepetitionMinMaxUnclosed),
         Some('}') => Ok((end + 1, Some(most))),
-        Some(_) => Err(SyntaxFault::CountedRepetitionInvalid.into()),
+        Some(_) => Err(SyntaxFault::CountedRepetitionInvalid),
     }
 }
 
 /// Reads a number with what stands on its sides.
-fn read_number(chars: &[char], at: usize, verbose: bool) -> Result<(usize, u32), Error>
+fn read_number(chars: &[char], at: usize, verbose: bool) -> Result<(usize, u32), SyntaxFault>
     requires { at ≤ length chars.now }
     ensures inside { IfOk result (λ r. (at < r.0) × (r.0 ≤ length chars.now)) }
     ensures ok { IfOk result (λ r. Number verbose (drop at chars.now) (drop r.0 chars.now) r.1) }
@@ -88,21 +86,21 @@ fn read_number(chars: &[char], at: usize, verbose: bool) -> Result<(usize, u32),
     ensures only { IfOk result (λ r.
         (rest : Text) (n : ℕ) → Number verbose (drop at chars.now) rest n → EndsNumber rest
         → (rest ≡ drop r.0 chars.now) × (n ≡ r.1)) }
-    ensures err { IfErr result (λ e. Denies e
-        ((rest : Text) × (n : ℕ) × Number verbose (drop at chars.now) rest n × EndsNumber rest)) }
+    ensures refused { OnErr result
+        (¬ ((rest : Text) × (n : ℕ) × Number verbose (drop at chars.now) rest n × EndsNumber rest)) }
 {
     let first = skip_side(chars, at, verbose);
     let mut end = first;
     let mut number = 0;
     while let Some((next, digit)) = next_digit(chars, end, verbose) {
         let Some(longer) = with_digit(number, digit) else {
-            return Err(SyntaxFault::DecimalInvalid.into());
+            return Err(SyntaxFault::DecimalInvalid);
         };
         number = longer;
         end = next;
     }
     if end == first {
-        return Err(SyntaxFault::DecimalNoDigits.into());
+        return Err(SyntaxFault::DecimalNoDigits);
     }
     Ok((skip_side(chars, end, verbose), number))
 }

@@ -1,10 +1,9 @@
 //! Escapes: what follows a backslash, and what it gives.
-ghost use Rattle.std.specs.Prelude.{◌≡◌, ◌<◌, ◌≤◌, drop, length, IfOk, IfErr, if◌then◌else◌};
+ghost use Rattle.std.specs.Prelude.{◌≡◌, ◌<◌, ◌≤◌, drop, length, IfOk, OnErr, if◌then◌else◌};
 ghost use Rattle.regex_lite_syntax.specs.Text.{Text};
 ghost use Rattle.regex_lite_syntax.specs.Sets.{complement};
 ghost use Rattle.regex_lite_syntax.specs.NamedSets.{members};
 ghost use Rattle.regex_lite_syntax.specs.Grammar.Escapes.{Primitive as Given, Escape, one, some_of, gives, refused, escape_kind, is_escapable};
-ghost use Rattle.regex_lite_syntax.specs.Refusals.{Denies};
 ghost use Rattle.regex_lite_syntax.specs.Parser.Readings.{primitive_of, escape_kind_of};
 
 mod boundary;
@@ -13,7 +12,7 @@ mod hexadecimal;
 mod tests;
 
 use crate::class::named::NamedSet;
-use crate::error::{Error, SyntaxFault};
+use crate::error::SyntaxFault;
 use crate::hir::look::Look;
 use crate::parse::read::char_at;
 use boundary::read_word_boundary;
@@ -46,16 +45,16 @@ pub(crate) fn read_escape(
     chars: &[char],
     at: usize,
     verbose: bool,
-) -> Result<(usize, Primitive), Error>
+) -> Result<(usize, Primitive), SyntaxFault>
     requires { at ≤ length chars.now }
     ensures inside { IfOk result (λ r. (at < r.0) × (r.0 ≤ length chars.now)) }
     ensures ok { IfOk result (λ r.
         Escape verbose (drop at chars.now) (drop r.0 chars.now) (primitive_of r.1)) }
-    ensures err { IfErr result (λ e. Denies e
-        ((rest : Text) × (p : Given) × Escape verbose (drop at chars.now) rest p)) }
+    ensures refused { OnErr result
+        (¬ ((rest : Text) × (p : Given) × Escape verbose (drop at chars.now) rest p)) }
 {
     let Some(c) = char_at(chars, at) else {
-        return Err(SyntaxFault::EscapeUnexpectedEof.into());
+        return Err(SyntaxFault::EscapeUnexpectedEof);
     };
     match meaning_of(c) {
         Meaning::Gives(primitive) => Ok((at + 1, primitive)),
@@ -67,7 +66,7 @@ pub(crate) fn read_escape(
             let (end, scalar) = read_hexadecimal(chars, at + 1, verbose, digits)?;
             Ok((end, Primitive::Char(scalar)))
         }
-        Meaning::Refused => Err(refusal_of(c).into()),
+        Meaning::Refused => Err(refusal_of(c)),
     }
 }
 

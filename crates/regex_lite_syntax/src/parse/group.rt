@@ -1,11 +1,13 @@
 //! Groups and directives.
 ghost use Rattle.std.specs.Prelude.{◌≡◌, ◌<◌, ◌≤◌, ◌+◌, ◌∷◌, [], true, false, drop, length, option_map, IfOk, IfErr, OnOk};
 ghost use Rattle.regex_lite_syntax.specs.Errors.{kind_of};
+ghost use Rattle.regex_lite_syntax.specs.Limits.{PassesGroups};
 ghost use Rattle.regex_lite_syntax.specs.Text.{Text, the};
 ghost use Rattle.regex_lite_syntax.specs.Grammar.Gaps.{WholeGap};
 ghost use Rattle.regex_lite_syntax.specs.Grammar.GroupNames.{NameOpening, Named};
 ghost use Rattle.regex_lite_syntax.specs.Tree.Views.{text_of_string};
-ghost use Rattle.regex_lite_syntax.specs.Parser.States.{group_kind, Advances, Refuses, NumberSays, OpensGroup, OpensCapture, Closes, Directs};
+ghost use Rattle.regex_lite_syntax.specs.Refusals.{Refuses};
+ghost use Rattle.regex_lite_syntax.specs.Parser.States.{group_kind, Advances, CanRead, BeginsTooMany, OpensGroup, OpensCapture, Closes, Directs};
 
 use crate::error::{Error, SyntaxFault};
 use crate::flags::Flags;
@@ -23,7 +25,8 @@ impl Parser {
         requires inside { at < length chars.now }
         requires begins { drop at chars.now ≡ the "(" ∷ drop (at + 1) chars.now }
         ensures ok { IfOk result (Advances self.old self.new chars.now at) }
-        ensures err { IfErr result (Refuses self.old (drop at chars.now)) }
+        ensures refused { let t = drop at chars.now in IfErr result (λ error.
+            Refuses (kind_of error) (¬ CanRead self.old t) ⊥ (BeginsTooMany self.old t)) }
     {
         let first = self.skip_gap(chars, at + 1);
         if !is_at(chars, first, '?') {
@@ -50,7 +53,8 @@ impl Parser {
             (drop (at + 1) chars.now) (drop first chars.now) }
         requires opens { NameOpening (drop first chars.now) (drop start chars.now) }
         ensures ok { IfOk result (Advances self.old self.new chars.now at) }
-        ensures err { IfErr result (Refuses self.old (drop at chars.now)) }
+        ensures refused { let t = drop at chars.now in IfErr result (λ error.
+            Refuses (kind_of error) (¬ CanRead self.old t) ⊥ (BeginsTooMany self.old t)) }
     {
         let end = read_name(chars, start)?;
         let letters = &chars[start..end - 1];
@@ -78,7 +82,8 @@ impl Parser {
             ≡ the "?" ∷ drop (question + 1) chars.now }
         requires unnamed { (rest name : Text) → Named (drop question chars.now) rest name → ⊥ }
         ensures ok { IfOk result (Advances self.old self.new chars.now at) }
-        ensures err { IfErr result (Refuses self.old (drop at chars.now)) }
+        ensures refused { let t = drop at chars.now in IfErr result (λ error.
+            Refuses (kind_of error) (¬ CanRead self.old t) ⊥ (BeginsTooMany self.old t)) }
     {
         if is_at(chars, question + 1, ')') {
             return Err(SyntaxFault::EmptyFlags.into());
@@ -97,7 +102,8 @@ impl Parser {
         requires inside { at < length chars.now }
         requires begins { drop at chars.now ≡ the ")" ∷ drop (at + 1) chars.now }
         ensures ok { IfOk result (Advances self.old self.new chars.now at) }
-        ensures err { IfErr result (Refuses self.old (drop at chars.now)) }
+        ensures refused { let t = drop at chars.now in IfErr result (λ error.
+            Refuses (kind_of error) (¬ CanRead self.old t) ⊥ (BeginsTooMany self.old t)) }
     {
         if !self.close()? {
             return Err(SyntaxFault::UnopenedGroup.into());
@@ -109,7 +115,8 @@ impl Parser {
     fn open_capture(&mut self, name: Option<String>) -> Result<(), Error>
         ensures ok { OnOk result
             (OpensCapture self.old self.new (option_map text_of_string name)) }
-        ensures err { IfErr result (λ e. NumberSays self.old (kind_of e)) }
+        ensures refused { IfErr result (λ error.
+            Refuses (kind_of error) ⊥ ⊥ (PassesGroups (self.old.groups + 1))) }
     {
         let Some(index) = self.groups.checked_add(1) else {
             return Err(Error::groups());

@@ -1,27 +1,30 @@
 //! Flags that are written in a pattern.
-ghost use Rattle.std.specs.Prelude.{◌≡◌, ◌<◌, ◌≤◌, ◌++◌, IsTrue, true, false, drop, length, slice_range, codes, IfOk, IfErr, OnErr, OnSome};
+ghost use Rattle.std.specs.Prelude.{◌≡◌, ◌<◌, ◌≤◌, ◌++◌, IsTrue, true, false, drop, length, slice_range, codes, IfOk, OnErr, OnSome};
 ghost use Rattle.regex_lite_syntax.specs.declared.flags.Flags.{Flags};
 ghost use Rattle.regex_lite_syntax.specs.Text.{Text, ◌∈◌};
 ghost use Rattle.regex_lite_syntax.specs.Characters.{is_one_of};
 ghost use Rattle.regex_lite_syntax.specs.Grammar.FlagLetters.{is_flag_letter, with_flag, with_flags, all_differ};
 ghost use Rattle.regex_lite_syntax.specs.Parser.FlagRuns.{EndedFlags, LetterRun};
-ghost use Rattle.regex_lite_syntax.specs.Refusals.{Denies};
 
-use crate::error::{Error, SyntaxFault};
+use crate::error::SyntaxFault;
 use crate::flags::Flags;
 use crate::parse::read::is_at;
 
 /// Reads a group's head from behind its `?` on, up to the `:` or `)` that ends it. Answers the
 /// index of that and the flags as the head changes them.
-pub(crate) fn read_head(chars: &[char], at: usize, old: Flags) -> Result<(usize, Flags), Error>
+pub(crate) fn read_head(
+    chars: &[char],
+    at: usize,
+    old: Flags,
+) -> Result<(usize, Flags), SyntaxFault>
     requires { at ≤ length chars.now }
     ensures inside { IfOk result (λ r. (at ≤ r.0) × (r.0 < length chars.now)) }
     ensures ok { IfOk result (λ r. EndedFlags old (drop at chars.now) (drop r.0 chars.now) r.1) }
-    ensures err { IfErr result (λ e. Denies e
-        ((rest : Text) × (new : Flags) × EndedFlags old (drop at chars.now) rest new)) }
+    ensures refused { OnErr result
+        (¬ ((rest : Text) × (new : Flags) × EndedFlags old (drop at chars.now) rest new)) }
 {
     match other_head(chars, at) {
-        Some(fault) => Err(fault.into()),
+        Some(fault) => Err(fault),
         None => read_flags(chars, at, old),
     }
 }
@@ -43,12 +46,12 @@ fn other_head(chars: &[char], at: usize) -> Option<SyntaxFault>
 
 /// Reads flags up to the `:` or `)` that ends them. Answers the index of that and the flags as
 /// these change them.
-fn read_flags(chars: &[char], at: usize, old: Flags) -> Result<(usize, Flags), Error>
+fn read_flags(chars: &[char], at: usize, old: Flags) -> Result<(usize, Flags), SyntaxFault>
     requires { at ≤ length chars.now }
     ensures inside { IfOk result (λ r. (at ≤ r.0) × (r.0 < length chars.now)) }
     ensures ok { IfOk result (λ r. EndedFlags old (drop at chars.now) (drop r.0 chars.now) r.1) }
-    ensures err { IfErr result (λ e. Denies e
-        ((rest : Text) × (new : Flags) × EndedFlags old (drop at chars.now) rest new)) }
+    ensures refused { OnErr result
+        (¬ ((rest : Text) × (new : Flags) × EndedFlags old (drop at chars.now) rest new)) }
 {
     let (middle, set) = read_letters(chars, at, &[], true, old)?;
     if !is_at(chars, middle, '-') {
@@ -57,10 +60,10 @@ fn read_flags(chars: &[char], at: usize, old: Flags) -> Result<(usize, Flags), E
     let begin = middle + 1;
     let (end, new) = read_letters(chars, begin, &chars[at..middle], false, set)?;
     if is_at(chars, end, '-') {
-        return Err(SyntaxFault::FlagRepeatedNegation.into());
+        return Err(SyntaxFault::FlagRepeatedNegation);
     }
     if end == begin {
-        return Err(SyntaxFault::FlagDanglingNegation.into());
+        return Err(SyntaxFault::FlagDanglingNegation);
     }
     Ok((end, new))
 }
@@ -73,15 +76,15 @@ fn read_letters(
     before: &[char],
     set: bool,
     old: Flags,
-) -> Result<(usize, Flags), Error>
+) -> Result<(usize, Flags), SyntaxFault>
     requires inside { at ≤ length chars.now }
     requires differ { IsTrue (all_differ before.now) }
     ensures inside { IfOk result (λ r. (at ≤ r.0) × (r.0 < length chars.now)) }
     ensures ok { IfOk result (λ r. LetterRun before.now (slice_range chars.now at r.0)
         (drop at chars.now) (drop r.0 chars.now)) }
     ensures flags { IfOk result (λ r. r.1 ≡ with_flags set (slice_range chars.now at r.0) old) }
-    ensures err { IfErr result (λ e. Denies e
-        ((letters rest : Text) × LetterRun before.now letters (drop at chars.now) rest)) }
+    ensures refused { OnErr result
+        (¬ ((letters rest : Text) × LetterRun before.now letters (drop at chars.now) rest)) }
 {
     let mut flags = old;
     for end in at..chars.len() {
@@ -91,10 +94,10 @@ fn read_letters(
         }
         flags = with_letter(flags, set, c)?;
         if before.contains(&c) || chars[at..end].contains(&c) {
-            return Err(SyntaxFault::FlagDuplicate.into());
+            return Err(SyntaxFault::FlagDuplicate);
         }
     }
-    Err(SyntaxFault::FlagUnexpectedEof.into())
+    Err(SyntaxFault::FlagUnexpectedEof)
 }
 
 /// Whether the character ends a run of flag letters.
@@ -107,7 +110,7 @@ fn ends_letters(c: char) -> bool
 /// The flags after one letter.
 fn with_letter(flags: Flags, set: bool, c: char) -> Result<Flags, SyntaxFault>
     ensures ok { IfOk result (λ new. IsTrue (is_flag_letter c) × (new ≡ with_flag set c flags)) }
-    ensures err { OnErr result (is_flag_letter c ≡ false) }
+    ensures refused { OnErr result (is_flag_letter c ≡ false) }
 {
     match c {
         'i' => Ok(Flags {

@@ -1,14 +1,13 @@
 //! Names of capturing groups.
-ghost use Rattle.std.specs.Prelude.{◌≡◌, ◌<◌, ◌≤◌, ◌-◌, ◌↔◌, drop, length, chars as chars_of, slice_range, IsTrue, Contains, IfOk, IfErr, IfSome, IfNone};
+ghost use Rattle.std.specs.Prelude.{◌≡◌, ◌<◌, ◌≤◌, ◌-◌, ◌↔◌, drop, length, chars as chars_of, slice_range, IsTrue, Contains, IfOk, OnErr, IfSome, IfNone};
 ghost use Rattle.regex_lite_syntax.specs.Text.{Text};
 ghost use Rattle.regex_lite_syntax.specs.Grammar.GroupNames.{begins_name, continues_name, NameWritten, NameOpening, Named};
-ghost use Rattle.regex_lite_syntax.specs.Refusals.{Denies};
 ghost use Rattle.regex_lite_syntax.specs.Tree.Views.{text_of_string, names_of};
 
 #[cfg(test)]
 mod tests;
 
-use crate::error::{Error, SyntaxFault};
+use crate::error::SyntaxFault;
 use crate::parse::read::{char_at, is_at};
 use std::alloc::{AllocError, Global};
 use unicode::properties::{GeneralCategory, is_alphabetic};
@@ -34,18 +33,18 @@ pub(crate) fn skip_name_opening(chars: &[char], at: usize) -> Option<usize>
 }
 
 /// Reads a name from behind the `<` on, and answers the index behind the `>` that ends it.
-pub(crate) fn read_name(chars: &[char], at: usize) -> Result<usize, Error>
+pub(crate) fn read_name(chars: &[char], at: usize) -> Result<usize, SyntaxFault>
     requires { at ≤ length chars.now }
     ensures inside { IfOk result (λ end. (at < end) × (end ≤ length chars.now)) }
     ensures ok { IfOk result (λ end. NameWritten (drop at chars.now) (drop end chars.now)
         (slice_range chars.now at (end - 1))) }
-    ensures err { IfErr result (λ e. Denies e
-        ((rest : Text) × (name : Text) × NameWritten (drop at chars.now) rest name)) }
+    ensures refused { OnErr result
+        (¬ ((rest : Text) × (name : Text) × NameWritten (drop at chars.now) rest name)) }
 {
     match char_at(chars, at) {
-        None => return Err(SyntaxFault::MissingGroupName.into()),
-        Some('>') => return Err(SyntaxFault::EmptyGroupName.into()),
-        Some(c) if !may_begin_name(c) => return Err(fault_of_start(chars, at).into()),
+        None => return Err(SyntaxFault::MissingGroupName),
+        Some('>') => return Err(SyntaxFault::EmptyGroupName),
+        Some(c) if !may_begin_name(c) => return Err(fault_of_start(chars, at)),
         Some(_) => {}
     }
     let mut end = at + 1;
@@ -54,11 +53,11 @@ pub(crate) fn read_name(chars: &[char], at: usize) -> Result<usize, Error>
             return Ok(end + 1);
         }
         if !may_continue_name(c) {
-            return Err(SyntaxFault::InvalidGroupName.into());
+            return Err(SyntaxFault::InvalidGroupName);
         }
         end += 1;
     }
-    Err(SyntaxFault::UnclosedGroupName.into())
+    Err(SyntaxFault::UnclosedGroupName)
 }
 
 /// The fault of what stands at the index in a name's place and begins none: `(?<=` and `(?<!` open

@@ -1,10 +1,12 @@
 //! Operators.
 ghost use Rattle.std.specs.Prelude.{◌≡◌, ◌<◌, ◌+◌, ◌∷◌, [], ℕ, Some, drop, length, IfOk, IfErr, OnOk};
+ghost use Rattle.regex_lite_syntax.specs.Errors.{kind_of};
 ghost use Rattle.regex_lite_syntax.specs.Text.{the};
 ghost use Rattle.regex_lite_syntax.specs.Tree.{repeated};
 ghost use Rattle.regex_lite_syntax.specs.Grammar.Operators.{times, greed};
 ghost use Rattle.regex_lite_syntax.specs.Tree.Views.{tree_of};
-ghost use Rattle.regex_lite_syntax.specs.Parser.States.{Advances, Refuses, Adds};
+ghost use Rattle.regex_lite_syntax.specs.Refusals.{Refuses};
+ghost use Rattle.regex_lite_syntax.specs.Parser.States.{Advances, CanRead, BeginsTooMany, Adds};
 
 use crate::error::{Error, SyntaxFault};
 use crate::hir::Hir;
@@ -26,7 +28,8 @@ impl Parser {
         requires bounded { (c : ℕ) → drop at chars.now ≡ c ∷ drop (at + 1) chars.now →
             times c ≡ Some (least, most) }
         ensures ok { IfOk result (Advances self.old self.new chars.now at) }
-        ensures err { IfErr result (Refuses self.old (drop at chars.now)) }
+        ensures refused { let t = drop at chars.now in IfErr result (λ error.
+            Refuses (kind_of error) (¬ CanRead self.old t) ⊥ (BeginsTooMany self.old t)) }
     {
         let Some(item) = self.here.items.pop() else {
             return Err(SyntaxFault::UncountedRepetitionSubMissing.into());
@@ -45,7 +48,8 @@ impl Parser {
         requires inside { at < length chars.now }
         requires begins { drop at chars.now ≡ the "{" ∷ drop (at + 1) chars.now }
         ensures ok { IfOk result (Advances self.old self.new chars.now at) }
-        ensures err { IfErr result (Refuses self.old (drop at chars.now)) }
+        ensures refused { let t = drop at chars.now in IfErr result (λ error.
+            Refuses (kind_of error) (¬ CanRead self.old t) ⊥ (BeginsTooMany self.old t)) }
     {
         let Some(item) = self.here.items.pop() else {
             return Err(SyntaxFault::CountedRepetitionSubMissing.into());

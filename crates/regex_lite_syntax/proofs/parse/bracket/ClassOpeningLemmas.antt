@@ -1,15 +1,11 @@
 -- What a class begins with, and the class as a whole.
-use Rattle.std.proofs.Common.{◌≡◌, refl, sym, ◌∙◌, ap, subst, ℕ, zero, suc, ◌+◌, Bool, true, false, List, ◌∷◌, arith, nat_lt}
+use Rattle.std.proofs.Common.{◌≡◌, refl, sym, ◌∙◌, subst, ℕ, zero, suc, ◌+◌, Bool, true, false, List, ◌∷◌, arith, nat_lt}
 use Rattle.std.proofs.lemmas.Bool.{lt-ltb}
-use Rattle.regex_lite_syntax.specs.declared.parse.bracket.opening.Opening.{Opening}
 use Rattle.regex_lite_syntax.specs.Text.{Text, Begins, the}
 use Rattle.regex_lite_syntax.specs.Grammar.Gaps.{WholeGap}
 use Rattle.regex_lite_syntax.specs.Sets.{Set, just}
-use Rattle.regex_lite_syntax.specs.Grammar.Classes.{Takes, Dashes, FirstBracket, ClassItems, only_if, class_set, BracketedClass}
-use Rattle.regex_lite_syntax.specs.Parser.ClassReadings.{ClassOpening}
-use Rattle.regex_lite_syntax.proofs.ListLemmas.{same_tail}
-use Rattle.regex_lite_syntax.proofs.grammar.GapLemmas.{whole_gap_once}
-use Rattle.regex_lite_syntax.proofs.grammar.ClassLemmas.{takes_once, dashes_once, bracket_once}
+use Rattle.regex_lite_syntax.specs.Grammar.Classes.{Takes, Dashes, FirstBracket, ClassOpening, ClassItems, only_if, class_set, BracketedClass}
+use Rattle.regex_lite_syntax.proofs.grammar.ClassLemmas.{opening_once}
 
 -- one more dash
 pub dashes_push : (verbose : Bool) (n more : ℕ) (t u past next rest : Text)
@@ -38,41 +34,25 @@ bracket_past verbose (suc n) t rest dashed taken e left taken_there =
     let some : nat_lt 0 (suc n) ≡ true = lt-ltb 0 (suc n) (omega arith) in left (e ∙ some)
 
 -- the class of what stands first in it and of its items
-pub class_from : (insensitive verbose : Bool) (t u rest : Text) (opening : Opening) (sets : List Set)
-    → ClassOpening verbose t u opening → ClassItems verbose sets u rest
-    → BracketedClass insensitive verbose t rest (class_set insensitive opening.negated
-    (only_if opening.dash (just (the "-")) ∷ only_if opening.bracket (just (the "]")) ∷ sets))
-class_from insensitive verbose t u rest opening sets opens items = record {
-  opened = opens.opened;
-  first = opens.first;
-  past_caret = opens.past_caret;
-  past_dashes = opens.past_dashes;
-  past_bracket = u;
-  negated = opening.negated;
-  dashes = opens.dashes;
-  bracket = opening.bracket;
+pub class_from : (insensitive verbose : Bool) (t u rest : Text) (negated dash bracket : Bool) (sets : List Set)
+    → ClassOpening verbose t u negated dash bracket → ClassItems verbose sets u rest
+    → BracketedClass insensitive verbose t rest (class_set insensitive negated
+    (only_if dash (just (the "-")) ∷ only_if bracket (just (the "]")) ∷ sets))
+class_from insensitive verbose t u rest negated dash bracket sets opens items = record {
+  negated = negated;
+  dash = dash;
+  bracket = bracket;
+  past_opening = u;
   sets = sets;
-  opens = opens.opens;
-  gap = opens.gap;
-  negation = opens.negation;
-  dashed = opens.dashed;
-  bracketed = opens.bracketed;
+  opening = opens;
   items = items;
-  set_is = ap (λ d. class_set insensitive opening.negated
-      (only_if d (just (the "-")) ∷ only_if opening.bracket (just (the "]")) ∷ sets)) opens.has_dash;
+  set_is = refl;
 }
 
 -- the items of a class stand past what it begins with
-pub class_items : (insensitive verbose : Bool) (t u rest : Text) (opening : Opening) (s : Set)
-    → ClassOpening verbose t u opening → (c : BracketedClass insensitive verbose t rest s) → ClassItems verbose c.sets u rest
-class_items insensitive verbose t u rest opening s o c =
-    let gaps = whole_gap_once verbose o.opened o.first c.first o.gap
-    (subst (λ v. WholeGap verbose v c.first) (same_tail (sym c.opens ∙ o.opens)) c.gap) in
-    let carets = takes_once verbose (the "^") o.first o.past_caret c.past_caret opening.negated c.negated o.negation
-    (subst (λ v. Takes verbose (the "^") v c.past_caret c.negated) (sym gaps) c.negation) in
-    let counts = dashes_once verbose o.dashes c.dashes o.past_caret o.past_dashes c.past_dashes o.dashed
-    (subst (λ v. Dashes verbose c.dashes v c.past_dashes) (sym carets.0) c.dashed) in
-    let brackets = bracket_once verbose o.dashes o.past_dashes u c.past_bracket opening.bracket c.bracket o.bracketed
-    (subst (λ n. FirstBracket verbose n o.past_dashes c.past_bracket c.bracket) (sym counts.0)
-    (subst (λ v. FirstBracket verbose c.dashes v c.past_bracket c.bracket) (sym counts.1) c.bracketed)) in
-    subst (λ v. ClassItems verbose c.sets v rest) (sym brackets.0) c.items
+pub class_items : (insensitive verbose : Bool) (t u rest : Text) (negated dash bracket : Bool) (s : Set)
+    → ClassOpening verbose t u negated dash bracket → (c : BracketedClass insensitive verbose t rest s)
+    → ClassItems verbose c.sets u rest
+class_items insensitive verbose t u rest negated dash bracket s o c =
+    let same = opening_once verbose t u c.past_opening negated c.negated dash c.dash bracket c.bracket o c.opening in
+    subst (λ v. ClassItems verbose c.sets v rest) (sym same.0) c.items

@@ -1,8 +1,9 @@
-use Rattle.std.proofs.Common.{ℕ, Bool, ◌≡◌, ◌<◌, sym, subst, arith, drop, length, []}
+use Rattle.std.proofs.Common.{ℕ, Bool, ◌≡◌, ◌≢◌, ◌<◌, sym, subst, arith, drop, length, []}
 use Rattle.std.proofs.lemmas.Bool.{both_ways}
 use Rattle.std.proofs.lemmas.List.{drop_all}
 use Rattle.std.proofs.lemmas.Result.{IfOk-weaker, IfErr-weaker, err_from_is_err_and}
 use Rattle.regex_lite_syntax.specs.Errors.{kind_of}
+use Rattle.regex_lite_syntax.specs.Refusals.{Refuses}
 use Rattle.regex_lite_syntax.specs.Text.{Text}
 use Rattle.regex_lite_syntax.specs.Grammar.Gaps.{Gap, WholeGap}
 use Rattle.regex_lite_syntax.specs.Limits.{IsAdmitted, SaysOf, depth}
@@ -10,7 +11,7 @@ use Rattle.regex_lite_syntax.specs.Tree.Regular.{IsRegular}
 use Rattle.regex_lite_syntax.specs.Tree.Views.{names_of, tree_of}
 use Rattle.regex_lite_syntax.specs.Grammar.GroupNames.{NamesDiffer}
 use Rattle.regex_lite_syntax.specs.Parser.Machine.{stay}
-use Rattle.regex_lite_syntax.specs.Parser.States.{Finishes, EndSays}
+use Rattle.regex_lite_syntax.specs.Parser.States.{Finishes, FinishesTooDeep}
 use Rattle.regex_lite_syntax.proofs.parse.IndexLemmas.{drop_at}
 use Rattle.regex_lite_syntax.proofs.grammar.NameLemmas.{no_names_differ}
 use Rattle.regex_lite_syntax.proofs.machine.RunLemmas.{reaches_next, too_deep, admitted, end_says, step_says}
@@ -89,9 +90,10 @@ returns-then-here-chars-clause-refused c =
     let p = c.loop-parser.parser in
     let t = drop c.loop-parser.at xs in
     let gap = gap_only xs c.skip_gap-here.result _ t c.if-here-chars.true c.skip_gap-here.ensures.gap in
-    IfErr-weaker c.finish.result (λ e. EndSays p config.nest_limit (kind_of e))
+    IfErr-weaker c.finish.result
+    (λ e. Refuses (kind_of e) (p.below.items ≢ []) (FinishesTooDeep p config.nest_limit) ⊥)
     (λ e. SaysOf config.flags config.nest_limit xs (kind_of e))
-    (λ e. end_says config.flags config.nest_limit xs p t (kind_of e) c.loop-parser.invariant.reaches gap) c.finish.ensures.err
+    (λ e. end_says config.flags config.nest_limit xs p t (kind_of e) c.loop-parser.invariant.reaches gap) c.finish.ensures.refused
 
 pub returns-in_err-at-clause-refused : goal.returns-in_err-at-clause-refused
 returns-in_err-at-clause-refused c =
@@ -103,4 +105,4 @@ returns-in_err-at-clause-refused c =
     let left = err_from_is_err_and c.from_residual.result c.from_residual.ensures.1 in
     rw (left.1, left.2) (step_says config.flags config.nest_limit xs c.loop-parser.parser (drop c.loop-parser.at xs)
     (drop here xs) (kind_of c.in_err-at.field-0.0) c.loop-parser.invariant.reaches c.skip_gap-here.ensures.gap more
-    c.in_err-at.ensures.err)
+    c.in_err-at.ensures.refused)

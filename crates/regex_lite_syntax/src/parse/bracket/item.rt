@@ -1,15 +1,14 @@
 //! Items of a class.
-ghost use Rattle.std.specs.Prelude.{◌<◌, ◌≤◌, drop, length, IfOk, IfErr, IfSome, MatchOption};
+ghost use Rattle.std.specs.Prelude.{◌<◌, ◌≤◌, drop, length, IfOk, OnErr, IfSome, MatchOption};
 ghost use Rattle.regex_lite_syntax.specs.Text.{Text, Begins, the};
 ghost use Rattle.regex_lite_syntax.specs.Grammar.Gaps.{EndsGap};
 ghost use Rattle.regex_lite_syntax.specs.Sets.{Set};
 ghost use Rattle.regex_lite_syntax.specs.Grammar.Escapes.{Primitive as Given};
 ghost use Rattle.regex_lite_syntax.specs.Grammar.Classes.{ClassElement, RangeFollows, ClassItem};
 ghost use Rattle.regex_lite_syntax.specs.Parser.ClassReadings.{element_primitive, IsElement, item_set, BeginsOperator, RangeTo, EndsOpen, HasItems};
-ghost use Rattle.regex_lite_syntax.specs.Refusals.{Denies};
 
 use crate::class::named::NamedSet;
-use crate::error::{Error, SyntaxFault};
+use crate::error::SyntaxFault;
 use crate::parse::bracket::named::read_named_set;
 use crate::parse::escape::{Primitive, read_escape};
 use crate::parse::gap::skip_gap;
@@ -33,26 +32,30 @@ pub(crate) enum Item {
 }
 
 /// Reads an item, and answers the index behind it. No `]` stands at the index.
-pub(crate) fn read_item(chars: &[char], at: usize, verbose: bool) -> Result<(usize, Item), Error>
+pub(crate) fn read_item(
+    chars: &[char],
+    at: usize,
+    verbose: bool,
+) -> Result<(usize, Item), SyntaxFault>
     requires inside { at ≤ length chars.now }
     requires past_gap { EndsGap verbose (drop at chars.now) }
     requires goes_on { Begins (the "]") (drop at chars.now) → ⊥ }
     ensures inside { IfOk result (λ r. (at < r.0) × (r.0 ≤ length chars.now)) }
     ensures ok { IfOk result (λ r.
         ClassItem verbose (drop at chars.now) (drop r.0 chars.now) (item_set r.1)) }
-    ensures err { IfErr result (λ e. Denies e (HasItems verbose (drop at chars.now))) }
+    ensures refused { OnErr result (¬ HasItems verbose (drop at chars.now)) }
 {
     if at == chars.len() {
-        return Err(SyntaxFault::ClassUnclosed.into());
+        return Err(SyntaxFault::ClassUnclosed);
     }
     if is_at(chars, at, '[') {
         return match read_named_set(chars, at) {
             Some((end, element)) => Ok((end, Item::Alone(element))),
-            None => Err(SyntaxFault::ClassNestUnsupported.into()),
+            None => Err(SyntaxFault::ClassNestUnsupported),
         };
     }
     if let Some(fault) = operator_fault(chars, at) {
-        return Err(fault.into());
+        return Err(fault);
     }
     let (past, element) = read_element(chars, at, verbose)?;
     match find_range_end(chars, past, verbose)? {
@@ -80,14 +83,14 @@ fn operator_fault(chars: &[char], at: usize) -> Option<SyntaxFault>
 }
 
 /// Reads one character or one escape, and answers the index behind it.
-fn read_element(chars: &[char], at: usize, verbose: bool) -> Result<(usize, Element), Error>
+fn read_element(chars: &[char], at: usize, verbose: bool) -> Result<(usize, Element), SyntaxFault>
     requires inside { at < length chars.now }
     requires past_gap { EndsGap verbose (drop at chars.now) }
     ensures inside { IfOk result (λ r. (at < r.0) × (r.0 ≤ length chars.now)) }
     ensures ok { IfOk result (λ r.
         ClassElement verbose (drop at chars.now) (drop r.0 chars.now) (element_primitive r.1)) }
-    ensures err { IfErr result (λ e. Denies e
-        ((rest : Text) × (p : Given) × IsElement p × ClassElement verbose (drop at chars.now) rest p)) }
+    ensures refused { OnErr result
+        (¬ ((rest : Text) × (p : Given) × IsElement p × ClassElement verbose (drop at chars.now) rest p)) }
 {
     let c = chars[at];
     if c != '\\' {
@@ -96,7 +99,7 @@ fn read_element(chars: &[char], at: usize, verbose: bool) -> Result<(usize, Elem
     match read_escape(chars, at + 1, verbose)? {
         (end, Primitive::Char(c)) => Ok((end, Element::Char(c))),
         (end, Primitive::Set { set, negated }) => Ok((end, Element::Set { set, negated })),
-        (_, Primitive::Look(_)) => Err(SyntaxFault::ClassInvalidItem.into()),
+        (_, Primitive::Look(_)) => Err(SyntaxFault::ClassInvalidItem),
     }
 }
 
@@ -108,7 +111,7 @@ fn find_range_end(chars: &[char], at: usize, verbose: bool) -> Result<Option<usi
     ensures ok { IfOk result (λ found. MatchOption found
         ((last : Text) → RangeFollows verbose (drop at chars.now) last → ⊥)
         (λ last. RangeFollows verbose (drop at chars.now) (drop last chars.now))) }
-    ensures err { IfErr result (λ _. EndsOpen verbose (drop at chars.now)) }
+    ensures refused { OnErr result (EndsOpen verbose (drop at chars.now)) }
 {
     let dash = skip_gap(chars, at, verbose);
     if dash == chars.len() {
@@ -133,24 +136,25 @@ fn read_range(
     start: Element,
     last: usize,
     verbose: bool,
-) -> Result<(usize, Item), Error>
+) -> Result<(usize, Item), SyntaxFault>
     requires inside { last < length chars.now }
     requires past_gap { EndsGap verbose (drop last chars.now) }
     ensures inside { IfOk result (λ r. (last < r.0) × (r.0 ≤ length chars.now)) }
     ensures ok { IfOk result (λ r. RangeTo verbose (element_primitive start)
         (drop last chars.now) (drop r.0 chars.now) (item_set r.1)) }
-    ensures err { IfErr result (λ e. Denies e ((rest : Text) × (s : Set)
+    ensures refused { OnErr result
+        (¬ ((rest : Text) × (s : Set)
         × RangeTo verbose (element_primitive start) (drop last chars.now) rest s)) }
 {
     let Element::Char(start) = start else {
-        return Err(SyntaxFault::ClassInvalidRangeItem.into());
+        return Err(SyntaxFault::ClassInvalidRangeItem);
     };
     let (past, element) = read_element(chars, last, verbose)?;
     let Element::Char(end) = element else {
-        return Err(SyntaxFault::ClassInvalidRangeItem.into());
+        return Err(SyntaxFault::ClassInvalidRangeItem);
     };
     if start > end {
-        return Err(SyntaxFault::ClassInvalidRange.into());
+        return Err(SyntaxFault::ClassInvalidRange);
     }
     Ok((past, Item::Range { start, end }))
 }

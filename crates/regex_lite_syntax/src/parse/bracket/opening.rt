@@ -2,8 +2,7 @@
 ghost use Rattle.std.specs.Prelude.{◌≡◌, ◌<◌, ◌≤◌, ◌+◌, ◌∷◌, ℕ, nat_lt, drop, length};
 ghost use Rattle.regex_lite_syntax.specs.Text.{the};
 ghost use Rattle.regex_lite_syntax.specs.Grammar.Gaps.{EndsGap};
-ghost use Rattle.regex_lite_syntax.specs.Grammar.Classes.{Takes, Dashes, FirstBracket};
-ghost use Rattle.regex_lite_syntax.specs.Parser.ClassReadings.{ClassOpening};
+ghost use Rattle.regex_lite_syntax.specs.Grammar.Classes.{Takes, Dashes, FirstBracket, ClassOpening};
 
 use crate::error::SyntaxFault;
 use crate::parse::gap::skip_gap;
@@ -38,7 +37,9 @@ pub(crate) fn read_opening(chars: &[char], at: usize, verbose: bool) -> (usize, 
     requires begins { drop at chars.now ≡ the "[" ∷ drop (at + 1) chars.now }
     ensures inside { (at < result.0) × (result.0 ≤ length chars.now) }
     ensures past_gap { EndsGap verbose (drop result.0 chars.now) }
-    ensures opens { ClassOpening verbose (drop at chars.now) (drop result.0 chars.now) result.1 }
+    ensures opens { let opening = result.1 in
+        ClassOpening verbose (drop at chars.now) (drop result.0 chars.now)
+        opening.negated opening.dash opening.bracket }
 {
     let first = skip_gap(chars, at + 1, verbose);
     let (past_caret, negated) = take(chars, first, '^', verbose);

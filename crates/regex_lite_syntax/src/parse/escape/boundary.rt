@@ -1,13 +1,12 @@
 //! Starts and ends of words: `\b`, and its forms with a name in braces.
-ghost use Rattle.std.specs.Prelude.{◌≡◌, ◌≤◌, ◌∷◌, drop, length, IsTrue, IfOk, IfErr, IfSome, IfNone};
+ghost use Rattle.std.specs.Prelude.{◌≡◌, ◌≤◌, ◌∷◌, drop, length, IsTrue, IfOk, OnErr, IfSome, IfNone};
 ghost use Rattle.std.specs.List.{list_all};
 ghost use Rattle.regex_lite_syntax.specs.declared.hir.look.Look.{Look};
 ghost use Rattle.regex_lite_syntax.specs.Text.{Text, the};
 ghost use Rattle.regex_lite_syntax.specs.Grammar.Gaps.{Gap, Spaced};
 ghost use Rattle.regex_lite_syntax.specs.Grammar.Escapes.{is_boundary_character, BoundaryName, WordBoundary};
-ghost use Rattle.regex_lite_syntax.specs.Refusals.{Denies};
 
-use crate::error::{Error, SyntaxFault};
+use crate::error::SyntaxFault;
 use crate::hir::look::Look;
 use crate::parse::gap::skip_gap;
 use crate::parse::read::{char_at, is_at};
@@ -18,33 +17,33 @@ pub(super) fn read_word_boundary(
     chars: &[char],
     at: usize,
     verbose: bool,
-) -> Result<(usize, Look), Error>
+) -> Result<(usize, Look), SyntaxFault>
     requires { at ≤ length chars.now }
     ensures inside { IfOk result (λ r. (at ≤ r.0) × (r.0 ≤ length chars.now)) }
     ensures ok { IfOk result (λ r.
         WordBoundary verbose (drop at chars.now) (drop r.0 chars.now) r.1) }
-    ensures err { IfErr result (λ e. Denies e
-        ((rest : Text) × (look : Look) × WordBoundary verbose (drop at chars.now) rest look)) }
+    ensures refused { OnErr result
+        (¬ ((rest : Text) × (look : Look) × WordBoundary verbose (drop at chars.now) rest look)) }
 {
     if !is_at(chars, at, '{') {
         return Ok((at, Look::Word));
     }
     let first = skip_gap(chars, at + 1, verbose);
     match char_at(chars, first) {
-        None => Err(SyntaxFault::SpecialWordOrRepetitionUnexpectedEof.into()),
+        None => Err(SyntaxFault::SpecialWordOrRepetitionUnexpectedEof),
         Some(c) if is_name_char(c) => read_name(chars, at + 1, verbose),
         Some(_) => Ok((at, Look::Word)),
     }
 }
 
 /// Reads a name from behind the opening brace on, and the brace that closes.
-fn read_name(chars: &[char], at: usize, verbose: bool) -> Result<(usize, Look), Error>
+fn read_name(chars: &[char], at: usize, verbose: bool) -> Result<(usize, Look), SyntaxFault>
     requires { at ≤ length chars.now }
     ensures inside { IfOk result (λ r. (at ≤ r.0) × (r.0 ≤ length chars.now)) }
     ensures ok { IfOk result (λ r.
         BoundaryName verbose (drop at chars.now) (drop r.0 chars.now) r.1) }
-    ensures err { IfErr result (λ e. Denies e
-        ((rest : Text) × (look : Look) × BoundaryName verbose (drop at chars.now) rest look)) }
+    ensures refused { OnErr result
+        (¬ ((rest : Text) × (look : Look) × BoundaryName verbose (drop at chars.now) rest look)) }
 {
     if let Some(end) = skip_name(chars, at, verbose, "start") {
         return Ok((end, Look::WordStart));
@@ -58,7 +57,7 @@ fn read_name(chars: &[char], at: usize, verbose: bool) -> Result<(usize, Look), 
     if let Some(end) = skip_name(chars, at, verbose, "end-half") {
         return Ok((end, Look::WordEndHalf));
     }
-    Err(fault_of_name(chars, at, verbose).into())
+    Err(fault_of_name(chars, at, verbose))
 }
 
 /// Where the brace ends that closes this name, if both stand there.

@@ -1,11 +1,10 @@
 //! Characters by their numbers: so many hexadecimal digits, or some in braces.
-ghost use Rattle.std.specs.Prelude.{◌≡◌, ℕ, ◌<◌, ◌≤◌, drop, length, IsTrue, false, MatchOption, IfOk, IfErr};
+ghost use Rattle.std.specs.Prelude.{◌≡◌, ℕ, ◌<◌, ◌≤◌, drop, length, IsTrue, false, MatchOption, IfOk, OnErr};
 ghost use Rattle.regex_lite_syntax.specs.Text.{Text};
 ghost use Rattle.regex_lite_syntax.specs.Characters.{is_hex_digit, digit_value as value_of_digit};
 ghost use Rattle.regex_lite_syntax.specs.Grammar.Escapes.{FixedDigits, BracedDigits, Hexadecimal};
-ghost use Rattle.regex_lite_syntax.specs.Refusals.{Denies};
 
-use crate::error::{Error, SyntaxFault};
+use crate::error::SyntaxFault;
 use crate::parse::gap::skip_gap;
 use crate::parse::read::char_at;
 
@@ -18,85 +17,90 @@ pub(super) fn read_hexadecimal(
     at: usize,
     verbose: bool,
     digits: u32,
-) -> Result<(usize, char), Error>
+) -> Result<(usize, char), SyntaxFault>
     requires inside { at ≤ length chars.now }
     requires some { 0 < digits }
     ensures inside { IfOk result (λ r. (at ≤ r.0) × (r.0 ≤ length chars.now)) }
     ensures ok { IfOk result (λ r.
         Hexadecimal verbose digits (drop at chars.now) (drop r.0 chars.now) r.1) }
-    ensures err { IfErr result (λ e. Denies e
-        ((rest : Text) × (c : ℕ) × Hexadecimal verbose digits (drop at chars.now) rest c)) }
+    ensures refused { OnErr result
+        (¬ ((rest : Text) × (c : ℕ) × Hexadecimal verbose digits (drop at chars.now) rest c)) }
 {
     let first = skip_gap(chars, at, verbose);
     match char_at(chars, first) {
-        None => Err(SyntaxFault::HexUnexpectedEof.into()),
+        None => Err(SyntaxFault::HexUnexpectedEof),
         Some('{') => read_braced(chars, first + 1, verbose),
         Some(_) => read_fixed(chars, at, verbose, digits),
     }
 }
 
 /// Reads so many digits.
-fn read_fixed(chars: &[char], at: usize, verbose: bool, digits: u32) -> Result<(usize, char), Error>
+fn read_fixed(
+    chars: &[char],
+    at: usize,
+    verbose: bool,
+    digits: u32,
+) -> Result<(usize, char), SyntaxFault>
     requires { at ≤ length chars.now }
     ensures inside { IfOk result (λ r. (at ≤ r.0) × (r.0 ≤ length chars.now)) }
     ensures ok { IfOk result (λ r.
         FixedDigits verbose digits (drop at chars.now) (drop r.0 chars.now) r.1) }
-    ensures err { IfErr result (λ e. Denies e
-        ((rest : Text) × (c : ℕ) × FixedDigits verbose digits (drop at chars.now) rest c)) }
+    ensures refused { OnErr result
+        (¬ ((rest : Text) × (c : ℕ) × FixedDigits verbose digits (drop at chars.now) rest c)) }
 {
     let mut end = at;
     let mut number = 0;
     for _ in 0..digits {
         let next = skip_gap(chars, end, verbose);
         let Some(c) = char_at(chars, next) else {
-            return Err(SyntaxFault::HexFixedUnexpectedEof.into());
+            return Err(SyntaxFault::HexFixedUnexpectedEof);
         };
         let Some(digit) = hex_value(c) else {
-            return Err(SyntaxFault::HexFixedInvalidDigit.into());
+            return Err(SyntaxFault::HexFixedInvalidDigit);
         };
         number = number * 16 + digit;
         if number > LAST {
-            return Err(SyntaxFault::HexFixedInvalid.into());
+            return Err(SyntaxFault::HexFixedInvalid);
         }
         end = next + 1;
     }
     match char::from_u32(number) {
         Some(c) => Ok((end, c)),
-        None => Err(SyntaxFault::HexFixedInvalid.into()),
+        None => Err(SyntaxFault::HexFixedInvalid),
     }
 }
 
 /// Reads the digits from behind an opening brace on, and the brace that closes.
-fn read_braced(chars: &[char], at: usize, verbose: bool) -> Result<(usize, char), Error>
+fn read_braced(chars: &[char], at: usize, verbose: bool) -> Result<(usize, char), SyntaxFault>
     requires { at ≤ length chars.now }
     ensures inside { IfOk result (λ r. (at ≤ r.0) × (r.0 ≤ length chars.now)) }
     ensures ok { IfOk result (λ r.
         BracedDigits verbose (drop at chars.now) (drop r.0 chars.now) r.1) }
-    ensures err { IfErr result (λ e. Denies e
-        ((rest : Text) × (c : ℕ) × BracedDigits verbose (drop at chars.now) rest c)) }
+    ensures refused { OnErr result
+        (¬ ((rest : Text) × (c : ℕ) × BracedDigits verbose (drop at chars.now) rest c)) }
 {
     let mut end = at;
     let mut number = 0;
     loop {
         let next = skip_gap(chars, end, verbose);
         let Some(c) = char_at(chars, next) else {
-            return Err(SyntaxFault::HexBraceUnexpectedEof.into());
+            return Err(SyntaxFault::HexBraceUnexpectedEof);
         };
         if c == '}' {
             if end == at {
-                return Err(SyntaxFault::HexBraceEmpty.into());
+                return Err(SyntaxFault::HexBraceEmpty);
             }
             return match char::from_u32(number) {
                 Some(scalar) => Ok((next + 1, scalar)),
-                None => Err(SyntaxFault::HexBraceInvalid.into()),
+                None => Err(SyntaxFault::HexBraceInvalid),
             };
         }
         let Some(digit) = hex_value(c) else {
-            return Err(SyntaxFault::HexBraceInvalidDigit.into());
+            return Err(SyntaxFault::HexBraceInvalidDigit);
         };
         number = number * 16 + digit;
         if number > LAST {
-            return Err(SyntaxFault::HexBraceInvalid.into());
+            return Err(SyntaxFault::HexBraceInvalid);
         }
         end = next + 1;
     }

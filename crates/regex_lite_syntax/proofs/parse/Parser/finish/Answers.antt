@@ -15,9 +15,9 @@ returns-clause-ok c =
       λ deep. both_ways _ c.if-is_deeper_than.false (c.is_deeper_than.ensures.1 deep),
     )
 
-pub returns-then-is_deeper_than-clause-err : goal.returns-then-is_deeper_than-clause-err
+pub returns-then-is_deeper_than-clause-refused : goal.returns-then-is_deeper_than-clause-refused
 unfolding state
-returns-then-is_deeper_than-clause-err c =
+returns-then-is_deeper_than-clause-refused c =
     let below = c.args.self.below in
     let none = none_left below.items
     (sym below.ok.0 ∙ eqb-true _ 0 (sym c.is_empty.ensures ∙ c.if-not-is_empty.false)) in

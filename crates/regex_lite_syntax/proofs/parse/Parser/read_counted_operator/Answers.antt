@@ -5,24 +5,22 @@ use Rattle.regex_lite_syntax.specs.Grammar.Operators.{greed, counted_lazy}
 use Rattle.regex_lite_syntax.specs.Tree.Views.{tree_of}
 use Rattle.regex_lite_syntax.specs.Parser.Machine.{with_items}
 use Rattle.regex_lite_syntax.specs.Parser.States.{state}
-use Rattle.regex_lite_syntax.proofs.parse.DenialLemmas.{refuses_as}
 use Rattle.regex_lite_syntax.proofs.grammar.OperatorLemmas.{counted_greedy}
 use Rattle.regex_lite_syntax.proofs.machine.StateLemmas.{map_pushed, none_left}
 use Rattle.regex_lite_syntax.proofs.machine.ReadStepLemmas.{reads_repeated, reads_no_counted, reads_no_counts}
 use Rattle.regex_lite_syntax.proofs.parse.Parser.read_counted_operator.Goals as goal
 
-pub returns-in_default-clause-err : goal.returns-in_default-clause-err
-returns-in_default-clause-err c =
+pub returns-in_default-clause-refused : goal.returns-in_default-clause-refused
+returns-in_default-clause-refused c =
     let items = c.args.self.now.here.items in
     let none = none_left items.items (sym items.ok.0 ∙ c.in_default.ensures.cases.0) in
     rw c.into.ensures (reads_no_counted c.args.self.now _ _ c.requires.begins none)
 
-pub returns-in_err-end-clause-err : goal.returns-in_err-end-clause-err
-returns-in_err-end-clause-err c =
+pub returns-in_err-end-clause-refused : goal.returns-in_err-end-clause-refused
+returns-in_err-end-clause-refused c =
     let left = err_from_is_err_and c.from_residual.result c.from_residual.ensures.1 in
-    rw (left.1, left.2) (refuses_as c.in_err-end.field-0.0 c.args.self.now _ _
-    (λ none. reads_no_counts c.args.self.now _ _ c.requires.begins (λ past least most counted. none (past, least, most, counted)))
-    c.in_err-end.ensures.err)
+    rw (left.1, left.2) (reads_no_counts c.args.self.now _ _ c.requires.begins
+    (λ past least most counted. c.in_err-end.ensures.refused (past, least, most, counted)))
 
 pub returns-then-lazy-clause-ok : goal.returns-then-lazy-clause-ok
 unfolding state with_items

@@ -3,24 +3,21 @@ use Rattle.std.proofs.lemmas.Result.{err_from_is_err_and}
 use Rattle.regex_lite_syntax.specs.Text.{Text, Begins, the}
 use Rattle.regex_lite_syntax.specs.Grammar.Gaps.{Gap, WholeGap}
 use Rattle.regex_lite_syntax.specs.Grammar.FlagLetters.{FlagLetters}
-use Rattle.regex_lite_syntax.proofs.parse.DenialLemmas.{refuses_as}
 use Rattle.regex_lite_syntax.proofs.parse.IndexLemmas.{drop_begins}
 use Rattle.regex_lite_syntax.proofs.machine.ReadHeadLemmas.{reads_head, reads_directive, reads_no_flags, reads_no_empty}
 use Rattle.regex_lite_syntax.proofs.parse.Parser.read_flags_head.Goals as goal
 
-pub returns-then-is_at-clause-err : goal.returns-then-is_at-clause-err
-returns-then-is_at-clause-err c =
+pub returns-then-is_at-clause-refused : goal.returns-then-is_at-clause-refused
+returns-then-is_at-clause-refused c =
     let closing = (c.is_at.ensures.there c.if-is_at.true).1 in
     rw c.into.ensures (reads_no_empty c.args.self.now _ _ _ _ c.requires.begins
     c.requires.gap (c.requires.question ∙ ap (λ t. (the "?") ∷ t) closing))
 
-pub returns-in_err-end-clause-err : goal.returns-in_err-end-clause-err
-returns-in_err-end-clause-err c =
+pub returns-in_err-end-clause-refused : goal.returns-in_err-end-clause-refused
+returns-in_err-end-clause-refused c =
     let left = err_from_is_err_and c.from_residual.result c.from_residual.ensures.1 in
-    rw (left.1, left.2) (refuses_as c.in_err-end.field-0.0 c.args.self.now _ _
-    (λ none. reads_no_flags c.args.self.now _ _ _ _ c.requires.begins c.requires.gap c.requires.question
-    c.requires.unnamed (λ rest new flags. none (rest, new, flags)))
-    c.in_err-end.ensures.err)
+    rw (left.1, left.2) (reads_no_flags c.args.self.now _ _ _ _ c.requires.begins c.requires.gap
+    c.requires.question c.requires.unnamed (λ rest new flags. c.in_err-end.ensures.refused (rest, new, flags)))
 
 -- past the gap after the `(` stands the `?`
 gap_to : (verbose : Bool) (t u first : Text) → WholeGap verbose t u → u ≡ the "?" ∷ first

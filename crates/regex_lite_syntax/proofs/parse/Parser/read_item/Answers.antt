@@ -1,14 +1,14 @@
 use Rattle.std.proofs.lemmas.Result.{err_from_is_err_and}
-use Rattle.regex_lite_syntax.proofs.parse.DenialLemmas.{refuses_as}
+use Rattle.regex_lite_syntax.proofs.parse.DenialLemmas.{denial_refuses}
 use Rattle.regex_lite_syntax.proofs.machine.ReadStepLemmas.{reads_atom, reads_no_atom}
 use Rattle.regex_lite_syntax.proofs.parse.Parser.read_item.Goals as goal
 
-pub returns-in_err-end-clause-err : goal.returns-in_err-end-clause-err
-returns-in_err-end-clause-err c =
+pub returns-in_err-end-clause-refused : goal.returns-in_err-end-clause-refused
+returns-in_err-end-clause-refused c =
     let left = err_from_is_err_and c.from_residual.result c.from_residual.ensures.1 in
-    rw (left.1, left.2) (refuses_as c.in_err-end.field-0.0 _ _ _
+    rw (left.1, left.2) (denial_refuses c.in_err-end.field-0.0 _ _ _ _
     (λ none. reads_no_atom c.args.self.now _ c.requires.past_gap c.requires.begins (λ rest a atom. none (rest, a, atom)))
-    c.in_err-end.ensures.err)
+    c.in_err-end.ensures.refused)
 
 pub returns-clause-ok : goal.returns-clause-ok
 returns-clause-ok c = record {

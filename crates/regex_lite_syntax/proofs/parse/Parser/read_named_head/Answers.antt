@@ -4,18 +4,16 @@ use Rattle.std.proofs.lemmas.Result.{err_from_is_err_and}
 use Rattle.regex_lite_syntax.specs.Text.{Text}
 use Rattle.regex_lite_syntax.specs.Grammar.GroupNames.{NameOpening, NameWritten, Named}
 use Rattle.regex_lite_syntax.specs.Tree.Views.{text_of_string, names_of}
-use Rattle.regex_lite_syntax.proofs.parse.DenialLemmas.{refuses_as, number_refuses}
+use Rattle.regex_lite_syntax.proofs.parse.DenialLemmas.{number_refuses}
 use Rattle.regex_lite_syntax.proofs.machine.StateLemmas.{map_pushed}
 use Rattle.regex_lite_syntax.proofs.machine.ReadHeadLemmas.{reads_named, begins_named, reads_no_name, reads_no_second}
 use Rattle.regex_lite_syntax.proofs.parse.Parser.read_named_head.Goals as goal
 
-pub returns-in_err-end-clause-err : goal.returns-in_err-end-clause-err
-returns-in_err-end-clause-err c =
+pub returns-in_err-end-clause-refused : goal.returns-in_err-end-clause-refused
+returns-in_err-end-clause-refused c =
     let left = err_from_is_err_and c.from_residual.result c.from_residual.ensures.1 in
-    rw (left.1, left.2) (refuses_as c.in_err-end.field-0.0 c.args.self.now _ _
-    (λ none. reads_no_name c.args.self.now _ _ _ _ c.requires.begins c.requires.gap c.requires.opens
-    (λ rest name written. none (rest, name, written)))
-    c.in_err-end.ensures.err)
+    rw (left.1, left.2) (reads_no_name c.args.self.now _ _ _ _ c.requires.begins c.requires.gap c.requires.opens
+    (λ rest name written. c.in_err-end.ensures.refused (rest, name, written)))
 
 -- what opens a name and the name
 named_from : (t past rest name letters : Text) → NameOpening t past → NameWritten past rest letters → name ≡ letters
@@ -23,20 +21,20 @@ named_from : (t past rest name letters : Text) → NameOpening t past → NameWr
 named_from t past rest name letters opens written is =
     record { past = past; opens = opens; called = subst (λ w. NameWritten past rest w) (sym is) written }
 
-pub returns-then-is_among-clause-err : goal.returns-then-is_among-clause-err
-returns-then-is_among-clause-err c =
+pub returns-then-is_among-clause-refused : goal.returns-then-is_among-clause-refused
+returns-then-is_among-clause-refused c =
     let name = text_of_string c.in_ok-name.name in
     let named = named_from _ _ _ name _ c.requires.opens c.in_ok-end.ensures.ok c.in_ok-name.ensures in
     let twice : Contains (names_of c.args.self.now.names.items) name =
     rw (← c.deref.ensures, ← c.deref-2.ensures.value) (c.is_among.ensures.0 c.if-is_among.true) in
     rw c.into.ensures (reads_no_second c.args.self.now _ _ _ _ name c.requires.begins c.requires.gap named twice)
 
-pub returns-in_err-open_capture-clause-err : goal.returns-in_err-open_capture-clause-err
-returns-in_err-open_capture-clause-err c =
+pub returns-in_err-open_capture-clause-refused : goal.returns-in_err-open_capture-clause-refused
+returns-in_err-open_capture-clause-refused c =
     let name = text_of_string c.in_ok-name.name in
     let named = named_from _ _ _ name _ c.requires.opens c.in_ok-end.ensures.ok c.in_ok-name.ensures in
     let left = err_from_is_err_and c.from_residual-in_err-open_capture.result c.from_residual-in_err-open_capture.ensures.1 in
-    rw (left.1, left.2) (number_refuses c.in_err-open_capture.field-0.0 c.args.self.now _ c.in_err-open_capture.ensures.err
+    rw (left.1, left.2) (number_refuses c.in_err-open_capture.field-0.0 c.args.self.now _ c.in_err-open_capture.ensures.refused
     (begins_named c.args.self.now _ _ _ _ name c.requires.begins c.requires.gap named))
 
 pub returns-clause-ok : goal.returns-clause-ok

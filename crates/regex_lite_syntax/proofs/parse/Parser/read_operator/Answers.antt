@@ -9,8 +9,8 @@ use Rattle.regex_lite_syntax.proofs.machine.StateLemmas.{map_pushed, none_left}
 use Rattle.regex_lite_syntax.proofs.machine.ReadStepLemmas.{reads_repeated, reads_no_operator}
 use Rattle.regex_lite_syntax.proofs.parse.Parser.read_operator.Goals as goal
 
-pub returns-in_default-clause-err : goal.returns-in_default-clause-err
-returns-in_default-clause-err c =
+pub returns-in_default-clause-refused : goal.returns-in_default-clause-refused
+returns-in_default-clause-refused c =
     let xs = c.args.chars.now in
     let e = drop_at xs c.args.at c.requires.inside in
     let items = c.args.self.now.here.items in

@@ -1,8 +1,19 @@
-use Rattle.std.proofs.Common.{arith}
-use Rattle.regex_lite_syntax.proofs.grammar.AtomLemmas.{NoSign}
+use Rattle.std.proofs.Common.{◌∙◌, ap, arith, drop, ◌+◌, ◌∷◌}
+use Rattle.std.proofs.lemmas.Result.{err_from_is_err_and}
+use Rattle.regex_lite_syntax.proofs.grammar.AtomLemmas.{NoSign, no_escape}
 use Rattle.regex_lite_syntax.proofs.parse.IndexLemmas.{drop_char}
 use Rattle.regex_lite_syntax.proofs.parse.atom.LiteralLemmas.{other_atom}
 use Rattle.regex_lite_syntax.proofs.parse.atom.read_atom.Goals as goal
+
+pub returns-in_err-end-in-92-clause-refused : goal.returns-in_err-end-in-92-clause-refused
+returns-in_err-end-in-92-clause-refused c =
+    let xs = c.args.chars.now in
+    let here = drop_char xs c.args.at _ c.requires.inside c.index-chars-at.is in
+    let backslash = here ∙ ap (λ d. d ∷ drop (c.args.at + 1) xs) c.in-92.is in
+    let left = err_from_is_err_and c.from_residual-in_err-end-in-92.result
+    c.from_residual-in_err-end-in-92.ensures.1 in
+    rw (left.1, left.2) (λ (rest, a, atom). no_escape c.args.flags _ _ rest a backslash
+    (λ past p escape. c.in_err-end-in-92.ensures.refused (past, p, escape)) atom)
 
 pub returns-in_ok-char_tree-in_default-clause-ok :
     goal.returns-in_ok-char_tree-in_default-clause-ok

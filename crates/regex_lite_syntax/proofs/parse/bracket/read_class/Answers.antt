@@ -5,7 +5,7 @@ use Rattle.regex_lite_syntax.specs.Sets.{Set, just, union}
 use Rattle.regex_lite_syntax.specs.Ranges.{in_ranges}
 use Rattle.regex_lite_syntax.specs.Grammar.Classes.{ClassItems, only_if, BracketedClass}
 use Rattle.regex_lite_syntax.specs.Refusals.{Denies}
-use Rattle.regex_lite_syntax.proofs.parse.DenialLemmas.{denies_whole}
+use Rattle.regex_lite_syntax.proofs.parse.DenialLemmas.{denies_part}
 use Rattle.regex_lite_syntax.proofs.parse.IndexLemmas.{left_at_end}
 use Rattle.regex_lite_syntax.proofs.parse.bracket.ClassItemLemmas.{nothing_left}
 use Rattle.regex_lite_syntax.proofs.parse.bracket.ClassOpeningLemmas.{class_from, class_items}
@@ -13,8 +13,8 @@ use Rattle.regex_lite_syntax.proofs.parse.bracket.ClassSetLemmas.{holds_all, cla
 use Rattle.regex_lite_syntax.proofs.parse.bracket.read_class.Goals as goal
 use Rattle.regex_lite_syntax.proofs.parse.bracket.read_class.Goals.{In_ok-class}
 
-pub returns-then-start-chars-clause-err : goal.returns-then-start-chars-clause-err
-returns-then-start-chars-clause-err c =
+pub returns-then-start-chars-clause-refused : goal.returns-then-start-chars-clause-refused
+returns-then-start-chars-clause-refused c =
     let verbose = c.args.verbose in
     let xs = c.args.chars.now in
     let t = drop c.args.at xs in
@@ -22,24 +22,24 @@ returns-then-start-chars-clause-err c =
     subst (λ e. Denies e ((r : Text) × (s : Set) × BracketedClass c.args.insensitive verbose t r s)) (sym c.into.ensures)
     (λ found. nothing_left verbose found.2.sets found.0
     (subst (λ u. ClassItems verbose found.2.sets u found.0) (left_at_end xs start c.if-start-chars.true)
-    (class_items c.args.insensitive verbose t (drop start xs) found.0 _ found.1 c.read_opening-start.ensures.opens found.2)))
+    (class_items c.args.insensitive verbose t (drop start xs) found.0 _ _ _ found.1 c.read_opening-start.ensures.opens found.2)))
 
-pub returns-in_err-end-clause-err : goal.returns-in_err-end-clause-err
-returns-in_err-end-clause-err c =
+pub returns-in_err-end-clause-refused : goal.returns-in_err-end-clause-refused
+returns-in_err-end-clause-refused c =
     let verbose = c.args.verbose in
     let xs = c.args.chars.now in
     let t = drop c.args.at xs in
     let u = drop c.read_opening-start.result.0 xs in
     let left = err_from_is_err_and c.from_residual-in_err-end.result c.from_residual-in_err-end.ensures.1 in
-    rw (left.1, left.2) (denies_whole _
+    rw (left.1, left.2) (denies_part _
     ((r : Text) × (sets : List Set) × ClassItems verbose sets u r)
     ((r : Text) × (s : Set) × BracketedClass c.args.insensitive verbose t r s)
     (λ found. (
       found.0,
       found.2.sets,
-      class_items c.args.insensitive verbose t u found.0 _ found.1 c.read_opening-start.ensures.opens found.2,
+      class_items c.args.insensitive verbose t u found.0 _ _ _ found.1 c.read_opening-start.ensures.opens found.2,
     ))
-    c.in_err-end.ensures.err)
+    c.in_err-end.ensures.refused)
 
 -- what the class is the union of
 dash_set : In_ok-class → Set
@@ -61,7 +61,7 @@ returns-clause-ok c =
     let sets = dash_set c ∷ bracket_set c ∷ c.in_ok-end.ensures.ok.0 in
     let runs = c.in_ok-class.ensures sets (holds c) in
     class_as c.args.insensitive c.args.verbose _ _ _ _ runs.members
-    (class_from c.args.insensitive c.args.verbose _ _ _ _ c.in_ok-end.ensures.ok.0
+    (class_from c.args.insensitive c.args.verbose _ _ _ _ _ _ c.in_ok-end.ensures.ok.0
     c.read_opening-start.ensures.opens c.in_ok-end.ensures.ok.1)
 
 pub returns-clause-runs : goal.returns-clause-runs

@@ -1,26 +1,19 @@
-use Rattle.std.proofs.Common.{refl, subst, ◌+◌, ◌++◌, drop, List, [], ◌∷◌, arith}
+use Rattle.std.proofs.Common.{refl, subst, ◌+◌, ◌++◌, drop, [], ◌∷◌, arith}
 use Rattle.std.proofs.lemmas.List.{append-nil}
 use Rattle.std.proofs.lemmas.Result.{err_from_is_err_and}
-use Rattle.regex_lite_syntax.specs.Text.{Text}
-use Rattle.regex_lite_syntax.specs.Sets.{Set}
 use Rattle.regex_lite_syntax.specs.Grammar.Classes.{ClassItems}
-use Rattle.regex_lite_syntax.specs.Parser.ClassReadings.{item_set, HasItems}
-use Rattle.regex_lite_syntax.proofs.parse.DenialLemmas.{denies_whole}
+use Rattle.regex_lite_syntax.specs.Parser.ClassReadings.{item_set}
 use Rattle.regex_lite_syntax.proofs.parse.bracket.ClassItemLemmas.{has_items, items_push, items_next}
 use Rattle.regex_lite_syntax.proofs.parse.bracket.ClassSetLemmas.{holds_more}
 use Rattle.regex_lite_syntax.proofs.parse.bracket.read_items.Goals as goal
 
-pub returns-in_err-past-clause-err : goal.returns-in_err-past-clause-err
-returns-in_err-past-clause-err c =
-    let verbose = c.args.verbose in
-    let xs = c.args.chars.now in
+pub returns-in_err-past-clause-refused : goal.returns-in_err-past-clause-refused
+returns-in_err-past-clause-refused c =
     let left = err_from_is_err_and c.from_residual.result c.from_residual.ensures.1 in
-    rw (left.1, left.2) (denies_whole _ (HasItems verbose (drop c.items.end xs))
-    ((r : Text) × (sets : List Set) × ClassItems verbose sets (drop c.args.at xs) r)
+    rw (left.1, left.2)
     (λ found.
     let more = c.items.invariant.back found.1 found.0 found.2 in
-    has_items verbose more.0 _ _ (c.items-test.ensures.absent refl) more.1)
-    c.in_err-past.ensures.err)
+    c.in_err-past.ensures.refused (has_items c.args.verbose more.0 _ _ (c.items-test.ensures.absent refl) more.1))
 
 pub items-preserved : goal.items-preserved
 items-preserved c =

@@ -1,6 +1,5 @@
 use Rattle.std.proofs.Common.{refl, subst, drop, arith}
 use Rattle.regex_lite_syntax.proofs.grammar.NumberLemmas.{NoDigit, digit_read, no_digits_read, no_number, number_only, number_read, number_too_large}
-use Rattle.regex_lite_syntax.proofs.parse.DenialLemmas.{fault_denies}
 use Rattle.regex_lite_syntax.proofs.parse.counted.read_number.Goals as goal
 
 pub loop-next-init : goal.loop-next-init
@@ -10,12 +9,11 @@ loop-next-init c = record {
   read = no_digits_read _ _ _ (omega arith);
 }
 
-pub returns-in_default-with_digit-clause-err : goal.returns-in_default-with_digit-clause-err
-returns-in_default-with_digit-clause-err c =
-    fault_denies _ _ c.into.ensures
-    (λ (rest, n, number, ends). number_too_large c.skip_side-first.ensures.side
+pub returns-in_default-with_digit-clause-refused : goal.returns-in_default-with_digit-clause-refused
+returns-in_default-with_digit-clause-refused c =
+    λ (rest, n, number, ends). number_too_large c.skip_side-first.ensures.side
     (digit_read {read' = 1} c.loop-next.invariant.read c.in-Some.ensures.some refl)
-    (omega (arith, c.in_default-with_digit.ensures)) number ends)
+    (omega (arith, c.in_default-with_digit.ensures)) number ends
 
 pub loop-next-preserved : goal.loop-next-preserved
 loop-next-preserved c =
@@ -26,11 +24,10 @@ loop-next-preserved c =
       read = digit_read c.loop-next.invariant.read c.in-Some.ensures.some c.in-Some-with_digit.ensures.1;
     }
 
-pub returns-then-end-first-clause-err : goal.returns-then-end-first-clause-err
-returns-then-end-first-clause-err c =
+pub returns-then-end-first-clause-refused : goal.returns-then-end-first-clause-refused
+returns-then-end-first-clause-refused c =
     let none = subst (λ i. NoDigit c.args.verbose (drop i c.args.chars.now)) c.if-end-first.true c.in_default.ensures.none in
-    fault_denies _ _ c.into-then-end-first.ensures
-    (λ (rest, n, number, ends). no_number _ c.skip_side-first.ensures.side none number)
+    λ (rest, n, number, ends). no_number _ c.skip_side-first.ensures.side none number
 
 pub returns-clause-ok : goal.returns-clause-ok
 returns-clause-ok c =

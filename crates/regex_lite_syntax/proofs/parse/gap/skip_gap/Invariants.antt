@@ -1,13 +1,14 @@
-use Rattle.std.proofs.Common.{◌≤◌, ◌-◌, drop, length, false}
+use Rattle.std.proofs.Common.{◌≤◌, ◌-◌, drop, length}
 use Rattle.regex_lite_syntax.specs.Text.{Text}
 use Rattle.regex_lite_syntax.specs.Grammar.Gaps.{Spacing}
+use Rattle.regex_lite_syntax.proofs.grammar.ScanLemmas.{Scan}
 use Rattle.regex_lite_syntax.proofs.parse.gap.skip_gap.Given as goal
 
 abbrev pub invariant-loop-end : goal.invariant-loop-end
 invariant-loop-end l = record {
   inside : (l.at ≤ l.end) × (l.end ≤ length l.chars);
   -- a gap from here is one from the start
-  goes : (rest : Text) → Spacing l.in_comment (drop l.end l.chars) rest → Spacing false (drop l.at l.chars) rest;
+  goes : (rest : Text) → Scan l.in_comment (drop l.end l.chars) rest → Spacing (drop l.at l.chars) rest;
 }
 
 abbrev pub decreases-loop-end : goal.decreases-loop-end

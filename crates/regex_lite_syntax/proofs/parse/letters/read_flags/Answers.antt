@@ -1,55 +1,51 @@
 use Rattle.std.proofs.Common.{false, ◌+◌, ◌∙◌, ap, drop, slice_range, arith}
 use Rattle.std.proofs.lemmas.Result.{err_from_is_err_and}
 use Rattle.regex_lite_syntax.specs.Grammar.FlagLetters.{with_flags}
-use Rattle.regex_lite_syntax.proofs.parse.DenialLemmas.{denies_as}
 use Rattle.regex_lite_syntax.proofs.parse.letters.SliceLemmas.{slice_length}
 use Rattle.regex_lite_syntax.proofs.parse.letters.WholeFlagLemmas.{first_run, second_run, no_second_dash, some_second, flags_set, flags_cleared}
 use Rattle.regex_lite_syntax.proofs.parse.letters.read_flags.Goals as goal
 
-pub returns-in_err-middle-clause-err : goal.returns-in_err-middle-clause-err
-returns-in_err-middle-clause-err c =
+pub returns-in_err-middle-clause-refused : goal.returns-in_err-middle-clause-refused
+returns-in_err-middle-clause-refused c =
     let t = drop c.args.at c.args.chars.now in
     let left = err_from_is_err_and c.from_residual.result c.from_residual.ensures.1 in
-    rw (left.1, left.2) (denies_as c.in_err-middle.field-0.0 _ _
-    (λ none flags. none (first_run c.args.old t flags.0 flags.1 flags.2)) c.in_err-middle.ensures.err)
+    rw left.1 (λ flags. c.in_err-middle.ensures.refused (first_run c.args.old t flags.0 flags.1 flags.2))
 
 pub returns-then-not-is_at-clause-ok : goal.returns-then-not-is_at-clause-ok
 returns-then-not-is_at-clause-ok c =
     let run = c.in_ok-middle.ensures in
     flags_set c.args.old _ _ _ c.in_ok-middle.set run.ok (c.is_at.ensures.absent c.if-not-is_at.true) run.flags
 
-pub returns-in_err-end-clause-err : goal.returns-in_err-end-clause-err
-returns-in_err-end-clause-err c =
+pub returns-in_err-end-clause-refused : goal.returns-in_err-end-clause-refused
+returns-in_err-end-clause-refused c =
     let xs = c.args.chars.now in
     let t = drop c.args.at xs in
     let middle = c.in_ok-middle.middle in
     let dashed = (c.is_at.ensures.there c.if-not-is_at.false).1 in
     let left = err_from_is_err_and c.from_residual-in_err-end.result c.from_residual-in_err-end.ensures.1 in
-    rw (left.1, left.2) (denies_as c.in_err-end.field-0.0 _ _
-    (λ none flags.
+    rw left.1 (λ flags.
     let cleared = second_run c.args.old _ t _ _ flags.0 flags.1 c.in_ok-middle.ensures.ok dashed flags.2 in
-    none (cleared.off, flags.0, cleared.run))
-    c.in_err-end.ensures.err)
+    c.in_err-end.ensures.refused (cleared.off, flags.0, cleared.run))
 
-pub returns-then-is_at-clause-err : goal.returns-then-is_at-clause-err
-returns-then-is_at-clause-err c =
+pub returns-then-is_at-clause-refused : goal.returns-then-is_at-clause-refused
+returns-then-is_at-clause-refused c =
     let xs = c.args.chars.now in
     let t = drop c.args.at xs in
     let dashed = (c.is_at.ensures.there c.if-not-is_at.false).1 in
     let dashed_again = (c.is_at-2.ensures.there c.if-is_at.true).1 in
-    rw c.into.ensures (λ flags.
+    λ flags.
     let cleared = second_run c.args.old _ t _ _ flags.0 flags.1 c.in_ok-middle.ensures.ok dashed flags.2 in
-    no_second_dash _ _ _ _ _ flags.0 c.in_ok-end.ensures.ok dashed_again flags.2.ends cleared)
+    no_second_dash _ _ _ _ _ flags.0 c.in_ok-end.ensures.ok dashed_again flags.2.ends cleared
 
-pub returns-then-end-begin-clause-err : goal.returns-then-end-begin-clause-err
-returns-then-end-begin-clause-err c =
+pub returns-then-end-begin-clause-refused : goal.returns-then-end-begin-clause-refused
+returns-then-end-begin-clause-refused c =
     let xs = c.args.chars.now in
     let t = drop c.args.at xs in
     let dashed = (c.is_at.ensures.there c.if-not-is_at.false).1 in
     let none = slice_length xs (c.in_ok-middle.middle + 1) c.in_ok-end.end (omega (arith, c.in_ok-end.ensures.inside)) in
-    rw c.into-then-end-begin.ensures (λ flags.
+    λ flags.
     let cleared = second_run c.args.old _ t _ _ flags.0 flags.1 c.in_ok-middle.ensures.ok dashed flags.2 in
-    some_second _ _ _ _ flags.0 c.in_ok-end.ensures.ok (omega (arith, none)) cleared)
+    some_second _ _ _ _ flags.0 c.in_ok-end.ensures.ok (omega (arith, none)) cleared
 
 pub returns-clause-ok : goal.returns-clause-ok
 returns-clause-ok c =

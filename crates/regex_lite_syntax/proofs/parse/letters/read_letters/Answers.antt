@@ -1,11 +1,11 @@
-use Rattle.std.proofs.Common.{◌≡◌, sym, ◌∙◌, ap, subst, ◌++◌, ◌||◌, true, drop, slice_range, IsTrue, arith}
+use Rattle.std.proofs.Common.{◌≡◌, sym, ◌∙◌, ap, subst, ◌++◌, ◌||◌, true, slice_range, IsTrue, arith}
 use Rattle.std.proofs.lemmas.Bool.{or_left, or_right}
 use Rattle.std.proofs.lemmas.List.{drop_all}
 use Rattle.std.proofs.lemmas.Result.{err_from_is_err_and}
-use Rattle.regex_lite_syntax.specs.Text.{Text, AllPass}
+use Rattle.regex_lite_syntax.specs.Text.{AllPass}
 use Rattle.regex_lite_syntax.specs.Characters.{is_one_of}
 use Rattle.regex_lite_syntax.specs.Grammar.FlagLetters.{is_flag_letter, with_flag, with_flags, all_differ}
-use Rattle.regex_lite_syntax.specs.Parser.FlagRuns.{EndsRun, LetterRun}
+use Rattle.regex_lite_syntax.specs.Parser.FlagRuns.{EndsRun}
 use Rattle.regex_lite_syntax.proofs.parse.IndexLemmas.{drop_char}
 use Rattle.regex_lite_syntax.proofs.parse.letters.SliceLemmas.{slice_spelled, slice_more}
 use Rattle.regex_lite_syntax.proofs.parse.letters.FlagRunLemmas.{all_pass_more, with_flags_more, differ_more, no_run_end, no_run_other, no_run_twice}
@@ -44,8 +44,8 @@ returns-then-ends_letters-clause-ok c =
       ends = subst (λ u. EndsRun u) (sym here) (sym c.ends_letters.ensures ∙ c.if-ends_letters.true);
     }
 
-pub returns-in_err-flags-clause-err : goal.returns-in_err-flags-clause-err
-returns-in_err-flags-clause-err c =
+pub returns-in_err-flags-clause-refused : goal.returns-in_err-flags-clause-refused
+returns-in_err-flags-clause-refused c =
     let xs = c.args.chars.now in
     let end = c.loop-end.end in
     let read = slice_range xs c.args.at end in
@@ -53,11 +53,11 @@ returns-in_err-flags-clause-err c =
     let no_end = sym c.ends_letters.ensures ∙ c.if-ends_letters.false in
     let written = slice_spelled xs c.args.at end (omega arith) in
     let left = err_from_is_err_and c.from_residual.result c.from_residual.ensures.1 in
-    rw (left.1, left.2) (λ run. no_run_other c.args.before.now read run.0 _ _ run.1 _ _ written c.loop-end.invariant.all
-    here c.in_err-flags.ensures.err no_end run.2)
+    rw left.1 (λ run. no_run_other c.args.before.now read run.0 _ _ run.1 _ _ written c.loop-end.invariant.all
+    here c.in_err-flags.ensures.refused no_end run.2)
 
-pub returns-then-contains-clause-err : goal.returns-then-contains-clause-err
-returns-then-contains-clause-err c =
+pub returns-then-contains-clause-refused : goal.returns-then-contains-clause-refused
+returns-then-contains-clause-refused c =
     let xs = c.args.chars.now in
     let before = c.args.before.now in
     let end = c.loop-end.end in
@@ -70,19 +70,16 @@ returns-then-contains-clause-err c =
       | then-contains-via-else-contains+then-contains-2 w ↦
           or_right _ _ (sym w.contains-else-contains.ensures.value ∙ w.if-contains-2.true)
     ] in
-    let refused = λ (run : (letters : Text) × (rest : Text) × LetterRun before letters (drop c.args.at xs) rest).
+    λ run.
     no_run_twice before read run.0 _ _ run.1 _ _ written c.loop-end.invariant.all here c.in_ok-flags.ensures.ok.0 twice
-    run.2 in
-    rw c.into.ensures refused
+    run.2
 
-pub returns-clause-err : goal.returns-clause-err
-returns-clause-err c =
+pub returns-clause-refused : goal.returns-clause-refused
+returns-clause-refused c =
     let xs = c.args.chars.now in
     let before = c.args.before.now in
     let end = c.loop-end.end in
     let read = slice_range xs c.args.at end in
     let none = drop_all end xs (omega arith) in
     let written = slice_spelled xs c.args.at end (omega arith) in
-    let refused = λ (run : (letters : Text) × (rest : Text) × LetterRun before letters (drop c.args.at xs) rest).
-    no_run_end before read run.0 _ _ run.1 written c.loop-end.invariant.all none run.2 in
-    rw c.into-2.ensures refused
+    λ run. no_run_end before read run.0 _ _ run.1 written c.loop-end.invariant.all none run.2

@@ -1,7 +1,6 @@
 use Rattle.std.proofs.Common.{sym, arith}
 use Rattle.std.proofs.lemmas.Bool.{both_ways}
 use Rattle.regex_lite_syntax.proofs.grammar.NameReadingLemmas.{name_goes_on, name_read, next_of_name, nothing_left_at_end, range_more}
-use Rattle.regex_lite_syntax.proofs.parse.DenialLemmas.{fault_denies}
 use Rattle.regex_lite_syntax.proofs.parse.name.read_name.Goals as goal
 
 pub returns-then-c-eq62-clause-ok : goal.returns-then-c-eq62-clause-ok
@@ -9,13 +8,12 @@ returns-then-c-eq62-clause-ok c =
     name_read _ _ _ c.loop-c.end _ _ (omega arith) (omega arith) c.in-Some-char_at.ensures.1 c.if-c-eq62.true
     c.loop-c.invariant.so_far
 
-pub returns-then-not-may_continue_name-clause-err : goal.returns-then-not-may_continue_name-clause-err
-returns-then-not-may_continue_name-clause-err c =
-    fault_denies _ _ c.into-then-not-may_continue_name.ensures
-    (λ (rest, name, written).
+pub returns-then-not-may_continue_name-clause-refused : goal.returns-then-not-may_continue_name-clause-refused
+returns-then-not-may_continue_name-clause-refused c =
+    λ (rest, name, written).
     let next = next_of_name _ _ c.in-Some-char_at.ensures.1 c.if-c-eq62.false
     (c.loop-c.invariant.back rest name written) in
-    both_ways _ (sym c.if-not-may_continue_name.ensures) next.0)
+    both_ways _ (sym c.if-not-may_continue_name.ensures) next.0
 
 pub loop-c-preserved : goal.loop-c-preserved
 loop-c-preserved c =
@@ -28,7 +26,6 @@ loop-c-preserved c =
       back = λ rest name written. (next_of_name _ _ here.1 c.if-c-eq62.false (before.back rest name written)).1;
     }
 
-pub returns-clause-err : goal.returns-clause-err
-returns-clause-err c =
-    fault_denies _ _ c.into-2.ensures
-    (λ (rest, name, written). nothing_left_at_end c.in_default.ensures (c.loop-c.invariant.back rest name written))
+pub returns-clause-refused : goal.returns-clause-refused
+returns-clause-refused c =
+    λ (rest, name, written). nothing_left_at_end c.in_default.ensures (c.loop-c.invariant.back rest name written)

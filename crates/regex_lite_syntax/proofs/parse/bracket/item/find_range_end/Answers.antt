@@ -10,8 +10,8 @@ pub returns-then-not-is_at-clause-ok : goal.returns-then-not-is_at-clause-ok
 returns-then-not-is_at-clause-ok c last follows =
     no_dash _ _ _ last c.skip_gap-dash.ensures.gap (c.if-not-is_at.ensures.absent refl) follows
 
-pub returns-then-last-chars-clause-err : goal.returns-then-last-chars-clause-err
-returns-then-last-chars-clause-err c =
+pub returns-then-last-chars-clause-refused : goal.returns-then-last-chars-clause-refused
+returns-then-last-chars-clause-refused c =
     let xs = c.args.chars.now in
     let past = drop (c.skip_gap-dash.result + 1) xs in
     let dashed = (c.if-not-is_at.ensures.there refl).1 in

@@ -1,12 +1,8 @@
 use Rattle.std.proofs.Common.{refl, drop}
-use Rattle.std.proofs.lemmas.Result.{err_from_is_err_and, IfOk-weaker, IfErr-weaker}
-use Rattle.regex_lite_syntax.specs.Text.{Text}
-use Rattle.regex_lite_syntax.specs.Sets.{Set}
-use Rattle.regex_lite_syntax.specs.Grammar.Escapes.{Primitive as Given}
-use Rattle.regex_lite_syntax.specs.Grammar.Classes.{ClassElement, ClassItem}
-use Rattle.regex_lite_syntax.specs.Parser.ClassReadings.{element_primitive, IsElement, item_set, RangeTo, HasItems}
-use Rattle.regex_lite_syntax.specs.Refusals.{Denies}
-use Rattle.regex_lite_syntax.proofs.parse.DenialLemmas.{denies_whole}
+use Rattle.std.proofs.lemmas.Result.{err_from_is_err_and, IfOk-weaker}
+use Rattle.regex_lite_syntax.specs.Grammar.Classes.{ClassItem}
+use Rattle.regex_lite_syntax.specs.Parser.ClassReadings.{element_primitive, item_set, RangeTo}
+use Rattle.regex_lite_syntax.proofs.parse.DenialLemmas.{none_of_part}
 use Rattle.regex_lite_syntax.proofs.parse.IndexLemmas.{left_inside}
 use Rattle.regex_lite_syntax.proofs.parse.bracket.ClassItemLemmas.{begins_item, item_part, item_named, item_alone, item_range, item_range_to, open_items}
 use Rattle.regex_lite_syntax.proofs.parse.bracket.item.read_item.Goals as goal
@@ -14,21 +10,20 @@ use Rattle.regex_lite_syntax.proofs.parse.bracket.item.read_item.Goals as goal
 pub returns-in-Some-clause-ok : goal.returns-in-Some-clause-ok
 returns-in-Some-clause-ok c = item_named _ _ _ _ c.in-Some.ensures.found
 
-pub returns-in_err-past-clause-err : goal.returns-in_err-past-clause-err
-returns-in_err-past-clause-err c =
-    let verbose = c.args.verbose in
+pub returns-in_err-past-clause-refused : goal.returns-in_err-past-clause-refused
+returns-in_err-past-clause-refused c =
     let t = drop c.args.at c.args.chars.now in
     let left = err_from_is_err_and c.from_residual.result c.from_residual.ensures.1 in
-    rw (left.1, left.2) (denies_whole _ ((r : Text) × (p : Given) × IsElement p × ClassElement verbose t r p) (HasItems verbose t)
-    (λ items. item_part verbose t _ _ (c.if-is_at.ensures.absent refl) items.3.2) c.in_err-past.ensures.err)
+    rw left.1 (λ items. c.in_err-past.ensures.refused
+    (item_part c.args.verbose t _ _ (c.if-is_at.ensures.absent refl) items.3.2))
 
-pub returns-in_err-find_range_end-clause-err : goal.returns-in_err-find_range_end-clause-err
-returns-in_err-find_range_end-clause-err c =
+pub returns-in_err-find_range_end-clause-refused : goal.returns-in_err-find_range_end-clause-refused
+returns-in_err-find_range_end-clause-refused c =
     let verbose = c.args.verbose in
     let t = drop c.args.at c.args.chars.now in
     let left = err_from_is_err_and c.from_residual-in_err-find_range_end.result c.from_residual-in_err-find_range_end.ensures.1 in
-    rw (left.1, left.2) (open_items verbose t _ _ (c.if-is_at.ensures.absent refl) c.in_ok-past.ensures.ok
-    c.in_err-find_range_end.ensures.err)
+    rw left.1 (open_items verbose t _ _ (c.if-is_at.ensures.absent refl) c.in_ok-past.ensures.ok
+    c.in_err-find_range_end.ensures.refused)
 
 pub returns-in-None-2-clause-ok : goal.returns-in-None-2-clause-ok
 returns-in-None-2-clause-ok c =
@@ -53,22 +48,19 @@ returns-in-Some-2-clause-ok c =
     (λ r to. item_range verbose t (drop c.in_ok-past.past xs) last _ first _ begins c.in_ok-past.ensures.ok follows to)
     c.read_range.ensures.ok
 
-pub returns-in-Some-2-clause-err : goal.returns-in-Some-2-clause-err
-returns-in-Some-2-clause-err c =
+pub returns-in-Some-2-clause-refused : goal.returns-in-Some-2-clause-refused
+returns-in-Some-2-clause-refused c =
     let verbose = c.args.verbose in
     let xs = c.args.chars.now in
     let t = drop c.args.at xs in
     let first = element_primitive c.in_ok-past.element in
     let last = drop c.in-Some-2.last xs in
     let follows = rw c.in-Some-2.is at c.in_ok-find_range_end.ensures.ok in
-    IfErr-weaker c.read_range.result
-    (λ e. Denies e ((r : Text) × (s : Set) × RangeTo verbose first last r s))
-    (λ e. Denies e (HasItems verbose t))
-    (λ e. denies_whole e ((r : Text) × (s : Set) × RangeTo verbose first last r s) (HasItems verbose t)
+    none_of_part c.read_range.result
     (λ items. (
       items.3.0,
       items.0,
       item_range_to verbose t (drop c.in_ok-past.past xs) last items.3.0 first items.0
           (c.if-is_at.ensures.absent refl) c.in_ok-past.ensures.ok follows items.3.2,
-    )))
-    c.read_range.ensures.err
+    ))
+    c.read_range.ensures.refused

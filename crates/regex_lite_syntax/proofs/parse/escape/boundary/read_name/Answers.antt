@@ -4,7 +4,6 @@ use Rattle.regex_lite_syntax.specs.declared.hir.look.Look.{Look}
 use Rattle.regex_lite_syntax.specs.Text.{Text, is_text, the}
 use Rattle.regex_lite_syntax.specs.Grammar.Gaps.{Gap, Spaced}
 use Rattle.regex_lite_syntax.specs.Grammar.Escapes.{is_boundary_character, boundary_named, BoundaryName}
-use Rattle.regex_lite_syntax.proofs.parse.DenialLemmas.{fault_denies}
 use Rattle.regex_lite_syntax.proofs.parse.escape.boundary.read_name.Goals as goal
 
 same_text : (t u : Text) → IsTrue (is_text t u) → t ≡ u
@@ -76,8 +75,7 @@ returns-in-Some-skip_name-3-clause-ok c =
     let there = c.in-Some-skip_name-3.ensures.there in
     record { name = codes "end-half"; last = there.0; written = there.1; closes = there.2; named = refl }
 
-pub returns-clause-err : goal.returns-clause-err
-returns-clause-err c =
-    fault_denies _ _ c.into.ensures
-    (λ (rest, look, n). no_name _ _ rest look c.in_default.ensures.absent c.in_default-skip_name.ensures.absent
-    c.in_default-skip_name-2.ensures.absent c.in_default-skip_name-3.ensures.absent n)
+pub returns-clause-refused : goal.returns-clause-refused
+returns-clause-refused c =
+    λ (rest, look, n). no_name _ _ rest look c.in_default.ensures.absent c.in_default-skip_name.ensures.absent
+    c.in_default-skip_name-2.ensures.absent c.in_default-skip_name-3.ensures.absent n

@@ -3,46 +3,40 @@ use Rattle.regex_lite_syntax.specs.Text.{Begins, the}
 use Rattle.regex_lite_syntax.specs.Characters.{is_hex_digit}
 use Rattle.regex_lite_syntax.proofs.grammar.SpacedLemmas.{Lacks}
 use Rattle.regex_lite_syntax.proofs.parse.escape.DigitLemmas.{digit_at, braced_after, braced_before, braced_scalar, braced_stuck, braced_too_large, no_character}
-use Rattle.regex_lite_syntax.proofs.parse.DenialLemmas.{fault_denies}
 use Rattle.regex_lite_syntax.proofs.parse.escape.hexadecimal.read_braced.Goals as goal
 
-pub returns-in_default-clause-err : goal.returns-in_default-clause-err
-returns-in_default-clause-err c =
-    fault_denies _ _ c.into.ensures
-    (λ (rest, d, b). braced_stuck _ c.skip_gap-next.ensures.gap
+pub returns-in_default-clause-refused : goal.returns-in_default-clause-refused
+returns-in_default-clause-refused c =
+    λ (rest, d, b). braced_stuck _ c.skip_gap-next.ensures.gap
     (subst (λ u. Lacks is_hex_digit u) (sym c.in_default.ensures) tt)
     (λ begins some. subst (λ u. Begins (the "}") u) c.in_default.ensures begins)
-    (c.loop-c.invariant.back rest d b))
+    (c.loop-c.invariant.back rest d b)
 
-pub returns-then-end-at-clause-err : goal.returns-then-end-at-clause-err
-returns-then-end-at-clause-err c =
-    fault_denies _ _ c.into-then-end-at.ensures
-    (λ (rest, d, b). braced_stuck _ c.skip_gap-next.ensures.gap
+pub returns-then-end-at-clause-refused : goal.returns-then-end-at-clause-refused
+returns-then-end-at-clause-refused c =
+    λ (rest, d, b). braced_stuck _ c.skip_gap-next.ensures.gap
     (subst (λ u. Lacks is_hex_digit u) (sym c.in-Some.ensures.1) (ap is_hex_digit c.if-c-eq125.true))
     (λ begins some. omega (arith, some, c.if-end-at.true))
+    (c.loop-c.invariant.back rest d b)
+
+pub returns-in-None-clause-refused : goal.returns-in-None-clause-refused
+returns-in-None-clause-refused c =
+    λ (rest, d, b). no_character _ c.in-None.ensures.cases
+    (braced_scalar _ _ _ c.skip_gap-next.ensures.gap c.in-Some.ensures.1 c.if-c-eq125.true
     (c.loop-c.invariant.back rest d b))
 
-pub returns-in-None-clause-err : goal.returns-in-None-clause-err
-returns-in-None-clause-err c =
-    fault_denies _ _ c.into-in-None.ensures
-    (λ (rest, d, b). no_character _ c.in-None.ensures.cases
-    (braced_scalar _ _ _ c.skip_gap-next.ensures.gap c.in-Some.ensures.1 c.if-c-eq125.true
-    (c.loop-c.invariant.back rest d b)))
-
-pub returns-in_default-hex_value-clause-err : goal.returns-in_default-hex_value-clause-err
-returns-in_default-hex_value-clause-err c =
-    fault_denies _ _ c.into-in_default-hex_value.ensures
-    (λ (rest, d, b). braced_stuck _ c.skip_gap-next.ensures.gap
+pub returns-in_default-hex_value-clause-refused : goal.returns-in_default-hex_value-clause-refused
+returns-in_default-hex_value-clause-refused c =
+    λ (rest, d, b). braced_stuck _ c.skip_gap-next.ensures.gap
     (subst (λ u. Lacks is_hex_digit u) (sym c.in-Some.ensures.1) c.in_default-hex_value.ensures)
     (λ begins some. c.if-c-eq125.false (subst (λ u. Begins (the "}") u) c.in-Some.ensures.1 begins))
-    (c.loop-c.invariant.back rest d b))
+    (c.loop-c.invariant.back rest d b)
 
-pub returns-then-number-gt-LAST-clause-err : goal.returns-then-number-gt-LAST-clause-err
-returns-then-number-gt-LAST-clause-err c =
+pub returns-then-number-gt-LAST-clause-refused : goal.returns-then-number-gt-LAST-clause-refused
+returns-then-number-gt-LAST-clause-refused c =
     let at = digit_at c.skip_gap-next.ensures.gap c.in-Some.ensures.1 c.in-Some-hex_value.ensures in
-    fault_denies _ _ c.into-then-number-gt-LAST.ensures
-    (λ (rest, d, b). braced_too_large (braced_after {read' = 1} at (omega arith) (c.loop-c.invariant.back rest d b))
-    (omega arith))
+    λ (rest, d, b). braced_too_large (braced_after {read' = 1} at (omega arith) (c.loop-c.invariant.back rest d b))
+    (omega arith)
 
 pub loop-c-preserved : goal.loop-c-preserved
 loop-c-preserved c =

@@ -2,29 +2,25 @@ use Rattle.std.proofs.Common.{sym, subst, arith}
 use Rattle.regex_lite_syntax.specs.Characters.{is_hex_digit}
 use Rattle.regex_lite_syntax.proofs.grammar.SpacedLemmas.{Lacks}
 use Rattle.regex_lite_syntax.proofs.parse.escape.DigitLemmas.{digit_at, fixed_after, fixed_before, fixed_scalar, fixed_stuck, fixed_too_large, no_character}
-use Rattle.regex_lite_syntax.proofs.parse.DenialLemmas.{fault_denies}
 use Rattle.regex_lite_syntax.proofs.parse.escape.hexadecimal.read_fixed.Goals as goal
 
-pub returns-in_default-clause-err : goal.returns-in_default-clause-err
-returns-in_default-clause-err c =
-    fault_denies _ _ c.into.ensures
-    (λ (rest, d, f). fixed_stuck _ c.skip_gap-next.ensures.gap
+pub returns-in_default-clause-refused : goal.returns-in_default-clause-refused
+returns-in_default-clause-refused c =
+    λ (rest, d, f). fixed_stuck _ c.skip_gap-next.ensures.gap
     (subst (λ u. Lacks is_hex_digit u) (sym c.in_default.ensures) tt)
-    c.loop-test.true (c.loop.invariant.back rest d f))
+    c.loop-test.true (c.loop.invariant.back rest d f)
 
-pub returns-in_default-hex_value-clause-err : goal.returns-in_default-hex_value-clause-err
-returns-in_default-hex_value-clause-err c =
-    fault_denies _ _ c.into-in_default-hex_value.ensures
-    (λ (rest, d, f). fixed_stuck _ c.skip_gap-next.ensures.gap
+pub returns-in_default-hex_value-clause-refused : goal.returns-in_default-hex_value-clause-refused
+returns-in_default-hex_value-clause-refused c =
+    λ (rest, d, f). fixed_stuck _ c.skip_gap-next.ensures.gap
     (subst (λ u. Lacks is_hex_digit u) (sym c.in-Some.ensures.1) c.in_default-hex_value.ensures)
-    c.loop-test.true (c.loop.invariant.back rest d f))
+    c.loop-test.true (c.loop.invariant.back rest d f)
 
-pub returns-then-number-gt-LAST-clause-err : goal.returns-then-number-gt-LAST-clause-err
-returns-then-number-gt-LAST-clause-err c =
+pub returns-then-number-gt-LAST-clause-refused : goal.returns-then-number-gt-LAST-clause-refused
+returns-then-number-gt-LAST-clause-refused c =
     let at = digit_at c.skip_gap-next.ensures.gap c.in-Some.ensures.1 c.in-Some-hex_value.ensures in
-    fault_denies _ _ c.into-then-number-gt-LAST.ensures
-    (λ (rest, d, f). fixed_too_large (fixed_after at c.loop-test.true (c.loop.invariant.back rest d f))
-    (omega arith))
+    λ (rest, d, f). fixed_too_large (fixed_after at c.loop-test.true (c.loop.invariant.back rest d f))
+    (omega arith)
 
 pub loop-preserved : goal.loop-preserved
 loop-preserved c =
@@ -36,8 +32,7 @@ loop-preserved c =
       back = λ rest d f. fixed_after at c.loop-test.true (c.loop.invariant.back rest d f);
     }
 
-pub returns-in-None-clause-err : goal.returns-in-None-clause-err
-returns-in-None-clause-err c =
-    fault_denies _ _ c.into-in-None.ensures
-    (λ (rest, d, f). no_character _ c.in-None.ensures.cases
-    (fixed_scalar c.loop-test.false (c.loop.invariant.back rest d f)))
+pub returns-in-None-clause-refused : goal.returns-in-None-clause-refused
+returns-in-None-clause-refused c =
+    λ (rest, d, f). no_character _ c.in-None.ensures.cases
+    (fixed_scalar c.loop-test.false (c.loop.invariant.back rest d f))
