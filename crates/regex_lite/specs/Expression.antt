@@ -1,16 +1,16 @@
 -- A regex as contracts see it, what is built and what is refused, and what a regex tells.
-use Rattle.std.specs.Prelude.{◌≡◌, ◌⊎◌, ℕ, List, Option, None, chars, map, option_map, length, slice_index_or}
+use Rattle.std.specs.Prelude.{◌≡◌, ◌⊎◌, ℕ, List, Option, None, Result, IfOk, IfErr, chars, map, option_map, length, slice_index_or}
 use Rattle.regex_lite_syntax.specs.declared.flags.Flags.{Flags}
 use Rattle.regex_lite_syntax.specs.Text.{Text}
 use Rattle.regex_lite_syntax.specs.Tree.{Tree}
 use Rattle.regex_lite_syntax.specs.declared.error.Error.{Error}
-use Rattle.regex_lite_syntax.specs.Errors.{kind_of}
+use Rattle.regex_lite_syntax.specs.Errors.{kind_of, out_of_memory}
 use Rattle.regex_lite_syntax.specs.Grammar.{IsTree}
 use Rattle.regex_lite_syntax.specs.Limits.{IsAdmitted, SaysOf}
 use Rattle.regex_lite_syntax.specs.Tree.Matches.{HasMatch}
 use Rattle.regex_lite_syntax.specs.Tree.Properties.{captures_len, group_name}
 use Rattle.regex_lite_engine.specs.Graph.Size.{Fits, SaysOfTree}
-use Rattle.regex_lite.specs.Settings.{Settings, no_flags}
+use Rattle.regex_lite.specs.Settings.{Settings}
 
 -- a pattern, as its bytes, and the flags under which it is read
 pub record Expression : Type 0 where
@@ -20,10 +20,6 @@ pub record Expression : Type 0 where
 -- what is built under these settings
 abbrev pub expression_of : Settings → Expression
 expression_of settings = record { pattern = settings.pattern; flags = settings.flags }
-
--- what is built of a pattern under the default settings
-abbrev pub default_expression : List ℕ → Expression
-default_expression pattern = record { pattern = pattern; flags = no_flags }
 
 -- under these settings the grammar gives the pattern this tree, which passes neither the limit on
 -- nesting nor that on the number of groups
@@ -42,6 +38,17 @@ IsRefusal settings error =
     SaysOf settings.flags settings.nest_limit (chars settings.pattern) (kind_of error)
     ⊎ ((tree : Tree) × IsReadAs settings tree
     × SaysOfTree settings.size_limit tree (kind_of error))
+
+-- what is answered where a regex is to be built under these settings
+pub record Builds (settings : Settings) (result : Result Expression Error) : Type 0 where
+  -- the regex has the pattern and the flags
+  pub ok : IfOk result (λ regex. regex ≡ expression_of settings)
+  -- and its pattern has a tree and passes no limit
+  pub accepted : IfOk result (λ _. IsAccepted settings)
+  -- what the error says is so
+  pub refused : IfErr result (λ error. IsRefusal settings error)
+  -- where the pattern has a tree and passes no limit, only memory can be wanting
+  pub complete : IfErr result (λ error. IsAccepted settings → error ≡ out_of_memory)
 
 -- the tree of the pattern has this property
 abbrev pub OfTree : Expression → (Tree → Type 0) → Type 0

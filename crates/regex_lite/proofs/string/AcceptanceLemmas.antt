@@ -1,5 +1,5 @@
 -- A pattern that is accepted is refused for want of memory alone.
-use Rattle.std.proofs.Common.{◌≡◌, inl, inr, Result, Ok, Err, IfErr, chars, refl, subst, arith}
+use Rattle.std.proofs.Common.{◌≡◌, inl, inr, Err, chars, refl, subst, arith}
 use Rattle.regex_lite_syntax.specs.declared.error.Error.{Error}
 use Rattle.regex_lite_syntax.specs.declared.error.Fault.{Fault}
 use Rattle.regex_lite_syntax.specs.declared.error.Fault.TheVariants as fault
@@ -7,7 +7,7 @@ use Rattle.regex_lite_syntax.specs.Tree.{Tree}
 use Rattle.regex_lite_syntax.specs.Errors.{out_of_memory}
 use Rattle.regex_lite_engine.specs.Graph.Size.{Fits}
 use Rattle.regex_lite.specs.Settings.{Settings}
-use Rattle.regex_lite.specs.Expression.{IsReadAs, IsAccepted, IsRefusal}
+use Rattle.regex_lite.specs.Expression.{IsReadAs, IsAccepted, IsRefusal, Builds}
 use Rattle.regex_lite.proofs.string.OneTreeLemmas.{one_tree}
 
 -- two trees that the pattern is read as are the same
@@ -49,9 +49,12 @@ of_fault settings fault.Slots (inr (a, other, passed)) (tree, read, fits) =
 of_fault settings fault.Replace (inl says) accepted = absurd says
 of_fault settings fault.Replace (inr (tree, read, says)) accepted = absurd says
 
-pub refused_for_memory : {T : Type 0} (settings : Settings) (built : Result T Error)
-    → IfErr built (λ error. IsRefusal settings error)
-    → IfErr built (λ error. IsAccepted settings → error ≡ out_of_memory)
-refused_for_memory settings (Ok value) refused = refused
-refused_for_memory settings (Err error) refused =
-    λ accepted. of_fault settings error.fault refused accepted
+-- a refusal of which what it says is so
+pub builds_refused : (settings : Settings) (error : Error) → IsRefusal settings error
+    → Builds settings (Err error)
+builds_refused settings error refused = record {
+  ok = tt;
+  accepted = tt;
+  refused = refused;
+  complete = λ accepted. of_fault settings error.fault refused accepted;
+}

@@ -2,12 +2,15 @@
 ghost use Rattle.std.specs.Prelude.{◌≡◌, ◌-◌, ◌^◌, min, IfOk, IfErr};
 ghost use Rattle.regex_lite_syntax.specs.Errors.{out_of_memory};
 ghost use Rattle.regex_lite.specs.Settings.{default_settings};
-ghost use Rattle.regex_lite.specs.Expression.{expression_of, IsAccepted, IsRefusal};
+ghost use Rattle.regex_lite.specs.Expression.{Builds};
 
+use crate::string::compiled::Compiled;
 use crate::string::regex::Regex;
-use regex_lite_syntax::{Config, Error, Flags};
+use regex_lite_engine::Graph;
+use regex_lite_syntax::{Config, Error, Flags, Hir};
 use std::alloc::Global;
 use std::marker::Model;
+use std::rc::Rc;
 
 /// A pattern with the settings under which it is to be built.
 ///
@@ -227,15 +230,23 @@ impl RegexBuilder {
     /// Reading stops at the first fault. So a pattern without a tree can also be refused by
     /// `Nesting` or `Groups`, but only if it holds so many `(` that it could pass that limit.
     pub fn build(&self) -> Result<Regex, Error>
-        ensures ok { IfOk result (λ regex. regex ≡ expression_of self.now) }
-        ensures accepted { IfOk result (λ _. IsAccepted self.now) }
-        ensures refused { IfErr result (λ error. IsRefusal self.now error) }
-        ensures complete { IfErr result (λ error. IsAccepted self.now → error ≡ out_of_memory) }
+        ensures { Builds self.now result }
     {
         let config = Config {
             flags: self.flags,
             nest_limit: self.nest_limit,
         };
-        Regex::build(self.alloc, config, self.size_limit, self.pattern.as_str())
+        let hir = Hir::parse(self.alloc, config, self.pattern.as_str())?;
+        let graph = Graph::new(self.alloc, &hir, self.size_limit)?;
+        let compiled = Compiled {
+            pattern: self.pattern.clone()?,
+            flags: config.flags,
+            hir,
+            graph,
+        };
+        Ok(Regex {
+            alloc: self.alloc,
+            compiled: Rc::new(self.alloc, compiled)?,
+        })
     }
 }

@@ -27,11 +27,16 @@ fn cloned(rt: HostRuntime) -> Result<(), Fail> {
     Ok(())
 }
 
+/// With its settings, as a derived `Debug` writes them.
+const BUILDER: &str = "RegexBuilder { alloc: Global, pattern: \"a+\", flags: Flags { \
+    case_insensitive: false, multi_line: true, dot_matches_new_line: false, crlf: false, \
+    swap_greed: false, ignore_whitespace: false }, nest_limit: 50, size_limit: 1000 }";
+
 #[test]
 fn builder_printed(rt: HostRuntime) -> Result<(), Fail> {
     let alloc = rt.alloc();
-    let builder = RegexBuilder::new(alloc, "a+")?;
-    let written = format!(in alloc; "{builder:?}")?;
-    assert!(rt; written.as_str().contains("a+"), "{}", written.as_str());
+    let mut builder = RegexBuilder::new(alloc, "a+")?;
+    builder.multi_line(true).size_limit(1000);
+    assert_eq!(rt; format!(in alloc; "{builder:?}")?.as_str(), BUILDER);
     Ok(())
 }

@@ -1,5 +1,8 @@
 //! Patterns written out: their places, arrows and sizes, and what they say of their groups.
-use crate::{Regex, RegexBuilder};
+ghost use Rattle.std.specs.Prelude.{◌+◌, ◌^◌, ◌<◌};
+
+use crate::tests::expect_refusal;
+use crate::{ErrorKind, Regex, RegexBuilder};
 use std::test::Fail;
 
 /// A pattern with its places, its arrows and its size.
@@ -13,6 +16,15 @@ const ROWS: [(&str, usize, usize, usize); 7] = [
     ("(?:a?){30}a{30}", 123, 152, 4192),
 ];
 
+const TOO_LARGE: &str = "compiled regex exceeded size limit";
+
+/// The places and the arrows together. That this doesn't overflow follows from the clauses alone.
+fn sum(regex: &Regex) -> usize
+    ensures { result < 2 ^ 32 + 2 ^ 33 }
+{
+    regex.places() + regex.arrows()
+}
+
 #[test]
 fn rows(rt: HostRuntime) -> Result<(), Fail> {
     for (pattern, places, arrows, size) in ROWS {
@@ -20,10 +32,9 @@ fn rows(rt: HostRuntime) -> Result<(), Fail> {
         let regex = builder.size_limit(size).build()?;
         assert_eq!(rt; regex.places(), places, "{pattern:?}");
         assert_eq!(rt; regex.arrows(), arrows, "{pattern:?}");
-        assert!(rt;
-            builder.size_limit(size - 1).build().is_err(),
-            "{pattern:?}"
-        );
+        assert_eq!(rt; sum(&regex), places + arrows, "{pattern:?}");
+        let built = builder.size_limit(size - 1).build();
+        expect_refusal(&rt, pattern, built, ErrorKind::Size, TOO_LARGE)?;
     }
     Ok(())
 }
@@ -48,10 +59,8 @@ fn sizes(rt: HostRuntime) -> Result<(), Fail> {
     for (pattern, size) in SIZES {
         let mut builder = RegexBuilder::new(rt.alloc(), pattern)?;
         assert!(rt; builder.size_limit(size).build().is_ok(), "{pattern:?}");
-        assert!(rt;
-            builder.size_limit(size - 1).build().is_err(),
-            "{pattern:?}"
-        );
+        let built = builder.size_limit(size - 1).build();
+        expect_refusal(&rt, pattern, built, ErrorKind::Size, TOO_LARGE)?;
     }
     Ok(())
 }

@@ -2,4 +2,3 @@
 pub mod ArrowCountLemmas
 pub mod NameSizeLemmas
 pub mod PlaceCountLemmas
-pub mod SaturationLemmas

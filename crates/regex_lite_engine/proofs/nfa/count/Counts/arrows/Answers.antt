@@ -1,5 +1,5 @@
 use Rattle.std.proofs.Common.{arith}
-use Rattle.regex_lite_engine.proofs.nfa.count.SaturationLemmas.{arrows_few}
+use Rattle.regex_lite_engine.proofs.ArrowBoundLemmas.{arrows_few}
 use Rattle.regex_lite_engine.proofs.nfa.count.Counts.arrows.Goals as goal
 
 pub returns : goal.returns

@@ -1,0 +1,73 @@
+//! What a regex tells of its groups and of its pattern written out.
+ghost use Rattle.std.specs.Prelude.{◌≡◌, ◌^◌, ◌<◌};
+ghost use Rattle.regex_lite_syntax.specs.Tree.Properties.{captures_len, static_captures_len};
+ghost use Rattle.regex_lite_engine.specs.Graph.PlaceCounts.{whole_places, whole_arrows};
+ghost use Rattle.regex_lite.specs.CaptureNames.{names_left};
+ghost use Rattle.regex_lite.specs.Expression.{AreNames, OfTree};
+
+use crate::string::capture_names::CaptureNames;
+use crate::string::regex::Regex;
+
+impl Regex {
+    /// How many groups a match tells of, the whole match among them.
+    ///
+    /// This is one more than the greatest index of a group that is left: groups under `{0}` are
+    /// numbered, but fall out.
+    ///
+    /// ```
+    /// Regex::new(alloc, "(a)(?<x>b)")?.captures_len(); // 3
+    /// ```
+    ///
+    /// The test `tests::examples::group_count` runs this example.
+    pub fn captures_len(&self) -> usize
+        ensures { OfTree self.now (λ tree. result ≡ captures_len tree) }
+    {
+        self.compiled.graph.capture_names().len()
+    }
+
+    /// The names of the groups by index, `None` for a group without a name.
+    ///
+    /// The whole match, which comes first, has none, and neither have groups under `{0}`.
+    ///
+    /// ```
+    /// let regex = Regex::new(alloc, "(a)(?<x>b)")?;
+    /// let mut names = regex.capture_names();
+    /// names.nth(2); // Some(Some("x"))
+    /// ```
+    ///
+    /// The test `tests::examples::names` runs this example.
+    pub fn capture_names(&self) -> CaptureNames<'_>
+        ensures { OfTree self.now (AreNames (names_left result)) }
+    {
+        CaptureNames::new(self.compiled.graph.capture_names())
+    }
+
+    /// How many groups at least take part in every match, the whole match among them, where that is
+    /// known.
+    ///
+    /// It is `None` where a repetition that may make no pass has a group in it, or where branches
+    /// differ in their number. More groups may take part: `(?:(a)|(b)){2}` has 2, and in a match of
+    /// `ab` all three do.
+    pub fn static_captures_len(&self) -> Option<usize>
+        ensures { OfTree self.now (λ tree. result ≡ static_captures_len tree) }
+    {
+        self.compiled.graph.static_captures_len()
+    }
+
+    /// How many places the pattern has when it is written out. They are fewer than 2^32.
+    pub fn places(&self) -> usize
+        ensures counted { OfTree self.now (λ tree. result ≡ whole_places tree) }
+        ensures bounded { result < 2 ^ 32 }
+    {
+        self.compiled.graph.places()
+    }
+
+    /// How many arrows lead from place to place in the pattern written out. They are fewer than twice
+    /// the places.
+    pub fn arrows(&self) -> usize
+        ensures counted { OfTree self.now (λ tree. result ≡ whole_arrows tree) }
+        ensures bounded { result < 2 ^ 33 }
+    {
+        self.compiled.graph.arrows()
+    }
+}
