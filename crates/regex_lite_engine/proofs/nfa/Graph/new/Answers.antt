@@ -8,7 +8,7 @@ use Rattle.regex_lite_engine.specs.Graph.WrittenOut.{written_out, start_address}
 use Rattle.regex_lite_engine.specs.Nfa.Layout.{whole_layout, whole_table}
 use Rattle.regex_lite_engine.proofs.nfa.write.RenumberingLemmas.{whole_names, renumbered, starts, closed}
 use Rattle.regex_lite_engine.proofs.nfa.count.ArrowCountLemmas.{arrows_whole}
-use Rattle.regex_lite_engine.proofs.nfa.count.SaturationLemmas.{arrows_few}
+use Rattle.regex_lite_engine.proofs.ArrowBoundLemmas.{arrows_few}
 use Rattle.regex_lite_engine.proofs.nfa.Graph.new.Goals as goal
 
 pub returns-clause-ok : goal.returns-clause-ok
