@@ -1,23 +1,32 @@
-//! The names of a pattern's groups.
+//! The names of a tree's groups.
 ghost use Rattle.std.specs.Prelude.{◌≡◌, ◌<◌, ℕ, None, IfOk, length, map, option_map, slice_index_or};
 ghost use Rattle.regex_lite_syntax.specs.Tree.Properties.{captures_len, greatest_index, greatest_index_in, group_name, group_name_in};
 ghost use Rattle.regex_lite_syntax.specs.Tree.{trees as trees_of};
+ghost use Rattle.regex_lite_syntax.specs.Tree.NameTables.{AddsNames, name_if_at};
 ghost use Rattle.regex_lite_syntax.specs.Tree.Views.{text_of_string, tree_of};
-ghost use Rattle.regex_lite_engine.specs.Nfa.Names.{AddsNames, name_if_at};
 
-use regex_lite_syntax::Hir;
+use super::Hir;
 use std::alloc::{AllocError, Global};
 
-/// The names of the groups by index, group 0 first.
-pub(crate) fn capture_names(alloc: Global, hir: &Hir) -> Result<Vec<Option<String>>, AllocError>
-    ensures { IfOk result (λ names. (length names.items ≡ captures_len (tree_of hir.now))
-        × ((k : ℕ) → slice_index_or (map (option_map text_of_string) names.items) k None
-        ≡ group_name (tree_of hir.now) k)) }
-{
-    let captures_len = hir.greatest_index() as usize + 1;
-    let mut names = vec![in alloc; None; captures_len]?;
-    add_names(&mut names, hir)?;
-    Ok(names)
+impl Hir {
+    /// The names of the groups by index, group 0 first.
+    ///
+    /// Condition: `len` is one more than the greatest index.
+    pub fn capture_names(
+        &self,
+        alloc: Global,
+        len: usize,
+    ) -> Result<Vec<Option<String>>, AllocError>
+        requires { len ≡ captures_len (tree_of self.now) }
+        ensures each_group { IfOk result (λ names. length names.items ≡ len) }
+        ensures names { IfOk result (λ names. (k : ℕ)
+            → slice_index_or (map (option_map text_of_string) names.items) k None
+            ≡ group_name (tree_of self.now) k) }
+    {
+        let mut names = vec![in alloc; None; len]?;
+        add_names(&mut names, self)?;
+        Ok(names)
+    }
 }
 
 /// Adds the names of a tree's groups to a table.

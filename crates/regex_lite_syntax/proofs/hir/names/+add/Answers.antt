@@ -5,8 +5,8 @@ use Rattle.regex_lite_syntax.specs.Tree.{Tree, trees as trees_of}
 use Rattle.regex_lite_syntax.specs.Tree.Views.{tree_of}
 use Rattle.regex_lite_syntax.specs.declared.hir.Hir.{Hir}
 use Rattle.regex_lite_syntax.specs.declared.hir.Hir.TheVariants.{Concat, Alternation}
-use Rattle.regex_lite_engine.specs.Nfa.Names.{AddsNames}
-use Rattle.regex_lite_engine.proofs.nfa.names.+add.Goals as goal
+use Rattle.regex_lite_syntax.specs.Tree.NameTables.{AddsNames}
+use Rattle.regex_lite_syntax.proofs.hir.names.+add.Goals as goal
 use Rattle.regex_lite_syntax.proofs.TreeLemmas.{tree_of-Concat, tree_of-Alternation}
 
 -- the names of a list of trees are those of the node that has them

@@ -1,30 +1,31 @@
+use Rattle.std.specs.Option.{option_or}
 use Rattle.std.proofs.Common.{rules, ◌≡◌, ◌≢◌, ◌==◌, ◌<◌, ◌∙◌, refl, sym, ap, ℕ, Bool, true, false, List, Option, Some, None, String, Global, map, option_map, length, get_or, slice_set, get_or-set_same, get_or-set_other}
 use Rattle.std.proofs.lemmas.Bool.{eqb-true, eq-eqb}
 use Rattle.std.proofs.lemmas.List.{map-set, length-map, get_or-map}
 use Rattle.regex_lite_syntax.specs.Text.{Text}
-use Rattle.regex_lite_syntax.specs.Tree.Properties.{either, name_if}
+use Rattle.regex_lite_syntax.specs.Tree.Properties.{name_if}
 use Rattle.regex_lite_syntax.specs.Tree.Views.{text_of_string}
-use Rattle.regex_lite_engine.specs.Nfa.Names.{AddsNames, name_at, name_if_at}
-use Rattle.regex_lite_engine.proofs.nfa.names.add_name.Goals as goal
+use Rattle.regex_lite_syntax.specs.Tree.NameTables.{AddsNames, name_at, name_if_at}
+use Rattle.regex_lite_syntax.proofs.hir.names.add_name.Goals as goal
 
-either-none : (name : Option Text) → either name None ≡ name
-either-none None = refl
-either-none (Some name) = refl
+option_or-none : (name : Option Text) → option_or name None ≡ name
+option_or-none None = refl
+option_or-none (Some name) = refl
 
 -- the name at one index, by whether it is the one that is written
 added_at : (table : List (Option Text)) (index k : ℕ) (name : Option Text) (is_it : Bool)
     → (index == k) ≡ is_it → index < length table → get_or table index None ≡ None
     → get_or (slice_set table index name) k None
-    ≡ either (get_or table k None) (name_if is_it name)
+    ≡ option_or (get_or table k None) (name_if is_it name)
 added_at table index k name true e inside free =
     let same : index ≡ k = eqb-true index k e in
     ap (λ i. get_or (slice_set table index name) i None) (sym same)
     ∙ get_or-set_same table index name None inside
-    ∙ ap (λ here. either here name) (sym free ∙ ap (λ i. get_or table i None) same)
+    ∙ ap (λ here. option_or here name) (sym free ∙ ap (λ i. get_or table i None) same)
 added_at table index k name false e inside free =
     let other : k ≢ index =
     (λ same. let hit : (index == k) ≡ true = eq-eqb index k (sym same) in cc) in
-    get_or-set_other table index k name None other ∙ sym (either-none (get_or table k None))
+    get_or-set_other table index k name None other ∙ sym (option_or-none (get_or table k None))
 
 added : (table : List (Option (String Global))) (index : ℕ) (name copy : Option (String Global))
     → index < length table → name_at table index ≡ None

@@ -1,8 +1,9 @@
 -- Tables of the names of groups, as they are filled.
+use Rattle.std.specs.Option.{option_or}
 use Rattle.std.specs.Prelude.{◌≡◌, ◌==◌, ℕ, List, Option, None, String, map, option_map, slice_index_or}
 use Rattle.std.specs.declared.alloc.Global.{Global}
 use Rattle.regex_lite_syntax.specs.Text.{Text}
-use Rattle.regex_lite_syntax.specs.Tree.Properties.{either, name_if}
+use Rattle.regex_lite_syntax.specs.Tree.Properties.{name_if}
 use Rattle.regex_lite_syntax.specs.Tree.Views.{text_of_string}
 
 -- the name that the table has for the group with this index
@@ -17,4 +18,4 @@ name_if_at index name k = name_if (index == k) name
 abbrev pub AddsNames : (names : ℕ → Option Text) (before after : List (Option (String Global)))
     → Type 0
 AddsNames names before after =
-    (k : ℕ) → name_at after k ≡ either (name_at before k) (names k)
+    (k : ℕ) → name_at after k ≡ option_or (name_at before k) (names k)
