@@ -74,7 +74,7 @@ impl Drop for Hir {
 impl Hir {
     /// A character of this set.
     pub(crate) fn class(alloc: Global, set: Class) -> Result<Hir, AllocError>
-        ensures { IfOk result (λ hir. tree_of hir ≡ class set.ranges.items) }
+        ensures { IfOk result (λ hir. tree_of hir ≡ class set) }
     {
         Ok(Hir::Class(Rc::new(alloc, set)?))
     }

@@ -143,7 +143,7 @@ impl Counts {
 
     /// What the place of a set takes. It has no arrow where the set is empty.
     fn of_class(set: &Class) -> Counts
-        ensures { AreCountsOf (class set.now.ranges.items) result }
+        ensures { AreCountsOf (class set.now) result }
     {
         let ranges = set.ranges().len();
         Counts {
