@@ -1,8 +1,8 @@
 //! Sets of characters.
-ghost use Rattle.std.specs.Prelude.{◌≡◌, IfOk, if◌then◌else◌};
+ghost use Rattle.std.specs.Prelude.{◌≡◌, IfOk};
 ghost use Rattle.regex_lite_syntax.specs.Sets.{complement};
 ghost use Rattle.regex_lite_syntax.specs.Ranges.{in_ranges, AreRuns, AreRunsOf};
-ghost use Rattle.regex_lite_syntax.specs.NamedSets.{members};
+ghost use Rattle.regex_lite_syntax.specs.Parser.Readings.{named_or_not};
 
 pub(crate) mod letters;
 pub(crate) mod named;
@@ -57,7 +57,7 @@ impl Class {
     /// The set with this name, or all other characters.
     pub(crate) fn named(alloc: Global, set: NamedSet, negated: bool) -> Result<Class, AllocError>
         ensures { IfOk result (λ class. AreRunsOf class
-            (if negated then complement (members set) else members set)) }
+            (named_or_not set negated)) }
     {
         let ranges = set.ranges(alloc)?;
         let class = Class { ranges };

@@ -5,7 +5,8 @@ ghost use Rattle.regex_lite_syntax.specs.Limits.{depth, depth_of_list};
 ghost use Rattle.regex_lite_syntax.specs.Tree.Views.{text_of_string, tree_of};
 
 pub(crate) mod look;
-mod properties;
+mod names;
+pub(crate) mod properties;
 
 use crate::class::Class;
 use look::Look;

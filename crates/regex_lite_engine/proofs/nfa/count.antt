@@ -2,3 +2,4 @@
 pub mod ArrowCountLemmas
 pub mod NameSizeLemmas
 pub mod PlaceCountLemmas
+pub mod StaticGroupLemmas
