@@ -121,7 +121,7 @@ fn counted_operators(rt: HostRuntime) -> Result<(), Fail> {
         ),
         (
             "a{5,6",
-            "found counted repetition with least and most that is unclosed",
+            "found counted repetition with min and max that is unclosed",
         ),
         ("a{5,6Z", no_brace),
         ("a{5Z}", no_brace),
@@ -195,17 +195,18 @@ fn escapes(rt: HostRuntime) -> Result<(), Fail> {
 #[test]
 fn classes(rt: HostRuntime) -> Result<(), Fail> {
     let no_range = "character class ranges must start and end with a single character";
+    let after_dash = "non-empty character class has no closing bracket after dash";
     let unclosed = "found unclosed character class";
     let nested = "nested character classes are not supported";
     let rows = [
         ("[a", "non-empty character class has no closing bracket"),
         ("[\\w-a]", no_range),
         ("[a-\\w]", no_range),
+        ("[a-\\z]", no_range),
+        ("[\\z-a]", no_range),
         ("[\\b]", "invalid escape sequence in character class"),
-        (
-            "[a-",
-            "non-empty character class has no closing bracket after dash",
-        ),
+        ("[a-", after_dash),
+        ("[^-", after_dash),
         ("[^", "negated character class has no closing bracket"),
         (
             "[]",

@@ -20,11 +20,12 @@ pub part_literal : (verbose : Bool) (t rest : Text) (c : ℕ) → t ≡ c ∷ re
 part_literal true t rest c e plain ends = literal c e plain (λ _. subst (λ u. EndsGap true u) e ends) refl
 part_literal false t rest c e plain ends = literal c e plain (λ h. absurd (false≢true h)) refl
 
--- an escape that gives a look is no part that an item can have
-pub no_look : (verbose : Bool) (t past rest r : Text) (p q : Primitive) → t ≡ the "\\" ∷ past → Escape verbose past rest p
-    → (IsElement p → ⊥) → IsElement q → ClassElement verbose t r q → ⊥
-no_look verbose t past rest r p q e x look element part =
-    look (subst (λ y. IsElement y) (sym (part_once verbose t rest r p q (escaped past e x) part).1) element)
+-- what begins with a backslash is an escape
+pub escape_of_part : (verbose : Bool) (t past r : Text) (p : Primitive) → t ≡ the "\\" ∷ past → ClassElement verbose t r p
+    → Escape verbose past r p
+escape_of_part verbose t past r p e (literal c f plain w is) = absurd (plain (same_head (sym f ∙ e)))
+escape_of_part verbose t past r p e (escaped past' f x) =
+    subst (λ u. Escape verbose u r p) (same_tail (sym f ∙ e)) x
 
 -- whether a dash makes a range
 pub no_dash : (verbose : Bool) (t u last : Text) → WholeGap verbose t u → (Begins (the "-") u → ⊥) → RangeFollows verbose t last → ⊥

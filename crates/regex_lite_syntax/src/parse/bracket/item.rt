@@ -1,10 +1,11 @@
 //! Items of a class.
-ghost use Rattle.std.specs.Prelude.{◌<◌, ◌≤◌, drop, length, IfOk, OnErr, IfSome, MatchOption};
+ghost use Rattle.std.specs.Prelude.{◌≡◌, ◌<◌, ◌≤◌, drop, length, IfOk, OnErr, IfSome, MatchOption};
 ghost use Rattle.regex_lite_syntax.specs.Text.{Text, Begins, the};
 ghost use Rattle.regex_lite_syntax.specs.Grammar.Gaps.{EndsGap};
 ghost use Rattle.regex_lite_syntax.specs.Sets.{Set};
 ghost use Rattle.regex_lite_syntax.specs.Grammar.Escapes.{Primitive as Given};
 ghost use Rattle.regex_lite_syntax.specs.Grammar.Classes.{ClassElement, RangeFollows, ClassItem};
+ghost use Rattle.regex_lite_syntax.specs.Parser.Readings.{primitive_of};
 ghost use Rattle.regex_lite_syntax.specs.Parser.ClassReadings.{element_primitive, IsElement, item_set, BeginsOperator, RangeTo, EndsOpen, HasItems};
 
 use crate::class::named::NamedSet;
@@ -57,10 +58,13 @@ pub(crate) fn read_item(
     if let Some(fault) = operator_fault(chars, at) {
         return Err(fault);
     }
-    let (past, element) = read_element(chars, at, verbose)?;
+    let (past, first) = read_element(chars, at, verbose)?;
     match find_range_end(chars, past, verbose)? {
-        None => Ok((past, Item::Alone(element))),
-        Some(last) => read_range(chars, element, last, verbose),
+        None => match element_of(first) {
+            Some(element) => Ok((past, Item::Alone(element))),
+            None => Err(SyntaxFault::ClassInvalidItem),
+        },
+        Some(last) => read_range(chars, first, last, verbose),
     }
 }
 
@@ -83,23 +87,31 @@ fn operator_fault(chars: &[char], at: usize) -> Option<SyntaxFault>
 }
 
 /// Reads one character or one escape, and answers the index behind it.
-fn read_element(chars: &[char], at: usize, verbose: bool) -> Result<(usize, Element), SyntaxFault>
+fn read_element(chars: &[char], at: usize, verbose: bool) -> Result<(usize, Primitive), SyntaxFault>
     requires inside { at < length chars.now }
     requires past_gap { EndsGap verbose (drop at chars.now) }
     ensures inside { IfOk result (λ r. (at < r.0) × (r.0 ≤ length chars.now)) }
     ensures ok { IfOk result (λ r.
-        ClassElement verbose (drop at chars.now) (drop r.0 chars.now) (element_primitive r.1)) }
+        ClassElement verbose (drop at chars.now) (drop r.0 chars.now) (primitive_of r.1)) }
     ensures refused { OnErr result
-        (¬ ((rest : Text) × (p : Given) × IsElement p × ClassElement verbose (drop at chars.now) rest p)) }
+        (¬ ((rest : Text) × (p : Given) × ClassElement verbose (drop at chars.now) rest p)) }
 {
     let c = chars[at];
     if c != '\\' {
-        return Ok((at + 1, Element::Char(c)));
+        return Ok((at + 1, Primitive::Char(c)));
     }
-    match read_escape(chars, at + 1, verbose)? {
-        (end, Primitive::Char(c)) => Ok((end, Element::Char(c))),
-        (end, Primitive::Set { set, negated }) => Ok((end, Element::Set { set, negated })),
-        (_, Primitive::Look(_)) => Err(SyntaxFault::ClassInvalidItem),
+    read_escape(chars, at + 1, verbose)
+}
+
+/// The element of an item that is no range: all but a look may be one.
+fn element_of(primitive: Primitive) -> Option<Element>
+    ensures { MatchOption result (¬ IsElement (primitive_of primitive))
+        (λ element. element_primitive element ≡ primitive_of primitive) }
+{
+    match primitive {
+        Primitive::Char(c) => Some(Element::Char(c)),
+        Primitive::Set { set, negated } => Some(Element::Set { set, negated }),
+        Primitive::Look(_) => None,
     }
 }
 
@@ -130,27 +142,26 @@ fn find_range_end(chars: &[char], at: usize, verbose: bool) -> Result<Option<usi
     }
 }
 
-/// Reads the end of a range from this element on, and answers the index behind it.
+/// Reads the end of a range that starts with this primitive, and answers the index behind it.
 fn read_range(
     chars: &[char],
-    start: Element,
+    first: Primitive,
     last: usize,
     verbose: bool,
 ) -> Result<(usize, Item), SyntaxFault>
     requires inside { last < length chars.now }
     requires past_gap { EndsGap verbose (drop last chars.now) }
     ensures inside { IfOk result (λ r. (last < r.0) × (r.0 ≤ length chars.now)) }
-    ensures ok { IfOk result (λ r. RangeTo verbose (element_primitive start)
+    ensures ok { IfOk result (λ r. RangeTo verbose (primitive_of first)
         (drop last chars.now) (drop r.0 chars.now) (item_set r.1)) }
-    ensures refused { OnErr result
-        (¬ ((rest : Text) × (s : Set)
-        × RangeTo verbose (element_primitive start) (drop last chars.now) rest s)) }
+    ensures refused { OnErr result (¬ ((rest : Text) × (s : Set)
+        × RangeTo verbose (primitive_of first) (drop last chars.now) rest s)) }
 {
-    let Element::Char(start) = start else {
+    let (past, element) = read_element(chars, last, verbose)?;
+    let Primitive::Char(start) = first else {
         return Err(SyntaxFault::ClassInvalidRangeItem);
     };
-    let (past, element) = read_element(chars, last, verbose)?;
-    let Element::Char(end) = element else {
+    let Primitive::Char(end) = element else {
         return Err(SyntaxFault::ClassInvalidRangeItem);
     };
     if start > end {

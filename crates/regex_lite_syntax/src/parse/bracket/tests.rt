@@ -115,7 +115,7 @@ fn ends_at_the_first_bracket_of_an_item(rt: HostRuntime) -> Result<(), Fail> {
 
 #[test]
 fn faults(rt: HostRuntime) -> Result<(), Fail> {
-    let rows: [(&str, SyntaxFault); 28] = [
+    let rows: [(&str, SyntaxFault); 37] = [
         ("[", SyntaxFault::ClassUnclosed),
         ("[a-z", SyntaxFault::ClassUnclosed),
         ("[[:word:]", SyntaxFault::ClassUnclosed),
@@ -124,14 +124,22 @@ fn faults(rt: HostRuntime) -> Result<(), Fail> {
         ("[^]", SyntaxFault::ClassUnclosedAfterClosing),
         ("[a", SyntaxFault::ClassUnclosedAfterItem),
         ("[\\d", SyntaxFault::ClassUnclosedAfterItem),
+        ("[\\z", SyntaxFault::ClassUnclosedAfterItem),
         ("[-", SyntaxFault::ClassUnclosedAfterDash),
+        ("[^-", SyntaxFault::ClassUnclosedAfterDash),
+        ("[^--", SyntaxFault::ClassUnclosedAfterDash),
         ("[a-", SyntaxFault::ClassUnclosedAfterDash),
+        ("[\\z-", SyntaxFault::ClassUnclosedAfterDash),
         ("[\\w-a]", SyntaxFault::ClassInvalidRangeItem),
         ("[a-\\w]", SyntaxFault::ClassInvalidRangeItem),
+        ("[a-\\z]", SyntaxFault::ClassInvalidRangeItem),
+        ("[\\z-a]", SyntaxFault::ClassInvalidRangeItem),
+        ("[\\d-z", SyntaxFault::ClassInvalidRangeItem),
         ("[\\b]", SyntaxFault::ClassInvalidItem),
         ("[\\A]", SyntaxFault::ClassInvalidItem),
         ("[\\b{start}]", SyntaxFault::ClassInvalidItem),
-        ("[a-\\z]", SyntaxFault::ClassInvalidItem),
+        ("[\\z-]", SyntaxFault::ClassInvalidItem),
+        ("[\\z--]", SyntaxFault::ClassInvalidItem),
         ("[z-a]", SyntaxFault::ClassInvalidRange),
         ("[a-z[A-Z]]", SyntaxFault::ClassNestUnsupported),
         ("[[:loower:]]", SyntaxFault::ClassNestUnsupported),
@@ -141,6 +149,7 @@ fn faults(rt: HostRuntime) -> Result<(), Fail> {
         ("[a--b]", SyntaxFault::ClassDifferenceUnsupported),
         ("[a~~b]", SyntaxFault::ClassSymmetricDifferenceUnsupported),
         ("[\\i]", SyntaxFault::EscapeUnrecognized),
+        ("[\\d-\\i]", SyntaxFault::EscapeUnrecognized),
         ("[\\8]", SyntaxFault::BackreferenceUnsupported),
         ("[\\", SyntaxFault::EscapeUnexpectedEof),
         ("[\\xZ]", SyntaxFault::HexFixedInvalidDigit),

@@ -1,6 +1,6 @@
 //! Counted operators: their bounds and where they end, or why they are refused.
 use super::{Times, read_counted};
-use crate::error::{Error, SyntaxFault};
+use crate::error::SyntaxFault;
 use std::test::Fail;
 
 /// Reads the text as what follows an opening brace.
@@ -8,7 +8,7 @@ fn read(
     rt: &HostRuntime,
     verbose: bool,
     text: &str,
-) -> Result<Result<(usize, Times), Error>, Fail> {
+) -> Result<Result<(usize, Times), SyntaxFault>, Fail> {
     let chars: Vec<char> = text.chars().collect(rt.alloc())?;
     Ok(read_counted(&chars, 0, verbose))
 }
@@ -75,7 +75,7 @@ fn refused(rt: HostRuntime) -> Result<(), Fail> {
         ),
     ] {
         let found = read(&rt, verbose, text)?;
-        assert!(rt; found == Err(Error::from(fault)), "at {text:?}");
+        assert!(rt; found == Err(fault), "at {text:?}");
     }
     Ok(())
 }

@@ -1,7 +1,7 @@
 //! What follows a backslash: what it gives and where it ends, or why it is refused.
 use super::{Primitive, read_escape};
 use crate::class::named::NamedSet;
-use crate::error::{Error, SyntaxFault};
+use crate::error::SyntaxFault;
 use crate::hir::look::Look;
 use std::test::Fail;
 
@@ -10,7 +10,7 @@ fn read(
     rt: &HostRuntime,
     verbose: bool,
     text: &str,
-) -> Result<Result<(usize, Primitive), Error>, Fail> {
+) -> Result<Result<(usize, Primitive), SyntaxFault>, Fail> {
     let chars: Vec<char> = text.chars().collect(rt.alloc())?;
     Ok(read_escape(&chars, 0, verbose))
 }
@@ -139,7 +139,7 @@ fn refused(rt: HostRuntime) -> Result<(), Fail> {
         ("b{", SyntaxFault::SpecialWordOrRepetitionUnexpectedEof),
     ] {
         let found = read(&rt, false, text)?;
-        assert!(rt; found == Err(Error::from(fault)), "at {text:?}");
+        assert!(rt; found == Err(fault), "at {text:?}");
     }
     Ok(())
 }
@@ -156,7 +156,7 @@ fn refused_with_gaps(rt: HostRuntime) -> Result<(), Fail> {
         ("b{#}", SyntaxFault::SpecialWordOrRepetitionUnexpectedEof),
     ] {
         let found = read(&rt, true, text)?;
-        assert!(rt; found == Err(Error::from(fault)), "at {text:?}");
+        assert!(rt; found == Err(fault), "at {text:?}");
     }
     Ok(())
 }

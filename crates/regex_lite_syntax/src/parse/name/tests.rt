@@ -1,10 +1,10 @@
 //! Which names are read, and why others are refused.
 use super::{is_among, read_name, skip_name_opening, string_of};
-use crate::error::{Error, SyntaxFault};
+use crate::error::SyntaxFault;
 use std::test::Fail;
 
 /// Reads the text as a name from behind its `<` on: the index behind its `>`, and the name.
-fn read(rt: &HostRuntime, text: &str) -> Result<Result<(usize, String), Error>, Fail> {
+fn read(rt: &HostRuntime, text: &str) -> Result<Result<(usize, String), SyntaxFault>, Fail> {
     let chars: Vec<char> = text.chars().collect(rt.alloc())?;
     match read_name(&chars, 0) {
         Ok(end) => Ok(Ok((end, string_of(rt.alloc(), &chars[..end - 1])?))),
@@ -29,7 +29,7 @@ fn read_names(rt: HostRuntime) -> Result<(), Fail> {
                 assert_eq!(rt; found, end, "at {text:?}");
                 assert_eq!(rt; name.as_str(), wanted, "at {text:?}");
             }
-            Err(e) => assert!(rt; false, "at {text:?}: {e}"),
+            Err(e) => assert!(rt; false, "at {text:?}: {e:?}"),
         }
     }
     Ok(())
@@ -54,7 +54,7 @@ fn refused_names(rt: HostRuntime) -> Result<(), Fail> {
     ] {
         match read(&rt, text)? {
             Ok((_, name)) => assert!(rt; false, "at {text:?}: {name}"),
-            Err(e) => assert!(rt; e == Error::from(fault), "at {text:?}"),
+            Err(e) => assert!(rt; e == fault, "at {text:?}"),
         }
     }
     Ok(())
@@ -77,7 +77,7 @@ fn look_around(rt: HostRuntime) -> Result<(), Fail> {
         };
         match read {
             Ok(end) => assert!(rt; false, "at {text:?}: {end}"),
-            Err(e) => assert!(rt; e == Error::from(fault), "at {text:?}"),
+            Err(e) => assert!(rt; e == fault, "at {text:?}"),
         }
     }
     Ok(())

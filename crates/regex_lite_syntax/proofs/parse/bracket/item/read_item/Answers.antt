@@ -1,7 +1,8 @@
-use Rattle.std.proofs.Common.{refl, drop}
+use Rattle.std.proofs.Common.{refl, sym, subst, drop}
 use Rattle.std.proofs.lemmas.Result.{err_from_is_err_and, IfOk-weaker}
-use Rattle.regex_lite_syntax.specs.Grammar.Classes.{ClassItem}
-use Rattle.regex_lite_syntax.specs.Parser.ClassReadings.{element_primitive, item_set, RangeTo}
+use Rattle.regex_lite_syntax.specs.Grammar.Classes.{ClassElement, ClassItem}
+use Rattle.regex_lite_syntax.specs.Parser.Readings.{primitive_of}
+use Rattle.regex_lite_syntax.specs.Parser.ClassReadings.{item_set, RangeTo}
 use Rattle.regex_lite_syntax.proofs.parse.DenialLemmas.{none_of_part}
 use Rattle.regex_lite_syntax.proofs.parse.IndexLemmas.{left_inside}
 use Rattle.regex_lite_syntax.proofs.parse.bracket.ClassItemLemmas.{begins_item, item_part, item_named, item_alone, item_range, item_range_to, open_items}
@@ -14,8 +15,9 @@ pub returns-in_err-past-clause-refused : goal.returns-in_err-past-clause-refused
 returns-in_err-past-clause-refused c =
     let t = drop c.args.at c.args.chars.now in
     let left = err_from_is_err_and c.from_residual.result c.from_residual.ensures.1 in
-    rw left.1 (λ items. c.in_err-past.ensures.refused
-    (item_part c.args.verbose t _ _ (c.if-is_at.ensures.absent refl) items.3.2))
+    rw left.1 (λ items.
+    let first = item_part c.args.verbose t _ _ (c.if-is_at.ensures.absent refl) items.3.2 in
+    c.in_err-past.ensures.refused (first.0, first.1, first.3))
 
 pub returns-in_err-find_range_end-clause-refused : goal.returns-in_err-find_range_end-clause-refused
 returns-in_err-find_range_end-clause-refused c =
@@ -25,19 +27,24 @@ returns-in_err-find_range_end-clause-refused c =
     rw left.1 (open_items verbose t _ _ (c.if-is_at.ensures.absent refl) c.in_ok-past.ensures.ok
     c.in_err-find_range_end.ensures.refused)
 
-pub returns-in-None-2-clause-ok : goal.returns-in-None-2-clause-ok
-returns-in-None-2-clause-ok c =
-    let here = left_inside c.args.chars.now c.args.at c.requires.inside c.if-at-chars.false in
+pub returns-in-Some-element_of-clause-ok : goal.returns-in-Some-element_of-clause-ok
+returns-in-Some-element_of-clause-ok c =
+    let verbose = c.args.verbose in
+    let xs = c.args.chars.now in
+    let t = drop c.args.at xs in
+    let past = drop c.in_ok-past.past xs in
+    let here = left_inside xs c.args.at c.requires.inside c.if-at-chars.false in
     let none = rw c.in-None-2.is at c.in_ok-find_range_end.ensures.ok in
-    item_alone _ _ _ _ (begins_item _ _ _ here c.requires.goes_on (c.if-is_at.ensures.absent refl) c.in_default.ensures)
-    c.in_ok-past.ensures.ok none
+    let part = subst (λ p. ClassElement verbose t past p) (sym c.in-Some-element_of.ensures) c.in_ok-past.ensures.ok in
+    item_alone verbose t past c.in-Some-element_of.element
+    (begins_item _ _ _ here c.requires.goes_on (c.if-is_at.ensures.absent refl) c.in_default.ensures) part none
 
 pub returns-in-Some-2-clause-ok : goal.returns-in-Some-2-clause-ok
 returns-in-Some-2-clause-ok c =
     let verbose = c.args.verbose in
     let xs = c.args.chars.now in
     let t = drop c.args.at xs in
-    let first = element_primitive c.in_ok-past.element in
+    let first = primitive_of c.in_ok-past.first in
     let last = drop c.in-Some-2.last xs in
     let here = left_inside xs c.args.at c.requires.inside c.if-at-chars.false in
     let follows = rw c.in-Some-2.is at c.in_ok-find_range_end.ensures.ok in
@@ -53,7 +60,7 @@ returns-in-Some-2-clause-refused c =
     let verbose = c.args.verbose in
     let xs = c.args.chars.now in
     let t = drop c.args.at xs in
-    let first = element_primitive c.in_ok-past.element in
+    let first = primitive_of c.in_ok-past.first in
     let last = drop c.in-Some-2.last xs in
     let follows = rw c.in-Some-2.is at c.in_ok-find_range_end.ensures.ok in
     none_of_part c.read_range.result
