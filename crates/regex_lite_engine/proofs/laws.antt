@@ -18,3 +18,4 @@ pub mod WrittenTreeLemmas
 pub mod answer
 pub mod groups
 pub mod list
+pub mod search
