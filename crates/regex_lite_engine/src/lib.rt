@@ -5,5 +5,3 @@ pub mod laws;
 mod nfa;
 
 pub use nfa::Graph;
-pub use nfa::class::MappedClass;
-pub use nfa::place::Place;
