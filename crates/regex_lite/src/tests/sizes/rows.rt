@@ -1,4 +1,4 @@
-//! Patterns with their sizes in upstream. `tests/answers/make.py` writes this file.
+//! Patterns with their sizes in upstream. `tests/answers/make` writes this file.
 use super::Row;
 
 #[rattlefmt::skip]

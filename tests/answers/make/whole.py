@@ -1,40 +1,20 @@
-"""The cases of whole-grammar.tsv."""
+"""Patterns of the whole grammar: groups, names, counted operators and verbose mode too."""
 
-import itertools
 import re
 
-from cases import (
-    MISSING, OPERATORS, ROUNDS, SEED, UNCLOSED, UNOPENED, Dice, ask, chosen_rows, edited,
-    edited_often, kept_lines, line_of, noise, quotas_of,
-)
-from flags_and_classes import (
-    ALPHABETS, FAULTS_OF_ITEMS, IGNORES_CASE, LINE_ENDS, MIXED, Directive, Group, Leaf, Maker,
-    framed, is_outside, near_of, some_flags,
-)
-from whole_grammar_faults import FAULTS, MISSING_COUNTED, NESTING
-from whole_grammar_picked import PICKED, ends_in_braces, systematic
+from data import faults_of
+from dice import OPERATORS, ROUNDS, edited, edited_often, noise
+from flags import FAULTS_OF_ITEMS, IGNORES_CASE, framed, is_outside, near_of
+from leaves import ALPHABETS, LINE_ENDS, MIXED, Directive, Group, Leaf, Maker, some_flags
+from choice import MISSING_COUNTED
 
-PATTERNS = 33_000  # how many generated patterns the judge is asked about
 LONGEST = 160  # characters of a generated pattern, unless it is nested too deeply
 LARGEST = 1000  # the product of all counts of a pattern is at most this
-TOO_LARGE = 'compiled regex exceeded size limit'
 
-STRUCTURE = (UNCLOSED, UNOPENED, MISSING, MISSING_COUNTED)  # faults that lie in no single item
-NEW_FAULTS = [fault for fault in FAULTS if fault[0] != MISSING_COUNTED]
-
-# How many generated cases of each kind are kept. The four numbers of a family are for matches and
-# for cases without a match, each of patterns that match the empty haystack and of others.
-FAMILIES = {
-    'groups': (100, 700, 40, 660),
-    'counts': (100, 900, 60, 840),
-    'verbose': (120, 900, 60, 860),
-    'all': (100, 400, 40, 360),
-    'changed': (20, 180, 10, 190),
-}
-QUOTAS = quotas_of(FAMILIES)
-QUOTAS.update({('broken', text): 30 for text in STRUCTURE})
-QUOTAS.update({('faulty', text): 12 for text, *_ in FAULTS_OF_ITEMS})
-QUOTAS.update({('faulty', text): 30 for text, *_ in NEW_FAULTS})
+NESTING = 'pattern has too much nesting'
+NEW_FAULTS = [
+    fault for fault in faults_of('whole-grammar-faults').items() if fault[0] != MISSING_COUNTED
+]
 
 NAMES = ('n', 'm', 'a', 'Z', '_', '_1', 'a.b', 'a[0]', 'name', 'é', 'ß', '名', '名字', 'Σ2', 'x¾',
          'aⅧ', 'N', 'i', 'x', 'longer_name', 'k٣', 'aΩ', 'ª', 'P')
@@ -229,9 +209,10 @@ def written(dice, tree, verbose):
 def with_fault(dice, tree, verbose):
     """A text of a refusal, and a pattern with one fault, which has this text. No fault is taken
     that may be another under x."""
-    text, anywhere, last, _ = dice.pick(FAULTS_OF_ITEMS + NEW_FAULTS * 3)
-    fault = dice.pick([fault for fault in anywhere + last if not re.search(r'[\s#]', fault)])
-    if fault in last:
+    text, places = dice.pick(FAULTS_OF_ITEMS + NEW_FAULTS * 3)
+    faults = places['anywhere'] + places['last']
+    fault = dice.pick([fault for fault in faults if not re.search(r'[\s#]', fault)])
+    if fault in places['last']:
         parts, _ = written(dice, tree, verbose)
         return text, ''.join(parts) + dice.pick(('', '', '|')) + fault
     branch = dice.pick(tree)
@@ -300,44 +281,6 @@ def is_fit(pattern, text):
     return text or product <= LARGEST
 
 
-def picked_cases():
-    """The cases picked by hand, each with the text of its refusal, with an empty text, or with
-    None where the judge alone tells. The rows leave out what stands before them."""
-    chosen = [((pattern, haystack), '') for pattern, *texts in PICKED for haystack in texts]
-    for text, *patterns in FAULTS:
-        chosen += (((pattern, ''), text) for pattern in itertools.chain(*patterns))
-    before = {pattern for (pattern, _), _ in chosen}
-    rows = dict.fromkeys(case for case in systematic() if case[0] not in before)
-    return chosen + [(case, None) for case in rows]
-
-
-def picked_lines(judge):
-    """The lines of the cases picked by hand. A pattern of a row that is refused has one case."""
-    cases, texts = zip(*picked_cases())
-    found = []
-    refused = set()
-    for case, wanted, (status, text) in zip(cases, texts, ask(judge, cases)):
-        if not has_new_rule(case[0], text) or text == TOO_LARGE or wanted not in (None, text):
-            raise SystemExit(f'wrong among the picked cases: {case!r}: {text}')
-        if case[0] not in refused:
-            found.append(line_of(case, status, text))
-        if status == 2:
-            refused.add(case[0])
-    if len(set(found)) < len(found):
-        raise SystemExit('two picked cases are alike')
-    return found
-
-
-def lines(judge):
-    """The whole list."""
-    seen = {pattern for (pattern, _), _ in picked_cases()}
-    rows = chosen_rows(judge, generated(Dice(SEED)), PATTERNS, STRUCTURE)
-    return picked_lines(judge) + kept_lines(judge, rows, QUOTAS, seen)
-
-
-def fresh_lines(judge, seed, count):
-    """So many generated lines of another seed, without any choice among their kinds."""
-    rows = chosen_rows(judge, generated(Dice(seed)), count, STRUCTURE)
-    cases = [(pattern, haystack) for _, pattern, *texts in rows for haystack in texts]
-    cases = list(dict.fromkeys(cases))[:count]
-    return [line_of(case, *answer) for case, answer in zip(cases, ask(judge, cases))]
+def ends_in_braces(pattern):
+    """Whether the pattern ends with a gap after a brace or a comma."""
+    return re.search(r'[{,](?:\s|#[^\n]*)+\Z', pattern) is not None

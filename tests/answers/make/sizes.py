@@ -1,11 +1,12 @@
-"""The rows of sizes.tsv, which the tests of regex_lite have too."""
+"""The sizes of patterns, which the tests of regex_lite have as rows."""
 
 import re
 
-import flags_and_classes
-import sizes_picked
-import whole_grammar
-from cases import Dice, answers, escaped
+import flags
+import whole
+from data import escaped, rows_of
+from dice import Dice
+from judge import answers
 
 SEED = 2  # another than that of the lists of answers, so that the patterns are others too
 
@@ -14,14 +15,14 @@ LONGEST = 72  # characters of a generated pattern as it is written in the list
 WIDEST = 100  # characters of a line of the tests
 ROWS_OF_CONSTANT = 50  # a check of the tests takes no constant of all rows
 
-HEAD = '//! Patterns with their sizes in upstream. `tests/answers/make.py` writes this file.\n'
+HEAD = '//! Patterns with their sizes in upstream. `tests/answers/make` writes this file.\n'
 REFUSED = 'err:compiled regex exceeded size limit'
 
 # How many generated patterns of each family are in the list. The remaining families of the two
 # generators are refused, or are accepted only by chance.
 FAMILIES = {
-    whole_grammar: {'groups': 70, 'counts': 80, 'verbose': 60, 'all': 60},
-    flags_and_classes: {'mixed': 20, 'classes': 40, 'looks': 10, 'both cases': 17},
+    whole: {'groups': 70, 'counts': 80, 'verbose': 60, 'all': 60},
+    flags: {'mixed': 20, 'classes': 40, 'looks': 10, 'both cases': 17},
 }
 
 FLAGS_AT_THE_START = re.compile(r'\(\?([imsRUx]+)\)')
@@ -59,7 +60,7 @@ def generated(dice, seen):
 
 def chosen():
     """The pairs of flags and a pattern, all different."""
-    picked = list(sizes_picked.cases())
+    picked = [(flags, pattern) for flags, pattern in rows_of('sizes')]
     seen = set(picked)
     if len(seen) < len(picked):
         raise SystemExit('two picked patterns are alike')
@@ -93,19 +94,10 @@ def sizes_of(judge, pairs):
     return most
 
 
-def table(judge):
-    """The rows: flags, a pattern and its size."""
+def lines(judge):
+    """The lines of constants with all rows, in which the pattern itself sets the flags."""
     pairs = chosen()
-    return [(*pair, size) for pair, size in zip(pairs, sizes_of(judge, pairs))]
-
-
-def lines(rows):
-    """The lines of sizes.tsv."""
-    return [f'{flags}\t{escaped(pattern)}\t{size}\n' for flags, pattern, size in rows]
-
-
-def constants(rows):
-    """The lines of constants with these rows, in which the pattern itself sets the flags."""
+    rows = [(*pair, size) for pair, size in zip(pairs, sizes_of(judge, pairs))]
     found = [HEAD, 'use super::Row;\n']
     for number, start in enumerate(range(0, len(rows), ROWS_OF_CONSTANT), 1):
         part = rows[start:start + ROWS_OF_CONSTANT]

@@ -1,48 +1,9 @@
-"""The cases of flags-and-classes.tsv."""
+"""Trees of generated patterns with flags and classes, and their leaves."""
 
-import itertools
-import re
 import string
 from typing import NamedTuple
 
-from cases import (
-    MISSING, OPERATORS, ROUNDS, SEED, UNCLOSED, UNOPENED, Dice, ask, chosen_rows, edited,
-    edited_often, kept_lines, line_of, noise, quotas_of,
-)
-from flags_and_classes_picked import FAULTS, LOOKS, PICKED, SETS, systematic
-
-PATTERNS = 30_000  # how many generated patterns the judge is asked about
-LONGEST = 80  # characters of a generated pattern
-
-STRUCTURE = (UNCLOSED, UNOPENED, MISSING)  # the texts of the faults that lie in no single item
-FAULTS_OF_ITEMS = [fault for fault in FAULTS if fault[0] not in STRUCTURE]
-
-# An item, right or wrong, or another part of a pattern that begins no rule beyond this grammar.
-# At a counted operator, a group that captures, the flag letter x and a NUL there is none.
-PART = re.compile(
-    r"""
-    \\ (?: [xuUpP]\{[^}\0]*\}? | b\{ (?: [-A-Za-z]+\}? | \Z ) | [^\0] | \Z )
-    | \[ \^? (?: -+ | \]? ) (?: \\[^\0] | \[:\^?[a-z]+:\] | [^\]\\\0] )* \\? \]?
-    | \(\? (?: <?[=!] | (?!P?<) [^:)x\0]* (?: [:)] | \Z ) )
-    | [^\\\[({\0]
-    """,
-    re.VERBOSE,
-)
-
-IGNORES_CASE = re.compile(r'\(\?[msRUu]*i')
-
-# How many generated cases of each kind are kept. The four numbers of a family are for matches and
-# for cases without a match, each of patterns that match the empty haystack and of others.
-FAMILIES = {
-    'mixed': (150, 500, 60, 440),
-    'classes': (40, 450, 80, 370),
-    'looks': (60, 300, 100, 200),
-    'both cases': (20, 220, 20, 140),
-    'changed': (10, 120, 10, 110),
-}
-QUOTAS = quotas_of(FAMILIES)
-QUOTAS.update({('broken', text): 50 for text in STRUCTURE})
-QUOTAS.update({('faulty', text): 16 for text, *_ in FAULTS_OF_ITEMS})
+from dice import OPERATORS
 
 # A generated pattern has its characters from one of these.
 ALPHABETS = (
@@ -51,7 +12,7 @@ ALPHABETS = (
     '@`[{', '\\/|', '(){}', '$^.', '*+?', '#= ', '\ud7ff\ue000', '\uffff\U00010000\U0010ffff',
     '\x01\x7f\x80', '\0a',
 )
-WORDS_AND_LINES = 'aab_1- é\n\n\r\r'
+
 LINE_ENDS = ('\n', '\r', '\n', '\r', '\r\n', '\n\r')
 
 SPECIAL = set('\\.^$()[]|?*+{}')
@@ -72,11 +33,30 @@ RANGES = (
     '\x80\U0010ffff',
 )
 
-# What changes put into a pattern.
-TOKENS = ('(?:', '(?:', '(?i:', '(?s-m:', ')', ')', '|', '?', '*', '+', '??', '*?', '(?i)', '(?-i)')
-CLASS_PIECES = tuple('abz-^][\\&~:dwb09Z') + (
-    '[:', ':]', '[:alpha:]', '[^', '\\d', '\\-', '\\]', 'a-', '-z', '(?i)', 'é', '\\x61', '\\b',
-    '^]',
+# Named sets with their ASCII members. None has another member.
+BLANK = ' \t'
+SPACE = '\t\n\v\f\r '
+GRAPH = string.ascii_letters + string.digits + string.punctuation
+SETS = {
+    'alnum': string.ascii_letters + string.digits,
+    'alpha': string.ascii_letters,
+    'ascii': ''.join(map(chr, range(128))),
+    'blank': BLANK,
+    'cntrl': ''.join(map(chr, range(32))) + '\x7f',
+    'digit': string.digits,
+    'graph': GRAPH,
+    'lower': string.ascii_lowercase,
+    'print': GRAPH + ' ',
+    'punct': string.punctuation,
+    'space': SPACE,
+    'upper': string.ascii_uppercase,
+    'word': string.ascii_letters + string.digits + '_',
+    'xdigit': string.hexdigits,
+}
+
+LOOKS = (
+    r'\b', r'\B', r'\<', r'\>', r'\b{start}', r'\b{end}', r'\b{start-half}', r'\b{end-half}',
+    r'\A', r'\z',
 )
 
 
@@ -104,25 +84,6 @@ class Directive(NamedTuple):
     """Flags for what follows."""
 
     text: str
-
-
-# What may stand round an item, so that it doesn't match everywhere.
-FRAMES = (
-    (Leaf('\\A', ('',)), Leaf('\\z', ('',))),
-    (Leaf('^', ('',)), Leaf('$', ('',))),
-    (Leaf('x', ('x',)), Leaf('y', ('y',))),
-    (Leaf('', ('',)), Leaf('', ('',))),
-)
-
-def is_outside(pattern):
-    """Whether the pattern has a counted operator, a group that captures or the flag letter x."""
-    at = 0
-    while at < len(pattern):
-        part = PART.match(pattern, at)
-        if part is None:
-            return True
-        at = part.end()
-    return False
 
 
 def character_at(number):
@@ -314,187 +275,3 @@ LOOKING = (
     ('look',) * 3 + ('line_look',) * 3 + ('look_between',) * 6 + ('line_end',) * 3
     + ('character', 'character', 'letter_set', 'dot')
 )
-
-
-def tokens_of(tree):
-    """The parts of the tree's pattern: whole leaves, heads, operators, `)` and `|`."""
-    tokens = []
-    for number, branch in enumerate(tree):
-        if number > 0:
-            tokens.append('|')
-        for item, operators in branch:
-            if isinstance(item, Group):
-                tokens += [item.head, *tokens_of(item.tree), ')']
-            else:
-                tokens.append(item.text)
-            tokens += operators
-    return tokens
-
-
-def pattern_of(tree):
-    return ''.join(tokens_of(tree))
-
-
-def sample(dice, tree):
-    """A text that the tree often matches."""
-    branch = dice.pick(tree)
-    return ''.join(sample_piece(dice, item, operators) for item, operators in branch)
-
-
-def sample_piece(dice, item, operators):
-    if isinstance(item, Directive):
-        return ''
-    if operators:
-        rounds = dice.pick(ROUNDS[operators[-1][0]])
-        return ''.join(sample_piece(dice, item, operators[:-1]) for _ in range(rounds))
-    if isinstance(item, Group):
-        return sample(dice, item.tree)
-    return dice.pick(item.samples or ('',))
-
-
-def near_of(tree):
-    """Characters on which some leaf of the tree may make a difference."""
-    return ''.join(
-        near_of(item.tree) if isinstance(item, Group) else getattr(item, 'near', '')
-        for branch in tree for item, _ in branch
-    )
-
-
-def haystacks(dice, tree):
-    """A text that the tree often matches, perhaps with something round it, and a changed form."""
-    near = sample(dice, tree)[:40]
-    letters = near_of(tree) or 'ab'
-    if IGNORES_CASE.search(pattern_of(tree)):
-        near = ''.join(
-            c.swapcase() if len(c.swapcase()) == 1 and dice.chance(0.3) else c for c in near
-        )
-    if dice.chance(0.4):
-        near = noise(dice, letters) + near + noise(dice, letters)
-    if near and dice.chance(0.5):
-        at = dice.below(len(near))
-        return near, near[:at] + dice.pick(letters) + near[at + 1:]
-    return near, edited_often(dice, near, [*letters, *LINE_ENDS, 'a', '-', 'é', '💩'])
-
-
-def framed(dice, item, operators=()):
-    """A tree of this item with its operators, between two others."""
-    front, back = dice.pick(FRAMES)
-    return [[(front, []), (item, list(operators)), (back, [])]]
-
-
-def under_flags(dice, tree, probability, choices):
-    """The tree, perhaps with a directive before it."""
-    if dice.chance(probability):
-        tree[0].insert(0, (Directive(f'(?{dice.pick(choices)})'), []))
-    return tree
-
-
-def mixed(dice):
-    """A tree of leaves of all kinds."""
-    maker = Maker(dice, dice.pick(ALPHABETS), MIXED)
-    tree = maker.tree(dice.below(4), dice.pick((0.15, 0.3, 0.6)))
-    if dice.chance(0.3):
-        tree = framed(dice, Group('(?:', tree))
-    return under_flags(dice, tree, 0.35, ('i', 'i', 'i', 'is', 's', 'R', 'mR', 'U', 'i-u'))
-
-
-def classes(dice):
-    """A tree with one class."""
-    maker = Maker(dice, dice.pick(ALPHABETS), MIXED)
-    tree = framed(dice, maker.bracketed(), maker.operators(0.25))
-    return under_flags(dice, tree, 0.35, ('i', 'i', 'i-s', 's', 'U'))
-
-
-def looks(dice):
-    """A tree with many looks at words and lines."""
-    maker = Maker(dice, WORDS_AND_LINES, LOOKING)
-    tree = maker.tree(dice.below(3), dice.pick((0.1, 0.3)))
-    if dice.chance(0.4):
-        tree = framed(dice, Group('(?:', tree))
-    return under_flags(dice, tree, 0.7, ('m', 'm', 'mR', 'mR', 'mR', 'R', 'ms', 'mRs', 'sR'))
-
-
-def both_cases(dice):
-    """A tree with one class under i that has a run over letters of both cases."""
-    maker = Maker(dice, dice.pick(('ab', 'aAzZ', 'kK', '@`[{', 'é☃')), MIXED)
-    tree = framed(dice, maker.both_cases(), maker.operators(0.15))
-    if dice.chance(0.2):
-        return [[(Group(dice.pick(('(?i:', '(?is:', '(?i-m:')), tree), [])]]
-    return under_flags(dice, tree, 1, ('i', 'i', 'si', 'i-m'))
-
-
-def with_fault(dice):
-    """A text of a refusal, and a pattern with one fault, which has this text."""
-    text, anywhere, last, _ = dice.pick(FAULTS_OF_ITEMS)
-    tree = mixed(dice)
-    fault = dice.pick(anywhere + last)
-    if fault in last:
-        return text, pattern_of(tree) + dice.pick(('', '', '|')) + fault
-    branch = dice.pick(tree)
-    while branch and dice.chance(0.5):
-        item, _ = dice.pick(branch)
-        if isinstance(item, Group):
-            branch = dice.pick(item.tree)
-    operators = [dice.pick(OPERATORS)] if dice.chance(0.2) else []
-    branch.insert(dice.below(len(branch) + 1), (Leaf(fault, ('',)), operators))
-    return text, pattern_of(tree)
-
-
-def generated(dice):
-    """Makes rows without end: a family, a pattern and two haystacks, and for a faulty pattern the
-    text of its refusal."""
-    while True:
-        kind = dice.random()
-        text = ''
-        if kind < 0.28:
-            family, tree = 'mixed', mixed(dice)
-        elif kind < 0.48:
-            family, tree = 'classes', classes(dice)
-        elif kind < 0.64:
-            family, tree = 'looks', looks(dice)
-        elif kind < 0.72:
-            family, tree = 'both cases', both_cases(dice)
-        elif kind < 0.82:
-            family, tree = 'changed', classes(dice)
-        else:
-            family, tree = 'broken' if kind < 0.87 else 'faulty', mixed(dice)
-        near, far = haystacks(dice, tree)
-        if family == 'changed':
-            pattern = edited_often(dice, pattern_of(tree), CLASS_PIECES)
-        elif family == 'broken':
-            pattern = ''.join(edited(dice, tokens_of(tree), [[token] for token in TOKENS]))
-        elif family == 'faulty':
-            text, pattern = with_fault(dice)
-        else:
-            pattern = pattern_of(tree)
-        if len(pattern) <= LONGEST and not is_outside(pattern):
-            yield family, pattern, near, far, text
-
-
-def picked_cases():
-    """The cases picked by hand, each with the text of its refusal, or with an empty text."""
-    for pattern, *texts in PICKED:
-        yield from (((pattern, haystack), '') for haystack in texts)
-    yield from ((case, '') for case in systematic())
-    for text, *patterns in FAULTS:
-        yield from (((pattern, ''), text) for pattern in itertools.chain(*patterns))
-
-
-def picked_lines(judge):
-    """The lines of the cases picked by hand."""
-    cases, texts = zip(*picked_cases())
-    found = []
-    for case, wanted, (status, text) in zip(cases, texts, ask(judge, cases)):
-        if is_outside(case[0]) or text != wanted:
-            raise SystemExit(f'wrong among the picked cases: {case!r}: {text}')
-        found.append(line_of(case, status, text))
-    if len(set(cases)) < len(cases):
-        raise SystemExit('two picked cases are alike')
-    return found
-
-
-def lines(judge):
-    """The whole list."""
-    seen = {pattern for (pattern, _), _ in picked_cases()}
-    rows = chosen_rows(judge, generated(Dice(SEED)), PATTERNS, STRUCTURE)
-    return picked_lines(judge) + kept_lines(judge, rows, QUOTAS, seen)

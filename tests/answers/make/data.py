@@ -1,0 +1,61 @@
+"""The lists as data: how a field is written, a line of answers, and what was picked by hand."""
+
+import re
+import unicodedata
+from pathlib import Path
+
+ANSWERS = Path(__file__).resolve().parent.parent
+PICKED = ANSWERS / 'picked'
+
+ESCAPE = re.compile(r'\\(?:([tnr\\])|u\{([0-9a-fA-F]{1,6})\})')
+NAMED = {'t': '\t', 'n': '\n', 'r': '\r', '\\': '\\'}
+
+
+def unescaped(field):
+    """The text that a field stands for."""
+    return ESCAPE.sub(lambda found: NAMED.get(found[1]) or chr(int(found[2], 16)), field)
+
+
+def escaped(text):
+    """The text as a field of a line."""
+    named = {'\t': '\\t', '\n': '\\n', '\r': '\\r', '\\': '\\\\'}
+    out = []
+    for character in text:
+        if character in named:
+            out.append(named[character])
+        elif character != ' ' and unicodedata.category(character)[0] in 'CMZ':
+            out.append(f'\\u{{{ord(character):x}}}')
+        else:
+            out.append(character)
+    return ''.join(out)
+
+
+def line_of(case, status, text):
+    """A case and its answer as a line of a list."""
+    fields = [escaped(field) for field in case] + [str(status)]
+    if text:
+        fields.append(text)
+    return '\t'.join(fields) + '\n'
+
+
+def rows_of(name):
+    """The rows of a file of what was picked by hand, without its titles."""
+    with open(PICKED / f'{name}.tsv', encoding='utf-8', newline='\n') as lines:
+        return [
+            [unescaped(field) for field in line.rstrip('\n').split('\t')]
+            for line in lines if not line.startswith('# ')
+        ]
+
+
+def cases_of(name):
+    """The pairs of a pattern and a haystack in such a file."""
+    return [(pattern, haystack) for pattern, *haystacks in rows_of(name) for haystack in haystacks]
+
+
+def faults_of(name):
+    """The faults in such a file, by their texts: patterns that may stand as an item in any other
+    pattern, patterns that may stand at the end of another, and patterns that stand alone."""
+    faults = {}
+    for text, place, pattern in rows_of(name):
+        faults.setdefault(text, {'anywhere': [], 'last': [], 'alone': []})[place].append(pattern)
+    return faults

@@ -1,0 +1,100 @@
+"""Patterns of the plain grammar: characters, branches, plain groups and three operators."""
+
+import re
+
+from dice import OPERATORS, ROUNDS, edited_often, noise
+
+# What begins another rule than those of the small grammar. A NUL can't stand in an argument.
+OUTSIDE = re.compile(r'[\\.^$\[{\0]|\((?!\?:)')
+
+# A generated pattern has its characters from one of these. Some neighbours share their first bytes.
+ALPHABETS = (
+    'a', 'ab', 'ab', 'ab', 'abc', 'abc', 'abcd', 'aAbB', 'xyz01',
+    'éã', 'aé☃', '☃☂', '💩💨', 'a💩', 'aßé名☃💩', 'e\u0301é', 'Σσς',
+    ']}', 'a]}', ':a', '-,:', '<>=!', 'a \n', '\t\r\n', '#&~ ', '"\'`', '/@%;_',
+    '\u00a0\u0085 ', '\u2028\u2029\n', '\ufeffa', '\ud7ff\ue000', '\uffff\U00010000\U0010ffff',
+    '\x01\x7f\x80',
+)
+
+TOKENS = ('(?:', '(?:', ')', ')', '|', '|', '?', '*', '+', '??', '*?', 'a', 'b', 'c', ':', ']',
+          '}', 'é', '💩')
+
+# A generated tree is a list of branches. A branch is a list of pairs: an item and the list of the
+# operators after it. An item is a character or, for a group, again a tree.
+
+
+def make_tree(dice, letters, depth, stacking):
+    """A tree whose groups are nested at most `depth` deep. After an item, and after each operator,
+    one more operator stands with the probability `stacking`, up to four in a row."""
+    branches = [make_branch(dice, letters, depth, stacking)]
+    while dice.chance(0.3):
+        branches.append(make_branch(dice, letters, depth, stacking))
+    return branches
+
+
+def make_branch(dice, letters, depth, stacking):
+    branch = []
+    for _ in range(dice.pick((0, 1, 1, 2, 2, 3))):
+        if depth > 0 and dice.chance(0.4):
+            item = make_tree(dice, letters, depth - 1, stacking)
+        else:
+            item = dice.pick(letters)
+        operators = []
+        while len(operators) < 4 and dice.chance(stacking):
+            operators.append(dice.pick(OPERATORS))
+        branch.append((item, operators))
+    return branch
+
+
+def framed(dice, tree, letters):
+    """The tree, often between characters: what matches the empty haystack matches everywhere."""
+    if dice.chance(0.25):
+        return tree
+    front, back = (dice.pick(('', 'x', 'y', dice.pick(letters))) for _ in range(2))
+    return [[(item, []) for item in (front, tree, back)]]
+
+
+def pattern_of(tree):
+    """The tree as a pattern."""
+    return '|'.join(
+        ''.join(piece_text(item, operators) for item, operators in branch) for branch in tree
+    )
+
+
+def piece_text(item, operators):
+    body = item if isinstance(item, str) else f'(?:{pattern_of(item)})'
+    return body + ''.join(operators)
+
+
+def sample(dice, tree):
+    """A text that the tree often matches. It needn't: of operators next to each other the pattern
+    may make others, and some rounds are wrong."""
+    branch = dice.pick(tree)
+    return ''.join(sample_piece(dice, item, operators) for item, operators in branch)
+
+
+def sample_piece(dice, item, operators):
+    if operators:
+        rounds = dice.pick(ROUNDS[operators[-1][0]])
+        return ''.join(sample_piece(dice, item, operators[:-1]) for _ in range(rounds))
+    return item if isinstance(item, str) else sample(dice, item)
+
+
+def generated(dice):
+    """Makes rows without end: a family, a pattern and two haystacks, one that may be matched and a
+    changed form of it. Whether the pattern is refused the judge alone tells."""
+    while True:
+        letters = dice.pick(ALPHABETS)
+        tree = make_tree(dice, letters, dice.below(4), dice.pick((0.2, 0.4, 0.7)))
+        tree = framed(dice, tree, letters)
+        kind = dice.random()
+        if kind < 0.15:
+            pattern = ''.join(dice.pick(TOKENS) for _ in range(1 + dice.below(9)))
+        elif kind < 0.5:
+            pattern = edited_often(dice, pattern_of(tree), TOKENS)
+        else:
+            pattern = pattern_of(tree)
+        near = noise(dice, letters) + sample(dice, tree)[:40] + noise(dice, letters)
+        far = edited_often(dice, near, letters)
+        if not OUTSIDE.search(pattern):
+            yield 'plain', pattern, near, far, None
