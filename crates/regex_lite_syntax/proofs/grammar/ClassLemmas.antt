@@ -1,7 +1,9 @@
 -- A bracketed class is read in one way.
-use Rattle.std.proofs.Common.{◌≡◌, refl, sym, ◌∙◌, ap, subst, ℕ, zero, suc, Bool, true, false, List, [], ◌∷◌, Some, arith, if◌then◌else◌, nat_lt}
-use Rattle.std.proofs.lemmas.Bool.{both_ways}
-use Rattle.regex_lite_syntax.specs.Text.{Text, Begins, Spelled, AllPass, the}
+use Rattle.std.proofs.Common.{◌≡◌, refl, sym, ◌∙◌, ap, subst, ℕ, zero, suc, Bool, true, false, List, [], ◌∷◌, ◌++◌, Some, codes, arith, if◌then◌else◌, nat_lt}
+use Rattle.std.proofs.lemmas.Bool.{and_parts, both_ways}
+use Rattle.std.specs.List.{AllPass}
+use Rattle.std.proofs.lemmas.List.Sums.{list_all-from_AllPass}
+use Rattle.regex_lite_syntax.specs.Text.{Text, Begins, the}
 use Rattle.regex_lite_syntax.specs.Characters.{is_lower}
 use Rattle.regex_lite_syntax.specs.Grammar.Gaps.{WholeGap}
 use Rattle.regex_lite_syntax.specs.Sets.{Set, just, span, complement}
@@ -47,11 +49,12 @@ pub follows_same : (verbose : Bool) (t u last : Text) → t ≡ u → RangeFollo
 follows_same verbose t u last e f = subst (λ v. RangeFollows verbose v last) e f
 
 -- sets by their names
-pub no_caret : (w t r u : Text) → Spelled w t r → AllPass is_lower w → r ≡ the ":" ∷ u → Begins (the "^") t → ⊥
+pub no_caret : (w t r u : Text) → t ≡ w ++ r → AllPass is_lower w → r ≡ the ":" ∷ u → Begins (the "^") t → ⊥
 no_caret [] t r u s p e b =
     let here = subst (λ v. Begins (the "^") v) (s ∙ e) b in omega (arith, here)
 no_caret (c ∷ w) t r u s p e b =
-    let here = subst (λ v. Begins (the "^") v) s.1 b in both_ways (is_lower c) (ap is_lower here) p.0
+    let here = subst (λ v. Begins (the "^") v) s b in
+    both_ways (is_lower c) (ap is_lower here) (and_parts _ _ (list_all-from_AllPass is_lower (c ∷ w) p)).0
 
 negation_once : (m n : Bool) (t u v : Text) → t ≡ (if m then the "^" ∷ u else u) → t ≡ (if n then the "^" ∷ v else v)
     → (m ≡ false → Begins (the "^") t → ⊥) → (n ≡ false → Begins (the "^") t → ⊥) → (m ≡ n) × (u ≡ v)
@@ -60,22 +63,22 @@ negation_once true false t u v e f bare bare' = absurd (bare' refl (begins (the 
 negation_once false true t u v e f bare bare' = absurd (bare refl (begins (the "^") t v f))
 negation_once false false t u v e f bare bare' = (refl, sym e ∙ f)
 
-no_negation : (n : Bool) (t u w r v : Text) → t ≡ (if n then the "^" ∷ u else u) → Spelled w u r → AllPass is_lower w
+no_negation : (n : Bool) (t u w r v : Text) → t ≡ (if n then the "^" ∷ u else u) → u ≡ w ++ r → AllPass is_lower w
     → r ≡ the ":" ∷ v → n ≡ false → Begins (the "^") t → ⊥
 no_negation true t u w r v e s p closes h b = cc h
 no_negation false t u w r v e s p closes h b = no_caret w u r v s p closes (subst (λ x. Begins (the "^") x) e b)
 
 -- the longest word past the negation is the name
 pub name_once : (opened u w r : Text) (m : Bool) → opened ≡ (if m then the "^" ∷ u else u)
-    → (m ≡ false → Begins (the "^") opened → ⊥) → Spelled w u r → AllPass is_lower w → Lacks is_lower r
-    → (t rest : Text) (n : Bool) (set : SetName) → t ≡ the "[" ∷ the ":" ∷ opened → (c : NamedClass t rest n set)
+    → (m ≡ false → Begins (the "^") opened → ⊥) → u ≡ w ++ r → AllPass is_lower w → Lacks is_lower r
+    → (t rest : Text) (n : Bool) (set : SetName) → t ≡ codes "[:" ++ opened → (c : NamedClass t rest n set)
     → (m ≡ n) × (w ≡ c.name) × (r ≡ c.end)
 name_once opened u w r m e bare s p lacks t rest n set opens c =
     let same : opened ≡ c.opened = same_tail (same_tail (sym opens ∙ c.opens)) in
     let negation = same ∙ c.negation in
     let signs = negation_once m n opened u c.begin e negation bare
     (no_negation n opened c.begin c.name c.end _ negation c.written c.letters c.closes) in
-    let words = word_once is_lower w c.name u r c.end s (subst (λ v. Spelled c.name v c.end) (sym signs.1) c.written)
+    let words = word_once is_lower w c.name u r c.end s (subst (λ v. v ≡ c.name ++ c.end) (sym signs.1) c.written)
     p c.letters lacks (subst (λ v. Lacks is_lower v) (sym c.closes) refl) in
     (signs.0, words.0, words.1)
 

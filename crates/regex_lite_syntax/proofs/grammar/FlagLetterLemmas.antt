@@ -1,14 +1,16 @@
 -- Flags are read in one way.
-use Rattle.std.proofs.Common.{◌≡◌, ◌≢◌, refl, sym, ◌∙◌, ap, subst, ℕ, Bool, true, false, [], ◌∷◌, arith}
+use Rattle.std.proofs.Common.{◌≡◌, ◌≢◌, refl, sym, ◌∙◌, ap, subst, ℕ, Bool, true, false, [], ◌∷◌, ◌++◌, arith}
 use Rattle.regex_lite_syntax.specs.declared.flags.Flags.{Flags}
-use Rattle.regex_lite_syntax.specs.Text.{Text, Spelled, AllPass, the}
+use Rattle.std.specs.List.{AllPass}
+use Rattle.std.proofs.lemmas.List.Sums.{AllPass-from_list_all}
+use Rattle.regex_lite_syntax.specs.Text.{Text, the}
 use Rattle.regex_lite_syntax.specs.Grammar.FlagLetters.{is_flag_letter, with_flags, FlagLetters, setting, clearing}
 use Rattle.regex_lite_syntax.proofs.ListLemmas.{same_head, same_tail}
 use Rattle.regex_lite_syntax.proofs.grammar.WordLemmas.{word_once as longest_once}
 
 -- letters of one kind up to a character of another kind
 pub word_once : (kind : ℕ → Bool) (word word' t : Text) (c d : ℕ) (r s : Text) → kind c ≡ false → kind d ≡ false
-    → Spelled word t (c ∷ r) → Spelled word' t (d ∷ s) → AllPass kind word → AllPass kind word'
+    → t ≡ word ++ c ∷ r → t ≡ word' ++ d ∷ s → AllPass kind word → AllPass kind word'
     → (word ≡ word') × (c ≡ d) × (r ≡ s)
 word_once kind word word' t c d r s ends ends' p q all all' =
     let same = longest_once kind word word' t (c ∷ r) (d ∷ s) p q all all' ends ends' in
@@ -26,8 +28,8 @@ pub paren_ends_flags : EndsFlags (the ")")
 paren_ends_flags = record { no_letter = refl; no_dash = λ e. omega (arith, e) }
 
 -- flags that set alone and flags with a dash do not stand at one place
-one_sort : (on on' t past : Text) (c : ℕ) (r : Text) → EndsFlags c → Spelled on t (c ∷ r) → AllPass is_flag_letter on
-    → Spelled on' t (the "-" ∷ past) → AllPass is_flag_letter on' → ⊥
+one_sort : (on on' t past : Text) (c : ℕ) (r : Text) → EndsFlags c → t ≡ on ++ c ∷ r → AllPass is_flag_letter on
+    → t ≡ on' ++ the "-" ∷ past → AllPass is_flag_letter on' → ⊥
 one_sort on on' t past c r ends p all q all' =
     ends.no_dash (word_once is_flag_letter on on' t c (the "-") r past ends.no_letter refl p q all all').1
 
@@ -46,7 +48,7 @@ letters_once old new new' t c d r s ends ends' (clearing on off past p q some al
 letters_once old new new' t c d r s ends ends' (clearing on off past p q some all all_off differ e)
     (clearing on' off' past' p' q' some' all' all_off' differ' e') =
     let first = word_once is_flag_letter on on' t (the "-") (the "-") past past' refl refl p p' all all' in
-    let from = subst (λ u. Spelled off' u (d ∷ s)) (sym first.2) q' in
+    let from = subst (λ u. u ≡ off' ++ d ∷ s) (sym first.2) q' in
     let same = word_once is_flag_letter off off' past c d r s ends.no_letter ends'.no_letter q from all_off all_off' in
     let cleared = ap (λ w. with_flags false w (with_flags true on old)) same.0 in
     let set = ap (λ w. with_flags false off' (with_flags true w old)) first.0 in
@@ -60,7 +62,7 @@ other_end old new new' t c d r s ends ends' differ p q =
 
 -- no flags at all stand directly before any character
 no_flags : (old : Flags) (t rest : Text) (c : ℕ) → t ≡ c ∷ rest → FlagLetters old t (c ∷ rest) old
-no_flags old t rest c e = setting [] e tt refl refl
+no_flags old t rest c e = setting [] e (AllPass-from_list_all is_flag_letter [] refl) refl refl
 
 -- so where a character stands that is no part of flags, none end before another
 pub flags_elsewhere : (old new : Flags) (t u : Text) (c d : ℕ) (r : Text) → EndsFlags c → EndsFlags d → t ≡ c ∷ u

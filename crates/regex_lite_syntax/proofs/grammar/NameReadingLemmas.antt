@@ -1,26 +1,28 @@
 -- The characters of a name, one after another.
-use Rattle.std.proofs.Common.{◌≡◌, ◌≢◌, refl, sym, ◌∙◌, ap, subst, ℕ, ◌+◌, ◌-◌, ◌<◌, ◌≤◌, length, [], ◌∷◌, ◌++◌, drop, slice_range, IsTrue, arith}
-use Rattle.std.specs.List.{list_all}
+use Rattle.std.proofs.Common.{◌≡◌, ◌≢◌, refl, sym, ◌∙◌, ap, subst, ℕ, ◌+◌, ◌-◌, ◌<◌, ◌≤◌, length, [], ◌∷◌, ◌++◌, drop, take, slice_range, IsTrue, arith}
+use Rattle.std.specs.List.{list_all, AllPass}
+use Rattle.std.proofs.lemmas.List.Sums.{AllPass-from_list_all, list_all-from_AllPass}
 use Rattle.std.proofs.lemmas.Bool.{and_from, and_parts, eqb-false, not-true, ne_eqb, not_from_false}
 use Rattle.std.proofs.lemmas.List.{drop_more, drop-drop, take-append-drop}
 use Rattle.std.proofs.lemmas.List.Edits.{between_more}
-use Rattle.regex_lite_syntax.specs.Text.{Text, Spelled, AllPass, the}
+use Rattle.regex_lite_syntax.specs.Text.{Text, the}
 use Rattle.regex_lite_syntax.specs.Grammar.GroupNames.{begins_name, continues_name, is_name, is_no_end, NameWritten}
 use Rattle.regex_lite_syntax.proofs.ListLemmas.{same_head, same_tail}
+use Rattle.regex_lite_syntax.proofs.grammar.WordLemmas.{pass_push}
 
 -- what is left of a name past its first character, and the `>` that ends it
 pub record NameLeft (t rest : Text) : Type 0 where
   pub name : Text
-  pub written : Spelled name t (the ">" ∷ rest)
-  pub inside : AllPass is_no_end name
+  pub written : t ≡ name ++ the ">" ∷ rest
+  pub inside : IsTrue (list_all is_no_end name)
   pub continues : IsTrue (list_all continues_name name)
 
 no_end : (c : ℕ) → IsTrue (is_no_end c) → c ≢ the ">"
 no_end c h = eqb-false c (the ">") (not-true _ h)
 
-nothing_spelled : (name t rest : Text) (c : ℕ) → t ≡ [] → Spelled name t (c ∷ rest) → ⊥
+nothing_spelled : (name t rest : Text) (c : ℕ) → t ≡ [] → t ≡ name ++ c ∷ rest → ⊥
 nothing_spelled [] t rest c none s = cc
-nothing_spelled (d ∷ ds) t rest c none s = let here = s.1 in cc
+nothing_spelled (d ∷ ds) t rest c none s = let here : t ≡ d ∷ (ds ++ c ∷ rest) = s in cc (none, here)
 
 pub nothing_left_at_end : {t rest : Text} → t ≡ [] → NameLeft t rest → ⊥
 nothing_left_at_end {t} {rest} none n = nothing_spelled n.name t rest (the ">") none n.written
@@ -28,20 +30,21 @@ nothing_left_at_end {t} {rest} none n = nothing_spelled n.name t rest (the ">") 
 -- the first character of a name, and the rest of it
 pub first_of_name : {t rest name : Text} (c : ℕ) (past : Text) → t ≡ c ∷ past → NameWritten t rest name
     → IsTrue (begins_name c) × (c ≢ the ">") × NameLeft past rest
-first_of_name {t} {rest} {name} c past here w = go name w.written w.inside w.is_a_name
+first_of_name {t} {rest} {name} c past here w = go name w.written (list_all-from_AllPass is_no_end name w.inside) w.is_a_name
   where
-    go : (name : Text) → Spelled name t (the ">" ∷ rest) → AllPass is_no_end name → IsTrue (is_name name)
+    go : (name : Text) → t ≡ name ++ the ">" ∷ rest → IsTrue (list_all is_no_end name) → IsTrue (is_name name)
         → IsTrue (begins_name c) × (c ≢ the ">") × NameLeft past rest
     go [] written inside is = cc
     go (d ∷ ds) written inside is =
         let parts = and_parts _ _ is in
-        let same = sym written.1 ∙ here in (
+        let left = and_parts _ _ inside in
+        let same : d ∷ (ds ++ the ">" ∷ rest) ≡ c ∷ past = sym written ∙ here in (
           subst (λ e. IsTrue (begins_name e)) (same_head same) parts.0,
-          no_end c (subst (λ e. IsTrue (is_no_end e)) (same_head same) inside.0),
+          no_end c (subst (λ e. IsTrue (is_no_end e)) (same_head same) left.0),
           record {
             name = ds;
-            written = subst (λ u. Spelled ds u (the ">" ∷ rest)) (same_tail same) written.2;
-            inside = inside.1;
+            written = sym (same_tail same);
+            inside = left.1;
             continues = parts.1;
           },
         )
@@ -51,17 +54,18 @@ pub next_of_name : {t rest : Text} (c : ℕ) (past : Text) → t ≡ c ∷ past 
     → IsTrue (continues_name c) × NameLeft past rest
 next_of_name {t} {rest} c past here going n = go n.name n.written n.inside n.continues
   where
-    go : (name : Text) → Spelled name t (the ">" ∷ rest) → AllPass is_no_end name
+    go : (name : Text) → t ≡ name ++ the ">" ∷ rest → IsTrue (list_all is_no_end name)
         → IsTrue (list_all continues_name name) → IsTrue (continues_name c) × NameLeft past rest
     go [] written inside continues = absurd (going (same_head (sym here ∙ written)))
     go (d ∷ ds) written inside continues =
         let parts = and_parts _ _ continues in
-        let same = sym written.1 ∙ here in (
+        let left = and_parts _ _ inside in
+        let same : d ∷ (ds ++ the ">" ∷ rest) ≡ c ∷ past = sym written ∙ here in (
           subst (λ e. IsTrue (continues_name e)) (same_head same) parts.0,
           record {
             name = ds;
-            written = subst (λ u. Spelled ds u (the ">" ∷ rest)) (same_tail same) written.2;
-            inside = inside.1;
+            written = sym (same_tail same);
+            inside = left.1;
             continues = parts.1;
           },
         )
@@ -81,8 +85,7 @@ all_continue (d ∷ ds) c h continues =
     let parts = and_parts _ _ h in and_from _ _ parts.0 (all_continue ds c parts.1 continues)
 
 all_inside : (name : Text) (c : ℕ) → AllPass is_no_end name → c ≢ the ">" → AllPass is_no_end (name ++ c ∷ [])
-all_inside [] c h going = (is_inside c going, tt)
-all_inside (d ∷ ds) c h going = (h.0, all_inside ds c h.1 going)
+all_inside name c h going = pass_push is_no_end name c h (is_inside c going)
 
 still_name : (name : Text) (c : ℕ) → IsTrue (is_name name) → IsTrue (continues_name c)
     → IsTrue (is_name (name ++ c ∷ []))
@@ -96,16 +99,11 @@ name_goes_on name longer c is continues going n =
     subst (λ w. NameSoFar w) (sym is)
     (record { inside = all_inside name c n.inside going; is_a_name = still_name name c n.is_a_name continues })
 
-spelled_before : (name t rest : Text) → t ≡ name ++ rest → Spelled name t rest
-spelled_before [] t rest e = e
-spelled_before (c ∷ cs) t rest e = (cs ++ rest, e, spelled_before cs (cs ++ rest) rest refl)
-
-range_spelled : (t : Text) (at end : ℕ) → at ≤ end → Spelled (slice_range t at end) (drop at t) (drop end t)
+range_spelled : (t : Text) (at end : ℕ) → at ≤ end → drop at t ≡ slice_range t at end ++ drop end t
 range_spelled t at end inside =
-    spelled_before _ _ _
-    (subst (λ i. drop at t ≡ slice_range t at end ++ drop i t) (omega arith)
+    subst (λ i. drop at t ≡ slice_range t at end ++ drop i t) (omega arith)
     (subst (λ u. drop at t ≡ slice_range t at end ++ u) (drop-drop (end - at) at t)
-    (sym (take-append-drop (end - at) (drop at t)))))
+    (sym (take-append-drop (end - at) (drop at t))))
 
 -- the name that stands from one index to another, where the `>` stands that ends it
 pub name_read : (t rest : Text) (at end last c : ℕ) → at ≤ end → last ≡ end → drop end t ≡ c ∷ rest
@@ -113,7 +111,7 @@ pub name_read : (t rest : Text) (at end last c : ℕ) → at ≤ end → last �
 name_read t rest at end last c inside is_last here ends n =
     subst (λ i. NameWritten (drop at t) rest (slice_range t at i)) (sym is_last)
     (record {
-      written = subst (λ u. Spelled (slice_range t at end) (drop at t) u)
+      written = subst (λ u. drop at t ≡ slice_range t at end ++ u)
           (subst (λ d. drop end t ≡ d ∷ rest) ends here) (range_spelled t at end inside);
       inside = n.inside;
       is_a_name = n.is_a_name;
@@ -125,3 +123,17 @@ pub range_more : (t past : Text) (at end : ℕ) (c : ℕ) → at ≤ end → end
 range_more t past at end c inside before here =
     let item = same_head (sym (drop_more t end c before) ∙ here) in
     between_more t at end c inside before ∙ ap (λ d. slice_range t at end ++ d ∷ []) item
+
+-- the first character of a name has been read
+pub name_begun : (t past : Text) (at c : ℕ) → at < length t → drop at t ≡ c ∷ past → IsTrue (begins_name c) → c ≢ the ">"
+    → NameSoFar (slice_range t at (at + 1))
+name_begun t past at c before here begins going =
+    let nothing : at - at ≡ 0 = omega arith in
+    let none : slice_range t at at ≡ [] = ap (λ n. take n (drop at t)) nothing in
+    let one : slice_range t at (at + 1) ≡ c ∷ [] =
+    range_more t past at at c (omega arith) before here ∙ ap (λ w. w ++ c ∷ []) none in
+    subst (λ w. NameSoFar w) (sym one)
+    (record {
+      inside = AllPass-from_list_all is_no_end (c ∷ []) (and_from _ _ (is_inside c going) refl);
+      is_a_name = and_from _ _ begins refl;
+    })

@@ -1,33 +1,43 @@
 -- Characters of one kind that stand one after another, up to one of another kind.
-use Rattle.std.proofs.Common.{◌≡◌, refl, sym, ◌∙◌, ap, subst, ℕ, ◌+◌, ◌-◌, ◌<◌, ◌≤◌, length, take, drop, get_or, Bool, [], ◌∷◌, ◌++◌, IsTrue, arith}
-use Rattle.std.proofs.lemmas.Bool.{both_ways}
+use Rattle.std.proofs.Common.{◌≡◌, refl, sym, ◌∙◌, ap, subst, ℕ, ◌+◌, ◌-◌, ◌<◌, ◌≤◌, length, take, drop, get_or, Bool, [], ◌∷◌, ◌++◌, IsTrue, arith, append_assoc}
+use Rattle.std.proofs.lemmas.Bool.{both_ways, and_from, and_parts}
 use Rattle.std.proofs.lemmas.List.{take_more, get_or-drop, length-drop}
-use Rattle.regex_lite_syntax.specs.Text.{Text, Spelled, AllPass}
+use Rattle.std.specs.List.{AllPass, list_all}
+use Rattle.std.proofs.lemmas.List.Sums.{AllPass-from_list_all, list_all-from_AllPass}
+use Rattle.std.proofs.lemmas.List.Folds.{list_all-append}
+use Rattle.regex_lite_syntax.specs.Text.{Text}
 use Rattle.regex_lite_syntax.specs.Parser.ClassReadings.{Lacks}
 use Rattle.regex_lite_syntax.proofs.ListLemmas.{same_head, same_tail}
 
 -- a word that is as long as it can be is the only one
-pub word_once : (kind : ℕ → Bool) (v w t r s : Text) → Spelled v t r → Spelled w t s → AllPass kind v → AllPass kind w
-    → Lacks kind r → Lacks kind s → (v ≡ w) × (r ≡ s)
-word_once kind [] [] t r s a b p q lr ls = (refl, sym a ∙ b)
-word_once kind [] (d ∷ w) t r s a b p q lr ls =
-    absurd (both_ways (kind d) (subst (λ u. Lacks kind u) (sym a ∙ b.1) lr) q.0)
-word_once kind (c ∷ v) [] t r s a b p q lr ls =
-    absurd (both_ways (kind c) (subst (λ u. Lacks kind u) (sym b ∙ a.1) ls) p.0)
-word_once kind (c ∷ v) (d ∷ w) t r s a b p q lr ls =
-    let same = sym a.1 ∙ b.1 in
-    let rest = word_once kind v w a.0 r s a.2 (subst (λ u. Spelled w u s) (sym (same_tail same)) b.2) p.1 q.1 lr ls in
+longest_once : (kind : ℕ → Bool) (v w t r s : Text) → t ≡ v ++ r → t ≡ w ++ s → IsTrue (list_all kind v)
+    → IsTrue (list_all kind w) → Lacks kind r → Lacks kind s → (v ≡ w) × (r ≡ s)
+longest_once kind [] [] t r s a b p q lr ls = (refl, sym a ∙ b)
+longest_once kind [] (d ∷ w) t r s a b p q lr ls =
+    absurd (both_ways (kind d) (subst (λ u. Lacks kind u) (sym a ∙ b) lr) (and_parts _ _ q).0)
+longest_once kind (c ∷ v) [] t r s a b p q lr ls =
+    absurd (both_ways (kind c) (subst (λ u. Lacks kind u) (sym b ∙ a) ls) (and_parts _ _ p).0)
+longest_once kind (c ∷ v) (d ∷ w) t r s a b p q lr ls =
+    let same : c ∷ (v ++ r) ≡ d ∷ (w ++ s) = sym a ∙ b in
+    let of_v : IsTrue (list_all kind v) = (and_parts (kind c) _ p).1 in
+    let of_w : IsTrue (list_all kind w) = (and_parts (kind d) _ q).1 in
+    let rest = longest_once kind v w (v ++ r) r s refl (same_tail same) of_v of_w lr ls in
     let heads = same_head same in
     (cc (heads, rest.0), rest.1)
 
+pub word_once : (kind : ℕ → Bool) (v w t r s : Text) → t ≡ v ++ r → t ≡ w ++ s → AllPass kind v → AllPass kind w
+    → Lacks kind r → Lacks kind s → (v ≡ w) × (r ≡ s)
+word_once kind v w t r s a b p q lr ls =
+    longest_once kind v w t r s a b (list_all-from_AllPass kind v p) (list_all-from_AllPass kind w q) lr ls
+
 -- one more character
 pub pass_push : (kind : ℕ → Bool) (w : Text) (c : ℕ) → AllPass kind w → IsTrue (kind c) → AllPass kind (w ++ c ∷ [])
-pass_push kind [] c p h = (h, tt)
-pass_push kind (d ∷ w) c p h = (p.0, pass_push kind w c p.1 h)
+pass_push kind w c p h =
+    AllPass-from_list_all kind (w ++ c ∷ [])
+    (list_all-append kind w (c ∷ []) ∙ and_from _ _ (list_all-from_AllPass kind w p) (and_from _ _ h refl))
 
-pub spelled_push : (w t u v : Text) (c : ℕ) → Spelled w t u → u ≡ c ∷ v → Spelled (w ++ c ∷ []) t v
-spelled_push [] t u v c s e = (v, s ∙ e, refl)
-spelled_push (d ∷ w) t u v c s e = (s.0, s.1, spelled_push w s.0 u v c s.2 e)
+pub spelled_push : (w t u v : Text) (c : ℕ) → t ≡ w ++ u → u ≡ c ∷ v → t ≡ (w ++ c ∷ []) ++ v
+spelled_push w t u v c s e = s ∙ ap (λ x. w ++ x) e ∙ sym (append_assoc w (c ∷ []) v)
 
 pub take_push : (xs : Text) (at end c : ℕ) → at ≤ end → end < length xs → c ≡ get_or xs end 0
     → take (end + 1 - at) (drop at xs) ≡ take (end - at) (drop at xs) ++ c ∷ []

@@ -1,11 +1,11 @@
 -- Behind each part of a pattern are no more `(` than from its beginning on.
-use Rattle.std.proofs.Common.{inl, inr, ◌≡◌, sym, ap, ℕ, zero, suc, ◌+◌, ◌≤◌, Bool, true, false, ◌==◌, List, [], ◌∷◌, Option, if◌then◌else◌, arith}
+use Rattle.std.proofs.Common.{inl, inr, ◌≡◌, refl, sym, ap, ℕ, zero, suc, ◌+◌, ◌≤◌, Bool, true, false, ◌==◌, List, [], ◌∷◌, ◌++◌, Option, if◌then◌else◌, arith}
 use Rattle.std.specs.List.{count_by}
 use Rattle.std.proofs.lemmas.List.Sums.{sum_by-cons}
 use Rattle.regex_lite_syntax.specs.declared.flags.Flags.{Flags}
 use Rattle.regex_lite_syntax.specs.declared.hir.look.Look.{Look}
 use Rattle.regex_lite_syntax.specs.NamedSets.{SetName}
-use Rattle.regex_lite_syntax.specs.Text.{Text, Spelled, the}
+use Rattle.regex_lite_syntax.specs.Text.{Text, the}
 use Rattle.regex_lite_syntax.specs.Grammar.Gaps.{Spacing, Gap, Spaced}
 use Rattle.regex_lite_syntax.proofs.grammar.ScanLemmas.{Scan, scan_of_spacing}
 use Rattle.regex_lite_syntax.specs.Sets.{Set}
@@ -45,9 +45,9 @@ pub one_read : {t rest : Text} {c : ℕ} → t ≡ c ∷ rest → NoMore t rest
 one_read {t} {rest} {c} e = then_read (nothing_read e) (past_first c rest)
 
 -- texts, gaps and characters with gaps between them
-spelled_reads : (cs t rest : Text) → Spelled cs t rest → NoMore t rest
+spelled_reads : (cs t rest : Text) → t ≡ cs ++ rest → NoMore t rest
 spelled_reads [] t rest s = nothing_read s
-spelled_reads (c ∷ cs) t rest s = then_read (one_read s.1) (spelled_reads cs s.0 rest s.2)
+spelled_reads (c ∷ cs) t rest s = then_read (one_read s) (spelled_reads cs (cs ++ rest) rest refl)
 
 scan_reads : (in_comment : Bool) (t rest : Text) → Scan in_comment t rest → NoMore t rest
 scan_reads in_comment [] rest b = nothing_read (sym b)

@@ -1,6 +1,7 @@
 -- Bracketed classes.
-use Rattle.std.specs.Prelude.{◌≡◌, ◌≢◌, ℕ, zero, suc, ◌≤◌, Bool, true, false, not, ◌&&◌, nat_lt, List, [], ◌∷◌, Some, IsTrue, if◌then◌else◌}
-use Rattle.regex_lite_syntax.specs.Text.{Text, Begins, Spelled, AllPass, the, ◌∈◌}
+use Rattle.std.specs.Prelude.{◌≡◌, ◌≢◌, ℕ, zero, suc, ◌≤◌, Bool, true, false, not, ◌&&◌, nat_lt, List, [], ◌∷◌, ◌++◌, Some, IsTrue, codes, if◌then◌else◌}
+use Rattle.std.specs.List.{AllPass}
+use Rattle.regex_lite_syntax.specs.Text.{Text, Begins, the, ◌∈◌}
 use Rattle.regex_lite_syntax.specs.Characters.{is_lower, is_white_space}
 use Rattle.regex_lite_syntax.specs.Grammar.Gaps.{WholeGap}
 use Rattle.regex_lite_syntax.specs.Sets.{Set, just, span, union, complement, case_closure}
@@ -39,11 +40,11 @@ pub record NamedClass (t rest : Text) (negated : Bool) (set : SetName) : Type 0 
   pub begin : Text
   pub end : Text
   pub name : Text
-  pub opens : t ≡ the "[" ∷ the ":" ∷ opened
+  pub opens : t ≡ codes "[:" ++ opened
   pub negation : opened ≡ (if negated then the "^" ∷ begin else begin)
-  pub written : Spelled name begin end
+  pub written : begin ≡ name ++ end
   pub letters : AllPass is_lower name
-  pub closes : end ≡ the ":" ∷ the "]" ∷ rest
+  pub closes : end ≡ codes ":]" ++ rest
   pub named : set_named name ≡ Some set
 
 -- one item of a class, and its set

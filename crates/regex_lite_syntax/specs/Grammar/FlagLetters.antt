@@ -1,7 +1,8 @@
 -- Flags that are written in a pattern.
 use Rattle.std.specs.Prelude.{◌≡◌, ℕ, ◌<◌, Bool, true, false, not, ◌&&◌, ◌==◌, [], ◌∷◌, ◌++◌, length, IsTrue, if◌then◌else◌}
 use Rattle.regex_lite_syntax.specs.declared.flags.Flags.{Flags}
-use Rattle.regex_lite_syntax.specs.Text.{Text, Spelled, AllPass, the, ◌∈◌}
+use Rattle.std.specs.List.{AllPass}
+use Rattle.regex_lite_syntax.specs.Text.{Text, the, ◌∈◌}
 use Rattle.regex_lite_syntax.specs.Characters.{is_one_of}
 
 -- the letters that set or clear a flag; `u` stands for none
@@ -30,10 +31,10 @@ all_differ (c ∷ cs) = not (is_one_of cs c) && all_differ cs
 
 -- flag letters, of which those after a dash clear and the others set
 pub data FlagLetters (old : Flags) (t rest : Text) (new : Flags) : Type 0 where
-  setting : (on : Text) → Spelled on t rest → AllPass is_flag_letter on → IsTrue (all_differ on)
+  setting : (on : Text) → t ≡ on ++ rest → AllPass is_flag_letter on → IsTrue (all_differ on)
       → new ≡ with_flags true on old → FlagLetters old t rest new
-  clearing : (on off past_dash : Text) → Spelled on t (the "-" ∷ past_dash)
-      → Spelled off past_dash rest
+  clearing : (on off past_dash : Text) → t ≡ on ++ the "-" ∷ past_dash
+      → past_dash ≡ off ++ rest
       → 0 < length off → AllPass is_flag_letter on → AllPass is_flag_letter off
       → IsTrue (all_differ (on ++ off)) → new ≡ with_flags false off (with_flags true on old)
       → FlagLetters old t rest new

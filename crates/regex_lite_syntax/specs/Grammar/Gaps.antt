@@ -1,6 +1,7 @@
 -- White space and comments, and the gaps that verbose mode allows between the parts of a pattern.
 use Rattle.std.specs.Prelude.{◌≡◌, ◌≢◌, ℕ, Bool, true, false, not, ◌==◌, [], ◌∷◌, ◌++◌, IsTrue}
-use Rattle.regex_lite_syntax.specs.Text.{Text, AllPass, the}
+use Rattle.std.specs.List.{AllPass}
+use Rattle.regex_lite_syntax.specs.Text.{Text, the}
 use Rattle.regex_lite_syntax.specs.Characters.{is_white_space}
 
 -- a character of a comment: every one but a line feed

@@ -1,11 +1,11 @@
 -- Names of capturing groups.
-use Rattle.std.specs.Prelude.{◌≡◌, ◌≢◌, ℕ, Bool, true, false, not, ◌&&◌, ◌||◌, ◌==◌, List, [], ◌∷◌, IsTrue, AllPairs}
-use Rattle.std.specs.List.{list_all}
+use Rattle.std.specs.Prelude.{◌≡◌, ◌≢◌, ℕ, Bool, true, false, not, ◌&&◌, ◌||◌, ◌==◌, List, [], ◌∷◌, ◌++◌, IsTrue, AllPairs, codes}
+use Rattle.std.specs.List.{list_all, AllPass}
 use Rattle.unicode.specs.Binary.{is_alphabetic}
 use Rattle.unicode.specs.GeneralCategory.{general_category}
 use Rattle.unicode.specs.declared.properties.GeneralCategory.{GeneralCategory}
 use Rattle.unicode.specs.declared.properties.GeneralCategory.TheVariants.{DecimalNumber, LetterNumber, OtherNumber}
-use Rattle.regex_lite_syntax.specs.Text.{Text, Spelled, AllPass, the, ◌∈◌}
+use Rattle.regex_lite_syntax.specs.Text.{Text, the, ◌∈◌}
 
 -- the categories of numbers: Nd, Nl and No
 abbrev pub is_number : GeneralCategory → Bool
@@ -32,14 +32,14 @@ is_no_end c = not (c == the ">")
 
 -- a name and the `>` that ends it, past the `<`
 pub record NameWritten (t rest name : Text) : Type 0 where
-  pub written : Spelled name t (the ">" ∷ rest)
+  pub written : t ≡ name ++ the ">" ∷ rest
   pub inside : AllPass is_no_end name
   pub is_a_name : IsTrue (is_name name)
 
 -- what stands before a name, from the `?` of the group's head on
 pub data NameOpening (t past : Text) : Type 0 where
-  with_p : t ≡ the "?" ∷ the "P" ∷ the "<" ∷ past → NameOpening t past
-  without_p : t ≡ the "?" ∷ the "<" ∷ past → NameOpening t past
+  with_p : t ≡ codes "?P<" ++ past → NameOpening t past
+  without_p : t ≡ codes "?<" ++ past → NameOpening t past
 
 -- a name with its brackets, from the `?` on
 pub record Named (t rest name : Text) : Type 0 where

@@ -1,7 +1,8 @@
 -- What the readers of flags promise one another.
-use Rattle.std.specs.Prelude.{[], ◌∷◌, ◌++◌, ◌⊎◌, IsTrue}
+use Rattle.std.specs.Prelude.{◌≡◌, [], ◌∷◌, ◌++◌, ◌⊎◌, IsTrue}
 use Rattle.regex_lite_syntax.specs.declared.flags.Flags.{Flags}
-use Rattle.regex_lite_syntax.specs.Text.{Text, Begins, Spelled, AllPass, the, ◌∈◌}
+use Rattle.std.specs.List.{AllPass}
+use Rattle.regex_lite_syntax.specs.Text.{Text, Begins, the, ◌∈◌}
 use Rattle.regex_lite_syntax.specs.Grammar.FlagLetters.{is_flag_letter, all_differ, FlagLetters}
 
 -- flags up to the `:` or `)` that ends them
@@ -16,7 +17,7 @@ EndsRun (c ∷ t) = IsTrue (c ∈ "-:)")
 
 -- flag letters up to what ends them. None stands twice, nor among those before
 pub record LetterRun (before letters t rest : Text) : Type 0 where
-  pub written : Spelled letters t rest
+  pub written : t ≡ letters ++ rest
   pub all : AllPass is_flag_letter letters
   pub differ : IsTrue (all_differ (before ++ letters))
   pub ends : EndsRun rest

@@ -1,9 +1,11 @@
 -- Runs of flag letters, and what they say of a run that begins there.
 use Rattle.std.proofs.Common.{inl, inr, ◌≡◌, refl, sym, ◌∙◌, ap, subst, ℕ, Bool, true, false, ◌||◌, ◌==◌, [], ◌∷◌, ◌++◌, IsTrue, codes, append_assoc}
 use Rattle.std.proofs.lemmas.Bool.{both_ways, and_parts, and_from, or_parts, or_from, or_cases, not-true, not_from_false, eqb-true, eqb-false, ne_eqb}
-use Rattle.std.proofs.lemmas.List.Folds.{list_any-append}
+use Rattle.std.proofs.lemmas.List.Folds.{list_all-append, list_any-append}
 use Rattle.regex_lite_syntax.specs.declared.flags.Flags.{Flags}
-use Rattle.regex_lite_syntax.specs.Text.{Text, Spelled, AllPass, the}
+use Rattle.std.specs.List.{AllPass, list_all}
+use Rattle.std.proofs.lemmas.List.Sums.{list_all-from_AllPass}
+use Rattle.regex_lite_syntax.specs.Text.{Text, the}
 use Rattle.regex_lite_syntax.specs.Characters.{is_one_of}
 use Rattle.regex_lite_syntax.specs.Grammar.FlagLetters.{is_flag_letter, with_flag, with_flags, all_differ}
 use Rattle.regex_lite_syntax.specs.Parser.FlagRuns.{EndsRun, LetterRun}
@@ -11,13 +13,10 @@ use Rattle.regex_lite_syntax.proofs.ListLemmas.{same_head, same_tail}
 use Rattle.regex_lite_syntax.proofs.grammar.FlagLetterLemmas.{word_once}
 
 -- what is read with one more letter
-pub all_pass_more : (kind : ℕ → Bool) (cs : Text) (c : ℕ) → AllPass kind cs → IsTrue (kind c) → AllPass kind (cs ++ c ∷ [])
-all_pass_more kind [] c all here = (here, tt)
-all_pass_more kind (d ∷ cs) c all here = (all.0, all_pass_more kind cs c all.1 here)
-
 all_pass_middle : (kind : ℕ → Bool) (cs : Text) (c : ℕ) (ds : Text) → AllPass kind (cs ++ c ∷ ds) → IsTrue (kind c)
-all_pass_middle kind [] c ds all = all.0
-all_pass_middle kind (d ∷ cs) c ds all = all_pass_middle kind cs c ds all.1
+all_pass_middle kind cs c ds all =
+    let both = sym (list_all-append kind cs (c ∷ ds)) ∙ list_all-from_AllPass kind (cs ++ c ∷ ds) all in
+    (and_parts _ _ (and_parts _ _ both).1).0
 
 pub with_flags_more : (set : Bool) (cs : Text) (c : ℕ) (flags : Flags)
     → with_flags set (cs ++ c ∷ []) flags ≡ with_flag set c (with_flags set cs flags)
@@ -73,52 +72,53 @@ ends_no_letter c ends =
     same d other e = subst (λ x. is_flag_letter x ≡ false) (eqb-true d c e) other
 
 -- a run goes on past letters that have been read
-goes_on : (read letters t u rest : Text) → Spelled read t u → AllPass is_flag_letter read → Spelled letters t rest
-    → EndsRun rest → (more : Text) × (letters ≡ read ++ more) × Spelled more u rest
-goes_on [] letters t u rest p all q ends = (letters, refl, subst (λ v. Spelled letters v rest) p q)
+goes_on : (read letters t u rest : Text) → t ≡ read ++ u → IsTrue (list_all is_flag_letter read) → t ≡ letters ++ rest
+    → EndsRun rest → (more : Text) × (letters ≡ read ++ more) × (u ≡ more ++ rest)
+goes_on [] letters t u rest p all q ends = (letters, refl, sym p ∙ q)
 goes_on (c ∷ read) [] t u rest p all q ends =
-    let end = subst (λ v. EndsRun v) (sym q ∙ p.1) ends in absurd (both_ways (is_flag_letter c) (ends_no_letter c end) all.0)
+    let end = subst (λ v. EndsRun v) (sym q ∙ p) ends in
+    absurd (both_ways (is_flag_letter c) (ends_no_letter c end) (and_parts _ _ all).0)
 goes_on (c ∷ read) (d ∷ letters) t u rest p all q ends =
-    let same = sym q.1 ∙ p.1 in
-    let from = subst (λ v. Spelled letters v rest) (same_tail same) q.2 in
-    let past = goes_on read letters p.0 u rest p.2 all.1 from ends in
+    let same : d ∷ (letters ++ rest) ≡ c ∷ (read ++ u) = sym q ∙ p in
+    let further : IsTrue (list_all is_flag_letter read) = (and_parts (is_flag_letter c) _ all).1 in
+    let past = goes_on read letters (read ++ u) u rest refl further (sym (same_tail same)) ends in
     (past.0, cc (same_head same, past.1), past.2)
 
 -- no run goes on past the end of the pattern
-pub no_run_end : (before read letters t u rest : Text) → Spelled read t u → AllPass is_flag_letter read → u ≡ []
+pub no_run_end : (before read letters t u rest : Text) → t ≡ read ++ u → AllPass is_flag_letter read → u ≡ []
     → LetterRun before letters t rest → ⊥
 no_run_end before read letters t u rest p all none run =
-    let past = goes_on read letters t u rest p all run.written run.ends in at_end past.0 past.2
+    let past = goes_on read letters t u rest p (list_all-from_AllPass is_flag_letter read all) run.written run.ends in at_end past.0 past.2
   where
-    at_end : (more : Text) → Spelled more u rest → ⊥
+    at_end : (more : Text) → u ≡ more ++ rest → ⊥
     at_end [] e = subst (λ v. EndsRun v) (sym e ∙ none) run.ends
-    at_end (c ∷ more) e = cc (none, e.1)
+    at_end (c ∷ more) e = let begins : u ≡ c ∷ (more ++ rest) = e in cc (none, begins)
 
 -- nor past a character that is no flag letter and ends no run
-pub no_run_other : (before read letters t u rest : Text) (c : ℕ) (v : Text) → Spelled read t u
+pub no_run_other : (before read letters t u rest : Text) (c : ℕ) (v : Text) → t ≡ read ++ u
     → AllPass is_flag_letter read → u ≡ c ∷ v → is_flag_letter c ≡ false → is_one_of (codes "-:)") c ≡ false
     → LetterRun before letters t rest → ⊥
 no_run_other before read letters t u rest c v p all here no_flag no_end run =
-    let past = goes_on read letters t u rest p all run.written run.ends in at_other past.0 past.1 past.2
+    let past = goes_on read letters t u rest p (list_all-from_AllPass is_flag_letter read all) run.written run.ends in at_other past.0 past.1 past.2
   where
-    at_other : (more : Text) → letters ≡ read ++ more → Spelled more u rest → ⊥
+    at_other : (more : Text) → letters ≡ read ++ more → u ≡ more ++ rest → ⊥
     at_other [] is e = both_ways _ no_end (subst (λ w. EndsRun w) (sym e ∙ here) run.ends)
     at_other (d ∷ more) is e =
         let passes = all_pass_middle is_flag_letter read d more (subst (λ w. AllPass is_flag_letter w) is run.all) in
-        let same = same_head (sym e.1 ∙ here) in
+        let same = same_head (sym e ∙ here) in
         both_ways (is_flag_letter c) no_flag (subst (λ x. IsTrue (is_flag_letter x)) same passes)
 
 -- nor past a letter that stands before
-pub no_run_twice : (before read letters t u rest : Text) (c : ℕ) (v : Text) → Spelled read t u
+pub no_run_twice : (before read letters t u rest : Text) (c : ℕ) (v : Text) → t ≡ read ++ u
     → AllPass is_flag_letter read → u ≡ c ∷ v → IsTrue (is_flag_letter c)
     → IsTrue (is_one_of before c || is_one_of read c) → LetterRun before letters t rest → ⊥
 no_run_twice before read letters t u rest c v p all here is_letter either run =
-    let past = goes_on read letters t u rest p all run.written run.ends in at_letter past.0 past.1 past.2
+    let past = goes_on read letters t u rest p (list_all-from_AllPass is_flag_letter read all) run.written run.ends in at_letter past.0 past.1 past.2
   where
-    at_letter : (more : Text) → letters ≡ read ++ more → Spelled more u rest → ⊥
+    at_letter : (more : Text) → letters ≡ read ++ more → u ≡ more ++ rest → ⊥
     at_letter [] is e = both_ways _ (ends_no_letter c (subst (λ w. EndsRun w) (sym e ∙ here) run.ends)) is_letter
     at_letter (d ∷ more) is e =
-        let again = is ∙ ap (λ x. read ++ x ∷ more) (same_head (sym e.1 ∙ here)) in
+        let again = is ∙ ap (λ x. read ++ x ∷ more) (same_head (sym e ∙ here)) in
         let parts : before ++ letters ≡ (before ++ read) ++ c ∷ more =
         rw append_assoc (ap (λ w. before ++ w) again) in
         both_ways _ (differ_middle (before ++ read) more c (subst (λ w. IsTrue (all_differ w)) parts run.differ)) (one_of_both before read c ∙ either)
@@ -140,8 +140,8 @@ pub run_once : (before before' letters letters' t u u' : Text) → LetterRun bef
 run_once before before' letters letters' t u u' run run' =
     let e = run_end u run.ends in
     let e' = run_end u' run'.ends in
-    let p = subst (λ v. Spelled letters t v) e.is run.written in
-    let p' = subst (λ v. Spelled letters' t v) e'.is run'.written in
+    let p = subst (λ v. t ≡ letters ++ v) e.is run.written in
+    let p' = subst (λ v. t ≡ letters' ++ v) e'.is run'.written in
     let no = ends_no_letter e.first e.ends in
     let no' = ends_no_letter e'.first e'.ends in
     let same =

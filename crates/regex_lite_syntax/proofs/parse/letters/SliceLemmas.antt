@@ -1,17 +1,13 @@
 -- Parts of the pattern as slices of its characters.
-use Rattle.std.proofs.Common.{◌≡◌, refl, sym, ◌∙◌, ap, ℕ, suc, ◌+◌, ◌-◌, ◌<◌, ◌≤◌, [], ◌∷◌, ◌++◌, length, drop, take, get_or, slice_range, arith, length-take, length-drop}
+use Rattle.std.proofs.Common.{◌≡◌, sym, ◌∙◌, ap, ℕ, suc, ◌+◌, ◌-◌, ◌<◌, ◌≤◌, [], ◌∷◌, ◌++◌, length, drop, take, get_or, slice_range, arith, length-take, length-drop}
 use Rattle.std.proofs.Math.Seq.{take-suc}
 use Rattle.std.proofs.lemmas.List.{get_or-drop}
 use Rattle.std.proofs.lemmas.List.Folds.{drop_split}
-use Rattle.regex_lite_syntax.specs.Text.{Text, Spelled}
+use Rattle.regex_lite_syntax.specs.Text.{Text}
 
 -- a part of the characters stands there
-spelled : (cs t rest : Text) → t ≡ cs ++ rest → Spelled cs t rest
-spelled [] t rest e = e
-spelled (c ∷ cs) t rest e = (cs ++ rest, e, spelled cs (cs ++ rest) rest refl)
-
-pub slice_spelled : (xs : Text) (at end : ℕ) → at ≤ end → Spelled (slice_range xs at end) (drop at xs) (drop end xs)
-slice_spelled xs at end h = spelled (slice_range xs at end) (drop at xs) (drop end xs) (drop_split xs at end h)
+pub slice_spelled : (xs : Text) (at end : ℕ) → at ≤ end → drop at xs ≡ slice_range xs at end ++ drop end xs
+slice_spelled xs at end h = drop_split xs at end h
 
 pub slice_length : (xs : Text) (at end : ℕ) → end ≤ length xs → length (slice_range xs at end) ≡ end - at
 slice_length xs at end h = omega (arith, length-take (end - at) (drop at xs), length-drop at xs)

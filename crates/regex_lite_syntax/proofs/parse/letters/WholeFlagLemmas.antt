@@ -2,7 +2,9 @@
 use Rattle.std.proofs.Common.{inl, inr, ◌⊎◌, ◌≡◌, refl, sym, ◌∙◌, ap, subst, ℕ, ◌<◌, true, false, ◌==◌, [], ◌∷◌, ◌++◌, length, IsTrue, codes, arith}
 use Rattle.std.proofs.lemmas.Bool.{both_ways, and_parts, and_from, or_parts, or_cases, not-true, not_from_false, eqb-true}
 use Rattle.regex_lite_syntax.specs.declared.flags.Flags.{Flags}
-use Rattle.regex_lite_syntax.specs.Text.{Text, Begins, Spelled, AllPass, the}
+use Rattle.std.specs.List.{AllPass}
+use Rattle.std.proofs.lemmas.List.Sums.{AllPass-from_list_all}
+use Rattle.regex_lite_syntax.specs.Text.{Text, Begins, the}
 use Rattle.regex_lite_syntax.specs.Characters.{is_one_of}
 use Rattle.regex_lite_syntax.specs.Grammar.FlagLetters.{is_flag_letter, with_flags, all_differ, FlagLetters, setting, clearing}
 use Rattle.regex_lite_syntax.specs.Parser.FlagRuns.{EndedFlags, EndsRun, LetterRun}
@@ -28,12 +30,12 @@ no_dash_ends [] past e ends = cc
 no_dash_ends (c ∷ t) past e (inl h) = let same = same_head e in omega arith
 no_dash_ends (c ∷ t) past e (inr h) = let same = same_head e in omega arith
 
-set_run : (old : Flags) (on t rest : Text) (new : Flags) → Spelled on t rest → AllPass is_flag_letter on
+set_run : (old : Flags) (on t rest : Text) (new : Flags) → t ≡ on ++ rest → AllPass is_flag_letter on
     → IsTrue (all_differ on) → Begins (the ":") rest ⊎ Begins (the ")") rest → LetterRun [] on t rest
 set_run old on t rest new p all differ ends =
     record { written = p; all = all; differ = differ; ends = ends_run rest ends }
 
-dash_run : (on off t past : Text) → Spelled on t (the "-" ∷ past) → AllPass is_flag_letter on
+dash_run : (on off t past : Text) → t ≡ on ++ the "-" ∷ past → AllPass is_flag_letter on
     → IsTrue (all_differ (on ++ off)) → LetterRun [] on t (the "-" ∷ past)
 dash_run on off t past p all differ =
     record { written = p; all = all; differ = differ_first on off differ; ends = refl }
@@ -113,20 +115,23 @@ pub flags_cleared : (old : Flags) (on off t u past rest : Text) (new : Flags) �
     → LetterRun on off past rest → 0 < length off → (Begins (the "-") rest → ⊥)
     → new ≡ with_flags false off (with_flags true on old) → EndedFlags old t rest new
 flags_cleared old on off t u past rest new run dashed run_off some no_dash e =
-    let set = subst (λ w. Spelled on t w) dashed run.written in
+    let set = subst (λ w. t ≡ on ++ w) dashed run.written in
     record {
       letters = clearing on off past set run_off.written some run.all run_off.all run_off.differ e;
       ends = ends_flags rest run_off.ends no_dash;
     }
 
+nothing_passes : AllPass is_flag_letter []
+nothing_passes = AllPass-from_list_all is_flag_letter [] refl
+
 -- no flags stand at the end of the pattern
 pub no_flags_end : (old : Flags) (t rest : Text) (new : Flags) → t ≡ [] → EndedFlags old t rest new → ⊥
 no_flags_end old t rest new none flags =
-    let run = first_run old t rest new flags in no_run_end [] [] run.0 t t run.1 refl tt none run.2
+    let run = first_run old t rest new flags in no_run_end [] [] run.0 t t run.1 refl nothing_passes none run.2
 
 -- nor at a character that is no part of flags
 pub no_flags_other : (old : Flags) (t rest : Text) (new : Flags) (c : ℕ) (u : Text) → t ≡ c ∷ u
     → is_flag_letter c ≡ false → is_one_of (codes "-:)") c ≡ false → EndedFlags old t rest new → ⊥
 no_flags_other old t rest new c u here no_flag no_end flags =
     let run = first_run old t rest new flags in
-    no_run_other [] [] run.0 t t run.1 c u refl tt here no_flag no_end run.2
+    no_run_other [] [] run.0 t t run.1 c u refl nothing_passes here no_flag no_end run.2

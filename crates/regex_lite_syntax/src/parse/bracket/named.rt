@@ -1,6 +1,7 @@
 //! Sets that stand in a class by their names, as `[:alpha:]`.
-ghost use Rattle.std.specs.Prelude.{◌≡◌, ◌<◌, ◌≤◌, ◌-◌, drop, take, length, IfSome, MatchOption, find};
-ghost use Rattle.regex_lite_syntax.specs.Text.{Spelled, AllPass, is_text};
+ghost use Rattle.std.specs.Prelude.{◌≡◌, ◌<◌, ◌≤◌, ◌-◌, ◌++◌, drop, take, length, IfSome, MatchOption, find};
+ghost use Rattle.std.specs.List.{AllPass};
+ghost use Rattle.regex_lite_syntax.specs.Text.{is_text};
 ghost use Rattle.regex_lite_syntax.specs.Characters.{is_lower};
 ghost use Rattle.regex_lite_syntax.specs.Parser.ClassReadings.{set_name, Lacks, IsNamedSet, HasNamedSet};
 
@@ -33,8 +34,8 @@ fn skip_lower(chars: &[char], at: usize) -> usize
     requires { at ≤ length chars.now }
     ensures inside { (at ≤ result) × (result ≤ length chars.now) }
     ensures letters { AllPass is_lower (take (result - at) (drop at chars.now)) }
-    ensures spelled { Spelled (take (result - at) (drop at chars.now))
-        (drop at chars.now) (drop result chars.now) }
+    ensures spelled { drop at chars.now
+        ≡ take (result - at) (drop at chars.now) ++ drop result chars.now }
     ensures ends { Lacks is_lower (drop result chars.now) }
 {
     let mut end = at;

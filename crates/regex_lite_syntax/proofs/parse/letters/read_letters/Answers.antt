@@ -2,13 +2,14 @@ use Rattle.std.proofs.Common.{◌≡◌, sym, ◌∙◌, ap, subst, ◌++◌, �
 use Rattle.std.proofs.lemmas.Bool.{or_left, or_right}
 use Rattle.std.proofs.lemmas.List.{drop_all}
 use Rattle.std.proofs.lemmas.Result.{err_from_is_err_and}
-use Rattle.regex_lite_syntax.specs.Text.{AllPass}
+use Rattle.std.specs.List.{AllPass}
 use Rattle.regex_lite_syntax.specs.Characters.{is_one_of}
 use Rattle.regex_lite_syntax.specs.Grammar.FlagLetters.{is_flag_letter, with_flag, with_flags, all_differ}
 use Rattle.regex_lite_syntax.specs.Parser.FlagRuns.{EndsRun}
+use Rattle.regex_lite_syntax.proofs.grammar.WordLemmas.{pass_push}
 use Rattle.regex_lite_syntax.proofs.parse.IndexLemmas.{drop_char}
 use Rattle.regex_lite_syntax.proofs.parse.letters.SliceLemmas.{slice_spelled, slice_more}
-use Rattle.regex_lite_syntax.proofs.parse.letters.FlagRunLemmas.{all_pass_more, with_flags_more, differ_more, no_run_end, no_run_other, no_run_twice}
+use Rattle.regex_lite_syntax.proofs.parse.letters.FlagRunLemmas.{with_flags_more, differ_more, no_run_end, no_run_other, no_run_twice}
 use Rattle.regex_lite_syntax.proofs.parse.letters.read_letters.Goals as goal
 use Rattle.regex_lite_syntax.proofs.parse.letters.read_letters.Goals.{then-contains-via-then-contains, then-contains-via-else-contains+then-contains-2}
 
@@ -25,7 +26,7 @@ loop-end-preserved c =
     let flags = c.in_ok-flags.ensures.ok.1 ∙ ap (with_flag c.args.set letter) known.flags in
     record {
       all = subst (λ w. AllPass is_flag_letter w) (sym longer)
-          (all_pass_more is_flag_letter read letter known.all c.in_ok-flags.ensures.ok.0);
+          (pass_push is_flag_letter read letter known.all c.in_ok-flags.ensures.ok.0);
       differ = subst (λ w. IsTrue (all_differ (before ++ w))) (sym longer)
           (differ_more before read letter known.differ none none_read);
       flags = flags ∙ sym (with_flags_more c.args.set read letter c.args.old)

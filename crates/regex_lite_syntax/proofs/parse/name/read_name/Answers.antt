@@ -1,7 +1,17 @@
 use Rattle.std.proofs.Common.{sym, arith}
 use Rattle.std.proofs.lemmas.Bool.{both_ways}
-use Rattle.regex_lite_syntax.proofs.grammar.NameReadingLemmas.{name_goes_on, name_read, next_of_name, nothing_left_at_end, range_more}
+use Rattle.regex_lite_syntax.proofs.grammar.NameReadingLemmas.{first_of_name, name_begun, name_goes_on, name_read, next_of_name, nothing_left_at_end, range_more}
 use Rattle.regex_lite_syntax.proofs.parse.name.read_name.Goals as goal
+
+pub loop-c-init : goal.loop-c-init
+loop-c-init c =
+    let here = c.in-Some.ensures in
+    let begins = sym c.if-not-may_begin_name.ensures in
+    record {
+      inside = (omega arith, omega (arith, here.0));
+      so_far = name_begun _ _ c.args.at _ here.0 here.1 begins c.in-Some.c-test.1;
+      back = λ rest name written. (first_of_name _ _ here.1 written).2;
+    }
 
 pub returns-then-c-eq62-clause-ok : goal.returns-then-c-eq62-clause-ok
 returns-then-c-eq62-clause-ok c =

@@ -1,4 +1,4 @@
-use Rattle.std.proofs.Common.{◌≡◌, refl, sym, ◌∙◌, ap, ◌+◌, ◌-◌, ◌∷◌, drop, take, arith, ℕ, Bool, true, false, if◌then◌else◌, Some, None}
+use Rattle.std.proofs.Common.{◌≡◌, refl, sym, ◌∙◌, ap, ◌+◌, ◌-◌, ◌∷◌, drop, take, arith, ℕ, Bool, true, false, if◌then◌else◌, Some, None, codes, ◌++◌}
 use Rattle.std.specs.Prelude.{find, option_map, Option}
 use Rattle.regex_lite_syntax.specs.declared.class.named.NamedSet.{NamedSet}
 use Rattle.regex_lite_syntax.specs.declared.class.named.NamedSet.TheVariants as sets
@@ -44,11 +44,11 @@ none_named w name set none same named =
     let clash = ap (option_map name_of) none ∙ first_named w ∙ ap set_named same ∙ named in
     cc clash
 
-opened_at : (xs : Text) (at : ℕ) → drop at xs ≡ the "[" ∷ drop (at + 1) xs
-    → drop (at + 1) xs ≡ the ":" ∷ drop (at + 1 + 1) xs → drop at xs ≡ the "[" ∷ the ":" ∷ drop (at + 2) xs
-opened_at xs at e f =
-    let two : at + 1 + 1 ≡ at + 2 = omega arith in
-    e ∙ ap (λ t. (the "[") ∷ t) (f ∙ ap (λ n. (the ":") ∷ drop n xs) two)
+-- two characters stand there
+two_at : (xs : Text) (at c d : ℕ) → drop at xs ≡ c ∷ drop (at + 1) xs
+    → drop (at + 1) xs ≡ d ∷ drop (at + 1 + 1) xs → drop at xs ≡ c ∷ d ∷ drop (at + 2) xs
+two_at xs at c d e f =
+    let two : at + 1 + 1 ≡ at + 2 = omega arith in e ∙ ap (λ t. c ∷ t) (f ∙ ap (λ n. d ∷ drop n xs) two)
 
 negated_at : (xs : Text) (at begin : ℕ) (negated : Bool) → drop (at + 2) xs ≡ the "^" ∷ drop (at + 2 + 1) xs → begin ≡ at + 3
     → negated ≡ true → drop (at + 2) xs ≡ (if negated then the "^" ∷ drop begin xs else drop begin xs)
@@ -60,24 +60,33 @@ bare_at : (xs : Text) (at begin : ℕ) (negated : Bool) → begin ≡ at + 2 →
 bare_at xs at begin true b h = cc h
 bare_at xs at begin false b h = ap (λ n. drop n xs) (sym b)
 
+opens_at : (c : After-skip_lower-end) → drop c.args.at c.args.chars.now ≡ codes "[:" ++ drop (c.args.at + 2) c.args.chars.now
+opens_at c =
+    two_at c.args.chars.now c.args.at (the "[") (the ":") (c.if-not-is_at.ensures.there refl).1
+    (c.if-not-is_at-2.ensures.there refl).1
+
+negation_at : (c : After-skip_lower-end) → drop (c.args.at + 2) c.args.chars.now
+    ≡ (if c.is_at-negated.result then the "^" ∷ drop c.if-negated.begin c.args.chars.now
+    else drop c.if-negated.begin c.args.chars.now)
+negation_at c =
+    let xs = c.args.chars.now in
+    let at = c.args.at in
+    let begin = c.if-negated.begin in
+    let negated = c.is_at-negated.result in
+    elim c.if-negated.branch [
+      | then-negated w ↦ negated_at xs at begin negated (w.if-negated.ensures.there refl).1 w.begin-is w.if-negated.true
+      | else-negated w ↦ bare_at xs at begin negated w.begin-is w.if-negated.false
+    ]
+
 once : (c : After-skip_lower-end) (rest : Text) (n : Bool) (set : SetName)
     → (p : NamedClass (drop c.args.at c.args.chars.now) rest n set)
     → (c.is_at-negated.result ≡ n)
     × (take (c.skip_lower-end.result - c.if-negated.begin) (drop c.if-negated.begin c.args.chars.now) ≡ p.name)
     × (drop c.skip_lower-end.result c.args.chars.now ≡ p.end)
 once c rest n set p =
-    let xs = c.args.chars.now in
-    let at = c.args.at in
-    let begin = c.if-negated.begin in
-    let negated = c.is_at-negated.result in
-    let opens = opened_at xs at (c.if-not-is_at.ensures.there refl).1 (c.if-not-is_at-2.ensures.there refl).1 in
-    let negation : drop (at + 2) xs ≡ (if negated then the "^" ∷ drop begin xs else drop begin xs) =
-    elim c.if-negated.branch [
-      | then-negated w ↦ negated_at xs at begin negated (w.if-negated.ensures.there refl).1 w.begin-is w.if-negated.true
-      | else-negated w ↦ bare_at xs at begin negated w.begin-is w.if-negated.false
-    ] in
-    name_once _ _ _ _ negated negation c.is_at-negated.ensures.absent c.skip_lower-end.ensures.spelled
-    c.skip_lower-end.ensures.letters c.skip_lower-end.ensures.ends _ rest n set opens p
+    name_once _ _ _ _ c.is_at-negated.result (negation_at c) c.is_at-negated.ensures.absent
+    c.skip_lower-end.ensures.spelled c.skip_lower-end.ensures.letters c.skip_lower-end.ensures.ends _ rest n set
+    (opens_at c) p
 
 pub returns-then-not-is_at-3-clause-found : goal.returns-then-not-is_at-3-clause-found
 returns-then-not-is_at-3-clause-found c has =
@@ -97,3 +106,22 @@ returns-in_err-set-clause-found c =
     rw c.from_residual.ensures (λ (has : HasNamedSet (drop c.args.at c.args.chars.now)).
     let same = once (goal.at.returns-in_err-set-clause-found c).After-skip_lower-end has.0 has.1 has.2 has.3 in
     none_named word has.3.name has.2 c.in_err-set.ensures same.1 has.3.named)
+
+pub returns-clause-found : goal.returns-clause-found
+returns-clause-found c =
+    let xs = c.args.chars.now in
+    let end = c.skip_lower-end.result in
+    let start = (goal.at.returns-clause-found c).After-skip_lower-end in
+    record {
+      opened = drop (c.args.at + 2) xs;
+      begin = drop c.if-negated.begin xs;
+      end = drop end xs;
+      name = take (end - c.if-negated.begin) (drop c.if-negated.begin xs);
+      opens = opens_at start;
+      negation = negation_at start;
+      written = c.skip_lower-end.ensures.spelled;
+      letters = c.skip_lower-end.ensures.letters;
+      closes = two_at xs end (the ":") (the "]") (c.if-not-is_at-3.ensures.there refl).1
+          (c.if-not-is_at-4.ensures.there refl).1;
+      named = sym c.in_ok-set.ensures;
+    }

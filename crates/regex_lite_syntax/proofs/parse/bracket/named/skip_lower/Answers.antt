@@ -1,6 +1,6 @@
-use Rattle.std.proofs.Common.{sym, subst, ◌<◌, ◌+◌, drop, length, arith, IsTrue}
+use Rattle.std.proofs.Common.{sym, subst, ◌≡◌, ◌<◌, ◌+◌, ◌++◌, drop, length, arith, IsTrue}
 use Rattle.std.proofs.lemmas.List.{get_or_read}
-use Rattle.regex_lite_syntax.specs.Text.{Spelled, AllPass}
+use Rattle.std.specs.List.{AllPass}
 use Rattle.regex_lite_syntax.specs.Characters.{is_lower}
 use Rattle.regex_lite_syntax.proofs.grammar.WordLemmas.{pass_push, spelled_push, take_push}
 use Rattle.regex_lite_syntax.proofs.parse.IndexLemmas.{drop_char}
@@ -17,7 +17,7 @@ loop-end-preserved c =
     (get_or_read xs _ _ below c.index-chars-end.is 0) in
     record {
       inside = (omega arith, omega arith);
-      letters = subst (λ w. AllPass is_lower w) (sym longer) (pass_push _ _ _ c.loop-end.invariant.letters letter);
-      spelled = subst (λ w. Spelled w (drop c.args.at xs) (drop (end + 1) xs)) (sym longer)
+      letters = subst (λ w. AllPass is_lower w) (sym longer) (pass_push is_lower _ _ c.loop-end.invariant.letters letter);
+      spelled = subst (λ w. drop c.args.at xs ≡ w ++ drop (end + 1) xs) (sym longer)
           (spelled_push _ _ _ _ _ c.loop-end.invariant.spelled here);
     }

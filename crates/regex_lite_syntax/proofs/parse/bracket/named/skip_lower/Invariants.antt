@@ -1,5 +1,5 @@
-use Rattle.std.proofs.Common.{◌≤◌, ◌-◌, drop, take, length}
-use Rattle.regex_lite_syntax.specs.Text.{Spelled, AllPass}
+use Rattle.std.proofs.Common.{◌≡◌, ◌≤◌, ◌-◌, ◌++◌, drop, take, length}
+use Rattle.std.specs.List.{AllPass}
 use Rattle.regex_lite_syntax.specs.Characters.{is_lower}
 use Rattle.regex_lite_syntax.proofs.parse.bracket.named.skip_lower.Given as goal
 
@@ -7,7 +7,7 @@ abbrev pub invariant-loop-end : goal.invariant-loop-end
 invariant-loop-end l = record {
   inside : (l.at ≤ l.end) × (l.end ≤ length l.chars);
   letters : AllPass is_lower (take (l.end - l.at) (drop l.at l.chars));
-  spelled : Spelled (take (l.end - l.at) (drop l.at l.chars)) (drop l.at l.chars) (drop l.end l.chars);
+  spelled : drop l.at l.chars ≡ take (l.end - l.at) (drop l.at l.chars) ++ drop l.end l.chars;
 }
 
 abbrev pub decreases-loop-end : goal.decreases-loop-end
