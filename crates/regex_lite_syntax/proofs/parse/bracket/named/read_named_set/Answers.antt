@@ -123,5 +123,6 @@ returns-clause-found c =
       letters = c.skip_lower-end.ensures.letters;
       closes = two_at xs end (the ":") (the "]") (c.if-not-is_at-3.ensures.there refl).1
           (c.if-not-is_at-4.ensures.there refl).1;
-      named = sym c.in_ok-set.ensures;
+      named = sym (first_named (take (end - c.if-negated.begin) (drop c.if-negated.begin xs)))
+          ∙ ap (option_map name_of) (sym c.in_ok-set.ensures);
     }
