@@ -6,10 +6,10 @@ use Rattle.regex_lite_syntax.specs.Tree.{Tree}
 use Rattle.regex_lite_syntax.specs.declared.error.Error.{Error}
 use Rattle.regex_lite_syntax.specs.Errors.{kind_of}
 use Rattle.regex_lite_syntax.specs.Grammar.{IsTree}
-use Rattle.regex_lite_syntax.specs.Limits.{IsAdmitted, SaysOf}
+use Rattle.regex_lite_syntax.specs.Limits.{IsAdmitted, IsDueToPattern}
 use Rattle.regex_lite_syntax.specs.Tree.Matches.{HasMatch}
 use Rattle.regex_lite_syntax.specs.Tree.Properties.{captures_len, group_name}
-use Rattle.regex_lite_engine.specs.Graph.Size.{Fits, SaysOfTree}
+use Rattle.regex_lite_engine.specs.Graph.Size.{Fits, IsDueToTree}
 use Rattle.regex_lite.specs.Settings.{Settings, no_flags}
 
 -- a pattern, as its bytes, and the flags under which it is read
@@ -37,11 +37,11 @@ IsAccepted settings = (tree : Tree) × IsReadAs settings tree × Fits settings.s
 
 -- what the error says of the pattern under these settings is so, or what it says of the tree that
 -- would have to be written out
-abbrev pub IsRefusal : Settings → Error → Type 0
-IsRefusal settings error =
-    SaysOf settings.flags settings.nest_limit (chars settings.pattern) (kind_of error)
+abbrev pub IsDue : Settings → Error → Type 0
+IsDue settings error =
+    IsDueToPattern settings.flags settings.nest_limit (chars settings.pattern) (kind_of error)
     ⊎ ((tree : Tree) × IsReadAs settings tree
-    × SaysOfTree settings.size_limit tree (kind_of error))
+    × IsDueToTree settings.size_limit tree (kind_of error))
 
 -- the tree of the pattern has this property
 abbrev pub OfTree : Expression → (Tree → Type 0) → Type 0

@@ -4,7 +4,7 @@ ghost use Rattle.regex_lite_syntax.specs.Errors.{kind_of};
 ghost use Rattle.regex_lite_syntax.specs.Tree.Regular.{IsRegular};
 ghost use Rattle.regex_lite_syntax.specs.Tree.Views.{tree_of};
 ghost use Rattle.regex_lite_engine.specs.Graph.Renumbered.{IsGraphOf};
-ghost use Rattle.regex_lite_engine.specs.Graph.Size.{Fits, SaysOfTree};
+ghost use Rattle.regex_lite_engine.specs.Graph.Size.{Fits, IsDueToTree};
 
 pub mod class;
 mod count;
@@ -51,7 +51,7 @@ impl Graph {
         ensures ok { IfOk result (λ graph. IsGraphOf (tree_of hir.now) graph) }
         ensures fits { IfOk result (λ _. Fits size_limit (tree_of hir.now)) }
         ensures refused { IfErr result
-            (λ error. SaysOfTree size_limit (tree_of hir.now) (kind_of error)) }
+            (λ error. IsDueToTree size_limit (tree_of hir.now) (kind_of error)) }
     {
         let counts = Counts::of(hir);
         let count = counts.within(size_limit)?;

@@ -2,7 +2,7 @@
 ghost use Rattle.std.specs.Prelude.{◌≡◌, ◌-◌, ◌^◌, min, IfOk, IfErr};
 ghost use Rattle.regex_lite_syntax.specs.Errors.{out_of_memory};
 ghost use Rattle.regex_lite.specs.Settings.{default_settings};
-ghost use Rattle.regex_lite.specs.Expression.{expression_of, IsAccepted, IsRefusal};
+ghost use Rattle.regex_lite.specs.Expression.{expression_of, IsAccepted, IsDue};
 
 use crate::string::regex::Regex;
 use regex_lite_syntax::{Config, Error, Flags};
@@ -229,7 +229,7 @@ impl RegexBuilder {
     pub fn build(&self) -> Result<Regex, Error>
         ensures ok { IfOk result (λ regex. regex ≡ expression_of self.now) }
         ensures accepted { IfOk result (λ _. IsAccepted self.now) }
-        ensures refused { IfErr result (λ error. IsRefusal self.now error) }
+        ensures refused { IfErr result (λ error. IsDue self.now error) }
         ensures complete { IfErr result (λ error. IsAccepted self.now → error ≡ out_of_memory) }
     {
         let config = Config {

@@ -5,7 +5,7 @@ ghost use Rattle.regex_lite_syntax.specs.Tree.Properties.{captures_len, static_c
 ghost use Rattle.regex_lite_engine.specs.Graph.PlaceCounts.{whole_places, whole_arrows};
 ghost use Rattle.regex_lite.specs.CaptureNames.{names_left};
 ghost use Rattle.regex_lite.specs.Settings.{default_settings, settings_of};
-ghost use Rattle.regex_lite.specs.Expression.{IsAccepted, IsRefusal, OfTree, AreNames, MatchesIn, expression_of, default_expression};
+ghost use Rattle.regex_lite.specs.Expression.{IsAccepted, IsDue, OfTree, AreNames, MatchesIn, expression_of, default_expression};
 
 use crate::plain::has_match;
 use crate::string::builder::RegexBuilder;
@@ -72,7 +72,7 @@ impl Regex {
         ensures ok { IfOk result (λ regex. regex ≡ default_expression pattern.now) }
         ensures accepted { IfOk result (λ _. IsAccepted (default_settings pattern.now)) }
         ensures refused { IfErr result
-            (λ error. IsRefusal (default_settings pattern.now) error) }
+            (λ error. IsDue (default_settings pattern.now) error) }
         ensures complete { IfErr result
             (λ error. IsAccepted (default_settings pattern.now) → error ≡ out_of_memory) }
     {
@@ -90,7 +90,7 @@ impl Regex {
     pub fn from_str(alloc: Global, s: &str) -> Result<Regex, Error>
         ensures ok { IfOk result (λ regex. regex ≡ default_expression s.now) }
         ensures accepted { IfOk result (λ _. IsAccepted (default_settings s.now)) }
-        ensures refused { IfErr result (λ error. IsRefusal (default_settings s.now) error) }
+        ensures refused { IfErr result (λ error. IsDue (default_settings s.now) error) }
         ensures complete { IfErr result
             (λ error. IsAccepted (default_settings s.now) → error ≡ out_of_memory) }
     {
@@ -108,7 +108,7 @@ impl Regex {
     pub fn try_from(alloc: Global, s: &str) -> Result<Regex, Error>
         ensures ok { IfOk result (λ regex. regex ≡ default_expression s.now) }
         ensures accepted { IfOk result (λ _. IsAccepted (default_settings s.now)) }
-        ensures refused { IfErr result (λ error. IsRefusal (default_settings s.now) error) }
+        ensures refused { IfErr result (λ error. IsDue (default_settings s.now) error) }
         ensures complete { IfErr result
             (λ error. IsAccepted (default_settings s.now) → error ≡ out_of_memory) }
     {
@@ -129,7 +129,7 @@ impl Regex {
         ensures accepted { IfOk result
             (λ _. IsAccepted (default_settings (string_bytes s))) }
         ensures refused { IfErr result
-            (λ error. IsRefusal (default_settings (string_bytes s)) error) }
+            (λ error. IsDue (default_settings (string_bytes s)) error) }
         ensures complete { IfErr result
             (λ error. IsAccepted (default_settings (string_bytes s)) → error ≡ out_of_memory) }
     {
@@ -148,7 +148,7 @@ impl Regex {
         ensures accepted { IfOk result
             (λ _. IsAccepted (settings_of config size_limit pattern.now)) }
         ensures refused { IfErr result
-            (λ error. IsRefusal (settings_of config size_limit pattern.now) error) }
+            (λ error. IsDue (settings_of config size_limit pattern.now) error) }
     {
         let hir = Hir::parse(alloc, config, pattern)?;
         let graph = Graph::new(alloc, &hir, size_limit)?;
