@@ -6,10 +6,10 @@ use Rattle.regex_lite_syntax.specs.Tree.{Tree}
 use Rattle.regex_lite_syntax.specs.declared.error.Error.{Error}
 use Rattle.regex_lite_syntax.specs.Errors.{kind_of, out_of_memory}
 use Rattle.regex_lite_syntax.specs.Grammar.{IsTree}
-use Rattle.regex_lite_syntax.specs.Limits.{IsAdmitted, SaysOf}
+use Rattle.regex_lite_syntax.specs.Limits.{IsAdmitted, IsDueToPattern}
 use Rattle.regex_lite_syntax.specs.Tree.Matches.{HasMatch}
 use Rattle.regex_lite_syntax.specs.Tree.Properties.{captures_len, group_name}
-use Rattle.regex_lite_engine.specs.Graph.Size.{Fits, SaysOfTree}
+use Rattle.regex_lite_engine.specs.Graph.Size.{Fits, IsDueToTree}
 use Rattle.regex_lite.specs.Settings.{Settings}
 
 -- a pattern, as its bytes, and the flags under which it is read
@@ -33,11 +33,11 @@ IsAccepted settings = (tree : Tree) × IsReadAs settings tree × Fits settings.s
 
 -- what the error says of the pattern under these settings is so, or what it says of the tree that
 -- would have to be written out
-abbrev pub IsRefusal : Settings → Error → Type 0
-IsRefusal settings error =
-    SaysOf settings.flags settings.nest_limit (chars settings.pattern) (kind_of error)
+abbrev pub IsDue : Settings → Error → Type 0
+IsDue settings error =
+    IsDueToPattern settings.flags settings.nest_limit (chars settings.pattern) (kind_of error)
     ⊎ ((tree : Tree) × IsReadAs settings tree
-    × SaysOfTree settings.size_limit tree (kind_of error))
+    × IsDueToTree settings.size_limit tree (kind_of error))
 
 -- what is answered where a regex is to be built under these settings
 pub record Builds (settings : Settings) (result : Result Expression Error) : Type 0 where
@@ -46,7 +46,7 @@ pub record Builds (settings : Settings) (result : Result Expression Error) : Typ
   -- and its pattern has a tree and passes no limit
   pub accepted : IfOk result (λ _. IsAccepted settings)
   -- what the error says is so
-  pub refused : IfErr result (λ error. IsRefusal settings error)
+  pub refused : IfErr result (λ error. IsDue settings error)
   -- where the pattern has a tree and passes no limit, only memory can be wanting
   pub complete : IfErr result (λ error. IsAccepted settings → error ≡ out_of_memory)
 

@@ -5,7 +5,7 @@ ghost use Rattle.regex_lite_syntax.specs.Tree.Regular.{IsRegular};
 ghost use Rattle.regex_lite_syntax.specs.Tree.Properties.{captures_len, group_name};
 ghost use Rattle.regex_lite_syntax.specs.Tree.Views.{text_of_string, tree_of};
 ghost use Rattle.regex_lite_engine.specs.Graph.Renumbered.{IsGraphOf, HasGroupsOf};
-ghost use Rattle.regex_lite_engine.specs.Graph.Size.{Fits, SaysOfTree};
+ghost use Rattle.regex_lite_engine.specs.Graph.Size.{Fits, IsDueToTree};
 ghost use Rattle.regex_lite_engine.specs.Graph.Stored.{LeadsBelow, place_of};
 ghost use Rattle.regex_lite_engine.specs.Nfa.Saturation.{AreCountsOf};
 
@@ -68,7 +68,7 @@ impl Graph {
         ensures groups { IfOk result (λ graph. HasGroupsOf (tree_of hir.now) graph) }
         ensures fits { IfOk result (λ _. Fits size_limit (tree_of hir.now)) }
         ensures refused { IfErr result
-            (λ error. SaysOfTree size_limit (tree_of hir.now) (kind_of error)) }
+            (λ error. IsDueToTree size_limit (tree_of hir.now) (kind_of error)) }
     {
         let counts = Counts::of(hir);
         let count = counts.within(size_limit)?;

@@ -1,4 +1,4 @@
--- The limits on nesting and on the number of groups, and what a refusal of a pattern says.
+-- The limits on nesting and on the number of groups, and when a refusal of a pattern is due.
 use Rattle.std.specs.Prelude.{◌⊎◌, ◌==◌, ◌+◌, ◌^◌, ◌<◌, ◌≤◌, max, ℕ, count_by}
 use Rattle.regex_lite_syntax.specs.declared.error.ErrorKind.{ErrorKind}
 use Rattle.regex_lite_syntax.specs.declared.error.ErrorKind.TheVariants.{Syntax, Nesting, Groups, Memory}
@@ -55,10 +55,10 @@ pub record GroupsRefused (flags : Flags) (pattern : Text) : Type 0 where
       → PassesGroups groups
   pub without : (HasTree flags pattern → ⊥) → PassesGroups (openings pattern)
 
--- what each kind of refusal says of the pattern. The want of memory says nothing
-abbrev pub SaysOf : Flags → (nest_limit : ℕ) → Text → ErrorKind → Type 0
-SaysOf flags nest_limit pattern Syntax = HasTree flags pattern → ⊥
-SaysOf flags nest_limit pattern Nesting = NestingRefused flags nest_limit pattern
-SaysOf flags nest_limit pattern Groups = GroupsRefused flags pattern
-SaysOf flags nest_limit pattern Memory = Unit {0}
-SaysOf flags nest_limit pattern _ = ⊥
+-- a refusal of this kind is due to the pattern. The want of memory is due to any
+abbrev pub IsDueToPattern : Flags → (nest_limit : ℕ) → Text → ErrorKind → Type 0
+IsDueToPattern flags nest_limit pattern Syntax = HasTree flags pattern → ⊥
+IsDueToPattern flags nest_limit pattern Nesting = NestingRefused flags nest_limit pattern
+IsDueToPattern flags nest_limit pattern Groups = GroupsRefused flags pattern
+IsDueToPattern flags nest_limit pattern Memory = Unit {0}
+IsDueToPattern flags nest_limit pattern _ = ⊥

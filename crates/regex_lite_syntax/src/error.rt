@@ -73,7 +73,8 @@ impl Model for Error {
 
     ghost inverse = { λ refusal. record { fault = fault_of refusal } };
 
-    ghost inverse_ok = { λ error _. ap (λ fault. record { fault = fault }) (fault_back error.fault) };
+    ghost inverse_ok = { λ error _.
+        ap (λ fault. record { fault = fault }) (fault_back error.fault) };
 }
 
 impl Error {

@@ -7,8 +7,9 @@
 ghost use Rattle.std.specs.Prelude.{◌≡◌, ◌<◌, ◌≤◌, ◌^◌, ◌↔◌, ◌≢◌, ◌∷◌, [], drop, length, chars, IsTrue, IfOk, IfErr, OnOk};
 ghost use Rattle.regex_lite_syntax.specs.Errors.{kind_of};
 ghost use Rattle.regex_lite_syntax.specs.Text.{Text};
+ghost use Rattle.regex_lite_syntax.specs.Characters.{AreCharacters};
 ghost use Rattle.regex_lite_syntax.specs.Grammar.Gaps.{EndsGap, WholeGap};
-ghost use Rattle.regex_lite_syntax.specs.Limits.{IsAdmitted, SaysOf, depth};
+ghost use Rattle.regex_lite_syntax.specs.Limits.{IsAdmitted, IsDueToPattern, depth};
 ghost use Rattle.regex_lite_syntax.specs.Tree.Regular.{IsRegular};
 ghost use Rattle.regex_lite_syntax.specs.Tree.Views.{tree_of};
 ghost use Rattle.regex_lite_syntax.specs.Parser.Machine.{first_state, BeginsAtom};
@@ -71,7 +72,7 @@ impl Hir {
             IsAdmitted config.flags config.nest_limit (chars pattern.now) (tree_of hir)) }
         ensures regular { IfOk result (λ hir. IsRegular (tree_of hir)) }
         ensures refused { IfErr result (λ error.
-            SaysOf config.flags config.nest_limit (chars pattern.now) (kind_of error)) }
+            IsDueToPattern config.flags config.nest_limit (chars pattern.now) (kind_of error)) }
     {
         let chars = characters(alloc, pattern)?;
         parse_chars(alloc, config, &chars)
@@ -87,11 +88,12 @@ fn characters(alloc: Global, pattern: &str) -> Result<Vec<char>, AllocError>
 
 /// The tree of the pattern with these characters.
 fn parse_chars(alloc: Global, config: Config, chars: &[char]) -> Result<Hir, Error>
+    requires { AreCharacters chars.now }
     ensures tree { IfOk result (λ hir.
         IsAdmitted config.flags config.nest_limit chars.now (tree_of hir)) }
     ensures regular { IfOk result (λ hir. IsRegular (tree_of hir)) }
     ensures refused { IfErr result (λ error.
-        SaysOf config.flags config.nest_limit chars.now (kind_of error)) }
+        IsDueToPattern config.flags config.nest_limit chars.now (kind_of error)) }
 {
     let mut parser = Parser::new(alloc, config.flags);
     let mut at = 0;

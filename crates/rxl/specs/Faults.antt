@@ -3,7 +3,7 @@ use Rattle.std.specs.Prelude.{ℕ, List, Option, IfSome, IsUtf8, codes}
 use Rattle.std.specs.Borrow.{Bor}
 use Rattle.regex_lite.specs.Errors.{text_of}
 use Rattle.regex_lite.specs.Settings.{default_settings}
-use Rattle.regex_lite.specs.Expression.{IsRefusal}
+use Rattle.regex_lite.specs.Expression.{IsDue}
 use Rattle.rxl.specs.Program.{AsksForMatch}
 use Rattle.rxl.specs.declared.fault.Fault.{Fault}
 use Rattle.rxl.specs.declared.fault.Fault.TheVariants.{Usage, NotUtf8, Unreadable, Refused}
@@ -20,7 +20,7 @@ abbrev pub IsPatternFault : Fault → (pattern : List ℕ) → (input : Option (
 IsPatternFault Usage pattern input = ⊥
 IsPatternFault NotUtf8 pattern input = IfSome input (λ bytes. IsUtf8 bytes → ⊥)
 IsPatternFault Unreadable pattern input = Unit {0}
-IsPatternFault (Refused error) pattern input = IsRefusal (default_settings pattern) error
+IsPatternFault (Refused error) pattern input = IsDue (default_settings pattern) error
 
 -- what the fault says is so whatever the pattern and the input are
 abbrev pub IsAnyFault : Fault → Type 0

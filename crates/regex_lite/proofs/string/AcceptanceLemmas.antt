@@ -6,7 +6,7 @@ use Rattle.regex_lite_syntax.specs.Tree.{Tree}
 use Rattle.regex_lite_syntax.specs.Errors.{Refusal, syntax_error, too_deep, too_many_groups, passed_limit, out_of_memory, refused_replacement}
 use Rattle.regex_lite_engine.specs.Graph.Size.{Fits}
 use Rattle.regex_lite.specs.Settings.{Settings}
-use Rattle.regex_lite.specs.Expression.{IsReadAs, IsAccepted, IsRefusal, Builds}
+use Rattle.regex_lite.specs.Expression.{IsReadAs, IsAccepted, IsDue, Builds}
 use Rattle.regex_lite.proofs.string.OneTreeLemmas.{one_tree}
 
 -- two trees that the pattern is read as are the same
@@ -21,7 +21,7 @@ pub fits_too : (settings : Settings) (a b : Tree) → IsReadAs settings a → Is
 fits_too settings a b p q fits =
     subst (λ tree. Fits settings.size_limit tree) (same_tree settings b a q p) fits
 
-for_memory : (settings : Settings) (error : Refusal) → IsRefusal settings error
+for_memory : (settings : Settings) (error : Refusal) → IsDue settings error
     → IsAccepted settings → error ≡ out_of_memory
 for_memory settings out_of_memory refused accepted = refl
 for_memory settings (syntax_error rule) (inl none) (tree, read, fits) =
@@ -49,7 +49,7 @@ for_memory settings refused_replacement (inl says) accepted = absurd says
 for_memory settings refused_replacement (inr (tree, read, says)) accepted = absurd says
 
 -- a refusal of which what it says is so
-pub builds_refused : (settings : Settings) (error : Error) → IsRefusal settings error
+pub builds_refused : (settings : Settings) (error : Error) → IsDue settings error
     → Builds settings (Err error)
 builds_refused settings error refused = record {
   ok = tt;

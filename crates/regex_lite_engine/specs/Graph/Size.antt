@@ -49,11 +49,11 @@ pub record Fits (size_limit : ℕ) (tree : Tree) : Type 0 where
   pub places_fit : whole_places tree < 2 ^ 32
   pub slots_fit : greatest_index tree < 2 ^ 31
 
--- what each kind of refusal says of a tree that is to be written out. The want of memory says
--- nothing
-abbrev pub SaysOfTree : (size_limit : ℕ) → Tree → ErrorKind → Type 0
-SaysOfTree size_limit tree Size = size_limit < size tree
-SaysOfTree size_limit tree Places = PassesPlaces tree
-SaysOfTree size_limit tree Slots = PassesSlots tree
-SaysOfTree size_limit tree Memory = Unit {0}
-SaysOfTree size_limit tree _ = ⊥
+-- a refusal of this kind is due to a tree that is to be written out. The want of memory is due to
+-- any
+abbrev pub IsDueToTree : (size_limit : ℕ) → Tree → ErrorKind → Type 0
+IsDueToTree size_limit tree Size = size_limit < size tree
+IsDueToTree size_limit tree Places = PassesPlaces tree
+IsDueToTree size_limit tree Slots = PassesSlots tree
+IsDueToTree size_limit tree Memory = Unit {0}
+IsDueToTree size_limit tree _ = ⊥

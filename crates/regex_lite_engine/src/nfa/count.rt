@@ -9,7 +9,7 @@ ghost use Rattle.regex_lite_syntax.specs.Tree.Regular.{IsRegular};
 ghost use Rattle.regex_lite_syntax.specs.Tree.{Tree, Trees, class, repetition, capture, concat, alternation, none, more, trees};
 ghost use Rattle.regex_lite_syntax.specs.Tree.Properties.{captures_len, static_captures_len};
 ghost use Rattle.regex_lite_syntax.specs.Tree.Views.{text_of_string, tree_of};
-ghost use Rattle.regex_lite_engine.specs.Graph.Size.{name_size, size, Fits, SaysOfTree};
+ghost use Rattle.regex_lite_engine.specs.Graph.Size.{name_size, size, Fits, IsDueToTree};
 ghost use Rattle.regex_lite_engine.specs.Graph.PlaceCounts.{whole_places, whole_arrows};
 ghost use Rattle.regex_lite_engine.specs.Nfa.Saturation.{saturated, AreCountsOf, AreSumsOf};
 
@@ -238,7 +238,7 @@ impl Counts {
         ensures ok { (tree : Tree) → AreCountsOf tree self.now
             → IfOk result (λ places. (places ≡ whole_places tree) × Fits size_limit tree) }
         ensures err { (tree : Tree) → AreCountsOf tree self.now
-            → IfErr result (λ fault. SaysOfTree size_limit tree (kind_of (passed_limit fault))) }
+            → IfErr result (λ fault. IsDueToTree size_limit tree (kind_of (passed_limit fault))) }
     {
         if self.size() > size_limit as u128 {
             return Err(LimitFault::Size);

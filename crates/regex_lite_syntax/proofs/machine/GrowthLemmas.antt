@@ -132,13 +132,13 @@ pub record Spends (s q : State) : Type 0 where
   pub groups_spend : q.point.groups + parens q.point.rest ≤ s.point.groups + parens s.point.rest
 
 -- a head takes one `(`, and numbers one group at most
-record TakesParen (p q : Point) : Type 0 where
-  opened : Text
-  opens : p.rest ≡ the "(" ∷ opened
-  reads : NoMore opened q.rest
-  numbers : q.groups ≤ p.groups + 1
+pub record TakesParen (p q : Point) : Type 0 where
+  pub opened : Text
+  pub opens : p.rest ≡ the "(" ∷ opened
+  pub reads : NoMore opened q.rest
+  pub numbers : q.groups ≤ p.groups + 1
 
-head_takes : {level : ℕ} {p q : Point} {kind : GroupKind} → Head level p q kind → TakesParen p q
+pub head_takes : {level : ℕ} {p q : Point} {kind : GroupKind} → Head level p q kind → TakesParen p q
 head_takes {p} (numbered r e none h k) =
     subst (λ x. TakesParen p x) (sym h)
     (record { opened = r; opens = e; reads = nothing_read refl; numbers = omega arith })
@@ -150,7 +150,7 @@ head_takes {p} (plain o f r new e g letters h k) =
     let reads = then_read question (then_read (letters_read letters) (past_first (the ":") r)) in
     subst (λ x. TakesParen p x) (sym h) (record { opened = o; opens = e; reads = reads; numbers = omega arith })
 
-directive_reads : {p q : Point} → Directive p q → NoMore p.rest q.rest
+pub directive_reads : {p q : Point} → Directive p q → NoMore p.rest q.rest
 directive_reads {p} (sets o f r new e g n letters h) =
     let question = gap_and_one p.flags.ignore_whitespace o f (the "?") g in
     let reads = then_read question (then_read (letters_read letters) (past_first (the ")") r)) in
@@ -159,7 +159,7 @@ directive_reads {p} (sets o f r new e g n letters h) =
 directive_numbers : {p q : Point} → Directive p q → q.groups ≡ p.groups
 directive_numbers (sets o f r new e g n letters h) = ap (λ (x : Point). x.groups) h
 
-past_gap_reads : {p q : Point} → PastGap p q → NoMore p.rest q.rest
+pub past_gap_reads : {p q : Point} → PastGap p q → NoMore p.rest q.rest
 past_gap_reads {p} {q} past = gap_reads p.flags.ignore_whitespace p.rest q.rest past.0
 
 -- where no group opens

@@ -1,11 +1,12 @@
--- Behind each part of a pattern are no more `(` than from its beginning on.
-use Rattle.std.proofs.Common.{inl, inr, ◌≡◌, refl, sym, ap, ℕ, zero, suc, ◌+◌, ◌≤◌, Bool, true, false, ◌==◌, List, [], ◌∷◌, ◌++◌, Option, if◌then◌else◌, arith}
+-- Behind each part of a pattern are no more `(` than from its beginning on, and no other characters.
+use Rattle.std.proofs.Common.{inl, inr, ◌≡◌, refl, sym, ap, subst, ℕ, zero, suc, ◌+◌, ◌≤◌, Bool, true, false, ◌==◌, List, [], ◌∷◌, ◌++◌, Option, if◌then◌else◌, arith}
 use Rattle.std.specs.List.{count_by}
 use Rattle.std.proofs.lemmas.List.Sums.{sum_by-cons}
 use Rattle.regex_lite_syntax.specs.declared.flags.Flags.{Flags}
 use Rattle.regex_lite_syntax.specs.declared.hir.look.Look.{Look}
 use Rattle.regex_lite_syntax.specs.NamedSets.{SetName}
 use Rattle.regex_lite_syntax.specs.Text.{Text, the}
+use Rattle.regex_lite_syntax.specs.Characters.{AreCharacters}
 use Rattle.regex_lite_syntax.specs.Grammar.Gaps.{Spacing, Gap, Spaced}
 use Rattle.regex_lite_syntax.proofs.grammar.ScanLemmas.{Scan, scan_of_spacing}
 use Rattle.regex_lite_syntax.specs.Sets.{Set}
@@ -28,18 +29,22 @@ parens_more c rest = sum_by-cons (λ d. if d == the "(" then 1 else 0) c rest
 pub one_paren : (rest : Text) → parens (the "(" ∷ rest) ≡ 1 + parens rest
 one_paren rest = parens_more (the "(") rest
 
--- the second text has no more `(` than the first
+-- the second text has no more `(` than the first, and characters alone where the first has
 pub record NoMore (t rest : Text) : Type 0 where
   pub within : parens rest ≤ parens t
+  pub characters : AreCharacters t → AreCharacters rest
 
 pub nothing_read : {t rest : Text} → t ≡ rest → NoMore t rest
-nothing_read {t} {rest} e = let same = ap parens e in record { within = omega (arith, same) }
+nothing_read {t} {rest} e =
+    let same = ap parens e in
+    record { within = omega (arith, same); characters = λ all. subst (λ u. AreCharacters u) e all }
 
 pub then_read : {t past rest : Text} → NoMore t past → NoMore past rest → NoMore t rest
-then_read a b = record { within = omega (arith, a.within, b.within) }
+then_read a b =
+    record { within = omega (arith, a.within, b.within); characters = λ all. b.characters (a.characters all) }
 
 pub past_first : (c : ℕ) (rest : Text) → NoMore (c ∷ rest) rest
-past_first c rest = record { within = omega (arith, parens_more c rest) }
+past_first c rest = record { within = omega (arith, parens_more c rest); characters = λ all. all.1 }
 
 pub one_read : {t rest : Text} {c : ℕ} → t ≡ c ∷ rest → NoMore t rest
 one_read {t} {rest} {c} e = then_read (nothing_read e) (past_first c rest)

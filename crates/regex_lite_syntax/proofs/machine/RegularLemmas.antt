@@ -1,11 +1,11 @@
--- The trees of patterns are regular: repetitions are in order, groups are numbered from 1, and lists
--- have two parts or more.
-use Rattle.std.proofs.Common.{◌≡◌, ◌≤◌, refl, sym, subst, arith, ℕ, zero, suc, Bool, true, false, ◌&&◌, List, [], ◌∷◌, ◌++◌, Option, Some, None, MatchBool, rules}
+-- The trees of patterns are regular: characters are Unicode scalar values, sets are given by their
+-- runs, repetitions are in order, groups are numbered from 1, and lists have two parts or more.
+use Rattle.std.proofs.Common.{◌≡◌, ◌≤◌, refl, sym, subst, arith, ℕ, zero, suc, Bool, true, false, ◌&&◌, List, [], ◌∷◌, ◌++◌, Option, Some, None, MatchBool, IsTrue, rules}
 use Rattle.regex_lite_syntax.specs.declared.flags.Flags.{Flags}
 use Rattle.regex_lite_syntax.specs.Text.{Text}
-use Rattle.regex_lite_syntax.specs.Characters.{is_letter}
+use Rattle.regex_lite_syntax.specs.Characters.{is_character, is_letter, AreCharacters}
 use Rattle.regex_lite_syntax.specs.Sets.{Set, just, case_closure}
-use Rattle.regex_lite_syntax.specs.Grammar.Escapes.{Primitive, one, some_of, look_at}
+use Rattle.regex_lite_syntax.specs.Grammar.Escapes.{Primitive, one, some_of, look_at, EscapeKind, gives, word_boundary, hexadecimal, refused, escape_kind, Hexadecimal, fixed, braced, EscapeFrom, Escape}
 use Rattle.regex_lite_syntax.specs.Tree.{Tree, character, trees, sequence_of, choice_of, repeated}
 use Rattle.regex_lite_syntax.specs.Grammar.Counted.{Counted}
 use Rattle.regex_lite_syntax.specs.Grammar.Operators.{times, Operator, uncounted, uncounted_lazy, counted, counted_lazy}
@@ -16,6 +16,8 @@ use Rattle.regex_lite_syntax.specs.Grammar.{Item, atom, group, Branch, nothing, 
 use Rattle.regex_lite_syntax.specs.Grammar.Branch.{operator}
 use Rattle.regex_lite_syntax.specs.Tree.Regular.{InOrder, IsRegular, AreRegular}
 use Rattle.regex_lite_syntax.proofs.grammar.CountLemmas.{counted_in_order}
+use Rattle.regex_lite_syntax.proofs.machine.ParenLemmas.{operator_reads, atom_reads}
+use Rattle.regex_lite_syntax.proofs.machine.GrowthLemmas.{head_takes, directive_reads, past_gap_reads}
 
 -- each of the trees is regular
 abbrev pub AllRegular : List Tree → Type 0
@@ -97,56 +99,128 @@ operator_in_order {flags} {least} {most} (counted_lazy opened past e k q g) =
     counts_in_order flags.ignore_whitespace opened past least most k
 
 class_regular : (s : Set) (a : Tree) → IsClassOf s a → IsRegular a
-class_regular s a c = subst (λ x. IsRegular x) (sym c.2) tt
+class_regular s a c = subst (λ x. IsRegular x) (sym c.2) c.1.runs
 
-one_regular : (c : ℕ) (folds : Bool) (a : Tree)
+one_regular : (c : ℕ) (folds : Bool) (a : Tree) → IsTrue (is_character c)
     → MatchBool folds (IsClassOf (case_closure (just c)) a) (a ≡ character c) → IsRegular a
-one_regular c true a of = class_regular (case_closure (just c)) a of
-one_regular c false a of = subst (λ x. IsRegular x) (sym of) tt
+one_regular c true a is of = class_regular (case_closure (just c)) a of
+one_regular c false a is of = subst (λ x. IsRegular x) (sym of) is
 
-piece_regular : (flags : Flags) (p : Primitive) (a : Tree) → PrimitiveTree flags p a → IsRegular a
-piece_regular flags (one c) a of = one_regular c (flags.case_insensitive && is_letter c) a of
-piece_regular flags (some_of s) a of = class_regular s a of
-piece_regular flags (look_at test) a of = subst (λ x. IsRegular x) (sym of) tt
+-- what a primitive names is a character
+abbrev Names : Primitive → Type 0
+Names (one c) = IsTrue (is_character c)
+Names (some_of s) = Unit {0}
+Names (look_at test) = Unit {0}
 
-atom_from_regular : (k : AtomKind) (flags : Flags) (t past rest : Text) (a : Tree) → AtomFrom k flags t past rest a
-    → IsRegular a
-atom_from_regular (single primitive) flags t past rest a d = piece_regular flags primitive a d.1
-atom_from_regular escape flags t past rest a d = piece_regular flags d.0 a d.2
-atom_from_regular bracketed flags t past rest a d = class_regular d.0 a d.2
-atom_from_regular no_atom flags t past rest a d = absurd d
+primitive_regular : (flags : Flags) (p : Primitive) (a : Tree) → Names p → PrimitiveTree flags p a → IsRegular a
+primitive_regular flags (one c) a is of = one_regular c (flags.case_insensitive && is_letter c) a is of
+primitive_regular flags (some_of s) a is of = class_regular s a of
+primitive_regular flags (look_at test) a is of = subst (λ x. IsRegular x) (sym of) tt
 
-pub atom_regular : (flags : Flags) (t rest : Text) (a : Tree) → Atom flags t rest a → IsRegular a
-atom_regular flags t rest a d = atom_from_regular (atom_kind flags d.first) flags t d.past_first rest a d.goes_on
+-- what an escape names is a character
+abbrev EscapeNames : EscapeKind → Type 0
+EscapeNames (gives p) = Names p
+EscapeNames word_boundary = Unit {0}
+EscapeNames (hexadecimal n) = Unit {0}
+EscapeNames refused = Unit {0}
+
+escape_kind_names : (c : ℕ) → IsTrue (is_character c) → EscapeNames (escape_kind c)
+escape_kind_names c is = search rules
+
+hexadecimal_names : {verbose : Bool} {n : ℕ} {t rest : Text} {c : ℕ} → Hexadecimal verbose n t rest c
+    → IsTrue (is_character c)
+hexadecimal_names (fixed d) = subst (λ c. IsTrue (is_character c)) (sym d.value) d.scalar
+hexadecimal_names (braced opened g d) = subst (λ c. IsTrue (is_character c)) (sym d.value) d.scalar
+
+escape_from_names : (k : EscapeKind) (verbose : Bool) (t rest : Text) (p : Primitive) → EscapeNames k
+    → EscapeFrom k verbose t rest p → Names p
+escape_from_names (gives q) verbose t rest p is d = subst (λ x. Names x) (sym d.1) is
+escape_from_names word_boundary verbose t rest p is d = subst (λ x. Names x) (sym d.2) tt
+escape_from_names (hexadecimal n) verbose t rest p is d =
+    subst (λ x. Names x) (sym d.2) (hexadecimal_names d.1)
+escape_from_names refused verbose t rest p is d = absurd d
+
+escape_names : (verbose : Bool) (t rest : Text) (p : Primitive) → AreCharacters t → Escape verbose t rest p → Names p
+escape_names verbose t rest p all d =
+    let first = (subst (λ u. AreCharacters u) d.begins all).0 in
+    escape_from_names (escape_kind d.first) verbose d.past_first rest p (escape_kind_names d.first first) d.goes_on
+
+-- what an item of one character names is a character
+abbrev AtomNames : AtomKind → Type 0
+AtomNames (single p) = Names p
+AtomNames escape = Unit {0}
+AtomNames bracketed = Unit {0}
+AtomNames no_atom = Unit {0}
+
+atom_kind_names : (flags : Flags) (c : ℕ) → IsTrue (is_character c) → AtomNames (atom_kind flags c)
+atom_kind_names flags c is = search rules
+
+atom_from_regular : (k : AtomKind) (flags : Flags) (t past rest : Text) (a : Tree) → AtomNames k → AreCharacters past
+    → AtomFrom k flags t past rest a → IsRegular a
+atom_from_regular (single p) flags t past rest a is all d = primitive_regular flags p a is d.1
+atom_from_regular escape flags t past rest a is all d =
+    primitive_regular flags d.0 a (escape_names flags.ignore_whitespace past rest d.0 all d.1) d.2
+atom_from_regular bracketed flags t past rest a is all d = class_regular d.0 a d.2
+atom_from_regular no_atom flags t past rest a is all d = absurd d
+
+pub atom_regular : (flags : Flags) (t rest : Text) (a : Tree) → AreCharacters t → Atom flags t rest a → IsRegular a
+atom_regular flags t rest a all d =
+    let split = subst (λ u. AreCharacters u) d.begins all in
+    atom_from_regular (atom_kind flags d.first) flags t d.past_first rest a (atom_kind_names flags d.first split.0)
+    split.1 d.goes_on
+
+-- the trees are regular, and what is left are characters
+abbrev RegularTo : List Tree → Point → Type 0
+RegularTo items q = AllRegular items × AreCharacters q.rest
 
 mutual
-  item_regular : {level : ℕ} {p q : Point} {a : Tree} → Item level p q a → IsRegular a
-  item_regular {p} {q} {a} (atom d e) = atom_regular p.flags p.rest q.rest a d
-  item_regular (group first last end kind branches rest head d past c e a_is) =
-      let inner = choice_regular branches (alternatives_regular d) in
-      subst (λ x. IsRegular x) (sym a_is) (group_regular kind (choice_of branches) (head_numbered head) inner)
+  item_regular : {level : ℕ} {p q : Point} {a : Tree} → Item level p q a → AreCharacters p.rest
+      → IsRegular a × AreCharacters q.rest
+  item_regular {p} {q} {a} (atom d e) all =
+      (atom_regular p.flags p.rest q.rest a all d, (atom_reads p.flags p.rest q.rest a d).characters all)
+  item_regular {q} (group first last end kind branches rest head d past c e a_is) all =
+      let opens = head_takes head in
+      let begun = opens.reads.characters (subst (λ u. AreCharacters u) opens.opens all).1 in
+      let inner = alternatives_regular d begun in
+      let closes = subst (λ u. AreCharacters u) c ((past_gap_reads past).characters inner.1) in
+      let whole = group_regular kind (choice_of branches) (head_numbered head) (choice_regular branches inner.0) in
+      (subst (λ x. IsRegular x) (sym a_is) whole, subst (λ (x : Point). AreCharacters x.rest) (sym e) closes.1)
 
-  branch_regular : {level : ℕ} {p q : Point} {items : List Tree} → Branch level p q items → AllRegular items
-  branch_regular (nothing e items_are) = subst (λ x. AllRegular x) (sym items_are) tt
-  branch_regular (item last here before a d past i items_are) =
-      subst (λ x. AllRegular x) (sym items_are) (all_with before a (branch_regular d) (item_regular i))
-  branch_regular (operator last here before a least most greedy d past o e items_are) =
-      let split = all_without before a (branch_regular d) in
-      let new = repeated_regular least most greedy a (operator_in_order o) split.1 in
-      subst (λ x. AllRegular x) (sym items_are) (all_with before _ split.0 new)
-  branch_regular (directive last here d past s) = branch_regular d
+  branch_regular : {level : ℕ} {p q : Point} {items : List Tree} → Branch level p q items → AreCharacters p.rest
+      → RegularTo items q
+  branch_regular {p} (nothing e items_are) all =
+      (subst (λ x. AllRegular x) (sym items_are) tt, subst (λ (x : Point). AreCharacters x.rest) e all)
+  branch_regular (item last here before a d past i items_are) all =
+      let first = branch_regular d all in
+      let new = item_regular i ((past_gap_reads past).characters first.1) in
+      (subst (λ x. AllRegular x) (sym items_are) (all_with before a first.0 new.0), new.1)
+  branch_regular (operator last here before a least most greedy d past o e items_are) all =
+      let first = branch_regular d all in
+      let split = all_without before a first.0 in
+      let new = repeated_regular least most greedy a (operator_in_order o) split.1 in (
+        subst (λ x. AllRegular x) (sym items_are) (all_with before _ split.0 new),
+        (operator_reads o).characters ((past_gap_reads past).characters first.1),
+      )
+  branch_regular (directive last here d past s) all =
+      let first = branch_regular d all in
+      (first.0, (directive_reads s).characters ((past_gap_reads past).characters first.1))
 
   alternatives_regular : {level : ℕ} {p q : Point} {branches : List Tree} → Alternatives level p q branches
-      → AllRegular branches
-  alternatives_regular (only items d branches_are) =
-      let one = sequence_regular items (branch_regular d) in
-      subst (λ x. AllRegular x) (sym branches_are) (one, tt)
-  alternatives_regular (further last here before items rest d past e b branches_are) =
-      let one = sequence_regular items (branch_regular b) in
-      subst (λ x. AllRegular x) (sym branches_are) (all_with before _ (alternatives_regular d) one)
+      → AreCharacters p.rest → RegularTo branches q
+  alternatives_regular (only items d branches_are) all =
+      let whole = branch_regular d all in
+      let one = sequence_regular items whole.0 in
+      (subst (λ x. AllRegular x) (sym branches_are) (one, tt), whole.1)
+  alternatives_regular (further last here before items rest d past e b branches_are) all =
+      let first = alternatives_regular d all in
+      let bar = subst (λ u. AreCharacters u) e ((past_gap_reads past).characters first.1) in
+      let new = branch_regular b bar.1 in
+      let one = sequence_regular items new.0 in
+      (subst (λ x. AllRegular x) (sym branches_are) (all_with before _ first.0 one), new.1)
 
--- each tree that the grammar gives is regular
-pub grammar_regular : (flags : Flags) (pattern : Text) (tree : Tree) (groups deepest : ℕ)
+-- each tree that the grammar gives a text of characters is regular
+pub grammar_regular : (flags : Flags) (pattern : Text) (tree : Tree) (groups deepest : ℕ) → AreCharacters pattern
     → Grammar flags pattern tree groups deepest → IsRegular tree
-grammar_regular flags pattern tree groups deepest g =
-    subst (λ x. IsRegular x) (sym g.tree_is) (choice_regular g.branches (alternatives_regular g.whole))
+grammar_regular flags pattern tree groups deepest all g =
+    subst (λ x. IsRegular x) (sym g.tree_is)
+    (choice_regular g.branches (alternatives_regular g.whole all).0)

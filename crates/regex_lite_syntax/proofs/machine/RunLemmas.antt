@@ -11,7 +11,7 @@ use Rattle.regex_lite_syntax.specs.Grammar.Gaps.{Gap, WholeGap}
 use Rattle.regex_lite_syntax.specs.Tree.{Tree}
 use Rattle.regex_lite_syntax.specs.Grammar.GroupNames.{NamesDiffer}
 use Rattle.regex_lite_syntax.specs.Grammar.{Grammar, HasTree}
-use Rattle.regex_lite_syntax.specs.Limits.{depth, IsAdmitted, SaysOf, PassesNesting, PassesGroups, NestingRefused, GroupsRefused}
+use Rattle.regex_lite_syntax.specs.Limits.{depth, IsAdmitted, IsDueToPattern, PassesNesting, PassesGroups, NestingRefused, GroupsRefused}
 use Rattle.regex_lite_syntax.specs.Tree.Regular.{IsRegular}
 use Rattle.regex_lite_syntax.specs.Tree.Views.{names_of}
 use Rattle.regex_lite_syntax.specs.Parser.Machine.{LeadsOn, first_state}
@@ -21,6 +21,7 @@ use Rattle.regex_lite_syntax.proofs.machine.OneStepLemmas.{step_over_gap, step_p
 use Rattle.regex_lite_syntax.proofs.machine.StateLemmas.{none_left}
 use Rattle.regex_lite_syntax.proofs.machine.SoundLemmas.{sound}
 use Rattle.regex_lite_syntax.proofs.machine.WholeLemmas.{refuses, grammar_once}
+use Rattle.regex_lite_syntax.proofs.machine.ParenLemmas.{AreCharacters}
 use Rattle.regex_lite_syntax.proofs.machine.RegularLemmas.{grammar_regular}
 use Rattle.regex_lite_syntax.proofs.machine.GrowthLemmas.{reaches, frames_in_parens, opens_number, more_parens}
 use Rattle.regex_lite_syntax.proofs.machine.DepthLemmas.{head_opens, step_deepest, frames_deep}
@@ -80,10 +81,11 @@ reaches_tree flags nest_limit pattern p t a r gap finishes =
 
 pub admitted : (flags : Flags) (nest_limit : ℕ) (pattern : Text) (p : Parser) (t : Text) (a : Tree)
     → Reaches flags nest_limit pattern p t → Gap p.here.flags.ignore_whitespace t [] → p.groups < 2 ^ 32
-    → Finishes p a → (nest_limit < depth a → ⊥) → IsAdmitted flags nest_limit pattern a × IsRegular a
+    → Finishes p a → (nest_limit < depth a → ⊥)
+    → IsAdmitted flags nest_limit pattern a × (AreCharacters pattern → IsRegular a)
 admitted flags nest_limit pattern p t a r gap few finishes shallow =
     let g = reaches_tree flags nest_limit pattern p t a r gap finishes in
-    ((p.groups, r.deepest, g, within, λ many. omega (arith, many, few)), grammar_regular flags pattern a p.groups r.deepest g)
+    ((p.groups, r.deepest, g, within, λ many. omega (arith, many, few)), λ all. grammar_regular flags pattern a p.groups r.deepest all g)
   where
     within : PassesNesting nest_limit a r.deepest → ⊥
     within (inl deep) = omega (arith, deep, r.within)
@@ -115,7 +117,7 @@ tree_refused flags nest_limit pattern a groups deepest g deep = record {
 
 pub end_says : (flags : Flags) (nest_limit : ℕ) (pattern : Text) (p : Parser) (t : Text) (k : ErrorKind)
     → Reaches flags nest_limit pattern p t → Gap p.here.flags.ignore_whitespace t [] → Refuses k (p.below.items ≢ []) (FinishesTooDeep p nest_limit) ⊥
-    → SaysOf flags nest_limit pattern k
+    → IsDueToPattern flags nest_limit pattern k
 end_says flags nest_limit pattern p t kind.Syntax r gap d = open_refused flags nest_limit pattern p t r gap d
 end_says flags nest_limit pattern p t kind.Nesting r gap d =
     let g = reaches_tree flags nest_limit pattern p t d.0 r gap d.1 in
@@ -158,7 +160,7 @@ number_refused flags nest_limit pattern p t u r whole many capture =
 
 pub step_says : (flags : Flags) (nest_limit : ℕ) (pattern : Text) (p : Parser) (t u : Text) (k : ErrorKind)
     → Reaches flags nest_limit pattern p t → WholeGap p.here.flags.ignore_whitespace t u → (u ≡ [] → ⊥)
-    → Refuses k (¬ CanRead p u) ⊥ (BeginsTooMany p u) → SaysOf flags nest_limit pattern k
+    → Refuses k (¬ CanRead p u) ⊥ (BeginsTooMany p u) → IsDueToPattern flags nest_limit pattern k
 step_says flags nest_limit pattern p t u kind.Syntax r whole more d =
     stuck_refused flags nest_limit pattern p t u r whole more d
 step_says flags nest_limit pattern p t u kind.Groups r whole more d =

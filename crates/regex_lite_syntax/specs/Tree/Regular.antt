@@ -1,5 +1,7 @@
 -- Trees as the grammar gives them.
-use Rattle.std.specs.Prelude.{◌≤◌, ℕ, Option, Some, None}
+use Rattle.std.specs.Prelude.{◌≤◌, ℕ, Option, Some, None, IsTrue}
+use Rattle.regex_lite_syntax.specs.Characters.{is_character}
+use Rattle.regex_lite_syntax.specs.Ranges.{AreRuns}
 use Rattle.regex_lite_syntax.specs.Tree.{Tree, Trees, empty, character, class, look, repetition, capture, concat, alternation, none, more}
 
 -- at most so many, where there is a limit
@@ -13,8 +15,9 @@ HasTwo none = ⊥
 HasTwo (more a none) = ⊥
 HasTwo (more a (more b rest)) = Unit {0}
 
--- a repetition's least number is at most its most, a group's index is at least 1, and a list has
--- two parts or more
+-- a character is a Unicode scalar value, a set is given by its maximal runs in order, a
+-- repetition's least number is at most its most, a group's index is at least 1, and a list has two
+-- parts or more
 abbrev mutual
   pub IsRegular : Tree → Type 0
   IsRegular (repetition least most greedy body) = InOrder least most × IsRegular body
@@ -22,8 +25,8 @@ abbrev mutual
   IsRegular (concat parts) = HasTwo parts × AreRegular parts
   IsRegular (alternation branches) = HasTwo branches × AreRegular branches
   IsRegular empty = Unit {0}
-  IsRegular (character c) = Unit {0}
-  IsRegular (class ranges) = Unit {0}
+  IsRegular (character c) = IsTrue (is_character c)
+  IsRegular (class ranges) = AreRuns 0 ranges
   IsRegular (look test) = Unit {0}
 
   pub AreRegular : Trees → Type 0

@@ -6,7 +6,7 @@ use Rattle.regex_lite_syntax.specs.Errors.{kind_of}
 use Rattle.regex_lite_syntax.specs.Refusals.{Refuses}
 use Rattle.regex_lite_syntax.specs.Text.{Text}
 use Rattle.regex_lite_syntax.specs.Grammar.Gaps.{Gap, WholeGap}
-use Rattle.regex_lite_syntax.specs.Limits.{IsAdmitted, SaysOf, depth}
+use Rattle.regex_lite_syntax.specs.Limits.{IsAdmitted, IsDueToPattern, depth}
 use Rattle.regex_lite_syntax.specs.Tree.Regular.{IsRegular}
 use Rattle.regex_lite_syntax.specs.Tree.Views.{names_of, tree_of}
 use Rattle.regex_lite_syntax.specs.Grammar.GroupNames.{NamesDiffer}
@@ -81,7 +81,7 @@ returns-then-here-chars-clause-regular c =
     (λ hir. Finishes p (tree_of hir) × (config.nest_limit < depth (tree_of hir) → ⊥))
     (λ hir. IsRegular (tree_of hir))
     (λ hir ok. (admitted config.flags config.nest_limit xs p t (tree_of hir) c.loop-parser.invariant.reaches gap
-    c.finish.ensures.groups ok.0 ok.1).1) c.finish.ensures.ok
+    c.finish.ensures.groups ok.0 ok.1).1 c.requires) c.finish.ensures.ok
 
 pub returns-then-here-chars-clause-refused : goal.returns-then-here-chars-clause-refused
 returns-then-here-chars-clause-refused c =
@@ -92,7 +92,7 @@ returns-then-here-chars-clause-refused c =
     let gap = gap_only xs c.skip_gap-here.result _ t c.if-here-chars.true c.skip_gap-here.ensures.gap in
     IfErr-weaker c.finish.result
     (λ e. Refuses (kind_of e) (p.below.items ≢ []) (FinishesTooDeep p config.nest_limit) ⊥)
-    (λ e. SaysOf config.flags config.nest_limit xs (kind_of e))
+    (λ e. IsDueToPattern config.flags config.nest_limit xs (kind_of e))
     (λ e. end_says config.flags config.nest_limit xs p t (kind_of e) c.loop-parser.invariant.reaches gap) c.finish.ensures.refused
 
 pub returns-in_err-at-clause-refused : goal.returns-in_err-at-clause-refused

@@ -2,7 +2,7 @@ use Rattle.std.proofs.Common.{inl, inr, refl}
 use Rattle.std.proofs.lemmas.Result.{err_from_is_err_and}
 use Rattle.regex_lite_syntax.specs.Errors.{kind_of}
 use Rattle.regex_lite_syntax.specs.Tree.Views.{tree_of}
-use Rattle.regex_lite_engine.specs.Graph.Size.{SaysOfTree}
+use Rattle.regex_lite_engine.specs.Graph.Size.{IsDueToTree}
 use Rattle.regex_lite.specs.Expression.{IsReadAs}
 use Rattle.regex_lite.proofs.string.AcceptanceLemmas.{builds_refused}
 use Rattle.regex_lite.proofs.string.builder.RegexBuilder.build.Goals as goal
@@ -18,7 +18,7 @@ returns-in_err-graph c =
     let left = err_from_is_err_and c.from_residual-in_err-graph.result c.from_residual-in_err-graph.ensures.1 in
     let read : IsReadAs c.args.self.now (tree_of c.in_ok-hir.hir) =
     rw (← c.self.view_is, ← c.as_str.ensures.value) c.in_ok-hir.ensures.tree in
-    let says : SaysOfTree c.args.self.now.size_limit (tree_of c.in_ok-hir.hir) (kind_of c.in_err-graph.field-0.0) =
+    let says : IsDueToTree c.args.self.now.size_limit (tree_of c.in_ok-hir.hir) (kind_of c.in_err-graph.field-0.0) =
     rw (← c.self.view_is) c.in_err-graph.ensures.refused in
     rw (left.1, left.2) (builds_refused c.args.self.now c.in_err-graph.field-0.0
     (inr (tree_of c.in_ok-hir.hir, read, says)))

@@ -1,0 +1,24 @@
+-- The characters of a text are Unicode scalar values.
+use Rattle.std.proofs.Common.{◌≡◌, refl, Bool, true, false, ◌&&◌, List, [], ◌∷◌, ℕ, chars, IsTrue, subst, arith}
+use Rattle.std.specs.Char.{IsScalar}
+use Rattle.std.specs.Str.{IsUtf8, all_scalars}
+use Rattle.std.proofs.lemmas.Bool.Decides.{nat_tests}
+use Rattle.std.proofs.lemmas.Str.{chars_from_encodes}
+use Rattle.regex_lite_syntax.specs.Characters.{is_character, AreCharacters}
+
+both : (a b : Bool) → (a && b) ≡ true → (a ≡ true) × (b ≡ true)
+both true b e = (refl, e)
+both false b e = cc e
+
+scalar_is : (c : ℕ) → IsScalar c → IsTrue (is_character c)
+scalar_is c is = grind (arith, nat_tests)
+
+scalars_are : (cs : List ℕ) → all_scalars cs ≡ true → AreCharacters cs
+scalars_are [] e = tt
+scalars_are (c ∷ cs) e =
+    let split = both _ _ e in
+    (scalar_is c split.0, scalars_are cs split.1)
+
+pub chars_are : (bs : List ℕ) → IsUtf8 bs → AreCharacters (chars bs)
+chars_are bs utf8 =
+    subst (λ t. AreCharacters t) (chars_from_encodes utf8.0 bs utf8 utf8.1.1) (scalars_are utf8.0 utf8.1.0)
