@@ -80,15 +80,34 @@ COUNTED = [
     ('1000 ranges{100}', ranges_in_order(1000) + '{100}'),
 ]
 
-# The shapes of the families, whose members are each 4 times as large as the one before.
+
+def named_groups(count):
+    """This many groups in a row, each with a name of its own."""
+    return ''.join(f'(?<n{number}>a)' for number in range(count))
+
+
+def by_four(least):
+    """Three sizes, each 4 times the one before."""
+    return least, 4 * least, 16 * least
+
+
+# From the smallest to the largest that the default size limit and an argument admit, roughly.
+BY_TEN = (100, 1_000, 10_000)
+
+# The families: a name, the shape of its members and their sizes.
 FAMILIES = [
-    ('words', words, 100),
-    ('ranges in order', ranges_in_order, 300),
-    ('ranges mixed', ranges_mixed, 300),
-    ('rows of 4 items', row, 50),
-    ('a{n}', lambda count: f'a{{{count}}}', 1000),
-    ('word{n}', lambda count: rf'\w{{{count}}}', 1000),
-    ('[a-z]{3,n}', lambda count: f'[a-z]{{3,{count}}}', 500),
-    ('3 branches{n}', lambda count: f'(?:a|b|cd){{{count}}}', 200),
-    ('40 ranges{n}', lambda count: ranges_in_order(40) + f'{{{count}}}', 400),
+    ('words', words, by_four(100)),
+    ('ranges in order', ranges_in_order, by_four(300)),
+    ('ranges mixed', ranges_mixed, by_four(300)),
+    ('rows of 4 items', row, by_four(50)),
+    ('a{n}', lambda count: f'a{{{count}}}', by_four(1000)),
+    ('word{n}', lambda count: rf'\w{{{count}}}', by_four(1000)),
+    ('[a-z]{3,n}', lambda count: f'[a-z]{{3,{count}}}', by_four(500)),
+    ('3 branches{n}', lambda count: f'(?:a|b|cd){{{count}}}', by_four(200)),
+    ('40 ranges{n}', lambda count: ranges_in_order(40) + f'{{{count}}}', by_four(400)),
+    ('named groups', named_groups, BY_TEN),
+    ('. in a row', lambda count: '.' * count, BY_TEN),
+    ('(?i)[a-z] in a row', lambda count: '(?i)' + '[a-z]' * count, BY_TEN),
+    ('[^a] in a row', lambda count: '[^a]' * count, BY_TEN),
+    ('word in a row', lambda count: r'\w' * count, BY_TEN),
 ]
