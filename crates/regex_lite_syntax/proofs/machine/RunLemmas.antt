@@ -1,6 +1,7 @@
 -- What the parser has come to says of the pattern.
 use Rattle.std.proofs.Common.{inl, inr, ◌≡◌, ◌≢◌, refl, sym, ◌∙◌, ap, subst, ℕ, ◌+◌, ◌^◌, ◌<◌, ◌≤◌, List, [], map, reverse, length, arith}
 use Rattle.std.proofs.lemmas.List.{length-reverse, length-map}
+use Rattle.regex_lite_syntax.specs.Characters.{AreCharacters}
 use Rattle.regex_lite_syntax.specs.declared.flags.Flags.{Flags}
 use Rattle.regex_lite_syntax.specs.declared.error.ErrorKind.{ErrorKind}
 use Rattle.regex_lite_syntax.specs.declared.error.ErrorKind.TheVariants as kind
@@ -21,7 +22,6 @@ use Rattle.regex_lite_syntax.proofs.machine.OneStepLemmas.{step_over_gap, step_p
 use Rattle.regex_lite_syntax.proofs.machine.StateLemmas.{none_left}
 use Rattle.regex_lite_syntax.proofs.machine.SoundLemmas.{sound}
 use Rattle.regex_lite_syntax.proofs.machine.WholeLemmas.{refuses, grammar_once}
-use Rattle.regex_lite_syntax.proofs.machine.ParenLemmas.{AreCharacters}
 use Rattle.regex_lite_syntax.proofs.machine.RegularLemmas.{grammar_regular}
 use Rattle.regex_lite_syntax.proofs.machine.GrowthLemmas.{reaches, frames_in_parens, opens_number, more_parens}
 use Rattle.regex_lite_syntax.proofs.machine.DepthLemmas.{head_opens, step_deepest, frames_deep}
