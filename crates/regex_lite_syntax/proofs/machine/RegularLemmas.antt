@@ -218,9 +218,9 @@ mutual
       let one = sequence_regular items new.0 in
       (subst (λ x. AllRegular x) (sym branches_are) (all_with before _ first.0 one), new.1)
 
--- each tree that the grammar gives a text of characters is regular
-pub grammar_regular : (flags : Flags) (pattern : Text) (tree : Tree) (groups deepest : ℕ) → AreCharacters pattern
+-- each tree that the grammar gives is regular
+pub grammar_regular : (flags : Flags) (pattern : Text) (tree : Tree) (groups deepest : ℕ)
     → Grammar flags pattern tree groups deepest → IsRegular tree
-grammar_regular flags pattern tree groups deepest all g =
+grammar_regular flags pattern tree groups deepest g =
     subst (λ x. IsRegular x) (sym g.tree_is)
-    (choice_regular g.branches (alternatives_regular g.whole all).0)
+    (choice_regular g.branches (alternatives_regular g.whole g.characters).0)

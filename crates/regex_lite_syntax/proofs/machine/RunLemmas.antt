@@ -32,6 +32,7 @@ pub record Reaches (flags : Flags) (nest_limit : ℕ) (pattern : Text) (p : Pars
   pub leads : LeadsOn (first_state flags pattern) (state p rest deepest)
   pub within : deepest ≤ nest_limit
   pub differ : NamesDiffer (names_of p.names.items)
+  pub characters : AreCharacters pattern
 
 -- as many frames as open groups
 frames_are : (p : Parser) (t : Text) (d : ℕ) → length (state p t d).frames ≡ length p.below.items
@@ -51,6 +52,7 @@ reaches_next flags nest_limit pattern p q t u v r whole reads shallow =
       leads = leads_step r.leads st;
       within = omega (arith, step_deepest st, frames_are q v next.0, shallow, r.within);
       differ = next.1.1 r.differ;
+      characters = r.characters;
     }
 
 -- where more groups are open than the limit
@@ -77,15 +79,15 @@ unfolding state
 reaches_tree flags nest_limit pattern p t a r gap finishes =
     let f = finishes t r.deepest in
     let s = state p t r.deepest in
-    subst (λ b. Grammar flags pattern b p.groups r.deepest) (sym f.1) (sound flags pattern s r.leads f.0 gap r.differ)
+    subst (λ b. Grammar flags pattern b p.groups r.deepest) (sym f.1) (sound flags pattern s r.leads f.0 gap r.differ r.characters)
 
 pub admitted : (flags : Flags) (nest_limit : ℕ) (pattern : Text) (p : Parser) (t : Text) (a : Tree)
     → Reaches flags nest_limit pattern p t → Gap p.here.flags.ignore_whitespace t [] → p.groups < 2 ^ 32
     → Finishes p a → (nest_limit < depth a → ⊥)
-    → IsAdmitted flags nest_limit pattern a × (AreCharacters pattern → IsRegular a)
+    → IsAdmitted flags nest_limit pattern a × IsRegular a
 admitted flags nest_limit pattern p t a r gap few finishes shallow =
     let g = reaches_tree flags nest_limit pattern p t a r gap finishes in
-    ((p.groups, r.deepest, g, within, λ many. omega (arith, many, few)), λ all. grammar_regular flags pattern a p.groups r.deepest all g)
+    ((p.groups, r.deepest, g, within, λ many. omega (arith, many, few)), grammar_regular flags pattern a p.groups r.deepest g)
   where
     within : PassesNesting nest_limit a r.deepest → ⊥
     within (inl deep) = omega (arith, deep, r.within)

@@ -1,6 +1,7 @@
 -- What the machine runs, the grammar derives.
 use Rattle.std.proofs.Common.{inl, inr, ◌≡◌, refl, sym, ap, subst, ℕ, Bool, length, List, [], ◌∷◌, ◌++◌, Option, add-one}
 use Rattle.regex_lite_syntax.specs.declared.flags.Flags.{Flags}
+use Rattle.regex_lite_syntax.specs.Characters.{AreCharacters}
 use Rattle.regex_lite_syntax.specs.Text.{Text, the}
 use Rattle.regex_lite_syntax.specs.Grammar.Gaps.{Gap}
 use Rattle.regex_lite_syntax.specs.Tree.{Tree, sequence_of, choice_of, repeated}
@@ -122,15 +123,16 @@ stands_first flags pattern =
 
 -- a run to where only a gap is left, with no group open and no name twice, gives the pattern its tree
 pub sound : (flags : Flags) (pattern : Text) (s : State) → LeadsOn (first_state flags pattern) s → s.frames ≡ []
-    → Gap s.point.flags.ignore_whitespace s.point.rest [] → NamesDiffer s.point.names
+    → Gap s.point.flags.ignore_whitespace s.point.rest [] → NamesDiffer s.point.names → AreCharacters pattern
     → Grammar flags pattern (choice_of (ended s)) s.point.groups s.point.deepest
-sound flags pattern s l outermost g differ =
+sound flags pattern s l outermost g differ characters =
     let begin = start flags pattern in
     let h = leads_keeps (stands_first flags pattern) l in
     let from_is = subst (λ x. Stacked begin x h.from) outermost h.below in
     let here = subst (λ x. Partial (length x) h.from s.point s.branches s.items) outermost h.here in
     let all = all_of 0 h.from s.point s.branches s.items here in
     record {
+      characters = characters;
       last = s.point;
       branches = ended s;
       whole = subst (λ x. Alternatives 0 x s.point (ended s)) from_is all;

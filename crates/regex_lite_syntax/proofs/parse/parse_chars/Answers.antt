@@ -25,6 +25,7 @@ loop-parser-init c = record {
     leads = stay (sym (c.new-parser.ensures.state c.args.chars.now));
     within = omega arith;
     differ = subst (λ names. NamesDiffer (names_of names)) (sym c.new-parser.ensures.names) no_names_differ;
+    characters = c.requires;
   };
 }
 
@@ -81,7 +82,7 @@ returns-then-here-chars-clause-regular c =
     (λ hir. Finishes p (tree_of hir) × (config.nest_limit < depth (tree_of hir) → ⊥))
     (λ hir. IsRegular (tree_of hir))
     (λ hir ok. (admitted config.flags config.nest_limit xs p t (tree_of hir) c.loop-parser.invariant.reaches gap
-    c.finish.ensures.groups ok.0 ok.1).1 c.requires) c.finish.ensures.ok
+    c.finish.ensures.groups ok.0 ok.1).1) c.finish.ensures.ok
 
 pub returns-then-here-chars-clause-refused : goal.returns-then-here-chars-clause-refused
 returns-then-here-chars-clause-refused c =
