@@ -6,9 +6,10 @@ use Rattle.regex_lite_syntax.specs.Text.{Text, Begins, the}
 use Rattle.regex_lite_syntax.specs.Characters.{is_hex_digit, number_of}
 use Rattle.regex_lite_syntax.specs.Grammar.Gaps.{Gap, WholeGap, Spaced}
 use Rattle.regex_lite_syntax.specs.Grammar.Escapes.{Primitive, one, look_at, EscapeKind, gives, word_boundary, hexadecimal, refused, escape_kind, FixedDigits, BracedDigits, Hexadecimal, fixed, braced, is_boundary_character, boundary_named, BoundaryName, BeginsCount, WordBoundary, alone, before_count, named, EscapeFrom, Escape}
+use Rattle.regex_lite_syntax.specs.Parser.ClassReadings.{Lacks}
 use Rattle.regex_lite_syntax.proofs.ListLemmas.{same_head, same_tail}
 use Rattle.regex_lite_syntax.proofs.grammar.GapLemmas.{gap_once}
-use Rattle.regex_lite_syntax.proofs.grammar.SpacedLemmas.{Lacks, printed_ends, hex_digits_end, boundary_characters_end, not_spaced, whole_gap_leads, spaced_once, spaced_to_brace_once}
+use Rattle.regex_lite_syntax.proofs.grammar.SpacedLemmas.{printed_ends, hex_digits_end, boundary_characters_end, not_spaced, whole_gap_leads, spaced_once, spaced_to_brace_once}
 
 -- where a digit stands past a gap, no brace opens past one
 digit_or_brace : (verbose : Bool) (digits t rest opened : Text) → 0 < length digits

@@ -5,6 +5,7 @@ use Rattle.regex_lite_syntax.specs.Text.{Text, Begins, the}
 use Rattle.regex_lite_syntax.specs.Characters.{is_white_space, is_between, is_letter, is_hex_digit}
 use Rattle.regex_lite_syntax.specs.Grammar.Gaps.{Gap, EndsGap, WholeGap, Spaced}
 use Rattle.regex_lite_syntax.specs.Grammar.Escapes.{is_boundary_character}
+use Rattle.regex_lite_syntax.specs.Parser.ClassReadings.{Lacks}
 use Rattle.regex_lite_syntax.proofs.ListLemmas.{same_head, same_tail}
 use Rattle.regex_lite_syntax.proofs.grammar.GapLemmas.{ends_any, gap_once, whole_gap_once}
 
@@ -104,11 +105,6 @@ spaced_to_brace_once verbose kind (c ∷ cs) (d ∷ ds) t last last' r s ends ot
     let rest = spaced_to_brace_once verbose kind cs ds a.0 last last' r s ends other a.3 g
     (subst (λ u. Spaced verbose kind ds u last') (sym (same_tail first)) b.3) h in
     (cc (same_head first, rest.0), rest.1)
-
--- no character of the kind stands there
-abbrev pub Lacks : (kind : ℕ → Bool) → Text → Type 0
-Lacks kind [] = Unit {0}
-Lacks kind (c ∷ t) = kind c ≡ false
 
 -- past the whole gap stands the first of the characters
 pub next_spaced : (verbose : Bool) (kind : ℕ → Bool) (c d : ℕ) (ds t u past last : Text) → EndsGaps kind

@@ -6,8 +6,9 @@ use Rattle.regex_lite_syntax.specs.Text.{Text, Begins, the}
 use Rattle.regex_lite_syntax.specs.Characters.{is_character, is_hex_digit, digit_value}
 use Rattle.regex_lite_syntax.specs.Grammar.Gaps.{Gap, WholeGap, Spaced}
 use Rattle.regex_lite_syntax.specs.Grammar.Escapes.{FixedDigits}
+use Rattle.regex_lite_syntax.specs.Parser.ClassReadings.{Lacks}
 use Rattle.regex_lite_syntax.proofs.ListLemmas.{same_head}
-use Rattle.regex_lite_syntax.proofs.grammar.SpacedLemmas.{Lacks, hex_digits_end, brace_past, next_spaced, not_spaced}
+use Rattle.regex_lite_syntax.proofs.grammar.SpacedLemmas.{hex_digits_end, brace_past, next_spaced, not_spaced}
 
 -- past the gap stands a digit of this value
 pub record DigitAt (verbose : Bool) (t past : Text) (v : ℕ) : Type 0 where

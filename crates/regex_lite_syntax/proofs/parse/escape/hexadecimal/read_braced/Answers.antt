@@ -1,7 +1,7 @@
 use Rattle.std.proofs.Common.{sym, ap, subst, arith}
 use Rattle.regex_lite_syntax.specs.Text.{Begins, the}
 use Rattle.regex_lite_syntax.specs.Characters.{is_hex_digit}
-use Rattle.regex_lite_syntax.proofs.grammar.SpacedLemmas.{Lacks}
+use Rattle.regex_lite_syntax.specs.Parser.ClassReadings.{Lacks}
 use Rattle.regex_lite_syntax.proofs.parse.escape.DigitLemmas.{digit_at, braced_after, braced_before, braced_scalar, braced_stuck, braced_too_large, no_character}
 use Rattle.regex_lite_syntax.proofs.parse.escape.hexadecimal.read_braced.Goals as goal
 

@@ -1,6 +1,6 @@
 use Rattle.std.proofs.Common.{sym, subst, arith}
 use Rattle.regex_lite_syntax.specs.Characters.{is_hex_digit}
-use Rattle.regex_lite_syntax.proofs.grammar.SpacedLemmas.{Lacks}
+use Rattle.regex_lite_syntax.specs.Parser.ClassReadings.{Lacks}
 use Rattle.regex_lite_syntax.proofs.parse.escape.DigitLemmas.{digit_at, fixed_after, fixed_before, fixed_scalar, fixed_stuck, fixed_too_large, no_character}
 use Rattle.regex_lite_syntax.proofs.parse.escape.hexadecimal.read_fixed.Goals as goal
 

@@ -2,7 +2,7 @@ use Rattle.std.proofs.Common.{sym, subst}
 use Rattle.std.proofs.lemmas.Result.{IfOk-weaker}
 use Rattle.regex_lite_syntax.specs.Text.{Begins, the}
 use Rattle.regex_lite_syntax.specs.Characters.{is_hex_digit}
-use Rattle.regex_lite_syntax.proofs.grammar.SpacedLemmas.{Lacks}
+use Rattle.regex_lite_syntax.specs.Parser.ClassReadings.{Lacks}
 use Rattle.regex_lite_syntax.proofs.parse.escape.DigitLemmas.{no_fixed}
 use Rattle.regex_lite_syntax.proofs.grammar.EscapeLemmas.{from_braces, in_braces, without_braces}
 use Rattle.regex_lite_syntax.proofs.parse.DenialLemmas.{none_of_part}
