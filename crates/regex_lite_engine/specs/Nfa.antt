@@ -1,4 +1,3 @@
 -- What the functions that write a graph promise one another.
 pub mod Saturation
-pub mod AsciiMaps
 pub mod Layout

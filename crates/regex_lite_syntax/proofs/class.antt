@@ -1,4 +1,5 @@
 -- lemmas that several proofs here share
+pub mod AsciiMapLemmas
 pub mod BetweenRangeLemmas
 pub mod JoinedRangeLemmas
 pub mod RangeSearchLemmas

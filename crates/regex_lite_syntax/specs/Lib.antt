@@ -4,6 +4,7 @@ pub mod Text
 pub mod Characters
 pub mod Sets
 pub mod Ranges
+pub mod AsciiMaps
 pub mod NamedSets
 pub mod Tree
 pub mod Grammar

@@ -1,9 +1,11 @@
 //! Sets of characters.
 ghost use Rattle.std.specs.Prelude.{◌≡◌, IfOk};
+ghost use Rattle.regex_lite_syntax.specs.AsciiMaps.{AreMapOf};
 ghost use Rattle.regex_lite_syntax.specs.Sets.{complement};
 ghost use Rattle.regex_lite_syntax.specs.Ranges.{in_ranges, AreRuns, AreRunsOf};
 ghost use Rattle.regex_lite_syntax.specs.Parser.Readings.{named_or_not};
 
+mod ascii;
 pub(crate) mod letters;
 pub(crate) mod named;
 mod neighbours;
@@ -11,6 +13,7 @@ mod runs;
 #[cfg(test)]
 mod tests;
 
+use ascii::map_of_ranges;
 use named::NamedSet;
 use neighbours::{next_char, previous_char};
 use runs::{append_between, join_all};
@@ -28,22 +31,34 @@ pub struct ClassRange {
 /// sets have equal ranges.
 #[derive(Debug, Drop)]
 pub struct Class {
-    pub(crate) ranges: Vec<ClassRange>,
+    ranges: Vec<ClassRange>,
+    // Two words, since a `u128` would be aligned to 16 bytes, in the places of a graph too.
+    ascii: [u64; 2],
 }
 
 impl Model for Class {
     ghost use Rattle.std.specs.Prelude.{List};
     ghost use Rattle.regex_lite_syntax.specs.declared.class.ClassRange.{ClassRange};
-    ghost use Rattle.regex_lite_syntax.specs.Ranges.{AreRuns};
+    ghost use Rattle.regex_lite_syntax.specs.AsciiMaps.{AreMappedRuns};
 
     ghost Value = { List ClassRange };
 
     ghost view = { λ class. class.ranges.items };
 
-    ghost invariant = { λ class. AreRuns 0 class.ranges.items };
+    ghost invariant = { λ class. AreMappedRuns class.ranges.items class.ascii };
 }
 
 impl Class {
+    /// The set with these maximal runs.
+    pub(crate) fn of_runs(ranges: Vec<ClassRange>) -> Class
+        requires { AreRuns 0 ranges.items }
+        ensures { result ≡ ranges.items }
+    {
+        let map = map_of_ranges(&ranges);
+        let ascii = [(map % (1 << 64)) as u64, (map >> 64) as u64];
+        Class { ranges, ascii }
+    }
+
     /// The characters that stand in some of these ranges.
     pub(crate) fn new(mut ranges: Vec<ClassRange>) -> Class
         ensures { AreRunsOf result (in_ranges ranges.items) }
@@ -51,7 +66,7 @@ impl Class {
         ranges.sort_unstable_by_key(|range| range.start);
         let runs = join_all(&mut ranges);
         ranges.truncate(runs);
-        Class { ranges }
+        Class::of_runs(ranges)
     }
 
     /// The set with this name, or all other characters.
@@ -60,7 +75,7 @@ impl Class {
             (named_or_not set negated)) }
     {
         let ranges = set.ranges(alloc)?;
-        let class = Class { ranges };
+        let class = Class::of_runs(ranges);
         if negated {
             class.negate(alloc)
         } else {
@@ -80,7 +95,7 @@ impl Class {
             start = next_char(range.end);
         }
         append_between(&mut gaps, start, Some(char::MAX))?;
-        Ok(Class { ranges: gaps })
+        Ok(Class::of_runs(gaps))
     }
 
     /// Whether the set holds the character.
@@ -89,6 +104,13 @@ impl Class {
     {
         let at = self.ranges.partition_point(|range| range.end < c);
         at < self.ranges.len() && self.ranges[at].start <= c
+    }
+
+    /// The ASCII characters of the set: a bit for each, the lowest 64 in the first word.
+    pub fn ascii(&self) -> [u64; 2]
+        ensures { AreMapOf result (in_ranges self.now) }
+    {
+        self.ascii
     }
 
     /// The maximal runs of the set, in order.

@@ -114,7 +114,7 @@ fn both_cases(alloc: Global, letter: char) -> Result<Class, AllocError>
     let upper = only(letter.to_ascii_uppercase());
     let lower = only(letter.to_ascii_lowercase());
     let ranges = vec![in alloc; upper, lower]?;
-    Ok(Class { ranges })
+    Ok(Class::of_runs(ranges))
 }
 
 /// The tree of what an escape gives.

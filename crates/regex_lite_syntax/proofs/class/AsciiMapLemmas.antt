@@ -11,7 +11,7 @@ use Rattle.regex_lite_syntax.specs.declared.class.ClassRange.{ClassRange}
 use Rattle.regex_lite_syntax.specs.Sets.{span}
 use Rattle.regex_lite_syntax.specs.Ranges.{in_ranges, next_character, AreRuns}
 use Rattle.regex_lite_syntax.proofs.RangeLemmas.{next_above, runs_from}
-use Rattle.regex_lite_engine.specs.Nfa.AsciiMaps.{bit_of_words}
+use Rattle.regex_lite_syntax.specs.AsciiMaps.{bit_of_words}
 
 -- `MAX << start & MAX >> (127 - end)` has the ones from the start to the end
 pub bits_between : (start end c : ℕ) → start < 128 → end < 128 → c < 128

@@ -1,7 +1,7 @@
 use Rattle.std.proofs.Common.{◌<◌, arith}
 use Rattle.std.proofs.lemmas.Bool.Decides.{nat_tests}
-use Rattle.regex_lite_engine.proofs.nfa.class.AsciiMapLemmas.{bits_between}
-use Rattle.regex_lite_engine.proofs.nfa.class.map_of_range.Goals as goal
+use Rattle.regex_lite_syntax.proofs.class.AsciiMapLemmas.{bits_between}
+use Rattle.regex_lite_syntax.proofs.class.ascii.map_of_range.Goals as goal
 
 pub returns : goal.returns
 returns c d within =

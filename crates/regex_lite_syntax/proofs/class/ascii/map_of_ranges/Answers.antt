@@ -1,8 +1,8 @@
 use Rattle.std.proofs.Common.{◌<◌, ◌∙◌, sym, length, get_or}
 use Rattle.regex_lite_syntax.specs.declared.class.ClassRange.{ClassRange}
 use Rattle.regex_lite_syntax.proofs.RangeLemmas.{in_ranges_more}
-use Rattle.regex_lite_engine.proofs.nfa.class.AsciiMapLemmas.{bits_of_either, held_before, past_ascii}
-use Rattle.regex_lite_engine.proofs.nfa.class.map_of_ranges.Goals as goal
+use Rattle.regex_lite_syntax.proofs.class.AsciiMapLemmas.{bits_of_either, held_before, past_ascii}
+use Rattle.regex_lite_syntax.proofs.class.ascii.map_of_ranges.Goals as goal
 
 pub loop-range-preserved : goal.loop-range-preserved
 loop-range-preserved c d within =

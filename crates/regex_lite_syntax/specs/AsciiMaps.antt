@@ -1,7 +1,9 @@
 -- Maps of ASCII characters: a bit for each, in a number or in two words of it.
 use Rattle.std.specs.Prelude.{◌≡◌, ℕ, ◌/◌, ◌%◌, ◌<◌, ◌==◌, List, slice_index}
 use Rattle.std.specs.Int.{bit_at}
+use Rattle.regex_lite_syntax.specs.declared.class.ClassRange.{ClassRange}
 use Rattle.regex_lite_syntax.specs.Sets.{Set}
+use Rattle.regex_lite_syntax.specs.Ranges.{in_ranges, AreRuns}
 
 -- the bit of an ASCII character tells whether the set holds it
 abbrev pub TellsOf : (bit : ℕ → ℕ) → Set → Type 0
@@ -18,3 +20,8 @@ IsMapOf map = TellsOf (bit_at map)
 -- the words are a map of the set
 abbrev pub AreMapOf : List ℕ → Set → Type 0
 AreMapOf words = TellsOf (bit_of_words words)
+
+-- the ranges are maximal runs in order, and the words a map of them
+pub record AreMappedRuns (ranges : List ClassRange) (words : List ℕ) : Type 0 where
+  pub runs : AreRuns 0 ranges
+  pub ascii : AreMapOf words (in_ranges ranges)

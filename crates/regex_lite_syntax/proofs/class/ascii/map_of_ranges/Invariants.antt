@@ -1,7 +1,7 @@
 use Rattle.std.proofs.Common.{take}
 use Rattle.regex_lite_syntax.specs.Ranges.{in_ranges}
-use Rattle.regex_lite_engine.specs.Nfa.AsciiMaps.{IsMapOf}
-use Rattle.regex_lite_engine.proofs.nfa.class.map_of_ranges.Given as goal
+use Rattle.regex_lite_syntax.specs.AsciiMaps.{IsMapOf}
+use Rattle.regex_lite_syntax.proofs.class.ascii.map_of_ranges.Given as goal
 
 abbrev pub invariant-loop-range : goal.invariant-loop-range
 invariant-loop-range l = IsMapOf l.map (in_ranges (take l.range-index l.ranges))

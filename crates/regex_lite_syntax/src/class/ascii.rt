@@ -1,0 +1,37 @@
+//! The ASCII characters of a set as a map: a bit for each.
+ghost use Rattle.std.specs.Prelude.{◌≡◌};
+ghost use Rattle.regex_lite_syntax.specs.AsciiMaps.{IsMapOf};
+ghost use Rattle.regex_lite_syntax.specs.Sets.{span};
+ghost use Rattle.regex_lite_syntax.specs.Ranges.{in_ranges, AreRuns};
+
+use super::ClassRange;
+
+const LAST_ASCII: char = '\x7F';
+
+/// The ASCII characters of the ranges, which are in order, as a map.
+pub(crate) fn map_of_ranges(ranges: &[ClassRange]) -> u128
+    requires { AreRuns 0 ranges.now }
+    ensures { IsMapOf result (in_ranges ranges.now) }
+{
+    let mut map = 0;
+    for range in ranges {
+        if !range.start.is_ascii() {
+            break;
+        }
+        map |= map_of_range(*range);
+    }
+    map
+}
+
+/// The ASCII characters of the range, as a map.
+fn map_of_range(range: ClassRange) -> u128
+    ensures { IsMapOf result (span range.start range.end) }
+{
+    if !range.start.is_ascii() {
+        return 0;
+    }
+    let end = range.end.min(LAST_ASCII);
+    let from_start = u128::MAX << range.start as u32;
+    let to_end = u128::MAX >> (LAST_ASCII as u32 - end as u32);
+    from_start & to_end
+}
