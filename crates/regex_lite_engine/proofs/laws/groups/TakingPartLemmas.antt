@@ -1,5 +1,5 @@
 -- At least the static number of groups take part in a match.
-use Rattle.std.proofs.Common.{◌≡◌, ◌≤◌, ◌<◌, ◌⊎◌, inl, inr, refl, sym, ap, subst, ◌∙◌, ℕ, zero, suc, ◌+◌, ◌-◌, ◌*◌, ◌==◌, max, Bool, true, false, Option, Some, None, is_some, if◌then◌else◌, arith}
+use Rattle.std.proofs.Common.{◌≡◌, ◌≤◌, ◌<◌, inl, inr, refl, sym, ap, subst, ◌∙◌, ℕ, zero, suc, ◌+◌, ◌-◌, ◌*◌, ◌==◌, max, Bool, true, false, Option, Some, None, is_some, if◌then◌else◌, arith}
 use Rattle.std.proofs.lemmas.Bool.Decides.{nat_tests}
 use Rattle.regex_lite_syntax.specs.Text.{Text}
 use Rattle.regex_lite_syntax.specs.Tree.{Tree, Trees, empty, character, class, look, repetition, capture, concat, alternation, none, more}
@@ -55,7 +55,7 @@ module _ (haystack : Text) where
       → least ≤ n → MarkedPasses Pass n i j marks
       → Enough above (in_passes least groups) greatest marks
   in_all_passes zero n i j above groups greatest marks Pass enough low made m count e high =
-      let zero_ = none_needed groups m e in omega (arith, zero_)
+      let none_known = none_needed groups m e in omega (arith, none_known)
   in_all_passes (suc least) zero i j above groups greatest marks Pass enough low made m count e
       high = absurd (omega (arith, low))
   in_all_passes (suc least) (suc n) i j above groups greatest marks Pass enough low
