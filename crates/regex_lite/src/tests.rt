@@ -22,6 +22,9 @@ use crate::{Error, ErrorKind, Regex};
 use std::process::Abort;
 use std::test::Fail;
 
+/// The text of a refusal by the size limit.
+const TOO_LARGE: &str = "compiled regex exceeded size limit";
+
 /// A pattern, a haystack, and whether the one matches in the other.
 type Row = (&'static str, &'static str, bool);
 

@@ -62,8 +62,8 @@ impl Regex {
         self.compiled.graph.places()
     }
 
-    /// How many arrows lead from place to place in the pattern written out. They are fewer than twice
-    /// the places.
+    /// How many arrows lead from place to place in the pattern written out. They are fewer than
+    /// twice the places.
     pub fn arrows(&self) -> usize
         ensures counted { OfTree self.now (λ tree. result ≡ whole_arrows tree) }
         ensures bounded { result < 2 ^ 33 }

@@ -1,8 +1,8 @@
 //! The builder's setters do what the flags in a pattern do.
 //!
-//! Which operators are greedy shows in no answer yet, so `swap_greed` has no row here. What the flag
-//! `U` does to a tree is tested in `regex_lite_syntax`, and that the setter sets the flag is its
-//! clause.
+//! Which operators are greedy shows in no answer yet, so `swap_greed` has no row here. What the
+//! flag `U` does to a tree is tested in `regex_lite_syntax`, and that the setter sets the flag is
+//! its clause.
 use crate::{Error, Regex, RegexBuilder};
 use std::test::Fail;
 

@@ -1,7 +1,7 @@
 //! The size limit, by patterns whose sizes are those of the Rust crate.
 mod rows;
 
-use crate::tests::expect_refusal;
+use crate::tests::{TOO_LARGE, expect_refusal};
 use crate::{Error, ErrorKind, Regex, RegexBuilder};
 use std::alloc::Global;
 use std::process::Abort;
@@ -9,8 +9,6 @@ use std::test::Fail;
 
 /// A pattern and its size, which is the least limit under which it is accepted.
 type Row = (&'static str, usize);
-
-const TOO_LARGE: &str = "compiled regex exceeded size limit";
 
 /// The regex of a pattern under a size limit.
 fn build_within(alloc: Global, pattern: &str, limit: usize) -> Result<Regex, Error> {

@@ -1,7 +1,7 @@
 //! Patterns written out: their places, arrows and sizes, and what they say of their groups.
 ghost use Rattle.std.specs.Prelude.{◌+◌, ◌^◌, ◌<◌};
 
-use crate::tests::expect_refusal;
+use crate::tests::{TOO_LARGE, expect_refusal};
 use crate::{ErrorKind, Regex, RegexBuilder};
 use std::test::Fail;
 
@@ -15,8 +15,6 @@ const ROWS: [(&str, usize, usize, usize); 7] = [
     ("(?:(a)|(b)){2}", 19, 20, 672),
     ("(?:a?){30}a{30}", 123, 152, 4192),
 ];
-
-const TOO_LARGE: &str = "compiled regex exceeded size limit";
 
 /// The places and the arrows together. That this doesn't overflow follows from the clauses alone.
 fn sum(regex: &Regex) -> usize
