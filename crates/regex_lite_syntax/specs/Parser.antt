@@ -1,6 +1,7 @@
 -- What the functions of the parser promise one another.
 pub mod RangeEnds
 pub mod SetNames
+pub mod KnownNames
 pub mod Readings
 pub mod ClassReadings
 pub mod FlagRuns

@@ -71,8 +71,7 @@ impl Class {
 
     /// The set with this name, or all other characters.
     pub(crate) fn named(alloc: Global, set: NamedSet, negated: bool) -> Result<Class, AllocError>
-        ensures { IfOk result (λ class. AreRunsOf class
-            (named_or_not set negated)) }
+        ensures { IfOk result (λ class. AreRunsOf class (named_or_not set negated)) }
     {
         let ranges = set.ranges(alloc)?;
         let class = Class::of_runs(ranges);
@@ -85,8 +84,7 @@ impl Class {
 
     /// The characters that the set lacks.
     pub(crate) fn negate(&self, alloc: Global) -> Result<Class, AllocError>
-        ensures { IfOk result (λ class. AreRunsOf class
-            (complement (in_ranges self.now))) }
+        ensures { IfOk result (λ class. AreRunsOf class (complement (in_ranges self.now))) }
     {
         let mut gaps = Vec::new(alloc);
         let mut start = Some('\0');

@@ -22,6 +22,7 @@ mod counted;
 mod escape;
 mod gap;
 mod group;
+mod group_names;
 mod letters;
 mod level;
 mod name;
@@ -33,6 +34,7 @@ use crate::flags::Flags;
 use crate::hir::Hir;
 use atom::read_atom;
 use gap::skip_gap;
+use group_names::GroupNames;
 use level::{Level, OpenGroup};
 use std::alloc::{AllocError, Global};
 
@@ -52,7 +54,7 @@ pub(crate) struct Parser {
     /// How many groups have been numbered.
     groups: u32,
     /// Their names, in order.
-    names: Vec<String>,
+    names: GroupNames,
     /// The open groups, the innermost last.
     below: Vec<OpenGroup>,
     /// What has been read of the innermost one, or outside them all.
@@ -113,12 +115,12 @@ impl Parser {
     /// Before the first character.
     fn new(alloc: Global, flags: Flags) -> Parser
         ensures state { (pattern : Text) → state result pattern 0 ≡ first_state flags pattern }
-        ensures names { result.names.items ≡ [] }
+        ensures names { result.names ≡ [] }
     {
         Parser {
             alloc,
             groups: 0,
-            names: Vec::new(alloc),
+            names: GroupNames::new(alloc),
             below: Vec::new(alloc),
             here: Level::new(alloc, flags),
         }

@@ -1,5 +1,5 @@
 -- What the parser reads of a group's head is a step of the machine, and where it refuses there is none.
-use Rattle.std.proofs.Common.{inl, inr, ◌≡◌, ◌≢◌, refl, sym, ◌∙◌, ap, subst, ◌+◌, [], ◌∷◌, ◌++◌, Some, None, Contains, String, Vec, Global, length}
+use Rattle.std.proofs.Common.{List, inl, inr, ◌≡◌, ◌≢◌, refl, sym, ◌∙◌, ap, subst, ◌+◌, [], ◌∷◌, ◌++◌, Some, None, Contains, length}
 use Rattle.std.specs.Prelude.{max as greatest}
 use Rattle.regex_lite_syntax.specs.declared.flags.Flags.{Flags}
 use Rattle.regex_lite_syntax.specs.declared.parse.Parser.{Parser}
@@ -9,7 +9,6 @@ use Rattle.regex_lite_syntax.specs.Grammar.FlagLetters.{FlagLetters}
 use Rattle.regex_lite_syntax.specs.Parser.FlagRuns.{EndedFlags}
 use Rattle.regex_lite_syntax.specs.Grammar.GroupNames.{NameWritten, NameOpening, Named, NamesDiffer}
 use Rattle.regex_lite_syntax.specs.Grammar.Heads.{non_capturing, capturing, numbered_on, named_on, inside, Head, plain, Directive, sets}
-use Rattle.regex_lite_syntax.specs.Tree.Views.{names_of}
 use Rattle.regex_lite_syntax.specs.Parser.Machine.{State, Step, opened, with_items}
 use Rattle.regex_lite_syntax.specs.Parser.States.{state, StepsTo, CanRead, BeginsCapture, OpensGroup, OpensCapture, Directs}
 use Rattle.regex_lite_syntax.proofs.grammar.NameLemmas.{differ_more, no_second}
@@ -60,10 +59,10 @@ begins_numbered p t rest u e whole none =
     (None, λ d. let s = state p t d in (_, numbered_head (length s.frames) s.point rest u e whole none))
 
 -- a group with a name, where the parser has first noted the name
-pub reads_named : (p q : Parser) (noted : Vec (String Global) Global) (t begun first rest name : Text)
+pub reads_named : (p q : Parser) (noted : List Text) (t begun first rest name : Text)
     → t ≡ the "(" ∷ begun → WholeGap p.here.flags.ignore_whitespace begun first → Named first rest name
-    → (Contains (names_of p.names.items) name → ⊥)
-    → names_of noted.items ≡ names_of p.names.items ++ name ∷ []
+    → (Contains p.names name → ⊥)
+    → noted ≡ p.names ++ name ∷ []
     → OpensCapture (record p { names = noted }) q (Some name) → StepsTo p q t rest
 unfolding state opened
 reads_named p q noted t begun first rest name e whole named fresh is opens d =
@@ -100,7 +99,7 @@ reads_no_name p t begun first past e whole opens none can =
 -- nor where the name stands that another group has
 pub reads_no_second : (p : Parser) (t begun first rest name : Text) → t ≡ the "(" ∷ begun
     → WholeGap p.here.flags.ignore_whitespace begun first → Named first rest name
-    → Contains (names_of p.names.items) name → CanRead p t → ⊥
+    → Contains p.names name → CanRead p t → ⊥
 unfolding state opened
 reads_no_second p t begun first rest name e whole named twice can =
     let s = state p t can.0 in

@@ -14,7 +14,6 @@ use Rattle.regex_lite_syntax.specs.Grammar.GroupNames.{NamesDiffer}
 use Rattle.regex_lite_syntax.specs.Grammar.{Grammar, HasTree}
 use Rattle.regex_lite_syntax.specs.Limits.{depth, IsAdmitted, IsDueToPattern, PassesNesting, PassesGroups, NestingRefused, GroupsRefused}
 use Rattle.regex_lite_syntax.specs.Tree.Regular.{IsRegular}
-use Rattle.regex_lite_syntax.specs.Tree.Views.{names_of}
 use Rattle.regex_lite_syntax.specs.Parser.Machine.{LeadsOn, first_state}
 use Rattle.regex_lite_syntax.specs.Parser.States.{frame_of, state, StepsTo, CanRead, BeginsCapture, BeginsTooMany, Finishes, FinishesTooDeep}
 use Rattle.regex_lite_syntax.proofs.grammar.GapLemmas.{gap_to_end}
@@ -31,7 +30,7 @@ pub record Reaches (flags : Flags) (nest_limit : ℕ) (pattern : Text) (p : Pars
   pub deepest : ℕ
   pub leads : LeadsOn (first_state flags pattern) (state p rest deepest)
   pub within : deepest ≤ nest_limit
-  pub differ : NamesDiffer (names_of p.names.items)
+  pub differ : NamesDiffer p.names
   pub characters : AreCharacters pattern
 
 -- as many frames as open groups

@@ -13,7 +13,7 @@ use Rattle.regex_lite_syntax.specs.Grammar.Points.{Point, onward}
 use Rattle.regex_lite_syntax.specs.Grammar.Heads.{GroupKind, non_capturing, capturing, numbered_on, inside, Head}
 use Rattle.regex_lite_syntax.specs.Parser.Machine.{Frame, State, Step, ended, opened, closed, parted, with_items}
 use Rattle.regex_lite_syntax.specs.Limits.{PassesGroups, depth}
-use Rattle.regex_lite_syntax.specs.Tree.Views.{text_of_string, names_of, tree_of}
+use Rattle.regex_lite_syntax.specs.Tree.Views.{text_of_string, tree_of}
 
 -- the kind of a group
 abbrev pub group_kind : Kind → GroupKind
@@ -37,7 +37,7 @@ state p rest deepest = record {
     rest = rest;
     flags = p.here.flags;
     groups = p.groups;
-    names = names_of p.names.items;
+    names = p.names;
     deepest = deepest;
   };
   frames = reverse (map frame_of p.below.items);

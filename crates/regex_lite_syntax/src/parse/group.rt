@@ -14,7 +14,7 @@ use crate::flags::Flags;
 use crate::parse::Parser;
 use crate::parse::letters::read_head;
 use crate::parse::level::{GroupKind, Level, OpenGroup};
-use crate::parse::name::{is_among, read_name, skip_name_opening, string_of};
+use crate::parse::name::{read_name, skip_name_opening, string_of};
 use crate::parse::read::is_at;
 use std::alloc::AllocError;
 use std::mem;
@@ -59,10 +59,9 @@ impl Parser {
         let end = read_name(chars, start)?;
         let letters = &chars[start..end - 1];
         let name = string_of(self.alloc, letters)?;
-        if is_among(&name, &self.names) {
+        if !self.names.insert(self.alloc, &name)? {
             return Err(SyntaxFault::DuplicateCaptureName.into());
         }
-        self.names.push(string_of(self.alloc, letters)?)?;
         self.open_capture(Some(name))?;
         Ok(end)
     }

@@ -100,10 +100,3 @@ pub(crate) fn string_of(alloc: Global, name: &[char]) -> Result<String, AllocErr
 {
     name.iter().copied().collect(alloc)
 }
-
-/// Whether the name is one of those given.
-pub(crate) fn is_among(name: &str, given: &[String]) -> bool
-    ensures { IsTrue result ↔ Contains (names_of given.now) (chars_of name.now) }
-{
-    given.iter().any(|other| other.as_str() == name)
-}

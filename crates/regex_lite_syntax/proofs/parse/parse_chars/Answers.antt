@@ -8,7 +8,7 @@ use Rattle.regex_lite_syntax.specs.Text.{Text}
 use Rattle.regex_lite_syntax.specs.Grammar.Gaps.{Gap, WholeGap}
 use Rattle.regex_lite_syntax.specs.Limits.{IsAdmitted, IsDueToPattern, depth}
 use Rattle.regex_lite_syntax.specs.Tree.Regular.{IsRegular}
-use Rattle.regex_lite_syntax.specs.Tree.Views.{names_of, tree_of}
+use Rattle.regex_lite_syntax.specs.Tree.Views.{tree_of}
 use Rattle.regex_lite_syntax.specs.Grammar.GroupNames.{NamesDiffer}
 use Rattle.regex_lite_syntax.specs.Parser.Machine.{stay}
 use Rattle.regex_lite_syntax.specs.Parser.States.{Finishes, FinishesTooDeep}
@@ -24,7 +24,7 @@ loop-parser-init c = record {
     deepest = 0;
     leads = stay (sym (c.new-parser.ensures.state c.args.chars.now));
     within = omega arith;
-    differ = subst (λ names. NamesDiffer (names_of names)) (sym c.new-parser.ensures.names) no_names_differ;
+    differ = subst (λ names. NamesDiffer names) (sym c.new-parser.ensures.names) no_names_differ;
     characters = c.requires;
   };
 }

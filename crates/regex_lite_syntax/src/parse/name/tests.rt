@@ -1,5 +1,5 @@
 //! Which names are read, and why others are refused.
-use super::{is_among, read_name, skip_name_opening, string_of};
+use super::{read_name, skip_name_opening, string_of};
 use crate::error::SyntaxFault;
 use std::test::Fail;
 
@@ -101,25 +101,6 @@ fn openings(rt: HostRuntime) -> Result<(), Fail> {
     ] {
         let chars: Vec<char> = text.chars().collect(rt.alloc())?;
         assert_eq!(rt; skip_name_opening(&chars, 0), wanted, "at {text:?}");
-    }
-    Ok(())
-}
-
-#[test]
-fn among_others(rt: HostRuntime) -> Result<(), Fail> {
-    let mut given = Vec::new(rt.alloc());
-    assert!(rt; !is_among("a", &given));
-    for name in ["a", "名字", "ab"] {
-        given.push(String::from_str(rt.alloc(), name)?)?;
-    }
-    for (name, wanted) in [
-        ("a", true),
-        ("名字", true),
-        ("ab", true),
-        ("b", false),
-        ("名", false),
-    ] {
-        assert_eq!(rt; is_among(name, &given), wanted, "at {name:?}");
     }
     Ok(())
 }

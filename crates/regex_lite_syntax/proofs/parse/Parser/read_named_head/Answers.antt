@@ -1,11 +1,9 @@
-use Rattle.std.proofs.Common.{◌≡◌, ◌∷◌, ◌++◌, [], sym, ◌∙◌, ap, subst, Contains, drop, arith}
-use Rattle.std.proofs.lemmas.Bool.{both_ways}
+use Rattle.std.proofs.Common.{true, false, ◌≡◌, sym, subst, Contains, drop, arith}
 use Rattle.std.proofs.lemmas.Result.{err_from_is_err_and}
 use Rattle.regex_lite_syntax.specs.Text.{Text}
 use Rattle.regex_lite_syntax.specs.Grammar.GroupNames.{NameOpening, NameWritten, Named}
-use Rattle.regex_lite_syntax.specs.Tree.Views.{text_of_string, names_of}
+use Rattle.regex_lite_syntax.specs.Tree.Views.{text_of_string}
 use Rattle.regex_lite_syntax.proofs.parse.DenialLemmas.{number_refuses}
-use Rattle.regex_lite_syntax.proofs.machine.StateLemmas.{map_pushed}
 use Rattle.regex_lite_syntax.proofs.machine.ReadHeadLemmas.{reads_named, begins_named, reads_no_name, reads_no_second}
 use Rattle.regex_lite_syntax.proofs.parse.Parser.read_named_head.Goals as goal
 
@@ -21,14 +19,6 @@ named_from : (t past rest name letters : Text) → NameOpening t past → NameWr
 named_from t past rest name letters opens written is =
     record { past = past; opens = opens; called = subst (λ w. NameWritten past rest w) (sym is) written }
 
-pub returns-then-is_among-clause-refused : goal.returns-then-is_among-clause-refused
-returns-then-is_among-clause-refused c =
-    let name = text_of_string c.in_ok-name.name in
-    let named = named_from _ _ _ name _ c.requires.opens c.in_ok-end.ensures.ok c.in_ok-name.ensures in
-    let twice : Contains (names_of c.args.self.now.names.items) name =
-    rw (← c.deref.ensures, ← c.deref-2.ensures.value) (c.is_among.ensures.0 c.if-is_among.true) in
-    rw c.into.ensures (reads_no_second c.args.self.now _ _ _ _ name c.requires.begins c.requires.gap named twice)
-
 pub returns-in_err-open_capture-clause-refused : goal.returns-in_err-open_capture-clause-refused
 returns-in_err-open_capture-clause-refused c =
     let name = text_of_string c.in_ok-name.name in
@@ -37,20 +27,26 @@ returns-in_err-open_capture-clause-refused c =
     rw (left.1, left.2) (number_refuses c.in_err-open_capture.field-0.0 c.args.self.now _ c.in_err-open_capture.ensures.refused
     (begins_named c.args.self.now _ _ _ _ name c.requires.begins c.requires.gap named))
 
+pub returns-then-not-branch-clause-refused : goal.returns-then-not-branch-clause-refused
+returns-then-not-branch-clause-refused c =
+    let name = text_of_string c.in_ok-name.name in
+    let named = named_from _ _ _ name _ c.requires.opens c.in_ok-end.ensures.ok c.in_ok-name.ensures in
+    let old : c.in_ok-insert.field-0 ≡ false = c.if-not-branch.true in
+    let known = rw old at c.in_ok-insert.ensures in
+    let twice : Contains c.args.self.now.names name = rw (← c.deref.ensures) known in
+    rw c.into.ensures (reads_no_second c.args.self.now _ _ _ _ name c.requires.begins c.requires.gap named twice)
+
 pub returns-clause-ok : goal.returns-clause-ok
 returns-clause-ok c =
     let p = c.args.self.now in
-    let xs = c.args.chars.now in
     let name = text_of_string c.in_ok-name.name in
     let named = named_from _ _ _ name _ c.requires.opens c.in_ok-end.ensures.ok c.in_ok-name.ensures in
-    let fresh : Contains (names_of p.names.items) name → ⊥ =
-    λ has. both_ways _ c.if-is_among.false (c.is_among.ensures.1 (rw (c.deref.ensures, c.deref-2.ensures.value) has)) in
-    let noted : names_of c.push.new.self.items ≡ names_of p.names.items ++ name ∷ [] =
-    map_pushed text_of_string _ _ _ c.in_ok-push.ensures.items
-    ∙ ap (λ w. names_of p.names.items ++ w ∷ []) (c.in_ok-string_of.ensures ∙ sym c.in_ok-name.ensures) in
+    let new : c.in_ok-insert.field-0 ≡ true = c.if-not-branch.false in
+    let added = rw (new, c.deref.ensures) at c.in_ok-insert.ensures in
     record {
       further = omega (arith, c.requires.inside, c.in_ok-end.ensures.inside);
       in_pattern = c.in_ok-end.ensures.inside.1;
-      reads = reads_named p c.open_capture.new.self c.push.new.self (drop c.args.at xs) _ _ (drop c.in_ok-end.end xs) name
-          c.requires.begins c.requires.gap named fresh noted c.in_ok-open_capture.ensures.ok;
+      reads = reads_named p c.open_capture.new.self c.insert.new.self (drop c.args.at c.args.chars.now) _ _
+          (drop c.in_ok-end.end c.args.chars.now) name c.requires.begins c.requires.gap named added.1 added.0
+          c.in_ok-open_capture.ensures.ok;
     }

@@ -1,0 +1,61 @@
+//! The names of the capturing groups that have been read.
+ghost use Rattle.std.specs.Prelude.{◌≡◌, ◌∷◌, ◌++◌, [], chars, Contains, IfOk, MatchBool};
+
+#[cfg(test)]
+mod tests;
+
+use std::alloc::{AllocError, Global};
+use std::collections::BTreeSet;
+use std::marker::Model;
+
+/// The names, in order.
+#[derive(Drop)]
+pub(crate) struct GroupNames {
+    in_order: Vec<String>,
+    // The same names. A pattern may have many, and each is looked for.
+    known: BTreeSet<String>,
+}
+
+impl Model for GroupNames {
+    ghost use Rattle.std.specs.Prelude.{List};
+    ghost use Rattle.regex_lite_syntax.specs.Text.{Text};
+    ghost use Rattle.regex_lite_syntax.specs.Tree.Views.{names_of};
+    ghost use Rattle.regex_lite_syntax.specs.Parser.KnownNames.{Knows};
+
+    ghost Value = { List Text };
+
+    ghost view = { λ names. names_of names.in_order.items };
+
+    ghost invariant = { λ names. Knows names.known names.in_order.items };
+}
+
+impl GroupNames {
+    /// No names.
+    pub(crate) fn new(alloc: Global) -> GroupNames
+        ensures { result ≡ [] }
+    {
+        GroupNames {
+            in_order: Vec::new(alloc),
+            known: BTreeSet::new(alloc),
+        }
+    }
+
+    /// Adds a name behind the others, unless it is there. The answer tells whether it is new.
+    pub(crate) fn insert(&mut self, alloc: Global, name: &str) -> Result<bool, AllocError>
+        ensures { IfOk result (λ is_new. MatchBool is_new
+            ((self.new ≡ self.old ++ chars name.now ∷ [])
+            × (Contains self.old (chars name.now) → ⊥))
+            (Contains self.old (chars name.now))) }
+    {
+        if self.known.contains(name) {
+            return Ok(false);
+        }
+        let key = String::from_str(alloc, name)?;
+        self.in_order.push(String::from_str(alloc, name)?)?;
+        if let Err(refused) = self.known.insert(key) {
+            self.in_order.pop();
+            return Err(refused.into());
+        }
+        Ok(true)
+    }
+}
