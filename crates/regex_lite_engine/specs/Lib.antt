@@ -4,3 +4,5 @@ pub mod Graph
 pub mod WayLaws
 -- What the functions of nfa promise one another. No public contract rests on it.
 pub mod Nfa
+-- What the functions of pikevm promise one another.
+pub mod Walk

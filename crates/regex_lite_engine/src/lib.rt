@@ -1,9 +1,11 @@
-//! What a pattern is searched with: its graph.
+//! What a pattern is searched with: its graph, and the search.
 #![tactic(auto)]
 
 pub mod laws;
 mod nfa;
+mod pikevm;
 
 pub use nfa::Graph;
 pub use nfa::class::MappedClass;
 pub use nfa::place::Place;
+pub use pikevm::steps::Steps;

@@ -1,0 +1,3 @@
+-- What the functions of a search promise one another.
+pub mod Offsets
+pub mod Machine

@@ -1,0 +1,7 @@
+//! The search by ordered sets: it goes over a haystack once, and keeps at each position the places
+//! that it can stand at, the most preferred first.
+pub(crate) mod here;
+pub(crate) mod seen;
+pub(crate) mod stack;
+pub(crate) mod steps;
+pub(crate) mod threads;
