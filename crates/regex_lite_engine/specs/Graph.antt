@@ -6,4 +6,5 @@ pub mod Repetitions
 pub mod WrittenOut
 pub mod PlaceCounts
 pub mod Size
+pub mod Stored
 pub mod Renumbered

@@ -6,6 +6,4 @@ mod nfa;
 mod pikevm;
 
 pub use nfa::Graph;
-pub use nfa::class::MappedClass;
-pub use nfa::place::Place;
 pub use pikevm::steps::Steps;

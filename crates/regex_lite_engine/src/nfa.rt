@@ -1,16 +1,17 @@
 //! The graph of a pattern: numbered places with ordered arrows.
-ghost use Rattle.std.specs.Prelude.{◌≡◌, ◌<◌, length, slice_get, Some, IfOk, IfErr};
+ghost use Rattle.std.specs.Prelude.{◌≡◌, ◌^◌, ◌<◌, length, slice_get, Some, IfOk, IfErr};
 ghost use Rattle.regex_lite_syntax.specs.Errors.{kind_of};
 ghost use Rattle.regex_lite_syntax.specs.Tree.Regular.{IsRegular};
 ghost use Rattle.regex_lite_syntax.specs.Tree.Views.{tree_of};
-ghost use Rattle.regex_lite_engine.specs.Graph.Renumbered.{IsGraphOf};
+ghost use Rattle.regex_lite_engine.specs.Graph.Renumbered.{IsGraphOf, HasGroupsOf};
 ghost use Rattle.regex_lite_engine.specs.Graph.Size.{Fits, SaysOfTree};
+ghost use Rattle.regex_lite_engine.specs.Graph.Stored.{LeadsBelow, place_of};
 
-pub mod class;
+mod class;
 mod count;
 mod groups;
 mod names;
-pub mod place;
+mod place;
 mod write;
 
 use count::Counts;
@@ -19,6 +20,7 @@ use names::capture_names;
 use place::Place;
 use regex_lite_syntax::{Error, Hir};
 use std::alloc::Global;
+use std::marker::Model;
 use write::write_out;
 
 /// A pattern that is written out as a graph: a search starts at one place, and follows the arrows
@@ -32,6 +34,22 @@ pub struct Graph {
     /// The names of the groups by index.
     capture_names: Vec<Option<String>>,
     static_captures_len: Option<usize>,
+}
+
+impl Model for Graph {
+    ghost use Rattle.regex_lite_engine.specs.Graph.Stored.{StoredGraph, IsClosed};
+
+    ghost Value = { StoredGraph };
+
+    ghost view = { λ graph. record {
+      places = graph.places.items;
+      start = graph.start;
+      arrows = graph.arrows;
+      capture_names = graph.capture_names.items;
+      static_captures_len = graph.static_captures_len;
+    } };
+
+    ghost invariant = { λ graph. IsClosed graph.places.items graph.start graph.arrows };
 }
 
 impl Graph {
@@ -49,6 +67,7 @@ impl Graph {
     pub fn new(alloc: Global, hir: &Hir, size_limit: usize) -> Result<Graph, Error>
         requires { IsRegular (tree_of hir.now) }
         ensures ok { IfOk result (λ graph. IsGraphOf (tree_of hir.now) graph) }
+        ensures groups { IfOk result (λ graph. HasGroupsOf (tree_of hir.now) graph) }
         ensures fits { IfOk result (λ _. Fits size_limit (tree_of hir.now)) }
         ensures refused { IfErr result
             (λ error. SaysOfTree size_limit (tree_of hir.now) (kind_of error)) }
@@ -67,37 +86,41 @@ impl Graph {
     }
 
     /// What stands at a place. No other call hands that out.
-    pub fn look(&self, place: u32) -> &Place
-        requires { place < length self.now.places.items }
-        ensures { slice_get self.now.places.items place ≡ Some result.now }
+    pub(crate) fn look(&self, place: u32) -> &Place
+        requires { place < length self.now.places }
+        ensures found { slice_get self.now.places place ≡ Some result.now }
+        ensures inside { LeadsBelow (length self.now.places) (place_of result.now) }
     {
         &self.places[place as usize]
     }
 
     /// Where a search starts.
-    pub fn start(&self) -> u32
-        ensures { result ≡ self.now.start }
+    pub(crate) fn start(&self) -> u32
+        ensures same { result ≡ self.now.start }
+        ensures inside { result < length self.now.places }
     {
         self.start
     }
 
     /// How many places there are.
     pub fn places(&self) -> usize
-        ensures { result ≡ length self.now.places.items }
+        ensures same { result ≡ length self.now.places }
+        ensures few { result < 2 ^ 32 }
     {
         self.places.len()
     }
 
     /// How many arrows there are.
     pub fn arrows(&self) -> usize
-        ensures { result ≡ self.now.arrows }
+        ensures same { result ≡ self.now.arrows }
+        ensures few { result < 2 ^ 34 }
     {
         self.arrows
     }
 
     /// The names of the groups by index, group 0 first.
     pub fn capture_names(&self) -> &[Option<String>]
-        ensures { result.now ≡ self.now.capture_names.items }
+        ensures { result.now ≡ self.now.capture_names }
     {
         &self.capture_names
     }

@@ -13,7 +13,7 @@ const LAST_ASCII: char = '\x7F';
 
 /// A set of characters, which tells of an ASCII character in one step.
 #[derive(Drop)]
-pub struct MappedClass {
+pub(crate) struct MappedClass {
     // Two words, since a `u128` would be aligned to 16 bytes and make each place of a graph longer.
     ascii: [u64; 2],
     class: Rc<Class>,
@@ -45,7 +45,7 @@ impl MappedClass {
     }
 
     /// Whether the set holds the character.
-    pub fn contains(&self, c: char) -> bool
+    pub(crate) fn contains(&self, c: char) -> bool
         ensures { result ≡ in_ranges self.now c }
     {
         if c.is_ascii() {
@@ -57,7 +57,7 @@ impl MappedClass {
     }
 
     /// The maximal runs of the set, in order.
-    pub fn ranges(&self) -> &[ClassRange]
+    pub(crate) fn ranges(&self) -> &[ClassRange]
         ensures same { result.now ≡ self.now }
         ensures runs { AreRuns 0 result.now }
     {

@@ -5,7 +5,7 @@ use std::mem::size_of;
 
 /// A place of a graph, with the numbers of the places that its arrows lead to.
 #[derive(Drop)]
-pub enum Place {
+pub(crate) enum Place {
     /// Goes on at once.
     Empty { to: u32 },
     /// Reads this character.

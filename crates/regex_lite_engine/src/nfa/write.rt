@@ -6,7 +6,7 @@ ghost use Rattle.regex_lite_syntax.specs.Tree.Views.{tree_of};
 ghost use Rattle.regex_lite_syntax.specs.Tree.Properties.{greatest_index, greatest_index_in};
 ghost use Rattle.regex_lite_engine.specs.declared.nfa.place.Place.TheVariants.{Match};
 ghost use Rattle.regex_lite_engine.specs.Graph.Places.{complete, choice};
-ghost use Rattle.regex_lite_engine.specs.Graph.Renumbered.{place_of};
+ghost use Rattle.regex_lite_engine.specs.Graph.Stored.{place_of};
 ghost use Rattle.regex_lite_engine.specs.Graph.PlaceCounts.{places, places_in, whole_places};
 ghost use Rattle.regex_lite_engine.specs.Nfa.Layout.{IsAdded, layout, capture_layout, chain_layout, branches_layout, alternation_layout};
 

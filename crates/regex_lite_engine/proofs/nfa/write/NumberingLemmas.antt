@@ -1,9 +1,10 @@
 -- Numbers in the place of addresses, and that places in a row are what stands at their addresses.
 use Rattle.std.proofs.Common.{◌≡◌, ◌<◌, refl, sym, ap, subst, ◌∙◌, arith, ℕ, suc, ◌+◌, List, [], ◌∷◌, ◌++◌, length, append_assoc, Some}
-use Rattle.regex_lite_engine.specs.Graph.Places.{Arrow, Place, complete, with_arrows}
+use Rattle.regex_lite_engine.specs.Graph.Places.{Place}
 use Rattle.regex_lite_engine.specs.Graph.Addresses.{Address, part}
 use Rattle.regex_lite_engine.specs.Graph.Repetitions.{Content}
 use Rattle.regex_lite_engine.specs.Graph.Renumbered.{renamed}
+use Rattle.regex_lite_engine.specs.Graph.Stored.{LeadsBelow}
 use Rattle.regex_lite_engine.specs.Nfa.Layout.{Fragment, before}
 use Rattle.regex_lite_engine.proofs.nfa.write.AddressLemmas.{in_part}
 
@@ -22,18 +23,9 @@ module _ (by : Numbering) where
   InRow pre n [] = Unit {0}
   InRow pre n (a ∷ list) = Stands n (pre ++ a) × InRow pre (n + 1) list
 
-  -- the arrows lead to numbers below the end
-  abbrev pub LeadInside : List (Arrow ℕ) → Type 0
-  LeadInside [] = Unit {0}
-  LeadInside (arrow ∷ arrows) = (arrow.to < by.end) × LeadInside arrows
-
-  abbrev pub IsInside : Place ℕ → Type 0
-  IsInside complete = Unit {0}
-  IsInside (with_arrows arrows) = LeadInside arrows
-
-  -- the place is what stands at the address
+  -- the place is what stands at the address, and leads to numbers below the end
   abbrev pub IsAt : (Address → Content) → Address → Place ℕ → Type 0
-  IsAt content a place = (content a ≡ Some (renamed by.address place)) × IsInside place
+  IsAt content a place = (content a ≡ Some (renamed by.address place)) × LeadsBelow by.end place
 
   abbrev pub AreAt : (Address → Content) → List Address → List (Place ℕ) → Type 0
   AreAt content [] [] = Unit {0}

@@ -1,16 +1,20 @@
 -- The layout of the whole pattern is the written-out one, with numbers in the place of addresses.
-use Rattle.std.proofs.Common.{◌≡◌, ◌<◌, refl, sym, ap, subst, ◌∙◌, arith, ℕ, zero, suc, ◌+◌, inl, inr, List, [], ◌∷◌, ◌++◌, length, get_or, slice_get, append_assoc, length-append, Some, None}
+use Rattle.std.proofs.Common.{◌≡◌, ◌<◌, refl, sym, ap, subst, ◌∙◌, arith, ℕ, zero, suc, ◌+◌, inl, inr, List, [], ◌∷◌, ◌++◌, length, get_or, slice_get, append_assoc, length-append, Some, None, ◌^◌, map, option_map}
+use Rattle.std.proofs.lemmas.List.{length-map}
+use Rattle.std.proofs.lemmas.Option.{slice_get-map}
 use Rattle.std.proofs.Math.Seq.{get_or-append_seam}
 use Rattle.regex_lite_syntax.specs.Tree.{Tree}
 use Rattle.regex_lite_syntax.specs.Tree.Regular.{IsRegular}
-use Rattle.regex_lite_engine.specs.Graph.Places.{Arrow, Place, with_arrows}
+use Rattle.regex_lite_engine.specs.Graph.Places.{Place}
 use Rattle.regex_lite_engine.specs.Graph.Addresses.{Address, entry}
 use Rattle.regex_lite_engine.specs.Graph.Repetitions.{Content}
-use Rattle.regex_lite_engine.specs.Graph.WrittenOut.{end_address, place_at, whole, written_out}
-use Rattle.regex_lite_engine.specs.Graph.Renumbered.{IsRenumbered}
+use Rattle.regex_lite_engine.specs.Graph.WrittenOut.{start_address, end_address, place_at, whole, written_out}
+use Rattle.regex_lite_engine.specs.Graph.Renumbered.{IsRenumbered, IsNumberOf}
+use Rattle.regex_lite_engine.specs.Graph.Stored.{IsClosed, LeadsBelow, place_of}
+use Rattle.regex_lite_engine.specs.declared.nfa.place.Place as code
 use Rattle.regex_lite_engine.specs.Nfa.Layout.{whole_layout, whole_table}
 use Rattle.regex_lite_engine.proofs.nfa.write.AddressLemmas.{in_part, addresses}
-use Rattle.regex_lite_engine.proofs.nfa.write.NumberingLemmas.{Numbering, InRow, IsAt, AreAt, Fits, LeadInside, as_many, part_at}
+use Rattle.regex_lite_engine.proofs.nfa.write.NumberingLemmas.{Numbering, InRow, IsAt, AreAt, Fits, as_many, part_at}
 use Rattle.regex_lite_engine.proofs.nfa.write.NumberedTreeLemmas.{fits_capture, fits_tree}
 use Rattle.regex_lite_engine.proofs.nfa.write.ApartLemmas.{Apart, apart_first, apart_part, apart_get}
 use Rattle.regex_lite_engine.proofs.nfa.write.ApartAddressLemmas.{InPart, each_in_part, apart_addresses}
@@ -56,14 +60,6 @@ is_at_number by content (a ∷ list) (p ∷ ps) r zero place e =
     let same : p ≡ place = cc in subst (λ x. IsAt by content a x) same r.0
 is_at_number by content (a ∷ list) (p ∷ ps) r (suc q) place e =
     is_at_number by content list ps r.1 q place e
-
-leads_inside : (by : Numbering) (arrows : List (Arrow ℕ)) → LeadInside by arrows → (k : ℕ)
-    (arrow : Arrow ℕ) → slice_get arrows k ≡ Some arrow → arrow.to < by.end
-leads_inside by [] r zero arrow e = absurd (cc)
-leads_inside by [] r (suc k) arrow e = absurd (cc)
-leads_inside by (first ∷ arrows) r zero arrow e =
-    let same : first ≡ arrow = cc in subst (λ x. x.to < by.end) same r.0
-leads_inside by (first ∷ arrows) r (suc k) arrow e = leads_inside by arrows r.1 k arrow e
 
 apart_whole : (tree : Tree) → Apart (whole_addresses tree)
 apart_whole tree =
@@ -124,20 +120,42 @@ module _ (tree : Tree) (regular : IsRegular tree) where
       let number = number_of a all (listed_whole tree a place e) in
       (number.0, omega (arith, as_long, number.1), number.2)
 
-  arrows_inside : (q : ℕ) (arrows : List (Arrow ℕ)) (k : ℕ) (arrow : Arrow ℕ)
-      → slice_get (whole_table tree) q ≡ Some (with_arrows arrows) → slice_get arrows k ≡ Some arrow
-      → arrow.to < length (whole_table tree)
-  arrows_inside q arrows k arrow e f =
-      let less = leads_inside by arrows (place_is q (with_arrows arrows) e).1 k arrow f in
-      omega (arith, as_long, less)
+  arrows_inside : (q : ℕ) (place : Place ℕ) → slice_get (whole_table tree) q ≡ Some place
+      → LeadsBelow (length (whole_table tree)) place
+  arrows_inside q place e =
+      subst (λ n. LeadsBelow n place) (sym as_long) (place_is q place e).1
 
-  pub renumbered : IsRenumbered tree (whole_table tree) (whole_layout tree).1
+  pub whole_names : ℕ → Address
+  whole_names = by.address
+
+  pub renumbered : IsRenumbered (written_out tree) whole_names (whole_table tree)
+  unfolding whole_names
   renumbered = record {
-    name = by.address;
-    starts = whole_fits.0.0;
-    start_inside = omega (arith, as_long, whole_fits.0.1);
     apart = apart_numbers;
     alike = λ q place e. (place_is q place e).0;
     each = each_numbered;
     inside = arrows_inside;
   }
+
+  pub starts : IsNumberOf whole_names (whole_table tree) start_address (whole_layout tree).1
+  unfolding whole_names
+  starts = record { inside = omega (arith, as_long, whole_fits.0.1); same = whole_fits.0.0 }
+
+  module _ (places : List code.Place) (table_is : map place_of places ≡ whole_table tree) where
+    as_many_places : length (whole_table tree) ≡ length places
+    as_many_places = ap length (sym table_is) ∙ length-map places place_of
+
+    -- the graph with these places leads to its own places
+    pub closed : (start arrows : ℕ) → start ≡ (whole_layout tree).1 → length places < 2 ^ 32
+        → arrows < 2 ^ 34 → IsClosed places start arrows
+    closed start arrows start_is few_places few_arrows = record {
+      start_inside = omega (arith, start_is, starts.inside, as_many_places);
+      each_inside = λ q place e. (
+          let stored = ap (λ table. slice_get table q) (sym table_is)
+          ∙ slice_get-map place_of places q ∙ ap (option_map place_of) e in
+          subst (λ n. LeadsBelow n (place_of place)) as_many_places
+          (renumbered.inside q (place_of place) stored)
+          );
+      few_places = few_places;
+      few_arrows = few_arrows;
+    }

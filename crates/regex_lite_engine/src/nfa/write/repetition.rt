@@ -2,7 +2,7 @@
 ghost use Rattle.std.specs.Prelude.{◌≡◌, ◌<◌, ◌+◌, ◌*◌, ◌^◌, ◌++◌, length, map, IfOk};
 ghost use Rattle.regex_lite_syntax.specs.Tree.Views.{tree_of};
 ghost use Rattle.regex_lite_syntax.specs.Tree.Properties.{nullable, greatest_index};
-ghost use Rattle.regex_lite_engine.specs.Graph.Renumbered.{place_of};
+ghost use Rattle.regex_lite_engine.specs.Graph.Stored.{place_of};
 ghost use Rattle.regex_lite_engine.specs.Graph.PlaceCounts.{places, copies, own_places, bounded_places};
 ghost use Rattle.regex_lite_engine.specs.Nfa.Layout.{IsAdded, layout, copies_layout, exactly_layout, choices_layout, star_layout, nullable_star_layout, at_least_layout, between_layout, repetition_layout};
 

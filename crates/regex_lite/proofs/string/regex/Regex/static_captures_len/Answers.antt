@@ -6,5 +6,5 @@ pub returns : goal.returns
 returns c = (
   tree_of c.deref.result.now.hir,
   rw (c.deref.ensures, ← c.self.view_is) c.self.invariant.tree,
-  c.static_captures_len.ensures ∙ rw c.deref.ensures c.self.invariant.graph.static_captures,
+  c.static_captures_len.ensures ∙ rw c.deref.ensures c.self.invariant.groups.static_captures,
 )

@@ -2,7 +2,7 @@ use Rattle.std.proofs.Common.{◌≡◌, ◌∙◌, sym, ap, subst, map, length,
 use Rattle.std.proofs.lemmas.List.{length-map, map-append, map-set}
 use Rattle.regex_lite_syntax.specs.Tree.{Tree, repetition}
 use Rattle.regex_lite_syntax.specs.Tree.Views.{tree_of}
-use Rattle.regex_lite_engine.specs.Graph.Renumbered.{place_of}
+use Rattle.regex_lite_engine.specs.Graph.Stored.{place_of}
 use Rattle.regex_lite_engine.specs.Nfa.Layout.{IsAdded, layout}
 use Rattle.regex_lite_syntax.proofs.TreeLemmas.{tree_of-Repetition}
 use Rattle.regex_lite_engine.proofs.nfa.write.WrittenOverLemmas.{loop_written}

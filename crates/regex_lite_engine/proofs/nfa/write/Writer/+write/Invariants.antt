@@ -2,7 +2,7 @@ use Rattle.std.proofs.Common.{◌≡◌, ◌++◌, ◌<◌, ◌*◌, ◌^◌, �
 use Rattle.regex_lite_syntax.specs.Tree.{trees}
 use Rattle.regex_lite_syntax.specs.Tree.Views.{tree_of}
 use Rattle.regex_lite_syntax.specs.Tree.Properties.{greatest_index_in}
-use Rattle.regex_lite_engine.specs.Graph.Renumbered.{place_of}
+use Rattle.regex_lite_engine.specs.Graph.Stored.{place_of}
 use Rattle.regex_lite_engine.specs.Graph.PlaceCounts.{places, places_in}
 use Rattle.regex_lite_engine.specs.Nfa.Layout.{IsAdded, layout, chain_layout, branches_layout, copies_layout, choices_layout}
 use Rattle.regex_lite_engine.proofs.nfa.write.Writer.+write.Given as goal

@@ -1,0 +1,51 @@
+-- Graphs as they are stored: a table of numbered places, and what is known of it.
+use Rattle.std.specs.Prelude.{◌≡◌, ℕ, ◌^◌, ◌<◌, List, [], ◌∷◌, map, length, slice_get, Option, Some, String}
+use Rattle.std.specs.declared.alloc.Global.{Global}
+use Rattle.regex_lite_engine.specs.Graph.Places.{Arrow, Place, complete, with_arrows, go, go_marking, go_holding, one_char, one_of}
+use Rattle.regex_lite_engine.specs.declared.nfa.place.Place as code
+use Rattle.regex_lite_engine.specs.declared.nfa.place.Place.TheVariants as stored
+
+-- a graph as callers see it
+pub record StoredGraph : Type 0 where
+  pub places : List code.Place
+  -- the number of the place where a search starts
+  pub start : ℕ
+  -- how many arrows the places have
+  pub arrows : ℕ
+  -- by index
+  pub capture_names : List (Option (String Global))
+  pub static_captures_len : Option ℕ
+
+-- the place that is stored
+abbrev pub place_of : code.Place → Place ℕ
+place_of (stored.Empty to) = with_arrows (go to ∷ [])
+place_of (stored.Char c to) = one_char c to
+place_of (stored.Class to set) = one_of set to
+place_of (stored.Look test to) = with_arrows (go_holding test to ∷ [])
+place_of (stored.Slot slot to) = with_arrows (go_marking slot to ∷ [])
+place_of (stored.Choice first second) = with_arrows (go first ∷ go second ∷ [])
+place_of (stored.Branches entries) = with_arrows (map go entries.items)
+place_of stored.Match = complete
+
+-- the places of the graph
+abbrev pub table_of : StoredGraph → List (Place ℕ)
+table_of graph = map place_of graph.places
+
+-- the arrows lead to numbers below this one
+abbrev pub LeadBelow : ℕ → List (Arrow ℕ) → Type 0
+LeadBelow n [] = Unit {0}
+LeadBelow n (arrow ∷ arrows) = (arrow.to < n) × LeadBelow n arrows
+
+-- those of the place do
+abbrev pub LeadsBelow : ℕ → Place ℕ → Type 0
+LeadsBelow n complete = Unit {0}
+LeadsBelow n (with_arrows arrows) = LeadBelow n arrows
+
+-- a search starts at a place and is led to places, and neither places nor arrows are more than can
+-- be numbered
+pub record IsClosed (places : List code.Place) (start arrows : ℕ) : Type 0 where
+  pub start_inside : start < length places
+  pub each_inside : (q : ℕ) (place : code.Place) → slice_get places q ≡ Some place
+      → LeadsBelow (length places) (place_of place)
+  pub few_places : length places < 2 ^ 32
+  pub few_arrows : arrows < 2 ^ 34
