@@ -1,8 +1,11 @@
 -- Where to begin: Graph.WrittenOut says what the written-out pattern of a tree is and what a way
--- through it, Graph.Size what it takes, and WayLaws how ways and matches belong together.
+-- through it, Graph.Size what it takes, and Search.Answer what a search answers. WayLaws and
+-- SearchLaws say how matches, ways, preference and answers belong together.
 pub mod Graph
 pub mod WayLaws
--- What the functions of nfa promise one another. No public contract rests on it.
+pub mod Search
+pub mod SearchLaws
+-- What the functions of nfa, and those of the searches, promise one another. No public contract
+-- rests on it.
 pub mod Nfa
--- What the functions of pikevm promise one another.
 pub mod Walk

@@ -1,3 +1,5 @@
--- What the functions of a search promise one another.
+-- What the searches promise one another, over graphs whose places have numbers.
+pub mod Explored
+pub mod NumberedAnswer
 pub mod Offsets
 pub mod Machine

@@ -1,14 +1,16 @@
 -- Laws of the definitions.
 use Rattle.std.specs.Prelude.{◌↔◌, ℕ, List}
+use Rattle.regex_lite_syntax.specs.declared.flags.Flags.{Flags}
 use Rattle.regex_lite_syntax.specs.Text.{Text}
 use Rattle.regex_lite_syntax.specs.Tree.{Tree}
-use Rattle.regex_lite_syntax.specs.Tree.Regular.{IsRegular}
 use Rattle.regex_lite_syntax.specs.Tree.Matches.{Matches}
+use Rattle.regex_lite_syntax.specs.Grammar.{IsTree}
 use Rattle.regex_lite_engine.specs.Graph.WrittenOut.{IsWayThrough}
 
--- a tree as the grammar gives it matches from i to j exactly where a way through its written-out
+-- a tree that the grammar gives matches from i to j exactly where a way through its written-out
 -- pattern leads from i to j
 abbrev pub MatchesAreWays : Type 0
 MatchesAreWays =
-    (tree : Tree) (haystack : Text) (i j : ℕ) → IsRegular tree →
+    (flags : Flags) (pattern : Text) (tree : Tree) → IsTree flags pattern tree →
+    (haystack : Text) (i j : ℕ) →
     Matches haystack tree i j ↔ ((arrows : List ℕ) × IsWayThrough tree haystack i arrows j)

@@ -10,6 +10,8 @@ pub mod NameLemmas
 pub mod NameOpeningLemmas
 pub mod NameReadingLemmas
 pub mod NumberLemmas
+pub mod NumberedTreeLemmas
+pub mod NumberingLemmas
 pub mod OperatorLemmas
 pub mod SpacedLemmas
 pub mod WordLemmas

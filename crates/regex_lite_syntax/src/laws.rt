@@ -1,5 +1,5 @@
 //! Laws of the definitions. Each function does nothing: its contract is the law.
-ghost use Rattle.regex_lite_syntax.specs.SyntaxLaws.{AtMostOneTree, EqualSetsHaveEqualRanges};
+ghost use Rattle.regex_lite_syntax.specs.SyntaxLaws.{AtMostOneTree, EqualSetsHaveEqualRanges, GroupsAreNumbered, NoIndexStandsTwice};
 
 /// Flags and a pattern have at most one tree, one number of groups and one depth of groups.
 pub fn at_most_one_tree()
@@ -9,4 +9,15 @@ pub fn at_most_one_tree()
 /// A set of characters has one list of maximal runs.
 pub fn equal_sets_have_equal_ranges()
     ensures { EqualSetsHaveEqualRanges }
+{}
+
+/// The groups of a pattern are numbered in the order of their opening parentheses.
+pub fn groups_are_numbered()
+    ensures { GroupsAreNumbered }
+{}
+
+/// No index stands twice in a tree that the grammar gives. How many groups take part in every match
+/// rests on it: two groups of one index would count twice and hold one span.
+pub fn no_index_stands_twice()
+    ensures { NoIndexStandsTwice }
 {}

@@ -1,0 +1,6 @@
+-- The answer of a search, and what the search may cost.
+pub mod Preference
+pub mod Marks
+pub mod Answer
+pub mod PreferenceList
+pub mod Bounds

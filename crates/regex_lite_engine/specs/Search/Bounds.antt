@@ -1,0 +1,18 @@
+-- What a search may cost.
+use Rattle.std.specs.Prelude.{◌≡◌, ◌<◌, ◌≤◌, ℕ, ◌+◌, ◌-◌, ◌*◌, length}
+use Rattle.regex_lite_syntax.specs.Text.{Text}
+
+-- from position s to the end of the haystack, none from a position beyond it
+abbrev pub characters_left : Text → (s : ℕ) → ℕ
+characters_left haystack s = length haystack - s
+
+-- how often a search from position s on, of a graph with so many places and arrows, tried a place,
+-- entered one, and looked at what stands there
+pub record IsBounded (places arrows : ℕ) (haystack : Text) (s tried entered looked : ℕ)
+    : Type 0 where
+  pub few_tried : tried ≤ (arrows + 1) * (characters_left haystack s + 1)
+  pub entered_tried : entered ≤ tried
+  pub few_entered : entered ≤ places * (characters_left haystack s + 1)
+  pub few_looked : looked ≤ 2 * entered
+  -- a search from beyond the end has nothing to try
+  pub none_beyond : length haystack < s → tried ≡ 0
