@@ -1,2 +1,10 @@
 -- lemmas that several proofs here share
+pub mod EnterLemmas
+pub mod InStepLemmas
+pub mod MarkLemmas
+pub mod OfferLemmas
 pub mod OptionLemmas
+pub mod OrderLemmas
+pub mod PositionLemmas
+pub mod RoomLemmas
+pub mod WalkLemmas

@@ -3,3 +3,7 @@ pub mod Explored
 pub mod NumberedAnswer
 pub mod Offsets
 pub mod Machine
+pub mod InStep
+pub mod Walking
+pub mod Entering
+pub mod Room

@@ -1,5 +1,5 @@
 //! The graph of a pattern: numbered places with ordered arrows.
-ghost use Rattle.std.specs.Prelude.{◌≡◌, ◌^◌, ◌<◌, length, slice_get, Some, IfOk, IfErr};
+ghost use Rattle.std.specs.Prelude.{◌≡◌, ◌+◌, ◌^◌, ◌<◌, length, slice_get, Some, IfOk, IfErr};
 ghost use Rattle.regex_lite_syntax.specs.Errors.{kind_of};
 ghost use Rattle.regex_lite_syntax.specs.Tree.Regular.{IsRegular};
 ghost use Rattle.regex_lite_syntax.specs.Tree.Views.{tree_of};
@@ -7,13 +7,14 @@ ghost use Rattle.regex_lite_engine.specs.Graph.Renumbered.{IsGraphOf, HasGroupsO
 ghost use Rattle.regex_lite_engine.specs.Graph.Size.{Fits, SaysOfTree};
 ghost use Rattle.regex_lite_engine.specs.Graph.Stored.{LeadsBelow, place_of};
 
-mod class;
+pub(crate) mod class;
 mod count;
 mod groups;
 mod names;
-mod place;
+pub(crate) mod place;
 mod write;
 
+use crate::pikevm::steps::Steps;
 use count::Counts;
 use groups::static_captures_len;
 use names::capture_names;
@@ -85,12 +86,15 @@ impl Graph {
         })
     }
 
-    /// What stands at a place. No other call hands that out.
-    pub(crate) fn look(&self, place: u32) -> &Place
-        requires { place < length self.now.places }
+    /// What stands at a place. No other call hands that out, and this one is counted.
+    pub(crate) fn look(&self, place: u32, steps: &mut Steps) -> &Place
+        requires inside { place < length self.now.places }
+        requires room { steps.old.looked + 1 < 2 ^ 128 }
         ensures found { slice_get self.now.places place ≡ Some result.now }
         ensures inside { LeadsBelow (length self.now.places) (place_of result.now) }
+        ensures counted { steps.new ≡ record steps.old { looked = steps.old.looked + 1 } }
     {
+        steps.count_look();
         &self.places[place as usize]
     }
 

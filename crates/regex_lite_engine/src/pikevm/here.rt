@@ -58,7 +58,8 @@ fn first_char(haystack: &str, at: usize) -> Option<char>
 /// The character that ends there.
 fn last_char(haystack: &str, at: usize) -> Option<char>
     requires { IsCharBoundary haystack.now at }
-    ensures { (p : ℕ) → IsOffset (chars haystack.now) p at → result ≡ before (chars haystack.now) p }
+    ensures { (p : ℕ) → IsOffset (chars haystack.now) p at
+        → result ≡ before (chars haystack.now) p }
 {
     match haystack[..at].chars().next_back() {
         None => None,

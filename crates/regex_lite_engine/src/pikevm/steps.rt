@@ -1,5 +1,5 @@
 //! What a search does, counted.
-ghost use Rattle.std.specs.Prelude.{◌≡◌};
+ghost use Rattle.std.specs.Prelude.{◌≡◌, ◌+◌, ◌<◌, ◌^◌};
 
 /// How much a search did.
 #[derive(Clone, Copy, PartialEq, Eq, Debug)]
@@ -21,6 +21,30 @@ impl Steps {
             entered: 0,
             looked: 0,
         }
+    }
+
+    /// The search comes to a place.
+    pub(crate) fn count_try(&mut self)
+        requires { self.old.tried + 1 < 2 ^ 128 }
+        ensures { self.new ≡ record self.old { tried = self.old.tried + 1 } }
+    {
+        self.tried += 1;
+    }
+
+    /// It enters the place.
+    pub(crate) fn count_entry(&mut self)
+        requires { self.old.entered + 1 < 2 ^ 128 }
+        ensures { self.new ≡ record self.old { entered = self.old.entered + 1 } }
+    {
+        self.entered += 1;
+    }
+
+    /// It looks up what stands there.
+    pub(crate) fn count_look(&mut self)
+        requires { self.old.looked + 1 < 2 ^ 128 }
+        ensures { self.new ≡ record self.old { looked = self.old.looked + 1 } }
+    {
+        self.looked += 1;
     }
 
     /// How often the search came to a place, by an arrow or to start there.
