@@ -1,8 +1,10 @@
 -- lemmas that several proofs here share
+pub mod InLemmas
 pub mod LeadsLemmas
 pub mod LoopLemmas
 pub mod MatchWalkLemmas
 pub mod PassWalkLemmas
+pub mod PatternTreeLemmas
 pub mod PatternWayLemmas
 pub mod RestLemmas
 pub mod StandingLemmas
@@ -12,3 +14,8 @@ pub mod WalkPassLemmas
 pub mod WrittenPartLemmas
 pub mod WrittenRepetitionLemmas
 pub mod WrittenTreeLemmas
+-- lemmas on the preference list, on answers and on groups
+pub mod answer
+pub mod groups
+pub mod list
+pub mod search

@@ -1,8 +1,56 @@
 //! Laws of the definitions. Each function does nothing: its contract is the law.
 ghost use Rattle.regex_lite_engine.specs.WayLaws.{MatchesAreWays};
+ghost use Rattle.regex_lite_engine.specs.SearchLaws.{AnswerIsHead, AnswersAreMatches, AtMostOneAnswer, EnoughTakePart, GroupsLieInside, HasAnswer, ListIsOfAllWays, PreferenceIsTotal, PreferredWaysAreEarlier};
 
 /// A tree that the grammar gives matches from one position to another exactly where a way through
 /// its written-out pattern leads from the one to the other.
 pub fn matches_are_ways()
     ensures { MatchesAreWays }
+{}
+
+/// Of two different ways from one position, one is preferred to the other.
+pub fn preference_is_total()
+    ensures { PreferenceIsTotal }
+{}
+
+/// A way is preferred to another exactly where it takes the earlier arrow where they first differ.
+pub fn preferred_ways_are_earlier()
+    ensures { PreferredWaysAreEarlier }
+{}
+
+/// A search has an answer.
+pub fn search_has_an_answer()
+    ensures { HasAnswer }
+{}
+
+/// A search has at most one answer.
+pub fn at_most_one_answer()
+    ensures { AtMostOneAnswer }
+{}
+
+/// A search finds something exactly where the tree matches from a position at or after the start,
+/// and what it finds is such a match.
+pub fn answers_are_matches()
+    ensures { AnswersAreMatches }
+{}
+
+/// Where each pass of a repetition without a limit reads a character, the preference list is that
+/// of all ways from the position, each preferred to those behind it.
+pub fn list_is_of_all_ways()
+    ensures { ListIsOfAllWays }
+{}
+
+/// There, end and marks of an answer are the head of the preference list at its start.
+pub fn answer_is_head_of_list()
+    ensures { AnswerIsHead }
+{}
+
+/// A group that took part lies inside the whole match, its start not after its end.
+pub fn groups_lie_inside()
+    ensures { GroupsLieInside }
+{}
+
+/// At least as many groups take part in a match as the static number says.
+pub fn enough_groups_take_part()
+    ensures { EnoughTakePart }
 {}

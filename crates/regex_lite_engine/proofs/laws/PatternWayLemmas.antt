@@ -17,7 +17,7 @@ use Rattle.regex_lite_engine.proofs.laws.WalkMatchLemmas.{past_group, walk_match
 use Rattle.regex_lite_engine.proofs.laws.WrittenTreeLemmas.{whole_stands}
 
 -- two addresses are one, or they differ
-one_or_two_addresses : (a b : Address) → (a ≡ b) ⊎ (a ≢ b)
+pub one_or_two_addresses : (a b : Address) → (a ≡ b) ⊎ (a ≢ b)
 one_or_two_addresses [] [] = inl refl
 one_or_two_addresses [] (y ∷ b) = inr (λ e. cc)
 one_or_two_addresses (x ∷ a) [] = inr (λ e. cc)
@@ -29,7 +29,7 @@ one_or_two_addresses (x ∷ a) (y ∷ b) = elim (cases_eq x y) [
   ]
 ]
 
-one_or_two : (m n : Address × ℕ) → (m ≡ n) ⊎ (m ≢ n)
+pub one_or_two : (m n : Address × ℕ) → (m ≡ n) ⊎ (m ≢ n)
 one_or_two (a, i) (b, j) = elim (one_or_two_addresses a b) [
   | inr apart ↦ inr (λ e. apart (ap (λ p. p.0) e))
   | inl e ↦ elim (cases_eq i j) [

@@ -17,12 +17,12 @@ use Rattle.regex_lite_engine.proofs.laws.RestLemmas.{Course, Rest, Passed, after
 use Rattle.regex_lite_engine.proofs.laws.WalkPassLemmas.{past_repetition}
 
 -- a position is there if the test holds
-if_test : (test : Bool) (i j : ℕ) → (if test then Some i else None) ≡ Some j
+pub if_test : (test : Bool) (i j : ℕ) → (if test then Some i else None) ≡ Some j
     → IsTrue test × (i ≡ j)
 if_test true i j e = (refl, same_some e)
 if_test false i j e = absurd cc
 
-was_read : (set : Set) (i j : ℕ) (next : Option ℕ) → behind set i next ≡ Some j
+pub was_read : (set : Set) (i j : ℕ) (next : Option ℕ) → behind set i next ≡ Some j
     → (c : ℕ) × (next ≡ Some c) × IsTrue (set c) × (j ≡ suc i)
 was_read set i j None e = absurd cc
 was_read set i j (Some c) e =

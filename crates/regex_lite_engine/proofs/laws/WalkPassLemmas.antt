@@ -6,7 +6,7 @@ use Rattle.regex_lite_engine.specs.Graph.Places.{choice}
 use Rattle.regex_lite_engine.proofs.laws.StandingLemmas.{InRow, InChoices, IsNullableStar, IsBetween, IsBounded, IsRepetition}
 use Rattle.regex_lite_engine.proofs.laws.RestLemmas.{Course, Rest, Passed, no_rest, loosen, after_go, after_turn, after_choice}
 
-both_passes : (Pass : ℕ → ℕ → Type 0) (m n i k j : ℕ) → Passes Pass m i k → Passes Pass n k j
+pub both_passes : (Pass : ℕ → ℕ → Type 0) (m n i k j : ℕ) → Passes Pass m i k → Passes Pass n k j
     → Passes Pass (m + n) i j
 both_passes Pass zero n i k j e passes =
     let all : n ≡ zero + n = omega arith in

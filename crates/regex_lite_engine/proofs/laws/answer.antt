@@ -1,0 +1,7 @@
+-- a search has one answer
+pub mod AnswerLemmas
+pub mod BestWayLemmas
+pub mod FreshLemmas
+pub mod LeastLemmas
+pub mod OrderLemmas
+pub mod ReachLemmas

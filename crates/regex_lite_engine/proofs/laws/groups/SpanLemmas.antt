@@ -1,0 +1,216 @@
+-- The spans of groups: each lies between where the match starts and where it ends.
+use Rattle.std.proofs.Common.{◌≡◌, ◌≢◌, ◌≤◌, ◌⊎◌, inl, inr, refl, sym, ap, subst, ◌∙◌, ℕ, zero, suc, ◌+◌, ◌*◌, ◌==◌, true, false, Option, Some, None, is_some, arith}
+use Rattle.std.proofs.lemmas.Bool.{cases_eq}
+use Rattle.std.proofs.lemmas.Bool.Decides.{nat_tests}
+use Rattle.regex_lite_syntax.specs.Text.{Text}
+use Rattle.regex_lite_syntax.specs.Tree.{Tree, Trees, empty, character, class, look, repetition, capture, concat, alternation, none, more}
+use Rattle.std.specs.Option.{option_or, option_zip}
+use Rattle.regex_lite_syntax.specs.Tree.Regular.{IsRegular, AreRegular}
+use Rattle.regex_lite_engine.proofs.laws.LeadsLemmas.{same_some}
+use Rattle.regex_lite_engine.specs.Graph.WrittenOut.{whole}
+use Rattle.regex_lite_engine.specs.Search.Marks.{Marks, no_marks, over, span}
+use Rattle.regex_lite_engine.specs.Search.Answer.{Found, IsFound}
+use Rattle.regex_lite_engine.specs.SearchLaws.{HasGroupsInside}
+use Rattle.regex_lite_engine.proofs.laws.groups.MarkingLemmas.{Marking, MarkingChain, MarkingBranch, MarkedPasses, around}
+use Rattle.regex_lite_engine.proofs.laws.groups.MarkedTreeLemmas.{marked_way}
+
+-- two slots hold nothing, or positions in order between i and j
+abbrev Ordered : (i j : ℕ) → Option ℕ → Option ℕ → Type 0
+Ordered i j None None = Unit {0}
+Ordered i j None (Some b) = ⊥
+Ordered i j (Some a) None = ⊥
+Ordered i j (Some a) (Some b) = (i ≤ a) × (a ≤ b) × (b ≤ j)
+
+record AreOrdered (i j : ℕ) (marks : Marks) : Type 0 where
+  forward : i ≤ j
+  each : (index : ℕ) → Ordered i j (marks (2 * index)) (marks (2 * index + 1))
+
+wider : (i k l j : ℕ) (a b : Option ℕ) → i ≤ k → l ≤ j → Ordered k l a b → Ordered i j a b
+wider i k l j None None low high is = tt
+wider i k l j None (Some b) low high is = is
+wider i k l j (Some a) None low high is = is
+wider i k l j (Some a) (Some b) low high is =
+    (omega (arith, low, is.0), is.1, omega (arith, is.2, high))
+
+none_ordered : (i j : ℕ) (marks : Marks) → i ≤ j → marks ≡ no_marks → AreOrdered i j marks
+none_ordered i j marks forward e = record {
+  forward = forward;
+  each = λ index. subst (λ (m : Marks). Ordered i j (m (2 * index)) (m (2 * index + 1))) (sym e) tt;
+}
+
+over_slots : (i j : ℕ) (a b c d : Option ℕ) → Ordered i j a b → Ordered i j c d
+    → Ordered i j (option_or c a) (option_or d b)
+over_slots i j a b None None p q = p
+over_slots i j a b None (Some d) p q = absurd q
+over_slots i j a b (Some c) None p q = absurd q
+over_slots i j a b (Some c) (Some d) p q = q
+
+over_ordered : (i k j : ℕ) (first later marks : Marks) → marks ≡ over later first
+    → AreOrdered i k first → AreOrdered k j later → AreOrdered i j marks
+over_ordered i k j first later marks e p q = record {
+  forward = omega (arith, p.forward, q.forward);
+  each = λ index.
+      subst (λ (m : Marks). Ordered i j (m (2 * index)) (m (2 * index + 1))) (sym e)
+      (over_slots i j (first (2 * index)) (first (2 * index + 1)) (later (2 * index))
+      (later (2 * index + 1))
+      (wider i i k j _ _ (omega arith) q.forward (p.each index))
+      (wider i k j j _ _ p.forward (omega arith) (q.each index)));
+}
+
+or_none : (a : Option ℕ) → option_or a None ≡ a
+or_none None = refl
+or_none (Some a) = refl
+
+-- the slots of the group itself
+own_slots : (i j : ℕ) (a b : Option ℕ) → i ≤ j → Ordered i j a b
+    → Ordered i j (option_or a (Some i)) (Some j)
+own_slots i j None None forward is = (omega arith, forward, omega arith)
+own_slots i j None (Some b) forward is = absurd is
+own_slots i j (Some a) None forward is = absurd is
+own_slots i j (Some a) (Some b) forward is = (is.0, omega (arith, is.1, is.2), omega arith)
+
+around_slots : (g k i j : ℕ) (inner : Marks)
+    → (g ≡ k) ⊎ (g ≢ k) → i ≤ j
+    → Ordered i j (inner (2 * k)) (inner (2 * k + 1))
+    → Ordered i j (around g i j inner (2 * k)) (around g i j inner (2 * k + 1))
+around_slots g k i j inner (inl e) forward is =
+    let a : (2 * g + 1 == 2 * k) ≡ false = grind (arith, nat_tests) in
+    let b : (2 * g == 2 * k) ≡ true = grind (arith, nat_tests, e) in
+    let c : (2 * g + 1 == 2 * k + 1) ≡ true = grind (arith, nat_tests, e) in
+    rw (a, b, c) (own_slots i j (inner (2 * k)) (inner (2 * k + 1)) forward is)
+around_slots g k i j inner (inr apart) forward is =
+    let a : (2 * g + 1 == 2 * k) ≡ false = grind (arith, nat_tests) in
+    let b : (2 * g == 2 * k) ≡ false = grind (arith, nat_tests, apart) in
+    let c : (2 * g + 1 == 2 * k + 1) ≡ false = grind (arith, nat_tests, apart) in
+    let d : (2 * g == 2 * k + 1) ≡ false = grind (arith, nat_tests) in
+    rw (a, b, c, d, or_none (inner (2 * k)), or_none (inner (2 * k + 1))) is
+
+around_ordered : (g i j : ℕ) (inner marks : Marks) → marks ≡ around g i j inner
+    → AreOrdered i j inner → AreOrdered i j marks
+around_ordered g i j inner marks e is = record {
+  forward = is.forward;
+  each = λ k.
+      subst (λ (m : Marks). Ordered i j (m (2 * k)) (m (2 * k + 1))) (sym e)
+      (around_slots g k i j inner (cases_eq g k) is.forward (is.each k));
+}
+
+module _ (haystack : Text) where
+  passes_ordered : (Pass : ℕ → ℕ → Marks → Type 0)
+      → ((i j : ℕ) (marks : Marks) → Pass i j marks → AreOrdered i j marks)
+      → (n i j : ℕ) (marks : Marks) → MarkedPasses Pass n i j marks → AreOrdered i j marks
+  passes_ordered Pass ordered zero i j marks (e, free) =
+      none_ordered i j marks (omega (arith, e)) free
+  passes_ordered Pass ordered (suc n) i j marks (k, first, later, pass, made, e) =
+      over_ordered i k j first later marks e (ordered i k first pass)
+      (passes_ordered Pass ordered n k j later made)
+
+  mutual
+    ordered : (tree : Tree) (i j : ℕ) (marks : Marks) → Marking haystack tree i j marks
+        → AreOrdered i j marks
+    ordered empty i j marks (e, free) = none_ordered i j marks (omega (arith, e)) free
+    ordered (character c) i j marks (there, e, free) =
+        none_ordered i j marks (omega (arith, e)) free
+    ordered (class ranges) i j marks (c, there, is, e, free) =
+        none_ordered i j marks (omega (arith, e)) free
+    ordered (look test) i j marks (holds, e, free) =
+        none_ordered i j marks (omega (arith, e)) free
+    ordered (repetition least most greedy body) i j marks (n, low, high, made) =
+        passes_ordered (Marking haystack body) (λ a b m p. ordered body a b m p) n i j marks made
+    ordered (capture index name body) i j marks (inner, m, e) =
+        around_ordered index i j inner marks e (ordered body i j inner m)
+    ordered (concat parts) i j marks m = chain_ordered parts i j marks m
+    ordered (alternation branches) i j marks m = branch_ordered branches i j marks m
+
+    chain_ordered : (parts : Trees) (i j : ℕ) (marks : Marks)
+        → MarkingChain haystack parts i j marks → AreOrdered i j marks
+    chain_ordered none i j marks (e, free) = none_ordered i j marks (omega (arith, e)) free
+    chain_ordered (more a rest) i j marks (k, first, later, m, chain, e) =
+        over_ordered i k j first later marks e (ordered a i k first m)
+        (chain_ordered rest k j later chain)
+
+    branch_ordered : (branches : Trees) (i j : ℕ) (marks : Marks)
+        → MarkingBranch haystack branches i j marks → AreOrdered i j marks
+    branch_ordered none i j marks m = absurd m
+    branch_ordered (more a rest) i j marks (inl m) = ordered a i j marks m
+    branch_ordered (more a rest) i j marks (inr m) = branch_ordered rest i j marks m
+
+  -- group 0 is no group of the tree
+  no_slot_0_in : (Pass : ℕ → ℕ → Marks → Type 0)
+      → ((i j : ℕ) (marks : Marks) → Pass i j marks → marks 0 ≡ None)
+      → (n i j : ℕ) (marks : Marks) → MarkedPasses Pass n i j marks → marks 0 ≡ None
+  no_slot_0_in Pass none_in zero i j marks (e, free) = ap (λ (m : Marks). m 0) free
+  no_slot_0_in Pass none_in (suc n) i j marks (k, first, later, pass, made, e) =
+      let p = none_in i k first pass in
+      let q = no_slot_0_in Pass none_in n k j later made in
+      ap (λ (m : Marks). m 0) e ∙ rw (q, p) refl
+
+  mutual
+    no_slot_0 : (tree : Tree) (i j : ℕ) (marks : Marks) → IsRegular tree
+        → Marking haystack tree i j marks → marks 0 ≡ None
+    no_slot_0 empty i j marks regular (e, free) = ap (λ (m : Marks). m 0) free
+    no_slot_0 (character c) i j marks regular (there, e, free) = ap (λ (m : Marks). m 0) free
+    no_slot_0 (class ranges) i j marks regular (c, there, is, e, free) =
+        ap (λ (m : Marks). m 0) free
+    no_slot_0 (look test) i j marks regular (holds, e, free) = ap (λ (m : Marks). m 0) free
+    no_slot_0 (repetition least most greedy body) i j marks regular (n, low, high, made) =
+        no_slot_0_in (Marking haystack body)
+        (λ a b m p. no_slot_0 body a b m regular.1 p) n i j marks made
+    no_slot_0 (capture index name body) i j marks regular (inner, m, e) =
+        let a : (2 * index + 1 == 0) ≡ false = grind (arith, nat_tests) in
+        let b : (2 * index == 0) ≡ false = grind (arith, nat_tests, regular.0) in
+        let inside = no_slot_0 body i j inner regular.1 m in
+        ap (λ (m : Marks). m 0) e ∙ rw (a, b, inside) refl
+    no_slot_0 (concat parts) i j marks regular m = no_slot_0_chain parts i j marks regular.1 m
+    no_slot_0 (alternation branches) i j marks regular m =
+        no_slot_0_branch branches i j marks regular.1 m
+
+    no_slot_0_chain : (parts : Trees) (i j : ℕ) (marks : Marks) → AreRegular parts
+        → MarkingChain haystack parts i j marks → marks 0 ≡ None
+    no_slot_0_chain none i j marks regular (e, free) = ap (λ (m : Marks). m 0) free
+    no_slot_0_chain (more a rest) i j marks regular (k, first, later, m, chain, e) =
+        let p = no_slot_0 a i k first regular.0 m in
+        let q = no_slot_0_chain rest k j later regular.1 chain in
+        ap (λ (m : Marks). m 0) e ∙ rw (q, p) refl
+
+    no_slot_0_branch : (branches : Trees) (i j : ℕ) (marks : Marks) → AreRegular branches
+        → MarkingBranch haystack branches i j marks → marks 0 ≡ None
+    no_slot_0_branch none i j marks regular m = absurd m
+    no_slot_0_branch (more a rest) i j marks regular (inl m) = no_slot_0 a i j marks regular.0 m
+    no_slot_0_branch (more a rest) i j marks regular (inr m) =
+        no_slot_0_branch rest i j marks regular.1 m
+
+both_some : (i j : ℕ) (a b : Option ℕ) (from to : ℕ) → Ordered i j a b → option_zip a b ≡ Some (from, to)
+    → (i ≤ from) × (from ≤ to) × (to ≤ j)
+both_some i j None b from to is e = absurd cc
+both_some i j (Some a) None from to is e = absurd cc
+both_some i j (Some a) (Some b) from to is e =
+    let same : (a, b) ≡ (from, to) = same_some e in
+    subst (λ (p : ℕ × ℕ). (i ≤ p.0) × (p.0 ≤ p.1) × (p.1 ≤ j)) same is
+
+both_or_none : (i j : ℕ) (a b : Option ℕ) → Ordered i j a b → is_some a ≡ is_some b
+both_or_none i j None None is = refl
+both_or_none i j None (Some b) is = absurd is
+both_or_none i j (Some a) None is = absurd is
+both_or_none i j (Some a) (Some b) is = refl
+
+pub groups_inside : (tree : Tree) (haystack : Text) (s : ℕ) (found : Found) → IsRegular tree
+    → IsFound tree haystack s found → HasGroupsInside found
+groups_inside tree haystack s found regular is = record {
+  whole = span_0;
+  paired = λ index. both_or_none found.start found.end _ _ (all.each index);
+  inside = λ index from to e.
+      both_some found.start found.end _ _ from to (all.each index) e;
+}
+  where
+    marking : Marking haystack (whole tree) found.start found.end found.marks
+    marking =
+        subst (λ m. Marking haystack (whole tree) found.start found.end m) (sym is.marks)
+        (marked_way tree haystack found.start found.end is.way regular is.most_preferred.is_way)
+
+    all : AreOrdered found.start found.end found.marks
+    all = ordered haystack (whole tree) found.start found.end found.marks marking
+
+    span_0 : span found.marks 0 ≡ Some (found.start, found.end)
+    span_0 =
+        let inner = no_slot_0 haystack tree found.start found.end marking.0 regular marking.1 in
+        ap (λ (m : Marks). span m 0) marking.2 ∙ rw inner refl

@@ -1,0 +1,217 @@
+-- At least the static number of groups take part in a match.
+use Rattle.std.proofs.Common.{◌≡◌, ◌≤◌, ◌<◌, ◌⊎◌, inl, inr, refl, sym, ap, subst, ◌∙◌, ℕ, zero, suc, ◌+◌, ◌-◌, ◌*◌, ◌==◌, max, Bool, true, false, Option, Some, None, is_some, if◌then◌else◌, arith}
+use Rattle.std.proofs.lemmas.Bool.Decides.{nat_tests}
+use Rattle.regex_lite_syntax.specs.Text.{Text}
+use Rattle.regex_lite_syntax.specs.Tree.{Tree, Trees, empty, character, class, look, repetition, capture, concat, alternation, none, more}
+use Rattle.regex_lite_syntax.specs.Tree.Properties.{greatest_index, greatest_index_in, captures_len, sum, common, in_passes, static_groups, static_sum, static_common, static_captures_len}
+use Rattle.regex_lite_syntax.specs.Tree.Regular.{IsRegular}
+use Rattle.regex_lite_engine.specs.Graph.WrittenOut.{whole}
+use Rattle.regex_lite_engine.proofs.laws.LeadsLemmas.{same_some}
+use Rattle.regex_lite_engine.specs.Search.Marks.{Marks, marked, over, span, taking_part}
+use Rattle.regex_lite_syntax.proofs.grammar.NumberedTreeLemmas.{IsNumbered, AreNumbered}
+use Rattle.regex_lite_engine.specs.Search.Answer.{Found, IsFound}
+use Rattle.regex_lite_engine.proofs.laws.groups.MarkingLemmas.{Marking, MarkingChain, MarkingBranch, MarkedPasses, around}
+use Rattle.regex_lite_engine.proofs.laws.groups.MarkedTreeLemmas.{marked_way}
+use Rattle.regex_lite_engine.proofs.laws.groups.TakingCountLemmas.{one_if, earlier_stay, later_stay, two_rows, of_more, own_part}
+
+sum_is : (a b : Option ℕ) (n : ℕ) → sum a b ≡ Some n
+    → (k : ℕ) × (l : ℕ) × (a ≡ Some k) × (b ≡ Some l) × (n ≡ k + l)
+sum_is None b n e = absurd cc
+sum_is (Some a) None n e = absurd cc
+sum_is (Some a) (Some b) n e = (a, b, refl, refl, sym (same_some e))
+
+if_same : (test : Bool) (a n : ℕ) → (if test then Some a else None) ≡ Some n → (test ≡ true) × (a ≡ n)
+if_same true a n e = (refl, same_some e)
+if_same false a n e = absurd cc
+
+same_number : (a b : ℕ) → (a == b) ≡ true → a ≡ b
+same_number a b e = grind (arith, nat_tests, e)
+
+common_is : (a b : Option ℕ) (n : ℕ) → common a b ≡ Some n → (a ≡ Some n) × (b ≡ Some n)
+common_is None b n e = absurd cc
+common_is (Some a) None n e = absurd cc
+common_is (Some a) (Some b) n e =
+    let same = if_same (a == b) a n e in
+    (ap Some same.1, ap Some (sym (same_number a b same.0) ∙ same.1))
+
+first_is : (groups : Option ℕ) (rest : Trees) (n : ℕ) → static_common groups rest ≡ Some n
+    → groups ≡ Some n
+first_is groups none n e = e
+first_is groups (more a rest) n e =
+    (common_is groups (static_groups a) n (first_is (common groups (static_groups a)) rest n e)).0
+
+none_needed : (groups : Option ℕ) (n : ℕ) → in_passes zero groups ≡ Some n → n ≡ 0
+none_needed None n e = absurd cc
+none_needed (Some zero) n e = sym (same_some e)
+none_needed (Some (suc k)) n e = absurd cc
+
+module _ (haystack : Text) where
+  -- at least as many groups above the number take part as are known
+  abbrev Enough : (above : ℕ) → (groups : Option ℕ) → (greatest : ℕ) → Marks → Type 0
+  Enough above groups greatest marks =
+      (n count : ℕ) → groups ≡ Some n → greatest ≤ above + count
+      → n ≤ taking_part marks (suc above) count
+
+  no_group : (above : ℕ) (marks : Marks) → Enough above (Some 0) 0 marks
+  no_group above marks n count e high = let same : 0 ≡ n = same_some e in omega (arith, same)
+
+  in_all_passes : (least n i j above : ℕ) (groups : Option ℕ) (greatest : ℕ) (marks : Marks)
+      → (Pass : ℕ → ℕ → Marks → Type 0)
+      → ((k l : ℕ) (m : Marks) → Pass k l m → Enough above groups greatest m)
+      → least ≤ n → MarkedPasses Pass n i j marks
+      → Enough above (in_passes least groups) greatest marks
+  in_all_passes zero n i j above groups greatest marks Pass enough low made m count e high =
+      let zero_ = none_needed groups m e in omega (arith, zero_)
+  in_all_passes (suc least) zero i j above groups greatest marks Pass enough low made m count e
+      high = absurd (omega (arith, low))
+  in_all_passes (suc least) (suc n) i j above groups greatest marks Pass enough low
+      (k, first, later, pass, made, same) m count e high =
+      let here = enough i k first pass m count e high in
+      let stays = earlier_stay later first (suc above) count in
+      let moved = ap (λ z. taking_part z (suc above) count) same in
+      omega (arith, here, stays, moved)
+
+  in_group : (index i j above : ℕ) (groups : Option ℕ) (greatest : ℕ) (inner marks : Marks)
+      → above < index → marks ≡ around index i j inner → Enough index groups greatest inner
+      → Enough above (sum (Some 1) groups) (max index greatest) marks
+  in_group index i j above groups greatest inner marks order same enough n count e high =
+      let (k, l, one, others, total) = sum_is (Some 1) groups n e in
+      let left = above + count - index in
+      let inside = enough l left others (omega (arith, high)) in
+      let opened = marked (Some (2 * index)) i in
+      let closed = marked (Some (2 * index + 1)) j in
+      let first = later_stay inner opened (suc index) left in
+      let second = earlier_stay closed (over inner opened) (suc index) left in
+      let own = ap one_if (own_part index i j inner) in
+      let own_one : one_if (is_some (span (around index i j inner) index)) ≡ 1 = own in
+      let row = of_more (around index i j inner) (suc above) index count (suc left)
+      (omega (arith, order)) (omega (arith, high, order)) in
+      let moved = ap (λ z. taking_part z (suc above) count) same in
+      let one_is : 1 ≡ k = same_some one in
+      omega (arith, total, one_is, inside, first, second, own_one, row, moved)
+
+  in_two : (above : ℕ) (a b : Option ℕ) (g h : ℕ) (first later marks : Marks)
+      → marks ≡ over later first → Enough above a g first → Enough (max above g) b h later
+      → Enough above (sum a b) (max g h) marks
+  in_two above a b g h first later marks same p q n count e high =
+      let (k, l, one, two, total) = sum_is a b n e in
+      let c = max above g - above in
+      let d = above + count - max above g in
+      let here = p k c one (omega arith) in
+      let there = q l d two (omega (arith, high)) in
+      let stays = earlier_stay later first (suc above) c in
+      let stay = later_stay later first (suc (max above g)) d in
+      let all : count ≡ c + d = omega (arith, high) in
+      let parts = ap (λ z. taking_part (over later first) (suc above) z) all
+      ∙ two_rows (over later first) (suc above) c d in
+      let mid : suc above + c ≡ suc (max above g) = omega arith in
+      let moved_mid = ap (λ z. taking_part (over later first) z d) mid in
+      let moved = ap (λ z. taking_part z (suc above) count) same in
+      omega (arith, total, here, there, stays, stay, parts, moved_mid, moved)
+
+  -- of groups above a greater number
+  above_more : (above g n count : ℕ) (marks : Marks) → g ≤ above + count
+      → n ≤ taking_part marks (suc (max above g)) (above + count - max above g)
+      → n ≤ taking_part marks (suc above) count
+  above_more above g n count marks high there =
+      let row = of_more marks (suc above) (suc (max above g)) count (above + count - max above g)
+      (omega arith) (omega (arith, high)) in
+      omega (arith, there, row)
+
+  later_branch : (groups : Option ℕ) (a : Tree) (rest : Trees) (i j above : ℕ) (marks : Marks)
+      → Marking haystack a i j marks ⊎ MarkingBranch haystack rest i j marks
+      → (Marking haystack a i j marks
+      → Enough above (static_groups a) (greatest_index a) marks)
+      → (MarkingBranch haystack rest i j marks
+      → Enough (max above (greatest_index a)) (static_common (common groups (static_groups a)) rest)
+      (greatest_index_in rest) marks)
+      → Enough above (static_common groups (more a rest)) (greatest_index_in (more a rest)) marks
+  later_branch groups a rest i j above marks (inl m) here there n count e high =
+      let both_known = common_is groups (static_groups a) n
+      (first_is (common groups (static_groups a)) rest n e) in
+      here m n count both_known.1 (omega (arith, high))
+  later_branch groups a rest i j above marks (inr m) here there n count e high =
+      let g = greatest_index a in
+      above_more above g n count marks (omega (arith, high))
+      (there m n (above + count - max above g) e (omega (arith, high)))
+
+  enough_branch : (a : Tree) (rest : Trees) (i j above : ℕ) (marks : Marks)
+      → Marking haystack a i j marks ⊎ MarkingBranch haystack rest i j marks
+      → (Marking haystack a i j marks
+      → Enough above (static_groups a) (greatest_index a) marks)
+      → (MarkingBranch haystack rest i j marks
+      → Enough (max above (greatest_index a)) (static_common (static_groups a) rest)
+      (greatest_index_in rest) marks)
+      → Enough above (static_common (static_groups a) rest) (greatest_index_in (more a rest)) marks
+  enough_branch a rest i j above marks (inl m) here there n count e high =
+      here m n count (first_is (static_groups a) rest n e) (omega (arith, high))
+  enough_branch a rest i j above marks (inr m) here there n count e high =
+      let g = greatest_index a in
+      above_more above g n count marks (omega (arith, high))
+      (there m n (above + count - max above g) e (omega (arith, high)))
+
+  mutual
+    enough : (tree : Tree) (i j above : ℕ) (marks : Marks) → IsNumbered above tree
+        → Marking haystack tree i j marks → (n count : ℕ) → static_groups tree ≡ Some n
+        → greatest_index tree ≤ above + count → n ≤ taking_part marks (suc above) count
+    enough empty i j above marks numbered m = no_group above marks
+    enough (character c) i j above marks numbered m = no_group above marks
+    enough (class ranges) i j above marks numbered m = no_group above marks
+    enough (look test) i j above marks numbered m = no_group above marks
+    enough (repetition least most greedy body) i j above marks numbered (n, low, high, made) =
+        in_all_passes least n i j above (static_groups body) (greatest_index body) marks
+        (Marking haystack body) (λ k l z p. enough body k l above z numbered p) low made
+    enough (capture index name body) i j above marks numbered (inner, m, e) =
+        in_group index i j above (static_groups body) (greatest_index body) inner marks numbered.0 e
+        (enough body i j index inner numbered.1 m)
+    enough (concat parts) i j above marks numbered m = enough_chain parts i j above marks numbered m
+    enough (alternation none) i j above marks numbered m = absurd m
+    enough (alternation (more a rest)) i j above marks numbered m =
+        enough_branch a rest i j above marks m
+        (λ p n count e high. enough a i j above marks numbered.0 p n count e high)
+        (λ p n left e high. enough_branches (static_groups a) rest i j
+        (max above (greatest_index a)) marks numbered.1 p n left e high)
+
+    enough_chain : (parts : Trees) (i j above : ℕ) (marks : Marks) → AreNumbered above parts
+        → MarkingChain haystack parts i j marks
+        → Enough above (static_sum parts) (greatest_index_in parts) marks
+    enough_chain none i j above marks numbered m = no_group above marks
+    enough_chain (more a rest) i j above marks numbered (k, first, later, m, chain, e) =
+        in_two above (static_groups a) (static_sum rest) (greatest_index a) (greatest_index_in rest)
+        first later marks e (enough a i k above first numbered.0 m)
+        (enough_chain rest k j (max above (greatest_index a)) later numbered.1 chain)
+
+    enough_branches : (groups : Option ℕ) (branches : Trees) (i j above : ℕ) (marks : Marks)
+        → AreNumbered above branches → MarkingBranch haystack branches i j marks
+        → Enough above (static_common groups branches) (greatest_index_in branches) marks
+    enough_branches groups none i j above marks numbered m = absurd m
+    enough_branches groups (more a rest) i j above marks numbered m =
+        later_branch groups a rest i j above marks m
+        (λ p n count e high. enough a i j above marks numbered.0 p n count e high)
+        (λ p n left e high. enough_branches (common groups (static_groups a)) rest i j
+        (max above (greatest_index a)) marks numbered.1 p n left e high)
+
+pub enough_take_part : (tree : Tree) (haystack : Text) (s : ℕ) (found : Found) (n : ℕ)
+    → IsRegular tree → IsNumbered 0 tree → IsFound tree haystack s found
+    → static_captures_len tree ≡ Some n → n ≤ taking_part found.marks 0 (captures_len tree)
+enough_take_part tree haystack s found n regular numbered is known =
+    let (k, l, one, others, total) = sum_is (Some 1) (static_groups tree) n known in
+    let count = greatest_index tree in
+    let inside = enough haystack tree found.start found.end 0 marking.0 numbered marking.1 l count
+    others (omega arith) in
+    let opened = marked (Some 0) found.start in
+    let closed = marked (Some 1) found.end in
+    let first = later_stay marking.0 opened 1 count in
+    let second = earlier_stay closed (over marking.0 opened) 1 count in
+    let own_one : one_if (is_some (span (around 0 found.start found.end marking.0) 0)) ≡ 1
+    = ap one_if (own_part 0 found.start found.end marking.0) in
+    let moved = ap (λ z. taking_part z 0 (suc count)) marking.2 in
+    let last : suc count ≡ captures_len tree = omega arith in
+    let all = ap (λ z. taking_part found.marks 0 z) last in
+    let one_is : 1 ≡ k = same_some one in
+    omega (arith, total, one_is, inside, first, second, own_one, moved, all)
+  where
+    marking : Marking haystack (whole tree) found.start found.end found.marks
+    marking =
+        subst (λ m. Marking haystack (whole tree) found.start found.end m) (sym is.marks)
+        (marked_way tree haystack found.start found.end is.way regular is.most_preferred.is_way)

@@ -1,0 +1,84 @@
+-- Lists of entries: going on from each is associative, and so is laying marks over others.
+use Rattle.std.proofs.Common.{◌≡◌, refl, sym, ap, ◌∙◌, ℕ, List, [], ◌∷◌, ◌++◌, map, Option, Some, None, append_assoc, append-nil}
+use Rattle.std.proofs.lemmas.List.{map-append}
+use Rattle.std.specs.Option.{option_or}
+use Rattle.regex_lite_engine.specs.Search.Marks.{Marks, no_marks, marked, over}
+use Rattle.regex_lite_engine.specs.Search.PreferenceList.{Entry, behind_marks, onward, stop}
+
+either_assoc : (a b c : Option ℕ) → option_or (option_or a b) c ≡ option_or a (option_or b c)
+either_assoc None b c = refl
+either_assoc (Some a) b c = refl
+
+either_none : (a : Option ℕ) → option_or a None ≡ a
+either_none None = refl
+either_none (Some a) = refl
+
+pub over_assoc : (a b c : Marks) → over (over a b) c ≡ over a (over b c)
+over_assoc a b c = λ t slot. either_assoc (a slot) (b slot) (c slot) t
+
+pub over_none : (a : Marks) → over a no_marks ≡ a
+over_none a = λ t slot. either_none (a slot) t
+
+pub over_unmarked : (a : Marks) (i : ℕ) → over a (marked None i) ≡ a
+over_unmarked a i = λ t slot. either_none (a slot) t
+
+-- marks of none change nothing
+pub behind_none : (marks : Marks) → ((a : Marks) → over a marks ≡ a) → (list : List Entry)
+    → map (behind_marks marks) list ≡ list
+behind_none marks none [] = refl
+behind_none marks none (e ∷ list) =
+    let first : behind_marks marks e ≡ e = ap (λ (m : Marks). (e.0, m)) (none e.1) in
+    let later = behind_none marks none list in
+    cc (first, later)
+
+pub behind_both : (first later : Marks) (list : List Entry)
+    → map (behind_marks first) (map (behind_marks later) list) ≡ map (behind_marks (over later first)) list
+behind_both first later [] = refl
+behind_both first later (e ∷ list) =
+    let here : behind_marks first (behind_marks later e) ≡ behind_marks (over later first) e
+    = ap (λ (m : Marks). (e.0, m)) (over_assoc e.1 later first) in
+    let rest = behind_both first later list in
+    cc (here, rest)
+
+pub onward_append : (xs ys : List Entry) (next : ℕ → List Entry)
+    → onward (xs ++ ys) next ≡ onward xs next ++ onward ys next
+onward_append [] ys next = refl
+onward_append (e ∷ xs) ys next =
+    ap (λ list. map (behind_marks e.1) (next e.0) ++ list) (onward_append xs ys next)
+    ∙ sym (append_assoc (map (behind_marks e.1) (next e.0)) (onward xs next) (onward ys next))
+
+pub onward_behind : (marks : Marks) (list : List Entry) (next : ℕ → List Entry)
+    → onward (map (behind_marks marks) list) next ≡ map (behind_marks marks) (onward list next)
+onward_behind marks [] next = refl
+onward_behind marks (e ∷ list) next =
+    let here = sym (behind_both marks e.1 (next e.0)) in
+    let parts = ap (λ first. first ++ onward (map (behind_marks marks) list) next) here in
+    let later = ap (λ rest. map (behind_marks marks) (map (behind_marks e.1) (next e.0)) ++ rest)
+    (onward_behind marks list next) in
+    parts ∙ later ∙ sym (map-append (behind_marks marks) (map (behind_marks e.1) (next e.0)) (onward list next))
+
+pub onward_assoc : (list : List Entry) (next further : ℕ → List Entry)
+    → onward (onward list next) further ≡ onward list (λ j. onward (next j) further)
+onward_assoc [] next further = refl
+onward_assoc (e ∷ list) next further =
+    let first = map (behind_marks e.1) (next e.0) in
+    onward_append first (onward list next) further
+    ∙ ap (λ xs. xs ++ onward (onward list next) further) (onward_behind e.1 (next e.0) further)
+    ∙ ap (λ xs. map (behind_marks e.1) (onward (next e.0) further) ++ xs) (onward_assoc list next further)
+
+-- where nothing follows
+pub onward_nothing : (list : List Entry) → onward list (λ j. []) ≡ []
+onward_nothing [] = refl
+onward_nothing (e ∷ list) = onward_nothing list
+
+pub onward_stop : (i : ℕ) (next : ℕ → List Entry) → onward (stop i) next ≡ next i
+onward_stop i next =
+    append-nil (map (behind_marks no_marks) (next i)) ∙ behind_none no_marks over_none (next i)
+
+none_over : (a : Marks) → over no_marks a ≡ a
+none_over a = refl
+
+-- where it stops, nothing changes
+pub onward_stops : (list : List Entry) → onward list stop ≡ list
+onward_stops [] = refl
+onward_stops (e ∷ list) = ap (λ rest. e ∷ rest) (onward_stops list)

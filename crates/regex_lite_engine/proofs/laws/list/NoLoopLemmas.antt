@@ -1,0 +1,105 @@
+-- Where walks are listed, no walk comes to a place twice at one position.
+use Rattle.std.proofs.Common.{◌≡◌, refl, sym, ap, subst, ◌∙◌, ℕ, zero, suc, List, [], ◌∷◌, ◌++◌, Some, None, slice_get}
+use Rattle.regex_lite_syntax.specs.Text.{Text}
+use Rattle.regex_lite_syntax.proofs.ListLemmas.{no_last}
+use Rattle.regex_lite_engine.specs.Graph.Ways.{Leads, NoneTwice}
+use Rattle.regex_lite_engine.specs.Graph.Places.{Arrow, Place, complete, with_arrows, arrived, arrow_taken, step, step_from}
+use Rattle.regex_lite_engine.proofs.laws.LeadsLemmas.{same_some, leads_append}
+use Rattle.regex_lite_engine.specs.Search.PreferenceList.{Entry}
+use Rattle.regex_lite_engine.proofs.laws.list.ListedLemmas.{Listed, ListedBy, completed, branching, over_all, blocked, fitting}
+
+module _ {A : Type 0} (haystack : Text) (place : A → Place A) (end : A)
+  where
+    -- a walk that leads back to where it begins has no arrow
+    abbrev NoLoop : A × ℕ → Type 0
+    NoLoop pair = (ks : List ℕ) → Leads (A × ℕ) (step haystack place) pair ks pair → ks ≡ []
+
+    -- a loop, with its first arrow last
+    turned : (pair next : A × ℕ) (k : ℕ) (ks : List ℕ) → step haystack place pair k ≡ Some next
+        → NoLoop next → Leads (A × ℕ) (step haystack place) next ks pair → ⊥
+    turned pair next k ks s none along =
+        let on = leads_append (step haystack place) ks (k ∷ []) next pair next along
+        (next, s, refl) in
+        no_last ks k (sym (none (ks ++ k ∷ []) on))
+
+    pub next_of : (a : A) (i k : ℕ) (arrows : List (Arrow A)) (next : A × ℕ) → place a ≡ with_arrows arrows
+        → step haystack place (a, i) k ≡ Some next
+        → arrow_taken haystack i (slice_get arrows k) ≡ Some next
+    next_of a i k arrows next e s = subst (λ p. step_from haystack p i k ≡ Some next) e s
+
+    pub complete_stays : (a : A) (i k : ℕ) (next : A × ℕ) → place a ≡ complete
+        → step haystack place (a, i) k ≡ Some next → ⊥
+    complete_stays a i k next e s =
+        let none : None ≡ Some next = subst (λ p. step_from haystack p i k ≡ Some next) e s in
+        cc
+
+    mutual
+      no_loop : {a : A} {i : ℕ} {list : List Entry} → Listed haystack place end a i list → NoLoop (a, i)
+      no_loop {a} {i} (completed here e same) = stays
+        where
+          stays : NoLoop (a, i)
+          stays [] along = refl
+          stays (k ∷ ks) (next, s, along) = absurd (complete_stays a i k next e s)
+      no_loop {a} {i} (branching arrows e listed) = stays (no_loop_by listed)
+        where
+          stays : ((k : ℕ) (next : A × ℕ) → arrow_taken haystack i (slice_get arrows k) ≡ Some next
+              → NoLoop next) → NoLoop (a, i)
+          stays none [] along = refl
+          stays none (k ∷ ks) (next, s, along) =
+              absurd (turned (a, i) next k ks s (none k next (next_of a i k arrows next e s)) along)
+
+      no_loop_by : {arrows : List (Arrow A)} {i : ℕ} {list : List Entry}
+          → ListedBy haystack place end arrows i list → (k : ℕ) (next : A × ℕ)
+          → arrow_taken haystack i (slice_get arrows k) ≡ Some next → NoLoop next
+      no_loop_by (over_all none) k next e = absurd cc
+      no_loop_by (blocked {arrow} gone listed) zero next e =
+          let two : None ≡ Some next = sym (ap (arrived arrow.to) gone) ∙ e in
+          absurd cc
+      no_loop_by (blocked gone listed) (suc k) next e = no_loop_by listed k next e
+      no_loop_by (fitting {arrow} j here there fits listed others all) zero next e =
+          let same : (arrow.to, j) ≡ next = same_some (sym (ap (arrived arrow.to) fits) ∙ e) in
+          subst NoLoop same (no_loop listed)
+      no_loop_by (fitting j here there fits listed others all) (suc k) next e =
+          no_loop_by others k next e
+
+    -- no walk comes back to where it has been
+    abbrev NoLoopFrom : A × ℕ → Type 0
+    NoLoopFrom pair =
+        (us : List ℕ) (m : A × ℕ) → Leads (A × ℕ) (step haystack place) pair us m → NoLoop m
+
+    mutual
+      no_loop_from : {a : A} {i : ℕ} {list : List Entry} → Listed haystack place end a i list
+          → NoLoopFrom (a, i)
+      no_loop_from {a} {i} (completed here e same) = on
+        where
+          on : NoLoopFrom (a, i)
+          on [] m along = subst NoLoop along (no_loop (completed here e same))
+          on (k ∷ us) m (next, s, along) = absurd (complete_stays a i k next e s)
+      no_loop_from {a} {i} (branching arrows e listed) =
+          on (no_loop (branching arrows e listed)) (no_loop_from_by listed)
+        where
+          on : NoLoop (a, i)
+              → ((k : ℕ) (next : A × ℕ) → arrow_taken haystack i (slice_get arrows k) ≡ Some next
+              → NoLoopFrom next) → NoLoopFrom (a, i)
+          on here none [] m along = subst NoLoop along here
+          on here none (k ∷ us) m (next, s, along) =
+              none k next (next_of a i k arrows next e s) us m along
+
+      no_loop_from_by : {arrows : List (Arrow A)} {i : ℕ} {list : List Entry}
+          → ListedBy haystack place end arrows i list → (k : ℕ) (next : A × ℕ)
+          → arrow_taken haystack i (slice_get arrows k) ≡ Some next → NoLoopFrom next
+      no_loop_from_by (over_all none) k next e = absurd cc
+      no_loop_from_by (blocked {arrow} gone listed) zero next e =
+          let two : None ≡ Some next = sym (ap (arrived arrow.to) gone) ∙ e in
+          absurd cc
+      no_loop_from_by (blocked gone listed) (suc k) next e = no_loop_from_by listed k next e
+      no_loop_from_by (fitting {arrow} j here there fits listed others all) zero next e =
+          let same : (arrow.to, j) ≡ next = same_some (sym (ap (arrived arrow.to) fits) ∙ e) in
+          subst NoLoopFrom same (no_loop_from listed)
+      no_loop_from_by (fitting j here there fits listed others all) (suc k) next e =
+          no_loop_from_by others k next e
+
+    -- where the walks are listed, each is one on which no place comes twice at one position
+    pub none_twice : {a : A} {i : ℕ} {list : List Entry} → Listed haystack place end a i list
+        → (ks : List ℕ) → NoneTwice (A × ℕ) (step haystack place) (a, i) ks
+    none_twice listed ks us vs ws m e first loop = no_loop_from listed us m first vs loop
