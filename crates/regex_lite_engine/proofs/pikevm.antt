@@ -4,7 +4,8 @@ pub mod InStepLemmas
 pub mod MarkLemmas
 pub mod OfferLemmas
 pub mod OptionLemmas
-pub mod OrderLemmas
 pub mod PositionLemmas
 pub mod RoomLemmas
+pub mod StepLemmas
+pub mod TurnLemmas
 pub mod WalkLemmas

@@ -7,3 +7,5 @@ pub mod InStep
 pub mod Walking
 pub mod Entering
 pub mod Room
+pub mod Turns
+pub mod Searching

@@ -8,7 +8,7 @@ use Rattle.regex_lite_engine.specs.Walk.InStep.{StartsBelow}
 use Rattle.regex_lite_engine.proofs.pikevm.OptionLemmas.{not_there, same_some}
 use Rattle.regex_lite_engine.proofs.pikevm.OfferLemmas as order
 use Rattle.regex_lite_engine.proofs.pikevm.OfferLemmas.{preferred_before, preferred_append, preferred_longer}
-use Rattle.regex_lite_engine.proofs.pikevm.OrderLemmas.{Before-trans, NotAfter-trans, NotAfter-append}
+use Rattle.regex_lite_engine.proofs.laws.search.WayOrderLemmas.{Before-trans, NotAfter-trans, NotAfter-append}
 
 pub or_dead : {A B D : Type 0} → (A → B) → A ⊎ D → B ⊎ D
 or_dead f (inl a) = inl (f a)

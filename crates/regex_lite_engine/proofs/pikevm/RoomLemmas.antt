@@ -118,7 +118,7 @@ module _ (here : Here) (i : ℕ) (row row' : Row) (fs fs' : List Frame) (t t' : 
 threads_same : (c : ℕ) (t t' : Threads) → Same t t' → ThreadsBelow c t → ThreadsBelow c t'
 threads_same c t t' same within k lt = subst (λ (z : Thread). z.0 < c) (sym (same.1 k)) (within k (let e : t'.len ≡ t.len = same.0 in omega (arith, lt, e)))
 
-threads_pushed : (c to i : ℕ) (row : Row) (t t' : Threads) → to < c → Pushed t t' (to, i, row) → ThreadsBelow c t → ThreadsBelow c t'
+pub threads_pushed : (c to i : ℕ) (row : Row) (t t' : Threads) → to < c → Pushed t t' (to, i, row) → ThreadsBelow c t → ThreadsBelow c t'
 threads_pushed c to i row t t' fits pushed within k lt = go (cases_lt k t.len)
   where
     go : (k < t.len) ⊎ (t.len ≤ k) → (thread_at t' k).0 < c

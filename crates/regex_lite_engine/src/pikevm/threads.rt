@@ -1,5 +1,5 @@
 //! Where a search goes on at a position: places in the order of their preference.
-ghost use Rattle.std.specs.Prelude.{◌≡◌, ◌+◌, ◌*◌, ◌≤◌, ◌<◌, ◌++◌, ℕ, IfOk, length, take, drop, vec_len};
+ghost use Rattle.std.specs.Prelude.{◌≡◌, ◌+◌, ◌*◌, ◌≤◌, ◌<◌, ◌++◌, ℕ, IfOk, None, length, take, drop, replicate, vec_len};
 
 use std::alloc::{AllocError, Global};
 
@@ -65,6 +65,24 @@ impl Threads {
         self.len = k + 1;
     }
 
+    /// Adds a thread whose way begins here, with nothing marked.
+    pub fn push_start(&mut self, place: u32, start: usize)
+        requires { self.old.len < length self.old.places.items }
+        ensures len { self.new.len ≡ self.old.len + 1 }
+        ensures width { self.new.width ≡ self.old.width }
+        ensures room { length self.new.places.items ≡ length self.old.places.items }
+        ensures added { thread_at self.new self.old.len
+            ≡ (place, start, replicate self.old.width None) }
+        ensures kept { (k : ℕ) → k < self.old.len → thread_at self.new k ≡ thread_at self.old k }
+    {
+        let k = self.len;
+        let from = k * self.width;
+        self.places[k] = place;
+        self.starts[k] = start;
+        clear_row(&mut self.rows, from, self.width);
+        self.len = k + 1;
+    }
+
     /// The place and the start of a thread. Its row goes to `slots`.
     pub fn load(&self, k: usize, slots: &mut [Option<usize>]) -> (u32, usize)
         requires inside { k < self.now.len }
@@ -95,4 +113,14 @@ fn put_row(rows: &mut Vec<Option<usize>>, from: usize, slots: &[Option<usize>])
 {
     let to = from + slots.len();
     rows[from..to].copy_from_slice(slots);
+}
+
+/// Writes that nothing is marked over a row of this width.
+fn clear_row(rows: &mut Vec<Option<usize>>, from: usize, width: usize)
+    requires { from + width ≤ length rows.old.items }
+    ensures { rows.new.items ≡ take from rows.old.items
+        ++ (replicate width None ++ drop (from + width) rows.old.items) }
+{
+    let to = from + width;
+    rows[from..to].fill(None);
 }

@@ -1,8 +1,8 @@
 //! The walk over one position: from a place over all that its arrows lead to without reading.
-ghost use Rattle.std.specs.Prelude.{◌≡◌, [], ◌∷◌};
+ghost use Rattle.std.specs.Prelude.{◌≡◌, ◌+◌, ◌<◌, [], ◌∷◌, length};
 ghost use Rattle.regex_lite_engine.specs.declared.pikevm.stack.Frame.TheVariants.{Explore};
 ghost use Rattle.regex_lite_engine.specs.Graph.Stored.{table_of};
-ghost use Rattle.regex_lite_engine.specs.Walk.Machine.{frames_of};
+ghost use Rattle.regex_lite_engine.specs.Walk.Machine.{frames_of, thread_at};
 ghost use Rattle.regex_lite_engine.specs.Walk.Room.{HasRoom, TakesFrame, Explores, IsSameMemory};
 
 use crate::Graph;
@@ -26,6 +26,28 @@ pub struct Walk {
 }
 
 impl Walk {
+    /// Takes up a thread: its row is that which is followed, and its place is left to explore.
+    /// Answers where its way started.
+    pub fn take_up(&mut self, threads: &Threads, k: usize) -> usize
+        requires inside { k < threads.now.len }
+        requires width { threads.now.width ≡ length self.old.slots.items }
+        requires room { 0 < self.old.stack.top }
+        ensures thread { thread_at threads.now k
+            ≡ ((thread_at threads.now k).0, result, self.new.slots.items) }
+        ensures frames { frames_of self.new.stack
+            ≡ Explore (thread_at threads.now k).0 ∷ frames_of self.old.stack }
+        ensures room { self.new.stack.top + 1 ≡ self.old.stack.top }
+        ensures size { length self.new.stack.frames.items ≡ length self.old.stack.frames.items }
+        ensures slots { length self.new.slots.items ≡ length self.old.slots.items }
+        ensures seen { self.new.seen ≡ self.old.seen }
+        ensures next { self.new.next ≡ self.old.next }
+        ensures steps { self.new.steps ≡ self.old.steps }
+    {
+        let (place, start) = threads.load(k, &mut self.slots);
+        self.stack.push(Frame::Explore(place));
+        start
+    }
+
     /// Explores all that is on the stack, the ways of one thread that started at `start`. Stops
     /// where a match is complete, and tells whether one is: what is left then is less preferred.
     pub fn explore(&mut self, graph: &Graph, here: Here, start: usize) -> bool

@@ -180,4 +180,3 @@ module _ (tree : Tree) where
             → Among m.0 all_addresses
         is_written [] at = inl (ap (λ (p : Address × ℕ). p.0) (sym at))
         is_written (k ∷ vs) (next, s, on) = with_arrow haystack m.0 m.1 k next s
-
