@@ -75,7 +75,7 @@ fn after_class(
     from: &Positions,
 ) -> Result<Positions, AllocError>
     requires { IsOver haystack.now from.now }
-    ensures { IfOk result (IsReached (Matches haystack.now (class set.now.ranges.items)) from.now) }
+    ensures { IfOk result (IsReached (Matches haystack.now (class set.now)) from.now) }
 {
     after_reading(alloc, |read| set.contains(read), haystack, from)
 }

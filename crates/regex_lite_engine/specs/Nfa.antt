@@ -1,6 +1,4 @@
 -- What the functions that write a graph promise one another.
 pub mod Saturation
 pub mod AsciiMaps
-pub mod HasGroup
-pub mod Names
 pub mod Layout

@@ -1,10 +1,9 @@
--- Laws of preference and of answers, for the trees that the grammar gives.
+-- Laws of preference and of answers.
 use Rattle.std.specs.Prelude.{◌≡◌, ◌<◌, ◌≤◌, ◌⊎◌, ◌↔◌, ℕ, ◌+◌, ◌*◌, List, [], ◌∷◌, ◌++◌, Option, Some, IsSome, is_some, slice_get}
-use Rattle.regex_lite_syntax.specs.declared.flags.Flags.{Flags}
 use Rattle.regex_lite_syntax.specs.Text.{Text}
 use Rattle.regex_lite_syntax.specs.Tree.{Tree}
 use Rattle.regex_lite_syntax.specs.Tree.Properties.{captures_len, static_captures_len}
-use Rattle.regex_lite_syntax.specs.Grammar.{IsTree}
+use Rattle.regex_lite_engine.specs.WayLaws.{IsPatternTree}
 use Rattle.regex_lite_engine.specs.Graph.Addresses.{Address}
 use Rattle.regex_lite_engine.specs.Graph.Places.{step}
 use Rattle.regex_lite_engine.specs.Graph.Ways.{Leads}
@@ -21,7 +20,8 @@ PreferenceIsTotal =
     → IsWayThrough tree haystack i way j → IsWayThrough tree haystack i other k
     → (way ≡ other) ⊎ (IsPreferred way other ⊎ IsPreferred other way)
 
--- the ways are one up to some place and position, where the one takes an earlier arrow
+-- the two share their arrows up to some place and position, where the one takes an earlier arrow
+-- than the other
 pub record IsEarlier (tree : Tree) (haystack : Text) (i : ℕ) (way other : List ℕ) : Type 0 where
   pub shared : List ℕ
   pub place : Address × ℕ
@@ -35,32 +35,31 @@ pub record IsEarlier (tree : Tree) (haystack : Text) (i : ℕ) (way other : List
   pub is_way : way ≡ shared ++ arrow ∷ rest
   pub is_other : other ≡ shared ++ later_arrow ∷ other_rest
 
--- a way is preferred to those that take a later arrow where they first differ from it
+-- a way is preferred to another exactly where it takes the earlier arrow where they first differ
 abbrev pub PreferredWaysAreEarlier : Type 0
 PreferredWaysAreEarlier =
     (tree : Tree) (haystack : Text) (i j : ℕ) (way other : List ℕ)
     → IsWayThrough tree haystack i way j
     → IsPreferred way other ↔ IsEarlier tree haystack i way other
 
--- a search has an answer
+-- each search has an answer
 abbrev pub HasAnswer : Type 0
 HasAnswer =
-    (flags : Flags) (pattern : Text) (tree : Tree) → IsTree flags pattern tree
-    → (haystack : Text) (s : ℕ) → (answer : Option Found) × IsAnswer tree haystack s answer
+    (tree : Tree) → IsPatternTree tree → (haystack : Text) (s : ℕ)
+    → (answer : Option Found) × IsAnswer tree haystack s answer
 
--- and no two
+-- no search has two answers
 abbrev pub AtMostOneAnswer : Type 0
 AtMostOneAnswer =
-    (flags : Flags) (pattern : Text) (tree : Tree) → IsTree flags pattern tree
-    → (haystack : Text) (s : ℕ) (a b : Option Found) → IsAnswer tree haystack s a
-    → IsAnswer tree haystack s b → a ≡ b
+    (tree : Tree) → IsPatternTree tree → (haystack : Text) (s : ℕ) (a b : Option Found)
+    → IsAnswer tree haystack s a → IsAnswer tree haystack s b → a ≡ b
 
--- there is something to be found exactly where the tree matches from a position at or after the
--- start, and what is found is such a match
+-- something is found exactly where the tree matches from a position at or after the start, and what
+-- is found is such a match
 abbrev pub AnswersAreMatches : Type 0
 AnswersAreMatches =
-    (flags : Flags) (pattern : Text) (tree : Tree) → IsTree flags pattern tree
-    → (haystack : Text) (s : ℕ) (answer : Option Found) → IsAnswer tree haystack s answer
+    (tree : Tree) → IsPatternTree tree → (haystack : Text) (s : ℕ) (answer : Option Found)
+    → IsAnswer tree haystack s answer
     → (IsSome answer ↔ HasMatchFrom tree haystack s)
     × ((found : Found) → answer ≡ Some found
     → IsMatchFrom tree haystack s found.start found.end)
@@ -70,37 +69,35 @@ abbrev pub IsBefore : List ℕ → List (List ℕ) → Type 0
 IsBefore way [] = Unit {0}
 IsBefore way (other ∷ ways) = IsPreferred way other × IsBefore way ways
 
--- these are ways from position i with these ends and marks, each preferred to those behind it
+-- these are ways from position i, each preferred to those behind it, and the entries are their ends
+-- and marks
 abbrev pub AreRanked : Tree → Text → (i : ℕ) → List (List ℕ) → List Entry → Type 0
 AreRanked tree haystack i [] [] = Unit {0}
 AreRanked tree haystack i [] (entry ∷ list) = ⊥
 AreRanked tree haystack i (way ∷ ways) [] = ⊥
 AreRanked tree haystack i (way ∷ ways) (entry ∷ list) =
-    IsWayThrough tree haystack i way entry.0
-    × (entry.1 ≡ marks_of_way tree haystack i way)
+    IsWayThrough tree haystack i way entry.0 × (entry.1 ≡ marks_of_way tree haystack i way)
     × IsBefore way ways × AreRanked tree haystack i ways list
 
--- the preference list is that of all ways in the order of preference
+-- the preference list is that of all ways from the position, in the order of preference
 abbrev pub ListIsOfAllWays : Type 0
 ListIsOfAllWays =
-    (flags : Flags) (pattern : Text) (tree : Tree) → IsTree flags pattern tree
-    → HasReadingLoops tree → (haystack : Text) (i : ℕ)
+    (tree : Tree) → IsPatternTree tree → HasReadingLoops tree → (haystack : Text) (i : ℕ)
     → (ways : List (List ℕ))
     × AreRanked tree haystack i ways (preference_list haystack (whole tree) i)
     × ((way : List ℕ) (j : ℕ) → IsWayThrough tree haystack i way j
     → (k : ℕ) × (slice_get ways k ≡ Some way))
 
--- end and marks of an answer are the head of the preference list at its start
+-- the end and the marks of what is found are the head of the preference list at its start
 abbrev pub AnswerIsHead : Type 0
 AnswerIsHead =
-    (flags : Flags) (pattern : Text) (tree : Tree) → IsTree flags pattern tree
-    → HasReadingLoops tree → (haystack : Text) (s : ℕ) (found : Found)
-    → IsFound tree haystack s found
+    (tree : Tree) → IsPatternTree tree → HasReadingLoops tree → (haystack : Text) (s : ℕ)
+    (found : Found) → IsFound tree haystack s found
     → (rest : List Entry)
     × (preference_list haystack (whole tree) found.start ≡ (found.end, found.marks) ∷ rest)
 
--- Group 0 is what is found. A group marks both its slots or neither, and one that took part lies
--- inside group 0 and starts no later than it ends
+-- Group 0 is the whole match. A group marks both its slots or neither, and one that took part lies
+-- inside the whole match and starts no later than it ends
 pub record HasGroupsInside (found : Found) : Type 0 where
   pub whole : span found.marks 0 ≡ Some (found.start, found.end)
   pub paired : (index : ℕ)
@@ -108,16 +105,16 @@ pub record HasGroupsInside (found : Found) : Type 0 where
   pub inside : (index from to : ℕ) → span found.marks index ≡ Some (from, to)
       → (found.start ≤ from) × (from ≤ to) × (to ≤ found.end)
 
+-- so are the groups of whatever is found
 abbrev pub GroupsLieInside : Type 0
 GroupsLieInside =
-    (flags : Flags) (pattern : Text) (tree : Tree) → IsTree flags pattern tree
-    → (haystack : Text) (s : ℕ) (found : Found) → IsFound tree haystack s found
-    → HasGroupsInside found
+    (tree : Tree) → IsPatternTree tree → (haystack : Text) (s : ℕ) (found : Found)
+    → IsFound tree haystack s found → HasGroupsInside found
 
--- at least as many groups take part in a match as the tree is known to have in every match, group 0
--- among them
+-- at least as many groups take part in what is found as the tree is known to have in every match,
+-- the whole match among them
 abbrev pub EnoughTakePart : Type 0
 EnoughTakePart =
-    (flags : Flags) (pattern : Text) (tree : Tree) → IsTree flags pattern tree
-    → (haystack : Text) (s : ℕ) (found : Found) (n : ℕ) → IsFound tree haystack s found
-    → static_captures_len tree ≡ Some n → n ≤ taking_part found.marks 0 (captures_len tree)
+    (tree : Tree) → IsPatternTree tree → (haystack : Text) (s : ℕ) (found : Found) (n : ℕ)
+    → IsFound tree haystack s found → static_captures_len tree ≡ Some n
+    → n ≤ taking_part found.marks 0 (captures_len tree)

@@ -7,10 +7,13 @@ use Rattle.regex_lite_syntax.specs.Tree.Matches.{Matches}
 use Rattle.regex_lite_syntax.specs.Grammar.{IsTree}
 use Rattle.regex_lite_engine.specs.Graph.WrittenOut.{IsWayThrough}
 
--- a tree that the grammar gives matches from i to j exactly where a way through its written-out
--- pattern leads from i to j
+-- the grammar gives this tree to some pattern
+abbrev pub IsPatternTree : Tree → Type 0
+IsPatternTree tree = (flags : Flags) × (pattern : Text) × IsTree flags pattern tree
+
+-- such a tree matches from i to j exactly where a way through its written-out pattern leads from i
+-- to j
 abbrev pub MatchesAreWays : Type 0
 MatchesAreWays =
-    (flags : Flags) (pattern : Text) (tree : Tree) → IsTree flags pattern tree →
-    (haystack : Text) (i j : ℕ) →
+    (tree : Tree) → IsPatternTree tree → (haystack : Text) (i j : ℕ) →
     Matches haystack tree i j ↔ ((arrows : List ℕ) × IsWayThrough tree haystack i arrows j)

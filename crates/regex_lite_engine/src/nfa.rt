@@ -1,26 +1,24 @@
 //! The graph of a pattern: numbered places with ordered arrows.
-ghost use Rattle.std.specs.Prelude.{◌≡◌, ◌+◌, ◌^◌, ◌<◌, length, slice_get, Some, IfOk, IfErr};
+ghost use Rattle.std.specs.Prelude.{◌≡◌, ◌+◌, ◌^◌, ◌<◌, ℕ, length, map, option_map, slice_get, slice_index_or, Some, None, IfOk, IfErr};
 ghost use Rattle.regex_lite_syntax.specs.Errors.{kind_of};
 ghost use Rattle.regex_lite_syntax.specs.Tree.Regular.{IsRegular};
-ghost use Rattle.regex_lite_syntax.specs.Tree.Views.{tree_of};
+ghost use Rattle.regex_lite_syntax.specs.Tree.Properties.{captures_len, group_name};
+ghost use Rattle.regex_lite_syntax.specs.Tree.Views.{text_of_string, tree_of};
 ghost use Rattle.regex_lite_engine.specs.Graph.Renumbered.{IsGraphOf, HasGroupsOf};
 ghost use Rattle.regex_lite_engine.specs.Graph.Size.{Fits, SaysOfTree};
 ghost use Rattle.regex_lite_engine.specs.Graph.Stored.{LeadsBelow, place_of};
+ghost use Rattle.regex_lite_engine.specs.Nfa.Saturation.{AreCountsOf};
 
 pub(crate) mod class;
 mod count;
-mod groups;
-mod names;
 pub(crate) mod place;
 mod write;
 
 use crate::pikevm::steps::Steps;
 use count::Counts;
-use groups::static_captures_len;
-use names::capture_names;
 use place::Place;
 use regex_lite_syntax::{Error, Hir};
-use std::alloc::Global;
+use std::alloc::{AllocError, Global};
 use std::marker::Model;
 use write::write_out;
 
@@ -75,14 +73,14 @@ impl Graph {
     {
         let counts = Counts::of(hir);
         let count = counts.within(size_limit)?;
-        let capture_names = capture_names(alloc, hir)?;
+        let capture_names = capture_names(alloc, hir, &counts)?;
         let (places, start) = write_out(alloc, hir, count)?;
         Ok(Graph {
             places,
             start,
             arrows: counts.arrows(),
             capture_names,
-            static_captures_len: static_captures_len(hir),
+            static_captures_len: counts.static_captures_len(),
         })
     }
 
@@ -136,4 +134,25 @@ impl Graph {
     {
         self.static_captures_len
     }
+}
+
+/// The names of the groups by index. Where the tree has none, it is not walked for them.
+fn capture_names(
+    alloc: Global,
+    hir: &Hir,
+    counts: &Counts,
+) -> Result<Vec<Option<String>>, AllocError>
+    requires { AreCountsOf (tree_of hir.now) counts.now }
+    ensures each_group { IfOk result (λ names.
+        length names.items ≡ captures_len (tree_of hir.now)) }
+    ensures names { IfOk result (λ names. (k : ℕ)
+        → slice_index_or (map (option_map text_of_string) names.items) k None
+        ≡ group_name (tree_of hir.now) k) }
+{
+    let len = counts.captures_len();
+    if counts.names_size == 0 {
+        let names = vec![in alloc; None; len]?;
+        return Ok(names);
+    }
+    hir.capture_names(alloc, len)
 }

@@ -1,6 +1,7 @@
 -- lemmas that several modules use
 pub mod LetterCaseLemmas
 pub mod ListLemmas
+pub mod NameTableLemmas
 pub mod RangeLemmas
 pub mod TreeLemmas
 -- lemmas on what the grammar says, and on the parser as a machine

@@ -1,145 +1,44 @@
--- The kinds of refusal and their texts.
+-- What a refusal is, its kind and its text.
 use Rattle.std.specs.Prelude.{ℕ, List, codes}
-use Rattle.regex_lite_syntax.specs.declared.error.Error.{Error}
 use Rattle.regex_lite_syntax.specs.declared.error.ErrorKind.{ErrorKind}
 use Rattle.regex_lite_syntax.specs.declared.error.ErrorKind.TheVariants as kind
-use Rattle.regex_lite_syntax.specs.declared.error.Fault.{Fault}
-use Rattle.regex_lite_syntax.specs.declared.error.Fault.TheVariants.{Syntax, Nesting, Groups, Size, Places, Slots, Memory, Replace}
 use Rattle.regex_lite_syntax.specs.declared.error.LimitFault.{LimitFault}
 use Rattle.regex_lite_syntax.specs.declared.error.LimitFault.TheVariants as limit
 use Rattle.regex_lite_syntax.specs.declared.error.syntax.SyntaxFault.{SyntaxFault}
-use Rattle.regex_lite_syntax.specs.declared.error.syntax.SyntaxFault.TheVariants.{DuplicateCaptureName, UnclosedGroup, UnclosedGroupQuestion, UnopenedGroup, LookUnsupported, EmptyFlags, MissingGroupName, InvalidGroupName, UnclosedGroupName, EmptyGroupName, FlagUnrecognized, FlagRepeatedNegation, FlagDuplicate, FlagUnexpectedEof, FlagDanglingNegation, DecimalNoDigits, DecimalInvalid, HexBraceInvalidDigit, HexBraceUnexpectedEof, HexBraceEmpty, HexBraceInvalid, HexFixedUnexpectedEof, HexFixedInvalidDigit, HexFixedInvalid, HexUnexpectedEof, EscapeUnexpectedEof, BackreferenceUnsupported, UnicodeClassUnsupported, EscapeUnrecognized, UncountedRepetitionSubMissing, CountedRepetitionSubMissing, CountedRepetitionUnclosed, CountedRepetitionMinUnclosed, CountedRepetitionCommaUnclosed, CountedRepetitionMinMaxUnclosed, CountedRepetitionInvalid, CountedRepetitionInvalidRange, ClassUnclosedAfterItem, ClassInvalidRangeItem, ClassInvalidItem, ClassUnclosedAfterDash, ClassUnclosedAfterNegation, ClassUnclosedAfterClosing, ClassInvalidRange, ClassUnclosed, ClassNestUnsupported, ClassIntersectionUnsupported, ClassDifferenceUnsupported, ClassSymmetricDifferenceUnsupported, SpecialWordBoundaryUnclosed, SpecialWordBoundaryUnrecognized, SpecialWordOrRepetitionUnexpectedEof}
+use Rattle.regex_lite_syntax.specs.FaultTexts.{fault_text}
 
--- the text of each rule of the grammar that a pattern can break
-abbrev pub fault_text : SyntaxFault → List ℕ
-fault_text DuplicateCaptureName = codes "duplicate capture group name"
-fault_text UnclosedGroup = codes "found open group without closing ')'"
-fault_text UnclosedGroupQuestion = codes "expected closing ')', but got end of pattern"
-fault_text UnopenedGroup = codes "found closing ')' without matching '('"
-fault_text LookUnsupported = codes "look-around is not supported"
-fault_text EmptyFlags = codes "empty flag directive '(?)' is not allowed"
-fault_text MissingGroupName = codes "expected capture group name, but got end of pattern"
-fault_text InvalidGroupName = codes "invalid group name"
-fault_text UnclosedGroupName = codes "expected end of capture group name, but got end of pattern"
-fault_text EmptyGroupName = codes "empty capture group names are not allowed"
-fault_text FlagUnrecognized = codes "unrecognized inline flag"
-fault_text FlagRepeatedNegation = codes "inline flag negation cannot be repeated"
-fault_text FlagDuplicate = codes "duplicate inline flag is not allowed"
-fault_text FlagUnexpectedEof =
-    codes "expected ':' or ')' to end inline flags, but got end of pattern"
-fault_text FlagDanglingNegation = codes "inline flags cannot end with negation directive"
-fault_text DecimalNoDigits = codes "expected decimal number, but found no digits"
-fault_text DecimalInvalid = codes "got invalid decimal number"
-fault_text HexBraceInvalidDigit =
-    codes "expected hexadecimal number in braces, but got non-hex digit"
-fault_text HexBraceUnexpectedEof =
-    codes "expected hexadecimal number, but saw end of pattern before closing brace"
-fault_text HexBraceEmpty = codes "expected hexadecimal number in braces, but got no digits"
-fault_text HexBraceInvalid = codes "got invalid hexadecimal number in braces"
-fault_text HexFixedUnexpectedEof =
-    codes "expected fixed length hexadecimal number, but saw end of pattern first"
-fault_text HexFixedInvalidDigit =
-    codes "expected fixed length hexadecimal number, but got non-hex digit"
-fault_text HexFixedInvalid = codes "got invalid fixed length hexadecimal number"
-fault_text HexUnexpectedEof = codes "expected hexadecimal number, but saw end of pattern first"
-fault_text EscapeUnexpectedEof =
-    codes "saw start of escape sequence, but saw end of pattern before it finished"
-fault_text BackreferenceUnsupported = codes "backreferences are not supported"
-fault_text UnicodeClassUnsupported = codes "Unicode character classes are not supported"
-fault_text EscapeUnrecognized = codes "unrecognized escape sequence"
-fault_text UncountedRepetitionSubMissing =
-    codes "uncounted repetition operator must be applied to a sub-expression"
-fault_text CountedRepetitionSubMissing =
-    codes "counted repetition operator must be applied to a sub-expression"
-fault_text CountedRepetitionUnclosed = codes "found unclosed counted repetition operator"
-fault_text CountedRepetitionMinUnclosed =
-    codes "found incomplete and unclosed counted repetition operator"
-fault_text CountedRepetitionCommaUnclosed =
-    codes "found counted repetition operator with a comma that is unclosed"
-fault_text CountedRepetitionMinMaxUnclosed =
-    codes "found counted repetition with min and max that is unclosed"
-fault_text CountedRepetitionInvalid =
-    codes "expected closing brace for counted repetition, but got something else"
-fault_text CountedRepetitionInvalidRange =
-    codes "found counted repetition with a min bigger than its max"
-fault_text ClassUnclosedAfterItem = codes "non-empty character class has no closing bracket"
-fault_text ClassInvalidRangeItem =
-    codes "character class ranges must start and end with a single character"
-fault_text ClassInvalidItem = codes "invalid escape sequence in character class"
-fault_text ClassUnclosedAfterDash =
-    codes "non-empty character class has no closing bracket after dash"
-fault_text ClassUnclosedAfterNegation = codes "negated character class has no closing bracket"
-fault_text ClassUnclosedAfterClosing =
-    codes "character class begins with literal ']' but has no closing bracket"
-fault_text ClassInvalidRange = codes "invalid range in character class"
-fault_text ClassUnclosed = codes "found unclosed character class"
-fault_text ClassNestUnsupported = codes "nested character classes are not supported"
-fault_text ClassIntersectionUnsupported = codes "character class intersection is not supported"
-fault_text ClassDifferenceUnsupported = codes "character class difference is not supported"
-fault_text ClassSymmetricDifferenceUnsupported =
-    codes "character class symmetric difference is not supported"
-fault_text SpecialWordBoundaryUnclosed =
-    codes "special word boundary assertion is unclosed or has an invalid character"
-fault_text SpecialWordBoundaryUnrecognized = codes "special word boundary assertion is unrecognized"
-fault_text SpecialWordOrRepetitionUnexpectedEof =
-    codes "found start of special word boundary or repetition without an end"
+pub data Refusal : Type 0 where
+  -- the pattern breaks this rule of the grammar
+  syntax_error : (rule : SyntaxFault) → Refusal
+  -- the pattern passes the limit on nesting
+  too_deep : Refusal
+  -- the pattern has more groups than can be numbered
+  too_many_groups : Refusal
+  -- the pattern passes this limit on what is written out
+  passed_limit : (limit : LimitFault) → Refusal
+  -- a growth was refused
+  out_of_memory : Refusal
+  -- a replacer refused
+  refused_replacement : Refusal
 
--- what kind of refusal a fault is
-abbrev pub kind_of_fault : Fault → ErrorKind
-kind_of_fault (Syntax fault) = kind.Syntax
-kind_of_fault Nesting = kind.Nesting
-kind_of_fault Groups = kind.Groups
-kind_of_fault Size = kind.Size
-kind_of_fault Places = kind.Places
-kind_of_fault Slots = kind.Slots
-kind_of_fault Memory = kind.Memory
-kind_of_fault Replace = kind.Replace
+-- what kind of refusal it is
+abbrev pub kind_of : Refusal → ErrorKind
+kind_of (syntax_error rule) = kind.Syntax
+kind_of too_deep = kind.Nesting
+kind_of too_many_groups = kind.Groups
+kind_of (passed_limit limit.Size) = kind.Size
+kind_of (passed_limit limit.Places) = kind.Places
+kind_of (passed_limit limit.Slots) = kind.Slots
+kind_of out_of_memory = kind.Memory
+kind_of refused_replacement = kind.Replace
 
--- the text of a fault
-abbrev pub text_of_fault : Fault → List ℕ
-text_of_fault (Syntax fault) = fault_text fault
-text_of_fault Nesting = codes "pattern has too much nesting"
-text_of_fault Groups = codes "too many capture groups"
-text_of_fault Size = codes "compiled regex exceeded size limit"
-text_of_fault Places = codes "exhausted state IDs, too many states"
-text_of_fault Slots = codes "capture group slots exhausted"
-text_of_fault Memory = codes "out of memory"
-text_of_fault Replace = codes "replacement refused"
-
--- what kind of refusal an error is
-abbrev pub kind_of : Error → ErrorKind
-kind_of error = kind_of_fault error.fault
-
--- the text of an error
-abbrev pub text_of : Error → List ℕ
-text_of error = text_of_fault error.fault
-
--- the refusal of a pattern that breaks this rule
-abbrev pub syntax_error : SyntaxFault → Error
-syntax_error fault = record { fault = Syntax fault }
-
--- the refusal of a pattern that passes the limit on nesting
-abbrev pub too_deep : Error
-too_deep = record { fault = Nesting }
-
--- the refusal of a pattern with more groups than can be numbered
-abbrev pub too_many_groups : Error
-too_many_groups = record { fault = Groups }
-
--- the fault of a pattern that passes a limit on what is written out
-abbrev pub limit_fault : LimitFault → Fault
-limit_fault limit.Size = Size
-limit_fault limit.Places = Places
-limit_fault limit.Slots = Slots
-
--- the refusal of a pattern that passes it
-abbrev pub passed_limit : LimitFault → Error
-passed_limit fault = record { fault = limit_fault fault }
-
--- the refusal of a growth
-abbrev pub out_of_memory : Error
-out_of_memory = record { fault = Memory }
-
--- a replacer's own refusal
-abbrev pub refused_replacement : Error
-refused_replacement = record { fault = Replace }
+-- its text
+abbrev pub text_of : Refusal → List ℕ
+text_of (syntax_error rule) = fault_text rule
+text_of too_deep = codes "pattern has too much nesting"
+text_of too_many_groups = codes "too many capture groups"
+text_of (passed_limit limit.Size) = codes "compiled regex exceeded size limit"
+text_of (passed_limit limit.Places) = codes "exhausted state IDs, too many states"
+text_of (passed_limit limit.Slots) = codes "capture group slots exhausted"
+text_of out_of_memory = codes "out of memory"
+text_of refused_replacement = codes "replacement refused"

@@ -7,9 +7,12 @@ pub mod Ranges
 pub mod NamedSets
 pub mod Tree
 pub mod Grammar
+pub mod FaultTexts
 pub mod Errors
 pub mod Limits
 pub mod Refusals
 pub mod SyntaxLaws
--- What the functions of the parser promise one another. No public contract rests on it.
+-- What the functions of the parser promise one another, and what an error holds inside. No public
+-- contract rests on them.
 pub mod Parser
+pub mod Faults

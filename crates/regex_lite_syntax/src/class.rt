@@ -1,21 +1,21 @@
 //! Sets of characters.
-ghost use Rattle.std.specs.Prelude.{◌≡◌, IfOk, if◌then◌else◌};
-ghost use Rattle.regex_lite_syntax.specs.Sets.{complement, case_closure};
-ghost use Rattle.regex_lite_syntax.specs.Ranges.{in_ranges, AreRuns, AreRuns-prop, AreRunsOf};
-ghost use Rattle.regex_lite_syntax.specs.NamedSets.{members};
+ghost use Rattle.std.specs.Prelude.{◌≡◌, IfOk};
+ghost use Rattle.regex_lite_syntax.specs.Sets.{complement};
+ghost use Rattle.regex_lite_syntax.specs.Ranges.{in_ranges, AreRuns, AreRunsOf};
+ghost use Rattle.regex_lite_syntax.specs.Parser.Readings.{named_or_not};
 
-mod letters;
+pub(crate) mod letters;
 pub(crate) mod named;
 mod neighbours;
 mod runs;
 #[cfg(test)]
 mod tests;
 
-use letters::push_other_case;
 use named::NamedSet;
 use neighbours::{next_char, previous_char};
-use runs::{append, append_between};
+use runs::{append_between, join_all};
 use std::alloc::{AllocError, Global};
+use std::marker::Model;
 
 /// The characters from `start` to `end`, both included.
 #[derive(Clone, Copy, PartialEq, Eq, Debug)]
@@ -29,26 +29,35 @@ pub struct ClassRange {
 #[derive(Debug, Drop)]
 pub struct Class {
     pub(crate) ranges: Vec<ClassRange>,
-    ghost runs: { AreRuns 0 ranges.items } by { AreRuns-prop 0 ranges.items },
+}
+
+impl Model for Class {
+    ghost use Rattle.std.specs.Prelude.{List};
+    ghost use Rattle.regex_lite_syntax.specs.declared.class.ClassRange.{ClassRange};
+    ghost use Rattle.regex_lite_syntax.specs.Ranges.{AreRuns};
+
+    ghost Value = { List ClassRange };
+
+    ghost view = { λ class. class.ranges.items };
+
+    ghost invariant = { λ class. AreRuns 0 class.ranges.items };
 }
 
 impl Class {
     /// The characters that stand in some of these ranges.
-    pub(crate) fn new(alloc: Global, mut ranges: Vec<ClassRange>) -> Result<Class, AllocError>
-        ensures { IfOk result (λ class. AreRunsOf class.ranges.items (in_ranges ranges.items)) }
+    pub(crate) fn new(mut ranges: Vec<ClassRange>) -> Class
+        ensures { AreRunsOf result (in_ranges ranges.items) }
     {
         ranges.sort_unstable_by_key(|range| range.start);
-        let mut runs = Vec::new(alloc);
-        for range in &ranges {
-            append(&mut runs, *range)?;
-        }
-        Ok(Class { ranges: runs })
+        let runs = join_all(&mut ranges);
+        ranges.truncate(runs);
+        Class { ranges }
     }
 
     /// The set with this name, or all other characters.
     pub(crate) fn named(alloc: Global, set: NamedSet, negated: bool) -> Result<Class, AllocError>
-        ensures { IfOk result (λ class. AreRunsOf class.ranges.items
-            (if negated then complement (members set) else members set)) }
+        ensures { IfOk result (λ class. AreRunsOf class
+            (named_or_not set negated)) }
     {
         let ranges = set.ranges(alloc)?;
         let class = Class { ranges };
@@ -59,22 +68,10 @@ impl Class {
         }
     }
 
-    /// The set with the other case of each of its ASCII letters.
-    pub(crate) fn ascii_case_fold(&self, alloc: Global) -> Result<Class, AllocError>
-        ensures { IfOk result (λ class. AreRunsOf class.ranges.items
-            (case_closure (in_ranges self.now.ranges.items))) }
-    {
-        let mut ranges = Vec::from_slice(alloc, &self.ranges)?;
-        for range in &self.ranges {
-            push_other_case(&mut ranges, *range)?;
-        }
-        Class::new(alloc, ranges)
-    }
-
     /// The characters that the set lacks.
     pub(crate) fn negate(&self, alloc: Global) -> Result<Class, AllocError>
-        ensures { IfOk result (λ class. AreRunsOf class.ranges.items
-            (complement (in_ranges self.now.ranges.items))) }
+        ensures { IfOk result (λ class. AreRunsOf class
+            (complement (in_ranges self.now))) }
     {
         let mut gaps = Vec::new(alloc);
         let mut start = Some('\0');
@@ -88,7 +85,7 @@ impl Class {
 
     /// Whether the set holds the character.
     pub fn contains(&self, c: char) -> bool
-        ensures { result ≡ in_ranges self.now.ranges.items c }
+        ensures { result ≡ in_ranges self.now c }
     {
         let at = self.ranges.partition_point(|range| range.end < c);
         at < self.ranges.len() && self.ranges[at].start <= c
@@ -96,7 +93,7 @@ impl Class {
 
     /// The maximal runs of the set, in order.
     pub fn ranges(&self) -> &[ClassRange]
-        ensures same { result.now ≡ self.now.ranges.items }
+        ensures same { result.now ≡ self.now }
         ensures runs { AreRuns 0 result.now }
     {
         &self.ranges

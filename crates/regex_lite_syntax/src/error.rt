@@ -9,6 +9,7 @@ mod syntax;
 
 use std::alloc::{AllocError, AllocFailed};
 use std::fmt;
+use std::marker::Model;
 pub use syntax::SyntaxFault;
 
 /// What kind of refusal an [`Error`] is.
@@ -43,14 +44,13 @@ pub enum LimitFault {
     Slots,
 }
 
+/// What an [`Error`] holds.
 #[derive(Clone, Copy, PartialEq, Eq, Debug)]
 pub(crate) enum Fault {
     Syntax(SyntaxFault),
     Nesting,
     Groups,
-    Size,
-    Places,
-    Slots,
+    Limit(LimitFault),
     Memory,
     Replace,
 }
@@ -58,7 +58,22 @@ pub(crate) enum Fault {
 /// A refusal. Its text is what `Display` writes.
 #[derive(Clone, PartialEq, Eq, Debug, Drop)]
 pub struct Error {
-    pub(crate) fault: Fault,
+    fault: Fault,
+}
+
+impl Model for Error {
+    ghost use Rattle.std.proofs.Common.{ap};
+    ghost use Rattle.regex_lite_syntax.specs.Errors.{Refusal};
+
+    ghost Value = { Refusal };
+
+    ghost use Rattle.regex_lite_syntax.specs.Faults.{refusal_of, fault_of, fault_back};
+
+    ghost view = { λ error. refusal_of error.fault };
+
+    ghost inverse = { λ refusal. record { fault = fault_of refusal } };
+
+    ghost inverse_ok = { λ error _. ap (λ fault. record { fault = fault }) (fault_back error.fault) };
 }
 
 impl Error {
@@ -70,9 +85,9 @@ impl Error {
             Fault::Syntax(_) => ErrorKind::Syntax,
             Fault::Nesting => ErrorKind::Nesting,
             Fault::Groups => ErrorKind::Groups,
-            Fault::Size => ErrorKind::Size,
-            Fault::Places => ErrorKind::Places,
-            Fault::Slots => ErrorKind::Slots,
+            Fault::Limit(LimitFault::Size) => ErrorKind::Size,
+            Fault::Limit(LimitFault::Places) => ErrorKind::Places,
+            Fault::Limit(LimitFault::Slots) => ErrorKind::Slots,
             Fault::Memory => ErrorKind::Memory,
             Fault::Replace => ErrorKind::Replace,
         }
@@ -122,9 +137,9 @@ impl Error {
             Fault::Syntax(fault) => fault.text(),
             Fault::Nesting => "pattern has too much nesting",
             Fault::Groups => "too many capture groups",
-            Fault::Size => "compiled regex exceeded size limit",
-            Fault::Places => "exhausted state IDs, too many states",
-            Fault::Slots => "capture group slots exhausted",
+            Fault::Limit(LimitFault::Size) => "compiled regex exceeded size limit",
+            Fault::Limit(LimitFault::Places) => "exhausted state IDs, too many states",
+            Fault::Limit(LimitFault::Slots) => "capture group slots exhausted",
             Fault::Memory => "out of memory",
             Fault::Replace => "replacement refused",
         }
@@ -155,12 +170,9 @@ impl From<LimitFault> for Error {
     ghost from_gives = { λ fault error. error ≡ passed_limit fault };
 
     fn from(fault: LimitFault) -> Error {
-        let fault = match fault {
-            LimitFault::Size => Fault::Size,
-            LimitFault::Places => Fault::Places,
-            LimitFault::Slots => Fault::Slots,
-        };
-        Error { fault }
+        Error {
+            fault: Fault::Limit(fault),
+        }
     }
 }
 

@@ -5,7 +5,8 @@ ghost use Rattle.regex_lite_syntax.specs.Limits.{depth, depth_of_list};
 ghost use Rattle.regex_lite_syntax.specs.Tree.Views.{text_of_string, tree_of};
 
 pub(crate) mod look;
-mod properties;
+mod names;
+pub(crate) mod properties;
 
 use crate::class::Class;
 use look::Look;
@@ -73,7 +74,7 @@ impl Drop for Hir {
 impl Hir {
     /// A character of this set.
     pub(crate) fn class(alloc: Global, set: Class) -> Result<Hir, AllocError>
-        ensures { IfOk result (λ hir. tree_of hir ≡ class set.ranges.items) }
+        ensures { IfOk result (λ hir. tree_of hir ≡ class set) }
     {
         Ok(Hir::Class(Rc::new(alloc, set)?))
     }

@@ -15,4 +15,5 @@ pub use error::{Error, ErrorKind, LimitFault, SyntaxFault};
 pub use flags::Flags;
 pub use hir::Hir;
 pub use hir::look::Look;
+pub use hir::properties::Properties;
 pub use parse::Config;

@@ -16,7 +16,7 @@ fn write_tree(out: &mut String, hir: &Hir) -> Result<(), Fail> {
     match hir {
         Hir::Empty => out.push_str("empty")?,
         Hir::Char(c) => out.push(*c)?,
-        Hir::Class(set) => write_ranges(out, &set.ranges)?,
+        Hir::Class(set) => write_ranges(out, set.ranges())?,
         Hir::Look(look) => write!(out, "{look:?}")?,
         Hir::Repetition {
             least,

@@ -1,10 +1,9 @@
 -- A pattern that is accepted is refused for want of memory alone.
 use Rattle.std.proofs.Common.{◌≡◌, inl, inr, Result, Ok, Err, IfErr, chars, refl, subst, arith}
 use Rattle.regex_lite_syntax.specs.declared.error.Error.{Error}
-use Rattle.regex_lite_syntax.specs.declared.error.Fault.{Fault}
-use Rattle.regex_lite_syntax.specs.declared.error.Fault.TheVariants as fault
+use Rattle.regex_lite_syntax.specs.declared.error.LimitFault.TheVariants as limit
 use Rattle.regex_lite_syntax.specs.Tree.{Tree}
-use Rattle.regex_lite_syntax.specs.Errors.{out_of_memory}
+use Rattle.regex_lite_syntax.specs.Errors.{Refusal, syntax_error, too_deep, too_many_groups, passed_limit, out_of_memory, refused_replacement}
 use Rattle.regex_lite_engine.specs.Graph.Size.{Fits}
 use Rattle.regex_lite.specs.Settings.{Settings}
 use Rattle.regex_lite.specs.Expression.{IsReadAs, IsAccepted, IsRefusal}
@@ -22,36 +21,36 @@ pub fits_too : (settings : Settings) (a b : Tree) → IsReadAs settings a → Is
 fits_too settings a b p q fits =
     subst (λ tree. Fits settings.size_limit tree) (same_tree settings b a q p) fits
 
-of_fault : (settings : Settings) (fault : Fault) → IsRefusal settings (record { fault = fault })
-    → IsAccepted settings → ◌≡◌ {A = Error} (record { fault = fault }) out_of_memory
-of_fault settings fault.Memory refused accepted = refl
-of_fault settings (fault.Syntax rule) (inl none) (tree, read, fits) =
+for_memory : (settings : Settings) (error : Refusal) → IsRefusal settings error
+    → IsAccepted settings → error ≡ out_of_memory
+for_memory settings out_of_memory refused accepted = refl
+for_memory settings (syntax_error rule) (inl none) (tree, read, fits) =
     absurd (none (tree, (read.0, read.1, read.2)))
-of_fault settings (fault.Syntax rule) (inr (tree, read, says)) accepted = absurd says
-of_fault settings fault.Nesting (inl says) (tree, read, fits) =
+for_memory settings (syntax_error rule) (inr (tree, read, says)) accepted = absurd says
+for_memory settings too_deep (inl says) (tree, read, fits) =
     absurd (read.3 (says.with_tree tree read.0 read.1 read.2))
-of_fault settings fault.Nesting (inr (tree, read, says)) accepted = absurd says
-of_fault settings fault.Groups (inl says) (tree, read, fits) =
+for_memory settings too_deep (inr (tree, read, says)) accepted = absurd says
+for_memory settings too_many_groups (inl says) (tree, read, fits) =
     absurd (read.4 (says.with_tree tree read.0 read.1 read.2))
-of_fault settings fault.Groups (inr (tree, read, says)) accepted = absurd says
-of_fault settings fault.Size (inl says) accepted = absurd says
-of_fault settings fault.Size (inr (a, other, passed)) (tree, read, fits) =
+for_memory settings too_many_groups (inr (tree, read, says)) accepted = absurd says
+for_memory settings (passed_limit limit.Size) (inl says) accepted = absurd says
+for_memory settings (passed_limit limit.Size) (inr (a, other, passed)) (tree, read, fits) =
     let small = (fits_too settings a tree other read fits).size_fits in
     absurd (omega (small, passed, arith))
-of_fault settings fault.Places (inl says) accepted = absurd says
-of_fault settings fault.Places (inr (a, other, passed)) (tree, read, fits) =
+for_memory settings (passed_limit limit.Places) (inl says) accepted = absurd says
+for_memory settings (passed_limit limit.Places) (inr (a, other, passed)) (tree, read, fits) =
     let small = (fits_too settings a tree other read fits).places_fit in
     absurd (omega (small, passed, arith))
-of_fault settings fault.Slots (inl says) accepted = absurd says
-of_fault settings fault.Slots (inr (a, other, passed)) (tree, read, fits) =
+for_memory settings (passed_limit limit.Slots) (inl says) accepted = absurd says
+for_memory settings (passed_limit limit.Slots) (inr (a, other, passed)) (tree, read, fits) =
     let small = (fits_too settings a tree other read fits).slots_fit in
     absurd (omega (small, passed, arith))
-of_fault settings fault.Replace (inl says) accepted = absurd says
-of_fault settings fault.Replace (inr (tree, read, says)) accepted = absurd says
+for_memory settings refused_replacement (inl says) accepted = absurd says
+for_memory settings refused_replacement (inr (tree, read, says)) accepted = absurd says
 
 pub refused_for_memory : {T : Type 0} (settings : Settings) (built : Result T Error)
     → IfErr built (λ error. IsRefusal settings error)
     → IfErr built (λ error. IsAccepted settings → error ≡ out_of_memory)
 refused_for_memory settings (Ok value) refused = refused
 refused_for_memory settings (Err error) refused =
-    λ accepted. of_fault settings error.fault refused accepted
+    λ accepted. for_memory settings error refused accepted

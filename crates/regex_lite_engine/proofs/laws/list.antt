@@ -5,6 +5,7 @@ pub mod ListedLemmas
 pub mod ListedPassLemmas
 pub mod ListedTreeLemmas
 pub mod NoLoopLemmas
+mod PreferenceRows
 pub mod RankLemmas
 pub mod RankedWalkLemmas
 pub mod ReadingLemmas

@@ -1,6 +1,9 @@
 -- the law of all searches, and answers over numbered places
 pub mod CutLemmas
 pub mod NamedWayLemmas
+pub mod NumberedAnswerLemmas
+pub mod NumberedWayLemmas
 pub mod OneEndLemmas
+pub mod OverLemmas
 pub mod SearchLawLemmas
 pub mod WayOrderLemmas

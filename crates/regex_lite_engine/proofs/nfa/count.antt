@@ -3,3 +3,4 @@ pub mod ArrowCountLemmas
 pub mod NameSizeLemmas
 pub mod PlaceCountLemmas
 pub mod SaturationLemmas
+pub mod StaticGroupLemmas

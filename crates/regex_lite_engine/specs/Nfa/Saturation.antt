@@ -1,7 +1,7 @@
 -- What is counted of a tree before anything is written: numbers that stop at the greatest one.
-use Rattle.std.specs.Prelude.{◌≡◌, ℕ, ◌+◌, ◌-◌, ◌^◌, ◌&&◌, min, max}
+use Rattle.std.specs.Prelude.{◌≡◌, ℕ, ◌+◌, ◌-◌, ◌^◌, min}
 use Rattle.regex_lite_syntax.specs.Tree.{Tree}
-use Rattle.regex_lite_syntax.specs.Tree.Properties as property
+use Rattle.regex_lite_syntax.specs.Tree.Properties.{ArePropertiesOf}
 use Rattle.regex_lite_engine.specs.Graph.PlaceCounts as count
 use Rattle.regex_lite_engine.specs.Graph.Size as size
 use Rattle.regex_lite_engine.specs.declared.nfa.count.Counts.{Counts}
@@ -17,15 +17,12 @@ pub record AreCountsOf (tree : Tree) (counts : Counts) : Type 0 where
   pub choice_arrows : counts.choice_arrows ≡ saturated (count.choice_arrows tree)
   pub ranges : counts.ranges ≡ saturated (count.ranges tree)
   pub names_size : counts.names_size ≡ saturated (size.names_size tree)
-  pub greatest_index : counts.greatest_index ≡ property.greatest_index tree
-  pub nullable : counts.nullable ≡ property.nullable tree
+  pub properties : ArePropertiesOf tree counts.properties
 
--- the counts are the sums of the two, and nullable is what both are
+-- the numbers are the sums of the two
 pub record AreSumsOf (a b sum : Counts) : Type 0 where
   pub places : sum.places ≡ saturated (a.places + b.places)
   pub arrows : sum.arrows ≡ saturated (a.arrows + b.arrows)
   pub choice_arrows : sum.choice_arrows ≡ saturated (a.choice_arrows + b.choice_arrows)
   pub ranges : sum.ranges ≡ saturated (a.ranges + b.ranges)
   pub names_size : sum.names_size ≡ saturated (a.names_size + b.names_size)
-  pub greatest_index : sum.greatest_index ≡ max a.greatest_index b.greatest_index
-  pub nullable : sum.nullable ≡ (a.nullable && b.nullable)

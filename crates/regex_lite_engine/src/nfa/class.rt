@@ -27,15 +27,15 @@ impl Model for MappedClass {
 
     ghost Value = { List ClassRange };
 
-    ghost view = { λ set. set.class.value.ranges.items };
+    ghost view = { λ set. set.class.value };
 
-    ghost invariant = { λ set. AreMapOf set.ascii (in_ranges set.class.value.ranges.items) };
+    ghost invariant = { λ set. AreMapOf set.ascii (in_ranges set.class.value) };
 }
 
 impl MappedClass {
     /// The set of the class, which it shares.
     pub(crate) fn new(class: &Rc<Class>) -> Result<MappedClass, AllocError>
-        ensures { IfOk result (λ set. set ≡ class.now.value.ranges.items) }
+        ensures { IfOk result (λ set. set ≡ class.now.value) }
     {
         let map = map_of_ranges(class.ranges());
         Ok(MappedClass {

@@ -6,7 +6,8 @@
 ghost use Rattle.std.specs.Prelude.{◌≡◌, ◌+◌, ◌*◌, ◌^◌, ◌<◌, ◌≤◌, ◌↔◌, ℕ, Bool, map, option_map, IfOk, IfErr};
 ghost use Rattle.regex_lite_syntax.specs.Errors.{kind_of, passed_limit};
 ghost use Rattle.regex_lite_syntax.specs.Tree.Regular.{IsRegular};
-ghost use Rattle.regex_lite_syntax.specs.Tree.{Tree, Trees, class, repetition, capture, concat, alternation, more, trees};
+ghost use Rattle.regex_lite_syntax.specs.Tree.{Tree, Trees, class, repetition, capture, concat, alternation, none, more, trees};
+ghost use Rattle.regex_lite_syntax.specs.Tree.Properties.{captures_len, static_captures_len};
 ghost use Rattle.regex_lite_syntax.specs.Tree.Views.{text_of_string, tree_of};
 ghost use Rattle.regex_lite_engine.specs.Graph.Size.{name_size, size, Fits, SaysOfTree};
 ghost use Rattle.regex_lite_engine.specs.Graph.PlaceCounts.{whole_places, whole_arrows};
@@ -15,7 +16,7 @@ ghost use Rattle.regex_lite_engine.specs.Nfa.Saturation.{saturated, AreCountsOf,
 mod copies;
 
 use copies::{OwnPlaces, copies};
-use regex_lite_syntax::{Class, Hir, LimitFault};
+use regex_lite_syntax::{Class, Hir, LimitFault, Properties};
 
 /// What a tree takes when it is written out. A number that cannot be stored stops at the greatest
 /// one.
@@ -26,9 +27,7 @@ pub(crate) struct Counts {
     pub(crate) choice_arrows: u64,
     pub(crate) ranges: u64,
     pub(crate) names_size: u64,
-    pub(crate) greatest_index: u32,
-    /// A repetition round the tree has other places where this holds.
-    pub(crate) nullable: bool,
+    pub(crate) properties: Properties,
 }
 
 /// What no tree at all takes.
@@ -38,15 +37,40 @@ const NONE: Counts = Counts {
     choice_arrows: 0,
     ranges: 0,
     names_size: 0,
+    properties: Properties {
+        nullable: true,
+        greatest_index: 0,
+        static_groups: Some(0),
+    },
+};
+
+/// What a tree without groups says of itself that reads a character.
+const NOT_NULLABLE: Properties = Properties {
+    nullable: false,
     greatest_index: 0,
-    nullable: true,
+    static_groups: Some(0),
+};
+
+/// What alternatives without a branch take: a choice and a join.
+const NO_BRANCHES: Counts = Counts {
+    places: 2,
+    arrows: 1,
+    properties: NOT_NULLABLE,
+    ..NONE
+};
+
+/// What each branch takes beside its own places.
+const BRANCH: Counts = Counts {
+    arrows: 1,
+    choice_arrows: 1,
+    ..NONE
 };
 
 /// What a place takes that reads a character and leads on.
 const READING: Counts = Counts {
     places: 1,
     arrows: 1,
-    nullable: false,
+    properties: NOT_NULLABLE,
     ..NONE
 };
 
@@ -73,7 +97,7 @@ impl Counts {
     {
         match hir {
             Hir::Empty | Hir::Look(_) => Counts {
-                nullable: true,
+                properties: NONE.properties,
                 ..READING
             },
             Hir::Char(_) => READING,
@@ -107,13 +131,11 @@ impl Counts {
     fn of_branches(branches: &[Hir]) -> Counts
         ensures { AreCountsOf (alternation (trees (map tree_of branches.now))) result }
     {
-        let mut counts = Counts {
-            places: 2,
-            arrows: 1,
-            nullable: false,
-            ..NONE
+        let Some(last) = branches.len().checked_sub(1) else {
+            return NO_BRANCHES;
         };
-        for i in (0..branches.len()).rev() {
+        let mut counts = Counts::of(&branches[last]).alone();
+        for i in (0..last).rev() {
             counts = Counts::of(&branches[i]).or(counts);
         }
         counts
@@ -121,7 +143,7 @@ impl Counts {
 
     /// What the place of a set takes. It has no arrow where the set is empty.
     fn of_class(set: &Class) -> Counts
-        ensures { AreCountsOf (class set.now.ranges.items) result }
+        ensures { AreCountsOf (class set.now) result }
     {
         let ranges = set.ranges().len();
         Counts {
@@ -133,6 +155,18 @@ impl Counts {
 
     /// What this takes with what follows it.
     fn then(self, rest: Counts) -> Counts
+        ensures { (first : Tree) (parts : Trees)
+            → AreCountsOf first self → AreCountsOf (concat parts) rest
+            → AreCountsOf (concat (more first parts)) result }
+    {
+        Counts {
+            properties: self.properties.then(rest.properties),
+            ..self.plus(rest)
+        }
+    }
+
+    /// The sums of these numbers and the others. Properties have no sum: they stay as they are.
+    fn plus(self, rest: Counts) -> Counts
         ensures { AreSumsOf self rest result }
     {
         Counts {
@@ -141,23 +175,30 @@ impl Counts {
             choice_arrows: self.choice_arrows.saturating_add(rest.choice_arrows),
             ranges: self.ranges.saturating_add(rest.ranges),
             names_size: self.names_size.saturating_add(rest.names_size),
-            greatest_index: self.greatest_index.max(rest.greatest_index),
-            nullable: self.nullable && rest.nullable,
+            properties: self.properties,
+        }
+    }
+
+    /// What this branch takes alone, with the choice and the join.
+    fn alone(self) -> Counts
+        ensures { (branch : Tree) → AreCountsOf branch self
+            → AreCountsOf (alternation (more branch none)) result }
+    {
+        Counts {
+            properties: self.properties.alone(),
+            ..self.plus(NO_BRANCHES).plus(BRANCH)
         }
     }
 
     /// What this branch takes with the others, and the arrow of their choice that leads to it.
     fn or(self, others: Counts) -> Counts
-        ensures { (branch : Tree) (rest : Trees)
-            → AreCountsOf branch self → AreCountsOf (alternation rest) others
-            → AreCountsOf (alternation (more branch rest)) result }
+        ensures { (branch next : Tree) (rest : Trees)
+            → AreCountsOf branch self → AreCountsOf (alternation (more next rest)) others
+            → AreCountsOf (alternation (more branch (more next rest))) result }
     {
-        let both = self.then(others);
         Counts {
-            arrows: both.arrows.saturating_add(1),
-            choice_arrows: both.choice_arrows.saturating_add(1),
-            nullable: self.nullable || others.nullable,
-            ..both
+            properties: self.properties.or(others.properties),
+            ..self.plus(others).plus(BRANCH)
         }
     }
 
@@ -170,7 +211,7 @@ impl Counts {
             places: self.places.saturating_add(2),
             arrows: self.arrows.saturating_add(2),
             names_size: self.names_size.saturating_add(name_size(name)),
-            greatest_index: self.greatest_index.max(index),
+            properties: self.properties.captured(index),
             ..self
         }
     }
@@ -181,13 +222,13 @@ impl Counts {
             → AreCountsOf (repetition least most greedy body) result }
     {
         let copies = copies(least, most);
-        let own = OwnPlaces::of(least, most, self.nullable);
+        let own = OwnPlaces::of(least, most, self.properties.nullable);
         Counts {
             places: times(copies, self.places, own.choices + own.others),
             arrows: times(copies, self.arrows, 2 * own.choices + own.others),
             choice_arrows: times(copies, self.choice_arrows, 2 * own.choices),
             ranges: times(copies, self.ranges, 0),
-            nullable: least == 0 || self.nullable,
+            properties: self.properties.repeated(least),
             ..self
         }
     }
@@ -202,7 +243,7 @@ impl Counts {
         if self.size() > size_limit as u128 {
             return Err(LimitFault::Size);
         }
-        if self.greatest_index >= FIRST_PAST_SLOTS {
+        if self.properties.greatest_index >= FIRST_PAST_SLOTS {
             return Err(LimitFault::Slots);
         }
         match u32::try_from(self.places.saturating_add(3)) {
@@ -218,7 +259,7 @@ impl Counts {
             → (result ≤ limit) ↔ (size tree ≤ limit) }
     {
         PLACE_SIZE * (u128::from(self.places) + 3)
-            + GROUP_SIZE * (u128::from(self.greatest_index) + 1)
+            + GROUP_SIZE * (u128::from(self.properties.greatest_index) + 1)
             + ARROW_SIZE * u128::from(self.choice_arrows)
             + RANGE_SIZE * u128::from(self.ranges)
             + u128::from(self.names_size)
@@ -230,6 +271,22 @@ impl Counts {
             → whole_places tree < 2 ^ 32 → result ≡ whole_arrows tree }
     {
         self.arrows.saturating_add(2) as usize
+    }
+
+    /// How many groups a match can tell of, the whole match among them.
+    pub(crate) fn captures_len(&self) -> usize
+        ensures { (tree : Tree) → AreCountsOf tree self.now → result ≡ captures_len tree }
+    {
+        self.properties.greatest_index as usize + 1
+    }
+
+    /// How many groups at least take part in every match, the whole match among them, where that is
+    /// known and the places can be numbered.
+    pub(crate) fn static_captures_len(&self) -> Option<usize>
+        ensures { (tree : Tree) → AreCountsOf tree self.now → whole_places tree < 2 ^ 32
+            → result ≡ static_captures_len tree }
+    {
+        Some(self.properties.static_groups? as usize + 1)
     }
 }
 

@@ -1,8 +1,9 @@
 -- What a range behind the last run adds, joined to it or apart.
-use Rattle.std.proofs.Common.{◌≡◌, ℕ, ◌+◌, ◌≤◌, ◌||◌, List, [], ◌∷◌, ◌++◌, IsTrue, arith, All, nat_cmp, length}
+use Rattle.std.proofs.Common.{◌≡◌, sym, ◌∙◌, ap, subst, ℕ, ◌+◌, ◌-◌, ◌<◌, ◌≤◌, ◌||◌, List, [], ◌∷◌, ◌++◌, IsTrue, arith, add-zero, All, nat_cmp, length, take, drop, get_or, slice_set}
 use Rattle.std.specs.Ordering.{ord_max}
 use Rattle.std.proofs.lemmas.Bool.Decides.{nat_tests}
 use Rattle.std.proofs.lemmas.Grind.{common_steps}
+use Rattle.std.proofs.lemmas.List.{take_more, take_more_set, get_or-drop, drop-drop}
 use Rattle.regex_lite_syntax.specs.Characters.{is_character}
 use Rattle.regex_lite_syntax.specs.Sets.{span}
 use Rattle.regex_lite_syntax.specs.declared.class.ClassRange.{ClassRange}
@@ -48,3 +49,34 @@ starts_until n end a last all k d inside = grind (arith, common_steps, all k d)
 
 pub starts_last : (n : ℕ) (a : List ClassRange) (last : ClassRange) → All (λ run. run.start ≤ n) (a ++ last ∷ []) → last.start ≤ n
 starts_last n a last all = let here = all (length a) last in grind (arith, common_steps)
+
+pub starts_push : (n : ℕ) (a : List ClassRange) (r : ClassRange) → All (λ run. run.start ≤ n) a → r.start ≤ n
+    → All (λ run. run.start ≤ n) (a ++ r ∷ [])
+starts_push n a r all le k d inside = grind (arith, common_steps, all k d)
+
+-- the last of the ranges in front
+pub last_of : (xs : List ClassRange) (n : ℕ) (d : ClassRange) → 0 < n → n ≤ length xs
+    → take n xs ≡ take (n - 1) xs ++ get_or xs (n - 1) d ∷ []
+last_of xs n d some inside =
+    let is : n - 1 + 1 ≡ n = omega (arith, some) in
+    subst (λ k. take k xs ≡ take (n - 1) xs ++ get_or xs (n - 1) d ∷ []) is (take_more xs (n - 1) d (omega (arith, some, inside)))
+
+-- another in its place
+pub last_set : (xs : List ClassRange) (n : ℕ) (r : ClassRange) → 0 < n → n ≤ length xs
+    → take n (slice_set xs (n - 1) r) ≡ take (n - 1) xs ++ r ∷ []
+last_set xs n r some inside =
+    let is : n - 1 + 1 ≡ n = omega (arith, some) in
+    subst (λ k. take k (slice_set xs (n - 1) r) ≡ take (n - 1) xs ++ r ∷ []) is (take_more_set xs (n - 1) r (omega (arith, some, inside)))
+
+-- what is the same from one index on is the same from a later one on
+pub same_later : (xs ys : List ClassRange) (n m : ℕ) → n ≤ m → drop n xs ≡ drop n ys → drop m xs ≡ drop m ys
+same_later xs ys n m le same =
+    let is : n + (m - n) ≡ m = omega (arith, le) in
+    subst (λ k. drop k xs ≡ drop k ys) is
+    (sym (drop-drop (m - n) n xs) ∙ ap (λ l. drop (m - n) l) same ∙ drop-drop (m - n) n ys)
+
+-- and so is the element there
+pub same_there : (xs ys : List ClassRange) (n : ℕ) (d : ClassRange) → drop n xs ≡ drop n ys → get_or xs n d ≡ get_or ys n d
+same_there xs ys n d same =
+    subst (λ k. get_or xs k d ≡ get_or ys k d) (add-zero n)
+    (sym (get_or-drop n xs 0 d) ∙ ap (λ l. get_or l 0 d) same ∙ get_or-drop n ys 0 d)

@@ -1,12 +1,11 @@
 -- A bracketed class is read in one way.
 use Rattle.std.proofs.Common.{◌≡◌, refl, sym, ◌∙◌, ap, subst, ℕ, zero, suc, Bool, true, false, List, [], ◌∷◌, Some, arith, if◌then◌else◌, nat_lt}
 use Rattle.std.proofs.lemmas.Bool.{both_ways}
-use Rattle.regex_lite_syntax.specs.declared.class.named.NamedSet.{NamedSet}
 use Rattle.regex_lite_syntax.specs.Text.{Text, Begins, Spelled, AllPass, the}
 use Rattle.regex_lite_syntax.specs.Characters.{is_lower}
 use Rattle.regex_lite_syntax.specs.Grammar.Gaps.{WholeGap}
 use Rattle.regex_lite_syntax.specs.Sets.{Set, just, span, complement}
-use Rattle.regex_lite_syntax.specs.NamedSets.{members, set_named}
+use Rattle.regex_lite_syntax.specs.NamedSets.{SetName, members, set_named}
 use Rattle.regex_lite_syntax.specs.Grammar.Escapes.{Primitive, one, some_of, Escape}
 use Rattle.regex_lite_syntax.specs.Grammar.Classes.{ClassElement, literal, escaped, RangeFollows, BeginsItem, NamedClass, ClassItem, named_class, character, escaped_set, range, Takes, takes, leaves, Dashes, FirstBracket, ClassItems, only_if, class_set, BracketedClass}
 use Rattle.regex_lite_syntax.specs.Parser.ClassReadings.{Lacks}
@@ -69,7 +68,7 @@ no_negation false t u w r v e s p closes h b = no_caret w u r v s p closes (subs
 -- the longest word past the negation is the name
 pub name_once : (opened u w r : Text) (m : Bool) → opened ≡ (if m then the "^" ∷ u else u)
     → (m ≡ false → Begins (the "^") opened → ⊥) → Spelled w u r → AllPass is_lower w → Lacks is_lower r
-    → (t rest : Text) (n : Bool) (set : NamedSet) → t ≡ the "[" ∷ the ":" ∷ opened → (c : NamedClass t rest n set)
+    → (t rest : Text) (n : Bool) (set : SetName) → t ≡ the "[" ∷ the ":" ∷ opened → (c : NamedClass t rest n set)
     → (m ≡ n) × (w ≡ c.name) × (r ≡ c.end)
 name_once opened u w r m e bare s p lacks t rest n set opens c =
     let same : opened ≡ c.opened = same_tail (same_tail (sym opens ∙ c.opens)) in
@@ -80,7 +79,7 @@ name_once opened u w r m e bare s p lacks t rest n set opens c =
     p c.letters lacks (subst (λ v. Lacks is_lower v) (sym c.closes) refl) in
     (signs.0, words.0, words.1)
 
-pub named_once : (t r s : Text) (m n : Bool) (a b : NamedSet) → NamedClass t r m a → NamedClass t s n b
+pub named_once : (t r s : Text) (m n : Bool) (a b : SetName) → NamedClass t r m a → NamedClass t s n b
     → (r ≡ s) × (m ≡ n) × (a ≡ b)
 named_once t r s m n a b c d =
     let once = name_once c.opened c.begin c.name c.end m c.negation
@@ -90,7 +89,7 @@ named_once t r s m n a b c d =
     let sets : Some a ≡ Some b = sym c.named ∙ ap set_named once.1 ∙ d.named in
     (ends, once.0, cc sets)
 
-pub named_begins : (t r : Text) (n : Bool) (a : NamedSet) → NamedClass t r n a → Begins (the "[") t
+pub named_begins : (t r : Text) (n : Bool) (a : SetName) → NamedClass t r n a → Begins (the "[") t
 named_begins t r n a c = begins (the "[") t _ c.opens
 
 pub no_bracket : (t : Text) → BeginsItem t → Begins (the "[") t → ⊥

@@ -4,7 +4,7 @@ use Rattle.std.specs.List.{count_by}
 use Rattle.std.proofs.lemmas.List.Sums.{sum_by-cons}
 use Rattle.regex_lite_syntax.specs.declared.flags.Flags.{Flags}
 use Rattle.regex_lite_syntax.specs.declared.hir.look.Look.{Look}
-use Rattle.regex_lite_syntax.specs.declared.class.named.NamedSet.{NamedSet}
+use Rattle.regex_lite_syntax.specs.NamedSets.{SetName}
 use Rattle.regex_lite_syntax.specs.Text.{Text, Spelled, the}
 use Rattle.regex_lite_syntax.specs.Grammar.Gaps.{Spacing, Gap, Spaced}
 use Rattle.regex_lite_syntax.specs.Sets.{Set}
@@ -142,7 +142,7 @@ negation_reads : (negated : Bool) (t begin : Text) → t ≡ (if negated then th
 negation_reads true t begin e = one_read e
 negation_reads false t begin e = nothing_read e
 
-named_class_reads : {t rest : Text} {negated : Bool} {set : NamedSet} → NamedClass t rest negated set → NoMore t rest
+named_class_reads : {t rest : Text} {negated : Bool} {set : SetName} → NamedClass t rest negated set → NoMore t rest
 named_class_reads {t} {rest} {negated} n =
     let opens = then_read (one_read n.opens) (past_first _ n.opened) in
     let name = then_read (negation_reads negated n.opened n.begin n.negation)

@@ -1,16 +1,17 @@
 -- The whole match, which is group 0, has no name: the groups of a pattern are numbered from 1.
 use Rattle.std.proofs.Common.{◌≡◌, ◌∙◌, ◌≤◌, ◌==◌, refl, ap, ℕ, false, Option, None, arith}
+use Rattle.std.specs.Option.{option_or}
 use Rattle.std.proofs.lemmas.Bool.{ne_eqb}
 use Rattle.regex_lite_syntax.specs.Text.{Text}
 use Rattle.regex_lite_syntax.specs.Tree.{Tree, Trees, empty, character, class, look, repetition, capture, concat, alternation, none, more}
-use Rattle.regex_lite_syntax.specs.Tree.Properties.{either, name_if, group_name, group_name_in}
+use Rattle.regex_lite_syntax.specs.Tree.Properties.{name_if, group_name, group_name_in}
 use Rattle.regex_lite_syntax.specs.Tree.Regular.{IsRegular, AreRegular}
 
 not_this : (index : ℕ) (name rest : Option Text) → 1 ≤ index → rest ≡ None
-    → either (name_if (index == 0) name) rest ≡ None
+    → option_or (name_if (index == 0) name) rest ≡ None
 not_this index name rest from_one unnamed =
     let other : (index == 0) ≡ false = ne_eqb index 0 (λ e. omega (e, from_one, arith)) in
-    ap (λ this. either (name_if this name) rest) other ∙ unnamed
+    ap (λ this. option_or (name_if this name) rest) other ∙ unnamed
 
 mutual
   pub no_name : (tree : Tree) → IsRegular tree → group_name tree 0 ≡ None
@@ -27,5 +28,5 @@ mutual
   no_name_in : (trees : Trees) → AreRegular trees → group_name_in trees 0 ≡ None
   no_name_in none regular = refl
   no_name_in (more a rest) regular =
-      ap (λ name. either name (group_name_in rest 0)) (no_name a regular.0)
+      ap (λ name. option_or name (group_name_in rest 0)) (no_name a regular.0)
       ∙ no_name_in rest regular.1

@@ -1,11 +1,10 @@
 -- Bracketed classes.
 use Rattle.std.specs.Prelude.{◌≡◌, ◌≢◌, ℕ, zero, suc, ◌≤◌, Bool, true, false, not, ◌&&◌, nat_lt, List, [], ◌∷◌, Some, IsTrue, if◌then◌else◌}
-use Rattle.regex_lite_syntax.specs.declared.class.named.NamedSet.{NamedSet}
 use Rattle.regex_lite_syntax.specs.Text.{Text, Begins, Spelled, AllPass, the, ◌∈◌}
 use Rattle.regex_lite_syntax.specs.Characters.{is_lower, is_white_space}
 use Rattle.regex_lite_syntax.specs.Grammar.Gaps.{WholeGap}
 use Rattle.regex_lite_syntax.specs.Sets.{Set, just, span, union, complement, case_closure}
-use Rattle.regex_lite_syntax.specs.NamedSets.{members, set_named}
+use Rattle.regex_lite_syntax.specs.NamedSets.{SetName, members, set_named}
 use Rattle.regex_lite_syntax.specs.Grammar.Escapes.{Primitive, one, some_of, Escape}
 
 -- one character or one escape. In verbose mode white space and `#` are no characters of a class
@@ -35,7 +34,7 @@ BeginsItem (c ∷ t) =
     × (IsTrue (c ∈ "&-~") → Begins c t → ⊥)
 
 -- `[:name:]`, or `[:^name:]` for the complement
-pub record NamedClass (t rest : Text) (negated : Bool) (set : NamedSet) : Type 0 where
+pub record NamedClass (t rest : Text) (negated : Bool) (set : SetName) : Type 0 where
   pub opened : Text
   pub begin : Text
   pub end : Text
@@ -49,7 +48,7 @@ pub record NamedClass (t rest : Text) (negated : Bool) (set : NamedSet) : Type 0
 
 -- one item of a class, and its set
 pub data ClassItem (verbose : Bool) (t rest : Text) (s : Set) : Type 0 where
-  named_class : (negated : Bool) (set : NamedSet) → NamedClass t rest negated set
+  named_class : (negated : Bool) (set : SetName) → NamedClass t rest negated set
       → s ≡ (if negated then complement (members set) else members set) → ClassItem verbose t rest s
   character : (c : ℕ) → BeginsItem t → ClassElement verbose t rest (one c)
       → ((last : Text) → RangeFollows verbose rest last → ⊥) → s ≡ just c

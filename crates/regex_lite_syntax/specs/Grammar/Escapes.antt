@@ -3,12 +3,11 @@ use Rattle.std.specs.Prelude.{◌≡◌, ℕ, ◌<◌, Bool, not, ◌&&◌, ◌|
 use Prim.Native.String.{String}
 use Rattle.regex_lite_syntax.specs.declared.hir.look.Look.{Look}
 use Rattle.regex_lite_syntax.specs.declared.hir.look.Look.TheVariants as looks
-use Rattle.regex_lite_syntax.specs.declared.class.named.NamedSet.TheVariants as sets
 use Rattle.regex_lite_syntax.specs.Text.{Text, Begins, is_text, the}
 use Rattle.regex_lite_syntax.specs.Characters.{is_character, is_letter, is_digit, is_hex_digit, number_of}
 use Rattle.regex_lite_syntax.specs.Grammar.Gaps.{Gap, Spaced}
 use Rattle.regex_lite_syntax.specs.Sets.{Set, complement}
-use Rattle.regex_lite_syntax.specs.NamedSets.{members}
+use Rattle.regex_lite_syntax.specs.NamedSets.{members, digit, space, word}
 
 -- what an item or a part of a bracketed class stands for
 pub data Primitive : Type 0 where
@@ -44,12 +43,12 @@ escape_kind c =
     else if c == the "<" then gives (look_at looks.WordStart)
     else if c == the ">" then gives (look_at looks.WordEnd)
     else if c == the "b" then word_boundary
-    else if c == the "d" then gives (some_of (members sets.Digit))
-    else if c == the "s" then gives (some_of (members sets.Space))
-    else if c == the "w" then gives (some_of (members sets.Word))
-    else if c == the "D" then gives (some_of (complement (members sets.Digit)))
-    else if c == the "S" then gives (some_of (complement (members sets.Space)))
-    else if c == the "W" then gives (some_of (complement (members sets.Word)))
+    else if c == the "d" then gives (some_of (members digit))
+    else if c == the "s" then gives (some_of (members space))
+    else if c == the "w" then gives (some_of (members word))
+    else if c == the "D" then gives (some_of (complement (members digit)))
+    else if c == the "S" then gives (some_of (complement (members space)))
+    else if c == the "W" then gives (some_of (complement (members word)))
     else if c == the "x" then hexadecimal 2
     else if c == the "u" then hexadecimal 4
     else if c == the "U" then hexadecimal 8

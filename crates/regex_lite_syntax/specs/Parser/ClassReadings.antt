@@ -10,6 +10,8 @@ use Rattle.regex_lite_syntax.specs.declared.parse.bracket.opening.Opening.{Openi
 use Rattle.regex_lite_syntax.specs.Text.{Text, Begins, the, ◌∈◌}
 use Rattle.regex_lite_syntax.specs.Grammar.Gaps.{WholeGap}
 use Rattle.regex_lite_syntax.specs.Sets.{Set, just, span}
+use Rattle.regex_lite_syntax.specs.NamedSets.{SetName}
+use Rattle.regex_lite_syntax.specs.Parser.SetNames.{name_of}
 use Rattle.regex_lite_syntax.specs.Grammar.Escapes.{Primitive, one, some_of, look_at}
 use Rattle.regex_lite_syntax.specs.Parser.Readings.{named_or_not}
 use Rattle.regex_lite_syntax.specs.Grammar.Classes.{ClassElement, NamedClass, ClassItems, Takes, Dashes, FirstBracket}
@@ -83,12 +85,12 @@ set_name Xdigit = codes "xdigit"
 
 -- a set stands there by its name, as `[:alpha:]`
 abbrev pub HasNamedSet : Text → Type 0
-HasNamedSet t = (rest : Text) × (negated : Bool) × (set : NamedSet) × NamedClass t rest negated set
+HasNamedSet t = (rest : Text) × (negated : Bool) × (set : SetName) × NamedClass t rest negated set
 
 -- this element stands there so
 abbrev pub IsNamedSet : (t rest : Text) → Element → Type 0
 IsNamedSet t rest (elements.Char c) = ⊥
-IsNamedSet t rest (elements.Set set negated) = NamedClass t rest negated set
+IsNamedSet t rest (elements.Set set negated) = NamedClass t rest negated (name_of set)
 
 -- what a class begins with, from its bracket on
 pub record ClassOpening (verbose : Bool) (t rest : Text) (opening : Opening) : Type 0 where

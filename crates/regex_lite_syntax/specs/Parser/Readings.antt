@@ -7,11 +7,13 @@ use Rattle.regex_lite_syntax.specs.declared.parse.escape.Meaning.TheVariants as 
 use Rattle.regex_lite_syntax.specs.declared.class.named.NamedSet.{NamedSet}
 use Rattle.regex_lite_syntax.specs.Sets.{Set, complement}
 use Rattle.regex_lite_syntax.specs.NamedSets.{members}
+use Rattle.regex_lite_syntax.specs.Parser.SetNames.{name_of}
 use Rattle.regex_lite_syntax.specs.Grammar.Escapes.{Primitive, one, some_of, look_at, EscapeKind, gives, word_boundary, hexadecimal, refused}
 
 -- the set with a name, or all other characters
 abbrev pub named_or_not : NamedSet → (negated : Bool) → Set
-named_or_not set negated = if negated then complement (members set) else members set
+named_or_not set negated =
+    if negated then complement (members (name_of set)) else members (name_of set)
 
 abbrev pub primitive_of : Read → Primitive
 primitive_of (read.Char c) = one c

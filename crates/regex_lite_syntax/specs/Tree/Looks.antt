@@ -2,9 +2,8 @@
 use Rattle.std.specs.Prelude.{ℕ, Bool, false, not, ◌&&◌, ◌||◌, ◌==◌, Option, Some, None, is_none, IsTrue}
 use Rattle.regex_lite_syntax.specs.declared.hir.look.Look.{Look}
 use Rattle.regex_lite_syntax.specs.declared.hir.look.Look.TheVariants.{Start, End, StartLF, EndLF, StartCRLF, EndCRLF, Word, WordNegate, WordStart, WordEnd, WordStartHalf, WordEndHalf}
-use Rattle.regex_lite_syntax.specs.declared.class.named.NamedSet.TheVariants as named
 use Rattle.regex_lite_syntax.specs.Text.{Text, before, after, the}
-use Rattle.regex_lite_syntax.specs.NamedSets.{members}
+use Rattle.regex_lite_syntax.specs.NamedSets.{members, word}
 
 -- there is such a character
 abbrev pub is : Option ℕ → ℕ → Bool
@@ -14,7 +13,7 @@ is (Some d) c = d == c
 -- there is a word character
 abbrev pub is_word : Option ℕ → Bool
 is_word None = false
-is_word (Some c) = members named.Word c
+is_word (Some c) = members word c
 
 -- the look holds between these neighbours, of which the haystack's start and end have but one
 unfoldable pub holds_between : Look → (before after : Option ℕ) → Bool

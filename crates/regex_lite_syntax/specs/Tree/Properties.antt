@@ -1,7 +1,9 @@
 -- Properties of a tree: whether it can match the empty text, and what it says of its groups.
-use Rattle.std.specs.Prelude.{ℕ, zero, suc, ◌+◌, ◌==◌, max, Bool, true, false, ◌&&◌, ◌||◌, Option, Some, None, if◌then◌else◌}
+use Rattle.std.specs.Prelude.{ℕ, zero, suc, ◌≡◌, ◌+◌, ◌^◌, ◌==◌, nat_lt, max, Bool, true, false, ◌&&◌, ◌||◌, Option, Some, None, if◌then◌else◌}
+use Rattle.std.specs.Option.{option_or}
 use Rattle.regex_lite_syntax.specs.Text.{Text}
 use Rattle.regex_lite_syntax.specs.Tree.{Tree, Trees, empty, character, class, look, repetition, capture, concat, alternation, none, more}
+use Rattle.regex_lite_syntax.specs.declared.hir.properties.Properties.{Properties}
 
 -- no pass is needed
 abbrev pub is_zero : ℕ → Bool
@@ -48,11 +50,6 @@ abbrev mutual
 abbrev pub captures_len : Tree → ℕ
 captures_len tree = greatest_index tree + 1
 
--- the first of the two that is there
-abbrev pub either : {A : Type 0} → Option A → Option A → Option A
-either None b = b
-either (Some a) b = Some a
-
 -- the name, if this is the group
 abbrev pub name_if : Bool → Option Text → Option Text
 name_if true name = name
@@ -66,13 +63,13 @@ abbrev mutual
   group_name (class ranges) k = None
   group_name (look test) k = None
   group_name (repetition least most greedy body) k = group_name body k
-  group_name (capture index name body) k = either (name_if (index == k) name) (group_name body k)
+  group_name (capture index name body) k = option_or (name_if (index == k) name) (group_name body k)
   group_name (concat parts) k = group_name_in parts k
   group_name (alternation branches) k = group_name_in branches k
 
   pub group_name_in : Trees → ℕ → Option Text
   group_name_in none k = None
-  group_name_in (more a rest) k = either (group_name a k) (group_name_in rest k)
+  group_name_in (more a rest) k = option_or (group_name a k) (group_name_in rest k)
 
 -- the sum, where both are known
 abbrev pub sum : Option ℕ → Option ℕ → Option ℕ
@@ -102,18 +99,28 @@ abbrev mutual
   static_groups (repetition least most greedy body) = in_passes least (static_groups body)
   static_groups (capture index name body) = sum (Some 1) (static_groups body)
   static_groups (concat parts) = static_sum parts
-  static_groups (alternation none) = Some 0
-  static_groups (alternation (more a rest)) = static_common (static_groups a) rest
+  static_groups (alternation branches) = static_common branches
 
   pub static_sum : Trees → Option ℕ
   static_sum none = Some 0
   static_sum (more a rest) = sum (static_groups a) (static_sum rest)
 
-  -- the number that is common to these and to the trees
-  pub static_common : Option ℕ → Trees → Option ℕ
-  static_common groups none = groups
-  static_common groups (more a rest) = static_common (common groups (static_groups a)) rest
+  pub static_common : Trees → Option ℕ
+  static_common none = Some 0
+  static_common (more a none) = static_groups a
+  static_common (more a (more b rest)) = common (static_groups a) (static_common (more b rest))
 
 -- how many groups at least take part in every match, the whole match among them, where known
 abbrev pub static_captures_len : Tree → Option ℕ
 static_captures_len tree = sum (Some 1) (static_groups tree)
+
+-- the number, where 32 bits hold it
+abbrev pub in_32_bits : Option ℕ → Option ℕ
+in_32_bits None = None
+in_32_bits (Some n) = if nat_lt n (2 ^ 32) then Some n else None
+
+-- the properties are those of the tree
+pub record ArePropertiesOf (tree : Tree) (properties : Properties) : Type 0 where
+  pub nullable : properties.nullable ≡ nullable tree
+  pub greatest_index : properties.greatest_index ≡ greatest_index tree
+  pub static_groups : properties.static_groups ≡ in_32_bits (static_groups tree)

@@ -19,7 +19,7 @@ names_of names = map text_of_string names
 abbrev pub node_tree : Hir-F Tree → Tree
 node_tree Hir-F.Empty = empty
 node_tree (Hir-F.Char c) = character c
-node_tree (Hir-F.Class set) = class set.value.ranges.items
+node_tree (Hir-F.Class set) = class set.value
 node_tree (Hir-F.Look test) = look test
 node_tree (Hir-F.Repetition least most greedy body) = repetition least most greedy body.value
 node_tree (Hir-F.Capture index name body) =

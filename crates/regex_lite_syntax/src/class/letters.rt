@@ -1,11 +1,11 @@
 //! The other case of ASCII letters.
 ghost use Rattle.std.specs.Prelude.{◌≡◌, ℕ, ◌+◌, ◌-◌, ◌<◌, ◌≤◌, ◌||◌, ◌&&◌, min, max, MatchOption, OnOk};
 ghost use Rattle.regex_lite_syntax.specs.Characters.{is_letter, is_lower, is_upper, other_case};
-ghost use Rattle.regex_lite_syntax.specs.Sets.{span};
+ghost use Rattle.regex_lite_syntax.specs.Sets.{span, case_closure};
 ghost use Rattle.regex_lite_syntax.specs.Ranges.{in_ranges};
 
 use super::ClassRange;
-use std::alloc::AllocError;
+use std::alloc::{AllocError, Global};
 
 const LOWER: ClassRange = ClassRange {
     start: 'a',
@@ -17,11 +17,21 @@ const UPPER: ClassRange = ClassRange {
     end: 'Z',
 };
 
+/// Adds the other case of each ASCII letter of the ranges.
+pub(crate) fn ascii_case_fold(alloc: Global, ranges: &mut Vec<ClassRange>) -> Result<(), AllocError>
+    ensures { OnOk result ((c : ℕ) → in_ranges ranges.new.items c
+        ≡ case_closure (in_ranges ranges.old.items) c) }
+{
+    let mut others = Vec::new(alloc);
+    for range in ranges.iter() {
+        push_other_case(&mut others, *range)?;
+    }
+    ranges.extend_from_slice(&others)?;
+    Ok(())
+}
+
 /// Adds the other case of the ASCII letters of a range.
-pub(crate) fn push_other_case(
-    ranges: &mut Vec<ClassRange>,
-    range: ClassRange,
-) -> Result<(), AllocError>
+fn push_other_case(ranges: &mut Vec<ClassRange>, range: ClassRange) -> Result<(), AllocError>
     ensures { OnOk result ((c : ℕ) → in_ranges ranges.new.items c
         ≡ (in_ranges ranges.old.items c
         || (is_letter c && span range.start range.end (other_case c)))) }

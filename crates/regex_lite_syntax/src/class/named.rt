@@ -3,6 +3,7 @@ ghost use Rattle.std.specs.Prelude.{◌≡◌, IfOk, map};
 ghost use Rattle.regex_lite_syntax.specs.Parser.RangeEnds.{range_of};
 ghost use Rattle.regex_lite_syntax.specs.Ranges.{AreRunsOf};
 ghost use Rattle.regex_lite_syntax.specs.NamedSets.{members};
+ghost use Rattle.regex_lite_syntax.specs.Parser.SetNames.{name_of};
 
 use super::ClassRange;
 use std::alloc::{AllocError, Global};
@@ -29,7 +30,7 @@ pub(crate) enum NamedSet {
 impl NamedSet {
     /// The maximal runs of the set, in order.
     pub(crate) fn ranges(self, alloc: Global) -> Result<Vec<ClassRange>, AllocError>
-        ensures { IfOk result (λ ranges. AreRunsOf ranges.items (members self)) }
+        ensures { IfOk result (λ ranges. AreRunsOf ranges.items (members (name_of self))) }
     {
         let ranges = ranges_of(alloc, self.ends())?;
         Ok(ranges)
@@ -37,7 +38,7 @@ impl NamedSet {
 
     /// The first and the last character of each of the maximal runs, in order.
     fn ends(self) -> &'static [(char, char)]
-        ensures { AreRunsOf (map range_of result.now) (members self) }
+        ensures { AreRunsOf (map range_of result.now) (members (name_of self)) }
     {
         match self {
             NamedSet::Alnum => &[('0', '9'), ('A', 'Z'), ('a', 'z')],

@@ -1,12 +1,52 @@
 //! Ranges that are joined where no character stands between them.
-ghost use Rattle.std.specs.Prelude.{◌≡◌, ℕ, ◌<◌, ◌≤◌, ◌||◌, All, MatchBool, OnOk};
+ghost use Rattle.std.specs.Prelude.{◌≡◌, ℕ, ◌+◌, ◌<◌, ◌≤◌, ◌||◌, All, MatchBool, OnOk, length, take, drop};
+ghost use Rattle.std.specs.List.Sorted.{IsNonDecreasingBy};
 ghost use Rattle.regex_lite_syntax.specs.Sets.{span};
-ghost use Rattle.regex_lite_syntax.specs.Ranges.{in_ranges, next_character, AreRuns};
+ghost use Rattle.regex_lite_syntax.specs.Ranges.{in_ranges, next_character, AreRuns, AreRunsOf};
 ghost use Rattle.regex_lite_syntax.specs.Parser.RangeEnds.{span_of, start_of};
 
 use super::ClassRange;
 use super::neighbours::next_char;
 use std::alloc::AllocError;
+
+/// Joins ranges whose starts are in order to runs that stand in front, and answers how many runs
+/// there are.
+pub(crate) fn join_all(ranges: &mut [ClassRange]) -> usize
+    requires { IsNonDecreasingBy (λ range. range.start) ranges.old }
+    ensures { AreRunsOf (take result ranges.new) (in_ranges ranges.old) }
+{
+    let mut runs = 0;
+    for at in 0..ranges.len() {
+        let range = ranges[at];
+        runs = join(ranges, runs, range);
+    }
+    runs
+}
+
+/// Adds the range, which starts no earlier than any of the runs in front, and answers how many
+/// there are then.
+fn join(ranges: &mut [ClassRange], runs: usize, range: ClassRange) -> usize
+    requires inside { runs < length ranges.old }
+    requires runs { AreRuns 0 (take runs ranges.old) }
+    requires in_order { All (λ run. run.start ≤ range.start) (take runs ranges.old) }
+    ensures inside { result ≤ runs + 1 }
+    ensures runs { AreRuns 0 (take result ranges.new) }
+    ensures in_order { All (λ run. run.start ≤ range.start) (take result ranges.new) }
+    ensures members { (c : ℕ) → in_ranges (take result ranges.new) c
+        ≡ (in_ranges (take runs ranges.old) c || span range.start range.end c) }
+    ensures rest { drop (runs + 1) ranges.new ≡ drop (runs + 1) ranges.old }
+{
+    if range.start > range.end {
+        return runs;
+    }
+    if runs > 0 && are_joined(ranges[runs - 1].end, range.start) {
+        let last = &mut ranges[runs - 1];
+        last.end = last.end.max(range.end);
+        return runs;
+    }
+    ranges[runs] = range;
+    runs + 1
+}
 
 /// Adds the range, which starts no earlier than any of the runs.
 pub(crate) fn append(runs: &mut Vec<ClassRange>, range: ClassRange) -> Result<(), AllocError>

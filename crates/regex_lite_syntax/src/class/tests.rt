@@ -2,21 +2,26 @@
 ghost use Rattle.std.specs.Prelude.{IfOk};
 ghost use Rattle.regex_lite_syntax.specs.Ranges.{AreRuns};
 
+use super::letters::ascii_case_fold;
 use super::named::NamedSet;
 use super::{Class, ClassRange};
 use std::process::Abort;
 use std::test::Fail;
 
-/// The characters in these ranges.
-fn class(rt: &HostRuntime, bounds: &[(char, char)]) -> Result<Class, Fail>
-    ensures { IfOk result (λ class. AreRuns 0 class.ranges.items) }
-{
+/// These ranges.
+fn ranges(rt: &HostRuntime, bounds: &[(char, char)]) -> Result<Vec<ClassRange>, Fail> {
     let mut ranges = Vec::new(rt.alloc());
     for &(start, end) in bounds {
         ranges.push(ClassRange { start, end })?;
     }
-    let class = Class::new(rt.alloc(), ranges)?;
-    Ok(class)
+    Ok(ranges)
+}
+
+/// The characters in these ranges.
+fn class(rt: &HostRuntime, bounds: &[(char, char)]) -> Result<Class, Fail>
+    ensures { IfOk result (λ class. AreRuns 0 class) }
+{
+    Ok(Class::new(ranges(rt, bounds)?))
 }
 
 /// Checks that the class has these ranges.
@@ -67,11 +72,9 @@ fn folded(rt: HostRuntime) -> Result<(), Fail> {
         (&[('Y', 'b')], &[('A', 'B'), ('Y', 'b'), ('y', 'z')]),
     ];
     for (given, wanted) in rows {
-        check_ranges(
-            &rt,
-            &class(&rt, given)?.ascii_case_fold(rt.alloc())?,
-            wanted,
-        );
+        let mut ranges = ranges(&rt, given)?;
+        ascii_case_fold(rt.alloc(), &mut ranges)?;
+        check_ranges(&rt, &Class::new(ranges), wanted);
     }
     Ok(())
 }
@@ -100,7 +103,7 @@ fn many_ranges(rt: HostRuntime) -> Result<(), Fail> {
             ranges.push(ClassRange { start: c, end: c })?;
         }
     }
-    let class = Class::new(rt.alloc(), ranges)?;
+    let class = Class::new(ranges);
     assert_eq!(rt; class.ranges().len(), 10_000);
     Ok(())
 }

@@ -1,6 +1,6 @@
 //! The faults of a pattern, and the text of each.
 ghost use Rattle.std.specs.Prelude.{◌≡◌};
-ghost use Rattle.regex_lite_syntax.specs.Errors.{fault_text};
+ghost use Rattle.regex_lite_syntax.specs.FaultTexts.{fault_text};
 
 /// Which rule of the grammar a pattern breaks.
 #[derive(Clone, Copy, PartialEq, Eq, Debug)]

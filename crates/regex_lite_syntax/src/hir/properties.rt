@@ -1,10 +1,113 @@
-//! Whether a tree can match the empty text, and how its groups are numbered.
-ghost use Rattle.std.specs.Prelude.{◌≡◌, map};
-ghost use Rattle.regex_lite_syntax.specs.Tree.{trees as trees_of};
+//! What a tree says of itself: whether it can match the empty text, and of its groups how they are
+//! numbered and how many take part in every match.
+ghost use Rattle.std.specs.Prelude.{◌≡◌, ℕ, Bool, Option, map, option_map};
+ghost use Rattle.regex_lite_syntax.specs.Text.{Text};
+ghost use Rattle.regex_lite_syntax.specs.Tree.{Tree, Trees, repetition, capture, concat, alternation, none, more, trees as trees_of};
 ghost use Rattle.regex_lite_syntax.specs.Tree.Views.{tree_of};
-ghost use Rattle.regex_lite_syntax.specs.Tree.Properties.{nullable, all_nullable, any_nullable, greatest_index, greatest_index_in};
+ghost use Rattle.regex_lite_syntax.specs.Tree.Properties.{nullable, all_nullable, any_nullable, sum, common, in_passes, in_32_bits, ArePropertiesOf};
 
 use super::Hir;
+
+/// What a tree says of itself. It is found from the properties of its parts alone, so whoever walks
+/// a tree has them with no walk of their own.
+#[derive(Clone, Copy, Debug)]
+pub struct Properties {
+    /// It may match without reading a character.
+    pub nullable: bool,
+    /// The greatest index of a group, or 0 where there is none.
+    pub greatest_index: u32,
+    /// How many groups at least take part in every match, where that is known and 32 bits hold it.
+    pub static_groups: Option<u32>,
+}
+
+impl Properties {
+    /// Those of a concatenation with this first part and the rest.
+    pub fn then(self, rest: Properties) -> Properties
+        ensures { (first : Tree) (parts : Trees)
+            → ArePropertiesOf first self → ArePropertiesOf (concat parts) rest
+            → ArePropertiesOf (concat (more first parts)) result }
+    {
+        Properties {
+            nullable: self.nullable && rest.nullable,
+            greatest_index: self.greatest_index.max(rest.greatest_index),
+            static_groups: sum(self.static_groups, rest.static_groups),
+        }
+    }
+
+    /// Those of alternatives with this branch alone.
+    pub fn alone(self) -> Properties
+        ensures { (branch : Tree) → ArePropertiesOf branch self
+            → ArePropertiesOf (alternation (more branch none)) result }
+    {
+        self
+    }
+
+    /// Those of alternatives with this branch before the others.
+    pub fn or(self, others: Properties) -> Properties
+        ensures { (branch next : Tree) (rest : Trees)
+            → ArePropertiesOf branch self
+            → ArePropertiesOf (alternation (more next rest)) others
+            → ArePropertiesOf (alternation (more branch (more next rest))) result }
+    {
+        Properties {
+            nullable: self.nullable || others.nullable,
+            greatest_index: self.greatest_index.max(others.greatest_index),
+            static_groups: common(self.static_groups, others.static_groups),
+        }
+    }
+
+    /// Those of a group round this.
+    pub fn captured(self, index: u32) -> Properties
+        ensures { (name : Option Text) (body : Tree) → ArePropertiesOf body self
+            → ArePropertiesOf (capture index name body) result }
+    {
+        Properties {
+            greatest_index: self.greatest_index.max(index),
+            static_groups: sum(Some(1), self.static_groups),
+            ..self
+        }
+    }
+
+    /// Those of a repetition of this with so many passes or more.
+    pub fn repeated(self, least: u32) -> Properties
+        ensures { (most : Option ℕ) (greedy : Bool) (body : Tree) → ArePropertiesOf body self
+            → ArePropertiesOf (repetition least most greedy body) result }
+    {
+        Properties {
+            nullable: least == 0 || self.nullable,
+            static_groups: in_passes(least, self.static_groups),
+            ..self
+        }
+    }
+}
+
+/// The sum, where both are known.
+fn sum(a: Option<u32>, b: Option<u32>) -> Option<u32>
+    ensures { (n m : Option ℕ) → a ≡ in_32_bits n → b ≡ in_32_bits m
+        → result ≡ in_32_bits (sum n m) }
+{
+    a?.checked_add(b?)
+}
+
+/// The common number, where there is one.
+fn common(a: Option<u32>, b: Option<u32>) -> Option<u32>
+    ensures { (n m : Option ℕ) → a ≡ in_32_bits n → b ≡ in_32_bits m
+        → result ≡ in_32_bits (common n m) }
+{
+    if a == b { a } else { None }
+}
+
+/// What takes part in so many passes or more. Where none is needed each group may be passed over,
+/// so the number is known only where there is no group.
+fn in_passes(least: u32, groups: Option<u32>) -> Option<u32>
+    ensures { (n : Option ℕ) → groups ≡ in_32_bits n → result ≡ in_32_bits (in_passes least n) }
+{
+    if least > 0 || groups == Some(0) {
+        groups
+    } else {
+        None
+    }
+}
 
 impl Hir {
     /// Whether it can match without reading a character.
@@ -19,19 +122,6 @@ impl Hir {
             Hir::Capture { body, .. } => body.is_nullable(),
             Hir::Concat(parts) => are_all_nullable(parts),
             Hir::Alternation(branches) => is_any_nullable(branches),
-        }
-    }
-
-    /// The greatest index of a group, or 0 where there is none.
-    #[cycle(greatest)]
-    pub fn greatest_index(&self) -> u32
-        ensures { result ≡ greatest_index (tree_of self.now) }
-    {
-        match self {
-            Hir::Empty | Hir::Char(_) | Hir::Class(_) | Hir::Look(_) => 0,
-            Hir::Repetition { body, .. } => body.greatest_index(),
-            Hir::Capture { index, body, .. } => (*index).max(body.greatest_index()),
-            Hir::Concat(parts) | Hir::Alternation(parts) => greatest_index_in(parts),
         }
     }
 }
@@ -60,16 +150,4 @@ fn is_any_nullable(trees: &[Hir]) -> bool
         }
     }
     false
-}
-
-/// The greatest index of a group in the trees, or 0 where there is none.
-#[cycle(greatest)]
-fn greatest_index_in(trees: &[Hir]) -> u32
-    ensures { result ≡ greatest_index_in (trees_of (map tree_of trees.now)) }
-{
-    let mut greatest = 0;
-    for tree in trees {
-        greatest = greatest.max(tree.greatest_index());
-    }
-    greatest
 }

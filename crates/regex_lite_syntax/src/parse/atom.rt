@@ -63,7 +63,7 @@ pub(crate) fn read_atom(
 
 /// What `.` stands for.
 fn dot_class(alloc: Global, flags: Flags) -> Result<Class, AllocError>
-    ensures { IfOk result (λ class. AreRunsOf class.ranges.items (dot flags)) }
+    ensures { IfOk result (λ class. AreRunsOf class (dot flags)) }
 {
     let mut ends = Vec::new(alloc);
     if !flags.dot_matches_new_line {
@@ -72,7 +72,7 @@ fn dot_class(alloc: Global, flags: Flags) -> Result<Class, AllocError>
             ends.push(only('\r'))?;
         }
     }
-    Class::new(alloc, ends)?.negate(alloc)
+    Class::new(ends).negate(alloc)
 }
 
 /// The range of one character.
@@ -109,7 +109,7 @@ fn char_tree(alloc: Global, flags: Flags, c: char) -> Result<Hir, AllocError>
 /// An ASCII letter in both its cases.
 fn both_cases(alloc: Global, letter: char) -> Result<Class, AllocError>
     requires { IsTrue (is_letter letter) }
-    ensures { IfOk result (λ class. AreRunsOf class.ranges.items (case_closure (just letter))) }
+    ensures { IfOk result (λ class. AreRunsOf class (case_closure (just letter))) }
 {
     let upper = only(letter.to_ascii_uppercase());
     let lower = only(letter.to_ascii_lowercase());

@@ -35,8 +35,8 @@ pub(crate) fn read_class(
     requires begins { drop at chars.now ≡ the "[" ∷ drop (at + 1) chars.now }
     ensures inside { IfOk result (λ r. (at < r.0) × (r.0 ≤ length chars.now)) }
     ensures ok { IfOk result (λ r. BracketedClass insensitive verbose
-        (drop at chars.now) (drop r.0 chars.now) (in_ranges r.1.ranges.items)) }
-    ensures runs { IfOk result (λ r. AreRuns 0 r.1.ranges.items) }
+        (drop at chars.now) (drop r.0 chars.now) (in_ranges r.1)) }
+    ensures runs { IfOk result (λ r. AreRuns 0 r.1) }
     ensures err { IfErr result (λ e. Denies e ((rest : Text) × (s : Set)
         × BracketedClass insensitive verbose (drop at chars.now) rest s)) }
 {

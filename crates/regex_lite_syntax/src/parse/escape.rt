@@ -3,6 +3,7 @@ ghost use Rattle.std.specs.Prelude.{◌≡◌, ◌<◌, ◌≤◌, drop, length,
 ghost use Rattle.regex_lite_syntax.specs.Text.{Text};
 ghost use Rattle.regex_lite_syntax.specs.Sets.{complement};
 ghost use Rattle.regex_lite_syntax.specs.NamedSets.{members};
+ghost use Rattle.regex_lite_syntax.specs.Parser.SetNames.{name_of};
 ghost use Rattle.regex_lite_syntax.specs.Grammar.Escapes.{Primitive as Given, Escape, one, some_of, gives, refused, escape_kind, is_escapable};
 ghost use Rattle.regex_lite_syntax.specs.Refusals.{Denies};
 ghost use Rattle.regex_lite_syntax.specs.Parser.Readings.{primitive_of, escape_kind_of};
@@ -103,7 +104,7 @@ fn meaning_of(c: char) -> Meaning
 
 /// The characters of the set are asked for.
 fn members_of(set: NamedSet) -> Meaning
-    ensures { escape_kind_of result ≡ gives (some_of (members set)) }
+    ensures { escape_kind_of result ≡ gives (some_of (members (name_of set))) }
 {
     Meaning::Gives(Primitive::Set {
         set,
@@ -113,7 +114,7 @@ fn members_of(set: NamedSet) -> Meaning
 
 /// All characters but those of the set are asked for.
 fn others_than(set: NamedSet) -> Meaning
-    ensures { escape_kind_of result ≡ gives (some_of (complement (members set))) }
+    ensures { escape_kind_of result ≡ gives (some_of (complement (members (name_of set)))) }
 {
     Meaning::Gives(Primitive::Set { set, negated: true })
 }

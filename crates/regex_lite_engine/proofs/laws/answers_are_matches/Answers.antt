@@ -3,5 +3,5 @@ use Rattle.regex_lite_engine.proofs.laws.answer.AnswerLemmas.{answer_matches}
 use Rattle.regex_lite_engine.proofs.laws.answers_are_matches.Goals as goal
 
 pub returns : goal.returns
-returns c = λ flags pattern tree is_tree haystack s answer.
-    answer_matches tree haystack (regular_tree flags pattern tree is_tree) s answer
+returns c = λ tree given haystack s answer.
+    answer_matches tree haystack (regular_tree tree given) s answer

@@ -3,6 +3,6 @@ use Rattle.regex_lite_engine.proofs.laws.groups.TakingPartLemmas.{enough_take_pa
 use Rattle.regex_lite_engine.proofs.laws.enough_groups_take_part.Goals as goal
 
 pub returns : goal.returns
-returns c = λ flags pattern tree is_tree haystack s found n.
-    enough_take_part tree haystack s found n (regular_tree flags pattern tree is_tree)
-    (numbered_tree flags pattern tree is_tree)
+returns c = λ tree given haystack s found n.
+    enough_take_part tree haystack s found n (regular_tree tree given)
+    (numbered_tree tree given)

@@ -3,5 +3,5 @@ use Rattle.regex_lite_engine.proofs.laws.list.RankedWalkLemmas.{all_ranked}
 use Rattle.regex_lite_engine.proofs.laws.list_is_of_all_ways.Goals as goal
 
 pub returns : goal.returns
-returns c = λ flags pattern tree is_tree reading haystack i.
-    all_ranked tree haystack i (regular_tree flags pattern tree is_tree) reading
+returns c = λ tree given reading haystack i.
+    all_ranked tree haystack i (regular_tree tree given) reading

@@ -11,9 +11,9 @@ use Rattle.regex_lite_syntax.specs.Tree.{Tree, character, class}
 use Rattle.regex_lite_syntax.specs.Grammar.Atoms.{IsClassOf, PrimitiveTree}
 
 -- a class with the runs of a set is that set
-pub class_of : (s : Set) (set : Class) (a : Tree) → AreRunsOf set.ranges.items s → a ≡ class set.ranges.items
+pub class_of : (s : Set) (set : Class) (a : Tree) → AreRunsOf set s → a ≡ class set
     → IsClassOf s a
-class_of s set a are tree = (set.ranges.items, are, tree)
+class_of s set a are tree = (set, are, tree)
 
 -- under `i` a letter is the class of its two cases
 pub both_cases : (flags : Flags) (c : ℕ) (a : Tree) → flags.case_insensitive ≡ true → IsTrue (is_letter c)

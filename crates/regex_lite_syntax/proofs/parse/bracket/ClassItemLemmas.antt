@@ -8,6 +8,7 @@ use Rattle.regex_lite_syntax.specs.Grammar.Gaps.{EndsGap, WholeGap}
 use Rattle.regex_lite_syntax.specs.Sets.{Set}
 use Rattle.regex_lite_syntax.specs.Grammar.Escapes.{Primitive, one, some_of, Escape}
 use Rattle.regex_lite_syntax.specs.Grammar.Classes.{ClassElement, literal, escaped, RangeFollows, BeginsItem, ClassItem, named_class, character, escaped_set, range, ClassItems}
+use Rattle.regex_lite_syntax.specs.Parser.SetNames.{name_of}
 use Rattle.regex_lite_syntax.specs.Parser.ClassReadings.{element_primitive, IsElement, element_set, BeginsOperator, RangeTo, EndsOpen, at_once, past_dash, HasItems, IsNamedSet}
 use Rattle.regex_lite_syntax.proofs.ListLemmas.{same_head, same_tail}
 use Rattle.regex_lite_syntax.proofs.grammar.GapLemmas.{whole_gap_once}
@@ -65,7 +66,7 @@ item_part verbose t rest s none (range g h u v i p o q le e) = (u, one g, tt, p)
 pub item_named : (verbose : Bool) (t rest : Text) (element : Element) → IsNamedSet t rest element
     → ClassItem verbose t rest (element_set element)
 item_named verbose t rest (elements.Char c) is = absurd is
-item_named verbose t rest (elements.Set set negated) is = named_class negated set is refl
+item_named verbose t rest (elements.Set set negated) is = named_class negated (name_of set) is refl
 
 -- the item of an element alone
 pub item_alone : (verbose : Bool) (t rest : Text) (element : Element) → BeginsItem t → ClassElement verbose t rest (element_primitive element)

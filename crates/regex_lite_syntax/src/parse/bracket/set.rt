@@ -6,6 +6,7 @@ ghost use Rattle.regex_lite_syntax.specs.Ranges.{in_ranges, AreRunsOf};
 ghost use Rattle.regex_lite_syntax.specs.Grammar.Classes.{only_if, class_set};
 ghost use Rattle.regex_lite_syntax.specs.Parser.ClassReadings.{item_set};
 
+use crate::class::letters::ascii_case_fold;
 use crate::class::{Class, ClassRange};
 use crate::parse::bracket::item::{Element, Item};
 use crate::parse::bracket::opening::Opening;
@@ -39,7 +40,7 @@ pub(crate) fn push_item(
         Item::Alone(Element::Char(c)) => push_char(ranges, c)?,
         Item::Alone(Element::Set { set, negated }) => {
             let class = Class::named(alloc, set, negated)?;
-            ranges.extend_from_slice(&class.ranges)?;
+            ranges.extend_from_slice(class.ranges())?;
         }
         Item::Range { start, end } => ranges.push(ClassRange { start, end })?,
     }
@@ -58,20 +59,18 @@ fn push_char(ranges: &mut Vec<ClassRange>, c: char) -> Result<(), AllocError>
 /// The class of these ranges, closed under case where that is asked for, and then negated.
 pub(crate) fn class_of(
     alloc: Global,
-    ranges: Vec<ClassRange>,
+    mut ranges: Vec<ClassRange>,
     insensitive: bool,
     negated: bool,
 ) -> Result<Class, AllocError>
     ensures { IfOk result (λ class. (sets : List Set) →
         ((c : ℕ) → in_ranges ranges.items c ≡ union sets c) →
-        AreRunsOf class.ranges.items (class_set insensitive negated sets)) }
+        AreRunsOf class (class_set insensitive negated sets)) }
 {
-    let class = Class::new(alloc, ranges)?;
-    let class = if insensitive {
-        class.ascii_case_fold(alloc)?
-    } else {
-        class
-    };
+    if insensitive {
+        ascii_case_fold(alloc, &mut ranges)?;
+    }
+    let class = Class::new(ranges);
     if negated {
         class.negate(alloc)
     } else {

@@ -41,8 +41,8 @@ fn check_sets(
 
 /// Checks that the class has these ranges.
 fn check_ranges(rt: &impl Abort, pattern: &str, class: &Class, bounds: &[(char, char)]) {
-    assert_eq!(rt; class.ranges.len(), bounds.len(), "{pattern}: {class:?}");
-    for (range, wanted) in class.ranges.iter().zip(bounds) {
+    assert_eq!(rt; class.ranges().len(), bounds.len(), "{pattern}: {class:?}");
+    for (range, wanted) in class.ranges().iter().zip(bounds) {
         assert_eq!(rt; (range.start, range.end), *wanted, "{pattern}: {class:?}");
     }
 }

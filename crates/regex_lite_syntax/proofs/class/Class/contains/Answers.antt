@@ -10,14 +10,14 @@ use Rattle.regex_lite_syntax.proofs.class.Class.contains.Goals as goal
 pub returns-then-at-len : goal.returns-then-at-len
 returns-then-at-len c =
     let rise : IsNonDecreasingBy (λ r. r.end) c.deref.result.now =
-    rw c.deref.ensures.value (ends_rise 0 _ c.args.self.now.runs) in
+    rw c.deref.ensures.value (ends_rise 0 _ c.self.invariant) in
     let parts = IsPartitionPoint-from_clause (λ r. ltb r.end c.args.c) c.deref.result.now _ c.partition_point-at.ensures.partitioned
     (IsPartitionedBy-ltb (λ r. r.end) _ c.args.c rise) (λ a r after called. search (rules, tests)) in
     let inside : c.partition_point-at.result < length c.deref.result.now =
     omega (arith, c.if-at-len.true, c.len.ensures, c.deref.ensures.len) in
     let is : IsTrue (is_character c.args.c) = search (rules, tests) in
     let there = held_there c.args.c 0 c.deref.result.now c.partition_point-at.result c.index.result.now is
-    (rw c.deref.ensures.value c.args.self.now.runs) parts inside in
+    (rw c.deref.ensures.value c.self.invariant) parts inside in
     let whole = ap (λ xs. in_ranges xs c.args.c) c.deref.ensures.value in
     let at = c.index.ensures in
     let same = c.deref.ensures.value in
@@ -26,7 +26,7 @@ returns-then-at-len c =
 pub returns-else-at-len : goal.returns-else-at-len
 returns-else-at-len c =
     let rise : IsNonDecreasingBy (λ r. r.end) c.deref.result.now =
-    rw c.deref.ensures.value (ends_rise 0 _ c.args.self.now.runs) in
+    rw c.deref.ensures.value (ends_rise 0 _ c.self.invariant) in
     let parts = IsPartitionPoint-from_clause (λ r. ltb r.end c.args.c) c.deref.result.now _ c.partition_point-at.ensures.partitioned
     (IsPartitionedBy-ltb (λ r. r.end) _ c.args.c rise) (λ a r after called. search (rules, tests)) in
     let outside = c.if-at-len.false in

@@ -1,5 +1,6 @@
-use Rattle.std.proofs.Common.{refl, sym, ◌∙◌, ap, subst, map, arith, drop, ◌+◌}
+use Rattle.std.proofs.Common.{refl, ℕ, sym, ◌∙◌, ap, subst, map, arith, drop, ◌+◌}
 use Rattle.std.proofs.lemmas.Result.{err_from_is_err_and}
+use Rattle.regex_lite_syntax.specs.Text.{Text}
 use Rattle.regex_lite_syntax.specs.Grammar.Gaps.{Gap}
 use Rattle.regex_lite_syntax.specs.Grammar.Operators.{greed, counted_lazy}
 use Rattle.regex_lite_syntax.specs.Tree.Views.{tree_of}
@@ -10,6 +11,7 @@ use Rattle.regex_lite_syntax.proofs.grammar.OperatorLemmas.{counted_greedy}
 use Rattle.regex_lite_syntax.proofs.machine.StateLemmas.{map_pushed, none_left}
 use Rattle.regex_lite_syntax.proofs.machine.ReadStepLemmas.{reads_repeated, reads_no_counted, reads_no_counts}
 use Rattle.regex_lite_syntax.proofs.parse.Parser.read_counted_operator.Goals as goal
+use Rattle.regex_lite_syntax.proofs.parse.Parser.read_counted_operator.Goals.{then-lazy, else-lazy}
 
 pub returns-in_default-clause-err : goal.returns-in_default-clause-err
 returns-in_default-clause-err c =
@@ -24,40 +26,39 @@ returns-in_err-end-clause-err c =
     (λ none. reads_no_counts c.args.self.now _ _ c.requires.begins (λ past least most counted. none (past, least, most, counted)))
     c.in_err-end.ensures.err)
 
-pub returns-then-lazy-clause-ok : goal.returns-then-lazy-clause-ok
+pub returns-clause-ok : goal.returns-clause-ok
 unfolding state with_items
-returns-then-lazy-clause-ok c =
+returns-clause-ok c =
+    let p = c.args.self.now in
+    let q = c.add_repeated.new.self in
     let xs = c.args.chars.now in
     let t = drop c.args.at xs in
-    let rest = drop (c.skip_gap-past_gap.result + 1) xs in
-    let flags = c.args.self.now.here.flags in
-    let there = c.if-lazy.ensures.there refl in
-    let gap = subst (λ u. Gap flags.ignore_whitespace (drop c.in_ok-end.end xs) u) there.1 c.skip_gap-past_gap.ensures.gap.0 in
-    let greedy = ap (λ lazy. greed flags lazy) c.if-lazy.true in
-    let operator = counted_lazy _ _ c.requires.begins c.in_ok-end.ensures.ok gap greedy in
-    record {
-      further = omega (arith, c.in_ok-end.ensures.inside, c.skip_gap-past_gap.ensures.inside);
-      in_pattern = omega (arith, there.0);
-      reads = reads_repeated c.args.self.now c.add_repeated.new.self t rest (map tree_of c.pop.new.self.items)
-          (tree_of c.in-Some.item) _ _ _ (map_pushed tree_of _ _ _ c.in-Some.ensures.items)
-          (λ d. c.in_ok-add_repeated.ensures t rest d) operator;
-    }
-
-pub returns-else-lazy-clause-ok : goal.returns-else-lazy-clause-ok
-unfolding state with_items
-returns-else-lazy-clause-ok c =
-    let xs = c.args.chars.now in
-    let t = drop c.args.at xs in
-    let rest = drop c.in_ok-end.end xs in
-    let flags = c.args.self.now.here.flags in
-    let absent = c.if-lazy.ensures.absent refl in
-    let greedy = ap (λ lazy. greed flags lazy) c.if-lazy.false in
-    let operator = counted_greedy flags _ _ rest _ _ _ _ c.requires.begins c.in_ok-end.ensures.ok
-    c.skip_gap-past_gap.ensures.gap absent greedy in
-    record {
-      further = omega (arith, c.in_ok-end.ensures.inside);
-      in_pattern = omega (arith, c.in_ok-end.ensures.inside);
-      reads = reads_repeated c.args.self.now c.add_repeated.new.self t rest (map tree_of c.pop.new.self.items)
-          (tree_of c.in-Some.item) _ _ _ (map_pushed tree_of _ _ _ c.in-Some.ensures.items)
-          (λ d. c.in_ok-add_repeated.ensures t rest d) operator;
-    }
+    let flags = p.here.flags in
+    let begins = c.requires.begins in
+    let counted = c.in_ok-end.ensures.ok in
+    let gap = c.skip_gap-past_gap.ensures.gap in
+    let before = map tree_of c.pop.new.self.items in
+    let pushed = map_pushed tree_of _ _ _ c.in-Some.ensures.items in
+    let added = λ (u : Text) (d : ℕ). c.in_ok-add_repeated.ensures t u d in
+    elim c.if-lazy.branch [
+      | then-lazy w ↦
+          let there = w.if-lazy.ensures.there refl in
+          let to_mark = subst (λ u. Gap flags.ignore_whitespace (drop c.in_ok-end.end xs) u) there.1 gap.0 in
+          let rest = drop (c.skip_gap-past_gap.result + 1) xs in
+          rw w.result-is (record {
+            further = omega (arith, c.in_ok-end.ensures.inside, c.skip_gap-past_gap.ensures.inside);
+            in_pattern = omega (arith, there.0);
+            reads = reads_repeated p q t rest before (tree_of c.in-Some.item) _ _ _ pushed (added rest)
+                (counted_lazy _ _ begins counted to_mark (ap (greed flags) w.if-lazy.true));
+          })
+      | else-lazy w ↦
+          let absent = w.if-lazy.ensures.absent refl in
+          let rest = drop c.in_ok-end.end xs in
+          let operator =
+          counted_greedy flags _ _ rest _ _ _ _ begins counted gap absent (ap (greed flags) w.if-lazy.false) in
+          rw w.result-is (record {
+            further = omega (arith, c.in_ok-end.ensures.inside);
+            in_pattern = omega (arith, c.in_ok-end.ensures.inside);
+            reads = reads_repeated p q t rest before (tree_of c.in-Some.item) _ _ _ pushed (added rest) operator;
+          })
+    ]

@@ -1,5 +1,5 @@
-use Rattle.std.proofs.Common.{◌≡◌, refl, sym, ◌∙◌, ap, map, arith, drop, get_or, ◌+◌, ◌∷◌}
-use Rattle.regex_lite_syntax.specs.Text.{the}
+use Rattle.std.proofs.Common.{◌≡◌, ℕ, refl, sym, ◌∙◌, ap, map, arith, drop, get_or, ◌+◌, ◌∷◌}
+use Rattle.regex_lite_syntax.specs.Text.{Text, the}
 use Rattle.regex_lite_syntax.specs.Grammar.Operators.{greed, uncounted, uncounted_lazy}
 use Rattle.regex_lite_syntax.specs.Tree.Views.{tree_of}
 use Rattle.regex_lite_syntax.specs.Parser.Machine.{with_items}
@@ -8,6 +8,7 @@ use Rattle.regex_lite_syntax.proofs.parse.IndexLemmas.{drop_at}
 use Rattle.regex_lite_syntax.proofs.machine.StateLemmas.{map_pushed, none_left}
 use Rattle.regex_lite_syntax.proofs.machine.ReadStepLemmas.{reads_repeated, reads_no_operator}
 use Rattle.regex_lite_syntax.proofs.parse.Parser.read_operator.Goals as goal
+use Rattle.regex_lite_syntax.proofs.parse.Parser.read_operator.Goals.{then-lazy, else-lazy}
 
 pub returns-in_default-clause-err : goal.returns-in_default-clause-err
 returns-in_default-clause-err c =
@@ -17,40 +18,37 @@ returns-in_default-clause-err c =
     let none = none_left items.items (sym items.ok.0 ∙ c.in_default.ensures.cases.0) in
     rw c.into.ensures (reads_no_operator c.args.self.now (drop c.args.at xs) _ _ _ e (c.requires.bounded _ e) none)
 
-pub returns-then-lazy-clause-ok : goal.returns-then-lazy-clause-ok
+pub returns-clause-ok : goal.returns-clause-ok
 unfolding state with_items
-returns-then-lazy-clause-ok c =
+returns-clause-ok c =
+    let p = c.args.self.now in
+    let q = c.add_repeated.new.self in
     let xs = c.args.chars.now in
     let i = c.args.at in
-    let flags = c.args.self.now.here.flags in
+    let greedy = greed p.here.flags in
     let e = drop_at xs i c.requires.inside in
-    let there = c.if-lazy.ensures.there refl in
-    let two : i + 1 + 1 ≡ i + 2 = omega arith in
-    let begins = e ∙ ap (λ t. get_or xs i 0 ∷ t) (there.1 ∙ ap (λ n. (the "?") ∷ drop n xs) two) in
-    let operator = uncounted_lazy _ begins (c.requires.bounded _ e) (ap (λ lazy. greed flags lazy) c.if-lazy.true) in
-    record {
-      further = omega arith;
-      in_pattern = omega (arith, there.0);
-      reads = reads_repeated c.args.self.now c.add_repeated.new.self (drop i xs) (drop (i + 2) xs)
-          (map tree_of c.pop.new.self.items) (tree_of c.in-Some.item) _ _ _
-          (map_pushed tree_of _ _ _ c.in-Some.ensures.items)
-          (λ d. c.in_ok-add_repeated.ensures (drop i xs) (drop (i + 2) xs) d) operator;
-    }
-
-pub returns-else-lazy-clause-ok : goal.returns-else-lazy-clause-ok
-unfolding state with_items
-returns-else-lazy-clause-ok c =
-    let xs = c.args.chars.now in
-    let i = c.args.at in
-    let flags = c.args.self.now.here.flags in
-    let e = drop_at xs i c.requires.inside in
-    let absent = c.if-lazy.ensures.absent refl in
-    let operator = uncounted _ e (c.requires.bounded _ e) absent (ap (λ lazy. greed flags lazy) c.if-lazy.false) in
-    record {
-      further = omega arith;
-      in_pattern = omega (arith, c.requires.inside);
-      reads = reads_repeated c.args.self.now c.add_repeated.new.self (drop i xs) (drop (i + 1) xs)
-          (map tree_of c.pop.new.self.items) (tree_of c.in-Some.item) _ _ _
-          (map_pushed tree_of _ _ _ c.in-Some.ensures.items)
-          (λ d. c.in_ok-add_repeated.ensures (drop i xs) (drop (i + 1) xs) d) operator;
-    }
+    let before = map tree_of c.pop.new.self.items in
+    let pushed = map_pushed tree_of _ _ _ c.in-Some.ensures.items in
+    let added = λ (u : Text) (d : ℕ). c.in_ok-add_repeated.ensures (drop i xs) u d in
+    elim c.if-lazy.branch [
+      | then-lazy w ↦
+          let there = w.if-lazy.ensures.there refl in
+          let two : i + 1 + 1 ≡ i + 2 = omega arith in
+          let begins = e ∙ ap (λ t. get_or xs i 0 ∷ t) (there.1 ∙ ap (λ n. (the "?") ∷ drop n xs) two) in
+          let rest = drop (i + 2) xs in
+          rw w.result-is (record {
+            further = omega arith;
+            in_pattern = omega (arith, there.0);
+            reads = reads_repeated p q (drop i xs) rest before (tree_of c.in-Some.item) _ _ _ pushed (added rest)
+                (uncounted_lazy _ begins (c.requires.bounded _ e) (ap greedy w.if-lazy.true));
+          })
+      | else-lazy w ↦
+          let absent = w.if-lazy.ensures.absent refl in
+          let rest = drop (i + 1) xs in
+          rw w.result-is (record {
+            further = omega arith;
+            in_pattern = omega (arith, c.requires.inside);
+            reads = reads_repeated p q (drop i xs) rest before (tree_of c.in-Some.item) _ _ _ pushed (added rest)
+                (uncounted _ e (c.requires.bounded _ e) absent (ap greedy w.if-lazy.false));
+          })
+    ]

@@ -2,11 +2,11 @@ use Rattle.std.proofs.Common.{◌≡◌, ◌∙◌, subst, drop, arith}
 use Rattle.std.proofs.lemmas.List.{drop_all}
 use Rattle.std.proofs.lemmas.Result.{err_from_is_err_and}
 use Rattle.regex_lite_syntax.specs.Grammar.Gaps.{WholeGap}
-use Rattle.regex_lite_syntax.specs.Grammar.Counted.{Counted}
 use Rattle.regex_lite_syntax.proofs.grammar.NumberLemmas.{no_ender, nothing_left, other_ender}
 use Rattle.regex_lite_syntax.proofs.grammar.CountLemmas.{counted_to, first_number, limit_once, limit_past, past_min}
 use Rattle.regex_lite_syntax.proofs.parse.DenialLemmas.{denies_less, fault_denies}
 use Rattle.regex_lite_syntax.proofs.parse.counted.read_counted.Goals as goal
+use Rattle.regex_lite_syntax.proofs.parse.counted.read_counted.Goals.{in_default-via-in-Some-most+else-most-least, in_default-via-in_default}
 
 pub returns-then-first-chars-clause-err : goal.returns-then-first-chars-clause-err
 returns-then-first-chars-clause-err c =
@@ -47,18 +47,14 @@ pub returns-in_default-clause-ok : goal.returns-in_default-clause-ok
 returns-in_default-clause-ok c =
     let comma_at = c.in-Some-eq44 in
     let limit = c.in_ok-end-in-Some-eq44 in
-    let chars = c.args.chars.now in
-    subst (λ m. Counted c.args.verbose (drop c.args.at chars) (drop limit.end chars) c.in_ok-past_min.least m)
-    c.in-Some-most.is
-    (counted_to limit.most _ _ _ c.in_ok-past_min.ensures.ok comma_at.ensures.1 comma_at.field-0-test limit.ensures.ok
-    (λ n some. let same : c.in-Some-most.most ≡ n = cc (some, c.in-Some-most.is) in omega (arith, same)))
-
-pub returns-in_default-2-clause-ok : goal.returns-in_default-2-clause-ok
-returns-in_default-2-clause-ok c =
-    let comma_at = c.in-Some-eq44 in
-    counted_to c.in_ok-end-in-Some-eq44.most _ _ _ c.in_ok-past_min.ensures.ok comma_at.ensures.1 comma_at.field-0-test
-    c.in_ok-end-in-Some-eq44.ensures.ok
-    (λ n some. cc (some, c.in_default.is))
+    let counted = counted_to limit.most _ _ _ c.in_ok-past_min.ensures.ok comma_at.ensures.1 comma_at.field-0-test limit.ensures.ok in
+    elim c.in_default.branch [
+      | in_default-via-in-Some-most+else-most-least w ↦
+          rw (w.most-is, ← w.in-Some-most.is)
+          (counted (λ n some. let same : w.in-Some-most.most ≡ n = cc (some, w.in-Some-most.is) in
+          omega (arith, same, w.if-most-least.false)))
+      | in_default-via-in_default w ↦ rw w.most-is (counted (λ n some. cc (some, w.in_default.is)))
+    ]
 
 pub returns-in-Some-clause-err : goal.returns-in-Some-clause-err
 returns-in-Some-clause-err c =

@@ -1,9 +1,9 @@
-use Rattle.std.proofs.Common.{◌*◌, ap, arith, rules}
+use Rattle.std.proofs.Common.{◌*◌, ap, arith}
 use Rattle.regex_lite_engine.specs.Graph.PlaceCounts.{places, arrows, choice_arrows, ranges}
 use Rattle.regex_lite_engine.proofs.nfa.count.Counts.repeated.Goals as goal
 
-pub returns-then-least-eq0 : goal.returns-then-least-eq0
-returns-then-least-eq0 c = λ body greedy counted.
+pub returns : goal.returns
+returns c = λ body greedy counted.
     let p = c.times.ensures (places body) counted.places in
     let a = c.times-2.ensures (arrows body) counted.arrows in
     let o = c.times-3.ensures (choice_arrows body) counted.choice_arrows in
@@ -14,22 +14,5 @@ returns-then-least-eq0 c = λ body greedy counted.
       choice_arrows = cc;
       ranges = omega (arith, r, ap (λ n. n * ranges body) c.copies-copies.ensures);
       names_size = counted.names_size;
-      greatest_index = counted.greatest_index;
-      nullable = search rules;
-    }
-
-pub returns-else-least-eq0 : goal.returns-else-least-eq0
-returns-else-least-eq0 c = λ body greedy counted.
-    let p = c.times.ensures (places body) counted.places in
-    let a = c.times-2.ensures (arrows body) counted.arrows in
-    let o = c.times-3.ensures (choice_arrows body) counted.choice_arrows in
-    let r = c.times-4.ensures (ranges body) counted.ranges in
-    record {
-      places = cc;
-      arrows = cc;
-      choice_arrows = cc;
-      ranges = omega (arith, r, ap (λ n. n * ranges body) c.copies-copies.ensures);
-      names_size = counted.names_size;
-      greatest_index = counted.greatest_index;
-      nullable = search rules;
+      properties = c.repeated.ensures c.args.most greedy body counted.properties;
     }

@@ -16,6 +16,6 @@ returns-in-Ok-clause-ok c = λ tree counted.
     let same = c.size.ensures tree c.args.size_limit counted (omega arith) in
     let fits = same.0 c.if-size-size_limit.false in
     let stored = counted.places in
-    let index = counted.greatest_index in
+    let index = counted.properties.greatest_index in
     let number = c.in-Ok.ensures in
     (omega arith, record { size_fits = fits; places_fit = omega arith; slots_fit = omega arith })

@@ -1,9 +1,11 @@
 use Rattle.std.proofs.Common.{◌≡◌, refl, sym, ◌∙◌, ap, ◌+◌, ◌-◌, ◌∷◌, drop, take, arith, ℕ, Bool, true, false, if◌then◌else◌, Some, None}
-use Rattle.std.specs.Prelude.{find}
+use Rattle.std.specs.Prelude.{find, option_map, Option}
 use Rattle.regex_lite_syntax.specs.declared.class.named.NamedSet.{NamedSet}
+use Rattle.regex_lite_syntax.specs.declared.class.named.NamedSet.TheVariants as sets
 use Rattle.regex_lite_syntax.specs.declared.parse.bracket.named.TheConstants.{ALL}
 use Rattle.regex_lite_syntax.specs.Text.{Text, is_text, the}
-use Rattle.regex_lite_syntax.specs.NamedSets.{set_named}
+use Rattle.regex_lite_syntax.specs.NamedSets.{SetName, set_named}
+use Rattle.regex_lite_syntax.specs.Parser.SetNames.{name_of}
 use Rattle.regex_lite_syntax.specs.Grammar.Classes.{NamedClass}
 use Rattle.regex_lite_syntax.specs.Parser.ClassReadings.{set_name, HasNamedSet}
 use Rattle.regex_lite_syntax.proofs.ListLemmas.{same_tail}
@@ -11,12 +13,35 @@ use Rattle.regex_lite_syntax.proofs.grammar.ClassLemmas.{begins, name_once}
 use Rattle.regex_lite_syntax.proofs.parse.bracket.named.read_named_set.Goals as goal
 use Rattle.regex_lite_syntax.proofs.parse.bracket.named.read_named_set.Goals.{After-skip_lower-end, then-negated, else-negated, then-not-is_at-3-via-then-not-is_at-3, then-not-is_at-3-via-else-not-is_at-3+then-not-is_at-4}
 
+-- the name of a choice is a choice of names
+map_if : (b : Bool) (set : NamedSet) (others : Option NamedSet) (names : Option SetName) → option_map name_of others ≡ names
+    → option_map name_of (if b then Some set else others) ≡ (if b then Some (name_of set) else names)
+map_if true set others names e = refl
+map_if false set others names e = e
+
 -- the first of all sets with the name is the one that the grammar names
-none_named : (w name : Text) (set : NamedSet) → None ≡ find (λ s. is_text w (set_name s)) ALL → w ≡ name
+first_named : (w : Text) → option_map name_of (find (λ s. is_text w (set_name s)) ALL) ≡ set_named w
+first_named w =
+    let is : Text → Bool = is_text w in
+    map_if (is (set_name sets.Alnum)) sets.Alnum _ _ (
+    map_if (is (set_name sets.Alpha)) sets.Alpha _ _ (
+    map_if (is (set_name sets.Ascii)) sets.Ascii _ _ (
+    map_if (is (set_name sets.Blank)) sets.Blank _ _ (
+    map_if (is (set_name sets.Cntrl)) sets.Cntrl _ _ (
+    map_if (is (set_name sets.Digit)) sets.Digit _ _ (
+    map_if (is (set_name sets.Graph)) sets.Graph _ _ (
+    map_if (is (set_name sets.Lower)) sets.Lower _ _ (
+    map_if (is (set_name sets.Print)) sets.Print _ _ (
+    map_if (is (set_name sets.Punct)) sets.Punct _ _ (
+    map_if (is (set_name sets.Space)) sets.Space _ _ (
+    map_if (is (set_name sets.Upper)) sets.Upper _ _ (
+    map_if (is (set_name sets.Word)) sets.Word _ _ (
+    map_if (is (set_name sets.Xdigit)) sets.Xdigit None None refl)))))))))))))
+
+none_named : (w name : Text) (set : SetName) → None ≡ find (λ s. is_text w (set_name s)) ALL → w ≡ name
     → set_named name ≡ Some set → ⊥
 none_named w name set none same named =
-    let grammar : find (λ s. is_text w (set_name s)) ALL ≡ set_named w = refl in
-    let clash = none ∙ grammar ∙ ap set_named same ∙ named in
+    let clash = ap (option_map name_of) none ∙ first_named w ∙ ap set_named same ∙ named in
     cc clash
 
 opened_at : (xs : Text) (at : ℕ) → drop at xs ≡ the "[" ∷ drop (at + 1) xs
@@ -35,7 +60,7 @@ bare_at : (xs : Text) (at begin : ℕ) (negated : Bool) → begin ≡ at + 2 →
 bare_at xs at begin true b h = cc h
 bare_at xs at begin false b h = ap (λ n. drop n xs) (sym b)
 
-once : (c : After-skip_lower-end) (rest : Text) (n : Bool) (set : NamedSet)
+once : (c : After-skip_lower-end) (rest : Text) (n : Bool) (set : SetName)
     → (p : NamedClass (drop c.args.at c.args.chars.now) rest n set)
     → (c.is_at-negated.result ≡ n)
     × (take (c.skip_lower-end.result - c.if-negated.begin) (drop c.if-negated.begin c.args.chars.now) ≡ p.name)

@@ -15,5 +15,5 @@ pub returns-in_ok-extend_from_slice-in-Alone-Set : goal.returns-in_ok-extend_fro
 returns-in_ok-extend_from_slice-in-Alone-Set c d =
     let is : c.args.item ≡ Alone (Set c.in-Alone-Set.set c.in-Alone-Set.negated) = search rules in
     let named = c.in_ok-class-in-Alone-Set.ensures.members d ∙ sym (ap (λ (item : Item). item_set item d) is) in
-    in_set c.args.ranges.now.items _ c.deref.result.now (item_set c.args.item) d
-    c.in_ok-extend_from_slice-in-Alone-Set.ensures.items (rw c.deref.ensures.value named)
+    in_set c.args.ranges.now.items _ c.ranges-in-Alone-Set.result.now (item_set c.args.item) d
+    c.in_ok-extend_from_slice-in-Alone-Set.ensures.items (rw c.ranges-in-Alone-Set.ensures.same named)

@@ -1,0 +1,74 @@
+-- The answer over a table of numbered places is that over the pattern which the table stands for.
+use Rattle.std.proofs.Common.{sym, ap, ◌∙◌, ℕ, List, Option, Some, None}
+use Rattle.regex_lite_syntax.specs.Text.{Text}
+use Rattle.regex_lite_syntax.specs.Tree.{Tree}
+use Rattle.regex_lite_syntax.specs.Tree.Regular.{IsRegular}
+use Rattle.regex_lite_engine.specs.Graph.Places.{Place}
+use Rattle.regex_lite_engine.specs.Graph.Addresses.{Address}
+use Rattle.regex_lite_engine.specs.Graph.WrittenOut.{start_address, written_out, place_of_pattern}
+use Rattle.regex_lite_engine.specs.Graph.Renumbered.{IsRenumbered, IsNumberOf}
+use Rattle.regex_lite_engine.specs.Search.Marks.{marks_along}
+use Rattle.regex_lite_engine.specs.Search.Answer.{IsMatchFrom, Found, IsAnswer, IsShortest}
+use Rattle.regex_lite_engine.specs.Walk.NumberedAnswer.{IsNumberedMatch, IsNumberedAnswer, IsNumberedShortest}
+use Rattle.regex_lite_engine.proofs.laws.PatternWayLemmas.{match_way, walk_match}
+use Rattle.regex_lite_engine.proofs.laws.search.NumberedWayLemmas.{marks_named, begins, in_numbers, in_addresses}
+
+module _ (tree : Tree) (haystack : Text) (table : List (Place ℕ)) (start : ℕ)
+    (name : ℕ → Address) (r : IsRenumbered (written_out tree) name table)
+    (first : IsNumberOf name table start_address start) (regular : IsRegular tree) where
+  -- a match of the tree, over numbers
+  numbered_match : (s i j : ℕ) → IsMatchFrom tree haystack s i j
+      → (q : ℕ) × (way : List ℕ) × IsNumberedMatch table haystack start s i way q j
+  numbered_match s i j m =
+      let way = match_way tree haystack i j regular m.matches in
+      let numbered = in_numbers tree haystack table start name r first i j way.0 way.1 in (
+        numbered.0,
+        way.0,
+        record { from = m.from; inside = m.inside; leads = numbered.1 },
+      )
+
+  -- and the other way round
+  match_of_numbers : (s i q j : ℕ) (way : List ℕ)
+      → IsNumberedMatch table haystack start s i way q j → IsMatchFrom tree haystack s i j
+  match_of_numbers s i q j way m =
+      let is_way = in_addresses tree haystack table start name r first i q j way m.leads in
+      record {
+        from = m.from;
+        inside = m.inside;
+        matches = walk_match tree haystack i j way regular is_way.0;
+      }
+
+  pub answer_of_numbers : (s : ℕ) (answer : Option Found)
+      → IsNumberedAnswer table haystack start s answer → IsAnswer tree haystack s answer
+  answer_of_numbers s None none = λ (i, j, m). (
+      let (q, way, numbered) = numbered_match s i j m in none i q j way numbered)
+  answer_of_numbers s (Some found) is = record {
+    from = is.from;
+    inside = is.inside;
+    least = λ i j m. (
+        let (q, way, numbered) = numbered_match s i j m in is.least i q j way numbered);
+    way = is.way;
+    most_preferred = record {
+      is_way = in_addresses tree haystack table start name r first found.start is.last found.end
+          is.way is.is_way;
+      preferred = λ other j p. (
+          let numbered = in_numbers tree haystack table start name r first found.start j other p in
+          is.preferred other numbered.0 j numbered.1);
+    };
+    marks = is.marks
+        ∙ sym (marks_named tree haystack table start name r first is.way (start, found.start)
+        first.inside)
+        ∙ ap (λ n. marks_along haystack (place_of_pattern tree) (Some n) is.way)
+        (sym (begins tree haystack table start name r first found.start));
+  }
+
+  pub shortest_of_numbers : (s : ℕ) (answer : Option ℕ)
+      → IsNumberedShortest table haystack start s answer → IsShortest tree haystack s answer
+  shortest_of_numbers s None none = λ (i, j, m). (
+      let (q, way, numbered) = numbered_match s i j m in none i q j way numbered)
+  shortest_of_numbers s (Some end) ((i, q, way, m), least) = record {
+    start = i;
+    is_match = match_of_numbers s i q end way m;
+    least = λ k j n. (
+        let (p, other, numbered) = numbered_match s k j n in least k p j other numbered);
+  }

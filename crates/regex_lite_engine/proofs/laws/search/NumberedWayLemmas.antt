@@ -1,0 +1,201 @@
+-- Ways through a table of numbered places are ways through the places at the addresses that the
+-- numbers stand for.
+use Rattle.std.proofs.Common.{◌≡◌, ◌<◌, refl, sym, ap, subst, ◌∙◌, ℕ, zero, suc, IsTrue, List, [], ◌∷◌, length, slice_get, Option, Some, None, option_map, unwrap_or, arith}
+use Rattle.std.proofs.lemmas.Option.{slice_get-map}
+use Rattle.regex_lite_syntax.specs.Text.{Text}
+use Rattle.regex_lite_syntax.specs.Tree.{Tree}
+use Rattle.regex_lite_engine.specs.Graph.Ways.{IsWay}
+use Rattle.regex_lite_engine.specs.Graph.Places.{Arrow, Place, complete, with_arrows, taken, arrived, arrow_taken, step, step_from}
+use Rattle.regex_lite_engine.specs.Graph.Addresses.{Address}
+use Rattle.regex_lite_engine.specs.Graph.WrittenOut.{start_address, end_address, written_out, place_of_pattern, IsWayThrough}
+use Rattle.regex_lite_engine.specs.Graph.Stored.{LeadBelow}
+use Rattle.regex_lite_engine.specs.Graph.Renumbered.{renamed, renamed_arrow, IsRenumbered, IsNumberOf}
+use Rattle.regex_lite_engine.specs.Search.Marks.{over, marked, mark_of, mark_of_arrow, marks_along}
+use Rattle.regex_lite_engine.specs.Walk.NumberedAnswer.{place_with, is_complete, numbered_step, IsNumberedWay}
+use Rattle.regex_lite_engine.proofs.laws.LeadsLemmas.{same_some}
+use Rattle.regex_lite_engine.proofs.laws.search.NamedWayLemmas.{known_on, unnamed_walk, named_way, unnamed_way}
+use Rattle.regex_lite_engine.proofs.laws.search.OneEndLemmas.{one_end}
+
+place_within : {X : Type 0} (list : List X) (q : ℕ) (other : X) → q < length list
+    → slice_get list q ≡ Some (unwrap_or (slice_get list q) other)
+place_within [] q other less = absurd (omega (arith, less))
+place_within (x ∷ list) zero other less = refl
+place_within (x ∷ list) (suc q) other less = place_within list q other (omega (arith, less))
+
+-- a place leads as its renamed one does
+abbrev pub name_pair : (ℕ → Address) → ℕ × ℕ → Address × ℕ
+name_pair name n = (name n.0, n.1)
+
+arrived_renamed : (name : ℕ → Address) (a : ℕ) (o : Option ℕ)
+    → arrived (name a) o ≡ option_map (name_pair name) (arrived a o)
+arrived_renamed name a None = refl
+arrived_renamed name a (Some j) = refl
+
+taken_renamed : (haystack : Text) (name : ℕ → Address) (i : ℕ) (o : Option (Arrow ℕ))
+    → arrow_taken haystack i (option_map (renamed_arrow name) o)
+    ≡ option_map (name_pair name) (arrow_taken haystack i o)
+taken_renamed haystack name i None = refl
+taken_renamed haystack name i (Some arrow) =
+    arrived_renamed name arrow.to (taken haystack arrow.condition i)
+
+pub step_renamed : (haystack : Text) (name : ℕ → Address) (place : Place ℕ) (i k : ℕ)
+    → step_from haystack (renamed name place) i k
+    ≡ option_map (name_pair name) (step_from haystack place i k)
+step_renamed haystack name complete i k = refl
+step_renamed haystack name (with_arrows arrows) i k =
+    ap (λ o. arrow_taken haystack i o) (slice_get-map (renamed_arrow name) arrows k)
+    ∙ taken_renamed haystack name i (slice_get arrows k)
+
+mark_renamed_arrow : (name : ℕ → Address) (o : Option (Arrow ℕ))
+    → mark_of_arrow (option_map (renamed_arrow name) o) ≡ mark_of_arrow o
+mark_renamed_arrow name None = refl
+mark_renamed_arrow name (Some arrow) = refl
+
+pub mark_renamed : (name : ℕ → Address) (place : Place ℕ) (k : ℕ)
+    → mark_of (renamed name place) k ≡ mark_of place k
+mark_renamed name complete k = refl
+mark_renamed name (with_arrows arrows) k =
+    ap mark_of_arrow (slice_get-map (renamed_arrow name) arrows k)
+    ∙ mark_renamed_arrow name (slice_get arrows k)
+
+-- where a match is complete under other names, it is complete
+renamed_complete : (name : ℕ → Address) (place : Place ℕ) → renamed name place ≡ complete
+    → IsTrue (is_complete place)
+renamed_complete name complete e = refl
+renamed_complete name (with_arrows arrows) e = absurd cc
+
+is_complete_place : (place : Place ℕ) → IsTrue (is_complete place) → place ≡ complete
+is_complete_place complete e = refl
+is_complete_place (with_arrows arrows) e = absurd cc
+
+below : (n : ℕ) (arrows : List (Arrow ℕ)) (k : ℕ) (arrow : Arrow ℕ) → LeadBelow n arrows
+    → slice_get arrows k ≡ Some arrow → arrow.to < n
+below n [] k arrow all e = absurd cc
+below n (first ∷ rest) zero arrow all e =
+    subst (λ (a : Arrow ℕ). a.to < n) (same_some e) all.0
+below n (first ∷ rest) (suc k) arrow all e = below n rest k arrow all.1 e
+
+module _ (tree : Tree) (haystack : Text) (table : List (Place ℕ)) (start : ℕ)
+    (name : ℕ → Address) (r : IsRenumbered (written_out tree) name table)
+    (first : IsNumberOf name table start_address start) where
+  abbrev Known : ℕ × ℕ → Type 0
+  Known n = n.0 < length table
+
+  abbrev in_table : ℕ × ℕ → ℕ → Option (ℕ × ℕ)
+  in_table = numbered_step table haystack
+
+  abbrev in_pattern : Address × ℕ → ℕ → Option (Address × ℕ)
+  in_pattern = step haystack (place_of_pattern tree)
+
+  abbrev named : ℕ × ℕ → Address × ℕ
+  named = name_pair name
+
+  written_at : (q : ℕ) → q < length table
+      → written_out tree (name q) ≡ Some (renamed name (place_with table q))
+  written_at q less = r.alike q (place_with table q) (place_within table q (with_arrows []) less)
+
+  place_named : (q : ℕ) → q < length table
+      → place_of_pattern tree (name q) ≡ renamed name (place_with table q)
+  place_named q less = ap (λ o. unwrap_or o (with_arrows [])) (written_at q less)
+
+  alike : (x : ℕ × ℕ) (k : ℕ) → Known x
+      → in_pattern (named x) k ≡ option_map named (in_table x k)
+  alike x k less =
+      ap (λ p. step_from haystack p x.1 k) (place_named x.0 less)
+      ∙ step_renamed haystack name (place_with table x.0) x.1 k
+
+  stays : (x y : ℕ × ℕ) (k : ℕ) → Known x → in_table x k ≡ Some y → Known y
+  stays x y k less s = by_place (place_with table x.0) (place_within table x.0 (with_arrows []) less) s
+    where
+      by_result : (a : ℕ) (o : Option ℕ) → a < length table → arrived a o ≡ Some y → Known y
+      by_result a None low e = absurd cc
+      by_result a (Some j) low e =
+          let same : (a, j) ≡ y = same_some e in
+          subst Known same low
+
+      by_arrow : (arrows : List (Arrow ℕ)) → slice_get table x.0 ≡ Some (with_arrows arrows)
+          → (o : Option (Arrow ℕ)) → slice_get arrows k ≡ o → arrow_taken haystack x.1 o ≡ Some y
+          → Known y
+      by_arrow arrows at None there e = absurd cc
+      by_arrow arrows at (Some arrow) there e =
+          by_result arrow.to (taken haystack arrow.condition x.1)
+          (below (length table) arrows k arrow (r.inside x.0 (with_arrows arrows) at) there) e
+
+      by_place : (place : Place ℕ) → slice_get table x.0 ≡ Some place
+          → step_from haystack place x.1 k ≡ Some y → Known y
+      by_place complete at e = absurd cc
+      by_place (with_arrows arrows) at e = by_arrow arrows at (slice_get arrows k) refl e
+
+  apart : (x y : ℕ × ℕ) → Known x → Known y → named x ≡ named y → x ≡ y
+  apart x y p q e =
+      pairs (r.apart x.0 y.0 p q (ap (λ (z : Address × ℕ). z.0) e))
+      (ap (λ (z : Address × ℕ). z.1) e)
+    where
+      pairs : x.0 ≡ y.0 → x.1 ≡ y.1 → x ≡ y
+      pairs f g = λ t. (f t, g t)
+
+  pub marks_named : (ks : List ℕ) (x : ℕ × ℕ) → Known x
+      → marks_along haystack (place_of_pattern tree) (Some (named x)) ks
+      ≡ marks_along haystack (place_with table) (Some x) ks
+  marks_named [] x known = refl
+  marks_named (k ∷ ks) x known =
+      let here = ap (λ p. marked (mark_of p k) x.1) (place_named x.0 known)
+      ∙ ap (λ o. marked o x.1) (mark_renamed name (place_with table x.0) k) in
+      let later = ap (λ o. marks_along haystack (place_of_pattern tree) o ks) (alike x k known)
+      ∙ by_step (in_table x k) refl (λ y s. marks_named ks y (stays x y k known s)) in
+      λ t. over (later t) (here t)
+    where
+      none_marked : (ls : List ℕ)
+          → marks_along haystack (place_of_pattern tree) None ls
+          ≡ marks_along haystack (place_with table) None ls
+      none_marked [] = refl
+      none_marked (l ∷ ls) = refl
+
+      by_step : (o : Option (ℕ × ℕ)) → in_table x k ≡ o
+          → ((y : ℕ × ℕ) → in_table x k ≡ Some y
+          → marks_along haystack (place_of_pattern tree) (Some (named y)) ks
+          ≡ marks_along haystack (place_with table) (Some y) ks)
+          → marks_along haystack (place_of_pattern tree) (option_map named o) ks
+          ≡ marks_along haystack (place_with table) o ks
+      by_step None e on = none_marked ks
+      by_step (Some y) e on = on y e
+
+  pub begins : (i : ℕ) → (start_address, i) ≡ named (start, i)
+  begins i = ap (λ a. (a, i)) (sym first.same)
+
+  -- a way through the pattern, with numbers
+  pub in_numbers : (i j : ℕ) (ks : List ℕ) → IsWayThrough tree haystack i ks j
+      → (q : ℕ) × IsNumberedWay table haystack start i ks q j
+  in_numbers i j ks is =
+      let moved = subst (λ n. IsWay (Address × ℕ) in_pattern n ks (end_address, j)) (begins i) is in
+      let walk = unnamed_walk in_table in_pattern named Known stays alike apart ks (start, i)
+      (end_address, j) first.inside moved.0 in
+      let known = known_on in_table in_pattern named Known stays alike apart ks (start, i) walk.0
+      first.inside walk.2 in
+      let way = unnamed_way in_table in_pattern named Known stays alike apart ks (start, i) walk.0
+      first.inside walk.2 moved.1 in
+      let at : name walk.0.0 ≡ end_address = ap (λ (z : Address × ℕ). z.0) walk.1 in
+      let position : walk.0.1 ≡ j = ap (λ (z : Address × ℕ). z.1) walk.1 in
+      let written = sym (written_at walk.0.0 known) ∙ ap (written_out tree) at in
+      let ends = renamed_complete name (place_with table walk.0.0) (same_some written) in (
+        walk.0.0,
+        record {
+          is_way = subst (λ n. IsWay (ℕ × ℕ) in_table (start, i) ks (walk.0.0, n)) position way;
+          ends = ends;
+        },
+      )
+
+  -- and the other way round
+  pub in_addresses : (i q j : ℕ) (ks : List ℕ) → IsNumberedWay table haystack start i ks q j
+      → IsWayThrough tree haystack i ks j
+  in_addresses i q j ks numbered =
+      let way = numbered.is_way in
+      let is_end = is_complete_place (place_with table q) numbered.ends in
+      let known = known_on in_table in_pattern named Known stays alike apart ks (start, i) (q, j)
+      first.inside way.0 in
+      let there = named_way in_table in_pattern named Known stays alike apart ks (start, i) (q, j)
+      first.inside way in
+      let written = written_at q known ∙ ap (λ p. Some (renamed name p)) is_end in
+      let at : name q ≡ end_address = one_end tree (name q) written in
+      let ended = subst (λ a. IsWay (Address × ℕ) in_pattern (named (start, i)) ks (a, j)) at there in
+      subst (λ n. IsWay (Address × ℕ) in_pattern n ks (end_address, j)) (sym (begins i)) ended

@@ -1,0 +1,180 @@
+-- What a search over a table of numbered places has found when it is over is its answer.
+use Rattle.std.proofs.Common.{◌≡◌, ◌≤◌, ◌⊎◌, inl, inr, refl, sym, ap, subst, ◌∙◌, ℕ, IsTrue, List, [], ◌∷◌, ◌++◌, Option, Some, None, length, arith}
+use Rattle.regex_lite_syntax.specs.Text.{Text}
+use Rattle.regex_lite_syntax.proofs.ListLemmas.{same_head, same_tail}
+use Rattle.regex_lite_engine.specs.Graph.Ways.{Leads, IsWay}
+use Rattle.regex_lite_engine.specs.Graph.Places.{Place, complete, with_arrows, step, step_from}
+use Rattle.regex_lite_engine.specs.Search.Marks.{marks_along}
+use Rattle.regex_lite_engine.specs.Search.Preference.{IsPreferred}
+use Rattle.regex_lite_engine.specs.Search.Answer.{Found}
+use Rattle.regex_lite_engine.specs.Walk.Explored.{Before, NotAfter, StartsAt, StartsDiffer, IsWhole, IsFirst}
+use Rattle.regex_lite_engine.specs.Walk.NumberedAnswer.{place_with, is_complete, numbered_step, is_end, IsNumberedWay, IsNumberedMatch, IsNumberedAnswer, IsOver, IsOfWay}
+use Rattle.regex_lite_engine.proofs.laws.LeadsLemmas.{same_some, leads_to_one}
+use Rattle.regex_lite_engine.proofs.laws.search.SearchLawLemmas.{search_law}
+
+-- starts at different positions are told apart by them
+pub starts_differ : {N : Type 0} (step : N → ℕ → Option N) (is_end : _) (start : ℕ → N)
+    (first last : ℕ) → StartsDiffer N step is_end (StartsAt start first last)
+starts_differ step is_end start first last a b more other n m (i, _, _, e, f) (j, _, _, g, h) parts =
+    let all : i ∷ more ≡ j ∷ other
+    = sym (ap (λ z. z ++ more) e) ∙ parts ∙ ap (λ z. z ++ other) g in
+    let same = same_head all in
+    (e ∙ ap (λ k. k ∷ []) same ∙ sym g, f ∙ ap start same ∙ sym h)
+
+module _ {A : Type 0} (haystack : Text) (place : A → Place A) where
+  no_arrow_on : (at : Place A) (i l : ℕ) (next : A × ℕ) → IsTrue (is_complete at)
+      → step_from haystack at i l ≡ Some next → ⊥
+  no_arrow_on complete i l next over s = absurd cc
+  no_arrow_on (with_arrows arrows) i l next over s = absurd cc
+
+  -- of two walks to where a match is complete, none is a beginning of the other
+  before_preferred : (a b : List ℕ) (n x y : A × ℕ) → Before a b
+      → Leads (A × ℕ) (step haystack place) n a x → IsTrue (is_complete (place x.0))
+      → Leads (A × ℕ) (step haystack place) n b y → IsPreferred a b
+  before_preferred a [] n x y before p over q = absurd before
+  before_preferred [] (l ∷ b) n x y before p over (next, s, q) =
+      let there = subst (λ (z : A × ℕ). step haystack place z l ≡ Some next) p s in
+      absurd (no_arrow_on (place x.0) x.1 l next over there)
+  before_preferred (k ∷ a) (l ∷ b) n x y (inl less) p over q = inl less
+  before_preferred (k ∷ a) (l ∷ b) n x y (inr (e, before)) (next, s, p) over (other, t, q) =
+      let one : other ≡ next = same_some (sym t ∙ ap (step haystack place n) (sym e) ∙ s) in
+      let moved = subst (λ z. Leads (A × ℕ) (step haystack place) z b y) one q in
+      inr (e, before_preferred a b next x y before p over moved)
+
+-- behind one start
+behind_start : (i : ℕ) (a b : List ℕ) → NotAfter (i ∷ a) (i ∷ b) → (a ≡ b) ⊎ Before a b
+behind_start i a b (inl e) = inl (same_tail e)
+behind_start i a b (inr (inl less)) = absurd (omega (arith, less))
+behind_start i a b (inr (inr (e, before))) = inr before
+
+no_later_start : (i j : ℕ) (a b : List ℕ) → NotAfter (i ∷ a) (j ∷ b) → i ≤ j
+no_later_start i j a b (inl e) = let same : i ≡ j = same_head e in omega (arith, same)
+no_later_start i j a b (inr (inl less)) = omega (arith, less)
+no_later_start i j a b (inr (inr (e, before))) = omega (arith, e)
+
+module _ (table : List (Place ℕ)) (haystack : Text) (start s : ℕ) where
+  abbrev walks : ℕ × ℕ → ℕ → Option (ℕ × ℕ)
+  walks = numbered_step table haystack
+
+  abbrev Starts : List ℕ → ℕ × ℕ → Type 0
+  Starts = StartsAt (λ i. (start, i)) s (length haystack)
+
+  abbrev Whole : List ℕ → Type 0
+  Whole = IsWhole (ℕ × ℕ) walks (is_end table haystack) Starts
+
+  -- a way over numbers, with its start in front
+  whole_of : (i q j : ℕ) (way : List ℕ) → IsNumberedMatch table haystack start s i way q j
+      → Whole (i ∷ way)
+  whole_of i q j way m = record {
+    front = i ∷ [];
+    arrows = way;
+    parts = refl;
+    start = (start, i);
+    is_start = (i, m.from, m.inside, refl, refl);
+    end = (q, j);
+    ends = m.leads.ends;
+    is_way = m.leads.is_way;
+  }
+
+  -- and the other way round
+  record Numbered (w : List ℕ) : Type 0 where
+    at : ℕ
+    way : List ℕ
+    last : ℕ
+    to : ℕ
+    parts : w ≡ at ∷ way
+    matches : IsNumberedMatch table haystack start s at way last to
+
+  numbered_of : (w : List ℕ) → Whole w → Numbered w
+  numbered_of w whole = by_start whole.is_start
+    where
+      by_start : Starts whole.front whole.start → Numbered w
+      by_start (i, low, high, e, f) = record {
+        at = i;
+        way = whole.arrows;
+        last = whole.end.0;
+        to = whole.end.1;
+        parts = whole.parts ∙ ap (λ z. z ++ whole.arrows) e;
+        matches = record {
+          from = low;
+          inside = high;
+          leads = record {
+            is_way = subst (λ n. IsWay (ℕ × ℕ) walks n whole.arrows whole.end) f whole.is_way;
+            ends = whole.ends;
+          };
+        };
+      }
+
+  -- the first of all ways has the answer's start and end, and marks what it does
+  first_found : (found : Found) (way : List ℕ) (q : ℕ)
+      → IsFirst (ℕ × ℕ) walks (is_end table haystack) Starts (Some (found.start ∷ way))
+      → Leads (ℕ × ℕ) walks (start, found.start) way (q, found.end)
+      → found.marks ≡ marks_along haystack (place_with table) (Some (start, found.start)) way
+      → IsNumberedAnswer table haystack start s (Some found)
+  first_found found way q (whole, least) along marks = record {
+    from = here.from;
+    inside = here.inside;
+    least = λ i p j other m.
+        no_later_start found.start i way other (least (i ∷ other) (whole_of i p j other m));
+    way = way;
+    last = q;
+    is_way = is_way;
+    preferred = λ other p j m. by_order other p j m
+        (behind_start found.start way other
+        (least (found.start ∷ other) (whole_of found.start p j other (from_here other p j m))));
+    marks = marks;
+  }
+    where
+      n : Numbered (found.start ∷ way)
+      n = numbered_of (found.start ∷ way) whole
+
+      at_end : (i : ℕ) (arrows : List ℕ) → found.start ≡ i → way ≡ arrows
+          → IsNumberedMatch table haystack start s i arrows n.last n.to
+          → IsNumberedMatch table haystack start s found.start way n.last n.to
+      at_end i arrows e f m =
+          subst (λ z. IsNumberedMatch table haystack start s z way n.last n.to) (sym e)
+          (subst (λ z. IsNumberedMatch table haystack start s i z n.last n.to) (sym f) m)
+
+      here : IsNumberedMatch table haystack start s found.start way n.last n.to
+      here = at_end n.at n.way (same_head n.parts) (same_tail n.parts) n.matches
+
+      there : ◌≡◌ {A = ℕ × ℕ} (n.last, n.to) (q, found.end)
+      there =
+          leads_to_one walks way (start, found.start) (n.last, n.to) (q, found.end)
+          here.leads.is_way.0 along
+
+      is_way : IsNumberedWay table haystack start found.start way q found.end
+      is_way = record {
+        is_way = subst (λ m. IsWay (ℕ × ℕ) walks (start, found.start) way m) there
+            here.leads.is_way;
+        ends = subst (λ m. IsTrue (is_end table haystack m)) there here.leads.ends;
+      }
+
+      from_here : (other : List ℕ) (p j : ℕ)
+          → IsNumberedWay table haystack start found.start other p j
+          → IsNumberedMatch table haystack start s found.start other p j
+      from_here other p j m = record { from = here.from; inside = here.inside; leads = m }
+
+      by_order : (other : List ℕ) (p j : ℕ)
+          → IsNumberedWay table haystack start found.start other p j
+          → (way ≡ other) ⊎ Before way other → (way ≡ other) ⊎ IsPreferred way other
+      by_order other p j m (inl e) = inl e
+      by_order other p j m (inr before) =
+          inr (before_preferred haystack (place_with table) way other (start, found.start)
+          (q, found.end) (p, j) before along is_way.ends m.is_way.0)
+
+  pub answer_when_over : (recorded : ℕ × ℕ → Option (List ℕ)) (best : Option (List ℕ))
+      (answer : Option Found) → IsOver table haystack start s recorded best
+      → IsOfWay table haystack start best answer → IsNumberedAnswer table haystack start s answer
+  answer_when_over recorded None answer x e =
+      let none = search_law None
+      (starts_differ walks (is_end table haystack) (λ i. (start, i)) s (length haystack)) x in
+      subst (λ a. IsNumberedAnswer table haystack start s a) (sym e)
+      (λ i q j way m. none (i ∷ way) (whole_of i q j way m))
+  answer_when_over recorded (Some best) answer x (found, way, q, e, best_is, along, marks) =
+      let first = search_law (Some best)
+      (starts_differ walks (is_end table haystack) (λ i. (start, i)) s (length haystack)) x in
+      let moved = subst (λ w. IsFirst (ℕ × ℕ) walks (is_end table haystack) Starts (Some w)) best_is
+      first in
+      subst (λ a. IsNumberedAnswer table haystack start s a) (sym e)
+      (first_found found way q moved along marks)

@@ -1,2 +1,0 @@
--- lemmas that several proofs here share
-pub mod StaticGroupLemmas

@@ -1,0 +1,32 @@
+use Rattle.std.proofs.Common.{◌≡◌, ◌∙◌, ◌⊎◌, inl, inr, sym, ap, subst, IfOk, Result, List, Option, String, Vec, Global, map}
+use Rattle.std.specs.declared.alloc.AllocError.{AllocError}
+use Rattle.regex_lite_syntax.specs.Tree.Properties.{group_name, group_name_in}
+use Rattle.regex_lite_syntax.specs.Tree.{Tree, trees as trees_of}
+use Rattle.regex_lite_syntax.specs.Tree.Views.{tree_of}
+use Rattle.regex_lite_syntax.specs.declared.hir.Hir.{Hir}
+use Rattle.regex_lite_syntax.specs.declared.hir.Hir.TheVariants.{Concat, Alternation}
+use Rattle.regex_lite_syntax.specs.Tree.NameTables.{AddsNames}
+use Rattle.regex_lite_syntax.proofs.hir.names.+add.Goals as goal
+use Rattle.regex_lite_syntax.proofs.TreeLemmas.{tree_of-Concat, tree_of-Alternation}
+
+-- the names of a list of trees are those of the node that has them
+of_node : (result : Result (Unit {0}) AllocError) (before after : List (Option (String Global)))
+    (hir : Hir) (parts : Vec Hir Global) → (hir ≡ Concat parts) ⊎ (hir ≡ Alternation parts)
+    → IfOk result
+    (λ _. AddsNames (group_name_in (trees_of (map tree_of parts.items))) before after)
+    → IfOk result (λ _. AddsNames (group_name (tree_of hir)) before after)
+of_node result before after hir parts (inl is) added =
+    subst (λ (tree : Tree). IfOk result (λ _. AddsNames (group_name tree) before after))
+    (sym (ap tree_of is ∙ tree_of-Concat parts)) added
+of_node result before after hir parts (inr is) added =
+    subst (λ (tree : Tree). IfOk result (λ _. AddsNames (group_name tree) before after))
+    (sym (ap tree_of is ∙ tree_of-Alternation parts)) added
+
+pub add_names-returns-in-Concat : goal.add_names-returns-in-Concat
+add_names-returns-in-Concat t c =
+    let names = c.args.names.now in
+    let done = c.add_all_names in
+    of_node done.result names done.new.names c.args.hir.now c.in-Concat.parts c.in-Concat.is
+    (subst (λ (parts : List Hir). IfOk done.result
+    (λ _. AddsNames (group_name_in (trees_of (map tree_of parts))) names done.new.names))
+    c.deref-in-Concat.ensures.value done.ensures)
