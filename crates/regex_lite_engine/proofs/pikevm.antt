@@ -1,5 +1,6 @@
 -- lemmas that several proofs here share
 pub mod EnterLemmas
+pub mod EndLemmas
 pub mod InStepLemmas
 pub mod MarkLemmas
 pub mod OfferLemmas

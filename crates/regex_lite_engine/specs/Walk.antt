@@ -9,3 +9,4 @@ pub mod Entering
 pub mod Room
 pub mod Turns
 pub mod Searching
+pub mod Outcomes

@@ -3,6 +3,7 @@
 mod best;
 mod enter;
 pub(crate) mod here;
+mod run;
 pub(crate) mod seen;
 pub(crate) mod stack;
 pub(crate) mod steps;

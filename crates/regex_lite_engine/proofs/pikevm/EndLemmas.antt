@@ -50,7 +50,7 @@ step_in_text h (with_arrows arrows) i k m le e = go (slice_get arrows k) e
       where
         by_end : (o : Option ℕ) → taken h a.condition i ≡ o → arrived a.to o ≡ Some m → m.1 ≤ length h
         by_end None t e = absurd (not_there e)
-        by_end (Some j) t e = let le' = taken_in_text h a.ask i j le t in let same : j ≡ m.1 = ap (λ (z : Node). z.1) (same_some e) in omega (arith, le', same)
+        by_end (Some j) t e = let le' = taken_in_text h a.condition i j le t in let same : j ≡ m.1 = ap (λ (z : Node). z.1) (same_some e) in omega (arith, le', same)
 
 module _ (table : List (Place ℕ)) (h : Text) (s first : ℕ) where
   nothing_beyond : (p from : ℕ) (recorded : Node → Option (List ℕ)) (coming : List (Offer Node)) (way : Option (List ℕ)) → length h < p →
@@ -75,10 +75,13 @@ module _ (table : List (Place ℕ)) (h : Text) (s first : ℕ) where
   answered None recorded way e over =
       answer_when_over table h s first recorded None None (subst (λ z. IsOver table h s first recorded z) e over) refl
   answered (Some b) recorded way (w, e, (q, end, at_end, ends, (j, ks, at, parts, along, has))) over =
-      let found : Found = record { start = j; end = end; marks = marks_along h (place_with table) (Some (s, j)) ks } in
-      (found,
+      let found : Found = record { start = j; end = end; marks = marks_along h (place_with table) (Some (s, j)) ks } in (
+        found,
         answer_when_over table h s first recorded (Some w) (Some found) (subst (λ z. IsOver table h s first recorded z) e over) (found, ks, q, refl, parts, along, refl),
-        at, at_end, has)
+        at,
+        at_end,
+        has,
+      )
 
   pub ended : (p : ℕ) (cur : Threads) (best : Best) → first ≤ p → p ≤ length h →
       ((p ≡ length h) ⊎ ((best ≡ None → ⊥) × (cur.len ≡ 0))) → IsComing table h s first (length h) (p + 1) cur best → IsOutcome table h s first best
@@ -87,12 +90,15 @@ module _ (table : List (Place ℕ)) (h : Text) (s first : ℕ) where
       with_none : u.coming ≡ [] → ((length h < u.from) ⊎ ((b : List ℕ) × (u.way ≡ Some b))) → IsOutcome table h s first best
       with_none e enough = answered best u.recorded u.way u.best_holds (explored (p + 1) u.from u.recorded u.way enough
           (subst (λ z. InStep table h s first (length h) (p + 1) u.from u.recorded z [] u.way) e u.in_step))
+
       way_of : (b : Best) → BestHolds table h s b u.way → (b ≡ None → ⊥) → (w : List ℕ) × (u.way ≡ Some w)
       way_of None e d = absurd (d refl)
       way_of (Some x) (w, e, held) d = (w, e)
+
       at_end : (b : Best) → BestHolds table h s b u.way → FromIs (p + 1) u.from b → p ≡ length h → (length h < u.from) ⊎ ((w : List ℕ) × (u.way ≡ Some w))
       at_end None e is same = inl (omega (arith, is, same))
       at_end (Some x) (w, e, held) is same = inr (w, e)
+
       go : (p ≡ length h) ⊎ ((best ≡ None → ⊥) × (cur.len ≡ 0)) → IsOutcome table h s first best
       go (inl same) = with_none (nothing_beyond (p + 1) u.from u.recorded u.coming u.way (omega (arith, same)) u.in_step u.before (omega (arith, same))) (at_end best u.best_holds u.from_is same)
       go (inr (some, empty)) = let all = u.all in with_none (nil_from_length u.coming (omega (arith, all, empty))) (inr (way_of best u.best_holds some))
@@ -126,6 +132,7 @@ over_at h p x is (inl e) = inl (go (cases_lt p (length h)))
     there [] q lt e = omega (arith, lt)
     there (c ∷ cs) zero lt e = not_there (sym e)
     there (c ∷ cs) (suc q) lt e = there cs q (omega (arith, lt)) e
+
     go : (p < length h) ⊎ (length h ≤ p) → p ≡ length h
     go (inl lt) = absurd (there h p lt (sym is.ahead ∙ e))
     go (inr le) = let within = is.inside in omega (arith, le, within)
