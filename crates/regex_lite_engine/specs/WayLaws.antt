@@ -1,15 +1,18 @@
 -- Laws of the definitions.
 use Rattle.std.specs.Prelude.{◌↔◌, ℕ, List}
+use Rattle.std.specs.List.{AllPass}
 use Rattle.regex_lite_syntax.specs.declared.flags.Flags.{Flags}
 use Rattle.regex_lite_syntax.specs.Text.{Text}
+use Rattle.regex_lite_syntax.specs.Characters.{is_character}
 use Rattle.regex_lite_syntax.specs.Tree.{Tree}
 use Rattle.regex_lite_syntax.specs.Tree.Matches.{Matches}
 use Rattle.regex_lite_syntax.specs.Grammar.{IsTree}
 use Rattle.regex_lite_engine.specs.Graph.WrittenOut.{IsWayThrough}
 
--- the grammar gives this tree to some pattern
+-- the grammar gives this tree to some pattern, which consists of characters
 abbrev pub IsPatternTree : Tree → Type 0
-IsPatternTree tree = (flags : Flags) × (pattern : Text) × IsTree flags pattern tree
+IsPatternTree tree =
+    (flags : Flags) × (pattern : Text) × AllPass is_character pattern × IsTree flags pattern tree
 
 -- such a tree matches from i to j exactly where a way through its written-out pattern leads from i
 -- to j

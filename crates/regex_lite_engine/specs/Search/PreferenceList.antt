@@ -1,6 +1,6 @@
--- The matches of a tree from a position in the order of preference, by cases on the tree: where each
--- ends, and what it marks. For trees in which each pass of a repetition without a limit reads a
--- character.
+-- The matches of a tree from a position in the order of preference, by cases on the tree: where
+-- each ends, and what it marks. For trees in which each pass of a repetition without a limit reads
+-- a character.
 use Rattle.std.specs.Prelude.{◌≡◌, ℕ, zero, suc, ◌+◌, ◌-◌, ◌*◌, Bool, false, List, [], ◌∷◌, ◌++◌, map, length, Option, Some, None, if◌then◌else◌}
 use Rattle.regex_lite_syntax.specs.Text.{Text, before, after}
 use Rattle.regex_lite_syntax.specs.Ranges.{in_ranges}

@@ -83,7 +83,8 @@ all_with low mid high [] a first last = (
 all_with low mid high (b ∷ before) a (via, first, later) last =
     (via, first, all_with via mid high before a later last)
 
-pub all_without : (low high : ℕ) (before : List Tree) (a : Tree) → AllWithin low high (before ++ a ∷ [])
+pub all_without : (low high : ℕ) (before : List Tree) (a : Tree)
+    → AllWithin low high (before ++ a ∷ [])
     → (mid : ℕ) × AllWithin low mid before × Within mid high a
 all_without low high [] a (via, first, less) = (low, omega arith, wider low via high a first less)
 all_without low high (b ∷ before) a (via, first, later) =
@@ -243,5 +244,6 @@ numbered_increasing a low is k inside =
 
 pub numbered_differ : (a : Tree) (low : ℕ) → IsNumbered low a → IndicesDiffer a
 numbered_differ a low is i j d less inside =
-    let apart = AllPairs-from_increasing (indices a) (numbered_increasing a low is) i j d less inside in
+    let grows = AllPairs-from_increasing (indices a) (numbered_increasing a low is) in
+    let apart = grows i j d less inside in
     λ same. omega (arith, apart, same)

@@ -83,7 +83,8 @@ mutual
   item_within {p} {q} {a} (group first last end kind branches rest head d past c e a_is) =
       let inner = choice_within first.groups last.groups branches (alternatives_within d) in
       let whole = group_within p first kind last.groups (choice_of branches) head inner in
-      let ends : q.groups ≡ last.groups = ap (λ (z : Point). z.groups) e ∙ gap_keeps last end past in
+      let ends : q.groups ≡ last.groups
+      = ap (λ (z : Point). z.groups) e ∙ gap_keeps last end past in
       subst (λ n. Within p.groups n a) (sym ends)
       (subst (λ x. Within p.groups last.groups x) (sym a_is) whole)
 
@@ -102,9 +103,10 @@ mutual
       let new = repeated_within split.0 last.groups least most greedy a split.2 in
       let ends : q.groups ≡ last.groups
       = ap (λ (z : Point). z.groups) e ∙ gap_keeps last here past in
-      let all = all_with p.groups split.0 last.groups before (repeated least most greedy a) split.1 new in
+      let again = repeated least most greedy a in
+      let all = all_with p.groups split.0 last.groups before again split.1 new in
       subst (λ x. AllWithin p.groups q.groups x) (sym items_are)
-      (subst (λ n. AllWithin p.groups n (before ++ repeated least most greedy a ∷ [])) (sym ends) all)
+      (subst (λ n. AllWithin p.groups n (before ++ again ∷ [])) (sym ends) all)
   branch_within {p} {q} {items} (directive last here d past s) =
       let ends : q.groups ≡ last.groups = directive_keeps here q s ∙ gap_keeps last here past in
       subst (λ n. AllWithin p.groups n items) (sym ends) (branch_within d)
@@ -113,12 +115,15 @@ mutual
       → Alternatives level p q branches → AllWithin p.groups q.groups branches
   alternatives_within {p} {q} (only items d branches_are) =
       let only_item = sequence_within p.groups q.groups items (branch_within d) in
-      subst (λ x. AllWithin p.groups q.groups x) (sym branches_are) (q.groups, only_item, omega arith)
+      subst (λ x. AllWithin p.groups q.groups x) (sym branches_are)
+      (q.groups, only_item, omega arith)
   alternatives_within {p} {q} (further last here before items rest d past e b branches_are) =
       let last_one = sequence_within here.groups q.groups items (branch_within b) in
-      let moved = subst (λ n. Within n q.groups (sequence_of items)) (gap_keeps last here past) last_one in
+      let moved = subst (λ n. Within n q.groups (sequence_of items)) (gap_keeps last here past)
+      last_one in
       subst (λ x. AllWithin p.groups q.groups x) (sym branches_are)
-      (all_with p.groups last.groups q.groups before (sequence_of items) (alternatives_within d) moved)
+      (all_with p.groups last.groups q.groups before (sequence_of items) (alternatives_within d)
+      moved)
 
 pub grammar_numbered : (flags : Flags) (pattern : Text) (tree : Tree) (groups deepest : ℕ)
     → Grammar flags pattern tree groups deepest → IsNumbered 0 tree

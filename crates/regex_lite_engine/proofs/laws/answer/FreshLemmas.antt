@@ -7,8 +7,8 @@ use Rattle.regex_lite_engine.proofs.laws.LeadsLemmas.{same_some}
 
 -- with the item in front unless the test says no
 abbrev unless : {N P : Type 0} → P ⊎ (P → ⊥) → N → List N → List N
-unless (inl yes_) m list = list
-unless (inr no_) m list = m ∷ list
+unless (inl holds) m list = list
+unless (inr fails) m list = m ∷ list
 
 module _ {N : Type 0} (one_or_two : (a b : N) → (a ≡ b) ⊎ (a ≢ b)) where
   abbrev pub without : N → List N → List N
@@ -171,9 +171,9 @@ module _ {N : Type 0} (one_or_two : (a b : N) → (a ≡ b) ⊎ (a ≢ b)) where
             absurd cc))
         both (inl is) (Some m) s on = elim (on m) [
           | inl fresh ↦ inl (is, m, s, fresh)
-          | inr not_ ↦ inr (λ fresh. (
+          | inr stale ↦ inr (λ fresh. (
               let one : fresh.1 ≡ m = same_some (sym fresh.2 ∙ s) in
-              not_ (subst (λ z. Fresh (without n left) z ks) one fresh.3)))
+              stale (subst (λ z. Fresh (without n left) z ks) one fresh.3)))
         ]
 
     -- where the arrows lead, if they do

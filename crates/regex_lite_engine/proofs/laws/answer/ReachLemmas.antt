@@ -169,8 +169,10 @@ module _ (tree : Tree) where
         → Leads (Address × ℕ) walks (start_address, i) ks (end_address, j) → ks ≡ us ++ vs
         → Leads (Address × ℕ) walks (start_address, i) us m → In m all_pairs
     on_walk i j ks us vs m inside along e first =
-        let low = walk_inside haystack (place_of_pattern tree) us (start_address, i) m first inside in
-        let all = subst (λ z. Leads (Address × ℕ) walks (start_address, i) z (end_address, j)) e along in
+        let low = walk_inside haystack (place_of_pattern tree) us (start_address, i) m first
+        inside in
+        let all = subst (λ z. Leads (Address × ℕ) walks (start_address, i) z (end_address, j)) e
+        along in
         let parts = leads_split walks us vs (start_address, i) (end_address, j) all in
         let same = leads_to_one walks us (start_address, i) parts.0 m parts.1 first in
         let rest = subst (λ z. Leads (Address × ℕ) walks z vs (end_address, j)) same parts.2 in

@@ -179,7 +179,8 @@ module _ (haystack : Text) where
     no_slot_0_branch (more a rest) i j marks regular (inr m) =
         no_slot_0_branch rest i j marks regular.1 m
 
-both_some : (i j : ℕ) (a b : Option ℕ) (from to : ℕ) → Ordered i j a b → option_zip a b ≡ Some (from, to)
+both_some : (i j : ℕ) (a b : Option ℕ) (from to : ℕ) → Ordered i j a b
+    → option_zip a b ≡ Some (from, to)
     → (i ≤ from) × (from ≤ to) × (to ≤ j)
 both_some i j None b from to is e = absurd cc
 both_some i j (Some a) None from to is e = absurd cc

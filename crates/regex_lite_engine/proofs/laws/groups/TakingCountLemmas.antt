@@ -9,7 +9,9 @@ abbrev pub one_if : Bool → ℕ
 one_if test = if test then 1 else 0
 
 -- what the earlier marks have, those over them have too
-more_over : (a b c d : Option ℕ) → one_if (is_some (option_zip a b)) ≤ one_if (is_some (option_zip (option_or c a) (option_or d b)))
+more_over : (a b c d : Option ℕ)
+    → one_if (is_some (option_zip a b))
+    ≤ one_if (is_some (option_zip (option_or c a) (option_or d b)))
 more_over None b c d = omega arith
 more_over (Some a) None c d = omega arith
 more_over (Some a) (Some b) None None = omega arith
@@ -18,7 +20,9 @@ more_over (Some a) (Some b) (Some c) None = omega arith
 more_over (Some a) (Some b) (Some c) (Some d) = omega arith
 
 -- and what the later marks have
-over_more : (a b c d : Option ℕ) → one_if (is_some (option_zip c d)) ≤ one_if (is_some (option_zip (option_or c a) (option_or d b)))
+over_more : (a b c d : Option ℕ)
+    → one_if (is_some (option_zip c d))
+    ≤ one_if (is_some (option_zip (option_or c a) (option_or d b)))
 over_more a b None d = omega arith
 over_more a b (Some c) None = omega arith
 over_more a b (Some c) (Some d) = omega arith
@@ -28,7 +32,8 @@ pub earlier_stay : (later earlier : Marks) (k count : ℕ)
 earlier_stay later earlier k zero = omega arith
 earlier_stay later earlier k (suc count) =
     let rest = earlier_stay later earlier (suc k) count in
-    let here = more_over (earlier (2 * k)) (earlier (2 * k + 1)) (later (2 * k)) (later (2 * k + 1)) in
+    let here = more_over (earlier (2 * k)) (earlier (2 * k + 1)) (later (2 * k))
+    (later (2 * k + 1)) in
     omega (arith, rest, here)
 
 pub later_stay : (later earlier : Marks) (k count : ℕ)
@@ -36,7 +41,8 @@ pub later_stay : (later earlier : Marks) (k count : ℕ)
 later_stay later earlier k zero = omega arith
 later_stay later earlier k (suc count) =
     let rest = later_stay later earlier (suc k) count in
-    let here = over_more (earlier (2 * k)) (earlier (2 * k + 1)) (later (2 * k)) (later (2 * k + 1)) in
+    let here = over_more (earlier (2 * k)) (earlier (2 * k + 1)) (later (2 * k))
+    (later (2 * k + 1)) in
     omega (arith, rest, here)
 
 -- the first groups, and the others

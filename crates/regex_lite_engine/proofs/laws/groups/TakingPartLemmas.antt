@@ -1,5 +1,5 @@
 -- At least the static number of groups take part in a match.
-use Rattle.std.proofs.Common.{◌≡◌, ◌≤◌, ◌<◌, ◌⊎◌, inl, inr, refl, sym, ap, subst, ◌∙◌, ℕ, zero, suc, ◌+◌, ◌-◌, ◌*◌, ◌==◌, max, Bool, true, false, Option, Some, None, is_some, if◌then◌else◌, arith}
+use Rattle.std.proofs.Common.{◌≡◌, ◌≤◌, ◌<◌, inl, inr, refl, sym, ap, subst, ◌∙◌, ℕ, zero, suc, ◌+◌, ◌-◌, ◌*◌, ◌==◌, max, Bool, true, false, Option, Some, None, is_some, if◌then◌else◌, arith}
 use Rattle.std.proofs.lemmas.Bool.Decides.{nat_tests}
 use Rattle.regex_lite_syntax.specs.Text.{Text}
 use Rattle.regex_lite_syntax.specs.Tree.{Tree, Trees, empty, character, class, look, repetition, capture, concat, alternation, none, more}
@@ -34,12 +34,6 @@ common_is (Some a) (Some b) n e =
     let same = if_same (a == b) a n e in
     (ap Some same.1, ap Some (sym (same_number a b same.0) ∙ same.1))
 
-first_is : (groups : Option ℕ) (rest : Trees) (n : ℕ) → static_common groups rest ≡ Some n
-    → groups ≡ Some n
-first_is groups none n e = e
-first_is groups (more a rest) n e =
-    (common_is groups (static_groups a) n (first_is (common groups (static_groups a)) rest n e)).0
-
 none_needed : (groups : Option ℕ) (n : ℕ) → in_passes zero groups ≡ Some n → n ≡ 0
 none_needed None n e = absurd cc
 none_needed (Some zero) n e = sym (same_some e)
@@ -61,7 +55,7 @@ module _ (haystack : Text) where
       → least ≤ n → MarkedPasses Pass n i j marks
       → Enough above (in_passes least groups) greatest marks
   in_all_passes zero n i j above groups greatest marks Pass enough low made m count e high =
-      let zero_ = none_needed groups m e in omega (arith, zero_)
+      let none_known = none_needed groups m e in omega (arith, none_known)
   in_all_passes (suc least) zero i j above groups greatest marks Pass enough low made m count e
       high = absurd (omega (arith, low))
   in_all_passes (suc least) (suc n) i j above groups greatest marks Pass enough low
@@ -118,38 +112,6 @@ module _ (haystack : Text) where
       (omega arith) (omega (arith, high)) in
       omega (arith, there, row)
 
-  later_branch : (groups : Option ℕ) (a : Tree) (rest : Trees) (i j above : ℕ) (marks : Marks)
-      → Marking haystack a i j marks ⊎ MarkingBranch haystack rest i j marks
-      → (Marking haystack a i j marks
-      → Enough above (static_groups a) (greatest_index a) marks)
-      → (MarkingBranch haystack rest i j marks
-      → Enough (max above (greatest_index a)) (static_common (common groups (static_groups a)) rest)
-      (greatest_index_in rest) marks)
-      → Enough above (static_common groups (more a rest)) (greatest_index_in (more a rest)) marks
-  later_branch groups a rest i j above marks (inl m) here there n count e high =
-      let both_known = common_is groups (static_groups a) n
-      (first_is (common groups (static_groups a)) rest n e) in
-      here m n count both_known.1 (omega (arith, high))
-  later_branch groups a rest i j above marks (inr m) here there n count e high =
-      let g = greatest_index a in
-      above_more above g n count marks (omega (arith, high))
-      (there m n (above + count - max above g) e (omega (arith, high)))
-
-  enough_branch : (a : Tree) (rest : Trees) (i j above : ℕ) (marks : Marks)
-      → Marking haystack a i j marks ⊎ MarkingBranch haystack rest i j marks
-      → (Marking haystack a i j marks
-      → Enough above (static_groups a) (greatest_index a) marks)
-      → (MarkingBranch haystack rest i j marks
-      → Enough (max above (greatest_index a)) (static_common (static_groups a) rest)
-      (greatest_index_in rest) marks)
-      → Enough above (static_common (static_groups a) rest) (greatest_index_in (more a rest)) marks
-  enough_branch a rest i j above marks (inl m) here there n count e high =
-      here m n count (first_is (static_groups a) rest n e) (omega (arith, high))
-  enough_branch a rest i j above marks (inr m) here there n count e high =
-      let g = greatest_index a in
-      above_more above g n count marks (omega (arith, high))
-      (there m n (above + count - max above g) e (omega (arith, high)))
-
   mutual
     enough : (tree : Tree) (i j above : ℕ) (marks : Marks) → IsNumbered above tree
         → Marking haystack tree i j marks → (n count : ℕ) → static_groups tree ≡ Some n
@@ -165,12 +127,8 @@ module _ (haystack : Text) where
         in_group index i j above (static_groups body) (greatest_index body) inner marks numbered.0 e
         (enough body i j index inner numbered.1 m)
     enough (concat parts) i j above marks numbered m = enough_chain parts i j above marks numbered m
-    enough (alternation none) i j above marks numbered m = absurd m
-    enough (alternation (more a rest)) i j above marks numbered m =
-        enough_branch a rest i j above marks m
-        (λ p n count e high. enough a i j above marks numbered.0 p n count e high)
-        (λ p n left e high. enough_branches (static_groups a) rest i j
-        (max above (greatest_index a)) marks numbered.1 p n left e high)
+    enough (alternation branches) i j above marks numbered m =
+        enough_branches branches i j above marks numbered m
 
     enough_chain : (parts : Trees) (i j above : ℕ) (marks : Marks) → AreNumbered above parts
         → MarkingChain haystack parts i j marks
@@ -181,15 +139,22 @@ module _ (haystack : Text) where
         first later marks e (enough a i k above first numbered.0 m)
         (enough_chain rest k j (max above (greatest_index a)) later numbered.1 chain)
 
-    enough_branches : (groups : Option ℕ) (branches : Trees) (i j above : ℕ) (marks : Marks)
+    enough_branches : (branches : Trees) (i j above : ℕ) (marks : Marks)
         → AreNumbered above branches → MarkingBranch haystack branches i j marks
-        → Enough above (static_common groups branches) (greatest_index_in branches) marks
-    enough_branches groups none i j above marks numbered m = absurd m
-    enough_branches groups (more a rest) i j above marks numbered m =
-        later_branch groups a rest i j above marks m
-        (λ p n count e high. enough a i j above marks numbered.0 p n count e high)
-        (λ p n left e high. enough_branches (common groups (static_groups a)) rest i j
-        (max above (greatest_index a)) marks numbered.1 p n left e high)
+        → Enough above (static_common branches) (greatest_index_in branches) marks
+    enough_branches none i j above marks numbered m n count e high = absurd m
+    enough_branches (more a none) i j above marks numbered (inl m) n count e high =
+        enough a i j above marks numbered.0 m n count e (omega (arith, high))
+    enough_branches (more a none) i j above marks numbered (inr m) n count e high = absurd m
+    enough_branches (more a (more b rest)) i j above marks numbered (inl m) n count e high =
+        let known = common_is (static_groups a) (static_common (more b rest)) n e in
+        enough a i j above marks numbered.0 m n count known.0 (omega (arith, high))
+    enough_branches (more a (more b rest)) i j above marks numbered (inr m) n count e high =
+        let known = common_is (static_groups a) (static_common (more b rest)) n e in
+        let g = greatest_index a in
+        let left = above + count - max above g in
+        let later = enough_branches (more b rest) i j (max above g) marks numbered.1 m n left in
+        above_more above g n count marks (omega (arith, high)) (later known.1 (omega (arith, high)))
 
 pub enough_take_part : (tree : Tree) (haystack : Text) (s : ℕ) (found : Found) (n : ℕ)
     → IsRegular tree → IsNumbered 0 tree → IsFound tree haystack s found

@@ -12,7 +12,8 @@ use Rattle.regex_lite_engine.proofs.laws.list.EntryLemmas.{over_unmarked, behind
 mutual
   -- the walks from the place at position i to where a match is complete have, in the order of
   -- preference, these ends and marks, and no walk from there goes on for ever
-  pub data Listed {A : Type 0} (haystack : Text) (place : A → Place A) (end : A) : A → ℕ → List Entry → Type 0 where
+  pub data Listed {A : Type 0} (haystack : Text) (place : A → Place A) (end : A)
+      : A → ℕ → List Entry → Type 0 where
     completed : {a : A} {i : ℕ} {list : List Entry}
         → a ≡ end → place a ≡ complete → list ≡ stop i → Listed haystack place end a i list
     branching : {a : A} {i : ℕ} {list : List Entry} (arrows : List (Arrow A))
@@ -38,15 +39,18 @@ abbrev stop_at : Option ℕ → List Entry
 stop_at None = []
 stop_at (Some j) = stop j
 
-stop_read : (set : Set) (i : ℕ) (next : Option ℕ) → stop_at (behind set i next) ≡ read set i next
+stop_read : (set : Set) (i : ℕ) (next : Option ℕ)
+    → stop_at (behind set i next) ≡ read set i next
 stop_read set i None = refl
 stop_read set i (Some c) = by_test (set c)
   where
-    by_test : (test : Bool) → stop_at (if test then Some (suc i) else None) ≡ (if test then stop (suc i) else [])
+    by_test : (test : Bool)
+        → stop_at (if test then Some (suc i) else None) ≡ (if test then stop (suc i) else [])
     by_test true = refl
     by_test false = refl
 
-stop_if : (test : Bool) (i : ℕ) → stop_at (if test then Some i else None) ≡ (if test then stop i else [])
+stop_if : (test : Bool) (i : ℕ)
+    → stop_at (if test then Some i else None) ≡ (if test then stop i else [])
 stop_if true i = refl
 stop_if false i = refl
 
@@ -95,7 +99,8 @@ module _ {A : Type 0} {haystack : Text} {place : A → Place A} {end : A} where
 
   pub by_reading : {a : A} {i : ℕ} (set : Set) (exit : A) (next : ℕ → List Entry)
       → place a ≡ with_arrows (go_reading set exit ∷ [])
-      → ((j : ℕ) → behind set i (after haystack i) ≡ Some j → Listed haystack place end exit j (next j))
+      → ((j : ℕ) → behind set i (after haystack i) ≡ Some j
+      → Listed haystack place end exit j (next j))
       → Listed haystack place end a i (onward (read set i (after haystack i)) next)
   by_reading {i = i} set exit next e later =
       as_listed (ap (λ list. onward list next) (stop_read set i (after haystack i)))
@@ -105,7 +110,9 @@ module _ {A : Type 0} {haystack : Text} {place : A → Place A} {end : A} where
       → place a ≡ with_arrows (go_holding test exit ∷ [])
       → ((j : ℕ) → taken haystack (go_holding test exit).condition i ≡ Some j
       → Listed haystack place end exit j (next j))
-      → Listed haystack place end a i (onward (if holds_between test (before haystack i) (after haystack i) then stop i else []) next)
+      → Listed haystack place end a i
+      (onward (if holds_between test (before haystack i) (after haystack i) then stop i else [])
+      next)
   by_look {i = i} test exit next e later =
       let holds = holds_between test (before haystack i) (after haystack i) in
       as_listed (ap (λ list. onward list next) (stop_if holds i))

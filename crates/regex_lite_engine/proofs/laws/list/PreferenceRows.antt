@@ -81,7 +81,8 @@ span_stays = refl
 
 -- `(a|ab)(bc|c)?`
 two_groups : spans 2
-    (both (group 1 (either a (both a b))) (repetition 0 (Some 1) true (group 2 (either (both b c) c))))
+    (both (group 1 (either a (both a b)))
+    (repetition 0 (Some 1) true (group 2 (either (both b c) c))))
     (codes "abc")
     ≡ (3, Some (1, 3)) ∷ (1, None) ∷ (3, Some (2, 3)) ∷ (2, None) ∷ []
 two_groups = refl

@@ -1,5 +1,5 @@
--- Ways in the order of preference, with their ends and marks: lists of them are appended, and all ways
--- of a list continued in front.
+-- Ways in the order of preference, with their ends and marks: lists of them are appended, and the
+-- ways of a list continued in front.
 use Rattle.std.proofs.Common.{◌≡◌, refl, ap, inl, inr, ℕ, suc, List, [], ◌∷◌, ◌++◌, map, arith}
 use Rattle.regex_lite_engine.specs.Search.Preference.{IsPreferred}
 use Rattle.regex_lite_engine.specs.Search.Marks.{Marks}

@@ -26,7 +26,8 @@ module _ (tree : Tree) (haystack : Text) (regular : IsRegular tree)
 
   -- each walk through the pattern is a way
   pub walk_is_way : (i j : ℕ) (arrows : List ℕ)
-      → Leads (Address × ℕ) (step haystack (place_of_pattern tree)) (start_address, i) arrows (end_address, j)
+      → Leads (Address × ℕ) (step haystack (place_of_pattern tree)) (start_address, i) arrows
+      (end_address, j)
       → IsWayThrough tree haystack i arrows j
   walk_is_way i j arrows along =
       (along, none_twice haystack (place_of_pattern tree) end_address (listed_whole i) arrows)

@@ -1,5 +1,5 @@
 -- What a search over a table of numbered places has found when it is over is its answer.
-use Rattle.std.proofs.Common.{◌≡◌, ◌≤◌, ◌⊎◌, inl, inr, refl, sym, ap, subst, ◌∙◌, ℕ, IsTrue, List, [], ◌∷◌, ◌++◌, Option, Some, None, length, arith}
+use Rattle.std.proofs.Common.{◌≡◌, ◌≤◌, ◌⊎◌, inl, inr, refl, sym, ap, subst, ◌∙◌, ℕ, Bool, IsTrue, List, [], ◌∷◌, ◌++◌, Option, Some, None, length, arith}
 use Rattle.regex_lite_syntax.specs.Text.{Text}
 use Rattle.regex_lite_syntax.proofs.ListLemmas.{same_head, same_tail}
 use Rattle.regex_lite_engine.specs.Graph.Ways.{Leads, IsWay}
@@ -13,9 +13,10 @@ use Rattle.regex_lite_engine.proofs.laws.LeadsLemmas.{same_some, leads_to_one}
 use Rattle.regex_lite_engine.proofs.laws.search.SearchLawLemmas.{search_law}
 
 -- starts at different positions are told apart by them
-pub starts_differ : {N : Type 0} (step : N → ℕ → Option N) (is_end : _) (start : ℕ → N)
+pub starts_differ : {N : Type 0} (step : N → ℕ → Option N) (is_end : N → Bool) (start : ℕ → N)
     (first last : ℕ) → StartsDiffer N step is_end (StartsAt start first last)
-starts_differ step is_end start first last a b more other n m (i, _, _, e, f) (j, _, _, g, h) parts =
+starts_differ step is_end start first last a b more other n m (i, _, _, e, f) (j, _, _, g, h)
+    parts =
     let all : i ∷ more ≡ j ∷ other
     = sym (ap (λ z. z ++ more) e) ∙ parts ∙ ap (λ z. z ++ other) g in
     let same = same_head all in
