@@ -1,3 +1,12 @@
 -- What the searches promise one another, over graphs whose places have numbers.
 pub mod Explored
 pub mod NumberedAnswer
+pub mod Offsets
+pub mod Machine
+pub mod InStep
+pub mod Walking
+pub mod Entering
+pub mod Room
+pub mod Turns
+pub mod Searching
+pub mod Outcomes

@@ -1,5 +1,5 @@
 //! The graph of a pattern: numbered places with ordered arrows.
-ghost use Rattle.std.specs.Prelude.{◌≡◌, ◌^◌, ◌<◌, ℕ, length, map, option_map, slice_get, slice_index_or, Some, None, IfOk, IfErr};
+ghost use Rattle.std.specs.Prelude.{◌≡◌, ◌+◌, ◌^◌, ◌<◌, ℕ, length, map, option_map, slice_get, slice_index_or, Some, None, IfOk, IfErr};
 ghost use Rattle.regex_lite_syntax.specs.Errors.{kind_of};
 ghost use Rattle.regex_lite_syntax.specs.Tree.Regular.{IsRegular};
 ghost use Rattle.regex_lite_syntax.specs.Tree.Properties.{captures_len, group_name};
@@ -9,11 +9,12 @@ ghost use Rattle.regex_lite_engine.specs.Graph.Size.{Fits, IsDueToTree};
 ghost use Rattle.regex_lite_engine.specs.Graph.Stored.{LeadsBelow, place_of};
 ghost use Rattle.regex_lite_engine.specs.Nfa.Saturation.{AreCountsOf};
 
-mod class;
+pub(crate) mod class;
 mod count;
-mod place;
+pub(crate) mod place;
 mod write;
 
+use crate::pikevm::steps::Steps;
 use count::Counts;
 use place::Place;
 use regex_lite_syntax::{Error, Hir};
@@ -83,12 +84,15 @@ impl Graph {
         })
     }
 
-    /// What stands at a place. No other call hands that out.
-    pub(crate) fn look(&self, place: u32) -> &Place
-        requires { place < length self.now.places }
+    /// What stands at a place. No other call hands that out, and this one is counted.
+    pub(crate) fn look(&self, place: u32, steps: &mut Steps) -> &Place
+        requires inside { place < length self.now.places }
+        requires room { steps.old.looked + 1 < 2 ^ 128 }
         ensures found { slice_get self.now.places place ≡ Some result.now }
         ensures inside { LeadsBelow (length self.now.places) (place_of result.now) }
+        ensures counted { steps.new ≡ record steps.old { looked = steps.old.looked + 1 } }
     {
+        steps.count_look();
         &self.places[place as usize]
     }
 

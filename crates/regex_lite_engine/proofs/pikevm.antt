@@ -1,0 +1,12 @@
+-- lemmas that several proofs here share
+pub mod EnterLemmas
+pub mod EndLemmas
+pub mod InStepLemmas
+pub mod MarkLemmas
+pub mod OfferLemmas
+pub mod OptionLemmas
+pub mod PositionLemmas
+pub mod RoomLemmas
+pub mod StepLemmas
+pub mod TurnLemmas
+pub mod WalkLemmas

@@ -1,0 +1,145 @@
+-- The end of a search, and its counts.
+use Rattle.std.proofs.Common.{◌≡◌, ℕ, zero, suc, ◌+◌, ◌*◌, ◌-◌, ◌<◌, ◌≤◌, ◌⊎◌, inl, inr, Bool, true, false, List, [], ◌∷◌, length, slice_get, Option, Some, None, if◌then◌else◌, IsTrue, refl, sym, ap, subst, ◌∙◌, arith}
+use Rattle.std.specs.Option.{IsSome}
+use Rattle.std.proofs.lemmas.List.{nil_from_length}
+use Rattle.std.proofs.lemmas.Bool.{cases_lt, cases_eq}
+use Rattle.std.proofs.lemmas.Option.{slice_get_within}
+use Rattle.std.proofs.Math.Nat.{mul-le-mul_left, mul-suc}
+use Rattle.regex_lite_syntax.specs.Text.{Text, before, after}
+use Rattle.regex_lite_syntax.specs.Tree.Looks.{holds_between}
+use Rattle.regex_lite_engine.specs.declared.pikevm.here.Here.{Here}
+use Rattle.regex_lite_engine.specs.declared.pikevm.threads.Threads.{Threads}
+use Rattle.regex_lite_engine.specs.Graph.Places.{Condition, Arrow, Place, complete, with_arrows, free, holding, reading, taken, behind, arrived, arrow_taken, step_from}
+use Rattle.regex_lite_engine.specs.Search.Answer.{Found}
+use Rattle.regex_lite_engine.specs.Search.Marks.{marks_along}
+use Rattle.regex_lite_engine.specs.Walk.Explored.{StartsAt, IsGrown}
+use Rattle.regex_lite_engine.specs.Walk.NumberedAnswer.{place_with, numbered_step, is_end, IsOver}
+use Rattle.regex_lite_engine.specs.Walk.InStep.{Offer}
+use Rattle.regex_lite_engine.specs.Walk.Offsets.{IsHere}
+use Rattle.regex_lite_engine.specs.Walk.Outcomes.{IsOutcome}
+use Rattle.regex_lite_engine.specs.Walk.Turns.{IsComing, FromIs}
+use Rattle.regex_lite_engine.specs.Walk.Walking.{Node, Best, BestHolds, InStep}
+use Rattle.regex_lite_engine.proofs.laws.search.OverLemmas.{answer_when_over}
+use Rattle.regex_lite_engine.proofs.pikevm.OptionLemmas.{not_there, same_some}
+use Rattle.regex_lite_engine.proofs.pikevm.PositionLemmas as deep
+
+taken_in_text : (h : Text) (a : Condition) (i j : ℕ) → i ≤ length h → taken h a i ≡ Some j → j ≤ length h
+taken_in_text h free i j le e = let same : i ≡ j = same_some e in omega (arith, le, same)
+taken_in_text h (holding l) i j le e = go (holds_between l (before h i) (after h i)) e
+  where
+    go : (b : Bool) → (if b then Some i else None) ≡ Some j → j ≤ length h
+    go true e = let same : i ≡ j = same_some e in omega (arith, le, same)
+    go false e = absurd (not_there e)
+taken_in_text h (reading set) i j le e = go (after h i) refl e
+  where
+    go : (o : Option ℕ) → after h i ≡ o → behind set i o ≡ Some j → j ≤ length h
+    go None at e = absurd (not_there e)
+    go (Some c) at e = fits (set c) e
+      where
+        fits : (b : Bool) → (if b then Some (suc i) else None) ≡ Some j → j ≤ length h
+        fits true e = let within = slice_get_within h i c at in let same : suc i ≡ j = same_some e in omega (arith, within, same)
+        fits false e = absurd (not_there e)
+
+pub step_in_text : (h : Text) (x : Place ℕ) (i k : ℕ) (m : Node) → i ≤ length h → step_from h x i k ≡ Some m → m.1 ≤ length h
+step_in_text h complete i k m le e = absurd (not_there e)
+step_in_text h (with_arrows arrows) i k m le e = go (slice_get arrows k) e
+  where
+    go : (o : Option (Arrow ℕ)) → arrow_taken h i o ≡ Some m → m.1 ≤ length h
+    go None e = absurd (not_there e)
+    go (Some a) e = by_end (taken h a.condition i) refl e
+      where
+        by_end : (o : Option ℕ) → taken h a.condition i ≡ o → arrived a.to o ≡ Some m → m.1 ≤ length h
+        by_end None t e = absurd (not_there e)
+        by_end (Some j) t e = let le' = taken_in_text h a.condition i j le t in let same : j ≡ m.1 = ap (λ (z : Node). z.1) (same_some e) in omega (arith, le', same)
+
+module _ (table : List (Place ℕ)) (h : Text) (s first : ℕ) where
+  nothing_beyond : (p from : ℕ) (recorded : Node → Option (List ℕ)) (coming : List (Offer Node)) (way : Option (List ℕ)) → length h < p →
+      InStep table h s first (length h) p from recorded coming [] way →
+      ((n : Node) (v : List ℕ) → recorded n ≡ Some v → n.1 < p) → p ≡ suc (length h) → coming ≡ []
+  nothing_beyond p from recorded [] way past u before at = refl
+  nothing_beyond p from recorded (o ∷ os) way past u before at = absurd (go (u.now_grown o.0 o.1 (inl (refl, refl))) (u.now_stands o.0 o.1 (inl (refl, refl))))
+    where
+      go : IsGrown Node (numbered_step table h) (is_end table h) (StartsAt (λ j. (s, j)) first (length h)) recorded way o.0 o.1 → o.0.1 ≡ p → ⊥
+      go (inl (i, low, high, e, at')) pos = let same : o.0.1 ≡ i = ap (λ (z : Node). z.1) at' in omega (arith, high, past, pos, same)
+      go (inr (m, v, k, r, hops, e)) pos =
+          let below = before m v r in
+          let le = step_in_text h (place_with table m.0) m.1 k o.0 (omega (arith, below, at)) hops in
+          omega (arith, le, past, pos)
+
+  explored : (q from : ℕ) (recorded : Node → Option (List ℕ)) (way : Option (List ℕ)) → ((length h < from) ⊎ ((b : List ℕ) × (way ≡ Some b))) →
+      InStep table h s first (length h) q from recorded [] [] way → IsOver table h s first recorded way
+  explored q from recorded way enough u =
+      deep.in_step_over Node (numbered_step table h) (λ j. (s, j)) (is_end table h) first (length h) (λ x. x.1) q from recorded way enough u
+
+  answered : (best : Best) (recorded : Node → Option (List ℕ)) (way : Option (List ℕ)) → BestHolds table h s best way → IsOver table h s first recorded way → IsOutcome table h s first best
+  answered None recorded way e over =
+      answer_when_over table h s first recorded None None (subst (λ z. IsOver table h s first recorded z) e over) refl
+  answered (Some b) recorded way (w, e, (q, end, at_end, ends, (j, ks, at, parts, along, has))) over =
+      let found : Found = record { start = j; end = end; marks = marks_along h (place_with table) (Some (s, j)) ks } in (
+        found,
+        answer_when_over table h s first recorded (Some w) (Some found) (subst (λ z. IsOver table h s first recorded z) e over) (found, ks, q, refl, parts, along, refl),
+        at,
+        at_end,
+        has,
+      )
+
+  pub ended : (p : ℕ) (cur : Threads) (best : Best) → first ≤ p → p ≤ length h →
+      ((p ≡ length h) ⊎ ((best ≡ None → ⊥) × (cur.len ≡ 0))) → IsComing table h s first (length h) (p + 1) cur best → IsOutcome table h s first best
+  ended p cur best low high over u = go over
+    where
+      with_none : u.coming ≡ [] → ((length h < u.from) ⊎ ((b : List ℕ) × (u.way ≡ Some b))) → IsOutcome table h s first best
+      with_none e enough = answered best u.recorded u.way u.best_holds (explored (p + 1) u.from u.recorded u.way enough
+          (subst (λ z. InStep table h s first (length h) (p + 1) u.from u.recorded z [] u.way) e u.in_step))
+
+      way_of : (b : Best) → BestHolds table h s b u.way → (b ≡ None → ⊥) → (w : List ℕ) × (u.way ≡ Some w)
+      way_of None e d = absurd (d refl)
+      way_of (Some x) (w, e, held) d = (w, e)
+
+      at_end : (b : Best) → BestHolds table h s b u.way → FromIs (p + 1) u.from b → p ≡ length h → (length h < u.from) ⊎ ((w : List ℕ) × (u.way ≡ Some w))
+      at_end None e is same = inl (omega (arith, is, same))
+      at_end (Some x) (w, e, held) is same = inr (w, e)
+
+      go : (p ≡ length h) ⊎ ((best ≡ None → ⊥) × (cur.len ≡ 0)) → IsOutcome table h s first best
+      go (inl same) = with_none (nothing_beyond (p + 1) u.from u.recorded u.coming u.way (omega (arith, same)) u.in_step u.before (omega (arith, same))) (at_end best u.best_holds u.from_is same)
+      go (inr (some, empty)) = let all = u.all in with_none (nil_from_length u.coming (omega (arith, all, empty))) (inr (way_of best u.best_holds some))
+
+-- one position more
+pub bound_more : (a b p s : ℕ) (m : ℕ) → s ≤ p → a ≤ m * (p - s) → b ≤ a + m → b ≤ m * (p + 1 - s)
+bound_more a b p s m low so_far more =
+    let next : p + 1 - s ≡ suc (p - s) = omega arith in
+    let e : m * (p + 1 - s) ≡ m * (p - s) + m = ap (λ z. m * z) next ∙ mul-suc m (p - s) in
+    omega (arith, e, so_far, more)
+
+pub bound_all : (a p s l m : ℕ) → s ≤ p → p ≤ l → a ≤ m * (p - s) → a + m ≤ m * (l - s + 1)
+bound_all a p s l m low high so_far =
+    let e : m * suc (p - s) ≡ m * (p - s) + m = mul-suc m (p - s) in
+    let le : m * suc (p - s) ≤ m * (l - s + 1) = mul-le-mul_left m (omega arith) in
+    omega (arith, e, le, so_far)
+
+pub step_below : (p l : ℕ) (r : Bool) → r ≡ false → (p ≡ l → IsTrue r) → p ≤ l → p + 1 ≤ l
+step_below p l r e f le = go (cases_eq p l)
+  where
+    go : (p ≡ l) ⊎ (p ≡ l → ⊥) → p + 1 ≤ l
+    go (inl d) = let t : IsTrue r = f d in cc
+    go (inr d) = omega (arith, le, d)
+
+-- at the end of the text
+pub over_at : {Q : Type 0} (h : Text) (p : ℕ) (x : Here) → IsHere h p x → (x.after ≡ None) ⊎ Q → (p ≡ length h) ⊎ Q
+over_at h p x is (inr q) = inr q
+over_at h p x is (inl e) = inl (go (cases_lt p (length h)))
+  where
+    there : (cs : List ℕ) (q : ℕ) → q < length cs → slice_get cs q ≡ None → ⊥
+    there [] q lt e = omega (arith, lt)
+    there (c ∷ cs) zero lt e = not_there (sym e)
+    there (c ∷ cs) (suc q) lt e = there cs q (omega (arith, lt)) e
+
+    go : (p < length h) ⊎ (length h ≤ p) → p ≡ length h
+    go (inl lt) = absurd (there h p lt (sym is.ahead ∙ e))
+    go (inr le) = let within = is.inside in omega (arith, le, within)
+
+pub some_after : (o : Option ℕ) (r : Bool) → r ≡ false → (o ≡ None → IsTrue r) → IsSome o
+some_after None r e f = absurd (false_true r e (f refl))
+  where
+    false_true : (r : Bool) → r ≡ false → IsTrue r → ⊥
+    false_true r e t = cc
+some_after (Some c) r e f = refl

@@ -1,0 +1,341 @@
+-- What a walk keeps true when it passes over a node, enters one, or comes to an end.
+use Rattle.std.proofs.Common.{◌≡◌, ℕ, suc, ◌+◌, ◌<◌, ◌≤◌, ◌⊎◌, inl, inr, ⊎_elim, Bool, IsTrue, List, [], ◌∷◌, ◌++◌, Option, Some, None, refl, sym, ap, subst, ◌∙◌, arith, append-nil}
+use Rattle.std.proofs.lemmas.Bool.{cases_lt}
+use Rattle.regex_lite_engine.specs.Search.Preference.{IsPreferred}
+use Rattle.regex_lite_engine.specs.Walk.Explored.{NotAfter, StartsAt, IsAnswered, IsGrown}
+use Rattle.regex_lite_engine.specs.Walk.InStep as walk
+use Rattle.regex_lite_engine.specs.Walk.InStep.{StartsBelow}
+use Rattle.regex_lite_engine.proofs.pikevm.OptionLemmas.{not_there, same_some}
+use Rattle.regex_lite_engine.proofs.pikevm.OfferLemmas as order
+use Rattle.regex_lite_engine.proofs.pikevm.OfferLemmas.{preferred_before, preferred_append, preferred_longer}
+use Rattle.regex_lite_engine.proofs.laws.search.WayOrderLemmas.{Before-trans, NotAfter-trans, NotAfter-append}
+
+pub or_dead : {A B D : Type 0} → (A → B) → A ⊎ D → B ⊎ D
+or_dead f (inl a) = inl (f a)
+or_dead f (inr d) = inr d
+
+module _ (N : Type 0) (step : N → ℕ → Option N) (same : (x y : N) → (x ≡ y) ⊎ (x ≡ y → ⊥))
+    (width : N → ℕ) (no_more : (n : N) (k : ℕ) → width n ≤ k → step n k ≡ None)
+    (start : ℕ → N) (is_end : N → Bool) (first last : ℕ) (position : N → ℕ) where
+  abbrev Offer : Type 0
+  Offer = walk.Offer N
+
+  abbrev In : N → List ℕ → List Offer → Type 0
+  In n w os = walk.In N n w os
+
+  abbrev Ordered : List Offer → Type 0
+  Ordered os = walk.Ordered N os
+
+  abbrev pub Recorded : Type 0
+  Recorded = N → Option (List ℕ)
+
+  abbrev offers : N → List ℕ → ℕ → ℕ → List Offer
+  offers = order.offers N step
+
+  abbrev pub IsInStep : ℕ → ℕ → Recorded → List Offer → List Offer → Option (List ℕ) → Type 0
+  IsInStep p from recorded now next best = walk.IsInStep N step start is_end first last position p from recorded now next best
+
+  abbrev pub with_record : Recorded → N → List ℕ → Recorded
+  with_record recorded n w = λ m. elim (same m n) [ inl e ↦ Some w | inr differ ↦ recorded m ]
+
+  module _ (recorded : Recorded) (n : N) (w : List ℕ) (fresh : recorded n ≡ None) where
+    pub extended : Recorded
+    extended = with_record recorded n w
+
+    pub extended_here : extended n ≡ Some w
+    unfolding extended
+    extended_here = by_test (same n n)
+      where
+        by_test : (d : (n ≡ n) ⊎ (n ≡ n → ⊥)) → elim d [ inl e ↦ Some w | inr differ ↦ recorded n ] ≡ Some w
+        by_test (inl e) = refl
+        by_test (inr f) = absurd (f refl)
+
+    pub kept : (m : N) (v : List ℕ) → recorded m ≡ Some v → extended m ≡ Some v
+    unfolding extended
+    kept m v r = by_test (same m n)
+      where
+        by_test : (d : (m ≡ n) ⊎ (m ≡ n → ⊥)) → elim d [ inl e ↦ Some w | inr differ ↦ recorded m ] ≡ Some v
+        by_test (inl e) = absurd (not_there (sym fresh ∙ ap recorded (sym e) ∙ r))
+        by_test (inr f) = r
+
+    pub back : (m : N) (v : List ℕ) → extended m ≡ Some v → ((m ≡ n) × (v ≡ w)) ⊎ (recorded m ≡ Some v)
+    unfolding extended
+    back m v r = by_test (same m n) r
+      where
+        by_test : (d : (m ≡ n) ⊎ (m ≡ n → ⊥)) → elim d [ inl e ↦ Some w | inr differ ↦ recorded m ] ≡ Some v → ((m ≡ n) × (v ≡ w)) ⊎ (recorded m ≡ Some v)
+        by_test (inl e) q = inl (e, sym (same_some q))
+        by_test (inr f) q = inr q
+
+    grown_still : (best : Option (List ℕ)) (m : N) (v : List ℕ) → IsGrown N step is_end (StartsAt start first last) recorded best m v →
+        IsGrown N step is_end (StartsAt start first last) extended best m v
+    grown_still best m v (inl g) = inl g
+    grown_still best m v (inr (o, x, k, r, s, e)) = inr (o, x, k, kept o x r, s, e)
+
+    grown_extended : (best : Option (List ℕ)) → ((m : N) (v : List ℕ) → recorded m ≡ Some v → IsGrown N step is_end (StartsAt start first last) recorded best m v) →
+        IsGrown N step is_end (StartsAt start first last) recorded best n w → (m : N) (v : List ℕ) → extended m ≡ Some v → IsGrown N step is_end (StartsAt start first last) extended best m v
+    grown_extended best old new m v r = by_case (back m v r)
+      where
+        by_case : ((m ≡ n) × (v ≡ w)) ⊎ (recorded m ≡ Some v) → IsGrown N step is_end (StartsAt start first last) extended best m v
+        by_case (inl e) = subst (λ z. IsGrown N step is_end (StartsAt start first last) extended best z v) (sym e.0)
+            (subst (λ z. IsGrown N step is_end (StartsAt start first last) extended best n z) (sym e.1) (grown_still best n w new))
+        by_case (inr q) = grown_still best m v (old m v q)
+
+  below_start : (from i : ℕ) (v : List ℕ) → StartsBelow from v → from ≤ i → IsPreferred v (i ∷ [])
+  below_start from i [] h q = absurd h
+  below_start from i (j ∷ v) h q = inl (omega (arith, h, q))
+
+  below_append : (from : ℕ) (v x : List ℕ) → StartsBelow from v → StartsBelow from (v ++ x)
+  below_append from [] x h = absurd h
+  below_append from (i ∷ v) x h = h
+
+  pub in_step_passed : (p from : ℕ) (recorded : Recorded) (n : N) (w v : List ℕ) (rest next : List Offer) (best : Option (List ℕ)) → recorded n ≡ Some v →
+      IsInStep p from recorded ((n, w) ∷ rest) next best → IsInStep p from recorded rest next best
+  in_step_passed p from recorded n w v rest next best r u = record {
+    grown = u.grown;
+    now_grown = λ m x i. u.now_grown m x (inr i);
+    next_grown = u.next_grown;
+    starts = λ i q s t. or_dead (settle (start i) (i ∷ [])) (u.starts i q s t);
+    arrows = λ m x k l s t. settle l (x ++ k ∷ []) (u.arrows m x k l s t);
+    best_ends = u.best_ends;
+    best_least = u.best_least;
+    now_ordered = u.now_ordered.1;
+    next_ordered = u.next_ordered;
+    behind = λ m x l y i j. u.behind m x l y i (inr j);
+    ahead = λ m x l y i s q. u.ahead m x l y (inr i) s q;
+    now_stands = λ m x i. u.now_stands m x (inr i);
+    next_stands = u.next_stands;
+    past = u.past;
+    now_below = λ m x i. u.now_below m x (inr i);
+    next_below = u.next_below;
+    best_below = u.best_below;
+    now_better = λ m x b i e. u.now_better m x b (inr i) e;
+    next_better = u.next_better;
+  }
+    where
+      settle : (m : N) (x : List ℕ) → IsAnswered N step is_end (StartsAt start first last) recorded best m x ⊎ (In m x ((n, w) ∷ rest) ⊎ In m x next) →
+          IsAnswered N step is_end (StartsAt start first last) recorded best m x ⊎ (In m x rest ⊎ In m x next)
+      settle m x (inl a) = inl a
+      settle m x (inr (inr i)) = inr (inr i)
+      settle m x (inr (inl (inr i))) = inr (inl i)
+      settle m x (inr (inl (inl e))) = inl (inl (v, ap recorded e.0 ∙ r, subst (λ z. NotAfter v z) (sym e.1) (u.ahead n w n v (inl (refl, refl)) r (u.now_stands n w (inl (refl, refl))))))
+
+  module _ (p from : ℕ) (recorded : Recorded) (n : N) (w : List ℕ) (fresh : recorded n ≡ None) (rest next : List Offer) (best : Option (List ℕ))
+      (u : IsInStep p from recorded ((n, w) ∷ rest) next best) where
+    here : In n w ((n, w) ∷ rest)
+    here = inl (refl, refl)
+
+    -- the record of n stands for the offer at n
+    settle_on : (rest' next' : List Offer) → ((m : N) (x : List ℕ) → In m x rest → In m x rest') → ((m : N) (x : List ℕ) → In m x next → In m x next') →
+        (m : N) (x : List ℕ) → IsAnswered N step is_end (StartsAt start first last) recorded best m x ⊎ (In m x ((n, w) ∷ rest) ⊎ In m x next) →
+        IsAnswered N step is_end (StartsAt start first last) (extended recorded n w fresh) best m x ⊎ (In m x rest' ⊎ In m x next')
+    settle_on rest' next' f g m x (inl (inl (v, r, le))) = inl (inl (v, kept recorded n w fresh m v r, le))
+    settle_on rest' next' f g m x (inl (inr a)) = inl (inr a)
+    settle_on rest' next' f g m x (inr (inr i)) = inr (inr (g m x i))
+    settle_on rest' next' f g m x (inr (inl (inr i))) = inr (inl (f m x i))
+    settle_on rest' next' f g m x (inr (inl (inl e))) = inl (inl (w, ap (extended recorded n w fresh) e.0 ∙ extended_here recorded n w fresh, inl (sym e.1)))
+
+    all_within : (k : ℕ) (l : N) → step n k ≡ Some l → k < 0 + width n
+    all_within k l s = by_size (cases_lt k (width n))
+      where
+        by_size : (k < width n) ⊎ (width n ≤ k) → k < 0 + width n
+        by_size (inl lt) = omega (arith, lt)
+        by_size (inr le) = absurd (not_there (sym (no_more n k le) ∙ s))
+
+    arrow_offered : (k : ℕ) (l : N) → step n k ≡ Some l → In l (w ++ k ∷ []) (offers n w (width n) 0)
+    arrow_offered k l s = order.offers_arrow N step n w (width n) 0 k l (omega arith) (all_within k l s) s
+
+    past_now : (m : N) (v : List ℕ) → extended recorded n w fresh m ≡ Some v → position m ≤ p
+    past_now m v r = by_case (back recorded n w fresh m v r)
+      where
+        by_case : ((m ≡ n) × (v ≡ w)) ⊎ (recorded m ≡ Some v) → position m ≤ p
+        by_case (inl e) = let same_pos : position m ≡ p = ap position e.0 ∙ u.now_stands n w here in omega (arith, same_pos)
+        by_case (inr q) = u.past m v q
+
+    not_ended : (IsTrue (is_end n) → ⊥) → (m : N) (v : List ℕ) → IsTrue (is_end m) → extended recorded n w fresh m ≡ Some v → (b : List ℕ) × (best ≡ Some b) × NotAfter b v
+    not_ended open_still m v e r = by_case (back recorded n w fresh m v r)
+      where
+        by_case : ((m ≡ n) × (v ≡ w)) ⊎ (recorded m ≡ Some v) → (b : List ℕ) × (best ≡ Some b) × NotAfter b v
+        by_case (inl f) = absurd (open_still (subst (λ z. IsTrue (is_end z)) f.0 e))
+        by_case (inr q) = u.best_least m v e q
+
+    best_ends_now : (b : List ℕ) → best ≡ Some b → (m : N) × IsTrue (is_end m) × (extended recorded n w fresh m ≡ Some b)
+    best_ends_now b e = let r = u.best_ends b e in (r.0, r.1, kept recorded n w fresh r.0 b r.2)
+
+    arrows_settled : (rest' next' : List Offer) → ((m : N) (x : List ℕ) → In m x rest → In m x rest') → ((m : N) (x : List ℕ) → In m x next → In m x next') →
+        ((k : ℕ) (l : N) → step n k ≡ Some l → In l (w ++ k ∷ []) rest' ⊎ In l (w ++ k ∷ []) next') →
+        (m : N) (v : List ℕ) (k : ℕ) (l : N) → extended recorded n w fresh m ≡ Some v → step m k ≡ Some l →
+        IsAnswered N step is_end (StartsAt start first last) (extended recorded n w fresh) best l (v ++ k ∷ []) ⊎ (In l (v ++ k ∷ []) rest' ⊎ In l (v ++ k ∷ []) next')
+    arrows_settled rest' next' f g new m v k l r s = by_case (back recorded n w fresh m v r)
+      where
+        by_case : ((m ≡ n) × (v ≡ w)) ⊎ (recorded m ≡ Some v) →
+            IsAnswered N step is_end (StartsAt start first last) (extended recorded n w fresh) best l (v ++ k ∷ []) ⊎ (In l (v ++ k ∷ []) rest' ⊎ In l (v ++ k ∷ []) next')
+        by_case (inr q) = settle_on rest' next' f g l (v ++ k ∷ []) (u.arrows m v k l q s)
+        by_case (inl e) = inr (subst (λ z. In l (z ++ k ∷ []) rest' ⊎ In l (z ++ k ∷ []) next') (sym e.1) (new k l (ap (λ z. step z k) (sym e.0) ∙ s)))
+
+    -- where all arrows stay at the position, they come first of what is left there
+    pub in_step_free : (IsTrue (is_end n) → ⊥) → ((k : ℕ) (l : N) → step n k ≡ Some l → position l ≡ position n) →
+        IsInStep p from (extended recorded n w fresh) (offers n w (width n) 0 ++ rest) next best
+    in_step_free open_still stays = record {
+      grown = grown_extended recorded n w fresh best u.grown (u.now_grown n w here);
+      now_grown = λ m v i. by_now_grown m v (order.in_either N step m v (offers n w (width n) 0) rest i);
+      next_grown = λ m v i. grown_still recorded n w fresh best m v (u.next_grown m v i);
+      starts = λ i q r t. or_dead (settle_on (offers n w (width n) 0 ++ rest) next (λ m v j. order.in_right N step m v (offers n w (width n) 0) rest j) (λ m v j. j) (start i) (i ∷ [])) (u.starts i q r t);
+      arrows = arrows_settled (offers n w (width n) 0 ++ rest) next (λ m v j. order.in_right N step m v (offers n w (width n) 0) rest j) (λ m v j. j)
+          (λ k l s. inl (order.in_left N step l (w ++ k ∷ []) (offers n w (width n) 0) rest (arrow_offered k l s)));
+      best_ends = best_ends_now;
+      best_least = not_ended open_still;
+      now_ordered = order.offers_ordered N step n w (width n) 0 rest u.now_ordered.1 u.now_ordered.0;
+      next_ordered = u.next_ordered;
+      behind = λ m v l x i j. by_behind m v l x i (order.in_either N step l x (offers n w (width n) 0) rest j);
+      ahead = λ m v l x i r q. by_ahead m v l x q (order.in_either N step m v (offers n w (width n) 0) rest i) (back recorded n w fresh l x r);
+      now_stands = λ m v i. by_pos m v (order.in_either N step m v (offers n w (width n) 0) rest i);
+      next_stands = u.next_stands;
+      past = past_now;
+      now_below = λ m v i. by_first m v (order.in_either N step m v (offers n w (width n) 0) rest i);
+      next_below = u.next_below;
+      best_below = u.best_below;
+      now_better = λ m v b i e. by_better m v b e (order.in_either N step m v (offers n w (width n) 0) rest i);
+      next_better = u.next_better;
+    }
+      where
+        by_now_grown : (m : N) (v : List ℕ) → In m v (offers n w (width n) 0) ⊎ In m v rest → IsGrown N step is_end (StartsAt start first last) (extended recorded n w fresh) best m v
+        by_now_grown m v (inr i) = grown_still recorded n w fresh best m v (u.now_grown m v (inr i))
+        by_now_grown m v (inl i) = let r = order.offered N step n w (width n) 0 m v i in inr (n, w, r.0, extended_here recorded n w fresh, r.2, r.3)
+
+        by_behind : (m : N) (v : List ℕ) (l : N) (x : List ℕ) → In m v next → In l x (offers n w (width n) 0) ⊎ In l x rest → IsPreferred v x
+        by_behind m v l x i (inr j) = u.behind m v l x i (inr j)
+        by_behind m v l x i (inl j) = let r = order.offered N step n w (width n) 0 l x j in
+            subst (λ z. IsPreferred v z) (sym r.3) (preferred_longer v w (r.0 ∷ []) (u.behind m v n w i here))
+
+        by_ahead : (m : N) (v : List ℕ) (l : N) (x : List ℕ) → position l ≡ p → In m v (offers n w (width n) 0) ⊎ In m v rest → ((l ≡ n) × (x ≡ w)) ⊎ (recorded l ≡ Some x) → NotAfter x v
+        by_ahead m v l x z (inl i) (inl e) = let r = order.offered N step n w (width n) 0 m v i in
+            subst (λ y. NotAfter y v) (sym e.1) (subst (λ y. NotAfter w y) (sym r.3) (NotAfter-append w (r.0 ∷ [])))
+        by_ahead m v l x z (inl i) (inr q) = let r = order.offered N step n w (width n) 0 m v i in
+            subst (λ y. NotAfter x y) (sym r.3) (NotAfter-trans x w (w ++ r.0 ∷ []) (u.ahead n w l x here q z) (NotAfter-append w (r.0 ∷ [])))
+        by_ahead m v l x z (inr i) (inl e) = subst (λ y. NotAfter y v) (sym e.1) (inr (preferred_before w v (u.now_ordered.0 m v i)))
+        by_ahead m v l x z (inr i) (inr q) = u.ahead m v l x (inr i) q z
+
+        by_pos : (m : N) (v : List ℕ) → In m v (offers n w (width n) 0) ⊎ In m v rest → position m ≡ p
+        by_pos m v (inr i) = u.now_stands m v (inr i)
+        by_pos m v (inl i) = let r = order.offered N step n w (width n) 0 m v i in stays r.0 m r.2 ∙ u.now_stands n w here
+
+        by_first : (m : N) (v : List ℕ) → In m v (offers n w (width n) 0) ⊎ In m v rest → StartsBelow from v
+        by_first m v (inr i) = u.now_below m v (inr i)
+        by_first m v (inl i) = let r = order.offered N step n w (width n) 0 m v i in subst (λ z. StartsBelow from z) (sym r.3) (below_append from w (r.0 ∷ []) (u.now_below n w here))
+
+        by_better : (m : N) (v b : List ℕ) → best ≡ Some b → In m v (offers n w (width n) 0) ⊎ In m v rest → IsPreferred v b
+        by_better m v b e (inr i) = u.now_better m v b (inr i) e
+        by_better m v b e (inl i) = let r = order.offered N step n w (width n) 0 m v i in
+            subst (λ z. IsPreferred z b) (sym r.3) (preferred_append w b (r.0 ∷ []) (u.now_better n w b here e))
+
+    -- where all arrows lead to the next position, they come last there
+    pub in_step_read : (IsTrue (is_end n) → ⊥) → ((k : ℕ) (l : N) → step n k ≡ Some l → position l ≡ suc (position n)) →
+        IsInStep p from (extended recorded n w fresh) rest (next ++ offers n w (width n) 0) best
+    in_step_read open_still moves = record {
+      grown = grown_extended recorded n w fresh best u.grown (u.now_grown n w here);
+      now_grown = λ m v i. grown_still recorded n w fresh best m v (u.now_grown m v (inr i));
+      next_grown = λ m v i. by_next_grown m v (order.in_either N step m v next (offers n w (width n) 0) i);
+      starts = λ i q r t. or_dead (settle_on rest (next ++ offers n w (width n) 0) (λ m v j. j) (λ m v j. order.in_left N step m v next (offers n w (width n) 0) j) (start i) (i ∷ [])) (u.starts i q r t);
+      arrows = arrows_settled rest (next ++ offers n w (width n) 0) (λ m v j. j) (λ m v j. order.in_left N step m v next (offers n w (width n) 0) j)
+          (λ k l s. inr (order.in_right N step l (w ++ k ∷ []) next (offers n w (width n) 0) (arrow_offered k l s)));
+      best_ends = best_ends_now;
+      best_least = not_ended open_still;
+      now_ordered = u.now_ordered.1;
+      next_ordered = joined next u.next_ordered (λ m v i. u.behind m v n w i here);
+      behind = λ m v l x i j. by_behind m v l x j (order.in_either N step m v next (offers n w (width n) 0) i);
+      ahead = λ m v l x i r q. by_ahead m v l x q i (back recorded n w fresh l x r);
+      now_stands = λ m v i. u.now_stands m v (inr i);
+      next_stands = λ m v i. by_pos m v (order.in_either N step m v next (offers n w (width n) 0) i);
+      past = past_now;
+      now_below = λ m v i. u.now_below m v (inr i);
+      next_below = λ m v i. by_first m v (order.in_either N step m v next (offers n w (width n) 0) i);
+      best_below = u.best_below;
+      now_better = λ m v b i e. u.now_better m v b (inr i) e;
+      next_better = λ m v b i e. by_better m v b e (order.in_either N step m v next (offers n w (width n) 0) i);
+    }
+      where
+        by_next_grown : (m : N) (v : List ℕ) → In m v next ⊎ In m v (offers n w (width n) 0) → IsGrown N step is_end (StartsAt start first last) (extended recorded n w fresh) best m v
+        by_next_grown m v (inl i) = grown_still recorded n w fresh best m v (u.next_grown m v i)
+        by_next_grown m v (inr i) = let r = order.offered N step n w (width n) 0 m v i in inr (n, w, r.0, extended_here recorded n w fresh, r.2, r.3)
+
+        -- the offers of n, as a list that is in order by itself
+        alone : Ordered (offers n w (width n) 0)
+        alone = subst Ordered (append-nil (offers n w (width n) 0)) (order.offers_ordered N step n w (width n) 0 [] tt (λ m v i. absurd i))
+
+        joined : (os : List Offer) → Ordered os → ((m : N) (v : List ℕ) → In m v os → IsPreferred v w) → Ordered (os ++ offers n w (width n) 0)
+        joined [] o f = alone
+        joined (a ∷ os) o f = (
+          (λ m v i. ⊎_elim (λ j. o.0 m v j) (λ j. (let r = order.offered N step n w (width n) 0 m v j in
+              subst (λ z. IsPreferred a.1 z) (sym r.3) (preferred_longer a.1 w (r.0 ∷ []) (f a.0 a.1 (inl (refl, refl))))))
+              (order.in_either N step m v os (offers n w (width n) 0) i)),
+          joined os o.1 (λ m v i. f m v (inr i)),
+        )
+
+        by_behind : (m : N) (v : List ℕ) (l : N) (x : List ℕ) → In l x rest → In m v next ⊎ In m v (offers n w (width n) 0) → IsPreferred v x
+        by_behind m v l x j (inl i) = u.behind m v l x i (inr j)
+        by_behind m v l x j (inr i) = let r = order.offered N step n w (width n) 0 m v i in
+            subst (λ z. IsPreferred z x) (sym r.3) (preferred_append w x (r.0 ∷ []) (u.now_ordered.0 l x j))
+
+        by_ahead : (m : N) (v : List ℕ) (l : N) (x : List ℕ) → position l ≡ p → In m v rest → ((l ≡ n) × (x ≡ w)) ⊎ (recorded l ≡ Some x) → NotAfter x v
+        by_ahead m v l x z i (inl e) = subst (λ y. NotAfter y v) (sym e.1) (inr (preferred_before w v (u.now_ordered.0 m v i)))
+        by_ahead m v l x z i (inr q) = u.ahead m v l x (inr i) q z
+
+        by_pos : (m : N) (v : List ℕ) → In m v next ⊎ In m v (offers n w (width n) 0) → position m ≡ suc p
+        by_pos m v (inl i) = u.next_stands m v i
+        by_pos m v (inr i) = let r = order.offered N step n w (width n) 0 m v i in moves r.0 m r.2 ∙ ap suc (u.now_stands n w here)
+
+        by_first : (m : N) (v : List ℕ) → In m v next ⊎ In m v (offers n w (width n) 0) → StartsBelow from v
+        by_first m v (inl i) = u.next_below m v i
+        by_first m v (inr i) = let r = order.offered N step n w (width n) 0 m v i in subst (λ z. StartsBelow from z) (sym r.3) (below_append from w (r.0 ∷ []) (u.now_below n w here))
+
+        by_better : (m : N) (v b : List ℕ) → best ≡ Some b → In m v next ⊎ In m v (offers n w (width n) 0) → IsPreferred v b
+        by_better m v b e (inl i) = u.next_better m v b i e
+        by_better m v b e (inr i) = let r = order.offered N step n w (width n) 0 m v i in
+            subst (λ z. IsPreferred z b) (sym r.3) (preferred_append w b (r.0 ∷ []) (u.now_better n w b here e))
+
+    -- a match is complete there: it is the best so far, and what is left at this position is dropped
+    pub in_step_complete : IsTrue (is_end n) → ((k : ℕ) → step n k ≡ None) → IsInStep p from (extended recorded n w fresh) [] next (Some w)
+    in_step_complete ends no_arrow = record {
+      grown = λ m v r. regrown m v (grown_extended recorded n w fresh best u.grown (u.now_grown n w here) m v r);
+      now_grown = λ m v i. absurd i;
+      next_grown = λ m v i. regrown m v (grown_still recorded n w fresh best m v (u.next_grown m v i));
+      starts = λ i q r t. or_dead (settle (start i) (i ∷ [])) (u.starts i q r t);
+      arrows = λ m v k l r s. by_back m v k l s (back recorded n w fresh m v r);
+      best_ends = λ b e. (n, ends, extended_here recorded n w fresh ∙ e);
+      best_least = λ m v e r. (w, refl, by_end m v e (back recorded n w fresh m v r));
+      now_ordered = tt;
+      next_ordered = u.next_ordered;
+      behind = λ m v l x i j. absurd j;
+      ahead = λ m v l x i r q. absurd i;
+      now_stands = λ m v i. absurd i;
+      next_stands = u.next_stands;
+      past = past_now;
+      now_below = λ m v i. absurd i;
+      next_below = u.next_below;
+      best_below = λ b e. subst (λ z. StartsBelow from z) (same_some e) (u.now_below n w here);
+      now_better = λ m v b i e. absurd i;
+      next_better = λ m v b i e. subst (λ z. IsPreferred v z) (same_some e) (u.behind m v n w i here);
+    }
+      where
+        regrown : (m : N) (v : List ℕ) → IsGrown N step is_end (StartsAt start first last) (extended recorded n w fresh) best m v →
+            IsGrown N step is_end (StartsAt start first last) (extended recorded n w fresh) (Some w) m v
+        regrown m v (inl g) = inl g
+        regrown m v (inr g) = inr g
+
+        settle : (m : N) (x : List ℕ) → IsAnswered N step is_end (StartsAt start first last) recorded best m x ⊎ (In m x ((n, w) ∷ rest) ⊎ In m x next) →
+            IsAnswered N step is_end (StartsAt start first last) (extended recorded n w fresh) (Some w) m x ⊎ (⊥ ⊎ In m x next)
+        settle m x (inl (inl (v, r, le))) = inl (inl (v, kept recorded n w fresh m v r, le))
+        settle m x (inl (inr (b, e, lt))) = inl (inr (w, refl, Before-trans w b x (preferred_before w b (u.now_better n w b here e)) lt))
+        settle m x (inr (inr i)) = inr (inr i)
+        settle m x (inr (inl (inr i))) = inl (inr (w, refl, preferred_before w x (u.now_ordered.0 m x i)))
+        settle m x (inr (inl (inl e))) = inl (inl (w, ap (extended recorded n w fresh) e.0 ∙ extended_here recorded n w fresh, inl (sym e.1)))
+
+        by_back : (m : N) (v : List ℕ) (k : ℕ) (l : N) → step m k ≡ Some l → ((m ≡ n) × (v ≡ w)) ⊎ (recorded m ≡ Some v) →
+            IsAnswered N step is_end (StartsAt start first last) (extended recorded n w fresh) (Some w) l (v ++ k ∷ []) ⊎ (⊥ ⊎ In l (v ++ k ∷ []) next)
+        by_back m v k l s (inr r) = settle l (v ++ k ∷ []) (u.arrows m v k l r s)
+        by_back m v k l s (inl e) = absurd (not_there (sym (no_arrow k) ∙ ap (λ z. step z k) (sym e.0) ∙ s))
+
+        by_end : (m : N) (v : List ℕ) → IsTrue (is_end m) → ((m ≡ n) × (v ≡ w)) ⊎ (recorded m ≡ Some v) → NotAfter w v
+        by_end m v e (inl f) = inl (sym f.1)
+        by_end m v e (inr r) = let b = u.best_least m v e r in
+            NotAfter-trans w b.0 v (inr (preferred_before w b.0 (u.now_better n w b.0 here b.1))) b.2

@@ -1,0 +1,214 @@
+-- From one position to the next.
+use Rattle.std.proofs.Common.{◌≡◌, ℕ, suc, ◌+◌, ◌^◌, ◌<◌, ◌≤◌, inl, inr, Bool, false, List, [], ◌∷◌, ◌++◌, length, slice_index, sum_by, Option, Some, None, refl, sym, ap, subst, ◌∙◌, arith, length-append}
+use Rattle.std.proofs.lemmas.List.Sums.{sum_by-cons}
+use Rattle.std.proofs.lemmas.List.{nil_from_length}
+use Rattle.regex_lite_syntax.specs.Text.{Text}
+use Rattle.regex_lite_engine.specs.declared.pikevm.best.Best as code
+use Rattle.regex_lite_engine.specs.declared.pikevm.here.Here.{Here}
+use Rattle.regex_lite_engine.specs.declared.pikevm.stack.Stack.{Stack}
+use Rattle.regex_lite_engine.specs.declared.pikevm.threads.Threads.{Threads}
+use Rattle.regex_lite_engine.specs.Graph.Places.{Place}
+use Rattle.regex_lite_engine.specs.Graph.Renumbered.{arrow_count, arrows_of}
+use Rattle.regex_lite_engine.specs.Walk.Entering.{Pushed}
+use Rattle.regex_lite_engine.specs.Walk.InStep.{Offer}
+use Rattle.regex_lite_engine.specs.Walk.Machine.{Row, Thread, thread_at}
+use Rattle.regex_lite_engine.specs.Walk.NumberedAnswer.{numbered_step, is_end}
+use Rattle.regex_lite_engine.specs.Walk.Offsets.{offset, IsHere}
+use Rattle.regex_lite_engine.specs.Walk.Room.{IsFit, ThreadsBelow, lone, weight}
+use Rattle.regex_lite_engine.specs.Walk.Turns.{Between, StepsTo, IsComing, IsDeadAt, Begun, FromIs, IsBlank, IsReady}
+use Rattle.regex_lite_engine.specs.Walk.Walking.{Node, Best, WayHolds, InStep}
+use Rattle.regex_lite_engine.proofs.pikevm.OptionLemmas.{not_there}
+use Rattle.regex_lite_engine.proofs.pikevm.PositionLemmas as deep
+use Rattle.regex_lite_engine.proofs.pikevm.RoomLemmas.{left_most, threads_pushed}
+use Rattle.regex_lite_engine.proofs.pikevm.WalkLemmas.{held_same, held_more}
+
+pub sum_lone : (table : List (Place ℕ)) → sum_by lone table ≡ length table
+sum_lone [] = refl
+sum_lone (x ∷ table) = let more = sum_lone table in omega (arith, more, sum_by-cons lone x table)
+
+pub fit_first : (table : List (Place ℕ)) (rounds rounds' : List ℕ) (now now' width : ℕ) (slots : Row) (cur next : Threads) (stack : Stack) (best : code.Best) (tried entered looked : ℕ) →
+    IsReady table rounds now width cur next stack best tried entered looked → length slots ≡ width → rounds' ≡ rounds → now' ≡ now + 1 → stack.top ≡ length stack.frames.items →
+    tried + arrows_of table < 2 ^ 127 → entered + length table < 2 ^ 127 → IsFit table rounds' now' slots [] stack.top next tried entered looked
+fit_first table rounds rounds' now now' width slots cur next stack best tried entered looked ready ew er en full few fewe =
+    let a = left_most weight now' rounds' table in let b = left_most lone now' rounds' table in let c = left_most arrow_count now' rounds' table in let d = sum_lone table in
+    let e = ready.stack_size in let z = ready.none_next in
+    record {
+      width = ew ∙ sym ready.next_width;
+      all_seen = ap length er ∙ ready.all_seen;
+      old_rounds = λ r. (let le = ready.old_rounds r in let same : slice_index rounds' r ≡ slice_index rounds r = ap (λ x. slice_index x r) er in omega (arith, le, same, en));
+      frames_below = tt;
+      threads_below = λ k lt. absurd (omega (arith, lt, z));
+      stack_room = omega (arith, a, e, full);
+      next_room = omega (arith, b, d, z);
+      next_cap = ready.next_cap;
+      few_tries = omega (arith, c, few, z);
+      few_entries = omega (arith, b, d, fewe);
+      entered_tried = ready.entered_tried;
+      looked_entered = ready.looked_entered;
+    }
+
+module _ (table : List (Place ℕ)) (h : Text) (s first last : ℕ) where
+  abbrev In_step : ℕ → ℕ → (Node → Option (List ℕ)) → List (Offer Node) → List (Offer Node) → Option (List ℕ) → Type 0
+  In_step p from recorded cur next way = InStep table h s first last p from recorded cur next way
+
+  -- before the first position
+  pub none_coming : (cur : Threads) → cur.len ≡ 0 → IsComing table h s first last first cur None
+  none_coming cur empty = record {
+    recorded = λ n. None;
+    coming = [];
+    way = None;
+    from = first;
+    in_step = deep.in_step_none Node (numbered_step table h) (λ j. (s, j)) (is_end table h) first last (λ x. x.1) first (λ n. None) (λ n. refl);
+    before = λ n v r. absurd (not_there r);
+    hold = tt;
+    all = sym empty;
+    best_holds = refl;
+    from_is = refl;
+  }
+
+  -- positions at which no match can start are passed over while there is no thread
+  pub jumped : (p p' : ℕ) (cur : Threads) → cur.len ≡ 0 → p ≤ p' → ((i : ℕ) → p ≤ i → i < p' → IsDeadAt table h s i) →
+      IsComing table h s first last p cur None → IsComing table h s first last p' cur None
+  jumped p p' cur empty more dead u = record {
+    recorded = u.recorded;
+    coming = [];
+    way = u.way;
+    from = p';
+    in_step = deep.in_step_jump Node (numbered_step table h) (λ j. (s, j)) (is_end table h) first last (λ x. x.1) p p' p' u.recorded u.way more
+        (deep.in_step_skip Node (numbered_step table h) (λ j. (s, j)) (is_end table h) first last (λ x. x.1) p p p' u.recorded [] [] u.way more dead
+        (subst (λ z. In_step p z u.recorded [] [] u.way) u.from_is (subst (λ z. In_step p u.from u.recorded z [] u.way) nothing u.in_step)));
+    before = λ n v r. (let lt = u.before n v r in omega (arith, lt, more));
+    hold = tt;
+    all = sym empty;
+    best_holds = u.best_holds;
+    from_is = refl;
+  }
+    where
+      nothing : u.coming ≡ []
+      nothing = let all = u.all in nil_from_length u.coming (omega (arith, all, empty))
+
+  module _ (rounds rounds' : List ℕ) (now now' : ℕ) (old : (r : ℕ) → slice_index rounds r ≤ now) (er : rounds' ≡ rounds) (en : now' ≡ now + 1)
+      (cur cur' next : Threads) (empty : next.len ≡ 0) where
+    not_met : (q : ℕ) → slice_index rounds' q ≡ now' → ⊥
+    not_met q e = let le = old q in let same : slice_index rounds' q ≡ slice_index rounds q = ap (λ x. slice_index x q) er in omega (arith, le, same, en, e)
+
+    start_held : (i at : ℕ) (blank : Row) → IsBlank blank → at ≡ offset h i → WayHolds table h s at blank (s, i) (i ∷ [])
+    start_held i at blank blanks e = (i, [], e, refl, refl, blanks)
+
+    -- without an own start
+    begun_alone : (p from : ℕ) (best : Best) (u : IsComing table h s first last p cur best) → In_step p from u.recorded u.coming [] u.way → cur' ≡ cur →
+        Between table h s first last p from rounds' now' (thread_at cur') 0 cur'.len next best
+    begun_alone p from best u state same =
+        subst (λ (z : Threads). Between table h s first last p from rounds' now' (thread_at z) 0 z.len next best) (sym same) (record {
+          recorded = u.recorded;
+          under = [];
+          later = u.coming;
+          coming = [];
+          way = u.way;
+          in_step = state;
+          seen = λ r v e. absurd (let lt = u.before (r, p) v e in omega (arith, lt));
+          met = λ r lt e. absurd (not_met r e);
+          frames_hold = refl;
+          later_hold = u.hold;
+          later_all = (let all = u.all in omega (arith, all));
+          coming_hold = tt;
+          coming_all = sym empty;
+          best_holds = u.best_holds;
+        })
+
+    -- with it
+    begun_own : (p at : ℕ) (blank : Row) → IsBlank blank → at ≡ offset h p → first ≤ p → p ≤ last → Pushed cur cur' (s, at, blank) → IsComing table h s first last p cur None →
+        Between table h s first last p (suc p) rounds' now' (thread_at cur') 0 cur'.len next None
+    begun_own p at blank blanks is_at low high (more, at_end, kept) u =
+        let all = u.all in
+        let same : 0 + length u.coming ≡ cur.len = omega (arith, all) in
+        record {
+          recorded = u.recorded;
+          under = [];
+          later = u.coming ++ ((s, p), p ∷ []) ∷ [];
+          coming = [];
+          way = None;
+          in_step = deep.in_step_begin Node (numbered_step table h) (λ j. (s, j)) (is_end table h) first last (λ x. x.1) (λ j. refl) p u.recorded u.coming low high u.before
+              (subst (λ z. In_step p z u.recorded u.coming [] None) u.from_is (subst (λ z. In_step p u.from u.recorded u.coming [] z) u.best_holds u.in_step));
+          seen = λ r v e. absurd (let lt = u.before (r, p) v e in omega (arith, lt));
+          met = λ r lt e. absurd (not_met r e);
+          frames_hold = refl;
+          later_hold = held_more table h s p (thread_at cur') 0 u.coming ((s, p), p ∷ [])
+              (held_same table h s p (thread_at cur) (thread_at cur') 0 u.coming (λ j lt. kept j (omega (arith, lt, same))) u.hold)
+              (subst (λ z. ◌≡◌ {A = Node} (s, p) ((thread_at cur' z).0, p)) (sym same) (ap (λ (t : Thread). node_of t) (sym at_end)))
+              (subst (λ z. WayHolds table h s (thread_at cur' z).1 (thread_at cur' z).2 (s, p) (p ∷ [])) (sym same)
+              (subst (λ (t : Thread). WayHolds table h s t.1 t.2 (s, p) (p ∷ [])) (sym at_end) (start_held p at blank blanks is_at)));
+          later_all = omega (arith, all, more, length-append u.coming (((s, p), p ∷ []) ∷ []));
+          coming_hold = tt;
+          coming_all = sym empty;
+          best_holds = refl;
+        }
+      where
+        node_of : Thread → Node
+        node_of t = (t.0, p)
+
+    -- the position is done
+    left_over : (p from n : ℕ) (f : ℕ → Thread) (rounds2 : List ℕ) (now2 : ℕ) (next2 : Threads) (best : Best) → FromIs (p + 1) from best →
+        Between table h s first last p from rounds2 now2 f n n next2 best → IsComing table h s first last (p + 1) next2 best
+    left_over p from n f rounds2 now2 next2 best is u =
+        subst (λ z. IsComing table h s first last z next2 best) one_more (record {
+          recorded = u.recorded;
+          coming = u.coming;
+          way = u.way;
+          from = from;
+          in_step = deep.in_step_next_alone Node (numbered_step table h) (λ j. (s, j)) (is_end table h) first last (λ x. x.1) p from u.recorded u.coming u.way
+              (subst (λ z. In_step p from u.recorded ([] ++ z) u.coming u.way) none_later (subst (λ z. In_step p from u.recorded (z ++ u.later) u.coming u.way) u.frames_hold u.in_step));
+          before = λ m v r. (let le = u.in_step.past m v r in omega (arith, le));
+          hold = u.coming_hold;
+          all = u.coming_all;
+          best_holds = u.best_holds;
+          from_is = subst (λ z. FromIs z from best) (sym one_more) is;
+        })
+      where
+        one_more : suc p ≡ p + 1
+        one_more = omega arith
+
+        none_later : u.later ≡ []
+        none_later = let all = u.later_all in nil_from_length u.later (omega (arith, all))
+
+    from_kept : (p from : ℕ) (best best' : Best) → FromIs p from best → (best' ≡ None → best ≡ None) → FromIs p from best'
+    from_kept p from best (Some b) f kept = tt
+    from_kept p from None None f kept = f
+    from_kept p from (Some b) None f kept = let e : ◌≡◌ {A = Best} (Some b) None = kept refl in absurd (not_there (sym e))
+
+    pub turned : (here : Here) (p : ℕ) → IsHere h p here → (may : Bool) (best best' : Best) (rounds2 : List ℕ) (next2 : Threads) → first ≤ p → p ≤ last → (may ≡ false → IsDeadAt table h s p) → Begun s here.at may best cur cur' →
+        StepsTo table here now' (thread_at cur') cur'.len rounds' next best cur'.len rounds2 next2 best' → (best' ≡ None → best ≡ None) →
+        IsComing table h s first last p cur best → IsComing table h s first last (p + 1) next2 best'
+    turned here p is may best best' rounds2 next2 low high dead begun steps kept u = go best begun refl u
+      where
+        Goal : Type 0
+        Goal = IsComing table h s first last (p + 1) next2 best'
+
+        on : (from : ℕ) → FromIs (p + 1) from best → Between table h s first last p from rounds' now' (thread_at cur') 0 cur'.len next best → Goal
+        on from fis w = left_over p from cur'.len (thread_at cur') rounds2 now' next2 best' (from_kept (p + 1) from best best' fis kept) (steps h p is s first last from w)
+
+        on_none : (from : ℕ) → from ≡ suc p → best ≡ None → Between table h s first last p from rounds' now' (thread_at cur') 0 cur'.len next None → Goal
+        on_none from e none w = on from (subst (λ z. FromIs (p + 1) from z) (sym none) (omega (arith, e))) (subst (λ z. Between table h s first last p from rounds' now' (thread_at cur') 0 cur'.len next z) (sym none) w)
+
+        go : (b : Best) → Begun s here.at may b cur cur' → best ≡ b → IsComing table h s first last p cur b → Goal
+        go None (inl (none, (blank, blanks, pushed))) e u = on_none (suc p) refl e (begun_own p here.at blank blanks is.bytes low high pushed u)
+        go None (inr (inl some, same)) e u = absurd (some refl)
+        go None (inr (inr off, same)) e u = on_none (suc p) refl e (begun_alone p (suc p) None u
+            (deep.in_step_skip Node (numbered_step table h) (λ j. (s, j)) (is_end table h) first last (λ x. x.1) p p (suc p) u.recorded u.coming [] u.way (omega arith)
+            (λ i le lt. subst (λ z. IsDeadAt table h s z) (omega (arith, le, lt)) (dead off))
+            (subst (λ z. In_step p z u.recorded u.coming [] u.way) u.from_is u.in_step)) same)
+        go (Some b) (inl (none, pushed)) e u = absurd (not_there (sym none))
+        go (Some b) (inr (why, same)) e u = on u.from (subst (λ z. FromIs (p + 1) u.from z) (sym e) tt)
+            (subst (λ z. Between table h s first last p u.from rounds' now' (thread_at cur') 0 cur'.len next z) (sym e) (begun_alone p u.from (Some b) u u.in_step same))
+
+pub begun_len : (best : Best) (s at : ℕ) (may : Bool) (cur cur' : Threads) → Begun s at may best cur cur' → cur'.len ≤ cur.len + 1
+begun_len best s at may cur cur' (inl (none, (blank, blanks, pushed))) = let e = pushed.0 in omega (arith, e)
+begun_len best s at may cur cur' (inr (some, same)) = let e : cur'.len ≡ cur.len = ap (λ (t : Threads). t.len) same in omega (arith, e)
+
+pub begun_below : (c : ℕ) (best : Best) (s at : ℕ) (may : Bool) (cur cur' : Threads) → s < c → ThreadsBelow c cur → Begun s at may best cur cur' → ThreadsBelow c cur'
+begun_below c best s at may cur cur' inside below (inl (none, (blank, blanks, pushed))) = threads_pushed c s at blank cur cur' inside pushed below
+begun_below c best s at may cur cur' inside below (inr (some, same)) = subst (λ (t : Threads). ThreadsBelow c t) (sym same) below
+
+pub sum_weight : (table : List (Place ℕ)) → sum_by weight table ≡ arrows_of table + length table
+sum_weight [] = refl
+sum_weight (x ∷ table) = let more = sum_weight table in omega (arith, more, sum_by-cons weight x table, sum_by-cons arrow_count x table)

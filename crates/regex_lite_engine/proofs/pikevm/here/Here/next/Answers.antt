@@ -1,0 +1,23 @@
+use Rattle.std.proofs.Common.{rules, ◌≡◌, ◌+◌, drop, slice_get, chars, Some, suc, sym, subst}
+use Rattle.regex_lite_engine.specs.Walk.Offsets.{IsOffset, IsHere}
+use Rattle.regex_lite_engine.proofs.pikevm.here.OffsetLemmas.{moved, here_next, boundary_at}
+use Rattle.regex_lite_engine.proofs.pikevm.here.Here.next.Goals as goal
+
+pub overflow_add-at : goal.overflow_add-at
+overflow_add-at c =
+    let edge = boundary_at c.args.haystack.now (suc c.requires.0) (c.args.self.at + c.len_utf8.result) c.utf8.haystack
+    (subst (λ z. IsOffset (chars c.args.haystack.now) (suc c.requires.0) (c.args.self.at + z)) (sym c.len_utf8.ensures.value)
+    (moved c.args.haystack.now c.requires.0 c.in-Some.c c.args.self c.requires.1 c.in-Some.is)) in
+    search rules
+
+pub first_char-requires : goal.first_char-requires
+first_char-requires c =
+    boundary_at c.args.haystack.now (suc c.requires.0) (c.args.self.at + c.len_utf8.result) c.utf8.haystack
+    (subst (λ z. IsOffset (chars c.args.haystack.now) (suc c.requires.0) (c.args.self.at + z)) (sym c.len_utf8.ensures.value)
+    (moved c.args.haystack.now c.requires.0 c.in-Some.c c.args.self c.requires.1 c.in-Some.is))
+
+pub returns-in-Some : goal.returns-in-Some
+returns-in-Some c = λ p is.
+    subst (λ z. IsHere (chars c.args.haystack.now) (p + 1) (record { before = Some c.in-Some.c; after = c.first_char.result; at = c.args.self.at + z })) (sym c.len_utf8.ensures.value)
+    (here_next c.args.haystack.now p c.in-Some.c c.args.self c.first_char.result c.utf8.haystack c.in-Some.is
+    (subst (λ z. c.first_char.result ≡ slice_get (chars (drop (c.args.self.at + z) c.args.haystack.now)) 0) c.len_utf8.ensures.value c.first_char.ensures) is)

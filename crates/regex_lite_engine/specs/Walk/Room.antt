@@ -1,0 +1,126 @@
+-- The working memory suffices for what is left to do at a position, and what is left bounds the
+-- counts.
+use Rattle.std.specs.Prelude.{◌≡◌, ◌+◌, ◌^◌, ◌≤◌, ◌<◌, ◌==◌, ℕ, Bool, true, false, List, [], ◌∷◌, length, Some, slice_index, if◌then◌else◌}
+use Rattle.regex_lite_syntax.specs.Text.{Text}
+use Rattle.regex_lite_engine.specs.declared.pikevm.here.Here.{Here}
+use Rattle.regex_lite_engine.specs.declared.pikevm.stack.Frame.{Frame}
+use Rattle.regex_lite_engine.specs.declared.pikevm.stack.Frame.TheVariants.{Explore, Restore}
+use Rattle.regex_lite_engine.specs.declared.pikevm.threads.Threads.{Threads}
+use Rattle.regex_lite_engine.specs.declared.pikevm.walk.Walk.{Walk}
+use Rattle.regex_lite_engine.specs.Graph.Places.{Place}
+use Rattle.regex_lite_engine.specs.Graph.Renumbered.{arrow_count}
+use Rattle.regex_lite_engine.specs.Walk.Machine.{Row, Thread, thread_at}
+use Rattle.regex_lite_engine.specs.Walk.Offsets.{IsHere}
+use Rattle.regex_lite_engine.specs.Walk.Walking.{Best, IsWalking}
+
+-- the sum over the places that were not entered in this round
+abbrev pub left_of : (Place ℕ → ℕ) → (now : ℕ) → (rounds : List ℕ) → List (Place ℕ) → ℕ
+left_of f now [] table = 0
+left_of f now (round ∷ rounds) [] = 0
+left_of f now (round ∷ rounds) (place ∷ table) =
+    (if round == now then 0 else f place) + left_of f now rounds table
+
+abbrev pub lone : Place ℕ → ℕ
+lone place = 1
+
+-- the frames that entering a place may put on the stack
+abbrev pub weight : Place ℕ → ℕ
+weight place = arrow_count place + 1
+
+abbrev pub explores : List Frame → ℕ
+explores [] = 0
+explores (Explore q ∷ frames) = explores frames + 1
+explores (Restore slot old ∷ frames) = explores frames
+
+abbrev pub FramesBelow : (places width : ℕ) → List Frame → Type 0
+FramesBelow places width [] = Unit {0}
+FramesBelow places width (Explore q ∷ frames) = (q < places) × FramesBelow places width frames
+FramesBelow places width (Restore slot old ∷ frames) =
+    (slot < width) × FramesBelow places width frames
+
+abbrev pub ThreadsBelow : (places : ℕ) → Threads → Type 0
+ThreadsBelow places threads = (k : ℕ) → k < threads.len → (thread_at threads k).0 < places
+
+module _ (table : List (Place ℕ)) where
+  -- how often the search has come to a place, or may still come to one from what is left
+  abbrev pub due_tries : (rounds : List ℕ) → (now : ℕ) → List Frame → Threads → (tried : ℕ) → ℕ
+  due_tries rounds now frames next tried =
+      tried + (explores frames + (next.len + left_of arrow_count now rounds table))
+
+  abbrev pub due_entries : (rounds : List ℕ) → (now entered : ℕ) → ℕ
+  due_entries rounds now entered = entered + left_of lone now rounds table
+
+  -- how much is left to do at this position
+  abbrev pub work : (rounds : List ℕ) → (now : ℕ) → List Frame → ℕ
+  work rounds now frames = length frames + left_of weight now rounds table
+
+  pub record IsFit (rounds : List ℕ) (now : ℕ) (row : Row) (frames : List Frame) (top : ℕ)
+      (next : Threads) (tried entered looked : ℕ) : Type 0 where
+    pub width : length row ≡ next.width
+    pub all_seen : length rounds ≡ length table
+    pub old_rounds : (q : ℕ) → slice_index rounds q ≤ now
+    pub frames_below : FramesBelow (length table) (length row) frames
+    pub threads_below : ThreadsBelow (length table) next
+    pub stack_room : left_of weight now rounds table ≤ top
+    pub next_room : next.len + left_of lone now rounds table ≤ length table
+    pub next_cap : length table < length next.places.items
+    pub few_tries : due_tries rounds now frames next tried < 2 ^ 127
+    pub few_entries : due_entries rounds now entered < 2 ^ 127
+    pub entered_tried : entered ≤ tried
+    pub looked_entered : looked ≤ entered
+
+  -- from one state of a walk to a later one, in whatever haystack it stands there
+  abbrev pub WalksTo : Here → (i now : ℕ) → (rounds : List ℕ) → Row → List Frame → Threads
+      → (rounds' : List ℕ) → Row → List Frame → Threads → (done : Bool) → Type 0
+  WalksTo here i now rounds row frames next rounds' row' frames' next' done =
+      (haystack : Text) (p : ℕ) → IsHere haystack p here
+      → (s first last from : ℕ) (threads : ℕ → Thread) (k n : ℕ) (best : Best)
+      → IsWalking table haystack s first last p from rounds now i row frames threads k n
+      (thread_at next) next.len best
+      → IsWalking table haystack s first last p from rounds' now i row' frames' threads
+      (if done then n else k) n (thread_at next') next'.len
+      (if done then Some (i, here.at, row') else best)
+
+  -- a frame was taken off, or all of them where a match is complete
+  pub record Went (here : Here) (i now : ℕ) (rounds : List ℕ) (row : Row) (frames : List Frame)
+      (next : Threads) (tried entered : ℕ) (rounds' : List ℕ) (row' : Row) (frames' : List Frame)
+      (top' : ℕ) (next' : Threads) (tried' entered' looked' : ℕ) (done : Bool) : Type 0 where
+    pub fit : IsFit rounds' now row' frames' top' next' tried' entered' looked'
+    pub walks : WalksTo here i now rounds row frames next rounds' row' frames' next' done
+    pub less : done ≡ false → work rounds' now frames' < work rounds now frames
+    pub cleared : done ≡ true → frames' ≡ []
+    pub spent :
+        due_tries rounds' now frames' next' tried' ≤ due_tries rounds now frames next tried
+    pub spent_entries : due_entries rounds' now entered' ≤ due_entries rounds now entered
+
+  -- The same of the value that holds a walk, with these frames to come
+
+  abbrev pub HasRoom : Walk → List Frame → Type 0
+  HasRoom walk frames =
+      IsFit walk.seen.rounds.items walk.seen.now walk.slots.items frames walk.stack.top walk.next
+      walk.steps.tried walk.steps.entered walk.steps.looked
+
+  abbrev pub TakesFrame : Here → (i : ℕ) → Walk → List Frame → Walk → List Frame → (done : Bool)
+      → Type 0
+  TakesFrame here i walk frames walk' frames' done =
+      Went here i walk.seen.now walk.seen.rounds.items walk.slots.items frames walk.next
+      walk.steps.tried walk.steps.entered walk'.seen.rounds.items walk'.slots.items frames'
+      walk'.stack.top walk'.next walk'.steps.tried walk'.steps.entered walk'.steps.looked done
+
+  -- all frames were taken off
+  pub record Explores (here : Here) (i : ℕ) (walk walk' : Walk) (frames : List Frame)
+      (done : Bool) : Type 0 where
+    pub walks : WalksTo here i walk.seen.now walk.seen.rounds.items walk.slots.items frames
+        walk.next walk'.seen.rounds.items walk'.slots.items [] walk'.next done
+    pub spent :
+        due_tries walk'.seen.rounds.items walk.seen.now [] walk'.next walk'.steps.tried
+        ≤ due_tries walk.seen.rounds.items walk.seen.now frames walk.next walk.steps.tried
+    pub spent_entries :
+        due_entries walk'.seen.rounds.items walk.seen.now walk'.steps.entered
+        ≤ due_entries walk.seen.rounds.items walk.seen.now walk.steps.entered
+
+-- the round, and the sizes of what a walk works in
+pub record IsSameMemory (walk walk' : Walk) : Type 0 where
+  pub round : walk'.seen.now ≡ walk.seen.now
+  pub stack : length walk'.stack.frames.items ≡ length walk.stack.frames.items
+  pub slots : length walk'.slots.items ≡ length walk.slots.items

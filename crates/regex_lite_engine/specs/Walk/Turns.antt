@@ -1,0 +1,98 @@
+-- The threads of one position, and from one position to the next.
+use Rattle.std.specs.Prelude.{◌≡◌, ◌+◌, ◌≤◌, ◌<◌, ◌⊎◌, ℕ, Bool, false, List, [], length, slice_get, slice_index, sum_by, Option, Some, None}
+use Rattle.regex_lite_syntax.specs.Text.{Text}
+use Rattle.regex_lite_engine.specs.declared.pikevm.best.Best as code
+use Rattle.regex_lite_engine.specs.declared.pikevm.here.Here.{Here}
+use Rattle.regex_lite_engine.specs.declared.pikevm.stack.Stack.{Stack}
+use Rattle.regex_lite_engine.specs.declared.pikevm.threads.Threads.{Threads}
+use Rattle.regex_lite_engine.specs.Graph.Places.{Place}
+use Rattle.regex_lite_engine.specs.Walk.Explored.{IsDead}
+use Rattle.regex_lite_engine.specs.Walk.NumberedAnswer.{numbered_step, is_end}
+use Rattle.regex_lite_engine.specs.Walk.InStep.{Offer}
+use Rattle.regex_lite_engine.specs.Walk.Machine.{Row, Thread, thread_at, frames_of}
+use Rattle.regex_lite_engine.specs.Walk.Offsets.{IsHere}
+use Rattle.regex_lite_engine.specs.Walk.Walking.{Node, Best, ThreadsHold, BestHolds, InStep, IsWalking}
+use Rattle.regex_lite_engine.specs.Walk.Entering.{Pushed}
+use Rattle.regex_lite_engine.specs.Walk.Room.{ThreadsBelow, weight}
+
+abbrev pub best_at : Option (ℕ × ℕ) → Row → Best
+best_at None row = None
+best_at (Some found) row = Some (found.0, found.1, row)
+
+-- the match that is stored
+abbrev pub best_of : code.Best → Best
+best_of best = best_at best.found best.row.items
+
+-- no slot of the row is marked
+abbrev pub IsBlank : Row → Type 0
+IsBlank row = (k : ℕ) (slot : Option ℕ) → slice_get row k ≡ Some slot → slot ≡ None
+
+-- at a later position each way starts below it, as long as there is no match
+abbrev pub FromIs : (p from : ℕ) → Best → Type 0
+FromIs p from None = from ≡ p
+FromIs p from (Some best) = Unit {0}
+
+-- the best match afterwards is that of before, or ends at the offset
+abbrev pub EndsAt : (at : ℕ) → (before after : Best) → Type 0
+EndsAt at before after =
+    (after ≡ before) ⊎ ((i : ℕ) × (row : Row) × (after ≡ Some (i, at, row)))
+
+module _ (table : List (Place ℕ)) where
+  -- no match can start at the position
+  abbrev pub IsDeadAt : Text → (s p : ℕ) → Type 0
+  IsDeadAt haystack s p =
+      IsDead Node (numbered_step table haystack) (is_end table haystack) (s, p)
+
+  -- nothing is on the stack; the threads from the k-th to the n-th are left
+  abbrev pub Between : Text → (s first last p from : ℕ) → (rounds : List ℕ) → (now : ℕ)
+      → (ℕ → Thread) → (k n : ℕ) → Threads → Best → Type 0
+  Between haystack s first last p from rounds now threads k n next best =
+      IsWalking table haystack s first last p from rounds now 0 [] [] threads k n (thread_at next)
+      next.len best
+
+  -- from the first of n threads to before the k-th
+  abbrev pub StepsTo : Here → (now : ℕ) → (ℕ → Thread) → (n : ℕ) → (rounds : List ℕ) → Threads
+      → Best → (k : ℕ) → (rounds' : List ℕ) → Threads → Best → Type 0
+  StepsTo here now threads n rounds next best k rounds' next' best' =
+      (haystack : Text) (p : ℕ) → IsHere haystack p here → (s first last from : ℕ)
+      → Between haystack s first last p from rounds now threads 0 n next best
+      → Between haystack s first last p from rounds' now threads k n next' best'
+
+  -- all below position p is done; what is offered at p are the threads, without its own start
+  pub record IsComing (haystack : Text) (s first last p : ℕ) (threads : Threads) (best : Best)
+      : Type 0 where
+    pub recorded : Node → Option (List ℕ)
+    pub coming : List (Offer Node)
+    pub way : Option (List ℕ)
+    pub from : ℕ
+    pub in_step : InStep table haystack s first last p from recorded coming [] way
+    pub before : (n : Node) (v : List ℕ) → recorded n ≡ Some v → n.1 < p
+    pub hold : ThreadsHold table haystack s p (thread_at threads) 0 coming
+    pub all : length coming ≡ threads.len
+    pub best_holds : BestHolds table haystack s best way
+    pub from_is : FromIs p from best
+
+  -- the memory of a search between two positions
+  pub record IsReady (rounds : List ℕ) (now width : ℕ) (threads next : Threads) (stack : Stack)
+      (best : code.Best) (tried entered looked : ℕ) : Type 0 where
+    pub all_seen : length rounds ≡ length table
+    pub old_rounds : (q : ℕ) → slice_index rounds q ≤ now
+    pub same_width : threads.width ≡ width
+    pub next_width : next.width ≡ width
+    pub cap : length table < length threads.places.items
+    pub next_cap : length table < length next.places.items
+    pub few : threads.len ≤ length table
+    pub below : ThreadsBelow (length table) threads
+    pub none_next : next.len ≡ 0
+    pub stack_size : sum_by weight table + 1 ≤ length stack.frames.items
+    pub stack_empty : frames_of stack ≡ []
+    pub best_width : length best.row.items ≡ width
+    pub entered_tried : entered ≤ tried
+    pub looked_entered : looked ≤ entered
+
+-- The position's own start is the last thread. It is left out where there is a match, and where no
+-- match can start
+abbrev pub Begun : (s at : ℕ) → (may_start : Bool) → Best → (before after : Threads) → Type 0
+Begun s at may_start best before after =
+    ((best ≡ None) × ((blank : Row) × IsBlank blank × Pushed before after (s, at, blank)))
+    ⊎ (((best ≡ None → ⊥) ⊎ (may_start ≡ false)) × (after ≡ before))

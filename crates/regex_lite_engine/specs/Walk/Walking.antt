@@ -1,0 +1,90 @@
+-- What a search over a table of numbered places keeps true while it goes over one position.
+use Rattle.std.specs.Prelude.{◌≡◌, ◌+◌, ◌<◌, ℕ, suc, IsTrue, List, [], ◌∷◌, ◌++◌, length, Option, Some, None, option_map, slice_get, slice_set, slice_index}
+use Rattle.regex_lite_syntax.specs.Text.{Text}
+use Rattle.regex_lite_engine.specs.declared.pikevm.stack.Frame.{Frame}
+use Rattle.regex_lite_engine.specs.declared.pikevm.stack.Frame.TheVariants.{Explore, Restore}
+use Rattle.regex_lite_engine.specs.Graph.Places.{Place}
+use Rattle.regex_lite_engine.specs.Graph.Ways.{Leads}
+use Rattle.regex_lite_engine.specs.Search.Marks.{Marks, marks_along}
+use Rattle.regex_lite_engine.specs.Walk.NumberedAnswer.{place_with, numbered_step, is_end}
+use Rattle.regex_lite_engine.specs.Walk.Offsets.{offset}
+use Rattle.regex_lite_engine.specs.Walk.Machine.{Row, Thread}
+use Rattle.regex_lite_engine.specs.Walk.InStep.{Offer, IsInStep}
+
+-- a place at a position
+abbrev pub Node : Type 0
+Node = ℕ × ℕ
+
+-- the best match so far: the offsets of its start and its end, and its row
+abbrev pub Best : Type 0
+Best = Option (ℕ × ℕ × Row)
+
+-- each slot of the row holds the offset of its mark
+abbrev pub HasSlots : Text → Row → Marks → Type 0
+HasSlots haystack row marks =
+    (k : ℕ) (slot : Option ℕ) → slice_get row k ≡ Some slot
+    → slot ≡ option_map (offset haystack) (marks k)
+
+module _ (table : List (Place ℕ)) (haystack : Text) where
+  module _ (s : ℕ) where
+    -- the way w leads to n from place s at the offset i, and the row has what it marks
+    abbrev pub WayHolds : (i : ℕ) → Row → Node → (w : List ℕ) → Type 0
+    WayHolds i row n w =
+        (j : ℕ) × (ks : List ℕ) × (i ≡ offset haystack j) × (w ≡ j ∷ ks)
+        × Leads Node (numbered_step table haystack) (s, j) ks n
+        × HasSlots haystack row (marks_along haystack (place_with table) (Some (s, j)) ks)
+
+    -- the frames hold the offers at position p, the first on top. The row of each is that which
+    -- stands when its frame comes off
+    abbrev pub FramesHold : (p i : ℕ) → Row → List Frame → List (Offer Node) → Type 0
+    FramesHold p i row [] os = os ≡ []
+    FramesHold p i row (Explore q ∷ frames) os =
+        (w : List ℕ) × (rest : List (Offer Node)) × (os ≡ ((q, p), w) ∷ rest)
+        × WayHolds i row (q, p) w × FramesHold p i row frames rest
+    FramesHold p i row (Restore slot old ∷ frames) os =
+        FramesHold p i (slice_set row slot old) frames os
+
+    -- the threads from the k-th on hold the offers at position p
+    abbrev pub ThreadsHold : (p : ℕ) → (ℕ → Thread) → (k : ℕ) → List (Offer Node) → Type 0
+    ThreadsHold p threads k [] = Unit {0}
+    ThreadsHold p threads k (o ∷ os) =
+        (o.0 ≡ ((threads k).0, p)) × WayHolds (threads k).1 (threads k).2 o.0 o.1
+        × ThreadsHold p threads (suc k) os
+
+    -- the best match is that of the way
+    abbrev pub BestHolds : Best → Option (List ℕ) → Type 0
+    BestHolds None way = way ≡ None
+    BestHolds (Some b) way =
+        (w : List ℕ) × (way ≡ Some w)
+        × ((q : ℕ) × (e : ℕ) × (b.1 ≡ offset haystack e) × IsTrue (is_end table haystack (q, e))
+        × WayHolds b.0 b.2 (q, e) w)
+
+    module _ (first last : ℕ) where
+      abbrev pub InStep : (p from : ℕ) → (recorded : Node → Option (List ℕ))
+          → (offers next : List (Offer Node)) → (way : Option (List ℕ)) → Type 0
+      InStep =
+          IsInStep Node (numbered_step table haystack) (λ i. (s, i)) (is_end table haystack) first
+          last (λ n. n.1)
+
+      -- At position p. The frames belong to a thread that started at the offset i. Left are the
+      -- frames, then the threads from the k-th to the n-th; at the next position there are so far
+      -- the m threads of `next`. Starts below `from` were offered
+      pub record IsWalking (p from : ℕ) (rounds : List ℕ) (now i : ℕ) (row : Row)
+          (frames : List Frame) (threads : ℕ → Thread) (k n : ℕ) (next : ℕ → Thread) (m : ℕ)
+          (best : Best) : Type 0 where
+        pub recorded : Node → Option (List ℕ)
+        pub under : List (Offer Node)
+        pub later : List (Offer Node)
+        pub coming : List (Offer Node)
+        pub way : Option (List ℕ)
+        pub in_step : InStep p from recorded (under ++ later) coming way
+        -- just the places with a record at the position are in the set of those entered
+        pub seen : (q : ℕ) (v : List ℕ) → recorded (q, p) ≡ Some v → slice_index rounds q ≡ now
+        pub met : (q : ℕ) → q < length rounds → slice_index rounds q ≡ now
+            → (v : List ℕ) × (recorded (q, p) ≡ Some v)
+        pub frames_hold : FramesHold p i row frames under
+        pub later_hold : ThreadsHold p threads k later
+        pub later_all : k + length later ≡ n
+        pub coming_hold : ThreadsHold (suc p) next 0 coming
+        pub coming_all : length coming ≡ m
+        pub best_holds : BestHolds best way

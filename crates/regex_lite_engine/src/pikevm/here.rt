@@ -1,0 +1,68 @@
+//! Where a search stands in the haystack.
+ghost use Rattle.std.specs.Prelude.{◌≡◌, ◌+◌, ℕ, IsSome, IsCharBoundary, chars, drop, slice_get};
+ghost use Rattle.regex_lite_syntax.specs.Text.{before};
+ghost use Rattle.regex_lite_engine.specs.Walk.Offsets.{position_at, IsOffset, IsHere};
+
+/// An offset into the haystack, with the characters before and after it.
+#[derive(Clone, Copy)]
+pub struct Here {
+    pub before: Option<char>,
+    pub after: Option<char>,
+    pub at: usize,
+}
+
+impl Here {
+    /// The place at this offset.
+    pub fn at(haystack: &str, at: usize) -> Here
+        requires { IsCharBoundary haystack.now at }
+        ensures here { IsHere (chars haystack.now) (position_at haystack.now at) result }
+        ensures at { result.at ≡ at }
+    {
+        Here {
+            before: last_char(haystack, at),
+            after: first_char(haystack, at),
+            at,
+        }
+    }
+
+    /// The place behind the next character.
+    pub fn next(self, haystack: &str) -> Here
+        requires { (p : ℕ) × IsHere (chars haystack.now) p self × IsSome self.after }
+        ensures { (p : ℕ) → IsHere (chars haystack.now) p self
+            → IsHere (chars haystack.now) (p + 1) result }
+    {
+        match self.after {
+            None => self,
+            Some(c) => {
+                // The sum fits, since a haystack has no more bytes than can be counted.
+                let _bytes = haystack.len();
+                let at = self.at + c.len_utf8();
+                Here {
+                    before: Some(c),
+                    after: first_char(haystack, at),
+                    at,
+                }
+            }
+        }
+    }
+}
+
+/// The character that begins there.
+fn first_char(haystack: &str, at: usize) -> Option<char>
+    requires { IsCharBoundary haystack.now at }
+    ensures { result ≡ slice_get (chars (drop at haystack.now)) 0 }
+{
+    haystack[at..].chars().next()
+}
+
+/// The character that ends there.
+fn last_char(haystack: &str, at: usize) -> Option<char>
+    requires { IsCharBoundary haystack.now at }
+    ensures { (p : ℕ) → IsOffset (chars haystack.now) p at
+        → result ≡ before (chars haystack.now) p }
+{
+    match haystack[..at].chars().next_back() {
+        None => None,
+        Some(c) => Some(c),
+    }
+}

@@ -1,0 +1,48 @@
+//! A whole search, position by position.
+ghost use Rattle.std.specs.Prelude.{◌≡◌, ◌⊎◌, IsCharBoundary, IsTrue, None, chars, length};
+ghost use Rattle.regex_lite_engine.specs.Graph.Renumbered.{arrows_of};
+ghost use Rattle.regex_lite_engine.specs.Graph.Stored.{table_of};
+ghost use Rattle.regex_lite_engine.specs.Search.Bounds.{IsBounded, characters_left};
+ghost use Rattle.regex_lite_engine.specs.Walk.Offsets.{position_at};
+ghost use Rattle.regex_lite_engine.specs.Walk.Outcomes.{IsOutcome, IsFresh, CanCount};
+ghost use Rattle.regex_lite_engine.specs.Walk.Turns.{best_of};
+
+use crate::Graph;
+use crate::pikevm::best::Best;
+use crate::pikevm::here::Here;
+use crate::pikevm::threads::Threads;
+use crate::pikevm::turn::Cache;
+
+/// Goes from position to position, until the most preferred match is known.
+pub fn run(cache: &mut Cache, graph: &Graph, haystack: &str, start: usize)
+    requires boundary { IsCharBoundary haystack.now start }
+    requires fresh { IsFresh (table_of graph.now) cache.old }
+    requires counts { CanCount (table_of graph.now)
+        (characters_left (chars haystack.now) (position_at haystack.now start)) }
+    ensures found { IsOutcome (table_of graph.now) (chars haystack.now) graph.now.start
+        (position_at haystack.now start) (best_of cache.new.best) }
+    ensures bounded { IsBounded (length (table_of graph.now)) (arrows_of (table_of graph.now))
+        (chars haystack.now) (position_at haystack.now start) cache.new.walk.steps.tried
+        cache.new.walk.steps.entered cache.new.walk.steps.looked }
+{
+    let mut here = Here::at(haystack, start);
+    'positions: loop {
+        cache.turn(graph, here, true);
+        if is_over(here, &cache.threads, &cache.best) {
+            return;
+        }
+        here = here.next(haystack);
+    }
+}
+
+/// Whether nothing is left to do after the position.
+fn is_over(here: Here, threads: &Threads, best: &Best) -> bool
+    ensures over { IsTrue result → (here.after ≡ None)
+        ⊎ (¬ (best_of best.now ≡ None) × (threads.now.len ≡ 0)) }
+    ensures at_end { here.after ≡ None → IsTrue result }
+{
+    if here.after.is_none() {
+        return true;
+    }
+    threads.len() == 0 && !best.is_none()
+}

@@ -1,0 +1,70 @@
+//! What a search does, counted.
+ghost use Rattle.std.specs.Prelude.{◌≡◌, ◌+◌, ◌<◌, ◌^◌};
+
+/// How much a search did.
+#[derive(Clone, Copy, PartialEq, Eq, Debug)]
+pub struct Steps {
+    tried: u128,
+    entered: u128,
+    looked: u128,
+}
+
+impl Steps {
+    /// Nothing was done yet.
+    pub(crate) fn none() -> Steps
+        ensures tried { result.tried ≡ 0 }
+        ensures entered { result.entered ≡ 0 }
+        ensures looked { result.looked ≡ 0 }
+    {
+        Steps {
+            tried: 0,
+            entered: 0,
+            looked: 0,
+        }
+    }
+
+    /// The search comes to a place.
+    pub(crate) fn count_try(&mut self)
+        requires { self.old.tried + 1 < 2 ^ 128 }
+        ensures { self.new ≡ record self.old { tried = self.old.tried + 1 } }
+    {
+        self.tried += 1;
+    }
+
+    /// It enters the place.
+    pub(crate) fn count_entry(&mut self)
+        requires { self.old.entered + 1 < 2 ^ 128 }
+        ensures { self.new ≡ record self.old { entered = self.old.entered + 1 } }
+    {
+        self.entered += 1;
+    }
+
+    /// It looks up what stands there.
+    pub(crate) fn count_look(&mut self)
+        requires { self.old.looked + 1 < 2 ^ 128 }
+        ensures { self.new ≡ record self.old { looked = self.old.looked + 1 } }
+    {
+        self.looked += 1;
+    }
+
+    /// How often the search came to a place, by an arrow or to start there.
+    pub fn tried(&self) -> u128
+        ensures { result ≡ self.now.tried }
+    {
+        self.tried
+    }
+
+    /// How often it entered a place, at most once at each position.
+    pub fn entered(&self) -> u128
+        ensures { result ≡ self.now.entered }
+    {
+        self.entered
+    }
+
+    /// How often it looked up what stands at a place.
+    pub fn looked(&self) -> u128
+        ensures { result ≡ self.now.looked }
+    {
+        self.looked
+    }
+}
