@@ -232,21 +232,20 @@ impl RegexBuilder {
     pub fn build(&self) -> Result<Regex, Error>
         ensures { Builds self.now result }
     {
+        let alloc = self.alloc;
         let config = Config {
             flags: self.flags,
             nest_limit: self.nest_limit,
         };
-        let hir = Hir::parse(self.alloc, config, self.pattern.as_str())?;
-        let graph = Graph::new(self.alloc, &hir, self.size_limit)?;
+        let hir = Hir::parse(alloc, config, self.pattern.as_str())?;
+        let graph = Graph::new(alloc, &hir, self.size_limit)?;
         let compiled = Compiled {
             pattern: self.pattern.clone()?,
             flags: config.flags,
             hir,
             graph,
         };
-        Ok(Regex {
-            alloc: self.alloc,
-            compiled: Rc::new(self.alloc, compiled)?,
-        })
+        let compiled = Rc::new(alloc, compiled)?;
+        Ok(Regex { alloc, compiled })
     }
 }

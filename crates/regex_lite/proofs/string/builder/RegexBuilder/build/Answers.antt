@@ -28,7 +28,7 @@ returns c =
     let read : IsReadAs c.args.self.now (tree_of c.in_ok-hir.hir) =
     rw (← c.self.view_is, ← c.as_str.ensures.value) c.in_ok-hir.ensures.tree in
     record {
-      ok = rw (c.in_ok-new.ensures.ok, c.in_ok-clone.ensures.cases, ← c.self.view_is) refl;
+      ok = rw (c.in_ok-compiled.ensures.ok, c.in_ok-clone.ensures.cases, ← c.self.view_is) refl;
       accepted = (tree_of c.in_ok-hir.hir, read, rw (← c.self.view_is) c.in_ok-graph.ensures.fits);
       refused = tt;
       complete = tt;
