@@ -237,7 +237,7 @@ impl Counts {
     pub(crate) fn within(&self, size_limit: usize) -> Result<u32, LimitFault>
         ensures ok { (tree : Tree) → AreCountsOf tree self.now
             → IfOk result (λ places. (places ≡ whole_places tree) × Fits size_limit tree) }
-        ensures err { (tree : Tree) → AreCountsOf tree self.now
+        ensures refused { (tree : Tree) → AreCountsOf tree self.now
             → IfErr result (λ fault. IsDueToTree size_limit tree (kind_of (passed_limit fault))) }
     {
         if self.size() > size_limit as u128 {

@@ -7,8 +7,8 @@ above (_, kept) over = by_cases kept over
     by_cases : {size counted limit : ℕ} → (size ≤ limit → counted ≤ limit) → limit < counted → limit < size
     by_cases kept over = grind arith
 
-pub returns-then-size-size_limit-clause-err : goal.returns-then-size-size_limit-clause-err
-returns-then-size-size_limit-clause-err c = λ tree counted.
+pub returns-then-size-size_limit-clause-refused : goal.returns-then-size-size_limit-clause-refused
+returns-then-size-size_limit-clause-refused c = λ tree counted.
     above (c.size.ensures tree c.args.size_limit counted (omega arith)) c.if-size-size_limit.true
 
 pub returns-in-Ok-clause-ok : goal.returns-in-Ok-clause-ok
