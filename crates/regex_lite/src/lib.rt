@@ -19,6 +19,9 @@
 //!
 //! What a pattern means is stated in `specs/`: the grammar says which tree a pattern stands for,
 //! and the match relation says which parts of a haystack a tree matches.
+//!
+//! A [`RegexBuilder`] has the pattern read and written out by the two crates below; what it builds
+//! is shared by the clones of a [`Regex`]. `string` holds these types, and `plain` the search.
 #![tactic(auto)]
 
 mod plain;

@@ -222,7 +222,8 @@ fn after_between(
     requires over { IsOver haystack.now from.now }
     requires in_order { least ≤ most }
     ensures { IfOk result
-        (IsReached (SomePasses (Matches haystack.now (tree_of body.now)) least (Some most)) from.now) }
+        (IsReached (SomePasses (Matches haystack.now (tree_of body.now)) least (Some most))
+        from.now) }
 {
     let mut reached = after_passes(alloc, least, body, haystack, from)?;
     for _ in least..most {

@@ -1,4 +1,7 @@
 //! Asks regular expressions about standard input.
+//!
+//! `main` gathers the arguments and the standard streams of the process; `program` does the work
+//! over any reader and writers, and `fault` says why a run ends without an answer.
 #![tactic(auto)]
 
 mod fault;

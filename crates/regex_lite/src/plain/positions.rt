@@ -34,7 +34,7 @@ impl Positions {
         Ok(Positions { held })
     }
 
-    /// The same set once more.
+    /// A copy of the set.
     pub(super) fn try_clone(&self) -> Result<Positions, AllocError>
         ensures { IfOk result (λ set. set ≡ self.now) }
     {

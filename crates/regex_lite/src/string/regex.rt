@@ -59,7 +59,7 @@ impl Regex {
         RegexBuilder::new(alloc, pattern)?.build()
     }
 
-    /// The same as [`Regex::new`], with the same errors.
+    /// The regex of a pattern under the default settings, with the errors of [`Regex::new`].
     ///
     /// ```
     /// let regex = Regex::from_str(alloc, "(a)")?;
@@ -73,7 +73,7 @@ impl Regex {
         Regex::new(alloc, s)
     }
 
-    /// The same as [`Regex::new`], with the same errors.
+    /// The regex of a pattern under the default settings, with the errors of [`Regex::new`].
     ///
     /// ```
     /// let regex = Regex::try_from(alloc, "(a)")?;
@@ -87,8 +87,8 @@ impl Regex {
         Regex::from_str(alloc, s)
     }
 
-    /// The same as [`Regex::new`], with the same errors, for a pattern that is owned. A refused one
-    /// is dropped.
+    /// The regex of an owned pattern under the default settings, with the errors of
+    /// [`Regex::new`]. A refused pattern is dropped.
     ///
     /// ```
     /// let regex = Regex::try_from_string(alloc, String::from_str(alloc, "(a)")?)?;

@@ -55,7 +55,8 @@ module _ {A : Type 0} where
   -- the body and what else there is, the body preferred where the repetition is greedy
   abbrev pub choice : (greedy : Bool) → (body other : A) → Place A
   choice greedy body other =
-      if greedy then with_arrows (go body ∷ go other ∷ []) else with_arrows (go other ∷ go body ∷ [])
+      if greedy then with_arrows (go body ∷ go other ∷ [])
+      else with_arrows (go other ∷ go body ∷ [])
 
   -- where this character is read
   abbrev pub one_char : ℕ → A → Place A

@@ -33,8 +33,10 @@ capture_layout index body base exit =
 abbrev pub alternation_layout : (branches : ℕ → ℕ → List (Place ℕ) × List ℕ)
     → (base exit : ℕ) → Fragment
 alternation_layout branches base exit =
-    let inner = branches (base + 1) base in
-    (with_arrows (go exit ∷ []) ∷ (inner.0 ++ with_arrows (map go inner.1) ∷ []), base + 1 + length inner.0)
+    let inner = branches (base + 1) base in (
+      with_arrows (go exit ∷ []) ∷ (inner.0 ++ with_arrows (map go inner.1) ∷ []),
+      base + 1 + length inner.0,
+    )
 
 module _ (body : ℕ → ℕ → Fragment) where
   -- so many copies in a row

@@ -123,7 +123,8 @@ impl Writer {
         }
     }
 
-    /// The same for a group: the place that closes it, its body, the place that opens it.
+    /// Writes a group: the place that closes it, its body, the place that opens it. Answers the
+    /// place where it is entered.
     #[cycle(write)]
     fn write_capture(&mut self, index: u32, body: &Hir, exit: u32) -> Result<u32, AllocError>
         requires room { length self.old + (places (tree_of body.now) + 2) < 2 ^ 32 }
@@ -145,7 +146,8 @@ impl Writer {
         })
     }
 
-    /// The same for a concatenation, the last part first.
+    /// Writes the parts of a concatenation, the last one first. Answers the place where the
+    /// first is entered.
     #[cycle(write)]
     fn write_concat(&mut self, parts: &[Hir], exit: u32) -> Result<u32, AllocError>
         requires room { length self.old + places_in (trees (map tree_of parts.now)) < 2 ^ 32 }
@@ -163,7 +165,8 @@ impl Writer {
         Ok(next)
     }
 
-    /// The same for alternatives: the join behind them, the branches in order, the choice.
+    /// Writes alternatives: the join behind them, the branches in order, the choice. Answers the
+    /// choice.
     #[cycle(write)]
     fn write_alternation(&mut self, branches: &[Hir], exit: u32) -> Result<u32, AllocError>
         requires room { let parts = trees (map tree_of branches.now) in

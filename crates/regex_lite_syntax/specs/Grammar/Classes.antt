@@ -56,7 +56,8 @@ pub data ClassItem (verbose : Bool) (t rest : Text) (s : Set) : Type 0 where
       → ClassItem verbose t rest s
   escaped_set : (set : Set) → BeginsItem t → ClassElement verbose t rest (some_of set)
       → ((last : Text) → RangeFollows verbose rest last → ⊥) → s ≡ set → ClassItem verbose t rest s
-  range : (start end : ℕ) (past last : Text) → BeginsItem t → ClassElement verbose t past (one start)
+  range : (start end : ℕ) (past last : Text) → BeginsItem t
+      → ClassElement verbose t past (one start)
       → RangeFollows verbose past last → ClassElement verbose last rest (one end) → start ≤ end
       → s ≡ span start end → ClassItem verbose t rest s
 
@@ -78,9 +79,10 @@ abbrev pub FirstBracket : (verbose : Bool) → (dashes : ℕ) → Text → Text 
 FirstBracket verbose zero t rest taken = Takes verbose (the "]") t rest taken
 FirstBracket verbose (suc n) t rest taken = (t ≡ rest) × (taken ≡ false)
 
--- what a class begins with, from its opening bracket on: `^` where it is negated, and then dashes, or
--- where there are none a `]`, each for itself
-pub record ClassOpening (verbose : Bool) (t rest : Text) (negated dash bracket : Bool) : Type 0 where
+-- what a class begins with, from its opening bracket on: `^` where it is negated, and then dashes,
+-- or where there are none a `]`, each for itself
+pub record ClassOpening (verbose : Bool) (t rest : Text) (negated dash bracket : Bool)
+    : Type 0 where
   pub opened : Text
   pub first : Text
   pub past_caret : Text

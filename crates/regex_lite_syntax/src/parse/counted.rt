@@ -87,7 +87,8 @@ fn read_number(chars: &[char], at: usize, verbose: bool) -> Result<(usize, u32),
         (rest : Text) (n : ℕ) → Number verbose (drop at chars.now) rest n → EndsNumber rest
         → (rest ≡ drop r.0 chars.now) × (n ≡ r.1)) }
     ensures refused { OnErr result
-        (¬ ((rest : Text) × (n : ℕ) × Number verbose (drop at chars.now) rest n × EndsNumber rest)) }
+        (¬ ((rest : Text) × (n : ℕ) × Number verbose (drop at chars.now) rest n
+        × EndsNumber rest)) }
 {
     let first = skip_side(chars, at, verbose);
     let mut end = first;
