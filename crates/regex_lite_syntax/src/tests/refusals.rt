@@ -121,7 +121,7 @@ fn counted_operators(rt: HostRuntime) -> Result<(), Fail> {
         ),
         (
             "a{5,6",
-            "found counted repetition with least and most that is unclosed",
+            "found counted repetition with min and max that is unclosed",
         ),
         ("a{5,6Z", no_brace),
         ("a{5Z}", no_brace),
