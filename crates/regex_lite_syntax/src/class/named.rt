@@ -60,7 +60,7 @@ impl NamedSet {
 }
 
 /// The ranges with these ends.
-fn ranges_of(alloc: Global, ends: &[(char, char)]) -> Result<Vec<ClassRange>, AllocError>
+pub(crate) fn ranges_of(alloc: Global, ends: &[(char, char)]) -> Result<Vec<ClassRange>, AllocError>
     ensures { IfOk result (λ ranges. ranges.items ≡ map range_of ends.now) }
 {
     ends.iter()
