@@ -81,11 +81,11 @@ impl Hir {
     }
 }
 
-/// The characters of a pattern.
-fn characters(alloc: Global, pattern: &str) -> Result<Vec<char>, AllocError>
-    ensures { IfOk result (λ v. v.items ≡ chars pattern.now) }
+/// The characters of a text.
+pub fn characters(alloc: Global, text: &str) -> Result<Vec<char>, AllocError>
+    ensures { IfOk result (λ found. found.items ≡ chars text.now) }
 {
-    pattern.chars().collect(alloc)
+    text.chars().collect(alloc)
 }
 
 /// The tree of the pattern with these characters.

@@ -1,12 +1,11 @@
 //! Searches: whether and where a regex matches in a haystack.
-ghost use Rattle.std.specs.Prelude.{◌≡◌, ◌↔◌, IfOk, IfErr, IsTrue, chars};
+ghost use Rattle.std.specs.Prelude.{◌≡◌, ◌↔◌, IfOk, IfErr, IsTrue};
 ghost use Rattle.regex_lite_syntax.specs.Errors.{out_of_memory};
 ghost use Rattle.regex_lite.specs.Expression.{MatchesIn};
 
 use crate::plain::has_match;
 use crate::string::regex::Regex;
-use regex_lite_syntax::Error;
-use std::alloc::{AllocError, Global};
+use regex_lite_syntax::{Error, characters};
 
 impl Regex {
     /// Whether the pattern matches somewhere in the haystack.
@@ -31,11 +30,4 @@ impl Regex {
         let found = has_match(self.alloc, &self.compiled.hir, text.as_slice())?;
         Ok(found)
     }
-}
-
-/// The characters of a text.
-fn characters(alloc: Global, text: &str) -> Result<Vec<char>, AllocError>
-    ensures { IfOk result (λ found. found.items ≡ chars text.now) }
-{
-    text.chars().collect(alloc)
 }
