@@ -47,7 +47,7 @@ fn expect_refusal<H: Abort + AllocGlobal>(
     text: &str,
 ) -> Result<(), Fail> {
     match built {
-        Ok(_) => assert!(rt; false, "{name:?} is accepted"),
+        Ok(_regex) => assert!(rt; false, "{name:?} is accepted"),
         Err(error) => {
             assert_eq!(rt; error.kind(), kind, "{name:?}");
             let written = format!(in rt.alloc(); "{error}")?;
