@@ -3,7 +3,7 @@ ghost use Rattle.std.specs.Prelude.{◌≡◌, ◌+◌, ◌^◌, ◌<◌, ℕ, l
 ghost use Rattle.regex_lite_syntax.specs.Errors.{kind_of};
 ghost use Rattle.regex_lite_syntax.specs.Tree.Regular.{IsRegular};
 ghost use Rattle.regex_lite_syntax.specs.Tree.Properties.{captures_len, group_name};
-ghost use Rattle.regex_lite_syntax.specs.Tree.Views.{text_of_string, tree_of};
+ghost use Rattle.regex_lite_syntax.specs.Tree.Views.{text_of_name, tree_of};
 ghost use Rattle.regex_lite_engine.specs.Graph.Renumbered.{IsGraphOf, HasGroupsOf};
 ghost use Rattle.regex_lite_engine.specs.Graph.Size.{Fits, IsDueToTree};
 ghost use Rattle.regex_lite_engine.specs.Graph.Stored.{LeadsBelow, place_of};
@@ -20,6 +20,7 @@ use place::Place;
 use regex_lite_syntax::{Error, Hir};
 use std::alloc::{AllocError, Global};
 use std::marker::Model;
+use std::rc::RcStr;
 use write::write_out;
 
 /// A pattern that is written out as a graph: a search starts at one place, and follows the arrows
@@ -30,8 +31,8 @@ pub struct Graph {
     /// Where a search starts.
     start: u32,
     arrows: usize,
-    /// The names of the groups by index.
-    capture_names: Vec<Option<String>>,
+    /// The names of the groups by index, shared with the tree.
+    capture_names: Vec<Option<RcStr>>,
     static_captures_len: Option<usize>,
 }
 
@@ -61,8 +62,8 @@ impl Graph {
     ///
     /// `Size` where the size is above the limit, `Places` where there are more places than can be
     /// numbered, `Slots` where a group's slots can't be numbered, and `Memory` where a growth was
-    /// refused or a set has as many owners as can be counted. Where several limits are passed, any
-    /// of them may be named.
+    /// refused or a set or a name has as many owners as can be counted. Where several limits are
+    /// passed, any of them may be named.
     pub fn new(alloc: Global, hir: &Hir, size_limit: usize) -> Result<Graph, Error>
         requires { IsRegular (tree_of hir.now) }
         ensures ok { IfOk result (λ graph. IsGraphOf (tree_of hir.now) graph) }
@@ -121,7 +122,7 @@ impl Graph {
     }
 
     /// The names of the groups by index, group 0 first.
-    pub fn capture_names(&self) -> &[Option<String>]
+    pub fn capture_names(&self) -> &[Option<RcStr>]
         ensures { result.now ≡ self.now.capture_names }
     {
         &self.capture_names
@@ -141,12 +142,12 @@ fn capture_names(
     alloc: Global,
     hir: &Hir,
     counts: &Counts,
-) -> Result<Vec<Option<String>>, AllocError>
+) -> Result<Vec<Option<RcStr>>, AllocError>
     requires { AreCountsOf (tree_of hir.now) counts.now }
     ensures each_group { IfOk result (λ names.
         length names.items ≡ captures_len (tree_of hir.now)) }
     ensures names { IfOk result (λ names. (k : ℕ)
-        → slice_index_or (map (option_map text_of_string) names.items) k None
+        → slice_index_or (map (option_map text_of_name) names.items) k None
         ≡ group_name (tree_of hir.now) k) }
 {
     let len = counts.captures_len();

@@ -1,5 +1,6 @@
 -- Tables of names that have none.
-use Rattle.std.proofs.Common.{◌≡◌, ◌∙◌, refl, ap, ℕ, zero, suc, List, Option, None, String, Global, replicate}
+use Rattle.std.proofs.Common.{◌≡◌, ◌∙◌, refl, ap, ℕ, zero, suc, List, Option, None, Global, replicate}
+use Rattle.std.specs.declared.rc.RcStr.{RcStr}
 use Rattle.regex_lite_syntax.specs.Tree.NameTables.{name_at}
 
 none_at : (n k : ℕ) → name_at (replicate n None) k ≡ None
@@ -8,6 +9,6 @@ none_at (suc n) zero = refl
 none_at (suc n) (suc k) = none_at n k
 
 -- a table of nothing has no name at any index
-pub unnamed : (n : ℕ) (table : List (Option (String Global))) → table ≡ replicate n None
+pub unnamed : (n : ℕ) (table : List (Option (RcStr Global))) → table ≡ replicate n None
     → (k : ℕ) → name_at table k ≡ None
 unnamed n table is k = ap (λ names. name_at names k) is ∙ none_at n k

@@ -2,7 +2,7 @@
 ghost use Rattle.std.specs.Prelude.{◌≡◌, ◌<◌, ◌↔◌, map, option_map, IsTrue, IfOk};
 ghost use Rattle.regex_lite_syntax.specs.Tree.{class, capture, sequence_of, choice_of, repeated, trees as trees_of};
 ghost use Rattle.regex_lite_syntax.specs.Limits.{depth, depth_of_list};
-ghost use Rattle.regex_lite_syntax.specs.Tree.Views.{text_of_string, tree_of};
+ghost use Rattle.regex_lite_syntax.specs.Tree.Views.{text_of_name, tree_of};
 
 pub(crate) mod look;
 mod names;
@@ -11,7 +11,7 @@ pub(crate) mod properties;
 use crate::class::Class;
 use look::Look;
 use std::alloc::{AllocError, Global};
-use std::rc::Rc;
+use std::rc::{Rc, RcStr};
 
 /// A pattern as a tree.
 pub enum Hir {
@@ -32,9 +32,10 @@ pub enum Hir {
         body: Box<Hir>,
     },
     /// `body`, whose span is that of the group with this index, and with this name if it has one.
+    /// Whatever is made of the tree shares the name with it.
     Capture {
         index: u32,
-        name: Option<String>,
+        name: Option<RcStr>,
         body: Box<Hir>,
     },
     /// One after another.
@@ -109,11 +110,11 @@ impl Hir {
     pub(crate) fn capture(
         alloc: Global,
         index: u32,
-        name: Option<String>,
+        name: Option<RcStr>,
         body: Hir,
     ) -> Result<Hir, AllocError>
         ensures { IfOk result (λ hir.
-            tree_of hir ≡ capture index (option_map text_of_string name) (tree_of body)) }
+            tree_of hir ≡ capture index (option_map text_of_name name) (tree_of body)) }
     {
         let body = Box::new(alloc, body)?;
         Ok(Hir::Capture { index, name, body })

@@ -1,25 +1,27 @@
 //! The names of a regex's groups, one after another.
-ghost use Rattle.std.specs.Prelude.{◌≡◌, Some, IfSome, length, map, option_map, string_bytes, ⊤};
+ghost use Rattle.std.specs.Prelude.{◌≡◌, Some, IfSome, length, map, option_map, ⊤};
 ghost use Rattle.std.specs.Iterator.{YieldsFirstBy, UpTo, item_count};
 ghost use Rattle.std.specs.Iterator.SizeHint.{IsWithinCount};
+ghost use Rattle.std.specs.Rc.{rc_str_bytes};
 
 use std::alloc::AllocError;
 use std::iter::FusedIterator;
+use std::rc::RcStr;
 
 /// The names of a regex's groups by index, from group 0 on: `None` for a group that has no name.
 ///
 /// How many are left is known exactly. A clone goes on from the same name, and takes no memory.
 #[derive(Debug, Drop)]
 pub struct CaptureNames<'r> {
-    names: &'r [Option<String>],
+    names: &'r [Option<RcStr>],
 }
 
 impl<'r> CaptureNames<'r> {
     ghost use Rattle.regex_lite.specs.CaptureNames.{names_left};
 
     /// These names, in this order.
-    pub(crate) fn new(names: &'r [Option<String>]) -> CaptureNames<'r>
-        ensures { names_left result ≡ map (option_map string_bytes) names.now }
+    pub(crate) fn new(names: &'r [Option<RcStr>]) -> CaptureNames<'r>
+        ensures { names_left result ≡ map (option_map rc_str_bytes) names.now }
     {
         CaptureNames { names }
     }

@@ -3,7 +3,7 @@
 use Rattle.std.specs.Prelude.{◌≡◌, ◌<◌, ℕ, List, map, option_map, length, slice_get, slice_index_or, Some, None, sum_by}
 use Rattle.regex_lite_syntax.specs.Tree.{Tree}
 use Rattle.regex_lite_syntax.specs.Tree.Properties.{captures_len, group_name, static_captures_len}
-use Rattle.regex_lite_syntax.specs.Tree.Views.{text_of_string}
+use Rattle.regex_lite_syntax.specs.Tree.Views.{text_of_name}
 use Rattle.regex_lite_engine.specs.Graph.Places.{Arrow, Place, complete, with_arrows}
 use Rattle.regex_lite_engine.specs.Graph.Addresses.{Address}
 use Rattle.regex_lite_engine.specs.Graph.Repetitions.{Content}
@@ -59,6 +59,6 @@ pub record IsGraphOf (tree : Tree) (graph : StoredGraph) : Type 0 where
 pub record HasGroupsOf (tree : Tree) (graph : StoredGraph) : Type 0 where
   pub captures : length graph.capture_names ≡ captures_len tree
   pub names : (k : ℕ)
-      → slice_index_or (map (option_map text_of_string) graph.capture_names) k None
+      → slice_index_or (map (option_map text_of_name) graph.capture_names) k None
       ≡ group_name tree k
   pub static_captures : graph.static_captures_len ≡ static_captures_len tree

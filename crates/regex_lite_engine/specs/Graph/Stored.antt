@@ -1,6 +1,7 @@
 -- Graphs as they are stored: a table of numbered places, and what is known of it.
-use Rattle.std.specs.Prelude.{◌≡◌, ℕ, ◌^◌, ◌<◌, List, [], ◌∷◌, map, length, slice_get, Option, Some, String}
+use Rattle.std.specs.Prelude.{◌≡◌, ℕ, ◌^◌, ◌<◌, List, [], ◌∷◌, map, length, slice_get, Option, Some}
 use Rattle.std.specs.declared.alloc.Global.{Global}
+use Rattle.std.specs.declared.rc.RcStr.{RcStr}
 use Rattle.regex_lite_engine.specs.Graph.Places.{Arrow, Place, complete, with_arrows, go, go_marking, go_holding, one_char, one_of}
 use Rattle.regex_lite_engine.specs.declared.nfa.place.Place as code
 use Rattle.regex_lite_engine.specs.declared.nfa.place.Place.TheVariants as stored
@@ -13,7 +14,7 @@ pub record StoredGraph : Type 0 where
   -- how many arrows the places have
   pub arrows : ℕ
   -- by index
-  pub capture_names : List (Option (String Global))
+  pub capture_names : List (Option (RcStr Global))
   pub static_captures_len : Option ℕ
 
 -- the place that is stored

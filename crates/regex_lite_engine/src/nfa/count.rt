@@ -8,7 +8,7 @@ ghost use Rattle.regex_lite_syntax.specs.Errors.{kind_of, passed_limit};
 ghost use Rattle.regex_lite_syntax.specs.Tree.Regular.{IsRegular};
 ghost use Rattle.regex_lite_syntax.specs.Tree.{Tree, Trees, class, repetition, capture, concat, alternation, none, more, trees};
 ghost use Rattle.regex_lite_syntax.specs.Tree.Properties.{captures_len, static_captures_len};
-ghost use Rattle.regex_lite_syntax.specs.Tree.Views.{text_of_string, tree_of};
+ghost use Rattle.regex_lite_syntax.specs.Tree.Views.{text_of_name, tree_of};
 ghost use Rattle.regex_lite_engine.specs.Graph.Size.{name_size, size, Fits, IsDueToTree};
 ghost use Rattle.regex_lite_engine.specs.Graph.PlaceCounts.{whole_places, whole_arrows};
 ghost use Rattle.regex_lite_engine.specs.Nfa.Saturation.{saturated, AreCountsOf, AreSumsOf};
@@ -17,6 +17,7 @@ mod copies;
 
 use copies::{OwnPlaces, copies};
 use regex_lite_syntax::{Class, Hir, LimitFault, Properties};
+use std::rc::RcStr;
 
 /// What a tree takes when it is written out. A number that cannot be stored stops at the greatest
 /// one.
@@ -203,9 +204,9 @@ impl Counts {
     }
 
     /// What a group round this takes.
-    fn captured(self, index: u32, name: &Option<String>) -> Counts
+    fn captured(self, index: u32, name: &Option<RcStr>) -> Counts
         ensures { (body : Tree) → AreCountsOf body self
-            → AreCountsOf (capture index (option_map text_of_string name.now) body) result }
+            → AreCountsOf (capture index (option_map text_of_name name.now) body) result }
     {
         Counts {
             places: self.places.saturating_add(2),
@@ -291,8 +292,8 @@ impl Counts {
 }
 
 /// What the name takes, if there is one.
-fn name_size(name: &Option<String>) -> u64
-    ensures { result ≡ saturated (name_size (option_map text_of_string name.now)) }
+fn name_size(name: &Option<RcStr>) -> u64
+    ensures { result ≡ saturated (name_size (option_map text_of_name name.now)) }
 {
     match name {
         None => 0,

@@ -13,12 +13,12 @@ use Rattle.regex_lite_syntax.specs.Grammar.Points.{Point, onward}
 use Rattle.regex_lite_syntax.specs.Grammar.Heads.{GroupKind, non_capturing, capturing, numbered_on, inside, Head}
 use Rattle.regex_lite_syntax.specs.Parser.Machine.{Frame, State, Step, ended, opened, closed, parted, with_items}
 use Rattle.regex_lite_syntax.specs.Limits.{PassesGroups, depth}
-use Rattle.regex_lite_syntax.specs.Tree.Views.{text_of_string, tree_of}
+use Rattle.regex_lite_syntax.specs.Tree.Views.{text_of_name, tree_of}
 
 -- the kind of a group
 abbrev pub group_kind : Kind → GroupKind
 group_kind NonCapturing = non_capturing
-group_kind (Capturing index name) = capturing index (option_map text_of_string name)
+group_kind (Capturing index name) = capturing index (option_map text_of_name name)
 
 -- the frame of an open group
 abbrev pub frame_of : OpenGroup → Frame

@@ -1,19 +1,21 @@
 -- The values of the code as those that the definitions speak of.
-use Rattle.std.specs.Prelude.{List, map, option_map, chars, string_bytes, String}
+use Rattle.std.specs.Prelude.{List, map, option_map, chars}
+use Rattle.std.specs.Rc.{rc_str_bytes}
 use Rattle.std.specs.declared.alloc.Global.{Global}
+use Rattle.std.specs.declared.rc.RcStr.{RcStr}
 use Rattle.regex_lite_syntax.specs.Text.{Text}
 use Rattle.regex_lite_syntax.specs.Tree.{Tree, trees, empty, character, class, look, repetition, capture, concat, alternation}
 use Rattle.regex_lite_syntax.specs.declared.hir.Hir.{Hir}
 use Rattle.regex_lite_syntax.specs.declared.hir.Hir.TheOpen.{Hir-F}
 use Rattle.regex_lite_syntax.specs.declared.hir.Hir.TheFolds.{fold-Hir}
 
--- the characters of a string
-abbrev pub text_of_string : String Global → Text
-text_of_string s = chars (string_bytes s)
+-- the characters of a name
+abbrev pub text_of_name : RcStr Global → Text
+text_of_name name = chars (rc_str_bytes name)
 
 -- those of each of the names
-abbrev pub names_of : List (String Global) → List Text
-names_of names = map text_of_string names
+abbrev pub names_of : List (RcStr Global) → List Text
+names_of names = map text_of_name names
 
 -- one node, with a tree in the place of each child
 abbrev pub node_tree : Hir-F Tree → Tree
@@ -23,7 +25,7 @@ node_tree (Hir-F.Class set) = class set.value
 node_tree (Hir-F.Look test) = look test
 node_tree (Hir-F.Repetition least most greedy body) = repetition least most greedy body.value
 node_tree (Hir-F.Capture index name body) =
-    capture index (option_map text_of_string name) body.value
+    capture index (option_map text_of_name name) body.value
 node_tree (Hir-F.Concat parts) = concat (trees parts.items)
 node_tree (Hir-F.Alternation branches) = alternation (trees branches.items)
 

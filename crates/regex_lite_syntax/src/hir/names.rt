@@ -3,24 +3,21 @@ ghost use Rattle.std.specs.Prelude.{◌≡◌, ◌<◌, ℕ, None, IfOk, length,
 ghost use Rattle.regex_lite_syntax.specs.Tree.Properties.{captures_len, greatest_index, greatest_index_in, group_name, group_name_in};
 ghost use Rattle.regex_lite_syntax.specs.Tree.{trees as trees_of};
 ghost use Rattle.regex_lite_syntax.specs.Tree.NameTables.{AddsNames, name_if_at};
-ghost use Rattle.regex_lite_syntax.specs.Tree.Views.{text_of_string, tree_of};
+ghost use Rattle.regex_lite_syntax.specs.Tree.Views.{text_of_name, tree_of};
 
 use super::Hir;
 use std::alloc::{AllocError, Global};
+use std::rc::RcStr;
 
 impl Hir {
-    /// The names of the groups by index, group 0 first.
+    /// The names of the groups by index, group 0 first. Each is shared with the tree.
     ///
     /// Condition: `len` is one more than the greatest index.
-    pub fn capture_names(
-        &self,
-        alloc: Global,
-        len: usize,
-    ) -> Result<Vec<Option<String>>, AllocError>
+    pub fn capture_names(&self, alloc: Global, len: usize) -> Result<Vec<Option<RcStr>>, AllocError>
         requires { len ≡ captures_len (tree_of self.now) }
         ensures each_group { IfOk result (λ names. length names.items ≡ len) }
         ensures names { IfOk result (λ names. (k : ℕ)
-            → slice_index_or (map (option_map text_of_string) names.items) k None
+            → slice_index_or (map (option_map text_of_name) names.items) k None
             ≡ group_name (tree_of self.now) k) }
     {
         let mut names = vec![in alloc; None; len]?;
@@ -31,7 +28,7 @@ impl Hir {
 
 /// Adds the names of a tree's groups to a table.
 #[cycle(add)]
-fn add_names(names: &mut [Option<String>], hir: &Hir) -> Result<(), AllocError>
+fn add_names(names: &mut [Option<RcStr>], hir: &Hir) -> Result<(), AllocError>
     requires { greatest_index (tree_of hir.now) < length names.old }
     ensures { IfOk result (λ _. AddsNames (group_name (tree_of hir.now)) names.old names.new) }
 {
@@ -48,7 +45,7 @@ fn add_names(names: &mut [Option<String>], hir: &Hir) -> Result<(), AllocError>
 
 /// Adds those of each of the trees.
 #[cycle(add)]
-fn add_all_names(names: &mut [Option<String>], trees: &[Hir]) -> Result<(), AllocError>
+fn add_all_names(names: &mut [Option<RcStr>], trees: &[Hir]) -> Result<(), AllocError>
     requires { greatest_index_in (trees_of (map tree_of trees.now)) < length names.old }
     ensures { IfOk result (λ _.
         AddsNames (group_name_in (trees_of (map tree_of trees.now))) names.old names.new) }
@@ -60,14 +57,10 @@ fn add_all_names(names: &mut [Option<String>], trees: &[Hir]) -> Result<(), Allo
 }
 
 /// Adds a group's name, if it has one, where the table has none yet.
-fn add_name(
-    names: &mut [Option<String>],
-    index: u32,
-    name: &Option<String>,
-) -> Result<(), AllocError>
+fn add_name(names: &mut [Option<RcStr>], index: u32, name: &Option<RcStr>) -> Result<(), AllocError>
     requires { index < length names.old }
     ensures { IfOk result (λ _.
-        AddsNames (name_if_at index (option_map text_of_string name.now)) names.old names.new) }
+        AddsNames (name_if_at index (option_map text_of_name name.now)) names.old names.new) }
 {
     if names[index as usize].is_none() {
         names[index as usize] = name.clone()?;

@@ -5,7 +5,7 @@ ghost use Rattle.regex_lite_syntax.specs.Limits.{PassesGroups};
 ghost use Rattle.regex_lite_syntax.specs.Text.{Text, the};
 ghost use Rattle.regex_lite_syntax.specs.Grammar.Gaps.{WholeGap};
 ghost use Rattle.regex_lite_syntax.specs.Grammar.GroupNames.{NameOpening, Named};
-ghost use Rattle.regex_lite_syntax.specs.Tree.Views.{text_of_string};
+ghost use Rattle.regex_lite_syntax.specs.Tree.Views.{text_of_name};
 ghost use Rattle.regex_lite_syntax.specs.Refusals.{Refuses};
 ghost use Rattle.regex_lite_syntax.specs.Parser.States.{group_kind, Advances, CanRead, BeginsTooMany, OpensGroup, OpensCapture, Closes, Directs};
 
@@ -14,10 +14,11 @@ use crate::flags::Flags;
 use crate::parse::Parser;
 use crate::parse::letters::read_head;
 use crate::parse::level::{GroupKind, Level, OpenGroup};
-use crate::parse::name::{read_name, skip_name_opening, string_of};
+use crate::parse::name::{name_of, read_name, skip_name_opening};
 use crate::parse::read::is_at;
 use std::alloc::AllocError;
 use std::mem;
+use std::rc::RcStr;
 
 impl Parser {
     /// A `(` stands at the index: a group begins, or a directive stands there.
@@ -57,9 +58,8 @@ impl Parser {
             Refuses (kind_of error) (¬ CanRead self.old t) ⊥ (BeginsTooMany self.old t)) }
     {
         let end = read_name(chars, start)?;
-        let letters = &chars[start..end - 1];
-        let name = string_of(self.alloc, letters)?;
-        if !self.names.insert(self.alloc, &name)? {
+        let name = name_of(self.alloc, &chars[start..end - 1])?;
+        if !self.names.insert(&name)? {
             return Err(SyntaxFault::DuplicateCaptureName.into());
         }
         self.open_capture(Some(name))?;
@@ -111,9 +111,9 @@ impl Parser {
     }
 
     /// A group with the next number begins.
-    fn open_capture(&mut self, name: Option<String>) -> Result<(), Error>
+    fn open_capture(&mut self, name: Option<RcStr>) -> Result<(), Error>
         ensures ok { OnOk result
-            (OpensCapture self.old self.new (option_map text_of_string name)) }
+            (OpensCapture self.old self.new (option_map text_of_name name)) }
         ensures refused { IfErr result (λ error.
             Refuses (kind_of error) ⊥ ⊥ (PassesGroups (self.old.groups + 1))) }
     {

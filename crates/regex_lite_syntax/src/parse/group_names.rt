@@ -1,5 +1,6 @@
 //! The names of the capturing groups that have been read.
-ghost use Rattle.std.specs.Prelude.{◌≡◌, ◌∷◌, ◌++◌, [], chars, Contains, IfOk, MatchBool};
+ghost use Rattle.std.specs.Prelude.{◌≡◌, ◌∷◌, ◌++◌, [], Contains, IfOk, MatchBool};
+ghost use Rattle.regex_lite_syntax.specs.Tree.Views.{text_of_name};
 
 #[cfg(test)]
 mod tests;
@@ -7,13 +8,14 @@ mod tests;
 use std::alloc::{AllocError, Global};
 use std::collections::BTreeSet;
 use std::marker::Model;
+use std::rc::RcStr;
 
 /// The names, in order.
 #[derive(Drop)]
 pub(crate) struct GroupNames {
-    in_order: Vec<String>,
-    // The same names. A pattern may have many, and each is looked for.
-    known: BTreeSet<String>,
+    in_order: Vec<RcStr>,
+    // The same names, shared. A pattern may have many, and each is looked for.
+    known: BTreeSet<RcStr>,
 }
 
 impl Model for GroupNames {
@@ -41,17 +43,17 @@ impl GroupNames {
     }
 
     /// Adds a name behind the others, unless it is there. The answer tells whether it is new.
-    pub(crate) fn insert(&mut self, alloc: Global, name: &str) -> Result<bool, AllocError>
+    pub(crate) fn insert(&mut self, name: &RcStr) -> Result<bool, AllocError>
         ensures { IfOk result (λ is_new. MatchBool is_new
-            ((self.new ≡ self.old ++ chars name.now ∷ [])
-            × (Contains self.old (chars name.now) → ⊥))
-            (Contains self.old (chars name.now))) }
+            ((self.new ≡ self.old ++ text_of_name name.now ∷ [])
+            × (Contains self.old (text_of_name name.now) → ⊥))
+            (Contains self.old (text_of_name name.now))) }
     {
         if self.known.contains(name) {
             return Ok(false);
         }
-        let key = String::from_str(alloc, name)?;
-        self.in_order.push(String::from_str(alloc, name)?)?;
+        let key = name.clone()?;
+        self.in_order.push(name.clone()?)?;
         if let Err(refused) = self.known.insert(key) {
             self.in_order.pop();
             return Err(refused.into());

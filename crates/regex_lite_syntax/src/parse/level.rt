@@ -9,6 +9,7 @@ use crate::flags::Flags;
 use crate::hir::Hir;
 use std::alloc::{AllocError, Global};
 use std::mem;
+use std::rc::RcStr;
 
 /// What a group makes of its alternatives.
 #[derive(Drop)]
@@ -16,7 +17,7 @@ pub(crate) enum GroupKind {
     /// They stand for themselves.
     NonCapturing,
     /// The group has this index, and this name if it has one.
-    Capturing { index: u32, name: Option<String> },
+    Capturing { index: u32, name: Option<RcStr> },
 }
 
 impl GroupKind {

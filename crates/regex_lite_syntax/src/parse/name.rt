@@ -2,7 +2,7 @@
 ghost use Rattle.std.specs.Prelude.{◌≡◌, ◌<◌, ◌≤◌, ◌-◌, ◌↔◌, drop, length, chars as chars_of, slice_range, IsTrue, Contains, IfOk, OnErr, IfSome, IfNone};
 ghost use Rattle.regex_lite_syntax.specs.Text.{Text};
 ghost use Rattle.regex_lite_syntax.specs.Grammar.GroupNames.{begins_name, continues_name, NameWritten, NameOpening, Named};
-ghost use Rattle.regex_lite_syntax.specs.Tree.Views.{text_of_string, names_of};
+ghost use Rattle.regex_lite_syntax.specs.Tree.Views.{text_of_name, names_of};
 
 #[cfg(test)]
 mod tests;
@@ -10,6 +10,7 @@ mod tests;
 use crate::error::SyntaxFault;
 use crate::parse::read::{char_at, is_at};
 use std::alloc::{AllocError, Global};
+use std::rc::RcStr;
 use unicode::properties::{GeneralCategory, is_alphabetic};
 
 /// Where a name begins: the index behind `?P<` or `?<`, if one of them stands there.
@@ -94,9 +95,10 @@ fn may_continue_name(c: char) -> bool
         )
 }
 
-/// The string of these characters.
-pub(crate) fn string_of(alloc: Global, name: &[char]) -> Result<String, AllocError>
-    ensures { IfOk result (λ s. text_of_string s ≡ name.now) }
+/// The name of these characters.
+pub(crate) fn name_of(alloc: Global, letters: &[char]) -> Result<RcStr, AllocError>
+    ensures { IfOk result (λ name. text_of_name name ≡ letters.now) }
 {
-    name.iter().copied().collect(alloc)
+    let text: String = letters.iter().copied().collect(alloc)?;
+    RcStr::from_string(text)
 }

@@ -1,15 +1,17 @@
--- What a name takes, by the bytes of its string.
-use Rattle.std.proofs.Common.{◌≡◌, refl, ◌==◌, Bool, true, false, Option, Some, None, ap, ◌∙◌, ℕ, List, [], ◌∷◌, length, String, Global, string_bytes, chars, length-append, arith}
+-- What a name takes, by the bytes of its text.
+use Rattle.std.proofs.Common.{◌≡◌, refl, ◌==◌, Bool, true, false, Option, Some, None, ap, ◌∙◌, ℕ, List, [], ◌∷◌, length, Global, length-append, arith}
 use Rattle.std.specs.Char.{len_utf8}
 use Rattle.std.specs.List.{sum_by}
 use Rattle.std.proofs.Math.Utf8.{encode, encodes}
 use Rattle.std.proofs.lemmas.List.Sums.{sum_by-cons}
 use Rattle.std.proofs.lemmas.Str.{IsUtf8-string_bytes, encodes-chars, length-encode}
 use Rattle.std.specs.Option.{option_or}
+use Rattle.std.specs.Rc.{rc_str_bytes}
+use Rattle.std.specs.declared.rc.RcStr.{RcStr}
 use Rattle.regex_lite_syntax.specs.Text.{Text}
 use Rattle.regex_lite_syntax.specs.Tree.{Tree, Trees, empty, character, class, look, repetition, capture, concat, alternation, none, more}
 use Rattle.regex_lite_syntax.specs.Tree.Properties.{name_if, group_name, group_name_in}
-use Rattle.regex_lite_syntax.specs.Tree.Views.{text_of_string}
+use Rattle.regex_lite_syntax.specs.Tree.Views.{text_of_name}
 use Rattle.regex_lite_engine.specs.Graph.Size.{name_size, names_size, names_size_in}
 
 -- characters have as many bytes as each of them, in all
@@ -18,10 +20,11 @@ bytes_of [] = refl
 bytes_of (c ∷ cs) =
     omega (arith, sum_by-cons len_utf8 c cs, length-append (encode c) (encodes cs), length-encode c, bytes_of cs)
 
-pub string_length : (s : String Global) → sum_by len_utf8 (text_of_string s) ≡ length (string_bytes s)
-string_length s =
-    bytes_of (chars (string_bytes s))
-    ∙ ap length (encodes-chars (string_bytes s) (IsUtf8-string_bytes s))
+pub name_length : (name : RcStr Global)
+    → sum_by len_utf8 (text_of_name name) ≡ length (rc_str_bytes name)
+name_length name =
+    bytes_of (text_of_name name)
+    ∙ ap length (encodes-chars (rc_str_bytes name) (IsUtf8-string_bytes name.text.value))
 
 no_name_here : (this : Bool) (name : Option Text) → name_size name ≡ 0 → name_if this name ≡ None
 no_name_here true None nothing = refl

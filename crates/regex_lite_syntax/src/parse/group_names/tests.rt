@@ -1,6 +1,7 @@
 //! Names that are added, and names that are there.
 
 use super::GroupNames;
+use std::rc::RcStr;
 use std::test::Fail;
 
 #[test]
@@ -15,7 +16,11 @@ fn added_once(rt: HostRuntime) -> Result<(), Fail> {
         ("名字", false),
         ("ab", false),
     ] {
-        assert_eq!(rt; names.insert(rt.alloc(), name)?, wanted, "at {name:?}");
+        assert_eq!(rt;
+            names.insert(&RcStr::from_str(rt.alloc(), name)?)?,
+            wanted,
+            "at {name:?}"
+        );
     }
     Ok(())
 }

@@ -1,13 +1,14 @@
 //! Which names are read, and why others are refused.
-use super::{read_name, skip_name_opening, string_of};
+use super::{name_of, read_name, skip_name_opening};
 use crate::error::SyntaxFault;
+use std::rc::RcStr;
 use std::test::Fail;
 
 /// Reads the text as a name from behind its `<` on: the index behind its `>`, and the name.
-fn read(rt: &HostRuntime, text: &str) -> Result<Result<(usize, String), SyntaxFault>, Fail> {
+fn read(rt: &HostRuntime, text: &str) -> Result<Result<(usize, RcStr), SyntaxFault>, Fail> {
     let chars: Vec<char> = text.chars().collect(rt.alloc())?;
     match read_name(&chars, 0) {
-        Ok(end) => Ok(Ok((end, string_of(rt.alloc(), &chars[..end - 1])?))),
+        Ok(end) => Ok(Ok((end, name_of(rt.alloc(), &chars[..end - 1])?))),
         Err(e) => Ok(Err(e)),
     }
 }

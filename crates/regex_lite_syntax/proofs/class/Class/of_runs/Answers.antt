@@ -1,4 +1,4 @@
-use Rattle.std.proofs.Common.{ap, ◌∙◌}
+use Rattle.std.proofs.Common.{ap}
 use Rattle.regex_lite_syntax.specs.Ranges.{in_ranges}
 use Rattle.regex_lite_syntax.proofs.class.AsciiMapLemmas.{bits_of_words}
 use Rattle.regex_lite_syntax.proofs.class.Class.of_runs.Goals as goal

@@ -1,6 +1,7 @@
 use Rattle.std.specs.Option.{option_or}
-use Rattle.std.proofs.Common.{rules, ◌≡◌, ◌∙◌, ap, arith, ℕ, List, ◌++◌, Option, None, String, Global, length, take, drop}
+use Rattle.std.proofs.Common.{rules, ◌≡◌, ◌∙◌, ap, arith, ℕ, List, ◌++◌, Option, None, Global, length, take, drop}
 use Rattle.std.proofs.lemmas.List.{take_at}
+use Rattle.std.specs.declared.rc.RcStr.{RcStr}
 use Rattle.regex_lite_syntax.specs.Tree.{Tree}
 use Rattle.regex_lite_syntax.specs.Tree.Properties.{group_name}
 use Rattle.regex_lite_syntax.specs.Tree.Views.{tree_of}
@@ -9,7 +10,7 @@ use Rattle.regex_lite_syntax.proofs.NameTableLemmas.{unnamed}
 use Rattle.regex_lite_syntax.proofs.hir.Hir.capture_names.Goals as goal
 
 -- what is added to a table without names is all that it has
-filled : (tree : Tree) (before after : List (Option (String Global)))
+filled : (tree : Tree) (before after : List (Option (RcStr Global)))
     → ((k : ℕ) → name_at before k ≡ None) → AddsNames (group_name tree) before after
     → (k : ℕ) → name_at after k ≡ group_name tree k
 filled tree before after none added k =

@@ -1,5 +1,6 @@
-use Rattle.std.proofs.Common.{◌≡◌, ◌∙◌, ◌⊎◌, inl, inr, sym, ap, subst, IfOk, Result, List, Option, String, Vec, Global, map}
+use Rattle.std.proofs.Common.{◌≡◌, ◌∙◌, ◌⊎◌, inl, inr, sym, ap, subst, IfOk, Result, List, Option, Vec, Global, map}
 use Rattle.std.specs.declared.alloc.AllocError.{AllocError}
+use Rattle.std.specs.declared.rc.RcStr.{RcStr}
 use Rattle.regex_lite_syntax.specs.Tree.Properties.{group_name, group_name_in}
 use Rattle.regex_lite_syntax.specs.Tree.{Tree, trees as trees_of}
 use Rattle.regex_lite_syntax.specs.Tree.Views.{tree_of}
@@ -10,7 +11,7 @@ use Rattle.regex_lite_syntax.proofs.hir.names.+add.Goals as goal
 use Rattle.regex_lite_syntax.proofs.TreeLemmas.{tree_of-Concat, tree_of-Alternation}
 
 -- the names of a list of trees are those of the node that has them
-of_node : (result : Result (Unit {0}) AllocError) (before after : List (Option (String Global)))
+of_node : (result : Result (Unit {0}) AllocError) (before after : List (Option (RcStr Global)))
     (hir : Hir) (parts : Vec Hir Global) → (hir ≡ Concat parts) ⊎ (hir ≡ Alternation parts)
     → IfOk result
     (λ _. AddsNames (group_name_in (trees_of (map tree_of parts.items))) before after)

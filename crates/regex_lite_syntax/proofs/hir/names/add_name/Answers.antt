@@ -1,10 +1,11 @@
 use Rattle.std.specs.Option.{option_or}
-use Rattle.std.proofs.Common.{rules, ◌≡◌, ◌≢◌, ◌==◌, ◌<◌, ◌∙◌, refl, sym, ap, ℕ, Bool, true, false, List, Option, Some, None, String, Global, map, option_map, length, get_or, slice_set, get_or-set_same, get_or-set_other}
+use Rattle.std.proofs.Common.{rules, ◌≡◌, ◌≢◌, ◌==◌, ◌<◌, ◌∙◌, refl, sym, ap, ℕ, Bool, true, false, List, Option, Some, None, Global, map, option_map, length, get_or, slice_set, get_or-set_same, get_or-set_other}
 use Rattle.std.proofs.lemmas.Bool.{eqb-true, eq-eqb}
 use Rattle.std.proofs.lemmas.List.{map-set, length-map, get_or-map}
+use Rattle.std.specs.declared.rc.RcStr.{RcStr}
 use Rattle.regex_lite_syntax.specs.Text.{Text}
 use Rattle.regex_lite_syntax.specs.Tree.Properties.{name_if}
-use Rattle.regex_lite_syntax.specs.Tree.Views.{text_of_string}
+use Rattle.regex_lite_syntax.specs.Tree.Views.{text_of_name}
 use Rattle.regex_lite_syntax.specs.Tree.NameTables.{AddsNames, name_at, name_if_at}
 use Rattle.regex_lite_syntax.proofs.hir.names.add_name.Goals as goal
 
@@ -27,25 +28,25 @@ added_at table index k name false e inside free =
     (λ same. let hit : (index == k) ≡ true = eq-eqb index k (sym same) in cc) in
     get_or-set_other table index k name None other ∙ sym (option_or-none (get_or table k None))
 
-added : (table : List (Option (String Global))) (index : ℕ) (name copy : Option (String Global))
+added : (table : List (Option (RcStr Global))) (index : ℕ) (name copy : Option (RcStr Global))
     → index < length table → name_at table index ≡ None
-    → option_map text_of_string copy ≡ option_map text_of_string name
-    → AddsNames (name_if_at index (option_map text_of_string name)) table
+    → option_map text_of_name copy ≡ option_map text_of_name name
+    → AddsNames (name_if_at index (option_map text_of_name name)) table
     (slice_set table index copy)
 added table index name copy inside free same k =
-    let text = λ (x : Option (String Global)). option_map text_of_string x in
+    let text = λ (x : Option (RcStr Global)). option_map text_of_name x in
     let within : index < length (map text table) = rw length-map inside in
     ap (λ texts. get_or texts k None) (map-set text table index copy)
     ∙ ap (λ x. get_or (slice_set (map text table) index x) k None) same
     ∙ added_at (map text table) index k (text name) (index == k) refl within free
 
 -- an entry that holds no string has no name
-free_at : (table : List (Option (String Global))) (index : ℕ) (entry : Option (String Global))
+free_at : (table : List (Option (RcStr Global))) (index : ℕ) (entry : Option (RcStr Global))
     → index < length table → entry ≡ get_or table index entry → entry ≡ None
     → name_at table index ≡ None
 free_at table index entry inside is none =
-    get_or-map (option_map text_of_string) table index entry None inside
-    ∙ ap (option_map text_of_string) (sym is ∙ none)
+    get_or-map (option_map text_of_name) table index entry None inside
+    ∙ ap (option_map text_of_name) (sym is ∙ none)
 
 pub returns-in_ok-names : goal.returns-in_ok-names
 returns-in_ok-names c =
@@ -55,6 +56,6 @@ returns-in_ok-names c =
     let copy = c.in_ok-names.field-0 in
     let entry = c.index-names-index.result in
     let none : entry ≡ None = search rules in
-    let same : option_map text_of_string copy ≡ option_map text_of_string name = search rules in
+    let same : option_map text_of_name copy ≡ option_map text_of_name name = search rules in
     let free = free_at table index entry c.requires c.index-names-index.is none in
     added table index name copy c.requires free same

@@ -2,7 +2,7 @@ use Rattle.std.proofs.Common.{true, false, ◌≡◌, sym, subst, Contains, drop
 use Rattle.std.proofs.lemmas.Result.{err_from_is_err_and}
 use Rattle.regex_lite_syntax.specs.Text.{Text}
 use Rattle.regex_lite_syntax.specs.Grammar.GroupNames.{NameOpening, NameWritten, Named}
-use Rattle.regex_lite_syntax.specs.Tree.Views.{text_of_string}
+use Rattle.regex_lite_syntax.specs.Tree.Views.{text_of_name}
 use Rattle.regex_lite_syntax.proofs.parse.DenialLemmas.{number_refuses}
 use Rattle.regex_lite_syntax.proofs.machine.ReadHeadLemmas.{reads_named, begins_named, reads_no_name, reads_no_second}
 use Rattle.regex_lite_syntax.proofs.parse.Parser.read_named_head.Goals as goal
@@ -21,7 +21,7 @@ named_from t past rest name letters opens written is =
 
 pub returns-in_err-open_capture-clause-refused : goal.returns-in_err-open_capture-clause-refused
 returns-in_err-open_capture-clause-refused c =
-    let name = text_of_string c.in_ok-name.name in
+    let name = text_of_name c.in_ok-name.name in
     let named = named_from _ _ _ name _ c.requires.opens c.in_ok-end.ensures.ok c.in_ok-name.ensures in
     let left = err_from_is_err_and c.from_residual-in_err-open_capture.result c.from_residual-in_err-open_capture.ensures.1 in
     rw (left.1, left.2) (number_refuses c.in_err-open_capture.field-0.0 c.args.self.now _ c.in_err-open_capture.ensures.refused
@@ -29,20 +29,20 @@ returns-in_err-open_capture-clause-refused c =
 
 pub returns-then-not-branch-clause-refused : goal.returns-then-not-branch-clause-refused
 returns-then-not-branch-clause-refused c =
-    let name = text_of_string c.in_ok-name.name in
+    let name = text_of_name c.in_ok-name.name in
     let named = named_from _ _ _ name _ c.requires.opens c.in_ok-end.ensures.ok c.in_ok-name.ensures in
     let old : c.in_ok-insert.field-0 ≡ false = c.if-not-branch.true in
     let known = rw old at c.in_ok-insert.ensures in
-    let twice : Contains c.args.self.now.names name = rw (← c.deref.ensures) known in
+    let twice : Contains c.args.self.now.names name = known in
     rw c.into.ensures (reads_no_second c.args.self.now _ _ _ _ name c.requires.begins c.requires.gap named twice)
 
 pub returns-clause-ok : goal.returns-clause-ok
 returns-clause-ok c =
     let p = c.args.self.now in
-    let name = text_of_string c.in_ok-name.name in
+    let name = text_of_name c.in_ok-name.name in
     let named = named_from _ _ _ name _ c.requires.opens c.in_ok-end.ensures.ok c.in_ok-name.ensures in
     let new : c.in_ok-insert.field-0 ≡ true = c.if-not-branch.false in
-    let added = rw (new, c.deref.ensures) at c.in_ok-insert.ensures in
+    let added = rw new at c.in_ok-insert.ensures in
     record {
       further = omega (arith, c.requires.inside, c.in_ok-end.ensures.inside);
       in_pattern = c.in_ok-end.ensures.inside.1;

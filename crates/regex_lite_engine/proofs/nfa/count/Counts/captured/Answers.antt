@@ -1,5 +1,5 @@
 use Rattle.std.proofs.Common.{arith, option_map}
-use Rattle.regex_lite_syntax.specs.Tree.Views.{text_of_string}
+use Rattle.regex_lite_syntax.specs.Tree.Views.{text_of_name}
 use Rattle.regex_lite_engine.proofs.nfa.count.Counts.captured.Goals as goal
 
 pub returns : goal.returns
@@ -9,5 +9,5 @@ returns c = λ body counted. record {
   choice_arrows = counted.choice_arrows;
   ranges = counted.ranges;
   names_size = omega (arith, counted.names_size, c.name_size.ensures);
-  properties = c.captured.ensures (option_map text_of_string c.args.name.now) body counted.properties;
+  properties = c.captured.ensures (option_map text_of_name c.args.name.now) body counted.properties;
 }
