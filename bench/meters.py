@@ -7,7 +7,7 @@ import sys
 import tempfile
 from typing import NamedTuple
 
-TIME_LIMIT = 300  # seconds a run
+TIME_LIMIT = 1200  # seconds a run
 ENVIRONMENT = {'PATH': os.environ.get('PATH', os.defpath), 'LC_ALL': 'C'}
 
 
