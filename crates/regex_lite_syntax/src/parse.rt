@@ -47,7 +47,7 @@ pub struct Config {
     pub nest_limit: u32,
 }
 
-/// The parser at a place of the pattern.
+/// The parser at a point of the pattern.
 #[derive(Drop)]
 pub(crate) struct Parser {
     alloc: Global,

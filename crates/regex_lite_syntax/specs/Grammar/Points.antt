@@ -4,7 +4,7 @@ use Rattle.regex_lite_syntax.specs.declared.flags.Flags.{Flags}
 use Rattle.regex_lite_syntax.specs.Text.{Text}
 use Rattle.regex_lite_syntax.specs.Grammar.Gaps.{Gap}
 
--- a place in a pattern, with all that the parts after it depend on
+-- where a part of a pattern begins or ends, with all that the parts after it depend on
 pub record Point : Type 0 where
   -- what is left of the pattern
   pub rest : Text

@@ -44,7 +44,7 @@ pub(crate) struct OpenGroup {
 /// The branches of a group that have ended, and the items of the one under way.
 #[derive(Drop)]
 pub(crate) struct Level {
-    /// The flags that hold at the place that has been reached in the group.
+    /// The flags that hold at the point that has been reached in the group.
     pub(crate) flags: Flags,
     pub(crate) branches: Vec<Hir>,
     pub(crate) items: Vec<Hir>,
