@@ -1,4 +1,4 @@
--- Places in a pattern.
+-- Points of a pattern.
 use Rattle.std.specs.Prelude.{◌≡◌, ℕ, List, []}
 use Rattle.regex_lite_syntax.specs.declared.flags.Flags.{Flags}
 use Rattle.regex_lite_syntax.specs.Text.{Text}
