@@ -55,8 +55,9 @@ impl Model for Graph {
 impl Graph {
     /// The graph of a tree. Whether the limits are passed is found out before anything is written.
     ///
-    /// Condition: in each repetition the least number is at most the most, a group's index is at
-    /// least 1, and each list has two trees or more.
+    /// Condition: the tree is regular, as the grammar gives it: in each repetition the least number
+    /// is at most the most, a group's index is at least 1, each list has two trees or more, a
+    /// character is one, and the ranges of a class are maximal runs in order.
     ///
     /// # Errors
     ///
