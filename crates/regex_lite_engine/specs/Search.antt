@@ -3,4 +3,6 @@ pub mod Preference
 pub mod Marks
 pub mod Answer
 pub mod PreferenceList
+pub mod Offsets
+pub mod Outcomes
 pub mod Bounds

@@ -1,7 +1,7 @@
 -- What the searches promise one another, over graphs whose places have numbers.
 pub mod Explored
 pub mod NumberedAnswer
-pub mod Offsets
+pub mod Standing
 pub mod Machine
 pub mod InStep
 pub mod Walking

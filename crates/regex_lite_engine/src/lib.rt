@@ -11,4 +11,5 @@ mod nfa;
 mod pikevm;
 
 pub use nfa::Graph;
+pub use pikevm::search::Outcome;
 pub use pikevm::steps::Steps;

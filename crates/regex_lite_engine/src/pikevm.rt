@@ -9,6 +9,7 @@ mod best;
 mod enter;
 pub(crate) mod here;
 mod run;
+pub(crate) mod search;
 pub(crate) mod seen;
 pub(crate) mod stack;
 pub(crate) mod steps;

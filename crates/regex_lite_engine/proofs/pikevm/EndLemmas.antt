@@ -15,8 +15,8 @@ use Rattle.regex_lite_engine.specs.Search.Marks.{marks_along}
 use Rattle.regex_lite_engine.specs.Walk.Explored.{StartsAt, IsGrown}
 use Rattle.regex_lite_engine.specs.Walk.NumberedAnswer.{place_with, numbered_step, is_end, IsOver}
 use Rattle.regex_lite_engine.specs.Walk.InStep.{Offer}
-use Rattle.regex_lite_engine.specs.Walk.Offsets.{IsHere}
-use Rattle.regex_lite_engine.specs.Walk.Outcomes.{IsOutcome}
+use Rattle.regex_lite_engine.specs.Walk.Standing.{IsHere}
+use Rattle.regex_lite_engine.specs.Walk.Outcomes.{IsNumberedOutcome}
 use Rattle.regex_lite_engine.specs.Walk.Turns.{IsComing, FromIs}
 use Rattle.regex_lite_engine.specs.Walk.Walking.{Node, Best, BestHolds, InStep}
 use Rattle.regex_lite_engine.proofs.laws.search.OverLemmas.{answer_when_over}
@@ -71,7 +71,7 @@ module _ (table : List (Place ℕ)) (h : Text) (s first : ℕ) where
   explored q from recorded way enough u =
       deep.in_step_over Node (numbered_step table h) (λ j. (s, j)) (is_end table h) first (length h) (λ x. x.1) q from recorded way enough u
 
-  answered : (best : Best) (recorded : Node → Option (List ℕ)) (way : Option (List ℕ)) → BestHolds table h s best way → IsOver table h s first recorded way → IsOutcome table h s first best
+  answered : (best : Best) (recorded : Node → Option (List ℕ)) (way : Option (List ℕ)) → BestHolds table h s best way → IsOver table h s first recorded way → IsNumberedOutcome table h s first best
   answered None recorded way e over =
       answer_when_over table h s first recorded None None (subst (λ z. IsOver table h s first recorded z) e over) refl
   answered (Some b) recorded way (w, e, (q, end, at_end, ends, (j, ks, at, parts, along, has))) over =
@@ -84,10 +84,10 @@ module _ (table : List (Place ℕ)) (h : Text) (s first : ℕ) where
       )
 
   pub ended : (p : ℕ) (cur : Threads) (best : Best) → first ≤ p → p ≤ length h →
-      ((p ≡ length h) ⊎ ((best ≡ None → ⊥) × (cur.len ≡ 0))) → IsComing table h s first (length h) (p + 1) cur best → IsOutcome table h s first best
+      ((p ≡ length h) ⊎ ((best ≡ None → ⊥) × (cur.len ≡ 0))) → IsComing table h s first (length h) (p + 1) cur best → IsNumberedOutcome table h s first best
   ended p cur best low high over u = go over
     where
-      with_none : u.coming ≡ [] → ((length h < u.from) ⊎ ((b : List ℕ) × (u.way ≡ Some b))) → IsOutcome table h s first best
+      with_none : u.coming ≡ [] → ((length h < u.from) ⊎ ((b : List ℕ) × (u.way ≡ Some b))) → IsNumberedOutcome table h s first best
       with_none e enough = answered best u.recorded u.way u.best_holds (explored (p + 1) u.from u.recorded u.way enough
           (subst (λ z. InStep table h s first (length h) (p + 1) u.from u.recorded z [] u.way) e u.in_step))
 
@@ -99,7 +99,7 @@ module _ (table : List (Place ℕ)) (h : Text) (s first : ℕ) where
       at_end None e is same = inl (omega (arith, is, same))
       at_end (Some x) (w, e, held) is same = inr (w, e)
 
-      go : (p ≡ length h) ⊎ ((best ≡ None → ⊥) × (cur.len ≡ 0)) → IsOutcome table h s first best
+      go : (p ≡ length h) ⊎ ((best ≡ None → ⊥) × (cur.len ≡ 0)) → IsNumberedOutcome table h s first best
       go (inl same) = with_none (nothing_beyond (p + 1) u.from u.recorded u.coming u.way (omega (arith, same)) u.in_step u.before (omega (arith, same))) (at_end best u.best_holds u.from_is same)
       go (inr (some, empty)) = let all = u.all in with_none (nil_from_length u.coming (omega (arith, all, empty))) (inr (way_of best u.best_holds some))
 

@@ -20,8 +20,9 @@ use Rattle.regex_lite_engine.specs.Walk.Entering.{Enters, reads, ReadsOn, Same}
 use Rattle.regex_lite_engine.specs.Walk.InStep.{Offer}
 use Rattle.regex_lite_engine.specs.Walk.Machine.{Row, Thread, thread_at}
 use Rattle.regex_lite_engine.specs.Walk.NumberedAnswer.{place_with, is_complete, numbered_step, is_end}
-use Rattle.regex_lite_engine.specs.Walk.Offsets.{IsHere}
-use Rattle.regex_lite_engine.specs.Walk.Walking.{Node, Best, HasSlots, WayHolds, FramesHold, ThreadsHold, IsWalking}
+use Rattle.regex_lite_engine.specs.Walk.Standing.{IsHere}
+use Rattle.regex_lite_engine.specs.Search.Offsets.{HasSlots}
+use Rattle.regex_lite_engine.specs.Walk.Walking.{Node, Best, WayHolds, FramesHold, ThreadsHold, IsWalking}
 use Rattle.regex_lite_engine.proofs.pikevm.MarkLemmas.{slots_set, slots_past}
 use Rattle.regex_lite_engine.proofs.pikevm.OptionLemmas.{not_there, same_some}
 use Rattle.regex_lite_engine.proofs.pikevm.WalkLemmas.{one, wide, no_more, offered_by, holds_on, held_same, held_more, walk_entered, walk_read, walk_complete}

@@ -8,8 +8,7 @@ use Rattle.regex_lite_engine.specs.Graph.Places.{Place, step}
 use Rattle.regex_lite_engine.specs.Graph.Ways.{Leads}
 use Rattle.regex_lite_engine.specs.Search.Marks.{Marks, marked, over, mark_of, marks_along}
 use Rattle.regex_lite_engine.specs.Walk.Machine.{Row}
-use Rattle.regex_lite_engine.specs.Walk.Offsets.{offset}
-use Rattle.regex_lite_engine.specs.Walk.Walking.{HasSlots}
+use Rattle.regex_lite_engine.specs.Search.Offsets.{offset, HasSlots}
 use Rattle.regex_lite_engine.proofs.pikevm.OptionLemmas.{not_there, same_some}
 
 -- an element of a list in which one was set

@@ -13,7 +13,8 @@ use Rattle.regex_lite_engine.specs.Walk.Entering.{Pushed}
 use Rattle.regex_lite_engine.specs.Walk.InStep.{Offer}
 use Rattle.regex_lite_engine.specs.Walk.Machine.{Row, Thread, thread_at}
 use Rattle.regex_lite_engine.specs.Walk.NumberedAnswer.{numbered_step, is_end}
-use Rattle.regex_lite_engine.specs.Walk.Offsets.{offset, IsHere}
+use Rattle.regex_lite_engine.specs.Search.Offsets.{offset}
+use Rattle.regex_lite_engine.specs.Walk.Standing.{IsHere}
 use Rattle.regex_lite_engine.specs.Walk.Room.{IsFit, ThreadsBelow, lone, weight}
 use Rattle.regex_lite_engine.specs.Walk.Turns.{Between, StepsTo, IsComing, IsDeadAt, Begun, FromIs, IsBlank, IsReady}
 use Rattle.regex_lite_engine.specs.Walk.Walking.{Node, Best, WayHolds, InStep}

@@ -12,8 +12,8 @@ use Rattle.regex_lite_engine.specs.Search.Marks.{Marks, marked, over, mark_of, m
 use Rattle.regex_lite_engine.specs.Walk.InStep.{Offer}
 use Rattle.regex_lite_engine.specs.Walk.Machine.{Row, Thread}
 use Rattle.regex_lite_engine.specs.Walk.NumberedAnswer.{place_with, is_complete, numbered_step, is_end}
-use Rattle.regex_lite_engine.specs.Walk.Offsets.{offset}
-use Rattle.regex_lite_engine.specs.Walk.Walking.{Node, HasSlots, WayHolds, FramesHold, ThreadsHold, InStep, Best, IsWalking}
+use Rattle.regex_lite_engine.specs.Search.Offsets.{offset, HasSlots}
+use Rattle.regex_lite_engine.specs.Walk.Walking.{Node, WayHolds, FramesHold, ThreadsHold, InStep, Best, IsWalking}
 use Rattle.regex_lite_engine.proofs.laws.LeadsLemmas.{leads_append}
 use Rattle.regex_lite_engine.proofs.pikevm.InStepLemmas as deep
 use Rattle.regex_lite_engine.proofs.pikevm.MarkLemmas.{marks_append, same_slots}

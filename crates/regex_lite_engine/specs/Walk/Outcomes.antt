@@ -6,15 +6,15 @@ use Rattle.regex_lite_engine.specs.Graph.Places.{Place}
 use Rattle.regex_lite_engine.specs.Graph.Renumbered.{arrows_of}
 use Rattle.regex_lite_engine.specs.Search.Answer.{Found}
 use Rattle.regex_lite_engine.specs.Walk.NumberedAnswer.{IsNumberedAnswer}
-use Rattle.regex_lite_engine.specs.Walk.Offsets.{offset}
-use Rattle.regex_lite_engine.specs.Walk.Walking.{Best, HasSlots}
+use Rattle.regex_lite_engine.specs.Search.Offsets.{offset, HasSlots}
+use Rattle.regex_lite_engine.specs.Walk.Walking.{Best}
 use Rattle.regex_lite_engine.specs.Walk.Turns.{best_of}
 use Rattle.regex_lite_engine.specs.Walk.Searching.{IsBetween}
 
 -- the outcome has the offsets of the answer
-abbrev pub IsOutcome : List (Place ℕ) → Text → (start s : ℕ) → Best → Type 0
-IsOutcome table haystack start s None = IsNumberedAnswer table haystack start s None
-IsOutcome table haystack start s (Some best) =
+abbrev pub IsNumberedOutcome : List (Place ℕ) → Text → (start s : ℕ) → Best → Type 0
+IsNumberedOutcome table haystack start s None = IsNumberedAnswer table haystack start s None
+IsNumberedOutcome table haystack start s (Some best) =
     (found : Found) × IsNumberedAnswer table haystack start s (Some found)
     × (best.0 ≡ offset haystack found.start) × (best.1 ≡ offset haystack found.end)
     × HasSlots haystack best.2 found.marks

@@ -10,7 +10,7 @@ use Rattle.regex_lite_engine.specs.declared.pikevm.walk.Walk.{Walk}
 use Rattle.regex_lite_engine.specs.Graph.Places.{Place}
 use Rattle.regex_lite_engine.specs.Graph.Renumbered.{arrow_count}
 use Rattle.regex_lite_engine.specs.Walk.Machine.{Row, Thread, thread_at}
-use Rattle.regex_lite_engine.specs.Walk.Offsets.{IsHere}
+use Rattle.regex_lite_engine.specs.Walk.Standing.{IsHere}
 use Rattle.regex_lite_engine.specs.Walk.Walking.{Best, IsWalking}
 
 -- the sum over the places that were not entered in this round

@@ -10,7 +10,7 @@ use Rattle.regex_lite_engine.specs.Walk.Explored.{IsDead}
 use Rattle.regex_lite_engine.specs.Walk.NumberedAnswer.{numbered_step, is_end}
 use Rattle.regex_lite_engine.specs.Walk.InStep.{Offer}
 use Rattle.regex_lite_engine.specs.Walk.Machine.{Row, Thread, thread_at, frames_of}
-use Rattle.regex_lite_engine.specs.Walk.Offsets.{IsHere}
+use Rattle.regex_lite_engine.specs.Walk.Standing.{IsHere}
 use Rattle.regex_lite_engine.specs.Walk.Walking.{Node, Best, ThreadsHold, BestHolds, InStep, IsWalking}
 use Rattle.regex_lite_engine.specs.Walk.Entering.{Pushed}
 use Rattle.regex_lite_engine.specs.Walk.Room.{ThreadsBelow, weight}

@@ -1,13 +1,13 @@
 -- What a search over a table of numbered places keeps true while it goes over one position.
-use Rattle.std.specs.Prelude.{◌≡◌, ◌+◌, ◌<◌, ℕ, suc, IsTrue, List, [], ◌∷◌, ◌++◌, length, Option, Some, None, option_map, slice_get, slice_set, slice_index}
+use Rattle.std.specs.Prelude.{◌≡◌, ◌+◌, ◌<◌, ℕ, suc, IsTrue, List, [], ◌∷◌, ◌++◌, length, Option, Some, None, slice_set, slice_index}
 use Rattle.regex_lite_syntax.specs.Text.{Text}
 use Rattle.regex_lite_engine.specs.declared.pikevm.stack.Frame.{Frame}
 use Rattle.regex_lite_engine.specs.declared.pikevm.stack.Frame.TheVariants.{Explore, Restore}
 use Rattle.regex_lite_engine.specs.Graph.Places.{Place}
 use Rattle.regex_lite_engine.specs.Graph.Ways.{Leads}
-use Rattle.regex_lite_engine.specs.Search.Marks.{Marks, marks_along}
+use Rattle.regex_lite_engine.specs.Search.Marks.{marks_along}
 use Rattle.regex_lite_engine.specs.Walk.NumberedAnswer.{place_with, numbered_step, is_end}
-use Rattle.regex_lite_engine.specs.Walk.Offsets.{offset}
+use Rattle.regex_lite_engine.specs.Search.Offsets.{offset, HasSlots}
 use Rattle.regex_lite_engine.specs.Walk.Machine.{Row, Thread}
 use Rattle.regex_lite_engine.specs.Walk.InStep.{Offer, IsInStep}
 
@@ -18,12 +18,6 @@ Node = ℕ × ℕ
 -- the best match so far: the offsets of its start and its end, and its row
 abbrev pub Best : Type 0
 Best = Option (ℕ × ℕ × Row)
-
--- each slot of the row holds the offset of its mark
-abbrev pub HasSlots : Text → Row → Marks → Type 0
-HasSlots haystack row marks =
-    (k : ℕ) (slot : Option ℕ) → slice_get row k ≡ Some slot
-    → slot ≡ option_map (offset haystack) (marks k)
 
 module _ (table : List (Place ℕ)) (haystack : Text) where
   module _ (s : ℕ) where

@@ -1,7 +1,8 @@
 //! Where a search stands in the haystack.
 ghost use Rattle.std.specs.Prelude.{◌≡◌, ◌+◌, ℕ, IsSome, IsCharBoundary, chars, drop, slice_get};
 ghost use Rattle.regex_lite_syntax.specs.Text.{before};
-ghost use Rattle.regex_lite_engine.specs.Walk.Offsets.{position_at, IsOffset, IsHere};
+ghost use Rattle.regex_lite_engine.specs.Search.Offsets.{position_at, IsOffset};
+ghost use Rattle.regex_lite_engine.specs.Walk.Standing.{IsHere};
 
 /// An offset into the haystack, with the characters before and after it.
 #[derive(Clone, Copy)]

@@ -3,8 +3,8 @@ ghost use Rattle.std.specs.Prelude.{◌≡◌, ◌⊎◌, IsCharBoundary, IsTrue
 ghost use Rattle.regex_lite_engine.specs.Graph.Renumbered.{arrows_of};
 ghost use Rattle.regex_lite_engine.specs.Graph.Stored.{table_of};
 ghost use Rattle.regex_lite_engine.specs.Search.Bounds.{IsBounded, characters_left};
-ghost use Rattle.regex_lite_engine.specs.Walk.Offsets.{position_at};
-ghost use Rattle.regex_lite_engine.specs.Walk.Outcomes.{IsOutcome, IsFresh, CanCount};
+ghost use Rattle.regex_lite_engine.specs.Search.Offsets.{position_at};
+ghost use Rattle.regex_lite_engine.specs.Walk.Outcomes.{IsNumberedOutcome, IsFresh, CanCount};
 ghost use Rattle.regex_lite_engine.specs.Walk.Turns.{best_of};
 
 use crate::Graph;
@@ -19,7 +19,7 @@ pub fn run(cache: &mut Cache, graph: &Graph, haystack: &str, start: usize)
     requires fresh { IsFresh (table_of graph.now) cache.old }
     requires counts { CanCount (table_of graph.now)
         (characters_left (chars haystack.now) (position_at haystack.now start)) }
-    ensures found { IsOutcome (table_of graph.now) (chars haystack.now) graph.now.start
+    ensures found { IsNumberedOutcome (table_of graph.now) (chars haystack.now) graph.now.start
         (position_at haystack.now start) (best_of cache.new.best) }
     ensures bounded { IsBounded (length (table_of graph.now)) (arrows_of (table_of graph.now))
         (chars haystack.now) (position_at haystack.now start) cache.new.walk.steps.tried

@@ -22,7 +22,7 @@ pub struct Cache {
 impl Cache {
     ghost use Rattle.regex_lite_syntax.specs.Text.{Text};
     ghost use Rattle.regex_lite_engine.specs.Walk.Machine.{frames_of};
-    ghost use Rattle.regex_lite_engine.specs.Walk.Offsets.{IsHere};
+    ghost use Rattle.regex_lite_engine.specs.Walk.Standing.{IsHere};
     ghost use Rattle.regex_lite_engine.specs.Walk.Room.{HasRoom};
     ghost use Rattle.regex_lite_engine.specs.Walk.Turns.{EndsAt, IsComing, IsDeadAt};
     ghost use Rattle.regex_lite_engine.specs.Walk.Searching.{IsPlaced, Follows, IsBetween};

@@ -9,7 +9,8 @@ use Rattle.std.proofs.lemmas.List.Sums.{sum_by-cons}
 use Rattle.std.proofs.lemmas.Option.{slice_get_within}
 use Rattle.std.proofs.lemmas.Str.{encodes-chars, chars-append, IsUtf8-take, IsUtf8-past_char, length-encode, len_utf8_bounds, IsCharBoundary-from_drop, IsCharBoundary-at_seam, IsUtf8-encode, chars-nil, chars_from_encodes, chars_past_char}
 use Rattle.regex_lite_syntax.specs.Text.{before, after}
-use Rattle.regex_lite_engine.specs.Walk.Offsets.{offset, position_at, IsOffset, IsHere}
+use Rattle.regex_lite_engine.specs.Search.Offsets.{offset, position_at, IsOffset}
+use Rattle.regex_lite_engine.specs.Walk.Standing.{IsHere}
 use Rattle.std.proofs.lemmas.Bool.{cases_order}
 use Rattle.regex_lite_engine.proofs.pikevm.OptionLemmas.{not_there, same_some}
 

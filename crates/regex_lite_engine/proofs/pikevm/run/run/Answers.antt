@@ -2,7 +2,7 @@ use Rattle.std.proofs.Common.{rules, ℕ, ◌+◌, length, sym, subst, arith}
 use Rattle.std.specs.Prelude.{chars}
 use Rattle.regex_lite_engine.specs.Graph.Renumbered.{arrows_of}
 use Rattle.regex_lite_engine.specs.Graph.Stored.{table_of}
-use Rattle.regex_lite_engine.specs.Walk.Offsets.{position_at}
+use Rattle.regex_lite_engine.specs.Search.Offsets.{position_at}
 use Rattle.regex_lite_engine.specs.Walk.Turns.{best_of, IsComing}
 use Rattle.regex_lite_engine.proofs.pikevm.here.OffsetLemmas.{less_left}
 use Rattle.regex_lite_engine.proofs.pikevm.TurnLemmas.{none_coming}

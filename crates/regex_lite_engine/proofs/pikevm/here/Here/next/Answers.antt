@@ -1,5 +1,6 @@
 use Rattle.std.proofs.Common.{rules, ◌≡◌, ◌+◌, drop, slice_get, chars, Some, suc, sym, subst}
-use Rattle.regex_lite_engine.specs.Walk.Offsets.{IsOffset, IsHere}
+use Rattle.regex_lite_engine.specs.Search.Offsets.{IsOffset}
+use Rattle.regex_lite_engine.specs.Walk.Standing.{IsHere}
 use Rattle.regex_lite_engine.proofs.pikevm.here.OffsetLemmas.{moved, here_next, boundary_at}
 use Rattle.regex_lite_engine.proofs.pikevm.here.Here.next.Goals as goal
 

@@ -1,0 +1,70 @@
+//! Searches in a graph, from their working memory to what they tell.
+ghost use Rattle.std.specs.Prelude.{◌≡◌, ◌<◌, ◌⊎◌, IfOk, IfSome, IsCharBoundary, length};
+ghost use Rattle.regex_lite_syntax.specs.Tree.{Tree};
+ghost use Rattle.regex_lite_syntax.specs.Tree.Regular.{IsRegular};
+ghost use Rattle.regex_lite_engine.specs.Graph.Renumbered.{IsGraphOf};
+ghost use Rattle.regex_lite_engine.specs.Search.Outcomes.{IsOutcome, IsEndOutcome, HasCost};
+
+use crate::Graph;
+use crate::pikevm::steps::Steps;
+use std::alloc::{AllocError, Global};
+
+/// What a search found: where the match starts and ends, and what its slots hold, all as offsets.
+/// Slots 2k and 2k + 1 are the start and the end of group k.
+#[derive(Drop)]
+pub struct Outcome {
+    pub start: usize,
+    pub end: usize,
+    pub slots: Vec<Option<usize>>,
+}
+
+impl Graph {
+    /// The most preferred match from the least start at or after this offset, with so many slots,
+    /// and what the search did.
+    ///
+    /// Condition: the start is above the haystack's length or on a character boundary.
+    ///
+    /// # Errors
+    ///
+    /// Where a growth is refused, which can only be before the first step.
+    pub fn search(
+        &self,
+        alloc: Global,
+        haystack: &str,
+        start: usize,
+        slots: usize,
+    ) -> Result<(Option<Outcome>, Steps), AllocError>
+        requires { (length haystack.now < start) ⊎ IsCharBoundary haystack.now start }
+        ensures found { IfOk result (λ told. (tree : Tree) → IsRegular tree
+            → IsGraphOf tree self.now → IsOutcome tree haystack.now start told.0) }
+        ensures slots { IfOk result (λ told. IfSome told.0
+            (λ outcome. length outcome.slots.items ≡ slots)) }
+        ensures cost { IfOk result (λ told. (tree : Tree) → IsGraphOf tree self.now
+            → HasCost tree haystack.now start told.1) }
+    {
+        Err(AllocError)
+    }
+
+    /// The least end of any match that starts at or after this offset, and what the search did. It
+    /// stops at the first match that it comes to.
+    ///
+    /// Condition: the start is above the haystack's length or on a character boundary.
+    ///
+    /// # Errors
+    ///
+    /// Where a growth is refused, which can only be before the first step.
+    pub fn search_shortest(
+        &self,
+        alloc: Global,
+        haystack: &str,
+        start: usize,
+    ) -> Result<(Option<usize>, Steps), AllocError>
+        requires { (length haystack.now < start) ⊎ IsCharBoundary haystack.now start }
+        ensures found { IfOk result (λ told. (tree : Tree) → IsRegular tree
+            → IsGraphOf tree self.now → IsEndOutcome tree haystack.now start told.0) }
+        ensures cost { IfOk result (λ told. (tree : Tree) → IsGraphOf tree self.now
+            → HasCost tree haystack.now start told.1) }
+    {
+        Err(AllocError)
+    }
+}
