@@ -5,7 +5,7 @@ use Rattle.regex_lite_engine.specs.declared.pikevm.turn.Cache.{Cache}
 use Rattle.regex_lite_engine.specs.Graph.Places.{Place}
 use Rattle.regex_lite_engine.specs.Graph.Renumbered.{arrows_of}
 use Rattle.regex_lite_engine.specs.Search.Answer.{Found}
-use Rattle.regex_lite_engine.specs.Walk.NumberedAnswer.{IsNumberedAnswer}
+use Rattle.regex_lite_engine.specs.Walk.NumberedAnswer.{IsNumberedAnswer, IsNumberedShortest}
 use Rattle.regex_lite_engine.specs.Search.Offsets.{offset, HasSlots}
 use Rattle.regex_lite_engine.specs.Walk.Walking.{Best}
 use Rattle.regex_lite_engine.specs.Walk.Turns.{best_of}
@@ -18,6 +18,13 @@ IsNumberedOutcome table haystack start s (Some best) =
     (found : Found) × IsNumberedAnswer table haystack start s (Some found)
     × (best.0 ≡ offset haystack found.start) × (best.1 ≡ offset haystack found.end)
     × HasSlots haystack best.2 found.marks
+
+-- so has that of a search for the shortest match, which is where it ends
+abbrev pub IsNumberedEnd : List (Place ℕ) → Text → (start s : ℕ) → Best → Type 0
+IsNumberedEnd table haystack start s None = IsNumberedShortest table haystack start s None
+IsNumberedEnd table haystack start s (Some best) =
+    (end : ℕ) × IsNumberedShortest table haystack start s (Some end)
+    × (best.1 ≡ offset haystack end)
 
 -- a search from position s on has not begun
 pub record IsFresh (table : List (Place ℕ)) (cache : Cache) : Type 0 where
