@@ -5,6 +5,7 @@ pub mod InStepLemmas
 pub mod MarkLemmas
 pub mod OfferLemmas
 pub mod OptionLemmas
+pub mod OutcomeLemmas
 pub mod PositionLemmas
 pub mod RoomLemmas
 pub mod ShortestLemmas
