@@ -1,24 +1,21 @@
 -- What a search tells: where it starts, that its counts fit, and the tree's answer by offsets.
-use Rattle.std.proofs.Common.{◌≡◌, refl, ℕ, zero, suc, [], ◌∷◌, ◌+◌, ◌-◌, ◌*◌, ◌^◌, ◌<◌, ◌≤◌, inl, inr, ◌⊎◌, List, length, map, take, Option, Some, None, sym, ap, subst, ◌∙◌, arith}
-use Rattle.std.specs.Prelude.{IsUtf8, IsCharBoundary, chars, option_map}
-use Rattle.std.proofs.lemmas.List.{length-map}
+use Rattle.std.proofs.Common.{◌≡◌, ℕ, ◌+◌, ◌*◌, ◌^◌, ◌<◌, ◌≤◌, List, length, Option, Some, None, sym, subst, arith}
+use Rattle.std.specs.Prelude.{IsUtf8, chars, option_map}
 use Rattle.std.proofs.lemmas.Str.{encodes-chars, length-le-encodes}
 use Rattle.std.proofs.Math.Nat.{mul-le-mul_left, mul-le-mul_right}
 use Rattle.regex_lite_syntax.specs.Tree.{Tree}
 use Rattle.regex_lite_syntax.specs.Tree.Regular.{IsRegular}
 use Rattle.regex_lite_engine.specs.declared.pikevm.search.Outcome.{Outcome}
 use Rattle.regex_lite_engine.specs.Graph.Places.{Place}
-use Rattle.regex_lite_engine.specs.Graph.PlaceCounts.{whole_places, whole_arrows}
 use Rattle.regex_lite_engine.specs.Graph.Renumbered.{IsGraphOf, arrows_of}
-use Rattle.regex_lite_engine.specs.Graph.Stored.{StoredGraph, place_of, table_of}
-use Rattle.regex_lite_engine.specs.Search.Bounds.{StepCounts, IsBounded, characters_left}
+use Rattle.regex_lite_engine.specs.Graph.Stored.{StoredGraph, table_of}
+use Rattle.regex_lite_engine.specs.Search.Bounds.{characters_left}
 use Rattle.regex_lite_engine.specs.Search.Answer.{IsAnswer, IsShortest}
 use Rattle.regex_lite_engine.specs.Search.Offsets.{position_at, search_start}
-use Rattle.regex_lite_engine.specs.Search.Outcomes.{IsOutcome, IsEndOutcome, HasCost}
+use Rattle.regex_lite_engine.specs.Search.Outcomes.{IsOutcome, IsEndOutcome}
 use Rattle.regex_lite_engine.specs.Walk.Outcomes.{IsNumberedOutcome, IsNumberedEnd, IsCountable, CanCount, match_told}
 use Rattle.regex_lite_engine.specs.Walk.Walking.{Best}
 use Rattle.regex_lite_engine.proofs.laws.search.NumberedAnswerLemmas.{answer_of_numbers, shortest_of_numbers}
-use Rattle.regex_lite_engine.proofs.pikevm.OptionLemmas.{not_there, same_some}
 
 -- there are no more characters than bytes
 few_chars : (bytes : List ℕ) → IsUtf8 bytes → length (chars bytes) ≤ length bytes
@@ -46,99 +43,47 @@ can_count table bytes s utf8 short countable =
       rounds = omega (arith, few, short);
     }
 
--- a start inside the haystack is that of a position, one above the length is behind them all
-pub start_inside : (bytes : List ℕ) (start : ℕ) → start ≤ length bytes
+-- a start inside the haystack is that of a position
+start_inside : (bytes : List ℕ) (start : ℕ) → start ≤ length bytes
     → search_start bytes start ≡ position_at bytes start
 start_inside bytes start inside = omega (arith, inside)
 
-take_all : (n : ℕ) (bytes : List ℕ) → length bytes ≤ n → take n bytes ≡ bytes
-take_all zero [] long = refl
-take_all (suc n) [] long = refl
-take_all zero (b ∷ bytes) long = absurd (omega (arith, long))
-take_all (suc n) (b ∷ bytes) long = ap (λ z. b ∷ z) (take_all n bytes (omega (arith, long)))
-
-start_beyond : (bytes : List ℕ) (start : ℕ) → length bytes < start
-    → length (chars bytes) < search_start bytes start
-start_beyond bytes start beyond =
-    let all : position_at bytes start ≡ length (chars bytes)
-    = ap (λ z. length (chars z)) (take_all start bytes (omega (arith, beyond))) in
-    omega (arith, all, beyond)
-
 module _ (tree : Tree) (haystack : List ℕ) (start : ℕ) where
-  pub none_beyond : length haystack < start → IsOutcome tree haystack start None
-  none_beyond beyond = λ (i, j, m). (
-      let past = start_beyond haystack start beyond in
-      let from = m.from in
-      let inside = m.inside in
-      omega (arith, past, from, inside))
-
-  pub no_end_beyond : length haystack < start → IsEndOutcome tree haystack start None
-  no_end_beyond beyond = none_beyond beyond
-
-  pub no_cost : (counts : StepCounts) → counts.tried ≡ 0 → counts.entered ≡ 0 → counts.looked ≡ 0
-      → HasCost tree haystack start counts
-  no_cost counts tried entered looked = record {
-    few_tried = omega (arith, tried);
-    entered_tried = omega (arith, tried, entered);
-    few_entered = omega (arith, entered);
-    few_looked = omega (arith, entered, looked);
-    none_beyond = λ beyond. tried;
-  }
-
   module _ (graph : StoredGraph) (is : IsGraphOf tree graph) (inside : start ≤ length haystack)
-      where
-    at_position : (P : ℕ → Type 0) → P (position_at haystack start)
-        → P (search_start haystack start)
-    at_position P p = subst P (sym (start_inside haystack start inside)) p
+    where
+      at_position : (P : ℕ → Type 0) → P (position_at haystack start)
+          → P (search_start haystack start)
+      at_position P p = subst P (sym (start_inside haystack start inside)) p
 
-    pub cost_told : (tried entered looked : ℕ)
-        → IsBounded (length (table_of graph)) (arrows_of (table_of graph)) (chars haystack)
-        (position_at haystack start) tried entered looked
-        → (counts : StepCounts) → counts.tried ≡ tried → counts.entered ≡ entered
-        → counts.looked ≡ looked → HasCost tree haystack start counts
-    cost_told tried entered looked bounded counts e f g =
-        at_position (λ s. IsBounded (whole_places tree) (whole_arrows tree) (chars haystack) s
-        counts.tried counts.entered counts.looked)
-        (subst (λ n. IsBounded n (whole_arrows tree) (chars haystack) (position_at haystack start)
-        counts.tried counts.entered counts.looked) (length-map graph.places place_of ∙ is.places)
-        (subst (λ n. IsBounded (length (table_of graph)) n (chars haystack)
-        (position_at haystack start) counts.tried counts.entered counts.looked) is.each_arrow
-        (subst (λ n. IsBounded (length (table_of graph)) (arrows_of (table_of graph))
-        (chars haystack) (position_at haystack start) n counts.entered counts.looked) (sym e)
-        (subst (λ n. IsBounded (length (table_of graph)) (arrows_of (table_of graph))
-        (chars haystack) (position_at haystack start) tried n counts.looked) (sym f)
-        (subst (λ n. IsBounded (length (table_of graph)) (arrows_of (table_of graph))
-        (chars haystack) (position_at haystack start) tried entered n) (sym g) bounded)))))
+      module _ (regular : IsRegular tree) where
+        pub answer_told : (outcome : Option Outcome)
+            → IsNumberedOutcome (table_of graph) (chars haystack) graph.start
+            (position_at haystack start) (match_told outcome)
+            → IsOutcome tree haystack start outcome
+        answer_told None none =
+            at_position (λ s. IsAnswer tree (chars haystack) s None)
+            (answer_of_numbers tree (chars haystack) (table_of graph) graph.start is.name is.written
+            is.start regular (position_at haystack start) None none)
+        answer_told (Some outcome) (found, answer, from, to, slots) = (
+          found,
+          at_position (λ s. IsAnswer tree (chars haystack) s (Some found))
+              (answer_of_numbers tree (chars haystack) (table_of graph) graph.start is.name
+              is.written is.start regular (position_at haystack start) (Some found) answer),
+          record { start = from; end = to; slots = slots },
+        )
 
-    module _ (regular : IsRegular tree) where
-      pub answer_told : (outcome : Option Outcome)
-          → IsNumberedOutcome (table_of graph) (chars haystack) graph.start
-          (position_at haystack start) (match_told outcome)
-          → IsOutcome tree haystack start outcome
-      answer_told None none =
-          at_position (λ s. IsAnswer tree (chars haystack) s None)
-          (answer_of_numbers tree (chars haystack) (table_of graph) graph.start is.name is.written
-          is.start regular (position_at haystack start) None none)
-      answer_told (Some outcome) (found, answer, from, to, slots) = (
-        found,
-        at_position (λ s. IsAnswer tree (chars haystack) s (Some found))
-            (answer_of_numbers tree (chars haystack) (table_of graph) graph.start is.name
-            is.written is.start regular (position_at haystack start) (Some found) answer),
-        record { start = from; end = to; slots = slots },
-      )
-
-      pub end_told : (best : Best)
-          → IsNumberedEnd (table_of graph) (chars haystack) graph.start
-          (position_at haystack start) best
-          → IsEndOutcome tree haystack start (option_map (λ z. z.1) best)
-      end_told None none =
-          at_position (λ s. IsShortest tree (chars haystack) s None)
-          (shortest_of_numbers tree (chars haystack) (table_of graph) graph.start is.name
-          is.written is.start regular (position_at haystack start) None none)
-      end_told (Some best) (end, shortest, to) = (
-        end,
-        at_position (λ s. IsShortest tree (chars haystack) s (Some end))
+        pub end_told : (best : Best)
+            → IsNumberedEnd (table_of graph) (chars haystack) graph.start
+            (position_at haystack start) best
+            → IsEndOutcome tree haystack start (option_map (λ z. z.1) best)
+        end_told None none =
+            at_position (λ s. IsShortest tree (chars haystack) s None)
             (shortest_of_numbers tree (chars haystack) (table_of graph) graph.start is.name
-            is.written is.start regular (position_at haystack start) (Some end) shortest),
-        to,
-      )
+            is.written is.start regular (position_at haystack start) None none)
+        end_told (Some best) (end, shortest, to) = (
+          end,
+          at_position (λ s. IsShortest tree (chars haystack) s (Some end))
+              (shortest_of_numbers tree (chars haystack) (table_of graph) graph.start is.name
+              is.written is.start regular (position_at haystack start) (Some end) shortest),
+          to,
+        )

@@ -80,6 +80,7 @@ impl Graph {
         }
         let mut cache = cache_for(alloc, self, 0)?;
         run_shortest(&mut cache, self, haystack, start);
-        Ok((cache.best.end(), cache.walk.steps))
+        let Cache { walk, best, .. } = cache;
+        Ok((best.end(), walk.steps))
     }
 }

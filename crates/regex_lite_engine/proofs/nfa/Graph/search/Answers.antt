@@ -1,4 +1,4 @@
-use Rattle.std.proofs.Common.{rules, length, ℕ, ◌<◌, ◌^◌, sym, subst, arith}
+use Rattle.std.proofs.Common.{rules, length, ◌<◌, ◌^◌, sym, subst, arith}
 use Rattle.std.specs.Prelude.{chars}
 use Rattle.regex_lite_engine.specs.Graph.Stored.{table_of}
 use Rattle.regex_lite_engine.specs.Search.Offsets.{position_at}
