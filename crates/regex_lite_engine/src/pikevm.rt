@@ -13,6 +13,8 @@ pub(crate) mod seen;
 mod shortest;
 pub(crate) mod stack;
 pub(crate) mod steps;
+#[cfg(test)]
+mod tests;
 pub(crate) mod threads;
 mod turn;
 mod walk;

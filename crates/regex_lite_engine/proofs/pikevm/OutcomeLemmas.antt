@@ -48,42 +48,41 @@ start_inside : (bytes : List ℕ) (start : ℕ) → start ≤ length bytes
     → search_start bytes start ≡ position_at bytes start
 start_inside bytes start inside = omega (arith, inside)
 
-module _ (tree : Tree) (haystack : List ℕ) (start : ℕ) where
-  module _ (graph : StoredGraph) (is : IsGraphOf tree graph) (inside : start ≤ length haystack)
-    where
-      at_position : (P : ℕ → Type 0) → P (position_at haystack start)
-          → P (search_start haystack start)
-      at_position P p = subst P (sym (start_inside haystack start inside)) p
+module _ (tree : Tree) (regular : IsRegular tree) (graph : StoredGraph)
+    (is : IsGraphOf tree graph) (haystack : List ℕ) (start : ℕ)
+    (inside : start ≤ length haystack) where
+  at_position : (P : ℕ → Type 0) → P (position_at haystack start)
+      → P (search_start haystack start)
+  at_position P p = subst P (sym (start_inside haystack start inside)) p
 
-      module _ (regular : IsRegular tree) where
-        pub answer_told : (outcome : Option Outcome)
-            → IsNumberedOutcome (table_of graph) (chars haystack) graph.start
-            (position_at haystack start) (match_told outcome)
-            → IsOutcome tree haystack start outcome
-        answer_told None none =
-            at_position (λ s. IsAnswer tree (chars haystack) s None)
-            (answer_of_numbers tree (chars haystack) (table_of graph) graph.start is.name is.written
-            is.start regular (position_at haystack start) None none)
-        answer_told (Some outcome) (found, answer, from, to, slots) = (
-          found,
-          at_position (λ s. IsAnswer tree (chars haystack) s (Some found))
-              (answer_of_numbers tree (chars haystack) (table_of graph) graph.start is.name
-              is.written is.start regular (position_at haystack start) (Some found) answer),
-          record { start = from; end = to; slots = slots },
-        )
+  pub answer_told : (outcome : Option Outcome)
+      → IsNumberedOutcome (table_of graph) (chars haystack) graph.start
+      (position_at haystack start) (match_told outcome)
+      → IsOutcome tree haystack start outcome
+  answer_told None none =
+      at_position (λ s. IsAnswer tree (chars haystack) s None)
+      (answer_of_numbers tree (chars haystack) (table_of graph) graph.start is.name is.written
+      is.start regular (position_at haystack start) None none)
+  answer_told (Some outcome) (found, answer, from, to, slots) = (
+    found,
+    at_position (λ s. IsAnswer tree (chars haystack) s (Some found))
+        (answer_of_numbers tree (chars haystack) (table_of graph) graph.start is.name
+        is.written is.start regular (position_at haystack start) (Some found) answer),
+    record { start = from; end = to; slots = slots },
+  )
 
-        pub end_told : (best : Best)
-            → IsNumberedEnd (table_of graph) (chars haystack) graph.start
-            (position_at haystack start) best
-            → IsEndOutcome tree haystack start (option_map (λ z. z.1) best)
-        end_told None none =
-            at_position (λ s. IsShortest tree (chars haystack) s None)
-            (shortest_of_numbers tree (chars haystack) (table_of graph) graph.start is.name
-            is.written is.start regular (position_at haystack start) None none)
-        end_told (Some best) (end, shortest, to) = (
-          end,
-          at_position (λ s. IsShortest tree (chars haystack) s (Some end))
-              (shortest_of_numbers tree (chars haystack) (table_of graph) graph.start is.name
-              is.written is.start regular (position_at haystack start) (Some end) shortest),
-          to,
-        )
+  pub end_told : (best : Best)
+      → IsNumberedEnd (table_of graph) (chars haystack) graph.start
+      (position_at haystack start) best
+      → IsEndOutcome tree haystack start (option_map (λ z. z.1) best)
+  end_told None none =
+      at_position (λ s. IsShortest tree (chars haystack) s None)
+      (shortest_of_numbers tree (chars haystack) (table_of graph) graph.start is.name
+      is.written is.start regular (position_at haystack start) None none)
+  end_told (Some best) (end, shortest, to) = (
+    end,
+    at_position (λ s. IsShortest tree (chars haystack) s (Some end))
+        (shortest_of_numbers tree (chars haystack) (table_of graph) graph.start is.name
+        is.written is.start regular (position_at haystack start) (Some end) shortest),
+    to,
+  )

@@ -14,6 +14,6 @@ run-requires-clause-counts c =
 pub returns-clause-found : goal.returns-clause-found
 returns-clause-found c = λ tree regular is. (
     let over = c.if-start-haystack.false in
-    answer_told tree c.args.haystack.now c.args.start c.args.self.now is (omega (arith, over)) regular c.into_outcome.result
+    answer_told tree regular c.args.self.now is c.args.haystack.now c.args.start (omega (arith, over)) c.into_outcome.result
     (subst (λ z. IsNumberedOutcome (table_of c.args.self.now) (chars c.args.haystack.now) c.args.self.now.start (position_at c.args.haystack.now c.args.start) z)
     (sym c.into_outcome.ensures.told) c.run.ensures.found))

@@ -15,4 +15,4 @@ pub returns-clause-found : goal.returns-clause-found
 returns-clause-found c = λ tree regular is. (
     let over = c.if-start-haystack.false in
     subst (λ z. IsEndOutcome tree c.args.haystack.now c.args.start z) (sym c.end.ensures)
-    (end_told tree c.args.haystack.now c.args.start c.args.self.now is (omega (arith, over)) regular (best_of c.run_shortest.new.cache.best) c.run_shortest.ensures.found))
+    (end_told tree regular c.args.self.now is c.args.haystack.now c.args.start (omega (arith, over)) (best_of c.run_shortest.new.cache.best) c.run_shortest.ensures.found))
