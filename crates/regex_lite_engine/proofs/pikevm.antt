@@ -5,8 +5,10 @@ pub mod InStepLemmas
 pub mod MarkLemmas
 pub mod OfferLemmas
 pub mod OptionLemmas
+pub mod OutcomeLemmas
 pub mod PositionLemmas
 pub mod RoomLemmas
+pub mod ShortestLemmas
 pub mod StepLemmas
 pub mod TurnLemmas
 pub mod WalkLemmas

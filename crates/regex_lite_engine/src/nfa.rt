@@ -4,9 +4,9 @@ ghost use Rattle.regex_lite_syntax.specs.Errors.{kind_of};
 ghost use Rattle.regex_lite_syntax.specs.Tree.Regular.{IsRegular};
 ghost use Rattle.regex_lite_syntax.specs.Tree.Properties.{captures_len, group_name};
 ghost use Rattle.regex_lite_syntax.specs.Tree.Views.{text_of_name, tree_of};
-ghost use Rattle.regex_lite_engine.specs.Graph.Renumbered.{IsGraphOf, HasGroupsOf};
+ghost use Rattle.regex_lite_engine.specs.Graph.Renumbered.{arrows_of, IsGraphOf, HasGroupsOf};
 ghost use Rattle.regex_lite_engine.specs.Graph.Size.{Fits, IsDueToTree};
-ghost use Rattle.regex_lite_engine.specs.Graph.Stored.{LeadsBelow, place_of};
+ghost use Rattle.regex_lite_engine.specs.Graph.Stored.{LeadsBelow, place_of, table_of};
 ghost use Rattle.regex_lite_engine.specs.Nfa.Saturation.{AreCountsOf};
 
 pub(crate) mod class;
@@ -37,7 +37,9 @@ pub struct Graph {
 }
 
 impl Model for Graph {
-    ghost use Rattle.regex_lite_engine.specs.Graph.Stored.{StoredGraph, IsClosed};
+    ghost use Rattle.std.specs.Prelude.{◌≡◌, map};
+    ghost use Rattle.regex_lite_engine.specs.Graph.Renumbered.{arrows_of};
+    ghost use Rattle.regex_lite_engine.specs.Graph.Stored.{StoredGraph, IsClosed, place_of};
 
     ghost Value = { StoredGraph };
 
@@ -49,7 +51,8 @@ impl Model for Graph {
       static_captures_len = graph.static_captures_len;
     } };
 
-    ghost invariant = { λ graph. IsClosed graph.places.items graph.start graph.arrows };
+    ghost invariant = { λ graph. IsClosed graph.places.items graph.start graph.arrows
+        × (arrows_of (map place_of graph.places.items) ≡ graph.arrows) };
 }
 
 impl Graph {
@@ -117,6 +120,7 @@ impl Graph {
     /// How many arrows there are.
     pub fn arrows(&self) -> usize
         ensures same { result ≡ self.now.arrows }
+        ensures all { result ≡ arrows_of (table_of self.now) }
         ensures few { result < 2 ^ 34 }
     {
         self.arrows

@@ -1,9 +1,8 @@
 //! The search by ordered sets: it goes over a haystack once, and keeps at each position the places
 //! that it can stand at, the most preferred first.
-ghost use Rattle.std.specs.Prelude.{◌≡◌, IfOk};
-ghost use Rattle.regex_lite_engine.specs.Graph.Renumbered.{arrows_of};
+ghost use Rattle.std.specs.Prelude.{◌≡◌, IfOk, length};
 ghost use Rattle.regex_lite_engine.specs.Graph.Stored.{table_of};
-ghost use Rattle.regex_lite_engine.specs.Walk.Outcomes.{IsFresh};
+ghost use Rattle.regex_lite_engine.specs.Walk.Outcomes.{IsFresh, IsCountable};
 
 mod best;
 mod enter;
@@ -11,8 +10,11 @@ pub(crate) mod here;
 mod run;
 pub(crate) mod search;
 pub(crate) mod seen;
+mod shortest;
 pub(crate) mod stack;
 pub(crate) mod steps;
+#[cfg(test)]
+mod tests;
 pub(crate) mod threads;
 mod turn;
 mod walk;
@@ -29,8 +31,9 @@ use walk::Walk;
 
 /// All the memory of a search that keeps so many slots, asked for before its first step.
 pub(crate) fn cache_for(alloc: Global, graph: &Graph, slots: usize) -> Result<Cache, AllocError>
-    requires { arrows_of (table_of graph.now) ≡ graph.now.arrows }
-    ensures { IfOk result (λ cache. IsFresh (table_of graph.now) cache) }
+    ensures fresh { IfOk result (λ cache. IsFresh (table_of graph.now) cache) }
+    ensures width { IfOk result (λ cache. length cache.best.row.items ≡ slots) }
+    ensures countable { IfOk result (λ _. IsCountable (table_of graph.now)) }
 {
     let places = graph.places();
     let room = places + 1;

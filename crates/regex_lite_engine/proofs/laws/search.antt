@@ -5,5 +5,6 @@ pub mod NumberedAnswerLemmas
 pub mod NumberedWayLemmas
 pub mod OneEndLemmas
 pub mod OverLemmas
+pub mod RecordedWayLemmas
 pub mod SearchLawLemmas
 pub mod WayOrderLemmas

@@ -5,7 +5,7 @@ use Rattle.regex_lite_engine.specs.declared.pikevm.here.Here.{Here}
 use Rattle.regex_lite_engine.specs.declared.pikevm.stack.Frame.{Frame}
 use Rattle.regex_lite_engine.specs.declared.pikevm.stack.Frame.TheVariants.{Explore}
 use Rattle.regex_lite_engine.specs.declared.pikevm.seen.Seen.{Seen}
-use Rattle.regex_lite_engine.specs.declared.pikevm.steps.Steps.{Steps}
+use Rattle.regex_lite_engine.specs.Search.Bounds.{StepCounts}
 use Rattle.regex_lite_engine.specs.declared.pikevm.threads.Threads.{Threads}
 use Rattle.regex_lite_engine.specs.declared.pikevm.walk.Walk.{Walk}
 use Rattle.regex_lite_engine.specs.Graph.Places.{Place}
@@ -118,7 +118,7 @@ entries_more table now now' r r' entered entered' due en less so_far =
 
 -- a thread was taken up: w1 is w but for the stack and the row
 module _ (table : List (Place ℕ)) (w w1 : Walk) (es : w1.seen ≡ w.seen) (en : w1.next ≡ w.next) (et : w1.steps ≡ w.steps) where
-  same_walk : (P : Seen → Threads → Steps → Type 0) → P w.seen w.next w.steps → P w1.seen w1.next w1.steps
+  same_walk : (P : Seen → Threads → StepCounts → Type 0) → P w.seen w.next w.steps → P w1.seen w1.next w1.steps
   same_walk P x =
       subst (λ z. P z w1.next w1.steps) (sym es) (subst (λ z. P w.seen z w1.steps) (sym en) (subst (λ z. P w.seen w.next z) (sym et) x))
 

@@ -2,12 +2,17 @@
 use Rattle.std.specs.Prelude.{◌≡◌, ◌<◌, ◌≤◌, ℕ, ◌+◌, ◌-◌, ◌*◌, length}
 use Rattle.regex_lite_syntax.specs.Text.{Text}
 
+-- how often a search tried a place, entered one, and looked at what stands there
+pub record StepCounts : Type 0 where
+  pub tried : ℕ
+  pub entered : ℕ
+  pub looked : ℕ
+
 -- from position s to the end of the haystack, none from a position beyond it
 abbrev pub characters_left : Text → (s : ℕ) → ℕ
 characters_left haystack s = length haystack - s
 
--- how often a search from position s on, of a graph with so many places and arrows, tried a place,
--- entered one, and looked at what stands there
+-- the counts of a search from position s on, of a graph with so many places and arrows
 pub record IsBounded (places arrows : ℕ) (haystack : Text) (s tried entered looked : ℕ)
     : Type 0 where
   pub few_tried : tried ≤ (arrows + 1) * (characters_left haystack s + 1)

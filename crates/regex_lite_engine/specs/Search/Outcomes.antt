@@ -3,10 +3,9 @@ use Rattle.std.specs.Prelude.{◌≡◌, ℕ, List, Option, Some, None, chars}
 use Rattle.regex_lite_syntax.specs.Text.{Text}
 use Rattle.regex_lite_syntax.specs.Tree.{Tree}
 use Rattle.regex_lite_engine.specs.declared.pikevm.search.Outcome.{Outcome}
-use Rattle.regex_lite_engine.specs.declared.pikevm.steps.Steps.{Steps}
 use Rattle.regex_lite_engine.specs.Graph.PlaceCounts.{whole_places, whole_arrows}
 use Rattle.regex_lite_engine.specs.Search.Answer.{Found, IsAnswer, IsShortest}
-use Rattle.regex_lite_engine.specs.Search.Bounds.{IsBounded}
+use Rattle.regex_lite_engine.specs.Search.Bounds.{StepCounts, IsBounded}
 use Rattle.regex_lite_engine.specs.Search.Offsets.{offset, search_start, HasSlots}
 
 -- the outcome has the offsets of what was found
@@ -32,7 +31,7 @@ IsEndOutcome tree haystack start (Some at) =
     × (at ≡ offset (chars haystack) end)
 
 -- a search of the tree's graph did no more than is allowed
-abbrev pub HasCost : Tree → (haystack : List ℕ) → (start : ℕ) → Steps → Type 0
+abbrev pub HasCost : Tree → (haystack : List ℕ) → (start : ℕ) → StepCounts → Type 0
 HasCost tree haystack start steps =
     IsBounded (whole_places tree) (whole_arrows tree) (chars haystack)
     (search_start haystack start) steps.tried steps.entered steps.looked

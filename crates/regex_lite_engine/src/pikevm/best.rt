@@ -1,6 +1,7 @@
 //! The best match that a search has found so far.
-ghost use Rattle.std.specs.Prelude.{◌≡◌, ◌↔◌, IfOk, IsTrue, None, Some, length};
+ghost use Rattle.std.specs.Prelude.{◌≡◌, ◌↔◌, IfOk, IfSome, IsTrue, None, Some, length, option_map};
 
+use crate::pikevm::search::Outcome;
 use std::alloc::{AllocError, Global};
 
 /// Its start and its end, and its slots in `row`.
@@ -12,6 +13,7 @@ pub struct Best {
 
 impl Best {
     ghost use Rattle.regex_lite_engine.specs.Walk.Turns.{best_of};
+    ghost use Rattle.regex_lite_engine.specs.Walk.Outcomes.{match_told};
 
     /// None yet, with room for a row of so many slots.
     pub fn with_width(alloc: Global, width: usize) -> Result<Best, AllocError>
@@ -37,5 +39,32 @@ impl Best {
     {
         self.found = Some((start, end));
         self.row.copy_from_slice(slots);
+    }
+
+    /// Where it ends.
+    pub fn end(&self) -> Option<usize>
+        ensures { result ≡ option_map (λ best. best.1) (best_of self.now) }
+    {
+        match self.found {
+            None => None,
+            Some((_, end)) => Some(end),
+        }
+    }
+
+    /// The match by itself, with its row.
+    pub fn into_outcome(self) -> Option<Outcome>
+        ensures told { match_told result ≡ best_of self }
+        ensures width { IfSome result (λ outcome.
+            length outcome.slots.items ≡ length self.row.items) }
+    {
+        let Best { found, row } = self;
+        match found {
+            None => None,
+            Some((start, end)) => Some(Outcome {
+                start,
+                end,
+                slots: row,
+            }),
+        }
     }
 }

@@ -24,6 +24,7 @@ pub fn run(cache: &mut Cache, graph: &Graph, haystack: &str, start: usize)
     ensures bounded { IsBounded (length (table_of graph.now)) (arrows_of (table_of graph.now))
         (chars haystack.now) (position_at haystack.now start) cache.new.walk.steps.tried
         cache.new.walk.steps.entered cache.new.walk.steps.looked }
+    ensures width { length cache.new.best.row.items ≡ length cache.old.best.row.items }
 {
     let mut here = Here::at(haystack, start);
     'positions: loop {

@@ -6,7 +6,11 @@ ghost use Rattle.regex_lite_engine.specs.Graph.Renumbered.{IsGraphOf};
 ghost use Rattle.regex_lite_engine.specs.Search.Outcomes.{IsOutcome, IsEndOutcome, HasCost};
 
 use crate::Graph;
+use crate::pikevm::cache_for;
+use crate::pikevm::run::run;
+use crate::pikevm::shortest::run_shortest;
 use crate::pikevm::steps::Steps;
+use crate::pikevm::turn::Cache;
 use std::alloc::{AllocError, Global};
 
 /// What a search found: where the match starts and ends, and what its slots hold, all as offsets.
@@ -42,7 +46,13 @@ impl Graph {
         ensures cost { IfOk result (λ told. (tree : Tree) → IsGraphOf tree self.now
             → HasCost tree haystack.now start told.1) }
     {
-        Err(AllocError)
+        if start > haystack.len() {
+            return Ok((None, Steps::none()));
+        }
+        let mut cache = cache_for(alloc, self, slots)?;
+        run(&mut cache, self, haystack, start);
+        let Cache { walk, best, .. } = cache;
+        Ok((best.into_outcome(), walk.steps))
     }
 
     /// The least end of any match that starts at or after this offset, and what the search did. It
@@ -65,6 +75,12 @@ impl Graph {
         ensures cost { IfOk result (λ told. (tree : Tree) → IsGraphOf tree self.now
             → HasCost tree haystack.now start told.1) }
     {
-        Err(AllocError)
+        if start > haystack.len() {
+            return Ok((None, Steps::none()));
+        }
+        let mut cache = cache_for(alloc, self, 0)?;
+        run_shortest(&mut cache, self, haystack, start);
+        let Cache { walk, best, .. } = cache;
+        Ok((best.end(), walk.steps))
     }
 }

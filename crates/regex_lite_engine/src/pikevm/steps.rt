@@ -1,12 +1,32 @@
 //! What a search does, counted.
 ghost use Rattle.std.specs.Prelude.{◌≡◌, ◌+◌, ◌<◌, ◌^◌};
 
+use std::marker::Model;
+
 /// How much a search did.
 #[derive(Clone, Copy, PartialEq, Eq, Debug)]
 pub struct Steps {
     tried: u128,
     entered: u128,
     looked: u128,
+}
+
+impl Model for Steps {
+    ghost use Rattle.regex_lite_engine.specs.Search.Bounds.{StepCounts};
+
+    ghost Value = { StepCounts };
+
+    ghost view = { λ steps. record {
+      tried = steps.tried;
+      entered = steps.entered;
+      looked = steps.looked;
+    } };
+
+    ghost inverse = { λ counts. record {
+      tried = counts.tried;
+      entered = counts.entered;
+      looked = counts.looked;
+    } };
 }
 
 impl Steps {

@@ -43,6 +43,7 @@ impl Cache {
             → IsComing (table_of graph.now) haystack graph.now.start first last (p + 1)
             self.new.threads (best_of self.new.best) }
         ensures ends { EndsAt here.at (best_of self.old.best) (best_of self.new.best) }
+        ensures width { length self.new.best.row.items ≡ length self.old.best.row.items }
         ensures tries { self.new.walk.steps.tried + self.new.threads.len
             ≤ self.old.walk.steps.tried + self.old.threads.len
             + (arrows_of (table_of graph.now) + 1) }

@@ -4,12 +4,11 @@ use Rattle.regex_lite_engine.specs.Graph.Stored.{table_of, place_of}
 use Rattle.regex_lite_engine.proofs.pikevm.TurnLemmas.{sum_weight}
 use Rattle.regex_lite_engine.proofs.pikevm.cache_for.Goals as goal
 
-pub returns : goal.returns
-returns c =
+pub returns-clause-fresh : goal.returns-clause-fresh
+returns-clause-fresh c =
     let count : length (map place_of c.args.graph.now.places) ≡ length c.args.graph.now.places = length-map c.args.graph.now.places place_of in
     let places : c.places-places.result ≡ length c.args.graph.now.places = c.places-places.ensures.same in
-    let weights = sum_weight (table_of c.args.graph.now) in let all = c.requires in
-    let arrows = c.arrows.ensures.same in
+    let weights = sum_weight (table_of c.args.graph.now) in let all = c.arrows.ensures.all in
     let size = c.in_ok-with_room-2.ensures.size in
     let next = c.in_ok-with_room-3.ensures.room in let threads = c.in_ok-with_room-4.ensures.room in
     let none = c.in_ok-with_room-4.ensures.empty in
@@ -26,7 +25,7 @@ returns c =
         few = omega (arith, none);
         below = λ k lt. absurd (omega (arith, lt, none));
         none_next = c.in_ok-with_room-3.ensures.empty;
-        stack_size = omega (arith, weights, size, places, count, arrows, all);
+        stack_size = omega (arith, weights, size, places, count, all);
         stack_empty = c.in_ok-with_room-2.ensures.empty;
         best_width = c.in_ok-with_width.ensures.width ∙ sym slots;
         entered_tried = omega (arith, tried, entered);
@@ -38,3 +37,10 @@ returns c =
       no_tries = tried;
       no_entries = entered;
     }
+
+pub returns-clause-countable : goal.returns-clause-countable
+returns-clause-countable c =
+    let count : length (map place_of c.args.graph.now.places) ≡ length c.args.graph.now.places = length-map c.args.graph.now.places place_of in
+    let places = c.places-places.ensures.same in let few = c.places-places.ensures.few in
+    let all = c.arrows.ensures.all in let few_arrows = c.arrows.ensures.few in
+    record { few_places = omega (arith, count, places, few); few_arrows = omega (arith, all, few_arrows) }

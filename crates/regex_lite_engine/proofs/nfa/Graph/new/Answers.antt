@@ -36,7 +36,9 @@ invariant_of-result c =
     let tree = tree_of c.args.hir.now in
     let fits = (c.in_ok-count.ensures.ok tree c.of-counts.ensures).1 in
     let counted = c.arrows.ensures tree c.of-counts.ensures c.requires fits.places_fit in
-    let places = c.in_ok-places.ensures in
-    closed tree c.requires c.in_ok-places.places.items places.written.1 c.in_ok-places.start
-    c.arrows.result places.written.0 (omega (arith, places.length, fits.places_fit))
-    (omega (arith, counted, arrows_few tree c.requires, fits.places_fit))
+    let places = c.in_ok-places.ensures in (
+      closed tree c.requires c.in_ok-places.places.items places.written.1 c.in_ok-places.start
+          c.arrows.result places.written.0 (omega (arith, places.length, fits.places_fit))
+          (omega (arith, counted, arrows_few tree c.requires, fits.places_fit)),
+      ap arrows_of places.written.1 ∙ arrows_whole tree ∙ sym counted,
+    )

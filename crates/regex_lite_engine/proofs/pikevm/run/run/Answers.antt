@@ -1,4 +1,4 @@
-use Rattle.std.proofs.Common.{rules, ℕ, ◌+◌, length, sym, subst, arith}
+use Rattle.std.proofs.Common.{rules, refl, ◌∙◌, ℕ, ◌+◌, length, sym, subst, arith}
 use Rattle.std.specs.Prelude.{chars}
 use Rattle.regex_lite_engine.specs.Graph.Renumbered.{arrows_of}
 use Rattle.regex_lite_engine.specs.Graph.Stored.{table_of}
@@ -20,6 +20,7 @@ positions-init c =
       ready = r.between;
       coming = subst (λ z. IsComing (table_of a.graph.now) (chars a.haystack.now) a.graph.now.start (position_at a.haystack.now a.start) (length (chars a.haystack.now)) (position_at a.haystack.now a.start) a.cache.now.threads z) (sym r.none)
           (none_coming (table_of a.graph.now) (chars a.haystack.now) a.graph.now.start (position_at a.haystack.now a.start) (length (chars a.haystack.now)) a.cache.now.threads none);
+      width = refl;
       tries = omega (arith, tried, none);
       entries = omega (arith, entered);
       rounds = omega (arith, rounds);
@@ -38,6 +39,7 @@ positions-preserved c =
       low = omega (arith, low);
       ready = c.turn.ensures.ready;
       coming = c.turn.ensures.comes (chars a.haystack.now) v.p (position_at a.haystack.now a.start) (length (chars a.haystack.now)) v.is v.low v.is.inside (λ e. cc) v.coming;
+      width = c.turn.ensures.width ∙ v.width;
       tries = bound_more (c.positions.cache.walk.steps.tried + c.positions.cache.threads.len) (c.turn.new.self.walk.steps.tried + c.turn.new.self.threads.len) v.p (position_at a.haystack.now a.start) (arrows_of (table_of a.graph.now) + 1) v.low v.tries c.turn.ensures.tries;
       entries = bound_more c.positions.cache.walk.steps.entered c.turn.new.self.walk.steps.entered v.p (position_at a.haystack.now a.start) (length (table_of a.graph.now)) v.low v.entries c.turn.ensures.entries;
       rounds = omega (arith, rounds, now, low);

@@ -1,4 +1,4 @@
-use Rattle.std.proofs.Common.{ℕ, ◌+◌, ◌-◌, ◌*◌, ◌≤◌, length}
+use Rattle.std.proofs.Common.{◌≡◌, ℕ, ◌+◌, ◌-◌, ◌*◌, ◌≤◌, length}
 use Rattle.std.specs.Prelude.{chars}
 use Rattle.regex_lite_engine.specs.Graph.Renumbered.{arrows_of}
 use Rattle.regex_lite_engine.specs.Graph.Stored.{table_of}
@@ -15,6 +15,7 @@ invariant-positions l = record {
   low : position_at l.haystack l.start ≤ p;
   ready : IsBetween (table_of l.graph) l.cache;
   coming : IsComing (table_of l.graph) (chars l.haystack) l.graph.start (position_at l.haystack l.start) (length (chars l.haystack)) p l.cache.threads (best_of l.cache.best);
+  width : length l.cache.best.row.items ≡ length l.fn.cache.best.row.items;
   tries : l.cache.walk.steps.tried + l.cache.threads.len ≤ (arrows_of (table_of l.graph) + 1) * (p - position_at l.haystack l.start);
   entries : l.cache.walk.steps.entered ≤ length (table_of l.graph) * (p - position_at l.haystack l.start);
   rounds : l.cache.walk.seen.now ≤ p - position_at l.haystack l.start;

@@ -1,7 +1,7 @@
 use Rattle.std.proofs.Common.{rules, ◌≡◌, ◌+◌, ◌++◌, [], ◌∷◌, length, map, take, drop, if◌then◌else◌, false, subst, sym, ap, ◌∙◌, arith}
 use Rattle.std.proofs.lemmas.List.{length-map}
 use Rattle.regex_lite_engine.specs.declared.pikevm.stack.Frame.TheVariants.{Explore}
-use Rattle.regex_lite_engine.specs.declared.pikevm.steps.Steps.{Steps}
+use Rattle.regex_lite_engine.specs.Search.Bounds.{StepCounts}
 use Rattle.regex_lite_engine.specs.Graph.Stored.{LeadsBelow, table_of, place_of}
 use Rattle.regex_lite_engine.specs.Walk.Machine.{Row, frames_of}
 use Rattle.regex_lite_engine.specs.Walk.Entering.{Enters}
@@ -15,7 +15,7 @@ returns-then-not-insert-clause-taken c =
     went_counted (table_of a.graph.now) a.here a.start w.seen.now w.seen.rounds.items c.insert.new.self.rounds.items w.slots.items w.slots.items
     (Explore a.place ∷ frames_of w.stack) (frames_of w.stack) w.stack.top w.next w.next w.steps.tried w.steps.entered
     (w.steps.tried + 1) w.steps.entered w.steps.looked c.count_try.new.self.tried c.count_try.new.self.entered c.count_try.new.self.looked false
-    (ap (λ (s : Steps). s.tried) counted) (ap (λ (s : Steps). s.entered) counted) (ap (λ (s : Steps). s.looked) counted)
+    (ap (λ (s : StepCounts). s.tried) counted) (ap (λ (s : StepCounts). s.entered) counted) (ap (λ (s : StepCounts). s.looked) counted)
     (went_seen (table_of a.graph.now) a.here a.start w.seen.now w.seen.rounds.items c.insert.new.self.rounds.items w.slots.items a.place
     (frames_of w.stack) w.stack.top w.next w.steps.tried w.steps.entered w.steps.looked c.requires
     (was_met _ _ c.insert.result (search rules) c.insert.ensures.fresh.1) c.insert.ensures.added)
@@ -40,9 +40,9 @@ returns-then-done-clause-taken c =
     (went_counted (table_of a.graph.now) a.here a.start w.seen.now w.seen.rounds.items c.insert.new.self.rounds.items w.slots.items c.enter-done.new.slots
     (Explore a.place ∷ frames_of w.stack) (frames_of c.clear.new.self) c.clear.new.self.top w.next c.enter-done.new.next w.steps.tried w.steps.entered
     (w.steps.tried + 1) (w.steps.entered + 1) (w.steps.looked + 1) c.look-found.new.steps.tried c.look-found.new.steps.entered c.look-found.new.steps.looked c.enter-done.result
-    (ap (λ (s : Steps). s.tried) looked ∙ ap (λ (s : Steps). s.tried) entered ∙ ap (λ (s : Steps). s.tried) tried)
-    (ap (λ (s : Steps). s.entered) looked ∙ ap (λ (s : Steps). s.entered) entered ∙ ap (λ (s : Steps). s.entered + 1) tried)
-    (ap (λ (s : Steps). s.looked) looked ∙ ap (λ (s : Steps). s.looked + 1) entered ∙ ap (λ (s : Steps). s.looked + 1) tried)
+    (ap (λ (s : StepCounts). s.tried) looked ∙ ap (λ (s : StepCounts). s.tried) entered ∙ ap (λ (s : StepCounts). s.tried) tried)
+    (ap (λ (s : StepCounts). s.entered) looked ∙ ap (λ (s : StepCounts). s.entered) entered ∙ ap (λ (s : StepCounts). s.entered + 1) tried)
+    (ap (λ (s : StepCounts). s.looked) looked ∙ ap (λ (s : StepCounts). s.looked + 1) entered ∙ ap (λ (s : StepCounts). s.looked + 1) tried)
     (went_entered (table_of a.graph.now) a.here a.start w.seen.now w.seen.rounds.items c.insert.new.self.rounds.items w.slots.items c.enter-done.new.slots a.place c.look-found.result.now
     (frames_of w.stack) (frames_of c.enter-done.new.stack) (frames_of c.clear.new.self) w.stack.top c.clear.new.self.top w.next c.enter-done.new.next w.steps.tried w.steps.entered w.steps.looked
     c.enter-done.result (subst (λ z. LeadsBelow z (place_of c.look-found.result.now)) (sym size) c.look-found.ensures.inside) c.requires (c.insert.ensures.fresh.0 (search rules)) c.insert.ensures.added
@@ -64,9 +64,9 @@ returns-else-done-clause-taken c =
     (went_counted (table_of a.graph.now) a.here a.start w.seen.now w.seen.rounds.items c.insert.new.self.rounds.items w.slots.items c.enter-done.new.slots
     (Explore a.place ∷ frames_of w.stack) (frames_of c.enter-done.new.stack) c.enter-done.new.stack.top w.next c.enter-done.new.next w.steps.tried w.steps.entered
     (w.steps.tried + 1) (w.steps.entered + 1) (w.steps.looked + 1) c.look-found.new.steps.tried c.look-found.new.steps.entered c.look-found.new.steps.looked c.enter-done.result
-    (ap (λ (s : Steps). s.tried) looked ∙ ap (λ (s : Steps). s.tried) entered ∙ ap (λ (s : Steps). s.tried) tried)
-    (ap (λ (s : Steps). s.entered) looked ∙ ap (λ (s : Steps). s.entered) entered ∙ ap (λ (s : Steps). s.entered + 1) tried)
-    (ap (λ (s : Steps). s.looked) looked ∙ ap (λ (s : Steps). s.looked + 1) entered ∙ ap (λ (s : Steps). s.looked + 1) tried)
+    (ap (λ (s : StepCounts). s.tried) looked ∙ ap (λ (s : StepCounts). s.tried) entered ∙ ap (λ (s : StepCounts). s.tried) tried)
+    (ap (λ (s : StepCounts). s.entered) looked ∙ ap (λ (s : StepCounts). s.entered) entered ∙ ap (λ (s : StepCounts). s.entered + 1) tried)
+    (ap (λ (s : StepCounts). s.looked) looked ∙ ap (λ (s : StepCounts). s.looked + 1) entered ∙ ap (λ (s : StepCounts). s.looked + 1) tried)
     (went_entered (table_of a.graph.now) a.here a.start w.seen.now w.seen.rounds.items c.insert.new.self.rounds.items w.slots.items c.enter-done.new.slots a.place c.look-found.result.now
     (frames_of w.stack) (frames_of c.enter-done.new.stack) (frames_of c.enter-done.new.stack) w.stack.top c.enter-done.new.stack.top w.next c.enter-done.new.next w.steps.tried w.steps.entered w.steps.looked
     c.enter-done.result (subst (λ z. LeadsBelow z (place_of c.look-found.result.now)) (sym size) c.look-found.ensures.inside) c.requires (c.insert.ensures.fresh.0 (search rules)) c.insert.ensures.added

@@ -1,0 +1,18 @@
+use Rattle.std.proofs.Common.{rules, length, ◌<◌, ◌^◌, subst, sym, arith}
+use Rattle.regex_lite_engine.specs.Graph.Stored.{table_of}
+use Rattle.regex_lite_engine.specs.Search.Offsets.{position_at}
+use Rattle.regex_lite_engine.specs.Search.Outcomes.{IsEndOutcome}
+use Rattle.regex_lite_engine.specs.Walk.Turns.{best_of}
+use Rattle.regex_lite_engine.proofs.pikevm.OutcomeLemmas.{can_count, end_told}
+use Rattle.regex_lite_engine.proofs.nfa.Graph.search_shortest.Goals as goal
+
+pub run_shortest-requires-clause-counts : goal.run_shortest-requires-clause-counts
+run_shortest-requires-clause-counts c =
+    let short : length c.args.haystack.now < 2 ^ 63 = search rules in
+    can_count (table_of c.args.self.now) c.args.haystack.now (position_at c.args.haystack.now c.args.start) c.utf8.haystack short c.in_ok-cache.ensures.countable
+
+pub returns-clause-found : goal.returns-clause-found
+returns-clause-found c = λ tree regular is. (
+    let over = c.if-start-haystack.false in
+    subst (λ z. IsEndOutcome tree c.args.haystack.now c.args.start z) (sym c.end.ensures)
+    (end_told tree regular c.args.self.now is c.args.haystack.now c.args.start (omega (arith, over)) (best_of c.run_shortest.new.cache.best) c.run_shortest.ensures.found))

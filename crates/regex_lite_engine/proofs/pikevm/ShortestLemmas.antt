@@ -1,0 +1,241 @@
+-- The first position at which a match is complete.
+use Rattle.std.proofs.Common.{◌≡◌, refl, ℕ, suc, ◌+◌, ◌<◌, ◌≤◌, ◌⊎◌, inl, inr, Bool, true, false, IsTrue, List, [], ◌∷◌, ◌++◌, length, slice_get, Option, Some, None, if◌then◌else◌, sym, ap, subst, ◌∙◌, arith}
+use Rattle.std.proofs.lemmas.Bool.{cases_lt}
+use Rattle.regex_lite_syntax.specs.Text.{Text, before, after}
+use Rattle.regex_lite_syntax.specs.Tree.Looks.{holds_between}
+use Rattle.regex_lite_syntax.proofs.ListLemmas.{same_head, same_tail}
+use Rattle.regex_lite_engine.specs.declared.pikevm.threads.Threads.{Threads}
+use Rattle.regex_lite_engine.specs.Graph.Places.{Condition, Arrow, Place, complete, with_arrows, free, holding, reading, taken, behind, arrived, arrow_taken, step_from}
+use Rattle.regex_lite_engine.specs.Graph.Ways.{Leads, NoneTwice}
+use Rattle.regex_lite_engine.specs.Search.Offsets.{offset}
+use Rattle.regex_lite_engine.specs.Walk.Explored.{StartsAt, IsAnswered, IsDead}
+use Rattle.regex_lite_engine.specs.Walk.NumberedAnswer.{place_with, numbered_step, is_end, IsNumberedMatch}
+use Rattle.regex_lite_engine.specs.Walk.InStep.{Offer, In}
+use Rattle.regex_lite_engine.specs.Walk.Machine.{Row}
+use Rattle.regex_lite_engine.specs.Walk.Outcomes.{IsNumberedEnd}
+use Rattle.regex_lite_engine.specs.Walk.Turns.{IsComing, EndsAt}
+use Rattle.regex_lite_engine.specs.Walk.Walking.{Node, Best, BestHolds, InStep}
+use Rattle.regex_lite_engine.proofs.laws.search.OverLemmas.{starts_differ}
+use Rattle.regex_lite_engine.proofs.laws.search.RecordedWayLemmas.{traced, recorded_once}
+use Rattle.regex_lite_engine.proofs.pikevm.EndLemmas.{step_in_text}
+use Rattle.regex_lite_engine.proofs.pikevm.OptionLemmas.{not_there, same_some}
+use Rattle.regex_lite_engine.proofs.pikevm.here.OffsetLemmas.{same_position}
+
+-- no arrow leads back to an earlier position
+taken_on : (haystack : Text) (a : Condition) (i j : ℕ) → taken haystack a i ≡ Some j → i ≤ j
+taken_on haystack free i j e = let same : i ≡ j = same_some e in omega (arith, same)
+taken_on haystack (holding test) i j e =
+    by_test (holds_between test (before haystack i) (after haystack i)) e
+  where
+    by_test : (b : Bool) → (if b then Some i else None) ≡ Some j → i ≤ j
+    by_test true e = let same : i ≡ j = same_some e in omega (arith, same)
+    by_test false e = absurd (not_there e)
+taken_on haystack (reading set) i j e = by_next (after haystack i) e
+  where
+    by_next : (o : Option ℕ) → behind set i o ≡ Some j → i ≤ j
+    by_next None e = absurd (not_there e)
+    by_next (Some c) e = by_test (set c) e
+      where
+        by_test : (b : Bool) → (if b then Some (suc i) else None) ≡ Some j → i ≤ j
+        by_test true e = let same : suc i ≡ j = same_some e in omega (arith, same)
+        by_test false e = absurd (not_there e)
+
+step_on : (haystack : Text) (place : Place ℕ) (i k : ℕ) (m : Node)
+    → step_from haystack place i k ≡ Some m → i ≤ m.1
+step_on haystack complete i k m e = absurd (not_there e)
+step_on haystack (with_arrows arrows) i k m e = by_arrow (slice_get arrows k) e
+  where
+    by_arrow : (o : Option (Arrow ℕ)) → arrow_taken haystack i o ≡ Some m → i ≤ m.1
+    by_arrow None e = absurd (not_there e)
+    by_arrow (Some a) e = by_end (taken haystack a.condition i) refl e
+      where
+        by_end : (o : Option ℕ) → taken haystack a.condition i ≡ o → arrived a.to o ≡ Some m
+            → i ≤ m.1
+        by_end None t e = absurd (not_there e)
+        by_end (Some j) t e =
+            let low = taken_on haystack a.condition i j t in
+            let same : j ≡ m.1 = ap (λ (z : Node). z.1) (same_some e) in
+            omega (arith, low, same)
+
+module _ (table : List (Place ℕ)) (haystack : Text) where
+  leads_on : (ks : List ℕ) (m n : Node) → Leads Node (numbered_step table haystack) m ks n
+      → m.1 ≤ n.1
+  leads_on [] m n e = let same : m.1 ≡ n.1 = ap (λ (z : Node). z.1) e in omega (arith, same)
+  leads_on (k ∷ ks) m n (l, s, along) =
+      let first = step_on haystack (place_with table m.0) m.1 k l s in
+      let rest = leads_on ks l n along in
+      omega (arith, first, rest)
+
+  leads_in_text : (ks : List ℕ) (m n : Node) → m.1 ≤ length haystack
+      → Leads Node (numbered_step table haystack) m ks n → n.1 ≤ length haystack
+  leads_in_text [] m n low e =
+      let same : m.1 ≡ n.1 = ap (λ (z : Node). z.1) e in omega (arith, low, same)
+  leads_in_text (k ∷ ks) m n low (l, s, along) =
+      leads_in_text ks l n (step_in_text haystack (place_with table m.0) m.1 k l low s) along
+
+  module _ (start s : ℕ) where
+    abbrev Answered : (Node → Option (List ℕ)) → Option (List ℕ) → Node → List ℕ → Type 0
+    Answered recorded best =
+        IsAnswered Node (numbered_step table haystack) (is_end table haystack)
+        (StartsAt (λ j. (start, j)) s (length haystack)) recorded best
+
+    abbrev In_step : ℕ → ℕ → (Node → Option (List ℕ)) → List (Offer Node) → Option (List ℕ)
+        → Type 0
+    In_step p from recorded coming way =
+        InStep table haystack start s (length haystack) p from recorded coming [] way
+
+    abbrev Coming : ℕ → Threads → Best → Type 0
+    Coming = IsComing table haystack start s (length haystack)
+
+    -- while there is no match
+    module _ (p from : ℕ) (recorded : Node → Option (List ℕ)) (coming : List (Offer Node))
+        (u : In_step p from recorded coming None) where
+      -- arrows from a place that was entered lead to no end before the position
+      later_than_entered : (ks : List ℕ) (m n : Node) (v : List ℕ) → recorded m ≡ Some v
+          → Leads Node (numbered_step table haystack) m ks n → IsTrue (is_end table haystack n)
+          → p ≤ n.1
+      later_than_entered [] m n v r e ends =
+          let best = u.best_least n v ends (ap recorded (sym e) ∙ r) in
+          absurd (not_there best.1)
+      later_than_entered (k ∷ ks) m n v r (l, s, along) ends =
+          by_case (λ w e. later_than_entered ks l n w e along ends) (u.arrows m v k l r s)
+        where
+          by_case : ((w : List ℕ) → recorded l ≡ Some w → p ≤ n.1)
+              → Answered recorded None l (v ++ k ∷ [])
+              ⊎ (In Node l (v ++ k ∷ []) coming ⊎ ⊥) → p ≤ n.1
+          by_case on (inl (inl (w, e, le))) = on w e
+          by_case on (inl (inr (b, e, less))) = absurd (not_there e)
+          by_case on (inr (inr none)) = absurd none
+          by_case on (inr (inl i)) =
+              let at = u.now_stands l (v ++ k ∷ []) i in
+              let rest = leads_on ks l n along in
+              omega (arith, at, rest)
+
+      later_than_start : (i : ℕ) (ks : List ℕ) (n : Node) → s ≤ i → i ≤ length haystack → from ≡ p
+          → Leads Node (numbered_step table haystack) (start, i) ks n
+          → IsTrue (is_end table haystack n) → p ≤ n.1
+      later_than_start i ks n low high same along ends = by_from (cases_lt i from)
+        where
+          by_case : (Answered recorded None (start, i) (i ∷ [])
+              ⊎ (In Node (start, i) (i ∷ []) coming ⊎ ⊥))
+              ⊎ IsDead Node (numbered_step table haystack) (is_end table haystack) (start, i)
+              → p ≤ n.1
+          by_case (inr dead) = absurd (dead ks n ends along)
+          by_case (inl (inl (inl (w, e, le)))) = later_than_entered ks (start, i) n w e along ends
+          by_case (inl (inl (inr (b, e, less)))) = absurd (not_there e)
+          by_case (inl (inr (inr none))) = absurd none
+          by_case (inl (inr (inl i'))) =
+              let at = u.now_stands (start, i) (i ∷ []) i' in
+              let rest = leads_on ks (start, i) n along in
+              omega (arith, at, rest)
+
+          by_from : (i < from) ⊎ (from ≤ i) → p ≤ n.1
+          by_from (inl less) = by_case (u.starts i low high less)
+          by_from (inr le) =
+              let rest = leads_on ks (start, i) n along in omega (arith, le, same, rest)
+
+    -- then each match ends at the position or later
+    ends_later : (p : ℕ) (threads : Threads) → Coming p threads None → (i q j : ℕ) (way : List ℕ)
+        → IsNumberedMatch table haystack start s i way q j → p ≤ j
+    ends_later p threads u i q j way m =
+        later_than_start p u.from u.recorded u.coming
+        (subst (λ z. In_step p u.from u.recorded u.coming z) u.best_holds u.in_step) i way (q, j)
+        m.from m.inside u.from_is m.leads.is_way.0 m.leads.ends
+
+    -- the best match is one
+    best_matches : (p : ℕ) (threads : Threads) (b : ℕ × ℕ × Row) → Coming p threads (Some b)
+        → (i : ℕ) × (q : ℕ) × (j : ℕ) × (way : List ℕ) × (b.1 ≡ offset haystack j)
+        × IsNumberedMatch table haystack start s i way q j
+    best_matches p threads b u = by_way u.best_holds
+      where
+        by_way : BestHolds table haystack start (Some b) u.way
+            → (i : ℕ) × (q : ℕ) × (j : ℕ) × (way : List ℕ) × (b.1 ≡ offset haystack j)
+            × IsNumberedMatch table haystack start s i way q j
+        by_way (w, e, (q, j, at, ends, (i, ks, from_at, parts, along, has))) =
+            let end = u.in_step.best_ends w e in
+            let differ = starts_differ (numbered_step table haystack) (is_end table haystack)
+            (λ i. (start, i)) s (length haystack) in
+            let t = traced Node (numbered_step table haystack) (is_end table haystack)
+            (StartsAt (λ i. (start, i)) s (length haystack)) u.recorded u.way differ
+            u.in_step.grown end.0 w end.2 in
+            by_start t.front t.start t.is_start t.arrows (sym parts ∙ t.parts)
+            (recorded_once Node (numbered_step table haystack) (is_end table haystack)
+            (StartsAt (λ i. (start, i)) s (length haystack)) u.recorded u.way differ
+            u.in_step.grown end.0 w t.front t.arrows t.start t.is_start end.2 t.parts)
+          where
+            by_start : (front : List ℕ) (n : Node)
+                → StartsAt (λ i. (start, i)) s (length haystack) front n → (arrows : List ℕ)
+                → i ∷ ks ≡ front ++ arrows
+                → NoneTwice Node (numbered_step table haystack) n arrows
+                → (i : ℕ) × (q : ℕ) × (j : ℕ) × (way : List ℕ) × (b.1 ≡ offset haystack j)
+                × IsNumberedMatch table haystack start s i way q j
+            by_start front n (i', low, high, front_is, n_is) arrows all once =
+                let whole : i ∷ ks ≡ i' ∷ arrows = all ∙ ap (λ z. z ++ arrows) front_is in
+                let same : i ≡ i' = same_head whole in
+                let rest : ks ≡ arrows = same_tail whole in (
+                  i,
+                  q,
+                  j,
+                  ks,
+                  at,
+                  record {
+                    from = omega (arith, low, same);
+                    inside = omega (arith, high, same);
+                    leads = record {
+                      is_way = (
+                        along,
+                        subst (λ z. NoneTwice Node (numbered_step table haystack) z ks)
+                            (n_is ∙ ap (λ (z : ℕ). (start, z)) (sym same))
+                            (subst (λ z. NoneTwice Node (numbered_step table haystack) n z) (sym rest)
+                            once),
+                      );
+                      ends = ends;
+                    };
+                  },
+                )
+
+    -- at the first position with a match, or at the end of the haystack
+    pub shortest_known : (p at : ℕ) (threads threads' : Threads) (best best' : Best) → s ≤ p
+        → p ≤ length haystack → best ≡ None → at ≡ offset haystack p → EndsAt at best best'
+        → ((p ≡ length haystack) ⊎ (best' ≡ None → ⊥)) → Coming p threads best
+        → Coming (p + 1) threads' best' → IsNumberedEnd table haystack start s best'
+    shortest_known p at threads threads' best best' low high none is_at ends known before after =
+        by_best best' refl
+      where
+        none_before : Coming p threads None
+        none_before = subst (λ z. Coming p threads z) none before
+
+        by_best : (b : Best) → best' ≡ b → IsNumberedEnd table haystack start s b
+        by_best None e = λ i q j way m. (
+            let later = ends_later (p + 1) threads'
+            (subst (λ z. Coming (p + 1) threads' z) e after) i q j way m in
+            let inside = leads_in_text way (start, i) (q, j) m.inside m.leads.is_way.0 in
+            over known later inside)
+          where
+            over : {j : ℕ} → (p ≡ length haystack) ⊎ (best' ≡ None → ⊥) → p + 1 ≤ j
+                → j ≤ length haystack → ⊥
+            over (inl at_end) later inside = omega (arith, at_end, later, inside)
+            over (inr found) later inside = found e
+        by_best (Some b) e =
+            let (i, q, j, way, ends_at, m) = best_matches (p + 1) threads' b
+            (subst (λ z. Coming (p + 1) threads' z) e after) in
+            let inside = leads_in_text way (start, i) (q, j) m.inside m.leads.is_way.0 in
+            let here : j ≡ p = same_position haystack j p inside high
+            (sym ends_at ∙ ends_here ends ∙ is_at) in (
+              j,
+              (
+                (i, q, way, m),
+                λ k r l other n. (
+                    let later = ends_later p threads none_before k r l other n in
+                    omega (arith, later, here)),
+              ),
+              ends_at,
+            )
+          where
+            ends_here : EndsAt at best best' → b.1 ≡ at
+            ends_here (inl same) = absurd (not_there (sym none ∙ sym same ∙ e))
+            ends_here (inr (i, row, f)) =
+                ap (λ (z : ℕ × ℕ × Row). z.1) (same_some (sym e ∙ f))
+
+pub not_true : (r : Bool) → r ≡ false → IsTrue r → ⊥
+not_true r e t = cc
