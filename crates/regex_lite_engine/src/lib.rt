@@ -1,9 +1,9 @@
 //! What a pattern is searched with: its graph, and the search.
 //!
 //! [`Graph::new`] counts a tree, tests it against the limits and writes it out as numbered places
-//! with ordered arrows (`nfa`). `pikevm` goes over a haystack's bytes along the arrows and counts
-//! its [`Steps`]; it stands as far as an answer over numbered places. `laws` holds what is true of
-//! the definitions alone: of matches, ways and answers.
+//! with ordered arrows (`nfa`). `pikevm` goes over a haystack's bytes along the arrows, counts its
+//! [`Steps`] and tells an [`Outcome`]. `laws` holds what is true of the definitions alone: of
+//! matches, ways and answers.
 #![tactic(auto)]
 
 pub mod laws;
