@@ -182,8 +182,8 @@ def kind_of(name, case, answer, other):
 
 
 def kept_lines(judge, cases, picked):
-    """The lines of the first cases of each kind, as many as its quota says, without those that were
-    picked by hand."""
+    """The lines of the first cases of each kind, as many as its quota says, without those whose
+    flags and pattern are in `picked`."""
     left = {
         (name, *kind): number for name, numbers in QUOTAS.items()
         for kind, number in zip(itertools.product(range(3), (False, True)), numbers)
@@ -195,7 +195,7 @@ def kept_lines(judge, cases, picked):
     lines = []
     for (name, case), answer, other in zip(cases, answers, others):
         kind = kind_of(name, case, answer, other)
-        if case not in picked and left[kind]:
+        if case[:2] not in picked and left[kind]:
             left[kind] -= 1
             lines.append(line_of(case, answer))
     if any(left.values()):
@@ -206,14 +206,14 @@ def kept_lines(judge, cases, picked):
 def picked_cases():
     """The cases picked by hand: each haystack at each offset of a character, at its length, and at
     the next number."""
-    cases = [
+    rows = rows_of('searches')
+    if len({(letters, pattern) for letters, pattern, *_ in rows}) < len(rows):
+        raise SystemExit('a pattern was picked twice')
+    return [
         (letters, pattern, text, start)
-        for letters, pattern, *texts in rows_of('searches') for text in texts
+        for letters, pattern, *texts in rows for text in texts
         for start in (*bounds(text), len(text.encode()) + 1)
     ]
-    if len(set(cases)) < len(cases):
-        raise SystemExit('two picked searches are alike')
-    return cases
 
 
 def line_of(case, answer):
@@ -231,7 +231,8 @@ def lines(judge):
     """The lines of the list."""
     picked = picked_cases()
     made = [line_of(case, answer) for case, answer in zip(picked, found(judge, picked))]
-    return made + kept_lines(judge, chosen_cases(generated(Dice(SEED)), PATTERNS), set(picked))
+    asked = chosen_cases(generated(Dice(SEED)), PATTERNS)
+    return made + kept_lines(judge, asked, {case[:2] for case in picked})
 
 
 def fresh(judge, seed, count):
