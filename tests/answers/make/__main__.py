@@ -1,8 +1,9 @@
 """make JUDGE: rewrites the lists of answers, and the sizes in the tests of regex_lite.
 
 Each list has what was picked by hand, from the files in picked/, and then generated cases by the
-quotas in choice.py. With `--fresh SEED NUMBER` so many new cases of the whole grammar are written
-to standard output instead, and no file.
+quotas in choice.py, or in searches.py for the list of searches. With `--fresh SEED NUMBER` so many
+new cases of the whole grammar are written to standard output instead, and no file, and with
+`--fresh-searches SEED NUMBER` so many new searches.
 
 JUDGE is a program over the Rust crate regex-lite 0.1.9 with the changes that README.md tells,
 started as `JUDGE batch`. For each line of standard input it writes one line. A question has four
@@ -10,7 +11,8 @@ fields with a tab between: the word `is-match`, a `-` for default settings, the 
 haystack. In a field a backslash begins one of the escapes \\t, \\n, \\r, \\\\ and \\u{H}, where
 H is a character's number in hexadecimal. The answer is `ok:true`, `ok:false`, or `err:` and the
 text with which the pattern is refused. Another question has three fields: `limit:` and a size
-limit, flags, the pattern; its answer is `ok:`, or `err:` and a text as before.
+limit, flags, the pattern; its answer is `ok:`, or `err:` and a text as before. The questions about
+searches have flags, a pattern and a haystack after a word; README.md tells their words and answers.
 """
 
 import argparse
@@ -20,6 +22,7 @@ sys.dont_write_bytecode = True  # nothing but the lists is written here
 
 import flags
 import plain
+import searches
 import sizes
 import whole
 from choice import PATTERNS, STRUCTURE, chosen_rows, kept_lines, quotas_of
@@ -92,13 +95,22 @@ def main():
         '--fresh', nargs=2, type=int, metavar=('SEED', 'NUMBER'),
         help='write so many new cases of this seed to standard output, and no file',
     )
+    parser.add_argument(
+        '--fresh-searches', nargs=2, type=int, metavar=('SEED', 'NUMBER'),
+        help='write so many new searches of this seed to standard output, and no file',
+    )
     arguments = parser.parse_args()
     judge = arguments.judge
+    fresh = []
     if arguments.fresh:
-        lines = fresh_lines(judge, *arguments.fresh)
-        sys.stdout.buffer.write(''.join(lines).encode())
+        fresh += fresh_lines(judge, *arguments.fresh)
+    if arguments.fresh_searches:
+        fresh += searches.fresh(judge, *arguments.fresh_searches)
+    if fresh:
+        sys.stdout.buffer.write(''.join(fresh).encode())
         return
     written = {ANSWERS / f'{name}.tsv': lines_of(judge, name) for name in LISTS}
+    written[ANSWERS / 'searches.tsv'] = searches.lines(judge)
     written[SIZES] = sizes.lines(judge)
     for path, lines in written.items():
         with open(path, 'w', encoding='utf-8', newline='\n') as out:

@@ -1,8 +1,14 @@
 """The judge, which says what the Rust crate answers."""
 
+import re
 import subprocess
+from typing import NamedTuple, Optional
 
-from data import escaped
+from data import escaped, unescaped
+
+# The judge's words for the calls that search from a start, and for those that ask of a pattern.
+SEARCHES = ('captures-at', 'find-at', 'is-match-at', 'shortest-at')
+PROPERTIES = ('static-len', 'names')
 
 
 def answers(judge, questions):
@@ -34,3 +40,46 @@ def meaning(case, answer):
     if word == 'err' and text:
         return 2, text
     raise SystemExit(f'unexpected answer to {case!r}: {answer}')
+
+
+class Found(NamedTuple):
+    """What a search finds: the spans of all groups as they stand in the list and the end of the
+    shortest match, or None for each, and with these the pattern's static number and names."""
+
+    groups: Optional[str]
+    shortest: Optional[int]
+    static: Optional[int]
+    names: str
+
+    @property
+    def end(self):
+        """Where the preferred match ends."""
+        if self.groups is None:
+            return None
+        return int(self.groups.partition(' ')[0].partition('..')[2])
+
+
+def found(judge, cases):
+    """What the judge finds in these cases, each of which is flags, a pattern, a haystack and a
+    start."""
+    questions = []
+    for flags, pattern, text, start in cases:
+        rest = f'{flags}\t{escaped(pattern)}\t{escaped(text)}\n'
+        questions += [f'{call}:{start}\t{rest}' for call in SEARCHES]
+        questions += [f'{call}\t{rest}' for call in PROPERTIES]
+    told = answers(judge, questions)
+    count = len(SEARCHES) + len(PROPERTIES)
+    return [meant(case, told[count * at:count * (at + 1)]) for at, case in enumerate(cases)]
+
+
+def meant(case, told):
+    """What these answers mean. All searches of the judge have to agree."""
+    if not all(answer.startswith('ok:') for answer in told):
+        raise SystemExit(f'unexpected answers to {case!r}: {told}')
+    groups, whole, is_match, shortest, static, names = (answer[3:] for answer in told)
+    agree = groups.partition(' ')[0] == whole and is_match == ('true' if groups else 'false')
+    if not agree or bool(shortest) != bool(groups):
+        raise SystemExit(f'answers to {case!r} that disagree: {told}')
+    number = re.fullmatch(r'None|Some\((\d+)\)', static)[1]
+    return Found(groups or None, int(shortest) if shortest else None,
+                 int(number) if number else None, unescaped(names))
