@@ -2,4 +2,5 @@
 pub mod ArrowCountLemmas
 pub mod NameSizeLemmas
 pub mod PlaceCountLemmas
+pub mod ReadingCountLemmas
 pub mod StaticGroupLemmas
