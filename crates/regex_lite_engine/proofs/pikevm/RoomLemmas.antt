@@ -14,7 +14,7 @@ use Rattle.regex_lite_engine.specs.declared.pikevm.here.Here.{Here}
 use Rattle.regex_lite_engine.specs.declared.pikevm.stack.Frame.{Frame}
 use Rattle.regex_lite_engine.specs.declared.pikevm.stack.Frame.TheVariants.{Explore, Restore}
 use Rattle.regex_lite_engine.specs.declared.pikevm.threads.Threads.{Threads}
-use Rattle.regex_lite_engine.specs.Graph.Places.{Place, with_arrows, go, one_of}
+use Rattle.regex_lite_engine.specs.Graph.Places.{Place, with_arrows, go, one_of, reading_count}
 use Rattle.regex_lite_engine.specs.Graph.Renumbered.{arrow_count}
 use Rattle.regex_lite_engine.specs.Graph.Stored.{LeadBelow, LeadsBelow, place_of}
 use Rattle.regex_lite_engine.specs.Walk.Entering.{Enters, reads, ReadsOn, Pushed, Same}
@@ -114,6 +114,28 @@ module _ (here : Here) (i : ℕ) (row row' : Row) (fs fs' : List Frame) (t t' : 
   enters_few stored.Match (er, ef, same, ed) =
       let a : explores fs' ≡ explores fs = ap explores ef in let b : length fs' ≡ length fs = ap length ef in
       few_stay 0 0 (omega (arith, a)) (omega (arith, b)) (omega arith) (ap length er) same
+
+  -- there is one more thread at most, and only where the place reads
+  more_read : (b : Bool) (thread : Thread) → ReadsOn b t t' thread → t'.len ≤ t.len + 1
+  more_read true thread pushed = let e : t'.len ≡ t.len + 1 = pushed.0 in omega (arith, e)
+  more_read false thread same = let e : t'.len ≡ t.len = same.0 in omega (arith, e)
+
+  class_reads : (ranges : List ClassRange) (to : ℕ) (thread : Thread) → ReadsOn (reads (in_ranges ranges) here.after) t t' thread → t'.len ≤ t.len + reading_count (one_of ranges to)
+  class_reads [] to thread read = not_more 0 (subst (λ b. ReadsOn b t t' thread) (reads_none here.after) read)
+    where
+      not_more : (n : ℕ) → Same t t' → t'.len ≤ t.len + n
+      not_more n same = let e : t'.len ≡ t.len = same.0 in omega (arith, e)
+  class_reads (r ∷ rs) to thread read = more_read (reads (in_ranges (r ∷ rs)) here.after) thread read
+
+  pub enters_reads : (x : code.Place) → Enters here i x row fs t row' fs' t' done → t'.len ≤ t.len + reading_count (place_of x)
+  enters_reads (stored.Empty to) (er, ef, same, ed) = let e : t'.len ≡ t.len = same.0 in omega (arith, e)
+  enters_reads (stored.Char c to) (er, ef, read, ed) = more_read (reads (just c) here.after) (to, i, row) read
+  enters_reads (stored.Class to set) (er, ef, read, ed) = class_reads set to (to, i, row) read
+  enters_reads (stored.Look l to) (er, ef, same, ed) = let e : t'.len ≡ t.len = same.0 in omega (arith, e)
+  enters_reads (stored.Slot slot to) (marked, same, ed) = let e : t'.len ≡ t.len = same.0 in omega (arith, e)
+  enters_reads (stored.Choice a b) (er, ef, same, ed) = let e : t'.len ≡ t.len = same.0 in omega (arith, e)
+  enters_reads (stored.Branches all) (er, ef, same, ed) = let e : t'.len ≡ t.len = same.0 in omega (arith, e)
+  enters_reads stored.Match (er, ef, same, ed) = let e : t'.len ≡ t.len = same.0 in omega (arith, e)
 
 threads_same : (c : ℕ) (t t' : Threads) → Same t t' → ThreadsBelow c t → ThreadsBelow c t'
 threads_same c t t' same within k lt = subst (λ (z : Thread). z.0 < c) (sym (same.1 k)) (within k (let e : t'.len ≡ t.len = same.0 in omega (arith, lt, e)))
@@ -231,16 +253,18 @@ pub went_entered : (table : List (Place ℕ)) (here : Here) (i now : ℕ) (round
     (tried entered looked : ℕ) (done : Bool) →
     LeadsBelow (length table) (place_of x) → IsFit table rounds now row (Explore q ∷ fs) top t tried entered looked → (slice_index rounds q ≡ now → ⊥) → rounds' ≡ slice_set rounds q now →
     slice_get table q ≡ Some (place_of x) → Enters here i x row fs t row' fs' t' done →
-    t'.width ≡ t.width → length t'.places.items ≡ length t.places.items → t'.len ≤ t.len + 1 → top ≤ top' + (arrow_count (place_of x) + 1) →
+    t'.width ≡ t.width → length t'.places.items ≡ length t.places.items → top ≤ top' + (arrow_count (place_of x) + 1) →
     fs'' ≡ (if done then [] else fs') →
     Went table here i now rounds row (Explore q ∷ fs) t tried entered rounds' row' fs'' top' t' (tried + 1) (entered + 1) (looked + 1) done
-went_entered table here i now rounds rounds' row row' q x fs fs' fs'' top top' t t' tried entered looked done inside fit new er at enters ewidth eroom one_more room ef =
+went_entered table here i now rounds rounds' row row' q x fs fs' fs'' top top' t t' tried entered looked done inside fit new er at enters ewidth eroom room ef =
     let short : q < length rounds = (let all = fit.all_seen in let lt = fit.frames_below.0 in omega (arith, all, lt)) in
     let few = enters_few here i row row' fs fs' t t' done x enters in
+    let one_more = enters_reads here i row row' fs fs' t t' done x enters in
     let within = enters_within here i (length table) row row' fs fs' t t' done fit.frames_below.1 fit.threads_below x inside enters in
     let stack_left : left_of weight now rounds' table + weight (place_of x) ≡ left_of weight now rounds table = ap (λ z. left_of weight now z table + weight (place_of x)) er ∙ left_enter weight now rounds table q (place_of x) at short new in
     let arrows_left : left_of arrow_count now rounds' table + arrow_count (place_of x) ≡ left_of arrow_count now rounds table = ap (λ z. left_of arrow_count now z table + arrow_count (place_of x)) er ∙ left_enter arrow_count now rounds table q (place_of x) at short new in
     let lone_left : left_of lone now rounds' table + 1 ≡ left_of lone now rounds table = ap (λ z. left_of lone now z table + 1) er ∙ left_enter lone now rounds table q (place_of x) at short new in
+    let reading_left : left_of reading_count now rounds' table + reading_count (place_of x) ≡ left_of reading_count now rounds table = ap (λ z. left_of reading_count now z table + reading_count (place_of x)) er ∙ left_enter reading_count now rounds table q (place_of x) at short new in
     let ends : explores fs'' ≤ explores fs' = fewer done ef in
     let stack_room = fit.stack_room in let next_room = fit.next_room in let few_tries = fit.few_tries in let few_entries = fit.few_entries in
     let entered_tried = fit.entered_tried in let looked_entered = fit.looked_entered in
@@ -253,7 +277,7 @@ went_entered table here i now rounds rounds' row row' q x fs fs' fs'' top top' t
         frames_below = frames_kept done ef within.0;
         threads_below = within.1;
         stack_room = omega (arith, stack_left, stack_room, room);
-        next_room = omega (arith, lone_left, next_room, one_more);
+        next_room = omega (arith, reading_left, next_room, one_more);
         next_cap = (let cap = fit.next_cap in omega (arith, eroom, cap));
         few_tries = omega (arith, arrows_left, few0, few_tries, ends);
         few_entries = omega (arith, lone_left, few_entries);

@@ -7,7 +7,7 @@ use Rattle.regex_lite_engine.specs.declared.pikevm.best.Best as code
 use Rattle.regex_lite_engine.specs.declared.pikevm.here.Here.{Here}
 use Rattle.regex_lite_engine.specs.declared.pikevm.stack.Stack.{Stack}
 use Rattle.regex_lite_engine.specs.declared.pikevm.threads.Threads.{Threads}
-use Rattle.regex_lite_engine.specs.Graph.Places.{Place}
+use Rattle.regex_lite_engine.specs.Graph.Places.{Place, reading_count}
 use Rattle.regex_lite_engine.specs.Graph.Renumbered.{arrow_count, arrows_of}
 use Rattle.regex_lite_engine.specs.Walk.Entering.{Pushed}
 use Rattle.regex_lite_engine.specs.Walk.InStep.{Offer}
@@ -32,6 +32,7 @@ pub fit_first : (table : List (Place ℕ)) (rounds rounds' : List ℕ) (now now'
     tried + arrows_of table < 2 ^ 127 → entered + length table < 2 ^ 127 → IsFit table rounds' now' slots [] stack.top next tried entered looked
 fit_first table rounds rounds' now now' width slots cur next stack best tried entered looked ready ew er en full few fewe =
     let a = left_most weight now' rounds' table in let b = left_most lone now' rounds' table in let c = left_most arrow_count now' rounds' table in let d = sum_lone table in
+    let g = left_most reading_count now' rounds' table in
     let e = ready.stack_size in let z = ready.none_next in
     record {
       width = ew ∙ sym ready.next_width;
@@ -40,7 +41,7 @@ fit_first table rounds rounds' now now' width slots cur next stack best tried en
       frames_below = tt;
       threads_below = λ k lt. absurd (omega (arith, lt, z));
       stack_room = omega (arith, a, e, full);
-      next_room = omega (arith, b, d, z);
+      next_room = omega (arith, g, z);
       next_cap = ready.next_cap;
       few_tries = omega (arith, c, few, z);
       few_entries = omega (arith, b, d, fewe);

@@ -7,7 +7,7 @@ use Rattle.regex_lite_engine.specs.declared.pikevm.stack.Frame.{Frame}
 use Rattle.regex_lite_engine.specs.declared.pikevm.stack.Frame.TheVariants.{Explore, Restore}
 use Rattle.regex_lite_engine.specs.declared.pikevm.threads.Threads.{Threads}
 use Rattle.regex_lite_engine.specs.declared.pikevm.walk.Walk.{Walk}
-use Rattle.regex_lite_engine.specs.Graph.Places.{Place}
+use Rattle.regex_lite_engine.specs.Graph.Places.{Place, reading_count, reading_of}
 use Rattle.regex_lite_engine.specs.Graph.Renumbered.{arrow_count}
 use Rattle.regex_lite_engine.specs.Walk.Machine.{Row, Thread, thread_at}
 use Rattle.regex_lite_engine.specs.Walk.Standing.{IsHere}
@@ -62,8 +62,8 @@ module _ (table : List (Place ℕ)) where
     pub frames_below : FramesBelow (length table) (length row) frames
     pub threads_below : ThreadsBelow (length table) next
     pub stack_room : left_of weight now rounds table ≤ top
-    pub next_room : next.len + left_of lone now rounds table ≤ length table
-    pub next_cap : length table < length next.places.items
+    pub next_room : next.len + left_of reading_count now rounds table ≤ reading_of table
+    pub next_cap : reading_of table < length next.places.items
     pub few_tries : due_tries rounds now frames next tried < 2 ^ 127
     pub few_entries : due_entries rounds now entered < 2 ^ 127
     pub entered_tried : entered ≤ tried

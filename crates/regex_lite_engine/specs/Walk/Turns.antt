@@ -5,7 +5,7 @@ use Rattle.regex_lite_engine.specs.declared.pikevm.best.Best as code
 use Rattle.regex_lite_engine.specs.declared.pikevm.here.Here.{Here}
 use Rattle.regex_lite_engine.specs.declared.pikevm.stack.Stack.{Stack}
 use Rattle.regex_lite_engine.specs.declared.pikevm.threads.Threads.{Threads}
-use Rattle.regex_lite_engine.specs.Graph.Places.{Place}
+use Rattle.regex_lite_engine.specs.Graph.Places.{Place, reading_of}
 use Rattle.regex_lite_engine.specs.Walk.Explored.{IsDead}
 use Rattle.regex_lite_engine.specs.Walk.NumberedAnswer.{numbered_step, is_end}
 use Rattle.regex_lite_engine.specs.Walk.InStep.{Offer}
@@ -79,9 +79,9 @@ module _ (table : List (Place ℕ)) where
     pub old_rounds : (q : ℕ) → slice_index rounds q ≤ now
     pub same_width : threads.width ≡ width
     pub next_width : next.width ≡ width
-    pub cap : length table < length threads.places.items
-    pub next_cap : length table < length next.places.items
-    pub few : threads.len ≤ length table
+    pub cap : reading_of table < length threads.places.items
+    pub next_cap : reading_of table < length next.places.items
+    pub few : threads.len ≤ reading_of table
     pub below : ThreadsBelow (length table) threads
     pub none_next : next.len ≡ 0
     pub stack_size : sum_by weight table + 1 ≤ length stack.frames.items

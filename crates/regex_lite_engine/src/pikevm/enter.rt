@@ -30,7 +30,6 @@ pub fn enter(
         slots.new (frames_of stack.new) next.new result }
     ensures width { next.new.width ≡ next.old.width }
     ensures next_room { length next.new.places.items ≡ length next.old.places.items }
-    ensures next_len { next.new.len ≤ next.old.len + 1 }
     ensures size { length stack.new.frames.items ≡ length stack.old.frames.items }
     ensures room { stack.old.top ≤ stack.new.top + (arrow_count (place_of place.now) + 1) }
 {
@@ -83,7 +82,6 @@ fn read_on(reads: bool, to: u32, start: usize, slots: &[Option<usize>], next: &m
     ensures reads { ReadsOn reads next.old next.new (to, start, slots.now) }
     ensures width { next.new.width ≡ next.old.width }
     ensures room { length next.new.places.items ≡ length next.old.places.items }
-    ensures len { next.new.len ≤ next.old.len + 1 }
 {
     if reads {
         next.push(to, start, slots);

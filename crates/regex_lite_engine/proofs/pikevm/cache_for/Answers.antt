@@ -9,7 +9,7 @@ returns c =
     let count : length (map place_of c.args.graph.now.places) ≡ length c.args.graph.now.places = length-map c.args.graph.now.places place_of in
     let places : c.places-places.result ≡ length c.args.graph.now.places = c.places-places.ensures.same in
     let weights = sum_weight (table_of c.args.graph.now) in let all = c.requires in
-    let arrows = c.arrows.ensures.same in
+    let arrows = c.arrows.ensures.same in let reading = c.reading-room.ensures.each in
     let size = c.in_ok-with_room-2.ensures.size in
     let next = c.in_ok-with_room-3.ensures.room in let threads = c.in_ok-with_room-4.ensures.room in
     let none = c.in_ok-with_room-4.ensures.empty in
@@ -21,8 +21,8 @@ returns c =
         old_rounds = λ q. (let le = c.in_ok-with_room.ensures.old q in let e = c.in_ok-with_room.ensures.now in omega (arith, le, e));
         same_width = c.in_ok-with_room-4.ensures.width ∙ sym slots;
         next_width = c.in_ok-with_room-3.ensures.width ∙ sym slots;
-        cap = omega (arith, threads, places, count);
-        next_cap = omega (arith, next, places, count);
+        cap = omega (arith, threads, reading);
+        next_cap = omega (arith, next, reading);
         few = omega (arith, none);
         below = λ k lt. absurd (omega (arith, lt, none));
         none_next = c.in_ok-with_room-3.ensures.empty;

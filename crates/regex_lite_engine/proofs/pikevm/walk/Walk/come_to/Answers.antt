@@ -49,7 +49,7 @@ returns-then-done-clause-taken c =
     (got_place a.graph.now.places a.place c.look-found.result.now c.look-found.ensures.found)
     (subst (λ (z : Row). Enters a.here a.start c.look-found.result.now z (frames_of w.stack) w.next c.enter-done.new.slots (frames_of c.enter-done.new.stack) c.enter-done.new.next c.enter-done.result) same c.enter-done.ensures.entered)
     c.enter-done.ensures.width c.enter-done.ensures.next_room
-    c.enter-done.ensures.next_len (omega (arith, c.enter-done.ensures.room, c.clear.ensures.room))
+    (omega (arith, c.enter-done.ensures.room, c.clear.ensures.room))
     (c.clear.ensures.frames ∙ sym (ap (λ b. if b then [] else frames_of c.enter-done.new.stack) c.if-done.true))))
 
 pub returns-else-done-clause-taken : goal.returns-else-done-clause-taken
@@ -73,5 +73,5 @@ returns-else-done-clause-taken c =
     (got_place a.graph.now.places a.place c.look-found.result.now c.look-found.ensures.found)
     (subst (λ (z : Row). Enters a.here a.start c.look-found.result.now z (frames_of w.stack) w.next c.enter-done.new.slots (frames_of c.enter-done.new.stack) c.enter-done.new.next c.enter-done.result) same c.enter-done.ensures.entered)
     c.enter-done.ensures.width c.enter-done.ensures.next_room
-    c.enter-done.ensures.next_len c.enter-done.ensures.room
+    c.enter-done.ensures.room
     (sym (ap (λ b. if b then [] else frames_of c.enter-done.new.stack) c.if-done.false))))
