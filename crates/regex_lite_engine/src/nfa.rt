@@ -132,7 +132,7 @@ impl Graph {
     pub(crate) fn reading(&self) -> usize
         ensures same { result ≡ self.now.reading }
         ensures each { result ≡ reading_of (table_of self.now) }
-        ensures few { result < 2 ^ 32 }
+        ensures few { result < length self.now.places }
     {
         self.reading
     }

@@ -9,6 +9,7 @@ use Rattle.regex_lite_engine.specs.Nfa.Layout.{whole_layout, whole_table}
 use Rattle.regex_lite_engine.proofs.nfa.write.RenumberingLemmas.{whole_names, renumbered, starts, closed}
 use Rattle.regex_lite_engine.proofs.nfa.count.ArrowCountLemmas.{arrows_whole}
 use Rattle.regex_lite_engine.proofs.nfa.count.ReadingCountLemmas.{reading_whole, reading_few}
+use Rattle.regex_lite_engine.proofs.nfa.count.KeptBackLemmas.{kept_back_whole}
 use Rattle.regex_lite_engine.proofs.ArrowBoundLemmas.{arrows_few}
 use Rattle.regex_lite_engine.proofs.nfa.Graph.new.Goals as goal
 
@@ -43,5 +44,6 @@ invariant_of-result c =
     c.arrows.result c.reading.result places.written.0
     (omega (arith, places.length, fits.places_fit))
     (omega (arith, counted, arrows_few tree c.requires, fits.places_fit))
-    (omega (arith, reads, reading_few tree, fits.places_fit))
+    (omega (arith, reads, reading_few tree, places.length))
     (reading_whole tree ∙ sym reads)
+    (omega (arith, kept_back_whole tree c.requires, places.length))
