@@ -6,7 +6,7 @@ ghost use Rattle.regex_lite_syntax.specs.Tree.Properties.{captures_len, group_na
 ghost use Rattle.regex_lite_syntax.specs.Tree.Views.{text_of_name, tree_of};
 ghost use Rattle.regex_lite_engine.specs.Graph.Renumbered.{IsGraphOf, HasGroupsOf};
 ghost use Rattle.regex_lite_engine.specs.Graph.Size.{Fits, IsDueToTree};
-ghost use Rattle.regex_lite_engine.specs.Graph.Places.{reading_of};
+ghost use Rattle.regex_lite_engine.specs.Graph.Places.{kept_back_of, reading_of};
 ghost use Rattle.regex_lite_engine.specs.Graph.Stored.{LeadsBelow, place_of, table_of};
 ghost use Rattle.regex_lite_engine.specs.Nfa.Saturation.{AreCountsOf};
 
@@ -116,6 +116,7 @@ impl Graph {
     pub fn places(&self) -> usize
         ensures same { result ≡ length self.now.places }
         ensures few { result < 2 ^ 32 }
+        ensures kept_back { kept_back_of (table_of self.now) < result }
     {
         self.places.len()
     }

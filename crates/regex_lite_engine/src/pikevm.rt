@@ -29,7 +29,6 @@ use walk::Walk;
 
 /// All the memory of a search that keeps so many slots, asked for before its first step.
 pub(crate) fn cache_for(alloc: Global, graph: &Graph, slots: usize) -> Result<Cache, AllocError>
-    requires { arrows_of (table_of graph.now) ≡ graph.now.arrows }
     ensures { IfOk result (λ cache. IsFresh (table_of graph.now) cache) }
 {
     let places = graph.places();
@@ -38,7 +37,7 @@ pub(crate) fn cache_for(alloc: Global, graph: &Graph, slots: usize) -> Result<Ca
     Ok(Cache {
         walk: Walk {
             seen: Seen::with_room(alloc, places)?,
-            stack: Stack::with_room(alloc, graph.arrows() + places + 1)?,
+            stack: Stack::with_room(alloc, places)?,
             next: Threads::with_room(alloc, room, slots)?,
             slots: vec![in alloc; None; slots]?,
             steps: Steps::none(),

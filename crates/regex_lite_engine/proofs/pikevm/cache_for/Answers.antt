@@ -1,15 +1,14 @@
 use Rattle.std.proofs.Common.{rules, ◌≡◌, length, map, sym, ◌∙◌, arith}
 use Rattle.std.proofs.lemmas.List.{length-map}
-use Rattle.regex_lite_engine.specs.Graph.Stored.{table_of, place_of}
-use Rattle.regex_lite_engine.proofs.pikevm.TurnLemmas.{sum_weight}
+use Rattle.regex_lite_engine.specs.Graph.Stored.{place_of}
 use Rattle.regex_lite_engine.proofs.pikevm.cache_for.Goals as goal
 
 pub returns : goal.returns
 returns c =
     let count : length (map place_of c.args.graph.now.places) ≡ length c.args.graph.now.places = length-map c.args.graph.now.places place_of in
     let places : c.places-places.result ≡ length c.args.graph.now.places = c.places-places.ensures.same in
-    let weights = sum_weight (table_of c.args.graph.now) in let all = c.requires in
-    let arrows = c.arrows.ensures.same in let reading = c.reading-room.ensures.each in
+    let kept = c.places-places.ensures.kept_back in
+    let reading = c.reading-room.ensures.each in
     let size = c.in_ok-with_room-2.ensures.size in
     let next = c.in_ok-with_room-3.ensures.room in let threads = c.in_ok-with_room-4.ensures.room in
     let none = c.in_ok-with_room-4.ensures.empty in
@@ -26,7 +25,7 @@ returns c =
         few = omega (arith, none);
         below = λ k lt. absurd (omega (arith, lt, none));
         none_next = c.in_ok-with_room-3.ensures.empty;
-        stack_size = omega (arith, weights, size, places, count, arrows, all);
+        stack_size = omega (arith, kept, size);
         stack_empty = c.in_ok-with_room-2.ensures.empty;
         best_width = c.in_ok-with_width.ensures.width ∙ sym slots;
         entered_tried = omega (arith, tried, entered);
