@@ -6,6 +6,7 @@ ghost use Rattle.regex_lite_syntax.specs.Tree.Properties.{captures_len, group_na
 ghost use Rattle.regex_lite_syntax.specs.Tree.Views.{text_of_name, tree_of};
 ghost use Rattle.regex_lite_engine.specs.Graph.Renumbered.{arrows_of, IsGraphOf, HasGroupsOf};
 ghost use Rattle.regex_lite_engine.specs.Graph.Size.{Fits, IsDueToTree};
+ghost use Rattle.regex_lite_engine.specs.Graph.Places.{kept_back_of, reading_of};
 ghost use Rattle.regex_lite_engine.specs.Graph.Stored.{LeadsBelow, place_of, table_of};
 ghost use Rattle.regex_lite_engine.specs.Nfa.Saturation.{AreCountsOf};
 
@@ -31,6 +32,8 @@ pub struct Graph {
     /// Where a search starts.
     start: u32,
     arrows: usize,
+    /// How many of its places read a character.
+    reading: usize,
     /// The names of the groups by index, shared with the tree.
     capture_names: Vec<Option<RcStr>>,
     static_captures_len: Option<usize>,
@@ -47,11 +50,13 @@ impl Model for Graph {
       places = graph.places.items;
       start = graph.start;
       arrows = graph.arrows;
+      reading = graph.reading;
       capture_names = graph.capture_names.items;
       static_captures_len = graph.static_captures_len;
     } };
 
-    ghost invariant = { λ graph. IsClosed graph.places.items graph.start graph.arrows
+    ghost invariant = { λ graph.
+        IsClosed graph.places.items graph.start graph.arrows graph.reading
         × (arrows_of (map place_of graph.places.items) ≡ graph.arrows) };
 }
 
@@ -84,6 +89,7 @@ impl Graph {
             places,
             start,
             arrows: counts.arrows(),
+            reading: counts.reading(),
             capture_names,
             static_captures_len: counts.static_captures_len(),
         })
@@ -113,6 +119,7 @@ impl Graph {
     pub fn places(&self) -> usize
         ensures same { result ≡ length self.now.places }
         ensures few { result < 2 ^ 32 }
+        ensures kept_back { kept_back_of (table_of self.now) < result }
     {
         self.places.len()
     }
@@ -124,6 +131,16 @@ impl Graph {
         ensures few { result < 2 ^ 34 }
     {
         self.arrows
+    }
+
+    /// How many places read a character. A search counts on there being few arrows too.
+    pub(crate) fn reading(&self) -> usize
+        ensures same { result ≡ self.now.reading }
+        ensures each { result ≡ reading_of (table_of self.now) }
+        ensures few { result < length self.now.places }
+        ensures few_arrows { arrows_of (table_of self.now) < 2 ^ 34 }
+    {
+        self.reading
     }
 
     /// The names of the groups by index, group 0 first.

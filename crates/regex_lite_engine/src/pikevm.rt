@@ -36,11 +36,12 @@ pub(crate) fn cache_for(alloc: Global, graph: &Graph, slots: usize) -> Result<Ca
     ensures countable { IfOk result (λ _. IsCountable (table_of graph.now)) }
 {
     let places = graph.places();
-    let room = places + 1;
+    // A thread comes from a place that reads, or is the position's own start.
+    let room = graph.reading() + 1;
     Ok(Cache {
         walk: Walk {
             seen: Seen::with_room(alloc, places)?,
-            stack: Stack::with_room(alloc, graph.arrows() + room)?,
+            stack: Stack::with_room(alloc, places)?,
             next: Threads::with_room(alloc, room, slots)?,
             slots: vec![in alloc; None; slots]?,
             steps: Steps::none(),

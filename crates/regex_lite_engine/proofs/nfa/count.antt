@@ -1,5 +1,7 @@
 -- lemmas that several proofs here share
 pub mod ArrowCountLemmas
+pub mod KeptBackLemmas
 pub mod NameSizeLemmas
 pub mod PlaceCountLemmas
+pub mod ReadingCountLemmas
 pub mod StaticGroupLemmas

@@ -14,7 +14,7 @@ use Rattle.regex_lite_engine.specs.declared.pikevm.here.Here.{Here}
 use Rattle.regex_lite_engine.specs.declared.pikevm.stack.Frame.{Frame}
 use Rattle.regex_lite_engine.specs.declared.pikevm.stack.Frame.TheVariants.{Explore, Restore}
 use Rattle.regex_lite_engine.specs.declared.pikevm.threads.Threads.{Threads}
-use Rattle.regex_lite_engine.specs.Graph.Places.{Place, with_arrows, go, one_of}
+use Rattle.regex_lite_engine.specs.Graph.Places.{Place, with_arrows, go, one_of, kept_back, reading_count}
 use Rattle.regex_lite_engine.specs.Graph.Renumbered.{arrow_count}
 use Rattle.regex_lite_engine.specs.Graph.Stored.{LeadBelow, LeadsBelow, place_of}
 use Rattle.regex_lite_engine.specs.Walk.Entering.{Enters, reads, ReadsOn, Pushed, Same}
@@ -63,6 +63,10 @@ left_most f now (r ∷ rounds) (x ∷ table) =
 explores-map : (qs : List ℕ) (fs : List Frame) → explores (map (λ q. Explore q) qs ++ fs) ≡ explores fs + length qs
 explores-map [] fs = omega arith
 explores-map (q ∷ qs) fs = let more = explores-map qs fs in omega (arith, more)
+
+pub entries_kept : (qs : List ℕ) → length qs ≤ kept_back (with_arrows (map (λ q. go q) qs)) + 1
+entries_kept [] = omega arith
+entries_kept (q ∷ qs) = omega (arith, length-map qs (λ (q : ℕ). go q))
 
 module _ (here : Here) (i : ℕ) (row row' : Row) (fs fs' : List Frame) (t t' : Threads) (done : Bool) where
   abbrev Few : (added : ℕ) → Type 0
@@ -114,6 +118,48 @@ module _ (here : Here) (i : ℕ) (row row' : Row) (fs fs' : List Frame) (t t' : 
   enters_few stored.Match (er, ef, same, ed) =
       let a : explores fs' ≡ explores fs = ap explores ef in let b : length fs' ≡ length fs = ap length ef in
       few_stay 0 0 (omega (arith, a)) (omega (arith, b)) (omega arith) (ap length er) same
+
+  -- what it leaves on the stack, its own frame among it
+  keeps_pushed : (qs : List ℕ) → fs' ≡ map (λ q. Explore q) qs ++ fs → length fs' ≤ length fs + length qs
+  keeps_pushed qs ef =
+      let b : length fs' ≡ length qs + length fs = ap length ef ∙ length-append (map (λ q. Explore q) qs) fs ∙ ap (λ n. n + length fs) (length-map qs (λ q. Explore q)) in omega (arith, b)
+
+  pub enters_keeps : (x : code.Place) → Enters here i x row fs t row' fs' t' done → length fs' ≤ length fs + (kept_back (place_of x) + 1)
+  enters_keeps (stored.Empty to) (er, ef, same, ed) = let e = keeps_pushed (to ∷ []) ef in omega (arith, e)
+  enters_keeps (stored.Char c to) (er, ef, read, ed) = let e = keeps_pushed [] ef in omega (arith, e)
+  enters_keeps (stored.Class to set) (er, ef, read, ed) = let e = keeps_pushed [] ef in omega (arith, e)
+  enters_keeps (stored.Look l to) (er, ef, same, ed) = by_test (holds_between l here.before here.after) ef
+    where
+      by_test : (b : Bool) → fs' ≡ (if b then Explore to ∷ fs else fs) → length fs' ≤ length fs + 1
+      by_test true e = let le = keeps_pushed (to ∷ []) e in omega (arith, le)
+      by_test false e = let le = keeps_pushed [] e in omega (arith, le)
+  enters_keeps (stored.Slot slot to) (inl (within, er, ef), same, ed) = let b : length fs' ≡ suc (suc (length fs)) = ap length ef in omega (arith, b)
+  enters_keeps (stored.Slot slot to) (inr (past, er, ef), same, ed) = let e = keeps_pushed (to ∷ []) ef in omega (arith, e)
+  enters_keeps (stored.Choice a b) (er, ef, same, ed) = let e = keeps_pushed (a ∷ (b ∷ [])) ef in omega (arith, e)
+  enters_keeps (stored.Branches all) (er, ef, same, ed) = let e = keeps_pushed all.items ef in let n = entries_kept all.items in omega (arith, e, n)
+  enters_keeps stored.Match (er, ef, same, ed) = let e = keeps_pushed [] ef in omega (arith, e)
+
+  -- there is one more thread at most, and only where the place reads
+  more_read : (b : Bool) (thread : Thread) → ReadsOn b t t' thread → t'.len ≤ t.len + 1
+  more_read true thread pushed = let e : t'.len ≡ t.len + 1 = pushed.0 in omega (arith, e)
+  more_read false thread same = let e : t'.len ≡ t.len = same.0 in omega (arith, e)
+
+  class_reads : (ranges : List ClassRange) (to : ℕ) (thread : Thread) → ReadsOn (reads (in_ranges ranges) here.after) t t' thread → t'.len ≤ t.len + reading_count (one_of ranges to)
+  class_reads [] to thread read = not_more 0 (subst (λ b. ReadsOn b t t' thread) (reads_none here.after) read)
+    where
+      not_more : (n : ℕ) → Same t t' → t'.len ≤ t.len + n
+      not_more n same = let e : t'.len ≡ t.len = same.0 in omega (arith, e)
+  class_reads (r ∷ rs) to thread read = more_read (reads (in_ranges (r ∷ rs)) here.after) thread read
+
+  pub enters_reads : (x : code.Place) → Enters here i x row fs t row' fs' t' done → t'.len ≤ t.len + reading_count (place_of x)
+  enters_reads (stored.Empty to) (er, ef, same, ed) = let e : t'.len ≡ t.len = same.0 in omega (arith, e)
+  enters_reads (stored.Char c to) (er, ef, read, ed) = more_read (reads (just c) here.after) (to, i, row) read
+  enters_reads (stored.Class to set) (er, ef, read, ed) = class_reads set to (to, i, row) read
+  enters_reads (stored.Look l to) (er, ef, same, ed) = let e : t'.len ≡ t.len = same.0 in omega (arith, e)
+  enters_reads (stored.Slot slot to) (marked, same, ed) = let e : t'.len ≡ t.len = same.0 in omega (arith, e)
+  enters_reads (stored.Choice a b) (er, ef, same, ed) = let e : t'.len ≡ t.len = same.0 in omega (arith, e)
+  enters_reads (stored.Branches all) (er, ef, same, ed) = let e : t'.len ≡ t.len = same.0 in omega (arith, e)
+  enters_reads stored.Match (er, ef, same, ed) = let e : t'.len ≡ t.len = same.0 in omega (arith, e)
 
 threads_same : (c : ℕ) (t t' : Threads) → Same t t' → ThreadsBelow c t → ThreadsBelow c t'
 threads_same c t t' same within k lt = subst (λ (z : Thread). z.0 < c) (sym (same.1 k)) (within k (let e : t'.len ≡ t.len = same.0 in omega (arith, lt, e)))
@@ -170,13 +216,13 @@ module _ (here : Here) (i c : ℕ) (row row' : Row) (fs fs' : List Frame) (t t' 
   enters_within (stored.Branches entries) inside (er, ef, same, ed) = frames_pushed entries.items inside ef er same
   enters_within stored.Match inside (er, ef, same, ed) = frames_pushed [] tt ef er same
 
-pub went_seen : (table : List (Place ℕ)) (here : Here) (i now : ℕ) (rounds rounds' : List ℕ) (row : Row) (q : ℕ) (fs : List Frame) (top : ℕ) (t : Threads) (tried entered looked : ℕ) →
-    IsFit table rounds now row (Explore q ∷ fs) top t tried entered looked → slice_index rounds q ≡ now → rounds' ≡ slice_set rounds q now →
-    Went table here i now rounds row (Explore q ∷ fs) t tried entered rounds' row fs top t (tried + 1) entered looked false
-went_seen table here i now rounds rounds' row q fs top t tried entered looked fit was e =
+pub went_seen : (table : List (Place ℕ)) (here : Here) (i now : ℕ) (rounds rounds' : List ℕ) (row : Row) (q : ℕ) (fs : List Frame) (size : ℕ) (t : Threads) (tried entered looked : ℕ) →
+    IsFit table rounds now row (Explore q ∷ fs) size t tried entered looked → slice_index rounds q ≡ now → rounds' ≡ slice_set rounds q now →
+    Went table here i now rounds row (Explore q ∷ fs) t tried entered rounds' row fs size t (tried + 1) entered looked false
+went_seen table here i now rounds rounds' row q fs size t tried entered looked fit was e =
     let same : rounds' ≡ rounds = e ∙ ap (set rounds q) (sym was) ∙ set-get_or rounds q 0 in
     let few = fit.few_tries in let et = fit.entered_tried in let all = fit.all_seen in let lt = fit.frames_below.0 in
-    subst (λ z. Went table here i now rounds row (Explore q ∷ fs) t tried entered z row fs top t (tried + 1) entered looked false) (sym same)
+    subst (λ z. Went table here i now rounds row (Explore q ∷ fs) t tried entered z row fs size t (tried + 1) entered looked false) (sym same)
     (record {
       fit = record {
         width = fit.width;
@@ -184,7 +230,7 @@ went_seen table here i now rounds rounds' row q fs top t tried entered looked fi
         old_rounds = fit.old_rounds;
         frames_below = fit.frames_below.1;
         threads_below = fit.threads_below;
-        stack_room = fit.stack_room;
+        stack_room = (let room = fit.stack_room in omega (arith, room));
         next_room = fit.next_room;
         next_cap = fit.next_cap;
         few_tries = omega (arith, few);
@@ -199,10 +245,10 @@ went_seen table here i now rounds rounds' row q fs top t tried entered looked fi
       spent_entries = omega arith;
     })
 
-pub went_restored : (table : List (Place ℕ)) (here : Here) (i now : ℕ) (rounds : List ℕ) (row : Row) (slot : ℕ) (old : Option ℕ) (fs : List Frame) (top : ℕ) (t : Threads) (tried entered looked : ℕ) →
-    IsFit table rounds now row (Restore slot old ∷ fs) top t tried entered looked →
-    Went table here i now rounds row (Restore slot old ∷ fs) t tried entered rounds (slice_set row slot old) fs top t tried entered looked false
-went_restored table here i now rounds row slot old fs top t tried entered looked fit =
+pub went_restored : (table : List (Place ℕ)) (here : Here) (i now : ℕ) (rounds : List ℕ) (row : Row) (slot : ℕ) (old : Option ℕ) (fs : List Frame) (size : ℕ) (t : Threads) (tried entered looked : ℕ) →
+    IsFit table rounds now row (Restore slot old ∷ fs) size t tried entered looked →
+    Went table here i now rounds row (Restore slot old ∷ fs) t tried entered rounds (slice_set row slot old) fs size t tried entered looked false
+went_restored table here i now rounds row slot old fs size t tried entered looked fit =
     let same : length (slice_set row slot old) ≡ length row = length-set row slot old in
     record {
       fit = record {
@@ -211,7 +257,7 @@ went_restored table here i now rounds row slot old fs top t tried entered looked
         old_rounds = fit.old_rounds;
         frames_below = subst (λ z. FramesBelow (length table) z fs) (sym same) fit.frames_below.1;
         threads_below = fit.threads_below;
-        stack_room = fit.stack_room;
+        stack_room = (let room = fit.stack_room in omega (arith, room));
         next_room = fit.next_room;
         next_cap = fit.next_cap;
         few_tries = fit.few_tries;
@@ -227,20 +273,25 @@ went_restored table here i now rounds row slot old fs top t tried entered looked
     }
 
 -- a new place is entered; at a match what is left is dropped
-pub went_entered : (table : List (Place ℕ)) (here : Here) (i now : ℕ) (rounds rounds' : List ℕ) (row row' : Row) (q : ℕ) (x : code.Place) (fs fs' fs'' : List Frame) (top top' : ℕ) (t t' : Threads)
+pub went_entered : (table : List (Place ℕ)) (here : Here) (i now : ℕ) (rounds rounds' : List ℕ) (row row' : Row) (q : ℕ) (x : code.Place) (fs fs' fs'' : List Frame) (size : ℕ) (t t' : Threads)
     (tried entered looked : ℕ) (done : Bool) →
-    LeadsBelow (length table) (place_of x) → IsFit table rounds now row (Explore q ∷ fs) top t tried entered looked → (slice_index rounds q ≡ now → ⊥) → rounds' ≡ slice_set rounds q now →
+    LeadsBelow (length table) (place_of x) → IsFit table rounds now row (Explore q ∷ fs) size t tried entered looked → (slice_index rounds q ≡ now → ⊥) → rounds' ≡ slice_set rounds q now →
     slice_get table q ≡ Some (place_of x) → Enters here i x row fs t row' fs' t' done →
-    t'.width ≡ t.width → length t'.places.items ≡ length t.places.items → t'.len ≤ t.len + 1 → top ≤ top' + (arrow_count (place_of x) + 1) →
+    t'.width ≡ t.width → length t'.places.items ≡ length t.places.items →
     fs'' ≡ (if done then [] else fs') →
-    Went table here i now rounds row (Explore q ∷ fs) t tried entered rounds' row' fs'' top' t' (tried + 1) (entered + 1) (looked + 1) done
-went_entered table here i now rounds rounds' row row' q x fs fs' fs'' top top' t t' tried entered looked done inside fit new er at enters ewidth eroom one_more room ef =
+    Went table here i now rounds row (Explore q ∷ fs) t tried entered rounds' row' fs'' size t' (tried + 1) (entered + 1) (looked + 1) done
+went_entered table here i now rounds rounds' row row' q x fs fs' fs'' size t t' tried entered looked done inside fit new er at enters ewidth eroom ef =
     let short : q < length rounds = (let all = fit.all_seen in let lt = fit.frames_below.0 in omega (arith, all, lt)) in
     let few = enters_few here i row row' fs fs' t t' done x enters in
+    let one_more = enters_reads here i row row' fs fs' t t' done x enters in
     let within = enters_within here i (length table) row row' fs fs' t t' done fit.frames_below.1 fit.threads_below x inside enters in
-    let stack_left : left_of weight now rounds' table + weight (place_of x) ≡ left_of weight now rounds table = ap (λ z. left_of weight now z table + weight (place_of x)) er ∙ left_enter weight now rounds table q (place_of x) at short new in
+    let work_left : left_of weight now rounds' table + weight (place_of x) ≡ left_of weight now rounds table = ap (λ z. left_of weight now z table + weight (place_of x)) er ∙ left_enter weight now rounds table q (place_of x) at short new in
+    let stack_left : left_of kept_back now rounds' table + kept_back (place_of x) ≡ left_of kept_back now rounds table = ap (λ z. left_of kept_back now z table + kept_back (place_of x)) er ∙ left_enter kept_back now rounds table q (place_of x) at short new in
+    let keeps = enters_keeps here i row row' fs fs' t t' done x enters in
+    let shorter : length fs'' ≤ length fs' = not_longer done ef in
     let arrows_left : left_of arrow_count now rounds' table + arrow_count (place_of x) ≡ left_of arrow_count now rounds table = ap (λ z. left_of arrow_count now z table + arrow_count (place_of x)) er ∙ left_enter arrow_count now rounds table q (place_of x) at short new in
     let lone_left : left_of lone now rounds' table + 1 ≡ left_of lone now rounds table = ap (λ z. left_of lone now z table + 1) er ∙ left_enter lone now rounds table q (place_of x) at short new in
+    let reading_left : left_of reading_count now rounds' table + reading_count (place_of x) ≡ left_of reading_count now rounds table = ap (λ z. left_of reading_count now z table + reading_count (place_of x)) er ∙ left_enter reading_count now rounds table q (place_of x) at short new in
     let ends : explores fs'' ≤ explores fs' = fewer done ef in
     let stack_room = fit.stack_room in let next_room = fit.next_room in let few_tries = fit.few_tries in let few_entries = fit.few_entries in
     let entered_tried = fit.entered_tried in let looked_entered = fit.looked_entered in
@@ -252,8 +303,8 @@ went_entered table here i now rounds rounds' row row' q x fs fs' fs'' top top' t
         old_rounds = λ r. old_after r;
         frames_below = frames_kept done ef within.0;
         threads_below = within.1;
-        stack_room = omega (arith, stack_left, stack_room, room);
-        next_room = omega (arith, lone_left, next_room, one_more);
+        stack_room = omega (arith, stack_left, stack_room, keeps, shorter);
+        next_room = omega (arith, reading_left, next_room, one_more);
         next_cap = (let cap = fit.next_cap in omega (arith, eroom, cap));
         few_tries = omega (arith, arrows_left, few0, few_tries, ends);
         few_entries = omega (arith, lone_left, few_entries);
@@ -261,7 +312,7 @@ went_entered table here i now rounds rounds' row row' q x fs fs' fs'' top top' t
         looked_entered = omega (arith, looked_entered);
       };
       walks = walks_on done ef enters;
-      less = λ d. (let same : length fs'' ≡ length fs' = (ap length ef ∙ ap (λ b. length (if b then [] else fs')) d) in omega (arith, stack_left, few1, same));
+      less = λ d. (let same : length fs'' ≡ length fs' = (ap length ef ∙ ap (λ b. length (if b then [] else fs')) d) in omega (arith, work_left, few1, same));
       cleared = λ d. ef ∙ ap (λ b. if b then [] else fs') d;
       spent = omega (arith, arrows_left, few0, ends);
       spent_entries = omega (arith, lone_left);
@@ -279,6 +330,10 @@ went_entered table here i now rounds rounds' row row' q x fs fs' fs'' top top' t
     fewer true e = let none : explores fs'' ≡ 0 = ap explores e in omega (arith, none)
     fewer false e = let same : explores fs'' ≡ explores fs' = ap explores e in omega (arith, same)
 
+    not_longer : (b : Bool) → fs'' ≡ (if b then [] else fs') → length fs'' ≤ length fs'
+    not_longer true e = let none : length fs'' ≡ 0 = ap length e in omega (arith, none)
+    not_longer false e = let same : length fs'' ≡ length fs' = ap length e in omega (arith, same)
+
     frames_kept : (b : Bool) → fs'' ≡ (if b then [] else fs') → FramesBelow (length table) (length row') fs' → FramesBelow (length table) (length row') fs''
     frames_kept true e w = subst (λ z. FramesBelow (length table) (length row') z) (sym e) tt
     frames_kept false e w = subst (λ z. FramesBelow (length table) (length row') z) (sym e) w
@@ -293,11 +348,11 @@ went_entered table here i now rounds rounds' row row' q x fs fs' fs'' top top' t
         (subst (λ z. IsWalking table h s first last p from (slice_set rounds q now) now i row' z f k n (thread_at t') t'.len best) (sym e)
         (walk_enters table h s first last p from now i f k n best rounds row q fs (let all = fit.all_seen in let lt = fit.frames_below.0 in omega (arith, all, lt)) new here is t w x row' fs' t' false (ap (λ o. unwrap_or o (with_arrows [])) at) ent))
 
-pub went_on : (table : List (Place ℕ)) (here : Here) (i now : ℕ) (ra rb rc : List ℕ) (rowa rowb rowc : Row) (fa fb fc : List Frame) (topb topc : ℕ) (ta tb tc : Threads)
+pub went_on : (table : List (Place ℕ)) (here : Here) (i now : ℕ) (ra rb rc : List ℕ) (rowa rowb rowc : Row) (fa fb fc : List Frame) (sizec : ℕ) (ta tb tc : Threads)
     (tried_a tried_b tried_c entered_a entered_b entered_c looked_b looked_c : ℕ) (done : Bool) →
-    WalksTo table here i now ra rowa fa ta rb rowb fb tb false → Went table here i now rb rowb fb tb tried_b entered_b rc rowc fc topc tc tried_c entered_c looked_c done →
+    WalksTo table here i now ra rowa fa ta rb rowb fb tb false → Went table here i now rb rowb fb tb tried_b entered_b rc rowc fc sizec tc tried_c entered_c looked_c done →
     WalksTo table here i now ra rowa fa ta rc rowc fc tc done
-went_on table here i now ra rb rc rowa rowb rowc fa fb fc topb topc ta tb tc tried_a tried_b tried_c entered_a entered_b entered_c looked_b looked_c done w v =
+went_on table here i now ra rb rc rowa rowb rowc fa fb fc sizec ta tb tc tried_a tried_b tried_c entered_a entered_b entered_c looked_b looked_c done w v =
     λ h p is s first last from f k n best x. v.walks h p is s first last from f k n best (w h p is s first last from f k n best x)
 
 pub got_place : (spots : List code.Place) (q : ℕ) (x : code.Place) → slice_get spots q ≡ Some x → slice_get (map (λ s. place_of s) spots) q ≡ Some (place_of x)
@@ -317,34 +372,15 @@ was_met a b r e f = go (cases_eq a b)
     go (inl d) = d
     go (inr d) = let t : r ≡ true = f d in cc
 
-pub went_counted : (table : List (Place ℕ)) (here : Here) (i now : ℕ) (ra rb : List ℕ) (rowa rowb : Row) (fa fb : List Frame) (topb : ℕ) (ta tb : Threads)
-    (tried entered tried_a entered_a looked_a tried_b entered_b looked_b : ℕ) (done : Bool) → tried_b ≡ tried_a → entered_b ≡ entered_a → looked_b ≡ looked_a →
-    Went table here i now ra rowa fa ta tried entered rb rowb fb topb tb tried_a entered_a looked_a done →
-    Went table here i now ra rowa fa ta tried entered rb rowb fb topb tb tried_b entered_b looked_b done
-went_counted table here i now ra rb rowa rowb fa fb topb ta tb tried entered tried_a entered_a looked_a tried_b entered_b looked_b done e1 e2 e3 w =
-    subst (λ z. Went table here i now ra rowa fa ta tried entered rb rowb fb topb tb z entered_b looked_b done) (sym e1)
-    (subst (λ z. Went table here i now ra rowa fa ta tried entered rb rowb fb topb tb tried_a z looked_b done) (sym e2)
-    (subst (λ z. Went table here i now ra rowa fa ta tried entered rb rowb fb topb tb tried_a entered_a z done) (sym e3) w))
-
--- a frame comes off the stack
-pub fit_popped : (table : List (Place ℕ)) (rounds : List ℕ) (now : ℕ) (row : Row) (fs fs' : List Frame) (top top' : ℕ) (t : Threads) (tried entered looked : ℕ) → fs ≡ fs' → top ≤ top' →
-    IsFit table rounds now row fs top t tried entered looked → IsFit table rounds now row fs' top' t tried entered looked
-fit_popped table rounds now row fs fs' top top' t tried entered looked e le fit =
-    let room = fit.stack_room in
-    subst (λ z. IsFit table rounds now row z top' t tried entered looked) e (record {
-      width = fit.width;
-      all_seen = fit.all_seen;
-      old_rounds = fit.old_rounds;
-      frames_below = fit.frames_below;
-      threads_below = fit.threads_below;
-      stack_room = omega (arith, room, le);
-      next_room = fit.next_room;
-      next_cap = fit.next_cap;
-      few_tries = fit.few_tries;
-      few_entries = fit.few_entries;
-      entered_tried = fit.entered_tried;
-      looked_entered = fit.looked_entered;
-    })
+pub went_counted : (table : List (Place ℕ)) (here : Here) (i now : ℕ) (ra rb : List ℕ) (rowa rowb : Row) (fa fb : List Frame) (size sizeb : ℕ) (ta tb : Threads)
+    (tried entered tried_a entered_a looked_a tried_b entered_b looked_b : ℕ) (done : Bool) → sizeb ≡ size → tried_b ≡ tried_a → entered_b ≡ entered_a → looked_b ≡ looked_a →
+    Went table here i now ra rowa fa ta tried entered rb rowb fb size tb tried_a entered_a looked_a done →
+    Went table here i now ra rowa fa ta tried entered rb rowb fb sizeb tb tried_b entered_b looked_b done
+went_counted table here i now ra rb rowa rowb fa fb size sizeb ta tb tried entered tried_a entered_a looked_a tried_b entered_b looked_b done e0 e1 e2 e3 w =
+    subst (λ z. Went table here i now ra rowa fa ta tried entered rb rowb fb z tb tried_b entered_b looked_b done) (sym e0)
+    (subst (λ z. Went table here i now ra rowa fa ta tried entered rb rowb fb size tb z entered_b looked_b done) (sym e1)
+    (subst (λ z. Went table here i now ra rowa fa ta tried entered rb rowb fb size tb tried_a z looked_b done) (sym e2)
+    (subst (λ z. Went table here i now ra rowa fa ta tried entered rb rowb fb size tb tried_a entered_a z done) (sym e3) w)))
 
 -- a walk so far, and what is kept of the counts
 pub record IsUnder (table : List (Place ℕ)) (here : Here) (i now : ℕ) (rounds : List ℕ) (row : Row) (frames : List Frame) (t : Threads) (tried entered : ℕ)

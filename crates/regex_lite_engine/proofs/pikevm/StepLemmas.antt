@@ -1,5 +1,5 @@
 -- From thread to thread of a position.
-use Rattle.std.proofs.Common.{◌≡◌, ℕ, suc, ◌+◌, ◌^◌, ◌<◌, ◌≤◌, Bool, List, [], ◌∷◌, ◌++◌, length, drop, sum_by, if◌then◌else◌, Some, refl, sym, ap, subst, ◌∙◌, arith, length-drop}
+use Rattle.std.proofs.Common.{◌≡◌, ℕ, suc, ◌+◌, ◌^◌, ◌<◌, ◌≤◌, Bool, List, [], ◌∷◌, ◌++◌, length, drop, if◌then◌else◌, Some, refl, sym, ap, subst, ◌∙◌, arith, length-drop}
 use Rattle.regex_lite_syntax.specs.Text.{Text}
 use Rattle.regex_lite_engine.specs.declared.pikevm.here.Here.{Here}
 use Rattle.regex_lite_engine.specs.declared.pikevm.stack.Frame.{Frame}
@@ -8,10 +8,10 @@ use Rattle.regex_lite_engine.specs.declared.pikevm.seen.Seen.{Seen}
 use Rattle.regex_lite_engine.specs.Search.Bounds.{StepCounts}
 use Rattle.regex_lite_engine.specs.declared.pikevm.threads.Threads.{Threads}
 use Rattle.regex_lite_engine.specs.declared.pikevm.walk.Walk.{Walk}
-use Rattle.regex_lite_engine.specs.Graph.Places.{Place}
+use Rattle.regex_lite_engine.specs.Graph.Places.{Place, kept_back, kept_back_of}
 use Rattle.regex_lite_engine.specs.Walk.InStep.{Offer}
 use Rattle.regex_lite_engine.specs.Walk.Machine.{Row, Thread, thread_at, frames_of}
-use Rattle.regex_lite_engine.specs.Walk.Room.{IsFit, HasRoom, Explores, WalksTo, weight, due_tries, due_entries}
+use Rattle.regex_lite_engine.specs.Walk.Room.{IsFit, HasRoom, Explores, WalksTo, due_tries, due_entries}
 use Rattle.regex_lite_engine.specs.Walk.Turns.{Between, StepsTo}
 use Rattle.regex_lite_engine.specs.Walk.Walking.{Node, Best, WayHolds, ThreadsHold, InStep, IsWalking}
 use Rattle.regex_lite_engine.proofs.pikevm.RoomLemmas.{left_most}
@@ -83,18 +83,18 @@ stepped table here now f n r0 t0 b0 k rounds rounds' t t' q i row row' fs done b
 pub empty_top : {X : Type 0} (xs : List X) (top : ℕ) → drop top xs ≡ [] → top ≤ length xs → top ≡ length xs
 empty_top xs top e le = omega (arith, length-drop top xs, ap length e)
 
-pub fit_pushed : (table : List (Place ℕ)) (rounds : List ℕ) (now : ℕ) (row row' : Row) (q : ℕ) (fs : List Frame) (top top' size : ℕ) (t : Threads) (tried entered looked : ℕ) →
-    length row' ≡ length row → q < length table → sum_by weight table + 1 ≤ size → top ≡ size → top' + 1 ≡ top → due_tries table rounds now [] t tried + 1 < 2 ^ 127 →
-    fs ≡ Explore q ∷ [] → IsFit table rounds now row [] top t tried entered looked → IsFit table rounds now row' fs top' t tried entered looked
-fit_pushed table rounds now row row' q fs top top' size t tried entered looked er inside room full less few ef fit =
-    let most = left_most weight now rounds table in
-    subst (λ z. IsFit table rounds now row' z top' t tried entered looked) (sym ef) (record {
+pub fit_pushed : (table : List (Place ℕ)) (rounds : List ℕ) (now : ℕ) (row row' : Row) (q : ℕ) (fs : List Frame) (size : ℕ) (t : Threads) (tried entered looked : ℕ) →
+    length row' ≡ length row → q < length table → kept_back_of table < size → due_tries table rounds now [] t tried + 1 < 2 ^ 127 →
+    fs ≡ Explore q ∷ [] → IsFit table rounds now row [] size t tried entered looked → IsFit table rounds now row' fs size t tried entered looked
+fit_pushed table rounds now row row' q fs size t tried entered looked er inside room few ef fit =
+    let most = left_most kept_back now rounds table in
+    subst (λ z. IsFit table rounds now row' z size t tried entered looked) (sym ef) (record {
       width = er ∙ fit.width;
       all_seen = fit.all_seen;
       old_rounds = fit.old_rounds;
       frames_below = (inside, tt);
       threads_below = fit.threads_below;
-      stack_room = omega (arith, most, room, full, less);
+      stack_room = omega (arith, most, room);
       next_room = fit.next_room;
       next_cap = fit.next_cap;
       few_tries = omega (arith, few);
@@ -122,12 +122,13 @@ module _ (table : List (Place ℕ)) (w w1 : Walk) (es : w1.seen ≡ w.seen) (en 
   same_walk P x =
       subst (λ z. P z w1.next w1.steps) (sym es) (subst (λ z. P w.seen z w1.steps) (sym en) (subst (λ z. P w.seen w.next z) (sym et) x))
 
-  pub room_pushed : (q size : ℕ) → length w1.slots.items ≡ length w.slots.items → q < length table → sum_by weight table + 1 ≤ size → w.stack.top ≡ size → w1.stack.top + 1 ≡ w.stack.top →
+  pub room_pushed : (q : ℕ) → length w1.slots.items ≡ length w.slots.items → q < length table → kept_back_of table < length w.stack.frames.items → length w1.stack.frames.items ≡ length w.stack.frames.items →
       due_tries table w.seen.rounds.items w.seen.now [] w.next w.steps.tried + 1 < 2 ^ 127 → frames_of w1.stack ≡ Explore q ∷ [] → HasRoom table w [] → HasRoom table w1 (frames_of w1.stack)
-  room_pushed q size el inside room full less few ef fit =
-      same_walk (λ s n t. IsFit table s.rounds.items s.now w1.slots.items (frames_of w1.stack) w1.stack.top n t.tried t.entered t.looked)
-      (fit_pushed table w.seen.rounds.items w.seen.now w.slots.items w1.slots.items q (frames_of w1.stack) w.stack.top w1.stack.top size w.next w.steps.tried w.steps.entered w.steps.looked
-      el inside room full less few ef fit)
+  room_pushed q el inside room size few ef fit =
+      subst (λ z. IsFit table w1.seen.rounds.items w1.seen.now w1.slots.items (frames_of w1.stack) z w1.next w1.steps.tried w1.steps.entered w1.steps.looked) (sym size)
+      (same_walk (λ s n t. IsFit table s.rounds.items s.now w1.slots.items (frames_of w1.stack) (length w.stack.frames.items) n t.tried t.entered t.looked)
+      (fit_pushed table w.seen.rounds.items w.seen.now w.slots.items w1.slots.items q (frames_of w1.stack) (length w.stack.frames.items) w.next w.steps.tried w.steps.entered w.steps.looked
+      el inside room few ef fit))
 
   module _ (here : Here) (now : ℕ) (round : w.seen.now ≡ now) (w2 : Walk) (q i : ℕ) (done : Bool) (ef : frames_of w1.stack ≡ Explore q ∷ []) (explored : Explores table here i w1 w2 (frames_of w1.stack) done) where
     round_now : w1.seen.now ≡ now

@@ -7,7 +7,7 @@ use Rattle.regex_lite_engine.specs.declared.pikevm.best.Best as code
 use Rattle.regex_lite_engine.specs.declared.pikevm.here.Here.{Here}
 use Rattle.regex_lite_engine.specs.declared.pikevm.stack.Stack.{Stack}
 use Rattle.regex_lite_engine.specs.declared.pikevm.threads.Threads.{Threads}
-use Rattle.regex_lite_engine.specs.Graph.Places.{Place}
+use Rattle.regex_lite_engine.specs.Graph.Places.{Place, kept_back, reading_count}
 use Rattle.regex_lite_engine.specs.Graph.Renumbered.{arrow_count, arrows_of}
 use Rattle.regex_lite_engine.specs.Walk.Entering.{Pushed}
 use Rattle.regex_lite_engine.specs.Walk.InStep.{Offer}
@@ -15,7 +15,7 @@ use Rattle.regex_lite_engine.specs.Walk.Machine.{Row, Thread, thread_at}
 use Rattle.regex_lite_engine.specs.Walk.NumberedAnswer.{numbered_step, is_end}
 use Rattle.regex_lite_engine.specs.Search.Offsets.{offset}
 use Rattle.regex_lite_engine.specs.Walk.Standing.{IsHere}
-use Rattle.regex_lite_engine.specs.Walk.Room.{IsFit, ThreadsBelow, lone, weight}
+use Rattle.regex_lite_engine.specs.Walk.Room.{IsFit, ThreadsBelow, lone}
 use Rattle.regex_lite_engine.specs.Walk.Turns.{Between, StepsTo, IsComing, IsDeadAt, Begun, FromIs, IsBlank, IsReady}
 use Rattle.regex_lite_engine.specs.Walk.Walking.{Node, Best, WayHolds, InStep}
 use Rattle.regex_lite_engine.proofs.pikevm.OptionLemmas.{not_there}
@@ -28,10 +28,11 @@ sum_lone [] = refl
 sum_lone (x ∷ table) = let more = sum_lone table in omega (arith, more, sum_by-cons lone x table)
 
 pub fit_first : (table : List (Place ℕ)) (rounds rounds' : List ℕ) (now now' width : ℕ) (slots : Row) (cur next : Threads) (stack : Stack) (best : code.Best) (tried entered looked : ℕ) →
-    IsReady table rounds now width cur next stack best tried entered looked → length slots ≡ width → rounds' ≡ rounds → now' ≡ now + 1 → stack.top ≡ length stack.frames.items →
-    tried + arrows_of table < 2 ^ 127 → entered + length table < 2 ^ 127 → IsFit table rounds' now' slots [] stack.top next tried entered looked
-fit_first table rounds rounds' now now' width slots cur next stack best tried entered looked ready ew er en full few fewe =
-    let a = left_most weight now' rounds' table in let b = left_most lone now' rounds' table in let c = left_most arrow_count now' rounds' table in let d = sum_lone table in
+    IsReady table rounds now width cur next stack best tried entered looked → length slots ≡ width → rounds' ≡ rounds → now' ≡ now + 1 →
+    tried + arrows_of table < 2 ^ 127 → entered + length table < 2 ^ 127 → IsFit table rounds' now' slots [] (length stack.frames.items) next tried entered looked
+fit_first table rounds rounds' now now' width slots cur next stack best tried entered looked ready ew er en few fewe =
+    let a = left_most kept_back now' rounds' table in let b = left_most lone now' rounds' table in let c = left_most arrow_count now' rounds' table in let d = sum_lone table in
+    let g = left_most reading_count now' rounds' table in
     let e = ready.stack_size in let z = ready.none_next in
     record {
       width = ew ∙ sym ready.next_width;
@@ -39,8 +40,8 @@ fit_first table rounds rounds' now now' width slots cur next stack best tried en
       old_rounds = λ r. (let le = ready.old_rounds r in let same : slice_index rounds' r ≡ slice_index rounds r = ap (λ x. slice_index x r) er in omega (arith, le, same, en));
       frames_below = tt;
       threads_below = λ k lt. absurd (omega (arith, lt, z));
-      stack_room = omega (arith, a, e, full);
-      next_room = omega (arith, b, d, z);
+      stack_room = omega (arith, a, e);
+      next_room = omega (arith, g, z);
       next_cap = ready.next_cap;
       few_tries = omega (arith, c, few, z);
       few_entries = omega (arith, b, d, fewe);
@@ -209,7 +210,3 @@ begun_len best s at may cur cur' (inr (some, same)) = let e : cur'.len ≡ cur.l
 pub begun_below : (c : ℕ) (best : Best) (s at : ℕ) (may : Bool) (cur cur' : Threads) → s < c → ThreadsBelow c cur → Begun s at may best cur cur' → ThreadsBelow c cur'
 begun_below c best s at may cur cur' inside below (inl (none, (blank, blanks, pushed))) = threads_pushed c s at blank cur cur' inside pushed below
 begun_below c best s at may cur cur' inside below (inr (some, same)) = subst (λ (t : Threads). ThreadsBelow c t) (sym same) below
-
-pub sum_weight : (table : List (Place ℕ)) → sum_by weight table ≡ arrows_of table + length table
-sum_weight [] = refl
-sum_weight (x ∷ table) = let more = sum_weight table in omega (arith, more, sum_by-cons weight x table, sum_by-cons arrow_count x table)

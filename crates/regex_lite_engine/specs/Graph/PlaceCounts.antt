@@ -108,6 +108,22 @@ abbrev mutual
   choice_arrows_in (more a rest) = choice_arrows a + choice_arrows_in rest
 
 abbrev mutual
+  -- the places that read a character. That of an empty set reads none
+  pub reading_places : Tree → ℕ
+  reading_places empty = 0
+  reading_places (character c) = 1
+  reading_places (class ranges) = class_arrows ranges
+  reading_places (look test) = 0
+  reading_places (repetition least most greedy body) = copies least most * reading_places body
+  reading_places (capture index name body) = reading_places body
+  reading_places (concat parts) = reading_places_in parts
+  reading_places (alternation branches) = reading_places_in branches
+
+  pub reading_places_in : Trees → ℕ
+  reading_places_in none = 0
+  reading_places_in (more a rest) = reading_places a + reading_places_in rest
+
+abbrev mutual
   -- the ranges of sets, in each copy
   pub ranges : Tree → ℕ
   ranges empty = 0

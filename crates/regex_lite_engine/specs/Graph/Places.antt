@@ -1,5 +1,5 @@
 -- Places with ordered arrows, and the steps that they allow on a haystack.
-use Rattle.std.specs.Prelude.{ℕ, suc, Bool, List, [], ◌∷◌, Option, Some, None, if◌then◌else◌, slice_get}
+use Rattle.std.specs.Prelude.{ℕ, suc, ◌+◌, Bool, List, [], ◌∷◌, Option, Some, None, if◌then◌else◌, length, slice_get, sum_by}
 use Rattle.regex_lite_syntax.specs.declared.class.ClassRange.{ClassRange}
 use Rattle.regex_lite_syntax.specs.declared.hir.look.Look.{Look}
 use Rattle.regex_lite_syntax.specs.Text.{Text, before, after}
@@ -14,6 +14,17 @@ pub data Condition : Type 0 where
   holding : (test : Look) → Condition
   -- that a character of the set comes next, which is read
   reading : (set : Set) → Condition
+
+-- 1 where a character is to be read, else 0
+abbrev pub condition_reads : Condition → ℕ
+condition_reads free = 0
+condition_reads (holding test) = 0
+condition_reads (reading set) = 1
+
+-- 1 where a slot is to be marked, else 0
+abbrev pub mark_count : (slot : Option ℕ) → ℕ
+mark_count None = 0
+mark_count (Some slot) = 1
 
 -- an arrow to the place with this address
 pub record Arrow (A : Type 0) : Type 0 where
@@ -66,6 +77,29 @@ module _ {A : Type 0} where
   abbrev pub one_of : List ClassRange → A → Place A
   one_of [] exit = with_arrows []
   one_of (range ∷ ranges) exit = with_arrows (go_reading (in_ranges (range ∷ ranges)) exit ∷ [])
+
+  -- how many of the arrows read a character
+  abbrev pub reading_arrows : List (Arrow A) → ℕ
+  reading_arrows [] = 0
+  reading_arrows (arrow ∷ arrows) = condition_reads arrow.condition + reading_arrows arrows
+
+  -- of a place these are one at most
+  abbrev pub reading_count : Place A → ℕ
+  reading_count complete = 0
+  reading_count (with_arrows arrows) = reading_arrows arrows
+
+  abbrev pub reading_of : List (Place A) → ℕ
+  reading_of places = sum_by reading_count places
+
+  -- what a search keeps back when it goes on by the first arrow: the other arrows, and what the
+  -- slot held that the first one marks
+  abbrev pub kept_back : Place A → ℕ
+  kept_back complete = 0
+  kept_back (with_arrows []) = 0
+  kept_back (with_arrows (arrow ∷ arrows)) = length arrows + mark_count arrow.mark
+
+  abbrev pub kept_back_of : List (Place A) → ℕ
+  kept_back_of places = sum_by kept_back places
 
   -- the place with the position
   abbrev pub arrived : A → Option ℕ → Option (A × ℕ)

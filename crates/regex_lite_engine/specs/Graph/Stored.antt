@@ -2,7 +2,7 @@
 use Rattle.std.specs.Prelude.{◌≡◌, ℕ, ◌^◌, ◌<◌, List, [], ◌∷◌, map, length, slice_get, Option, Some}
 use Rattle.std.specs.declared.alloc.Global.{Global}
 use Rattle.std.specs.declared.rc.RcStr.{RcStr}
-use Rattle.regex_lite_engine.specs.Graph.Places.{Arrow, Place, complete, with_arrows, go, go_marking, go_holding, one_char, one_of}
+use Rattle.regex_lite_engine.specs.Graph.Places.{Arrow, Place, complete, with_arrows, go, go_marking, go_holding, one_char, one_of, reading_of, kept_back_of}
 use Rattle.regex_lite_engine.specs.declared.nfa.place.Place as code
 use Rattle.regex_lite_engine.specs.declared.nfa.place.Place.TheVariants as stored
 
@@ -13,6 +13,8 @@ pub record StoredGraph : Type 0 where
   pub start : ℕ
   -- how many arrows the places have
   pub arrows : ℕ
+  -- how many places read a character
+  pub reading : ℕ
   -- by index
   pub capture_names : List (Option (RcStr Global))
   pub static_captures_len : Option ℕ
@@ -43,10 +45,14 @@ LeadsBelow n complete = Unit {0}
 LeadsBelow n (with_arrows arrows) = LeadBelow n arrows
 
 -- a search starts at a place and is led to places, and neither places nor arrows are more than can
--- be numbered
-pub record IsClosed (places : List code.Place) (start arrows : ℕ) : Type 0 where
+-- be numbered. So many of the places read a character, and a search keeps back less than there are
+-- places
+pub record IsClosed (places : List code.Place) (start arrows reading : ℕ) : Type 0 where
   pub start_inside : start < length places
   pub each_inside : (q : ℕ) (place : code.Place) → slice_get places q ≡ Some place
       → LeadsBelow (length places) (place_of place)
   pub few_places : length places < 2 ^ 32
   pub few_arrows : arrows < 2 ^ 34
+  pub few_reading : reading < length places
+  pub each_reading : reading_of (map place_of places) ≡ reading
+  pub few_kept_back : kept_back_of (map place_of places) < length places

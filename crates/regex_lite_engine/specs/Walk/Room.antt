@@ -7,7 +7,7 @@ use Rattle.regex_lite_engine.specs.declared.pikevm.stack.Frame.{Frame}
 use Rattle.regex_lite_engine.specs.declared.pikevm.stack.Frame.TheVariants.{Explore, Restore}
 use Rattle.regex_lite_engine.specs.declared.pikevm.threads.Threads.{Threads}
 use Rattle.regex_lite_engine.specs.declared.pikevm.walk.Walk.{Walk}
-use Rattle.regex_lite_engine.specs.Graph.Places.{Place}
+use Rattle.regex_lite_engine.specs.Graph.Places.{Place, kept_back, reading_count, reading_of}
 use Rattle.regex_lite_engine.specs.Graph.Renumbered.{arrow_count}
 use Rattle.regex_lite_engine.specs.Walk.Machine.{Row, Thread, thread_at}
 use Rattle.regex_lite_engine.specs.Walk.Standing.{IsHere}
@@ -23,7 +23,7 @@ left_of f now (round ∷ rounds) (place ∷ table) =
 abbrev pub lone : Place ℕ → ℕ
 lone place = 1
 
--- the frames that entering a place may put on the stack
+-- more than the frames that entering a place puts on the stack
 abbrev pub weight : Place ℕ → ℕ
 weight place = arrow_count place + 1
 
@@ -54,16 +54,16 @@ module _ (table : List (Place ℕ)) where
   abbrev pub work : (rounds : List ℕ) → (now : ℕ) → List Frame → ℕ
   work rounds now frames = length frames + left_of weight now rounds table
 
-  pub record IsFit (rounds : List ℕ) (now : ℕ) (row : Row) (frames : List Frame) (top : ℕ)
+  pub record IsFit (rounds : List ℕ) (now : ℕ) (row : Row) (frames : List Frame) (size : ℕ)
       (next : Threads) (tried entered looked : ℕ) : Type 0 where
     pub width : length row ≡ next.width
     pub all_seen : length rounds ≡ length table
     pub old_rounds : (q : ℕ) → slice_index rounds q ≤ now
     pub frames_below : FramesBelow (length table) (length row) frames
     pub threads_below : ThreadsBelow (length table) next
-    pub stack_room : left_of weight now rounds table ≤ top
-    pub next_room : next.len + left_of lone now rounds table ≤ length table
-    pub next_cap : length table < length next.places.items
+    pub stack_room : length frames + left_of kept_back now rounds table ≤ size
+    pub next_room : next.len + left_of reading_count now rounds table ≤ reading_of table
+    pub next_cap : reading_of table < length next.places.items
     pub few_tries : due_tries rounds now frames next tried < 2 ^ 127
     pub few_entries : due_entries rounds now entered < 2 ^ 127
     pub entered_tried : entered ≤ tried
@@ -84,8 +84,8 @@ module _ (table : List (Place ℕ)) where
   -- a frame was taken off, or all of them where a match is complete
   pub record Went (here : Here) (i now : ℕ) (rounds : List ℕ) (row : Row) (frames : List Frame)
       (next : Threads) (tried entered : ℕ) (rounds' : List ℕ) (row' : Row) (frames' : List Frame)
-      (top' : ℕ) (next' : Threads) (tried' entered' looked' : ℕ) (done : Bool) : Type 0 where
-    pub fit : IsFit rounds' now row' frames' top' next' tried' entered' looked'
+      (size : ℕ) (next' : Threads) (tried' entered' looked' : ℕ) (done : Bool) : Type 0 where
+    pub fit : IsFit rounds' now row' frames' size next' tried' entered' looked'
     pub walks : WalksTo here i now rounds row frames next rounds' row' frames' next' done
     pub less : done ≡ false → work rounds' now frames' < work rounds now frames
     pub cleared : done ≡ true → frames' ≡ []
@@ -97,15 +97,16 @@ module _ (table : List (Place ℕ)) where
 
   abbrev pub HasRoom : Walk → List Frame → Type 0
   HasRoom walk frames =
-      IsFit walk.seen.rounds.items walk.seen.now walk.slots.items frames walk.stack.top walk.next
-      walk.steps.tried walk.steps.entered walk.steps.looked
+      IsFit walk.seen.rounds.items walk.seen.now walk.slots.items frames
+      (length walk.stack.frames.items) walk.next walk.steps.tried walk.steps.entered
+      walk.steps.looked
 
   abbrev pub TakesFrame : Here → (i : ℕ) → Walk → List Frame → Walk → List Frame → (done : Bool)
       → Type 0
   TakesFrame here i walk frames walk' frames' done =
       Went here i walk.seen.now walk.seen.rounds.items walk.slots.items frames walk.next
       walk.steps.tried walk.steps.entered walk'.seen.rounds.items walk'.slots.items frames'
-      walk'.stack.top walk'.next walk'.steps.tried walk'.steps.entered walk'.steps.looked done
+      (length walk'.stack.frames.items) walk'.next walk'.steps.tried walk'.steps.entered walk'.steps.looked done
 
   -- all frames were taken off
   pub record Explores (here : Here) (i : ℕ) (walk walk' : Walk) (frames : List Frame)

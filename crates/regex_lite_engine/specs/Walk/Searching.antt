@@ -1,10 +1,10 @@
 -- What a search works in, as one value.
-use Rattle.std.specs.Prelude.{◌≡◌, ◌+◌, ◌^◌, ◌≤◌, ◌<◌, ℕ, List, [], length, sum_by}
+use Rattle.std.specs.Prelude.{◌≡◌, ◌+◌, ◌^◌, ◌≤◌, ◌<◌, ℕ, List, [], length}
 use Rattle.regex_lite_engine.specs.declared.pikevm.here.Here.{Here}
 use Rattle.regex_lite_engine.specs.declared.pikevm.turn.Cache.{Cache}
-use Rattle.regex_lite_engine.specs.Graph.Places.{Place}
+use Rattle.regex_lite_engine.specs.Graph.Places.{Place, kept_back_of}
 use Rattle.regex_lite_engine.specs.Walk.Machine.{frames_of, thread_at}
-use Rattle.regex_lite_engine.specs.Walk.Room.{ThreadsBelow, weight, due_tries, due_entries}
+use Rattle.regex_lite_engine.specs.Walk.Room.{ThreadsBelow, due_tries, due_entries}
 use Rattle.regex_lite_engine.specs.Walk.Turns.{best_of, StepsTo, IsReady}
 
 module _ (table : List (Place ℕ)) where
@@ -18,7 +18,7 @@ module _ (table : List (Place ℕ)) where
   -- before the threads of a position are followed
   pub record IsPlaced (cache : Cache) : Type 0 where
     pub stack_empty : frames_of cache.walk.stack ≡ []
-    pub stack_size : sum_by weight table + 1 ≤ length cache.walk.stack.frames.items
+    pub stack_size : kept_back_of table < length cache.walk.stack.frames.items
     pub below : ThreadsBelow (length table) cache.threads
     pub width : cache.threads.width ≡ length cache.walk.slots.items
     pub best_width : length cache.best.row.items ≡ length cache.walk.slots.items

@@ -1,11 +1,11 @@
 -- The threads of one position, and from one position to the next.
-use Rattle.std.specs.Prelude.{◌≡◌, ◌+◌, ◌≤◌, ◌<◌, ◌⊎◌, ℕ, Bool, false, List, [], length, slice_get, slice_index, sum_by, Option, Some, None}
+use Rattle.std.specs.Prelude.{◌≡◌, ◌≤◌, ◌<◌, ◌⊎◌, ℕ, Bool, false, List, [], length, slice_get, slice_index, Option, Some, None}
 use Rattle.regex_lite_syntax.specs.Text.{Text}
 use Rattle.regex_lite_engine.specs.declared.pikevm.best.Best as code
 use Rattle.regex_lite_engine.specs.declared.pikevm.here.Here.{Here}
 use Rattle.regex_lite_engine.specs.declared.pikevm.stack.Stack.{Stack}
 use Rattle.regex_lite_engine.specs.declared.pikevm.threads.Threads.{Threads}
-use Rattle.regex_lite_engine.specs.Graph.Places.{Place}
+use Rattle.regex_lite_engine.specs.Graph.Places.{Place, kept_back_of, reading_of}
 use Rattle.regex_lite_engine.specs.Walk.Explored.{IsDead}
 use Rattle.regex_lite_engine.specs.Walk.NumberedAnswer.{numbered_step, is_end}
 use Rattle.regex_lite_engine.specs.Walk.InStep.{Offer}
@@ -13,7 +13,7 @@ use Rattle.regex_lite_engine.specs.Walk.Machine.{Row, Thread, thread_at, frames_
 use Rattle.regex_lite_engine.specs.Walk.Standing.{IsHere}
 use Rattle.regex_lite_engine.specs.Walk.Walking.{Node, Best, ThreadsHold, BestHolds, InStep, IsWalking}
 use Rattle.regex_lite_engine.specs.Walk.Entering.{Pushed}
-use Rattle.regex_lite_engine.specs.Walk.Room.{ThreadsBelow, weight}
+use Rattle.regex_lite_engine.specs.Walk.Room.{ThreadsBelow}
 
 abbrev pub best_at : Option (ℕ × ℕ) → Row → Best
 best_at None row = None
@@ -79,12 +79,12 @@ module _ (table : List (Place ℕ)) where
     pub old_rounds : (q : ℕ) → slice_index rounds q ≤ now
     pub same_width : threads.width ≡ width
     pub next_width : next.width ≡ width
-    pub cap : length table < length threads.places.items
-    pub next_cap : length table < length next.places.items
-    pub few : threads.len ≤ length table
+    pub cap : reading_of table < length threads.places.items
+    pub next_cap : reading_of table < length next.places.items
+    pub few : threads.len ≤ reading_of table
     pub below : ThreadsBelow (length table) threads
     pub none_next : next.len ≡ 0
-    pub stack_size : sum_by weight table + 1 ≤ length stack.frames.items
+    pub stack_size : kept_back_of table < length stack.frames.items
     pub stack_empty : frames_of stack ≡ []
     pub best_width : length best.row.items ≡ width
     pub entered_tried : entered ≤ tried

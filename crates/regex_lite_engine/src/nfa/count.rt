@@ -10,7 +10,7 @@ ghost use Rattle.regex_lite_syntax.specs.Tree.{Tree, Trees, class, repetition, c
 ghost use Rattle.regex_lite_syntax.specs.Tree.Properties.{captures_len, static_captures_len};
 ghost use Rattle.regex_lite_syntax.specs.Tree.Views.{text_of_name, tree_of};
 ghost use Rattle.regex_lite_engine.specs.Graph.Size.{name_size, size, Fits, IsDueToTree};
-ghost use Rattle.regex_lite_engine.specs.Graph.PlaceCounts.{whole_places, whole_arrows};
+ghost use Rattle.regex_lite_engine.specs.Graph.PlaceCounts.{whole_places, whole_arrows, reading_places};
 ghost use Rattle.regex_lite_engine.specs.Nfa.Saturation.{saturated, AreCountsOf, AreSumsOf};
 
 mod copies;
@@ -26,6 +26,8 @@ pub(crate) struct Counts {
     pub(crate) places: u64,
     pub(crate) arrows: u64,
     pub(crate) choice_arrows: u64,
+    /// The places that read a character.
+    pub(crate) reading: u64,
     pub(crate) ranges: u64,
     pub(crate) names_size: u64,
     pub(crate) properties: Properties,
@@ -36,6 +38,7 @@ const NONE: Counts = Counts {
     places: 0,
     arrows: 0,
     choice_arrows: 0,
+    reading: 0,
     ranges: 0,
     names_size: 0,
     properties: Properties {
@@ -71,6 +74,7 @@ const BRANCH: Counts = Counts {
 const READING: Counts = Counts {
     places: 1,
     arrows: 1,
+    reading: 1,
     properties: NOT_NULLABLE,
     ..NONE
 };
@@ -98,6 +102,7 @@ impl Counts {
     {
         match hir {
             Hir::Empty | Hir::Look(_) => Counts {
+                reading: 0,
                 properties: NONE.properties,
                 ..READING
             },
@@ -142,13 +147,15 @@ impl Counts {
         counts
     }
 
-    /// What the place of a set takes. It has no arrow where the set is empty.
+    /// What the place of a set takes. It has no arrow where the set is empty, and reads nothing.
     fn of_class(set: &Class) -> Counts
         ensures { AreCountsOf (class set.now) result }
     {
         let ranges = set.ranges().len();
+        let arrows = if ranges == 0 { 0 } else { 1 };
         Counts {
-            arrows: if ranges == 0 { 0 } else { 1 },
+            arrows,
+            reading: arrows,
             ranges: ranges as u64,
             ..READING
         }
@@ -174,6 +181,7 @@ impl Counts {
             places: self.places.saturating_add(rest.places),
             arrows: self.arrows.saturating_add(rest.arrows),
             choice_arrows: self.choice_arrows.saturating_add(rest.choice_arrows),
+            reading: self.reading.saturating_add(rest.reading),
             ranges: self.ranges.saturating_add(rest.ranges),
             names_size: self.names_size.saturating_add(rest.names_size),
             properties: self.properties,
@@ -228,6 +236,7 @@ impl Counts {
             places: times(copies, self.places, own.choices + own.others),
             arrows: times(copies, self.arrows, 2 * own.choices + own.others),
             choice_arrows: times(copies, self.choice_arrows, 2 * own.choices),
+            reading: times(copies, self.reading, 0),
             ranges: times(copies, self.ranges, 0),
             properties: self.properties.repeated(least),
             ..self
@@ -272,6 +281,14 @@ impl Counts {
             → whole_places tree < 2 ^ 32 → result ≡ whole_arrows tree }
     {
         self.arrows.saturating_add(2) as usize
+    }
+
+    /// How many places of the whole pattern read a character, where its places can be numbered.
+    pub(crate) fn reading(&self) -> usize
+        ensures { (tree : Tree) → AreCountsOf tree self.now → whole_places tree < 2 ^ 32
+            → result ≡ reading_places tree }
+    {
+        self.reading as usize
     }
 
     /// How many groups a match can tell of, the whole match among them.

@@ -2,7 +2,7 @@
 ghost use Rattle.std.specs.Prelude.{◌≡◌, ◌+◌, ◌≤◌, ◌<◌, length};
 ghost use Rattle.regex_lite_syntax.specs.Ranges.{in_ranges};
 ghost use Rattle.regex_lite_syntax.specs.Sets.{just};
-ghost use Rattle.regex_lite_engine.specs.Graph.Renumbered.{arrow_count};
+ghost use Rattle.regex_lite_engine.specs.Graph.Places.{kept_back};
 ghost use Rattle.regex_lite_engine.specs.Graph.Stored.{place_of};
 ghost use Rattle.regex_lite_engine.specs.Walk.Machine.{frames_of};
 ghost use Rattle.regex_lite_engine.specs.Walk.Entering.{reads, Enters, ReadsOn, SlotMarked};
@@ -24,15 +24,13 @@ pub fn enter(
     next: &mut Threads,
 ) -> bool
     requires width { length slots.old ≡ next.old.width }
-    requires room { arrow_count (place_of place.now) + 1 ≤ stack.old.top }
+    requires room { kept_back (place_of place.now) + 1 ≤ stack.old.top }
     requires next_room { next.old.len < length next.old.places.items }
     ensures entered { Enters here start place.now slots.old (frames_of stack.old) next.old
         slots.new (frames_of stack.new) next.new result }
     ensures width { next.new.width ≡ next.old.width }
     ensures next_room { length next.new.places.items ≡ length next.old.places.items }
-    ensures next_len { next.new.len ≤ next.old.len + 1 }
     ensures size { length stack.new.frames.items ≡ length stack.old.frames.items }
-    ensures room { stack.old.top ≤ stack.new.top + (arrow_count (place_of place.now) + 1) }
 {
     match place {
         Place::Empty { to } => stack.push(Frame::Explore(*to)),
@@ -83,7 +81,6 @@ fn read_on(reads: bool, to: u32, start: usize, slots: &[Option<usize>], next: &m
     ensures reads { ReadsOn reads next.old next.new (to, start, slots.now) }
     ensures width { next.new.width ≡ next.old.width }
     ensures room { length next.new.places.items ≡ length next.old.places.items }
-    ensures len { next.new.len ≤ next.old.len + 1 }
 {
     if reads {
         next.push(to, start, slots);
@@ -96,7 +93,6 @@ fn mark(slot: u32, to: u32, at: usize, slots: &mut [Option<usize>], stack: &mut 
     ensures marked { SlotMarked at slot to slots.old (frames_of stack.old) slots.new
         (frames_of stack.new) }
     ensures size { length stack.new.frames.items ≡ length stack.old.frames.items }
-    ensures room { stack.old.top ≤ stack.new.top + 2 }
 {
     if (slot as usize) < slots.len() {
         let old = slots[slot as usize];

@@ -5,7 +5,7 @@ use Rattle.std.proofs.lemmas.Option.{slice_get-map}
 use Rattle.std.proofs.Math.Seq.{get_or-append_seam}
 use Rattle.regex_lite_syntax.specs.Tree.{Tree}
 use Rattle.regex_lite_syntax.specs.Tree.Regular.{IsRegular}
-use Rattle.regex_lite_engine.specs.Graph.Places.{Place}
+use Rattle.regex_lite_engine.specs.Graph.Places.{Place, kept_back_of, reading_of}
 use Rattle.regex_lite_engine.specs.Graph.Addresses.{Address, entry}
 use Rattle.regex_lite_engine.specs.Graph.Repetitions.{Content}
 use Rattle.regex_lite_engine.specs.Graph.WrittenOut.{start_address, end_address, place_at, whole, written_out}
@@ -146,9 +146,11 @@ module _ (tree : Tree) (regular : IsRegular tree) where
     as_many_places = ap length (sym table_is) ∙ length-map places place_of
 
     -- the graph with these places leads to its own places
-    pub closed : (start arrows : ℕ) → start ≡ (whole_layout tree).1 → length places < 2 ^ 32
-        → arrows < 2 ^ 34 → IsClosed places start arrows
-    closed start arrows start_is few_places few_arrows = record {
+    pub closed : (start arrows reading : ℕ) → start ≡ (whole_layout tree).1
+        → length places < 2 ^ 32 → arrows < 2 ^ 34 → reading < length places
+        → reading_of (whole_table tree) ≡ reading → kept_back_of (whole_table tree) < length places
+        → IsClosed places start arrows reading
+    closed start arrows reading start_is few_places few_arrows few_reading each_reading few_kept_back = record {
       start_inside = omega (arith, start_is, starts.inside, as_many_places);
       each_inside = λ q place e. (
           let stored = ap (λ table. slice_get table q) (sym table_is)
@@ -158,4 +160,7 @@ module _ (tree : Tree) (regular : IsRegular tree) where
           );
       few_places = few_places;
       few_arrows = few_arrows;
+      few_reading = few_reading;
+      each_reading = ap reading_of table_is ∙ each_reading;
+      few_kept_back = omega (arith, ap kept_back_of table_is, few_kept_back);
     }

@@ -1,14 +1,14 @@
 use Rattle.std.proofs.Common.{rules, ◌≡◌, length, map, sym, ◌∙◌, arith}
 use Rattle.std.proofs.lemmas.List.{length-map}
-use Rattle.regex_lite_engine.specs.Graph.Stored.{table_of, place_of}
-use Rattle.regex_lite_engine.proofs.pikevm.TurnLemmas.{sum_weight}
+use Rattle.regex_lite_engine.specs.Graph.Stored.{place_of}
 use Rattle.regex_lite_engine.proofs.pikevm.cache_for.Goals as goal
 
 pub returns-clause-fresh : goal.returns-clause-fresh
 returns-clause-fresh c =
     let count : length (map place_of c.args.graph.now.places) ≡ length c.args.graph.now.places = length-map c.args.graph.now.places place_of in
     let places : c.places-places.result ≡ length c.args.graph.now.places = c.places-places.ensures.same in
-    let weights = sum_weight (table_of c.args.graph.now) in let all = c.arrows.ensures.all in
+    let kept = c.places-places.ensures.kept_back in
+    let reading = c.reading-room.ensures.each in
     let size = c.in_ok-with_room-2.ensures.size in
     let next = c.in_ok-with_room-3.ensures.room in let threads = c.in_ok-with_room-4.ensures.room in
     let none = c.in_ok-with_room-4.ensures.empty in
@@ -20,12 +20,12 @@ returns-clause-fresh c =
         old_rounds = λ q. (let le = c.in_ok-with_room.ensures.old q in let e = c.in_ok-with_room.ensures.now in omega (arith, le, e));
         same_width = c.in_ok-with_room-4.ensures.width ∙ sym slots;
         next_width = c.in_ok-with_room-3.ensures.width ∙ sym slots;
-        cap = omega (arith, threads, places, count);
-        next_cap = omega (arith, next, places, count);
+        cap = omega (arith, threads, reading);
+        next_cap = omega (arith, next, reading);
         few = omega (arith, none);
         below = λ k lt. absurd (omega (arith, lt, none));
         none_next = c.in_ok-with_room-3.ensures.empty;
-        stack_size = omega (arith, weights, size, places, count, all);
+        stack_size = omega (arith, kept, size);
         stack_empty = c.in_ok-with_room-2.ensures.empty;
         best_width = c.in_ok-with_width.ensures.width ∙ sym slots;
         entered_tried = omega (arith, tried, entered);
@@ -42,5 +42,4 @@ pub returns-clause-countable : goal.returns-clause-countable
 returns-clause-countable c =
     let count : length (map place_of c.args.graph.now.places) ≡ length c.args.graph.now.places = length-map c.args.graph.now.places place_of in
     let places = c.places-places.ensures.same in let few = c.places-places.ensures.few in
-    let all = c.arrows.ensures.all in let few_arrows = c.arrows.ensures.few in
-    record { few_places = omega (arith, count, places, few); few_arrows = omega (arith, all, few_arrows) }
+    record { few_places = omega (arith, count, places, few); few_arrows = c.reading-room.ensures.few_arrows }

@@ -8,6 +8,8 @@ use Rattle.regex_lite_engine.specs.Graph.WrittenOut.{written_out, start_address}
 use Rattle.regex_lite_engine.specs.Nfa.Layout.{whole_layout, whole_table}
 use Rattle.regex_lite_engine.proofs.nfa.write.RenumberingLemmas.{whole_names, renumbered, starts, closed}
 use Rattle.regex_lite_engine.proofs.nfa.count.ArrowCountLemmas.{arrows_whole}
+use Rattle.regex_lite_engine.proofs.nfa.count.ReadingCountLemmas.{reading_whole, reading_few}
+use Rattle.regex_lite_engine.proofs.nfa.count.KeptBackLemmas.{kept_back_whole}
 use Rattle.regex_lite_engine.proofs.ArrowBoundLemmas.{arrows_few}
 use Rattle.regex_lite_engine.proofs.nfa.Graph.new.Goals as goal
 
@@ -36,9 +38,14 @@ invariant_of-result c =
     let tree = tree_of c.args.hir.now in
     let fits = (c.in_ok-count.ensures.ok tree c.of-counts.ensures).1 in
     let counted = c.arrows.ensures tree c.of-counts.ensures c.requires fits.places_fit in
+    let reads = c.reading.ensures tree c.of-counts.ensures fits.places_fit in
     let places = c.in_ok-places.ensures in (
       closed tree c.requires c.in_ok-places.places.items places.written.1 c.in_ok-places.start
-          c.arrows.result places.written.0 (omega (arith, places.length, fits.places_fit))
-          (omega (arith, counted, arrows_few tree c.requires, fits.places_fit)),
+          c.arrows.result c.reading.result places.written.0
+          (omega (arith, places.length, fits.places_fit))
+          (omega (arith, counted, arrows_few tree c.requires, fits.places_fit))
+          (omega (arith, reads, reading_few tree, places.length))
+          (reading_whole tree ∙ sym reads)
+          (omega (arith, kept_back_whole tree c.requires, places.length)),
       ap arrows_of places.written.1 ∙ arrows_whole tree ∙ sym counted,
     )

@@ -32,12 +32,11 @@ take_up-start-requires-clause-room c =
 pub explore-requires : goal.explore-requires
 explore-requires c =
     let a = c.args in let w = c.threads.self.walk in let v = c.threads.invariant in let up = c.take_up-start.ensures in
-    let full = empty_top w.stack.frames.items w.stack.top v.empty (omega (arith, w.stack.in_frames)) in
     let size = v.size in let room = c.requires.placed.stack_size in let budget = c.requires.placed.budget in let spent = v.spent in
     let lt : c.threads.k < a.self.now.threads.len = (let t = c.threads-test.true in let e = c.len-k-end.ensures in omega (arith, t, e)) in
-    room_pushed (table_of a.graph.now) w c.take_up-start.new.self up.seen up.next up.steps (thread_at c.threads.self.threads c.threads.k).0 (length w.stack.frames.items) up.slots
+    room_pushed (table_of a.graph.now) w c.take_up-start.new.self up.seen up.next up.steps (thread_at c.threads.self.threads c.threads.k).0 up.slots
     (subst (λ (t : Threads). (thread_at t c.threads.k).0 < length (table_of a.graph.now)) (sym v.threads) (c.requires.placed.below c.threads.k lt))
-    (omega (arith, size, room)) full up.room
+    (omega (arith, size, room)) up.size
     (subst (λ z. due_tries (table_of a.graph.now) w.seen.rounds.items z [] w.next w.steps.tried + 1 < 2 ^ 127) (sym v.round) (omega (arith, budget, spent, lt)))
     (up.frames ∙ ap (λ z. Explore (thread_at c.threads.self.threads c.threads.k).0 ∷ z) v.empty) v.room
 

@@ -6,7 +6,6 @@ use Rattle.regex_lite_engine.specs.Graph.Stored.{table_of, place_of}
 use Rattle.regex_lite_engine.specs.Walk.Room.{lone}
 use Rattle.regex_lite_engine.specs.Walk.Turns.{best_of, Begun, IsComing}
 use Rattle.regex_lite_engine.proofs.pikevm.RoomLemmas.{left_most}
-use Rattle.regex_lite_engine.proofs.pikevm.StepLemmas.{empty_top}
 use Rattle.regex_lite_engine.proofs.pikevm.TurnLemmas.{fit_first, turned, sum_lone, begun_len, begun_below}
 use Rattle.regex_lite_engine.proofs.pikevm.turn.Cache.turn.Goals as goal
 
@@ -15,7 +14,6 @@ follow-requires-clause-room c =
     let a = c.args in let w = a.self.now.walk in let r = c.requires in
     fit_first (table_of a.graph.now) w.seen.rounds.items c.clear.new.self.rounds.items w.seen.now c.clear.new.self.now (length w.slots.items) w.slots.items a.self.now.threads w.next w.stack a.self.now.best
     w.steps.tried w.steps.entered w.steps.looked r.ready refl (ap (λ v. v.items) c.clear.ensures.same) c.clear.ensures.now
-    (empty_top w.stack.frames.items w.stack.top r.ready.stack_empty (omega (arith, w.stack.in_frames)))
     (let few = r.few_tries in omega (arith, few)) (let few = r.few_entries in omega (arith, few))
 
 pub follow-requires-clause-placed : goal.follow-requires-clause-placed
