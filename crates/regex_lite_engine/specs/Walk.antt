@@ -10,3 +10,4 @@ pub mod Room
 pub mod Turns
 pub mod Searching
 pub mod Outcomes
+pub mod Starts

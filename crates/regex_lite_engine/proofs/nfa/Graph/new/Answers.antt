@@ -8,6 +8,7 @@ use Rattle.regex_lite_engine.specs.Graph.WrittenOut.{written_out, start_address}
 use Rattle.regex_lite_engine.specs.Nfa.Layout.{whole_layout, whole_table}
 use Rattle.regex_lite_engine.proofs.nfa.write.RenumberingLemmas.{whole_names, renumbered, starts, closed}
 use Rattle.regex_lite_engine.proofs.nfa.count.ArrowCountLemmas.{arrows_whole}
+use Rattle.regex_lite_engine.proofs.nfa.starts.WayLemmas.{written_starts}
 use Rattle.regex_lite_engine.proofs.ArrowBoundLemmas.{arrows_few}
 use Rattle.regex_lite_engine.proofs.nfa.Graph.new.Goals as goal
 
@@ -36,7 +37,11 @@ invariant_of-result c =
     let tree = tree_of c.args.hir.now in
     let fits = (c.in_ok-count.ensures.ok tree c.of-counts.ensures).1 in
     let counted = c.arrows.ensures tree c.of-counts.ensures c.requires fits.places_fit in
-    let places = c.in_ok-places.ensures in
-    closed tree c.requires c.in_ok-places.places.items places.written.1 c.in_ok-places.start
-    c.arrows.result places.written.0 (omega (arith, places.length, fits.places_fit))
-    (omega (arith, counted, arrows_few tree c.requires, fits.places_fit))
+    let places = c.in_ok-places.ensures in (
+      closed tree c.requires c.in_ok-places.places.items places.written.1 c.in_ok-places.start
+          c.arrows.result places.written.0 (omega (arith, places.length, fits.places_fit))
+          (omega (arith, counted, arrows_few tree c.requires, fits.places_fit)),
+      written_starts tree c.requires (map place_of c.in_ok-places.places.items)
+          c.in_ok-places.start places.written.1 places.written.0 c.of-starts.result
+          c.of-starts.ensures,
+    )
