@@ -7,6 +7,7 @@ pub mod OfferLemmas
 pub mod OptionLemmas
 pub mod PositionLemmas
 pub mod RoomLemmas
+pub mod SkipLemmas
 pub mod StepLemmas
 pub mod TurnLemmas
 pub mod WalkLemmas

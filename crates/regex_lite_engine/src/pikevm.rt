@@ -11,6 +11,7 @@ pub(crate) mod here;
 mod run;
 pub(crate) mod search;
 pub(crate) mod seen;
+mod skip;
 pub(crate) mod stack;
 pub(crate) mod steps;
 pub(crate) mod threads;

@@ -10,6 +10,7 @@ ghost use Rattle.regex_lite_engine.specs.Walk.Turns.{best_of};
 use crate::Graph;
 use crate::pikevm::best::Best;
 use crate::pikevm::here::Here;
+use crate::pikevm::skip::{may_start, next_start};
 use crate::pikevm::threads::Threads;
 use crate::pikevm::turn::Cache;
 
@@ -27,7 +28,8 @@ pub fn run(cache: &mut Cache, graph: &Graph, haystack: &str, start: usize)
 {
     let mut here = Here::at(haystack, start);
     'positions: loop {
-        cache.turn(graph, here, true);
+        here = next_start(graph, haystack, here, &cache.threads, &cache.best);
+        cache.turn(graph, here, may_start(graph, here));
         if is_over(here, &cache.threads, &cache.best) {
             return;
         }
