@@ -127,6 +127,11 @@ impl Starts {
         ensures added { HasAll self.new (in_ranges set.now) }
     {
         for range in set.ranges() {
+            if !range.start.is_ascii() {
+                // Nor are those behind it.
+                self.add_char(range.start);
+                return;
+            }
             self.add_range(*range);
         }
     }

@@ -1,15 +1,23 @@
 -- Where a match can begin, while characters are added, and what a tree can begin with.
-use Rattle.std.proofs.Common.{◌≡◌, ℕ, zero, suc, ◌+◌, ◌<◌, ◌≤◌, ◌⊎◌, inl, inr, Bool, true, false, IsTrue, List, [], ◌∷◌, Option, Some, None, refl, sym, ap, subst, ◌∙◌, arith, nat_lt, slice_index_or, if◌then◌else◌, ◌&&◌, ◌||◌}
+use Rattle.std.proofs.Common.{◌≡◌, ℕ, zero, suc, ◌+◌, ◌<◌, ◌≤◌, ◌⊎◌, inl, inr, Bool, true, false, IsTrue, List, [], ◌∷◌, length, take, get_or, Option, Some, None, refl, sym, ap, subst, ◌∙◌, arith, nat_lt, slice_index_or, if◌then◌else◌, ◌&&◌, ◌||◌}
 use Rattle.std.specs.Prelude.{replicate, is_none, slice_set, min}
 use Rattle.std.specs.Char.{is_ascii}
 use Rattle.std.proofs.lemmas.Bool.{cases_lt}
 use Rattle.std.proofs.lemmas.Bool.Decides.{nat_tests}
 use Rattle.regex_lite_syntax.specs.Sets.{span}
+use Rattle.regex_lite_syntax.specs.Ranges.{in_ranges, AreRuns}
+use Rattle.regex_lite_syntax.specs.declared.class.ClassRange.{ClassRange}
+use Rattle.regex_lite_syntax.specs.Ranges.{next_character}
+use Rattle.regex_lite_syntax.proofs.RangeLemmas.{next_above, runs_from}
 use Rattle.regex_lite_syntax.specs.Text.{Text, before, after}
 use Rattle.regex_lite_syntax.specs.Tree.{Tree, Trees, repetition, more}
 use Rattle.regex_lite_syntax.specs.Tree.Matches.{Matches, Passes, Chain, SomeBranch}
 use Rattle.regex_lite_engine.specs.declared.nfa.starts.Starts.{Starts}
 use Rattle.regex_lite_engine.specs.Nfa.Starts.{begins_with, may_begin, MayBegin, IsGrown, BeginsOrPasses}
+
+pub one_is_true : (a b : Bool) → (a || b) ≡ true → (a ≡ true) ⊎ (b ≡ true)
+one_is_true true b e = inl refl
+one_is_true false b e = inr e
 
 all_true : (n c : ℕ) → slice_index_or (replicate n true) c true ≡ true
 all_true zero c = refl
@@ -112,6 +120,60 @@ in_span s start end c any others filled inside =
         let not_ascii : is_ascii end ≡ false = grind (arith, nat_tests) in
         ap (λ z. if z then slice_index_or s.ascii c true else s.others) test ∙ others not_ascii
 
+-- one that is not ASCII stands for all of them
+others_begin : (s : Starts) (c d : ℕ) → 128 ≤ c → 128 ≤ d → begins_with s c ≡ true
+    → begins_with s d ≡ true
+others_begin s c d past_c past_d e =
+    let test_c : nat_lt c 128 ≡ false = grind (arith, nat_tests) in
+    let test_d : nat_lt d 128 ≡ false = grind (arith, nat_tests) in
+    ap (λ z. s.any && (if z then slice_index_or s.ascii d true else s.others)) test_d
+    ∙ sym (ap (λ z. s.any && (if z then slice_index_or s.ascii c true else s.others)) test_c) ∙ e
+
+-- what stands before a range is in the ranges before it
+held_before : (n : ℕ) (ranges : List ClassRange) (k c : ℕ) (none : ClassRange) → AreRuns n ranges
+    → k < length ranges → c < (get_or ranges k none).start → in_ranges ranges c ≡ true
+    → in_ranges (take k ranges) c ≡ true
+held_before n [] k c none runs within behind e = absurd (omega (arith, within))
+held_before n (r ∷ ranges) zero c none runs within behind e =
+    elim (one_is_true (span r.start r.end c) (in_ranges ranges c) e) [
+      | inl first ↦
+          let from : r.start ≤ c = grind (arith, nat_tests) in
+          absurd (omega (arith, from, behind))
+      | inr rest ↦
+          let later = runs_from (next_character r.end + 1) ranges c runs.4 rest in
+          let above = next_above r.end in
+          absurd (omega (arith, later, above, behind, runs.3))
+    ]
+held_before n (r ∷ ranges) (suc k) c none runs within behind e =
+    elim (one_is_true (span r.start r.end c) (in_ranges ranges c) e) [
+      | inl first ↦ ap (λ z. z || in_ranges (take k ranges) c) first
+      | inr rest ↦
+          true_last (span r.start r.end c)
+          (held_before (next_character r.end + 1) ranges k c none runs.4 (omega (arith, within))
+          behind rest)
+    ]
+  where
+    true_last : {b : Bool} (a : Bool) → b ≡ true → (a || b) ≡ true
+    true_last true e = refl
+    true_last false e = e
+
+-- the ranges behind one that is not ASCII aren't either
+pub past_ascii_begin : (s : Starts) (ranges : List ClassRange) (k c : ℕ) (none : ClassRange)
+    → AreRuns 0 ranges → k < length ranges → is_ascii (get_or ranges k none).start ≡ false
+    → begins_with s (get_or ranges k none).start ≡ true
+    → (in_ranges (take k ranges) c ≡ true → begins_with s c ≡ true)
+    → in_ranges ranges c ≡ true → begins_with s c ≡ true
+past_ascii_begin s ranges k c none runs within past begins before inside = by_ascii (cases_lt c 128)
+  where
+    by_ascii : (c < 128) ⊎ (128 ≤ c) → begins_with s c ≡ true
+    by_ascii (inl lt) =
+        let far : 128 ≤ (get_or ranges k none).start = grind (arith, nat_tests) in
+        let behind : c < (get_or ranges k none).start = omega (arith, lt, far) in
+        before (held_before 0 ranges k c none runs within behind inside)
+    by_ascii (inr le) =
+        let far : 128 ≤ (get_or ranges k none).start = grind (arith, nat_tests) in
+        others_begin s (get_or ranges k none).start c far le begins
+
 -- the next character is one with which a match can begin
 pub may_with : (s : Starts) (h : Text) (i c : ℕ) → after h i ≡ Some c → begins_with s c ≡ true
     → MayBegin s h i
@@ -202,7 +264,3 @@ module _ (a : Tree) (rest : Trees) (s t : Starts) (passable : Bool) (grown : IsG
     | inl begins ↦ inl begins
     | inr (p, same) ↦ inr (inl (new p, same))
   ]
-
-pub one_is_true : (a b : Bool) → (a || b) ≡ true → (a ≡ true) ⊎ (b ≡ true)
-one_is_true true b e = inl refl
-one_is_true false b e = inr e
