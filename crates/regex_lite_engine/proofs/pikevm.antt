@@ -6,9 +6,11 @@ pub mod MarkLemmas
 pub mod OfferLemmas
 pub mod OptionLemmas
 pub mod OutcomeLemmas
+pub mod PassLemmas
 pub mod PositionLemmas
 pub mod RoomLemmas
 pub mod ShortestLemmas
+pub mod SkipLemmas
 pub mod StepLemmas
 pub mod TurnLemmas
 pub mod WalkLemmas

@@ -1,3 +1,4 @@
 -- What the functions that write a graph promise one another.
 pub mod Saturation
 pub mod Layout
+pub mod Starts

@@ -9,4 +9,6 @@ pub mod Entering
 pub mod Room
 pub mod Turns
 pub mod Searching
+pub mod Passing
 pub mod Outcomes
+pub mod Starts

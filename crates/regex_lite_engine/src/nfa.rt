@@ -9,16 +9,19 @@ ghost use Rattle.regex_lite_engine.specs.Graph.Size.{Fits, IsDueToTree};
 ghost use Rattle.regex_lite_engine.specs.Graph.Places.{kept_back_of, reading_of};
 ghost use Rattle.regex_lite_engine.specs.Graph.Stored.{LeadsBelow, place_of, table_of};
 ghost use Rattle.regex_lite_engine.specs.Nfa.Saturation.{AreCountsOf};
+ghost use Rattle.regex_lite_engine.specs.Walk.Starts.{AreStartsOf};
 
 pub(crate) mod class;
 mod count;
 pub(crate) mod place;
+pub(crate) mod starts;
 mod write;
 
 use crate::pikevm::steps::Steps;
 use count::Counts;
 use place::Place;
 use regex_lite_syntax::{Error, Hir};
+use starts::Starts;
 use std::alloc::{AllocError, Global};
 use std::marker::Model;
 use std::rc::RcStr;
@@ -37,12 +40,15 @@ pub struct Graph {
     /// The names of the groups by index, shared with the tree.
     capture_names: Vec<Option<RcStr>>,
     static_captures_len: Option<usize>,
+    /// Where a match can begin.
+    starts: Starts,
 }
 
 impl Model for Graph {
     ghost use Rattle.std.specs.Prelude.{◌≡◌, map};
     ghost use Rattle.regex_lite_engine.specs.Graph.Renumbered.{arrows_of};
     ghost use Rattle.regex_lite_engine.specs.Graph.Stored.{StoredGraph, IsClosed, place_of};
+    ghost use Rattle.regex_lite_engine.specs.Walk.Starts.{AreStartsOf};
 
     ghost Value = { StoredGraph };
 
@@ -53,11 +59,13 @@ impl Model for Graph {
       reading = graph.reading;
       capture_names = graph.capture_names.items;
       static_captures_len = graph.static_captures_len;
+      starts = graph.starts;
     } };
 
     ghost invariant = { λ graph.
         IsClosed graph.places.items graph.start graph.arrows graph.reading
-        × (arrows_of (map place_of graph.places.items) ≡ graph.arrows) };
+        × (arrows_of (map place_of graph.places.items) ≡ graph.arrows)
+        × AreStartsOf (map place_of graph.places.items) graph.start graph.starts };
 }
 
 impl Graph {
@@ -85,6 +93,7 @@ impl Graph {
         let count = counts.within(size_limit)?;
         let capture_names = capture_names(alloc, hir, &counts)?;
         let (places, start) = write_out(alloc, hir, count)?;
+        let starts = Starts::of(hir);
         Ok(Graph {
             places,
             start,
@@ -92,6 +101,7 @@ impl Graph {
             reading: counts.reading(),
             capture_names,
             static_captures_len: counts.static_captures_len(),
+            starts,
         })
     }
 
@@ -113,6 +123,13 @@ impl Graph {
         ensures inside { result < length self.now.places }
     {
         self.start
+    }
+
+    /// Where a match can begin.
+    pub(crate) fn starts(&self) -> &Starts
+        ensures { AreStartsOf (table_of self.now) self.now.start result.now }
+    {
+        &self.starts
     }
 
     /// How many places there are.

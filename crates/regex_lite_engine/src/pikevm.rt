@@ -7,10 +7,12 @@ ghost use Rattle.regex_lite_engine.specs.Walk.Outcomes.{IsFresh, IsCountable};
 mod best;
 mod enter;
 pub(crate) mod here;
+mod pass;
 mod run;
 pub(crate) mod search;
 pub(crate) mod seen;
 mod shortest;
+mod skip;
 pub(crate) mod stack;
 pub(crate) mod steps;
 #[cfg(test)]

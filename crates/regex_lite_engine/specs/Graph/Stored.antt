@@ -5,6 +5,7 @@ use Rattle.std.specs.declared.rc.RcStr.{RcStr}
 use Rattle.regex_lite_engine.specs.Graph.Places.{Arrow, Place, complete, with_arrows, go, go_marking, go_holding, one_char, one_of, reading_of, kept_back_of}
 use Rattle.regex_lite_engine.specs.declared.nfa.place.Place as code
 use Rattle.regex_lite_engine.specs.declared.nfa.place.Place.TheVariants as stored
+use Rattle.regex_lite_engine.specs.declared.nfa.starts.Starts.{Starts}
 
 -- a graph as callers see it
 pub record StoredGraph : Type 0 where
@@ -18,6 +19,8 @@ pub record StoredGraph : Type 0 where
   -- by index
   pub capture_names : List (Option (RcStr Global))
   pub static_captures_len : Option ℕ
+  -- where a match can begin
+  pub starts : Starts
 
 -- the place that is stored
 abbrev pub place_of : code.Place → Place ℕ

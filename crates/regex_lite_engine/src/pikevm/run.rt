@@ -28,7 +28,7 @@ pub fn run(cache: &mut Cache, graph: &Graph, haystack: &str, start: usize)
 {
     let mut here = Here::at(haystack, start);
     'positions: loop {
-        cache.turn(graph, here, true);
+        here = cache.pass(graph, haystack, here);
         if is_over(here, &cache.threads, &cache.best) {
             return;
         }

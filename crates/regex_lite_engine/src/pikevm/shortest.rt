@@ -26,7 +26,7 @@ pub fn run_shortest(cache: &mut Cache, graph: &Graph, haystack: &str, start: usi
 {
     let mut here = Here::at(haystack, start);
     'positions: loop {
-        cache.turn(graph, here, true);
+        here = cache.pass(graph, haystack, here);
         if is_known(here, &cache.best) {
             return;
         }

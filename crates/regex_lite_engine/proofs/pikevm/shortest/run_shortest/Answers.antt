@@ -1,58 +1,85 @@
-use Rattle.std.proofs.Common.{rules, ◌+◌, length, sym, subst, arith}
+use Rattle.std.proofs.Common.{rules, ℕ, ◌+◌, ◌≤◌, arith}
 use Rattle.std.specs.Prelude.{chars}
-use Rattle.regex_lite_engine.specs.Graph.Renumbered.{arrows_of}
 use Rattle.regex_lite_engine.specs.Graph.Stored.{table_of}
 use Rattle.regex_lite_engine.specs.Search.Offsets.{position_at}
-use Rattle.regex_lite_engine.specs.Walk.Turns.{best_of, IsComing}
+use Rattle.regex_lite_engine.specs.Walk.Turns.{best_of}
 use Rattle.regex_lite_engine.proofs.pikevm.here.OffsetLemmas.{less_left}
-use Rattle.regex_lite_engine.proofs.pikevm.TurnLemmas.{none_coming}
-use Rattle.regex_lite_engine.proofs.pikevm.EndLemmas.{bound_more, over_at, some_after}
+use Rattle.regex_lite_engine.proofs.pikevm.EndLemmas.{over_at, some_after}
+use Rattle.regex_lite_engine.proofs.pikevm.PassLemmas.{begun, bounded}
 use Rattle.regex_lite_engine.proofs.pikevm.ShortestLemmas.{shortest_known, not_true}
 use Rattle.regex_lite_engine.proofs.pikevm.shortest.run_shortest.Goals as goal
 
 pub positions-init : goal.positions-init
 positions-init c =
-    let a = c.args in let r = c.requires.fresh in let none = r.no_threads in let tried = r.no_tries in let entered = r.no_entries in let rounds = r.no_rounds in
+    let a = c.args in
+    let s : ℕ = position_at a.haystack.now a.start in
     record {
-      p = position_at a.haystack.now a.start;
+      p = s;
       is = c.at-here.ensures.here;
-      low = omega arith;
-      ready = r.between;
-      coming = subst (λ z. IsComing (table_of a.graph.now) (chars a.haystack.now) a.graph.now.start (position_at a.haystack.now a.start) (length (chars a.haystack.now)) (position_at a.haystack.now a.start) a.cache.now.threads z) (sym r.none)
-          (none_coming (table_of a.graph.now) (chars a.haystack.now) a.graph.now.start (position_at a.haystack.now a.start) (length (chars a.haystack.now)) a.cache.now.threads none);
-      none = r.none;
-      tries = omega (arith, tried, none);
-      entries = omega (arith, entered);
-      rounds = omega (arith, rounds);
+      under_way = begun (table_of a.graph.now) (chars a.haystack.now) a.graph.now.start s a.cache.now
+          c.requires.fresh;
+      none = c.requires.fresh.none;
     }
 
+pub pass-here-requires : goal.pass-here-requires
+pass-here-requires c =
+    let v = c.positions.invariant in
+    (position_at c.args.haystack.now c.args.start, v.p, v.is, c.requires.counts, v.under_way)
+
 pub next-here-requires : goal.next-here-requires
-next-here-requires c = let v = c.positions.invariant in
-    (v.p, v.is, some_after c.positions.here.after c.is_known.result c.if-is_known.false c.is_known.ensures.at_end)
+next-here-requires c =
+    let v = c.positions.invariant in
+    let w = c.pass-here.ensures.passes (position_at c.args.haystack.now c.args.start) v.p v.is
+    v.under_way in (
+      w.q,
+      w.is,
+      some_after c.pass-here.result.after c.is_known.result c.if-is_known.false
+          c.is_known.ensures.at_end,
+    )
 
 pub positions-preserved : goal.positions-preserved
 positions-preserved c =
-    let v = c.positions.invariant in let a = c.args in let low = v.low in let rounds = v.rounds in let now = c.turn.ensures.round in
+    let v = c.positions.invariant in
+    let w = c.pass-here.ensures.passes (position_at c.args.haystack.now c.args.start) v.p v.is
+    v.under_way in
     record {
-      p = v.p + 1;
-      is = c.next-here.ensures v.p v.is;
-      low = omega (arith, low);
-      ready = c.turn.ensures.ready;
-      coming = c.turn.ensures.comes (chars a.haystack.now) v.p (position_at a.haystack.now a.start) (length (chars a.haystack.now)) v.is v.low v.is.inside (λ e. cc) v.coming;
+      p = w.q + 1;
+      is = c.next-here.ensures w.q w.is;
+      under_way = w.after;
       none = c.is_known.ensures.none_yet (not_true c.is_known.result c.if-is_known.false);
-      tries = bound_more (c.positions.cache.walk.steps.tried + c.positions.cache.threads.len) (c.turn.new.self.walk.steps.tried + c.turn.new.self.threads.len) v.p (position_at a.haystack.now a.start) (arrows_of (table_of a.graph.now) + 1) v.low v.tries c.turn.ensures.tries;
-      entries = bound_more c.positions.cache.walk.steps.entered c.turn.new.self.walk.steps.entered v.p (position_at a.haystack.now a.start) (length (table_of a.graph.now)) v.low v.entries c.turn.ensures.entries;
-      rounds = omega (arith, rounds, now, low);
     }
 
 pub positions-smaller : goal.positions-smaller
-positions-smaller c = let v = c.positions.invariant in
-    less_left c.args.haystack.now v.p v.p c.positions.here c.next-here.result c.utf8.haystack v.is (c.next-here.ensures v.p v.is) (omega arith)
+positions-smaller c =
+    let v = c.positions.invariant in
+    let w = c.pass-here.ensures.passes (position_at c.args.haystack.now c.args.start) v.p v.is
+    v.under_way in
+    less_left c.args.haystack.now v.p w.q c.positions.here c.next-here.result c.utf8.haystack v.is
+    (c.next-here.ensures w.q w.is) w.later
 
 pub returns-then-is_known-clause-found : goal.returns-then-is_known-clause-found
 returns-then-is_known-clause-found c =
-    let v = c.positions.invariant in let a = c.args in
-    shortest_known (table_of a.graph.now) (chars a.haystack.now) a.graph.now.start (position_at a.haystack.now a.start) v.p c.positions.here.at
-    c.positions.cache.threads c.turn.new.self.threads (best_of c.positions.cache.best) (best_of c.turn.new.self.best) v.low v.is.inside v.none v.is.bytes c.turn.ensures.ends
-    (over_at (chars a.haystack.now) v.p c.positions.here v.is (c.is_known.ensures.known (search rules))) v.coming
-    (c.turn.ensures.comes (chars a.haystack.now) v.p (position_at a.haystack.now a.start) (length (chars a.haystack.now)) v.is v.low v.is.inside (λ e. cc) v.coming)
+    let a = c.args in
+    let v = c.positions.invariant in
+    let s : ℕ = position_at a.haystack.now a.start in
+    let haystack = chars a.haystack.now in
+    let w = c.pass-here.ensures.passes s v.p v.is v.under_way in
+    let low = v.under_way.low in
+    let later = w.later in
+    let first : s ≤ w.q = omega (arith, low, later) in
+    shortest_known (table_of a.graph.now) haystack a.graph.now.start s w.q c.pass-here.result.at
+    c.positions.cache.threads c.pass-here.new.self.threads (best_of c.positions.cache.best)
+    (best_of c.pass-here.new.self.best) first w.is.inside v.none w.is.bytes w.ends
+    (over_at haystack w.q c.pass-here.result w.is (c.is_known.ensures.known (search rules)))
+    w.before w.after.coming
+
+pub returns-then-is_known-clause-bounded : goal.returns-then-is_known-clause-bounded
+returns-then-is_known-clause-bounded c =
+    let a = c.args in
+    let v = c.positions.invariant in
+    let s : ℕ = position_at a.haystack.now a.start in
+    let w = c.pass-here.ensures.passes s v.p v.is v.under_way in
+    let low = v.under_way.low in
+    let later = w.later in
+    bounded (table_of a.graph.now) (chars a.haystack.now) a.graph.now.start s w.q
+    c.pass-here.new.self (omega (arith, low, later)) w.is.inside w.after

@@ -1,24 +1,19 @@
-use Rattle.std.proofs.Common.{◌≡◌, ℕ, ◌+◌, ◌-◌, ◌*◌, ◌≤◌, length, None}
+use Rattle.std.proofs.Common.{◌≡◌, ℕ, ◌-◌, length, None}
 use Rattle.std.specs.Prelude.{chars}
-use Rattle.regex_lite_engine.specs.Graph.Renumbered.{arrows_of}
 use Rattle.regex_lite_engine.specs.Graph.Stored.{table_of}
 use Rattle.regex_lite_engine.specs.Search.Offsets.{position_at}
+use Rattle.regex_lite_engine.specs.Walk.Passing.{IsUnderWay}
 use Rattle.regex_lite_engine.specs.Walk.Standing.{IsHere}
-use Rattle.regex_lite_engine.specs.Walk.Searching.{IsBetween}
-use Rattle.regex_lite_engine.specs.Walk.Turns.{best_of, IsComing}
+use Rattle.regex_lite_engine.specs.Walk.Turns.{best_of}
 use Rattle.regex_lite_engine.proofs.pikevm.shortest.run_shortest.Given as goal
 
 abbrev pub invariant-positions : goal.invariant-positions
 invariant-positions l = record {
   p : ℕ;
   is : IsHere (chars l.haystack) p l.here;
-  low : position_at l.haystack l.start ≤ p;
-  ready : IsBetween (table_of l.graph) l.cache;
-  coming : IsComing (table_of l.graph) (chars l.haystack) l.graph.start (position_at l.haystack l.start) (length (chars l.haystack)) p l.cache.threads (best_of l.cache.best);
+  under_way : IsUnderWay (table_of l.graph) (chars l.haystack) l.graph.start
+      (position_at l.haystack l.start) p l.cache;
   none : best_of l.cache.best ≡ None;
-  tries : l.cache.walk.steps.tried + l.cache.threads.len ≤ (arrows_of (table_of l.graph) + 1) * (p - position_at l.haystack l.start);
-  entries : l.cache.walk.steps.entered ≤ length (table_of l.graph) * (p - position_at l.haystack l.start);
-  rounds : l.cache.walk.seen.now ≤ p - position_at l.haystack l.start;
 }
 
 abbrev pub decreases-positions : goal.decreases-positions

@@ -1,0 +1,54 @@
+-- Where the tree of a graph does not match, no arrows of the graph lead to a complete match.
+use Rattle.std.proofs.Common.{◌≡◌, ◌≢◌, ◌⊎◌, inl, inr, sym, ap, subst, ℕ, List}
+use Rattle.std.proofs.lemmas.Bool.{cases_eq}
+use Rattle.regex_lite_syntax.specs.Text.{Text}
+use Rattle.regex_lite_syntax.specs.Tree.{Tree}
+use Rattle.regex_lite_syntax.specs.Tree.Matches.{Matches}
+use Rattle.regex_lite_syntax.specs.Tree.Regular.{IsRegular}
+use Rattle.regex_lite_engine.specs.Graph.Places.{Place}
+use Rattle.regex_lite_engine.specs.Graph.Addresses.{Address}
+use Rattle.regex_lite_engine.specs.Graph.WrittenOut.{start_address, written_out}
+use Rattle.regex_lite_engine.specs.Graph.Renumbered.{IsRenumbered, IsNumberOf}
+use Rattle.regex_lite_engine.specs.Walk.NumberedAnswer.{numbered_step}
+use Rattle.regex_lite_engine.specs.Walk.Turns.{IsDeadAt}
+use Rattle.regex_lite_engine.specs.Walk.Starts.{AreStartsOf}
+use Rattle.regex_lite_engine.specs.Nfa.Layout.{whole_layout, whole_table}
+use Rattle.regex_lite_engine.specs.Nfa.Starts.{AreStartsOfTree}
+use Rattle.regex_lite_engine.specs.declared.nfa.starts.Starts.{Starts}
+use Rattle.regex_lite_engine.proofs.nfa.write.RenumberingLemmas.{whole_names, renumbered, starts as starts_there}
+use Rattle.regex_lite_engine.proofs.laws.LoopLemmas.{without_loops}
+use Rattle.regex_lite_engine.proofs.laws.PatternWayLemmas.{walk_match}
+use Rattle.regex_lite_engine.proofs.laws.search.NumberedWayLemmas.{in_addresses}
+
+one_or_two : (m n : ℕ × ℕ) → (m ≡ n) ⊎ (m ≢ n)
+one_or_two (q, i) (p, j) = elim (cases_eq q p) [
+  | inr apart ↦ inr (λ e. apart (ap (λ z. z.0) e))
+  | inl e ↦ elim (cases_eq i j) [
+    | inr apart ↦ inr (λ f. apart (ap (λ z. z.1) f))
+    | inl f ↦ inl (cc (e, f))
+  ]
+]
+
+pub dead_without_match : (tree : Tree) (haystack : Text) (table : List (Place ℕ)) (start : ℕ)
+    (name : ℕ → Address) → IsRenumbered (written_out tree) name table
+    → IsNumberOf name table start_address start → IsRegular tree → (i : ℕ)
+    → ((j : ℕ) → Matches haystack tree i j → ⊥) → IsDeadAt table haystack start i
+dead_without_match tree haystack table start name r first regular i none arrows end ends leads =
+    let way = without_loops (numbered_step table haystack) one_or_two arrows (start, i) end leads in
+    let through = in_addresses tree haystack table start name r first i end.0 end.1 way.0
+    (record { is_way = way.1; ends = ends }) in
+    none end.1 (walk_match tree haystack i end.1 way.0 regular through.0)
+
+-- the starts of a tree are those of its written-out places
+pub written_starts : (tree : Tree) → IsRegular tree → (table : List (Place ℕ)) (start : ℕ)
+    → table ≡ whole_table tree → start ≡ (whole_layout tree).1 → (starts : Starts)
+    → AreStartsOfTree tree starts → AreStartsOf table start starts
+written_starts tree regular table start table_is start_is starts of_tree haystack i never =
+    let name = whole_names tree regular in
+    let written = subst (λ t. IsRenumbered (written_out tree) name t) (sym table_is)
+    (renumbered tree regular) in
+    let first = subst (λ s. IsNumberOf name table start_address s) (sym start_is)
+    (subst (λ t. IsNumberOf name t start_address (whole_layout tree).1) (sym table_is)
+    (starts_there tree regular)) in
+    dead_without_match tree haystack table start name written first regular i
+    (λ j m. never (of_tree haystack i j m))

@@ -1,0 +1,61 @@
+-- What holds of a search between two positions, from its start to its end.
+use Rattle.std.proofs.Common.{ℕ, ◌+◌, ◌-◌, ◌*◌, ◌≤◌, List, length, sym, subst, arith}
+use Rattle.std.proofs.Math.Nat.{mul-le-mul_left}
+use Rattle.regex_lite_syntax.specs.Text.{Text}
+use Rattle.regex_lite_engine.specs.declared.pikevm.turn.Cache.{Cache}
+use Rattle.regex_lite_engine.specs.Graph.Places.{Place}
+use Rattle.regex_lite_engine.specs.Graph.Renumbered.{arrows_of}
+use Rattle.regex_lite_engine.specs.Search.Bounds.{IsBounded}
+use Rattle.regex_lite_engine.specs.Walk.Outcomes.{IsFresh}
+use Rattle.regex_lite_engine.specs.Walk.Passing.{IsUnderWay}
+use Rattle.regex_lite_engine.specs.Walk.Turns.{IsComing}
+use Rattle.regex_lite_engine.proofs.pikevm.EndLemmas.{bound_more}
+use Rattle.regex_lite_engine.proofs.pikevm.SkipLemmas.{bound_later}
+use Rattle.regex_lite_engine.proofs.pikevm.TurnLemmas.{none_coming}
+
+module _ (table : List (Place ℕ)) (haystack : Text) (start s : ℕ) where
+  -- a search that has not begun
+  pub begun : (cache : Cache) → IsFresh table cache → IsUnderWay table haystack start s s cache
+  begun cache fresh =
+      let none = fresh.no_threads in
+      let tried = fresh.no_tries in
+      let entered = fresh.no_entries in
+      let rounds = fresh.no_rounds in
+      record {
+        low = omega arith;
+        ready = fresh.between;
+        coming = subst (λ z. IsComing table haystack start s (length haystack) s cache.threads z)
+            (sym fresh.none) (none_coming table haystack start s (length haystack) cache.threads none);
+        tries = omega (arith, tried, none);
+        entries = omega (arith, entered);
+        rounds = omega (arith, rounds);
+      }
+
+  -- a bound up to a position, and what one more position costs
+  pub bound_on : (a b p q m : ℕ) → s ≤ p → p ≤ q → a ≤ m * (p - s) → b ≤ a + m
+      → b ≤ m * (q + 1 - s)
+  bound_on a b p q m low later bound more =
+      bound_more a b q s m (omega (arith, low, later)) (bound_later a p q s m later bound) more
+
+  -- a search that has gone over a position of the haystack did no more than is allowed
+  pub bounded : (q : ℕ) (cache : Cache) → s ≤ q → q ≤ length haystack
+      → IsUnderWay table haystack start s (q + 1) cache
+      → IsBounded (length table) (arrows_of table) haystack s cache.walk.steps.tried
+      cache.walk.steps.entered cache.walk.steps.looked
+  bounded q cache low high on =
+      let tries = on.tries in
+      let entries = on.entries in
+      let entered = on.ready.entered_tried in
+      let looked = on.ready.looked_entered in
+      let all_tries = mul-le-mul_left (arrows_of table + 1) (within q low high) in
+      let all_entries = mul-le-mul_left (length table) (within q low high) in
+      record {
+        few_tried = omega (arith, tries, all_tries);
+        entered_tried = entered;
+        few_entered = omega (arith, entries, all_entries);
+        few_looked = omega (arith, looked);
+        none_beyond = λ lt. absurd (omega (arith, lt, low, high));
+      }
+    where
+      within : (q : ℕ) → s ≤ q → q ≤ length haystack → q + 1 - s ≤ length haystack - s + 1
+      within q low high = omega (arith, low, high)

@@ -1,0 +1,21 @@
+use Rattle.std.proofs.Common.{inr, refl, sym, subst, IsTrue, arith}
+use Rattle.std.specs.Prelude.{chars}
+use Rattle.regex_lite_engine.specs.Graph.Stored.{table_of}
+use Rattle.regex_lite_engine.specs.Nfa.Starts.{MayBegin}
+use Rattle.regex_lite_engine.specs.Walk.Turns.{IsDeadAt}
+use Rattle.regex_lite_engine.proofs.pikevm.SkipLemmas.{passes_as}
+use Rattle.regex_lite_engine.proofs.pikevm.skip.next_start.Goals as goal
+
+pub returns : goal.returns
+returns c = λ p is.
+    let haystack = chars c.args.haystack.now in
+    let none = c.is_none.ensures.0 (subst IsTrue (sym c.if-not-is_none.false) refl) in
+    let no_threads = c.if-len-gt0.false in
+    let counted = c.len.ensures in
+    inr (
+      omega (arith, no_threads, counted),
+      none,
+      passes_as (λ i. ¬ (MayBegin c.starts.result.now haystack i))
+          (IsDeadAt (table_of c.args.graph.now) haystack c.args.graph.now.start) haystack p
+          c.pass_over.result (c.starts.ensures haystack) (c.pass_over.ensures p is),
+    )

@@ -1,0 +1,31 @@
+-- From one position of a search to a later one.
+use Rattle.std.specs.Prelude.{◌+◌, ◌-◌, ◌*◌, ◌≤◌, ℕ, List, length}
+use Rattle.regex_lite_syntax.specs.Text.{Text}
+use Rattle.regex_lite_engine.specs.declared.pikevm.here.Here.{Here}
+use Rattle.regex_lite_engine.specs.declared.pikevm.turn.Cache.{Cache}
+use Rattle.regex_lite_engine.specs.Graph.Places.{Place}
+use Rattle.regex_lite_engine.specs.Graph.Renumbered.{arrows_of}
+use Rattle.regex_lite_engine.specs.Walk.Searching.{IsBetween}
+use Rattle.regex_lite_engine.specs.Walk.Standing.{IsHere}
+use Rattle.regex_lite_engine.specs.Walk.Turns.{best_of, IsComing, EndsAt}
+
+module _ (table : List (Place ℕ)) (haystack : Text) (start s : ℕ) where
+  -- a search from position s on has come to position p
+  pub record IsUnderWay (p : ℕ) (cache : Cache) : Type 0 where
+    pub low : s ≤ p
+    pub ready : IsBetween table cache
+    pub coming : IsComing table haystack start s (length haystack) p cache.threads
+        (best_of cache.best)
+    pub tries : cache.walk.steps.tried + cache.threads.len ≤ (arrows_of table + 1) * (p - s)
+    pub entries : cache.walk.steps.entered ≤ length table * (p - s)
+    pub rounds : cache.walk.seen.now ≤ p - s
+
+  -- it has gone over a position that is not before p
+  pub record Passes (p : ℕ) (cache cache' : Cache) (here : Here) : Type 0 where
+    pub q : ℕ
+    pub later : p ≤ q
+    pub is : IsHere haystack q here
+    pub before : IsComing table haystack start s (length haystack) q cache.threads
+        (best_of cache.best)
+    pub ends : EndsAt here.at (best_of cache.best) (best_of cache'.best)
+    pub after : IsUnderWay (q + 1) cache'

@@ -1,0 +1,211 @@
+//! The characters with which a match of a pattern can begin: one walk over the tree, which takes no
+//! memory, and leaves out what lies behind a part that reads.
+ghost use Rattle.std.specs.Prelude.{◌≡◌, ℕ, true, map};
+ghost use Rattle.regex_lite_syntax.specs.Ranges.{in_ranges};
+ghost use Rattle.regex_lite_syntax.specs.Sets.{just, span};
+ghost use Rattle.regex_lite_syntax.specs.Tree.{look, class, repetition, concat, alternation, trees};
+ghost use Rattle.regex_lite_syntax.specs.Tree.Views.{tree_of};
+ghost use Rattle.regex_lite_engine.specs.Nfa.Starts.{begins_with, may_begin, stops_at, IsGrown, HasAll, BeginsOrPasses, AreStartsOfTree};
+
+use regex_lite_syntax::{Class, ClassRange, Hir, Look};
+
+/// Where a match can begin, by the character that comes next there. No match begins elsewhere.
+#[derive(Drop)]
+pub(crate) struct Starts {
+    /// Whether one can begin with a character at all.
+    any: bool,
+    ascii: [bool; 128],
+    /// Whether one can begin with a character that is not ASCII.
+    others: bool,
+    /// Whether one can begin at the haystack's start, whatever comes next. It is kept apart since a
+    /// search has to begin there once and not at each character.
+    at_start: bool,
+}
+
+impl Starts {
+    /// Where a match of the tree can begin. A look is taken to hold, but for the one that holds at
+    /// the haystack's start alone.
+    pub(crate) fn of(hir: &Hir) -> Starts
+        ensures { AreStartsOfTree (tree_of hir.now) result }
+    {
+        let mut starts = Starts {
+            any: false,
+            ascii: [false; 128],
+            others: false,
+            at_start: false,
+        };
+        if starts.add(hir) {
+            return Starts::everywhere();
+        }
+        starts
+    }
+
+    /// A match can begin anywhere.
+    fn everywhere() -> Starts
+        ensures { (c : ℕ) → begins_with result c ≡ true }
+    {
+        Starts {
+            any: true,
+            ascii: [true; 128],
+            others: true,
+            at_start: true,
+        }
+    }
+
+    /// Adds the characters with which a match of the tree can begin. Tells whether it may read
+    /// nothing, so that what follows it can begin there too.
+    #[cycle(add)]
+    fn add(&mut self, hir: &Hir) -> bool
+        ensures grown { IsGrown self.old self.new }
+        ensures begins { BeginsOrPasses (tree_of hir.now) self.new result }
+    {
+        match hir {
+            Hir::Empty => true,
+            Hir::Char(c) => {
+                self.add_char(*c);
+                false
+            }
+            Hir::Class(set) => {
+                self.add_class(set);
+                false
+            }
+            Hir::Look(test) => self.add_look(*test),
+            Hir::Repetition { least, body, .. } => self.add(body) || *least == 0,
+            Hir::Capture { body, .. } => self.add(body),
+            Hir::Concat(parts) => self.add_parts(parts),
+            Hir::Alternation(branches) => self.add_branches(branches),
+        }
+    }
+
+    /// Adds those of these parts, one after another, up to the first that reads.
+    #[cycle(add)]
+    fn add_parts(&mut self, parts: &[Hir]) -> bool
+        ensures grown { IsGrown self.old self.new }
+        ensures begins { BeginsOrPasses (concat (trees (map tree_of parts.now))) self.new result }
+    {
+        for part in parts {
+            if !self.add(part) {
+                return false;
+            }
+        }
+        true
+    }
+
+    /// Adds those of these branches.
+    #[cycle(add)]
+    fn add_branches(&mut self, branches: &[Hir]) -> bool
+        ensures grown { IsGrown self.old self.new }
+        ensures begins { BeginsOrPasses (alternation (trees (map tree_of branches.now))) self.new
+            result }
+    {
+        let mut passable = false;
+        for branch in branches {
+            if self.add(branch) {
+                passable = true;
+            }
+        }
+        passable
+    }
+
+    /// Adds the haystack's start, if the look holds there alone.
+    fn add_look(&mut self, test: Look) -> bool
+        ensures grown { IsGrown self.old self.new }
+        ensures begins { BeginsOrPasses (look test) self.new result }
+    {
+        match test {
+            Look::Start => {
+                self.at_start = true;
+                false
+            }
+            _ => true,
+        }
+    }
+
+    /// Adds the characters of the set.
+    fn add_class(&mut self, set: &Class)
+        ensures grown { IsGrown self.old self.new }
+        ensures added { HasAll self.new (in_ranges set.now) }
+    {
+        for range in set.ranges() {
+            if !range.start.is_ascii() {
+                // Nor are those behind it.
+                self.add_char(range.start);
+                return;
+            }
+            self.add_range(*range);
+        }
+    }
+
+    /// Adds the characters of the range.
+    fn add_range(&mut self, range: ClassRange)
+        ensures grown { IsGrown self.old self.new }
+        ensures added { HasAll self.new (span range.start range.end) }
+    {
+        self.any = true;
+        if !range.end.is_ascii() {
+            self.others = true;
+        }
+        let end = (range.end as usize + 1).min(128);
+        for code in range.start as usize..end {
+            self.ascii[code] = true;
+        }
+    }
+
+    /// Adds the character.
+    fn add_char(&mut self, c: char)
+        ensures grown { IsGrown self.old self.new }
+        ensures added { HasAll self.new (just c) }
+    {
+        self.any = true;
+        if c.is_ascii() {
+            self.ascii[c as usize] = true;
+        } else {
+            self.others = true;
+        }
+    }
+
+    /// Whether a match can begin between these neighbours. At the haystack's end it always can,
+    /// since one may begin there that reads nothing.
+    pub(crate) fn may_begin(&self, before: Option<char>, after: Option<char>) -> bool
+        ensures { result ≡ may_begin self.now before after }
+    {
+        match after {
+            None => true,
+            Some(c) => self.begins_with(c) || self.at_start && before.is_none(),
+        }
+    }
+
+    /// Whether a match can begin with the character.
+    fn begins_with(&self, c: char) -> bool
+        ensures { result ≡ begins_with self.now c }
+    {
+        if !self.any {
+            return false;
+        }
+        if c.is_ascii() {
+            self.ascii[c as usize]
+        } else {
+            self.others
+        }
+    }
+
+    /// Whether there is such a character.
+    pub(crate) fn any(&self) -> bool
+        ensures { result ≡ self.now.any }
+    {
+        self.any
+    }
+
+    /// Whether a character that a match can begin with may begin with the byte.
+    pub(crate) fn stops_at(&self, byte: u8) -> bool
+        ensures { result ≡ stops_at self.now byte }
+    {
+        if !self.any {
+            return false;
+        }
+        if byte < 0x80 {
+            return self.ascii[byte as usize];
+        }
+        byte >= 0xC0 && self.others
+    }
+}

@@ -1,0 +1,76 @@
+//! The positions at which no match can start, which a search passes over.
+ghost use Rattle.std.specs.Prelude.{◌≡◌, ◌≤◌, ◌<◌, ℕ, false, true, IsTrue, chars, length, slice_index};
+ghost use Rattle.regex_lite_syntax.specs.Text.{Text};
+ghost use Rattle.regex_lite_engine.specs.Graph.Stored.{table_of};
+ghost use Rattle.regex_lite_engine.specs.Nfa.Starts.{stops_at, MayBegin};
+ghost use Rattle.regex_lite_engine.specs.Walk.Standing.{IsHere};
+ghost use Rattle.regex_lite_engine.specs.Walk.Starts.{GoesOnAt, PassesTo};
+ghost use Rattle.regex_lite_engine.specs.Walk.Turns.{best_of, IsDeadAt};
+
+use crate::Graph;
+use crate::nfa::starts::Starts;
+use crate::pikevm::best::Best;
+use crate::pikevm::here::Here;
+use crate::pikevm::threads::Threads;
+
+/// Where the search goes on: where it is while there is a thread or a match, and else at the next
+/// position at which a match can start, or at the haystack's end.
+pub fn next_start(graph: &Graph, haystack: &str, here: Here, threads: &Threads, best: &Best) -> Here
+    requires { (p : ℕ) × IsHere (chars haystack.now) p here }
+    ensures { (p : ℕ) → IsHere (chars haystack.now) p here
+        → GoesOnAt (table_of graph.now) (chars haystack.now) graph.now.start threads.now
+        (best_of best.now) p result }
+{
+    if threads.len() > 0 {
+        return here;
+    }
+    if !best.is_none() {
+        return here;
+    }
+    pass_over(graph.starts(), haystack, here)
+}
+
+/// Whether a match can start here.
+pub fn may_start(graph: &Graph, here: Here) -> bool
+    ensures { (haystack : Text) (p : ℕ) → IsHere haystack p here → result ≡ false
+        → IsDeadAt (table_of graph.now) haystack graph.now.start p }
+{
+    graph.starts().may_begin(here.before, here.after)
+}
+
+/// The next position from here on at which a match can begin, or the haystack's end.
+fn pass_over(starts: &Starts, haystack: &str, here: Here) -> Here
+    requires { (p : ℕ) × IsHere (chars haystack.now) p here }
+    ensures { (p : ℕ) → IsHere (chars haystack.now) p here
+        → PassesTo (λ i. ¬ (MayBegin starts.now (chars haystack.now) i)) (chars haystack.now) p
+        result }
+{
+    if starts.may_begin(here.before, here.after) {
+        return here;
+    }
+    let at = next_offset(starts, haystack.as_bytes(), here.at);
+    Here::at(haystack, at)
+}
+
+/// The first offset from this one on of a byte with which such a character may begin, or the end.
+fn next_offset(starts: &Starts, bytes: &[u8], from: usize) -> usize
+    requires { from ≤ length bytes.now }
+    ensures low { from ≤ result }
+    ensures high { result ≤ length bytes.now }
+    ensures passed { (k : ℕ) → from ≤ k → k < result
+        → stops_at starts.now (slice_index bytes.now k) ≡ false }
+    ensures stops { result < length bytes.now
+        → stops_at starts.now (slice_index bytes.now result) ≡ true }
+{
+    if !starts.any() {
+        return bytes.len();
+    }
+    let mut at = from;
+    while at < bytes.len() {
+        if starts.stops_at(bytes[at]) {
+            return at;
+        }
+        at += 1;
+    }
+    at
+}
