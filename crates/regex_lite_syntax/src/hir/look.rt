@@ -34,8 +34,8 @@ pub enum Look {
 impl Look {
     /// Whether the test holds between the characters before and after a position, of which one is
     /// missing at the start and at the end of the haystack.
-    // Not inlined: a search asks many looks of one position, and all twelve of them would be
-    // computed once at each position, also where no place asks for one.
+    // Not inlined, since the loop of a search would then compute all twelve looks at each position,
+    // whether a place asks for one or not.
     #[inline(never)]
     #[tactic(auto, unfolding(crate::specs::Tree::Looks::holds_between))]
     pub fn holds(self, before: Option<char>, after: Option<char>) -> bool
