@@ -1,4 +1,6 @@
 -- lemmas that several proofs here share
 pub mod AcceptanceLemmas
+pub mod GroupLemmas
 pub mod GroupNameLemmas
 pub mod OneTreeLemmas
+pub mod SlotLemmas

@@ -1,6 +1,8 @@
 -- Where to begin: Expression says what is built, what is refused and what a regex tells.
 pub mod Settings
 pub mod Expression
+pub mod Groups
+pub mod MatchViews
 pub mod CaptureNames
 pub use Rattle.regex_lite_syntax.specs.Errors
 pub use Rattle.regex_lite_syntax.specs.Text

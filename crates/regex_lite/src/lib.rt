@@ -27,8 +27,12 @@
 mod plain;
 mod string;
 
+pub use regex_lite_engine::Steps;
 pub use regex_lite_syntax::{Error, ErrorKind};
-pub use string::{CaptureNames, Regex, RegexBuilder};
+pub use string::{
+    CaptureLocations, CaptureNames, Captures, CapturesIn, Match, Regex, RegexBuilder,
+    SubCaptureMatches, Text,
+};
 
 #[cfg(test)]
 mod tests;
