@@ -1,10 +1,9 @@
 -- What the parts of a regex have to do with one another.
-use Rattle.std.specs.Prelude.{◌≡◌, ℕ, List, Option, chars, map, option_map, string_bytes}
+use Rattle.std.specs.Prelude.{ℕ, List, Option, chars, map, option_map, string_bytes}
 use Rattle.std.specs.Rc.{rc_str_bytes}
 use Rattle.regex_lite_syntax.specs.Tree.{Tree}
 use Rattle.regex_lite_syntax.specs.Grammar.{IsTree}
 use Rattle.regex_lite_syntax.specs.Tree.Regular.{IsRegular}
-use Rattle.regex_lite_syntax.specs.Tree.Views.{tree_of}
 use Rattle.regex_lite_engine.specs.Graph.Renumbered.{IsGraphOf, HasGroupsOf}
 use Rattle.regex_lite_engine.specs.Graph.Size.{Fits}
 use Rattle.regex_lite.specs.Groups.{Groups, spans_of}
@@ -20,8 +19,6 @@ pub record IsBuilt (compiled : Compiled) : Type 0 where
   pub graph : IsGraphOf tree compiled.graph
   -- what the graph tells of groups is so of the tree
   pub groups : HasGroupsOf tree compiled.graph
-  -- the plain search goes over the tree itself
-  pub kept : tree_of compiled.hir ≡ tree
 
 -- the groups of a match of the regex in this haystack, of which these are the slots
 abbrev pub groups_of : (haystack : List ℕ) → (slots : List (Option ℕ)) → Compiled → Groups

@@ -24,7 +24,6 @@
 //! is shared by the clones of a [`Regex`]. `string` holds these types, and `plain` the search.
 #![tactic(auto)]
 
-mod plain;
 mod string;
 
 pub use regex_lite_engine::Steps;

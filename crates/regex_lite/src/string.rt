@@ -3,6 +3,8 @@ mod builder;
 mod capture_names;
 mod captures;
 mod compiled;
+mod counted;
+mod group_search;
 mod locations;
 mod matches;
 mod properties;

@@ -5,7 +5,7 @@ ghost use Rattle.regex_lite.specs.Groups.{AreGroups, LiesIn, group_span, group_t
 ghost use Rattle.regex_lite.specs.Compiled.{groups_of};
 
 use crate::string::compiled::Compiled;
-use crate::string::locations::span_in;
+use crate::string::locations::{CaptureLocations, span_in};
 use crate::string::matches::Match;
 use crate::string::sub_captures::SubCaptureMatches;
 use std::fmt;
@@ -51,10 +51,10 @@ impl<T: Text> Model for CapturesIn<T> {
     ghost Value = { Groups };
 
     ghost view = { λ caps.
-      groups_of (T.bytes caps.haystack) caps.slots.items caps.compiled.value };
+        groups_of (T.bytes caps.haystack) caps.slots.items caps.compiled.value };
 
     ghost invariant = { λ caps. AreGroups
-      (groups_of (T.bytes caps.haystack) caps.slots.items caps.compiled.value) };
+        (groups_of (T.bytes caps.haystack) caps.slots.items caps.compiled.value) };
 }
 
 impl<T: Text> CapturesIn<T> {
@@ -292,6 +292,15 @@ impl<'h> Captures<'h> {
             Some(found) => found.as_str(),
             None => unreachable!(),
         }
+    }
+
+    /// Writes as many of the groups to the locations as these have.
+    pub(super) fn write(&self, locs: &mut CaptureLocations)
+        requires { length locs.old ≤ length self.now.spans }
+        ensures spans { locs.new ≡ take (length locs.old) self.now.spans }
+        ensures len { length locs.new ≡ length locs.old }
+    {
+        locs.write(self.inner.slots.as_slice());
     }
 }
 

@@ -1,5 +1,5 @@
 //! Where groups matched, without their haystack.
-ghost use Rattle.std.specs.Prelude.{◌≡◌, ◌<◌, IfOk, IfErr, length};
+ghost use Rattle.std.specs.Prelude.{◌≡◌, ◌<◌, ◌≤◌, IfOk, IfErr, length, take};
 ghost use Rattle.regex_lite_syntax.specs.Errors.{out_of_memory};
 ghost use Rattle.regex_lite.specs.Groups.{span_at, spans_of};
 
@@ -68,6 +68,16 @@ impl CaptureLocations {
     {
         let slots = self.slots.clone()?;
         Ok(CaptureLocations { slots })
+    }
+
+    /// Writes as many of these groups as there are here.
+    pub(super) fn write(&mut self, slots: &[Option<usize>])
+        requires { length self.old ≤ length (spans_of slots.now) }
+        ensures spans { self.new ≡ take (length self.old) (spans_of slots.now) }
+        ensures len { length self.new ≡ length self.old }
+    {
+        let len = self.slots.len();
+        self.slots.copy_from_slice(&slots[..len]);
     }
 }
 

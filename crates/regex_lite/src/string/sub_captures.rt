@@ -65,8 +65,10 @@ impl<'c, 'h> Iterator for SubCaptureMatches<'c, 'h> {
     fn size_hint(&self) -> (usize, Option<usize>)
         ensures lower { IsWithinCount result.0 (item_count placed_groups_left self.now) }
         ensures upper { IfSome result.1 (UpTo (item_count placed_groups_left self.now)) }
-        ensures exact { result ≡ (length (placed_groups_left self.now),
-            Some (length (placed_groups_left self.now))) }
+        ensures exact { result ≡ (
+          length (placed_groups_left self.now),
+          Some (length (placed_groups_left self.now)),
+        ) }
     {
         let len = self.captures.len().saturating_sub(self.next);
         (len, Some(len))
