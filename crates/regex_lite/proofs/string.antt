@@ -1,4 +1,9 @@
 -- lemmas that several proofs here share
 pub mod AcceptanceLemmas
+pub mod CapturedLemmas
+pub mod FoundLemmas
+pub mod GroupLemmas
 pub mod GroupNameLemmas
 pub mod OneTreeLemmas
+pub mod SlotLemmas
+pub mod ToldLemmas

@@ -1,11 +1,12 @@
 -- What the parts of a regex have to do with one another.
-use Rattle.std.specs.Prelude.{◌≡◌, ℕ, chars, string_bytes}
+use Rattle.std.specs.Prelude.{ℕ, List, Option, chars, map, option_map, string_bytes}
+use Rattle.std.specs.Rc.{rc_str_bytes}
 use Rattle.regex_lite_syntax.specs.Tree.{Tree}
 use Rattle.regex_lite_syntax.specs.Grammar.{IsTree}
 use Rattle.regex_lite_syntax.specs.Tree.Regular.{IsRegular}
-use Rattle.regex_lite_syntax.specs.Tree.Views.{tree_of}
 use Rattle.regex_lite_engine.specs.Graph.Renumbered.{IsGraphOf, HasGroupsOf}
 use Rattle.regex_lite_engine.specs.Graph.Size.{Fits}
+use Rattle.regex_lite.specs.Groups.{Groups, spans_of}
 use Rattle.regex_lite.specs.declared.string.compiled.Compiled.{Compiled}
 
 -- a regex is built of a tree that the grammar gives its pattern, and that passes no limit
@@ -18,5 +19,12 @@ pub record IsBuilt (compiled : Compiled) : Type 0 where
   pub graph : IsGraphOf tree compiled.graph
   -- what the graph tells of groups is so of the tree
   pub groups : HasGroupsOf tree compiled.graph
-  -- the plain search goes over the tree itself
-  pub kept : tree_of compiled.hir ≡ tree
+
+-- the groups of a match of the regex in this haystack, of which these are the slots
+abbrev pub groups_of : (haystack : List ℕ) → (slots : List (Option ℕ)) → Compiled → Groups
+groups_of haystack slots compiled = record {
+  haystack = haystack;
+  spans = spans_of slots;
+  names = map (option_map rc_str_bytes) compiled.graph.capture_names;
+  static_captures_len = compiled.graph.static_captures_len;
+}

@@ -7,7 +7,6 @@ use Rattle.regex_lite_syntax.specs.declared.error.Error.{Error}
 use Rattle.regex_lite_syntax.specs.Errors.{kind_of, out_of_memory}
 use Rattle.regex_lite_syntax.specs.Grammar.{IsTree}
 use Rattle.regex_lite_syntax.specs.Limits.{IsAdmitted, IsDueToPattern}
-use Rattle.regex_lite_syntax.specs.Tree.Matches.{HasMatch}
 use Rattle.regex_lite_syntax.specs.Tree.Properties.{captures_len, group_name}
 use Rattle.regex_lite_engine.specs.Graph.Size.{Fits, IsDueToTree}
 use Rattle.regex_lite.specs.Settings.{Settings}
@@ -53,10 +52,6 @@ pub record Builds (settings : Settings) (result : Result Expression Error) : Typ
 -- the tree of the pattern has this property
 abbrev pub OfTree : Expression → (Tree → Type 0) → Type 0
 OfTree re property = (tree : Tree) × IsTree re.flags (chars re.pattern) tree × property tree
-
--- the pattern matches somewhere in the haystack, which is given as its bytes
-abbrev pub MatchesIn : Expression → List ℕ → Type 0
-MatchesIn re haystack = OfTree re (λ tree. HasMatch tree (chars haystack))
 
 -- the name at this index, where there is one. The names are given as their bytes
 abbrev pub name_at : List (Option (List ℕ)) → ℕ → Option Text

@@ -1,6 +1,10 @@
--- Where to begin: Expression says what is built, what is refused and what a regex tells.
+-- Where to begin: Expression says what is built, what is refused and what a regex tells, and
+-- Searches what the searches tell.
 pub mod Settings
 pub mod Expression
+pub mod Groups
+pub mod MatchViews
+pub mod Searches
 pub mod CaptureNames
 pub use Rattle.regex_lite_syntax.specs.Errors
 pub use Rattle.regex_lite_syntax.specs.Text
@@ -10,6 +14,6 @@ pub use Rattle.regex_lite_syntax.specs.Tree.Matches
 pub use Rattle.regex_lite_syntax.specs.Tree.Properties
 pub use Rattle.regex_lite_engine.specs.Graph.PlaceCounts
 pub use Rattle.regex_lite_engine.specs.Graph.Size
--- What every regex keeps, and what the plain search promises inside.
+pub use Rattle.regex_lite_engine.specs.Search
+-- What every regex keeps.
 pub mod Compiled
-pub mod Plain

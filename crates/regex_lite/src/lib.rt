@@ -24,11 +24,14 @@
 //! is shared by the clones of a [`Regex`]. `string` holds these types, and `plain` the search.
 #![tactic(auto)]
 
-mod plain;
 mod string;
 
+pub use regex_lite_engine::Steps;
 pub use regex_lite_syntax::{Error, ErrorKind};
-pub use string::{CaptureNames, Regex, RegexBuilder};
+pub use string::{
+    CaptureLocations, CaptureNames, Captures, CapturesIn, Match, Regex, RegexBuilder,
+    SubCaptureMatches, Text,
+};
 
 #[cfg(test)]
 mod tests;

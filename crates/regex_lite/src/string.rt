@@ -1,11 +1,21 @@
 //! Regexes over haystacks that are `&str`, and the builder that makes them.
 mod builder;
 mod capture_names;
+mod captures;
 mod compiled;
+mod counted;
+mod group_search;
+mod locations;
+mod matches;
 mod properties;
 mod regex;
 mod search;
+mod sub_captures;
 
 pub use builder::RegexBuilder;
 pub use capture_names::CaptureNames;
+pub use captures::{Captures, CapturesIn, Text};
+pub use locations::CaptureLocations;
+pub use matches::Match;
 pub use regex::Regex;
+pub use sub_captures::SubCaptureMatches;

@@ -1,2 +1,3 @@
 -- lemmas that several modules use
 pub mod ArrowBoundLemmas
+pub mod OffsetLemmas

@@ -2,7 +2,8 @@
 use Rattle.std.specs.Prelude.{◌≡◌, ◌↔◌, ℕ, Bool, true, false, List, [], ◌∷◌, Option, IfSome, IsUtf8, map, codes}
 use Rattle.std.specs.Borrow.{Bor}
 use Rattle.regex_lite.specs.Settings.{default_settings}
-use Rattle.regex_lite.specs.Expression.{IsAccepted, MatchesIn, expression_of}
+use Rattle.regex_lite.specs.Expression.{IsAccepted, expression_of}
+use Rattle.regex_lite.specs.Searches.{MatchesFrom}
 
 -- the exit status of a run that found a match, or found that there is none
 abbrev pub status_of : (found : Bool) → ℕ
@@ -23,7 +24,7 @@ pub record IsPatternAnswered (pattern : List ℕ) (input : Option (List ℕ)) (s
   pub is_text : IfSome input IsUtf8
   -- status 0 is a match
   pub told : IfSome input
-      (λ haystack. (status ≡ 0) ↔ MatchesIn (expression_of (default_settings pattern)) haystack)
+      (λ haystack. (status ≡ 0) ↔ MatchesFrom (expression_of (default_settings pattern)) haystack 0)
 
 -- the arguments ask whether a pattern matches, and the status tells it
 pub record IsAnswered (args : List (Bor (List ℕ))) (input : Option (List ℕ)) (status : ℕ)

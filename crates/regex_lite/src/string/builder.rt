@@ -242,7 +242,6 @@ impl RegexBuilder {
         let compiled = Compiled {
             pattern: self.pattern.clone()?,
             flags: config.flags,
-            hir,
             graph,
         };
         let compiled = Rc::new(alloc, compiled)?;

@@ -1,14 +1,16 @@
 //! Searches: whether and where a regex matches in a haystack.
 ghost use Rattle.std.specs.Prelude.{◌≡◌, ◌↔◌, IfOk, IfErr, IsTrue};
 ghost use Rattle.regex_lite_syntax.specs.Errors.{out_of_memory};
-ghost use Rattle.regex_lite.specs.Expression.{MatchesIn};
+ghost use Rattle.regex_lite.specs.Searches.{CanStartAt, MatchesFrom, TellsEnd, TellsMatch};
 
-use crate::plain::has_match;
+use crate::string::matches::Match;
 use crate::string::regex::Regex;
-use regex_lite_syntax::{Error, characters};
+use regex_lite_syntax::Error;
 
 impl Regex {
     /// Whether the pattern matches somewhere in the haystack.
+    ///
+    /// The search is over at the first match that it comes to, whichever it is.
     ///
     /// ```
     /// let regex = Regex::new(alloc, "a??b")?;
@@ -22,12 +24,112 @@ impl Regex {
     ///
     /// `Memory` where a growth is refused.
     pub fn is_match(&self, haystack: &str) -> Result<bool, Error>
-        ensures found { IfOk result
-            (λ found. IsTrue found ↔ MatchesIn self.now haystack.now) }
+        ensures found { IfOk result (λ found. IsTrue found ↔ MatchesFrom self.now haystack.now 0) }
         ensures refused { IfErr result (λ error. error ≡ out_of_memory) }
     {
-        let text = characters(self.alloc, haystack)?;
-        let found = has_match(self.alloc, &self.compiled.hir, text.as_slice())?;
+        self.is_match_at(haystack, 0)
+    }
+
+    /// Whether the pattern matches somewhere from this offset on.
+    ///
+    /// Looks see the whole haystack: `^` doesn't match at the start of the search, only at that of
+    /// the haystack. From a start above the length nothing matches.
+    ///
+    /// Condition: the start is above the haystack's length or on a character boundary.
+    ///
+    /// # Errors
+    ///
+    /// `Memory` where a growth is refused.
+    pub fn is_match_at(&self, haystack: &str, start: usize) -> Result<bool, Error>
+        requires { CanStartAt haystack.now start }
+        ensures found { IfOk result
+            (λ found. IsTrue found ↔ MatchesFrom self.now haystack.now start) }
+        ensures refused { IfErr result (λ error. error ≡ out_of_memory) }
+    {
+        let (found, _) = self.is_match_counted_at(haystack, start)?;
         Ok(found)
+    }
+
+    /// The match that starts first: of the matches that start there the one that the pattern
+    /// prefers.
+    ///
+    /// An alternation prefers its earlier branches. A greedy operator prefers one more pass to
+    /// stopping, and a lazy one stopping to one more pass.
+    ///
+    /// ```
+    /// let regex = Regex::new(alloc, "sam|samwise")?;
+    /// if let Some(found) = regex.find("mr samwise")? {
+    ///     found.start(); // 3
+    ///     found.end(); // 6
+    /// }
+    /// ```
+    ///
+    /// The test `tests::examples::first_match` runs this example.
+    ///
+    /// # Errors
+    ///
+    /// `Memory` where a growth is refused.
+    pub fn find<'h>(&self, haystack: &'h str) -> Result<Option<Match<'h>>, Error>
+        ensures found { IfOk result (λ found. TellsMatch self.now haystack.now 0 found) }
+        ensures refused { IfErr result (λ error. error ≡ out_of_memory) }
+    {
+        self.find_at(haystack, 0)
+    }
+
+    /// [`Regex::find`] among the matches that start at or after this offset.
+    ///
+    /// Looks see the whole haystack, as they do in [`Regex::is_match_at`].
+    ///
+    /// Condition: the start is above the haystack's length or on a character boundary.
+    ///
+    /// # Errors
+    ///
+    /// `Memory` where a growth is refused.
+    pub fn find_at<'h>(&self, haystack: &'h str, start: usize) -> Result<Option<Match<'h>>, Error>
+        requires { CanStartAt haystack.now start }
+        ensures found { IfOk result (λ found. TellsMatch self.now haystack.now start found) }
+        ensures refused { IfErr result (λ error. error ≡ out_of_memory) }
+    {
+        let (found, _) = self.find_counted_at(haystack, start)?;
+        Ok(found)
+    }
+
+    /// The offset at which a match can be known first: the least end of any match.
+    ///
+    /// It needn't be the end of the match that [`Regex::find`] answers.
+    ///
+    /// ```
+    /// let regex = Regex::new(alloc, "a+")?;
+    /// regex.shortest_match("aaaaa")?; // Some(1)
+    /// ```
+    ///
+    /// The test `tests::examples::least_end` runs this example.
+    ///
+    /// # Errors
+    ///
+    /// `Memory` where a growth is refused.
+    pub fn shortest_match(&self, haystack: &str) -> Result<Option<usize>, Error>
+        ensures found { IfOk result (λ end. TellsEnd self.now haystack.now 0 end) }
+        ensures refused { IfErr result (λ error. error ≡ out_of_memory) }
+    {
+        self.shortest_match_at(haystack, 0)
+    }
+
+    /// The least end of any match that starts at or after this offset.
+    ///
+    /// Looks see the whole haystack, as they do in [`Regex::is_match_at`].
+    ///
+    /// Condition: the start is above the haystack's length or on a character boundary.
+    ///
+    /// # Errors
+    ///
+    /// `Memory` where a growth is refused.
+    pub fn shortest_match_at(&self, haystack: &str, start: usize) -> Result<Option<usize>, Error>
+        requires { CanStartAt haystack.now start }
+        ensures found { IfOk result (λ end. TellsEnd self.now haystack.now start end) }
+        ensures refused { IfErr result (λ error. error ≡ out_of_memory) }
+    {
+        let (end, _) = self.shortest_match_counted_at(haystack, start)?;
+        Ok(end)
     }
 }

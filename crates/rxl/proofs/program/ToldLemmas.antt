@@ -1,7 +1,8 @@
 -- From what a search found to what the exit status tells.
 use Rattle.std.proofs.Common.{◌≡◌, ◌↔◌, ℕ, Bool, true, false, IsTrue, List, Option, Some, None, IfSome, IsUtf8, subst, refl}
 use Rattle.regex_lite.specs.Settings.{default_settings}
-use Rattle.regex_lite.specs.Expression.{Expression, IsAccepted, MatchesIn, expression_of}
+use Rattle.regex_lite.specs.Expression.{Expression, IsAccepted, expression_of}
+use Rattle.regex_lite.specs.Searches.{MatchesFrom}
 use Rattle.rxl.specs.Program.{IsPatternAnswered, status_of}
 
 -- the status is 0 where a match was found
@@ -13,7 +14,7 @@ told_by_status false P told = (λ is_zero. cc, λ holds. let no_match : false �
 pub answered_by_search : (pattern : List ℕ) (input : Option (List ℕ)) (re : Expression) (haystack : List ℕ)
     → re ≡ expression_of (default_settings pattern) → IsAccepted (default_settings pattern)
     → IfSome input (λ known. haystack ≡ known) → IsUtf8 haystack
-    → (found : Bool) → (IsTrue found ↔ MatchesIn re haystack) → IsPatternAnswered pattern input (status_of found)
+    → (found : Bool) → (IsTrue found ↔ MatchesFrom re haystack 0) → IsPatternAnswered pattern input (status_of found)
 answered_by_search pattern None re haystack re_is accepted whole is_utf8 found told = record {
   accepted = accepted;
   is_text = tt;
@@ -22,9 +23,9 @@ answered_by_search pattern None re haystack re_is accepted whole is_utf8 found t
 answered_by_search pattern (Some known) re haystack re_is accepted whole is_utf8 found told = record {
   accepted = accepted;
   is_text = subst IsUtf8 whole is_utf8;
-  told = told_by_status found (MatchesIn (expression_of (default_settings pattern)) known)
-      (subst (λ bytes. IsTrue found ↔ MatchesIn (expression_of (default_settings pattern)) bytes) whole
-      (subst (λ r. IsTrue found ↔ MatchesIn r haystack) re_is told));
+  told = told_by_status found (MatchesFrom (expression_of (default_settings pattern)) known 0)
+      (subst (λ bytes. IsTrue found ↔ MatchesFrom (expression_of (default_settings pattern)) bytes 0) whole
+      (subst (λ r. IsTrue found ↔ MatchesFrom r haystack 0) re_is told));
 }
 
 -- what was read whole is no text, so the input is none

@@ -112,7 +112,7 @@ step_inside {A} haystack (with_arrows list) i k next s low = by_arrow (slice_get
         arrived_inside haystack arrow.to (taken haystack arrow.condition i) next e
         (λ j f. taken_inside haystack arrow.condition i j f low)
 
-walk_inside : {A : Type 0} (haystack : Text) (place : A → Place A) (ks : List ℕ) (n m : A × ℕ)
+pub walk_inside : {A : Type 0} (haystack : Text) (place : A → Place A) (ks : List ℕ) (n m : A × ℕ)
     → Leads (A × ℕ) (step haystack place) n ks m → n.1 ≤ length haystack
     → m.1 ≤ length haystack
 walk_inside {A} haystack place [] n m e low =

@@ -4,73 +4,14 @@ use Rattle.std.specs.Prelude.{IsUtf8, IsCharBoundary, chars}
 use Rattle.std.specs.Char.{len_utf8, IsScalar}
 use Rattle.regex_lite_engine.specs.declared.pikevm.here.Here.{Here}
 use lib.Utf8.{encode, encodes}
-use Rattle.std.proofs.lemmas.List.{take-append-drop, length-take-le, drop-drop}
-use Rattle.std.proofs.lemmas.List.Sums.{sum_by-cons}
+use Rattle.std.proofs.lemmas.List.{take-append-drop, length-take-le}
 use Rattle.std.proofs.lemmas.Option.{slice_get_within}
-use Rattle.std.proofs.lemmas.Str.{encodes-chars, chars-append, IsUtf8-take, IsUtf8-past_char, length-encode, len_utf8_bounds, IsCharBoundary-from_drop, IsCharBoundary-at_seam, IsUtf8-encode, chars-nil, chars_from_encodes, chars_past_char}
+use Rattle.std.proofs.lemmas.Str.{encodes-chars, chars-append, IsUtf8-take, IsCharBoundary-at_seam, IsUtf8-encode, chars-nil, chars_from_encodes, chars_past_char}
 use Rattle.regex_lite_syntax.specs.Text.{before, after}
 use Rattle.regex_lite_engine.specs.Search.Offsets.{offset, position_at, IsOffset}
 use Rattle.regex_lite_engine.specs.Walk.Standing.{IsHere}
 use Rattle.std.proofs.lemmas.Bool.{cases_order}
-use Rattle.regex_lite_engine.proofs.pikevm.OptionLemmas.{not_there, same_some}
-
-pub length_encodes : (cs : List ℕ) → length (encodes cs) ≡ sum_by len_utf8 cs
-length_encodes [] = refl
-length_encodes (c ∷ cs) = let more = length_encodes cs in
-    omega (arith, more, length-append (encode c) (encodes cs), length-encode c, sum_by-cons len_utf8 c cs)
-
-pub offset_next : (cs : List ℕ) (p c : ℕ) → slice_get cs p ≡ Some c → offset cs (suc p) ≡ offset cs p + len_utf8 c
-offset_next [] p c e = absurd (not_there e)
-offset_next (x ∷ cs) zero c e = let same : len_utf8 x ≡ len_utf8 c = ap len_utf8 (same_some e) in omega (arith, same, sum_by-cons len_utf8 x [])
-offset_next (x ∷ cs) (suc p) c e =
-    let more = offset_next cs p c e in
-    omega (arith, more, sum_by-cons len_utf8 x (take (suc p) cs), sum_by-cons len_utf8 x (take p cs))
-
--- each character takes a byte at least
-pub offset_less : (cs : List ℕ) (p q : ℕ) → p < q → q ≤ length cs → offset cs p < offset cs q
-offset_less [] p q lt le = absurd (omega (arith, lt, le))
-offset_less (x ∷ cs) p zero lt le = absurd (omega (arith, lt))
-offset_less (x ∷ cs) zero (suc q) lt le = let one = len_utf8_bounds x in let low = one.0 in omega (arith, low, sum_by-cons len_utf8 x (take q cs))
-offset_less (x ∷ cs) (suc p) (suc q) lt le =
-    let more = offset_less cs p q (omega (arith, lt)) (omega (arith, le)) in
-    omega (arith, more, sum_by-cons len_utf8 x (take p cs), sum_by-cons len_utf8 x (take q cs))
-
-pub offset_most : (cs : List ℕ) (p : ℕ) → offset cs p ≤ length (encodes cs)
-offset_most [] zero = omega arith
-offset_most [] (suc p) = omega arith
-offset_most (x ∷ cs) zero = omega arith
-offset_most (x ∷ cs) (suc p) =
-    let more = offset_most cs p in omega (arith, more, sum_by-cons len_utf8 x (take p cs), length-append (encode x) (encodes cs), length-encode x)
-
--- what follows the offset are the bytes of the characters that follow the position
-pub rest_at : (cs : List ℕ) (p : ℕ) → drop (offset cs p) (encodes cs) ≡ encodes (drop p cs)
-rest_at [] zero = refl
-rest_at [] (suc p) = refl
-rest_at (x ∷ cs) zero = refl
-rest_at (x ∷ cs) (suc p) =
-    let size : length (encode x) ≡ len_utf8 x = length-encode x in
-    ap (λ k. drop k (encode x ++ encodes cs)) (sum_by-cons len_utf8 x (take p cs) ∙ ap (λ n. n + offset cs p) (sym size))
-    ∙ sym (drop-drop (offset cs p) (length (encode x)) (encode x ++ encodes cs))
-    ∙ ap (drop (offset cs p)) (past (encode x))
-    ∙ rest_at cs p
-  where
-    past : (xs : List ℕ) → drop (length xs) (xs ++ encodes cs) ≡ encodes cs
-    past [] = refl
-    past (y ∷ xs) = past xs
-
-utf8_rest : (cs : List ℕ) (p : ℕ) → IsUtf8 (encodes cs) → IsUtf8 (encodes (drop p cs))
-utf8_rest [] zero u = u
-utf8_rest [] (suc p) u = u
-utf8_rest (x ∷ cs) zero u = u
-utf8_rest (x ∷ cs) (suc p) u = utf8_rest cs p (IsUtf8-past_char (encode x ++ encodes cs) (encodes cs) x u refl)
-
-pub boundary_at : (bs : List ℕ) (p at : ℕ) → IsUtf8 bs → IsOffset (chars bs) p at → IsCharBoundary bs at
-boundary_at bs p at u (le, e) =
-    let same : encodes (chars bs) ≡ bs = encodes-chars bs u in
-    subst (λ z. IsCharBoundary bs z) (sym e)
-    (subst (λ z. IsCharBoundary z (offset (chars bs) p)) same
-    (IsCharBoundary-from_drop (encodes (chars bs)) (offset (chars bs) p) (offset_most (chars bs) p)
-    (subst IsUtf8 (sym (rest_at (chars bs) p)) (utf8_rest (chars bs) p (subst IsUtf8 (sym same) u)))))
+pub use Rattle.regex_lite_engine.proofs.OffsetLemmas.{length_encodes, offset_next, offset_less, offset_most, rest_at, utf8_rest, boundary_at}
 
 -- the characters that follow a place
 pub chars_at : (bs : List ℕ) (p at : ℕ) → IsUtf8 bs → IsOffset (chars bs) p at → chars (drop at bs) ≡ drop p (chars bs)

@@ -1,0 +1,59 @@
+-- The slots of an outcome hold the groups of what was found.
+use Rattle.std.proofs.Common.{◌≡◌, ◌≤◌, refl, sym, ap, subst, ◌∙◌, ℕ, ◌*◌, List, length, Option, Some, None, IfSome, IsSome, option_map, chars, IsUtf8, arith}
+use Rattle.std.proofs.lemmas.List.{length-map}
+use Rattle.std.specs.List.{filter_map}
+use Rattle.std.specs.Rc.{rc_str_bytes}
+use Rattle.regex_lite_syntax.specs.Tree.Properties.{captures_len, static_captures_len}
+use Rattle.regex_lite_engine.specs.WayLaws.{IsPatternTree}
+use Rattle.regex_lite_engine.specs.Search.Answer.{Found, IsFound}
+use Rattle.regex_lite_engine.specs.Search.Offsets.{HasSlots, offset}
+use Rattle.regex_lite.specs.declared.string.compiled.Compiled.{Compiled}
+use Rattle.regex_lite.specs.Compiled.{IsBuilt, groups_of}
+use Rattle.regex_lite.specs.Groups.{AreGroups, LiesIn, span_at, spans_of, text_at, texts_from}
+use Rattle.regex_lite.specs.Searches.{AreGroupsOf, spans_from}
+use Rattle.regex_lite.proofs.string.FoundLemmas.{slots_told, length_spans, groups_lie, group_0, enough_texts}
+use Rattle.regex_lite.proofs.string.GroupNameLemmas.{are_names}
+
+module _ (bytes : List ℕ) (utf8 : IsUtf8 bytes) (compiled : Compiled) (built : IsBuilt compiled)
+    (slots : List (Option ℕ)) (s : ℕ) (found : Found)
+    (is : IsFound built.tree (chars bytes) s found)
+    (told : HasSlots (chars bytes) slots found.marks)
+    (len : length slots ≡ 2 * captures_len built.tree) where
+  given : IsPatternTree built.tree
+  given = (compiled.flags, _, built.given)
+
+  abbrev spans : List (Option (ℕ × ℕ))
+  spans = spans_from (chars bytes) found.marks 0 (captures_len built.tree)
+
+  spans_are : spans_of slots ≡ spans
+  spans_are =
+      slots_told (chars bytes) found.marks slots 0 (captures_len built.tree) 0 refl len
+      (λ k slot at. told k slot at
+      ∙ ap (λ n. option_map (offset (chars bytes)) (found.marks n)) (omega arith))
+
+  pub captured_of : AreGroupsOf built.tree bytes found (groups_of bytes slots compiled)
+  captured_of = record {
+    haystack = refl;
+    spans = spans_are;
+    names = are_names _ compiled.graph.capture_names built.tree refl built.regular
+        built.groups.captures built.groups.names;
+    static_captures = built.groups.static_captures;
+  }
+
+  pub captured : AreGroups (groups_of bytes slots compiled)
+  captured = record {
+    inside = λ k. subst (λ all. IfSome (span_at all k) (LiesIn bytes)) (sym spans_are)
+        (groups_lie bytes utf8 built.tree given s found is (captures_len built.tree) k);
+    each = ap length spans_are ∙ length_spans (chars bytes) found.marks 0 (captures_len built.tree)
+        ∙ sym built.groups.captures ∙ sym (length-map compiled.graph.capture_names (option_map rc_str_bytes));
+    whole = subst IsSome (sym (ap (λ all. span_at all 0) spans_are
+        ∙ group_0 (chars bytes) built.tree s found (captures_len built.tree) given is (omega arith))) refl;
+    enough = each compiled.graph.static_captures_len built.groups.static_captures;
+  }
+    where
+      each : (known : Option ℕ) → known ≡ static_captures_len built.tree
+          → IfSome known (λ n. n ≤ length (texts_from (groups_of bytes slots compiled) 0))
+      each None e = tt
+      each (Some n) e =
+          subst (λ all. n ≤ length (filter_map (option_map (text_at bytes)) all)) (sym spans_are)
+          (enough_texts bytes utf8 built.tree given s found is n (sym e))

@@ -1,0 +1,176 @@
+-- What is found, by offsets: its match and its groups lie in the haystack.
+use Rattle.std.proofs.Common.{◌≡◌, ◌<◌, ◌≤◌, ◌⊎◌, inl, inr, refl, ap, ◌∙◌, ℕ, zero, suc, ◌+◌, ◌*◌, List, [], ◌∷◌, length, take, Option, Some, None, IfSome, option_map, slice_get, chars, IsUtf8, arith}
+use Rattle.std.specs.Option.{option_zip}
+use Rattle.std.specs.List.{filter_map}
+use Rattle.std.proofs.lemmas.Bool.{cases_order}
+use Rattle.regex_lite_syntax.specs.Text.{Text}
+use Rattle.regex_lite_syntax.specs.Tree.{Tree}
+use Rattle.regex_lite_syntax.specs.Tree.Properties.{captures_len, static_captures_len}
+use Rattle.regex_lite_engine.specs.SearchLaws.{HasGroupsInside}
+use Rattle.regex_lite_engine.specs.WayLaws.{IsPatternTree}
+use Rattle.regex_lite_engine.specs.Search.Answer.{Found, IsFound}
+use Rattle.regex_lite_engine.specs.Search.Marks.{Marks, span, taking_part}
+use Rattle.regex_lite_engine.specs.Search.Offsets.{offset}
+use Rattle.regex_lite_engine.specs.Graph.WrittenOut.{place_of_pattern, start_address, end_address}
+use Rattle.regex_lite_engine.proofs.OffsetLemmas.{offset_less, boundary_at}
+use Rattle.regex_lite_engine.proofs.laws.PatternTreeLemmas.{regular_tree, numbered_tree}
+use Rattle.regex_lite_engine.proofs.laws.answer.ReachLemmas.{walk_inside}
+use Rattle.regex_lite_engine.proofs.laws.groups.SpanLemmas.{groups_inside}
+use Rattle.regex_lite_engine.proofs.laws.groups.TakingPartLemmas.{enough_take_part}
+use Rattle.regex_lite.specs.Groups.{LiesIn, span_at, spans_of, text_at}
+use Rattle.regex_lite.specs.Searches.{offsets, spans_from}
+
+-- offsets are in the order of their positions
+offset_most : (haystack : Text) (p q : ℕ) → p ≤ q → q ≤ length haystack
+    → offset haystack p ≤ offset haystack q
+offset_most haystack p q le inside = each (cases_order p q)
+  where
+    each : (p ≡ q) ⊎ ((p < q) ⊎ (q < p)) → offset haystack p ≤ offset haystack q
+    each (inl same) =
+        let e = ap (offset haystack) same in
+        omega (arith, e)
+    each (inr (inl less)) =
+        let below = offset_less haystack p q less inside in
+        omega (arith, below)
+    each (inr (inr more)) = absurd (omega (arith, le, more))
+
+-- two positions in order lie in the haystack
+pub positions_lie : (bytes : List ℕ) (i j : ℕ) → IsUtf8 bytes → i ≤ j → j ≤ length (chars bytes)
+    → LiesIn bytes (offsets (chars bytes) (i, j))
+positions_lie bytes i j utf8 le inside =
+    let starts = boundary_at bytes i (offset (chars bytes) i) utf8 (omega (arith, le, inside), refl) in
+    let ends = boundary_at bytes j (offset (chars bytes) j) utf8 (inside, refl) in
+    record {
+      ordered = offset_most (chars bytes) i j le inside;
+      inside = ends.0;
+      starts_cleanly = starts;
+      ends_cleanly = ends;
+    }
+
+zipped : (haystack : Text) (a b : Option ℕ)
+    → option_zip (option_map (offset haystack) a) (option_map (offset haystack) b)
+    ≡ option_map (offsets haystack) (option_zip a b)
+zipped haystack None b = refl
+zipped haystack (Some a) None = refl
+zipped haystack (Some a) (Some b) = refl
+
+-- the spans that slots hold are those of the marks
+pub slots_told : (haystack : Text) (marks : Marks) (slots : List (Option ℕ)) (first count at : ℕ)
+    → at ≡ 2 * first → length slots ≡ 2 * count
+    → ((k : ℕ) (slot : Option ℕ) → slice_get slots k ≡ Some slot
+    → slot ≡ option_map (offset haystack) (marks (at + k)))
+    → spans_of slots ≡ spans_from haystack marks first count
+slots_told haystack marks [] first zero at start len told = refl
+slots_told haystack marks [] first (suc count) at start len told = absurd (omega (arith, len))
+slots_told haystack marks (slot ∷ []) first zero at start len told = absurd (omega (arith, len))
+slots_told haystack marks (slot ∷ []) first (suc count) at start len told = absurd (omega (arith, len))
+slots_told haystack marks (from ∷ to ∷ slots) first zero at start len told = absurd (omega (arith, len))
+slots_told haystack marks (from ∷ to ∷ slots) first (suc count) at start len told =
+    let a : at + 0 ≡ 2 * first = omega (arith, start) in
+    let b : at + 1 ≡ 2 * first + 1 = omega (arith, start) in
+    let start_is = told 0 from refl ∙ ap (λ n. option_map (offset haystack) (marks n)) a in
+    let end_is = told 1 to refl ∙ ap (λ n. option_map (offset haystack) (marks n)) b in
+    let behind = slots_told haystack marks slots (suc first) count (at + 2)
+    (omega (arith, start)) (omega (arith, len))
+    (λ k slot is. told (suc (suc k)) slot is
+    ∙ ap (λ n. option_map (offset haystack) (marks n)) (omega arith)) in
+    ap (λ own. own ∷ spans_of slots)
+    (rw (start_is, end_is) (zipped haystack (marks (2 * first)) (marks (2 * first + 1))))
+    ∙ ap (λ rest. option_map (offsets haystack) (span marks first) ∷ rest) behind
+
+-- what holds of each span holds of those that are listed
+listed : (haystack : Text) (marks : Marks) (P : ℕ × ℕ → Type 0)
+    → ((index : ℕ) → IfSome (option_map (offsets haystack) (span marks index)) P)
+    → (first count k : ℕ) → IfSome (span_at (spans_from haystack marks first count) k) P
+listed haystack marks P each first zero k = tt
+listed haystack marks P each first (suc count) zero = each first
+listed haystack marks P each first (suc count) (suc k) = listed haystack marks P each (suc first) count k
+
+-- there are as many as were asked for
+pub length_spans : (haystack : Text) (marks : Marks) (first count : ℕ)
+    → length (spans_from haystack marks first count) ≡ count
+length_spans haystack marks first zero = refl
+length_spans haystack marks first (suc count) =
+    let more = length_spans haystack marks (suc first) count in
+    omega (arith, more)
+
+-- each group that took part has a text
+texts_told : (bytes : List ℕ) (marks : Marks) (first count : ℕ)
+    → taking_part marks first count
+    ≡ length (filter_map (option_map (text_at bytes)) (spans_from (chars bytes) marks first count))
+texts_told bytes marks first zero = refl
+texts_told bytes marks first (suc count) =
+    each (span marks first) refl (texts_told bytes marks (suc first) count)
+  where
+    each : (own : Option (ℕ × ℕ)) → span marks first ≡ own
+        → taking_part marks (suc first) count
+        ≡ length (filter_map (option_map (text_at bytes))
+        (spans_from (chars bytes) marks (suc first) count))
+        → taking_part marks first (suc count)
+        ≡ length (filter_map (option_map (text_at bytes))
+        (spans_from (chars bytes) marks first (suc count)))
+    each None is more = rw (is) (omega (arith, more))
+    each (Some positions) is more = rw (is) (omega (arith, more))
+
+-- group 0 is the match
+pub group_0 : (haystack : Text) (tree : Tree) (s : ℕ) (found : Found) (count : ℕ)
+    → IsPatternTree tree → IsFound tree haystack s found → 0 < count
+    → span_at (spans_from haystack found.marks 0 count) 0
+    ≡ Some (offsets haystack (found.start, found.end))
+group_0 haystack tree s found zero given is some = absurd (omega (arith, some))
+group_0 haystack tree s found (suc count) given is some =
+    let inner = groups_inside tree haystack s found (regular_tree tree given) is in
+    ap (option_map (offsets haystack)) inner.whole
+
+-- the first of so many spans are the spans of the first groups
+pub first_told : (haystack : Text) (marks : Marks) (n first count : ℕ)
+    → take n (spans_from haystack marks first count)
+    ≡ spans_from haystack marks first (length (take n (spans_from haystack marks first count)))
+first_told haystack marks zero first count = refl
+first_told haystack marks (suc n) first zero = refl
+first_told haystack marks (suc n) first (suc count) =
+    ap (λ spans. option_map (offsets haystack) (span marks first) ∷ spans)
+    (first_told haystack marks n (suc first) count)
+
+-- what is found in a haystack by a regex
+module _ (bytes : List ℕ) (utf8 : IsUtf8 bytes) (tree : Tree) (given : IsPatternTree tree) (s : ℕ)
+    (found : Found) (is : IsFound tree (chars bytes) s found) where
+  end_inside : found.end ≤ length (chars bytes)
+  end_inside =
+      walk_inside (chars bytes) (place_of_pattern tree) is.way (start_address, found.start)
+      (end_address, found.end) is.most_preferred.is_way.0 is.inside
+
+  inner : HasGroupsInside found
+  inner = groups_inside tree (chars bytes) s found (regular_tree tree given) is
+
+  -- it lies there
+  pub found_lies : LiesIn bytes (offsets (chars bytes) (found.start, found.end))
+  found_lies =
+      let is_whole = inner.inside 0 found.start found.end inner.whole in
+      positions_lie bytes found.start found.end utf8 is_whole.1 end_inside
+
+  group_lies : (k : ℕ) → IfSome (option_map (offsets (chars bytes)) (span found.marks k)) (LiesIn bytes)
+  group_lies k = each (span found.marks k) refl
+    where
+      each : (own : Option (ℕ × ℕ)) → span found.marks k ≡ own
+          → IfSome (option_map (offsets (chars bytes)) own) (LiesIn bytes)
+      each None e = tt
+      each (Some (from, to)) e =
+          let within = inner.inside k from to e in
+          let last = within.2 in
+          let below = end_inside in
+          positions_lie bytes from to utf8 within.1 (omega (arith, last, below))
+
+  -- so do its groups
+  pub groups_lie : (count k : ℕ) → IfSome (span_at (spans_from (chars bytes) found.marks 0 count) k) (LiesIn bytes)
+  groups_lie count k = listed (chars bytes) found.marks (LiesIn bytes) group_lies 0 count k
+
+  -- as many as are known to take part in each match have a text
+  pub enough_texts : (n : ℕ) → static_captures_len tree ≡ Some n
+      → n ≤ length (filter_map (option_map (text_at bytes))
+      (spans_from (chars bytes) found.marks 0 (captures_len tree)))
+  enough_texts n known =
+      let enough = enough_take_part tree (chars bytes) s found n (regular_tree tree given)
+      (numbered_tree tree given) is known in
+      let texts = texts_told bytes found.marks 0 (captures_len tree) in
+      omega (arith, enough, texts)

@@ -1,0 +1,70 @@
+-- Slots, and the spans that they hold.
+use Rattle.std.proofs.Common.{◌≡◌, refl, sym, ap, ℕ, zero, suc, ◌+◌, ◌*◌, ◌≤◌, ◌/◌, List, [], ◌∷◌, length, take, replicate, get_or, Option, Some, None, arith}
+use Rattle.std.specs.Option.{option_zip, option_flatten}
+use Rattle.std.proofs.lemmas.Option.{slice_get_past}
+use Rattle.regex_lite.specs.Groups.{span_at, spans_of}
+
+none_behind : (start : Option ℕ) → None ≡ option_zip {U = ℕ} start None
+none_behind None = refl
+none_behind (Some at) = refl
+
+-- group k's span is that of its two slots
+pub span_of_slots : (slots : List (Option ℕ)) (k : ℕ)
+    → option_zip (get_or slots (2 * k) None) (get_or slots (2 * k + 1) None)
+    ≡ span_at (spans_of slots) k
+span_of_slots [] zero = refl
+span_of_slots [] (suc k) = refl
+span_of_slots (start ∷ []) zero = sym (none_behind start)
+span_of_slots (start ∷ []) (suc k) =
+    let a : 2 * suc k ≡ suc (suc (2 * k)) = omega arith in
+    rw (a) refl
+span_of_slots (start ∷ end ∷ slots) zero = refl
+span_of_slots (start ∷ end ∷ slots) (suc k) =
+    let a : 2 * suc k ≡ suc (suc (2 * k)) = omega arith in
+    let b : suc (suc (2 * k)) + 1 ≡ suc (suc (2 * k + 1)) = omega arith in
+    rw (a, b) (span_of_slots slots k)
+
+-- there are half as many spans
+pub half : (slots : List (Option ℕ)) → length (spans_of slots) ≡ length slots / 2
+half [] = refl
+half (start ∷ []) = refl
+half (start ∷ end ∷ slots) =
+    let more = half slots in
+    omega (arith, more)
+
+-- none is behind them
+pub no_span : (slots : List (Option ℕ)) (k : ℕ) → length slots / 2 ≤ k
+    → None ≡ span_at (spans_of slots) k
+no_span slots k behind =
+    let few = half slots in
+    sym (ap option_flatten (slice_get_past (spans_of slots) k (omega (arith, few, behind))))
+
+-- the first of the slots hold the first of the spans
+pub first_spans : (slots : List (Option ℕ)) (n : ℕ)
+    → spans_of (take (2 * n) slots) ≡ take n (spans_of slots)
+first_spans slots zero = refl
+first_spans [] (suc n) =
+    let a : 2 * suc n ≡ suc (suc (2 * n)) = omega arith in
+    rw (a) refl
+first_spans (start ∷ []) (suc n) =
+    let a : 2 * suc n ≡ suc (suc (2 * n)) = omega arith in
+    rw (a) refl
+first_spans (start ∷ end ∷ slots) (suc n) =
+    let a : 2 * suc n ≡ suc (suc (2 * n)) = omega arith in
+    rw (a) (ap (λ spans. option_zip start end ∷ spans) (first_spans slots n))
+
+-- slots that hold nothing hold no span
+pub no_spans : (n : ℕ) → spans_of (replicate (2 * n) None) ≡ replicate n None
+no_spans zero = refl
+no_spans (suc n) =
+    let a : 2 * suc n ≡ suc (suc (2 * n)) = omega arith in
+    rw (a) (ap (λ spans. None ∷ spans) (no_spans n))
+
+-- as many slots as two for each of these spans are there
+pub enough_slots : (old slots : List (Option ℕ)) (n : ℕ) → length old ≡ 2 * n
+    → length (spans_of old) ≤ length (spans_of slots)
+    → (length (spans_of old) ≡ n) × (length old ≤ length slots)
+enough_slots old slots n len few =
+    let own = half old in
+    let all = half slots in
+    (omega (arith, own, len), omega (arith, own, all, few, len))

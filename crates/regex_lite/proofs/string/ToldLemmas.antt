@@ -1,0 +1,173 @@
+-- From the outcome of a search of the graph to what the search for the pattern tells.
+use Rattle.std.proofs.Common.{◌≡◌, ◌≤◌, refl, sym, ap, subst, ◌∙◌, ℕ, ◌*◌, List, length, take, Option, Some, None, IfSome, option_map, chars, IsUtf8, arith}
+use Rattle.regex_lite_syntax.specs.Tree.{Tree}
+use Rattle.regex_lite_syntax.specs.Tree.Properties.{captures_len}
+use Rattle.regex_lite_syntax.specs.Tree.Regular.{IsRegular}
+use Rattle.regex_lite_syntax.specs.Grammar.{IsTree}
+use Rattle.regex_lite_engine.specs.declared.pikevm.search.Outcome.{Outcome}
+use Rattle.regex_lite_engine.specs.Graph.Renumbered.{IsGraphOf}
+use Rattle.regex_lite_engine.specs.Graph.Stored.{StoredGraph}
+use Rattle.regex_lite_engine.specs.Search.Offsets.{search_start}
+use Rattle.regex_lite_engine.specs.Search.Outcomes.{IsOutcome}
+use Rattle.regex_lite.specs.declared.string.compiled.Compiled.{Compiled}
+use Rattle.regex_lite.specs.declared.string.matches.Match.{Match}
+use Rattle.regex_lite.specs.Compiled.{IsBuilt, groups_of}
+use Rattle.regex_lite.specs.Expression.{Expression, OfTree}
+use Rattle.regex_lite.specs.Groups.{Groups, AreGroups, LiesIn, group_span, span_at}
+use Rattle.regex_lite.specs.MatchViews.{match_haystack, match_span}
+use Rattle.regex_lite.specs.Searches.{AreGroupsOf, TellsMatch, TellsGroups, TellsLocations, offsets, spans_from}
+use Rattle.regex_lite.proofs.string.CapturedLemmas.{captured, captured_of}
+use Rattle.regex_lite.proofs.string.FoundLemmas.{first_told, found_lies, group_0, length_spans}
+use Rattle.regex_lite.proofs.string.OneTreeLemmas.{one_tree}
+
+same_some : {A : Type 0} {x y : A} → ◌≡◌ {A = Option A} (Some x) (Some y) → x ≡ y
+same_some e = cc
+
+not_there : {A : Type 0} {x : A} → ◌≡◌ {A = Option A} None (Some x) → ⊥
+not_there e = cc
+
+same_pair : {a b i j : ℕ} → a ≡ i → b ≡ j → ◌≡◌ {A = ℕ × ℕ} (a, b) (i, j)
+same_pair {a} {b} {i} {j} start end = rw (start, end) refl
+
+-- what a search of the graph tells, whatever its tree
+abbrev pub TellsOutcome : StoredGraph → (bytes : List ℕ) → (start : ℕ) → Option Outcome → Type 0
+TellsOutcome graph bytes start told =
+    (tree : Tree) → IsRegular tree → IsGraphOf tree graph → IsOutcome tree bytes start told
+
+-- it is what the search of this tree's graph tells
+outcome_of : (tree : Tree) (graph stored : StoredGraph) (bytes : List ℕ) (start : ℕ)
+    (told : Option Outcome) (outcome : Outcome) → IsRegular tree → IsGraphOf tree stored
+    → graph ≡ stored → TellsOutcome graph bytes start told → told ≡ Some outcome
+    → IsOutcome tree bytes start (Some outcome)
+outcome_of tree graph stored bytes start told outcome regular is_graph same tells is =
+    subst (λ o. IsOutcome tree bytes start o) is
+    (tells tree regular (subst (λ g. IsGraphOf tree g) (sym same) is_graph))
+
+module _ (bytes : List ℕ) (utf8 : IsUtf8 bytes) (start : ℕ) (compiled : Compiled)
+    (built : IsBuilt compiled) (graph : StoredGraph) (same : graph ≡ compiled.graph)
+    (told : Option Outcome) (tells : TellsOutcome graph bytes start told) (outcome : Outcome)
+    (is : told ≡ Some outcome) where
+  abbrev own : IsOutcome built.tree bytes start (Some outcome)
+  own = outcome_of built.tree graph compiled.graph bytes start told outcome built.regular
+      built.graph same tells is
+
+  span_is : offsets (chars bytes) (own.0.start, own.0.end) ≡ (outcome.start, outcome.end)
+  span_is = same_pair (sym own.2.start) (sym own.2.end)
+
+  -- the match of the outcome lies in the haystack
+  pub outcome_lies : LiesIn bytes (outcome.start, outcome.end)
+  outcome_lies =
+      subst (LiesIn bytes) span_is
+      (found_lies bytes utf8 built.tree (compiled.flags, _, built.given)
+      (search_start bytes start) own.0 own.1)
+
+  -- it is what is told
+  pub match_told : (re : Expression) → IsTree re.flags (chars re.pattern) built.tree → (m : Match)
+      → match_haystack m ≡ bytes → match_span m ≡ (outcome.start, outcome.end)
+      → TellsMatch re bytes start (Some m)
+  match_told re given m haystack span = (
+    built.tree,
+    given,
+    (
+      own.0,
+      own.1,
+      record {
+        haystack = haystack;
+        span = span ∙ sym span_is;
+      },
+    ),
+  )
+
+  module _ (len : length outcome.slots.items ≡ 2 * captures_len built.tree) (shared : Compiled)
+      (same_compiled : shared ≡ compiled) where
+    -- its slots hold groups
+    pub groups_are : AreGroups (groups_of bytes outcome.slots.items shared)
+    groups_are =
+        subst (λ c. AreGroups (groups_of bytes outcome.slots.items c)) (sym same_compiled)
+        (captured bytes utf8 compiled built outcome.slots.items (search_start bytes start) own.0
+        own.1 own.2.slots len)
+
+    -- which are what is told
+    pub groups_told : (re : Expression) → IsTree re.flags (chars re.pattern) built.tree
+        → (groups : Groups) → groups ≡ groups_of bytes outcome.slots.items shared
+        → TellsGroups re bytes start (Some groups)
+    groups_told re given groups are =
+        let all = captured_of bytes utf8 compiled built outcome.slots.items
+        (search_start bytes start) own.0 own.1 own.2.slots len in
+        let as_shared = subst (λ c. AreGroupsOf built.tree bytes own.0 (groups_of bytes outcome.slots.items c))
+        (sym same_compiled) all in (
+          built.tree,
+          given,
+          (
+            own.0,
+            own.1,
+            subst (λ g. AreGroupsOf built.tree bytes own.0 g) (sym are) as_shared,
+          ),
+        )
+
+-- a search for all groups has two slots for each
+pub slots_are : (re : Expression) (tree : Tree) (told : Option Outcome) (outcome : Outcome) (n : ℕ)
+    → IsTree re.flags (chars re.pattern) tree → OfTree re (λ own. n ≡ 2 * captures_len own)
+    → IfSome told (λ o. length o.slots.items ≡ n) → told ≡ Some outcome
+    → length outcome.slots.items ≡ 2 * captures_len tree
+slots_are re tree None outcome n given all len is = absurd (not_there is)
+slots_are re tree (Some o) outcome n given (own, given_too, each) len is =
+    ap (λ (own : Outcome). length own.slots.items) (sym (same_some is)) ∙ len ∙ each
+    ∙ ap (λ t. 2 * captures_len t) (one_tree re.flags (chars re.pattern) own tree given_too given)
+
+-- the regex has as many groups as it tells of
+pub room_told : (re : Expression) (bytes : List ℕ) (start n : ℕ) (told : Option Groups)
+    (groups : Groups) → OfTree re (λ tree. n ≤ captures_len tree)
+    → TellsGroups re bytes start told → told ≡ Some groups → n ≤ length groups.spans
+room_told re bytes start n None groups room tells is = absurd cc
+room_told re bytes start n (Some own) groups (tree, given, few) (other, given_too, (found, f, are)) is =
+    let same = one_tree re.flags (chars re.pattern) tree other given given_too in
+    let all = length_spans (chars bytes) found.marks 0 (captures_len other) in
+    let as_many = ap (λ (g : Groups). length g.spans) (sym (same_some is)) ∙ ap (λ spans. length spans) are.spans ∙ all in
+    let count = ap captures_len same in
+    omega (arith, few, as_many, count)
+
+-- the first groups, and the match, of what is told
+pub locations_told : (re : Expression) (bytes : List ℕ) (start n : ℕ) (told : Option Groups)
+    (groups : Groups) (m : Option Match) (spans : List (Option (ℕ × ℕ)))
+    → TellsGroups re bytes start told → told ≡ Some groups
+    → option_map match_span m ≡ group_span groups 0
+    → IfSome m (λ own. match_haystack own ≡ groups.haystack) → spans ≡ take n groups.spans
+    → TellsLocations re bytes start spans m
+locations_told re bytes start n None groups m spans tells is found within first = absurd cc
+locations_told re bytes start n (Some own) groups m spans (tree, given, (f, is_found, of_own)) is found within first =
+    each m found within
+  where
+    are : AreGroupsOf tree bytes f groups
+    are = subst (λ g. AreGroupsOf tree bytes f g) (same_some is) of_own
+
+    whole : group_span groups 0 ≡ Some (offsets (chars bytes) (f.start, f.end))
+    whole = ap (λ all. span_at all 0) are.spans
+        ∙ group_0 (chars bytes) tree (search_start bytes start) f (captures_len tree)
+        (re.flags, _, given) is_found (omega arith)
+
+    first_are : spans ≡ spans_from (chars bytes) f.marks 0 (length spans)
+    first_are =
+        let all = first ∙ ap (take n) are.spans in
+        let told_first = first_told (chars bytes) f.marks n 0 (captures_len tree) in
+        all ∙ told_first ∙ ap (λ s. spans_from (chars bytes) f.marks 0 (length s)) (sym all)
+
+    each : (m : Option Match) → option_map match_span m ≡ group_span groups 0
+        → IfSome m (λ own. match_haystack own ≡ groups.haystack)
+        → TellsLocations re bytes start spans m
+    each None found within = absurd (not_there (found ∙ whole))
+    each (Some m) found within = (
+      tree,
+      given,
+      (
+        f,
+        is_found,
+        (
+          record {
+            haystack = within ∙ are.haystack;
+            span = same_some (found ∙ whole);
+          },
+          first_are,
+        ),
+      ),
+    )

@@ -1,0 +1,8 @@
+use Rattle.std.proofs.Common.{◌≡◌, ◌++◌, length, take, map}
+use Rattle.regex_lite.specs.Groups.{texts_from}
+use Rattle.regex_lite.proofs.string.captures.CapturesIn.extract.Given as goal
+
+abbrev pub invariant-loop-i : goal.invariant-loop-i
+invariant-loop-i g l =
+    (length l.parts ≡ g.row.N)
+    × (map g.T.Text.bytes (take l.i l.parts) ++ texts_from l.self l.next ≡ texts_from l.self 1)

@@ -1,0 +1,7 @@
+use Rattle.std.proofs.Common.{◌≡◌, ◌<◌, ℕ, false, None, get_or}
+use Rattle.regex_lite.specs.Groups.{is_named}
+use Rattle.regex_lite.proofs.string.captures.CapturesIn.index_of.Given as goal
+
+abbrev pub invariant-loop-k : goal.invariant-loop-k
+invariant-loop-k g l =
+    (j : ℕ) → j < l.k → is_named l.name (get_or l.self.names j None) ≡ false

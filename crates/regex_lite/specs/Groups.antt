@@ -1,0 +1,69 @@
+-- Spans in a haystack, and the groups of a match, as plain values.
+use Rattle.std.specs.Prelude.{◌≡◌, ◌≤◌, ℕ, List, [], ◌∷◌, Bool, false, Option, Some, None, IsSome, IfSome, IsCharBoundary, length, drop, filter_map, slice_get, slice_range, option_map, option_and_then}
+use Rattle.std.specs.List.{position}
+use Rattle.std.specs.Option.{option_zip, option_flatten}
+use Rattle.std.specs.Str.{bytes_eq}
+
+-- the span lies in the haystack, which is given as its bytes, on character boundaries
+pub record LiesIn (haystack : List ℕ) (span : ℕ × ℕ) : Type 0 where
+  pub ordered : span.0 ≤ span.1
+  pub inside : span.1 ≤ length haystack
+  pub starts_cleanly : IsCharBoundary haystack span.0
+  pub ends_cleanly : IsCharBoundary haystack span.1
+
+-- what stands there
+abbrev pub text_at : List ℕ → (span : ℕ × ℕ) → List ℕ
+text_at haystack span = slice_range haystack span.0 span.1
+
+-- the spans that slots hold: slots 2k and 2k + 1 are the start and the end of group k
+abbrev pub spans_of : (slots : List (Option ℕ)) → List (Option (ℕ × ℕ))
+spans_of [] = []
+spans_of (start ∷ []) = []
+spans_of (start ∷ end ∷ slots) = option_zip start end ∷ spans_of slots
+
+-- what a match tells: the haystack, and by index the spans of the groups that took part and the
+-- names of those that have one; and how many groups at least take part in every match, where known
+pub record Groups : Type 0 where
+  pub haystack : List ℕ
+  pub spans : List (Option (ℕ × ℕ))
+  pub names : List (Option (List ℕ))
+  pub static_captures_len : Option ℕ
+
+-- the span of the group with this index, if it is there and took part
+abbrev pub span_at : List (Option (ℕ × ℕ)) → (k : ℕ) → Option (ℕ × ℕ)
+span_at spans k = option_flatten (slice_get spans k)
+
+abbrev pub group_span : Groups → (k : ℕ) → Option (ℕ × ℕ)
+group_span groups k = span_at groups.spans k
+
+-- its text
+abbrev pub group_text : Groups → (k : ℕ) → Option (List ℕ)
+group_text groups k = option_map (text_at groups.haystack) (group_span groups k)
+
+-- this is the group's name
+abbrev pub is_named : (name : List ℕ) → Option (List ℕ) → Bool
+is_named name None = false
+is_named name (Some own) = bytes_eq own name
+
+-- the index of the group with this name
+abbrev pub index_of : List (Option (List ℕ)) → (name : List ℕ) → Option ℕ
+index_of names name = position (is_named name) names
+
+-- the span and the text of the group with this name, if there is one and it took part
+abbrev pub named_span : Groups → (name : List ℕ) → Option (ℕ × ℕ)
+named_span groups name = option_and_then (group_span groups) (index_of groups.names name)
+
+abbrev pub named_text : Groups → (name : List ℕ) → Option (List ℕ)
+named_text groups name = option_map (text_at groups.haystack) (named_span groups name)
+
+-- the texts of those that took part, from this index on
+abbrev pub texts_from : Groups → (k : ℕ) → List (List ℕ)
+texts_from groups k =
+    filter_map (option_map (text_at groups.haystack)) (drop k groups.spans)
+
+-- what is so of the groups of each match
+pub record AreGroups (groups : Groups) : Type 0 where
+  pub inside : (k : ℕ) → IfSome (group_span groups k) (LiesIn groups.haystack)
+  pub each : length groups.spans ≡ length groups.names
+  pub whole : IsSome (group_span groups 0)
+  pub enough : IfSome groups.static_captures_len (λ n. n ≤ length (texts_from groups 0))

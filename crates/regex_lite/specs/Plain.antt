@@ -1,2 +1,0 @@
--- What the functions of the plain search promise one another.
-pub mod Positions

@@ -1,0 +1,89 @@
+-- What searches tell, by offsets.
+use Rattle.std.specs.Prelude.{◌≡◌, ◌<◌, ◌⊎◌, ℕ, zero, suc, List, [], ◌∷◌, Option, Some, None, IsCharBoundary, chars, length, option_map}
+use Rattle.regex_lite_syntax.specs.Text.{Text}
+use Rattle.regex_lite_syntax.specs.Tree.{Tree}
+use Rattle.regex_lite_syntax.specs.Tree.Properties.{captures_len, static_captures_len}
+use Rattle.regex_lite_engine.specs.declared.pikevm.steps.Steps.{Steps}
+use Rattle.regex_lite_engine.specs.Search.Answer.{Found, HasMatchFrom, IsAnswer}
+use Rattle.regex_lite_engine.specs.Search.Marks.{Marks, span}
+use Rattle.regex_lite_engine.specs.Search.Offsets.{offset, search_start}
+use Rattle.regex_lite_engine.specs.Search.Outcomes.{IsEndOutcome, HasCost}
+use Rattle.regex_lite.specs.declared.string.matches.Match.{Match}
+use Rattle.regex_lite.specs.Expression.{Expression, OfTree, AreNames}
+use Rattle.regex_lite.specs.Groups.{Groups}
+use Rattle.regex_lite.specs.MatchViews.{match_haystack, match_span}
+
+-- what every search asks of its start, in a haystack that is given as its bytes: it is above the
+-- length or on a character boundary
+abbrev pub CanStartAt : (haystack : List ℕ) → (start : ℕ) → Type 0
+CanStartAt haystack start = (length haystack < start) ⊎ IsCharBoundary haystack start
+
+-- the pattern matches from some position at or after this offset
+abbrev pub MatchesFrom : Expression → (haystack : List ℕ) → (start : ℕ) → Type 0
+MatchesFrom re haystack start =
+    OfTree re (λ tree. HasMatchFrom tree (chars haystack) (search_start haystack start))
+
+-- two positions as offsets
+abbrev pub offsets : Text → ℕ × ℕ → ℕ × ℕ
+offsets haystack positions = (offset haystack positions.0, offset haystack positions.1)
+
+-- the spans, as offsets, of so many groups from this index on
+abbrev pub spans_from : Text → Marks → (first count : ℕ) → List (Option (ℕ × ℕ))
+spans_from haystack marks first zero = []
+spans_from haystack marks first (suc count) =
+    option_map (offsets haystack) (span marks first) ∷ spans_from haystack marks (suc first) count
+
+-- what is told of the answer of a search from position s on: nothing where there is none, and else
+-- what this says of what is found
+abbrev pub TellsOf : {A : Type 0} → (says : Found → A → Type 0)
+    → Tree → Text → (s : ℕ) → Option A → Type 0
+TellsOf says tree haystack s None = IsAnswer tree haystack s None
+TellsOf says tree haystack s (Some told) =
+    (found : Found) × IsAnswer tree haystack s (Some found) × says found told
+
+-- so of a search for the pattern from this offset on
+abbrev pub TellsAnswer : {A : Type 0} → (says : Tree → Found → A → Type 0)
+    → Expression → (haystack : List ℕ) → (start : ℕ) → Option A → Type 0
+TellsAnswer says re haystack start told =
+    OfTree re (λ tree.
+    TellsOf (says tree) tree (chars haystack) (search_start haystack start) told)
+
+-- the match is that which was found in the haystack
+pub record IsMatchOf (bytes : List ℕ) (found : Found) (m : Match) : Type 0 where
+  pub haystack : match_haystack m ≡ bytes
+  pub span : match_span m ≡ offsets (chars bytes) (found.start, found.end)
+
+-- what is told is the match
+abbrev pub TellsMatch : Expression → (haystack : List ℕ) → (start : ℕ) → Option Match → Type 0
+TellsMatch re haystack start told =
+    TellsAnswer (λ tree. IsMatchOf haystack) re haystack start told
+
+-- the groups are those of what was found, each with its span and its name, and there are as many as
+-- the tree has
+pub record AreGroupsOf (tree : Tree) (bytes : List ℕ) (found : Found) (groups : Groups)
+    : Type 0 where
+  pub haystack : groups.haystack ≡ bytes
+  pub spans : groups.spans ≡ spans_from (chars bytes) found.marks 0 (captures_len tree)
+  pub names : AreNames groups.names tree
+  pub static_captures : groups.static_captures_len ≡ static_captures_len tree
+
+-- what is told are the groups
+abbrev pub TellsGroups : Expression → (haystack : List ℕ) → (start : ℕ) → Option Groups → Type 0
+TellsGroups re haystack start told =
+    TellsAnswer (λ tree. AreGroupsOf tree haystack) re haystack start told
+
+-- what is told is the match, of which these are the first groups
+abbrev pub TellsLocations : Expression → (haystack : List ℕ) → (start : ℕ)
+    → List (Option (ℕ × ℕ)) → Option Match → Type 0
+TellsLocations re haystack start spans told =
+    TellsAnswer (λ tree found m. IsMatchOf haystack found m
+    × (spans ≡ spans_from (chars haystack) found.marks 0 (length spans)))
+    re haystack start told
+
+-- what is told is where the match ends that ends first
+abbrev pub TellsEnd : Expression → (haystack : List ℕ) → (start : ℕ) → Option ℕ → Type 0
+TellsEnd re haystack start told = OfTree re (λ tree. IsEndOutcome tree haystack start told)
+
+-- the search did no more than the places and the arrows of the pattern written out allow
+abbrev pub IsWithinCost : Expression → (haystack : List ℕ) → (start : ℕ) → Steps → Type 0
+IsWithinCost re haystack start steps = OfTree re (λ tree. HasCost tree haystack start steps)

@@ -1,0 +1,119 @@
+//! Searches that tell what they cost.
+ghost use Rattle.std.specs.Prelude.{◌≡◌, ◌↔◌, ◌*◌, ◌+◌, IfOk, IfErr, IsTrue};
+ghost use Rattle.regex_lite_syntax.specs.Errors.{out_of_memory};
+ghost use Rattle.regex_lite_syntax.specs.Tree.Properties.{captures_len};
+ghost use Rattle.regex_lite.specs.Expression.{OfTree};
+ghost use Rattle.regex_lite.specs.Searches.{CanStartAt, IsWithinCost, MatchesFrom, TellsEnd, TellsGroups, TellsMatch};
+
+use crate::string::captures::Captures;
+use crate::string::matches::Match;
+use crate::string::regex::Regex;
+use regex_lite_engine::{Outcome, Steps};
+use regex_lite_syntax::Error;
+
+/// Each search tries places of the pattern written out at most so often: one more than its arrows,
+/// times one more than the characters from the start to the haystack's end. It enters places at
+/// most so often: the places, times one more than those characters. [`Regex::places`] and
+/// [`Regex::arrows`] tell how many there are. A search from above the length tries none.
+impl Regex {
+    /// [`Regex::is_match_at`], and what the search cost.
+    ///
+    /// Condition: the start is above the haystack's length or on a character boundary.
+    ///
+    /// # Errors
+    ///
+    /// `Memory` where a growth is refused.
+    pub fn is_match_counted_at(&self, haystack: &str, start: usize) -> Result<(bool, Steps), Error>
+        requires { CanStartAt haystack.now start }
+        ensures found { IfOk result
+            (λ told. IsTrue told.0 ↔ MatchesFrom self.now haystack.now start) }
+        ensures cost { IfOk result (λ told. IsWithinCost self.now haystack.now start told.1) }
+        ensures refused { IfErr result (λ error. error ≡ out_of_memory) }
+    {
+        let (end, steps) = self.shortest_match_counted_at(haystack, start)?;
+        Ok((end.is_some(), steps))
+    }
+
+    /// [`Regex::find_at`], and what the search cost.
+    ///
+    /// Condition: the start is above the haystack's length or on a character boundary.
+    ///
+    /// # Errors
+    ///
+    /// `Memory` where a growth is refused.
+    pub fn find_counted_at<'h>(
+        &self,
+        haystack: &'h str,
+        start: usize,
+    ) -> Result<(Option<Match<'h>>, Steps), Error>
+        requires { CanStartAt haystack.now start }
+        ensures found { IfOk result (λ told. TellsMatch self.now haystack.now start told.0) }
+        ensures cost { IfOk result (λ told. IsWithinCost self.now haystack.now start told.1) }
+        ensures refused { IfErr result (λ error. error ≡ out_of_memory) }
+    {
+        let graph = &self.compiled.graph;
+        let (outcome, steps) = graph.search(self.alloc, haystack, start, 0)?;
+        let Some(outcome) = outcome else {
+            return Ok((None, steps));
+        };
+        let found = Match::new(haystack, outcome.start, outcome.end);
+        Ok((Some(found), steps))
+    }
+
+    /// [`Regex::captures_at`], and what the search cost.
+    ///
+    /// Condition: the start is above the haystack's length or on a character boundary.
+    ///
+    /// # Errors
+    ///
+    /// `Memory` where a growth is refused.
+    pub fn captures_counted_at<'h>(
+        &self,
+        haystack: &'h str,
+        start: usize,
+    ) -> Result<(Option<Captures<'h>>, Steps), Error>
+        requires { CanStartAt haystack.now start }
+        ensures found { IfOk result (λ told. TellsGroups self.now haystack.now start told.0) }
+        ensures cost { IfOk result (λ told. IsWithinCost self.now haystack.now start told.1) }
+        ensures refused { IfErr result (λ error. error ≡ out_of_memory) }
+    {
+        let slots = self.slots();
+        let graph = &self.compiled.graph;
+        let (outcome, steps) = graph.search(self.alloc, haystack, start, slots)?;
+        let Some(Outcome { slots, .. }) = outcome else {
+            return Ok((None, steps));
+        };
+        let compiled = self.compiled.clone()?;
+        let caps = Captures::new(haystack, slots, compiled);
+        Ok((Some(caps), steps))
+    }
+
+    /// [`Regex::shortest_match_at`], and what the search cost.
+    ///
+    /// Condition: the start is above the haystack's length or on a character boundary.
+    ///
+    /// # Errors
+    ///
+    /// `Memory` where a growth is refused.
+    pub fn shortest_match_counted_at(
+        &self,
+        haystack: &str,
+        start: usize,
+    ) -> Result<(Option<usize>, Steps), Error>
+        requires { CanStartAt haystack.now start }
+        ensures found { IfOk result (λ told. TellsEnd self.now haystack.now start told.0) }
+        ensures cost { IfOk result (λ told. IsWithinCost self.now haystack.now start told.1) }
+        ensures refused { IfErr result (λ error. error ≡ out_of_memory) }
+    {
+        let graph = &self.compiled.graph;
+        let told = graph.search_shortest(self.alloc, haystack, start)?;
+        Ok(told)
+    }
+
+    /// How many slots the groups have: two each.
+    pub(super) fn slots(&self) -> usize
+        ensures { OfTree self.now (λ tree. result ≡ 2 * captures_len tree) }
+    {
+        2 * self.compiled.graph.capture_names().len()
+    }
+}

@@ -1,0 +1,145 @@
+//! Searches for the groups of a match.
+ghost use Rattle.std.specs.Prelude.{◌≡◌, ◌≤◌, None, IfOk, IfErr, length, replicate};
+ghost use Rattle.regex_lite_syntax.specs.Errors.{out_of_memory};
+ghost use Rattle.regex_lite_syntax.specs.Tree.Properties.{captures_len};
+ghost use Rattle.regex_lite.specs.Expression.{OfTree};
+ghost use Rattle.regex_lite.specs.Searches.{CanStartAt, TellsGroups, TellsLocations};
+
+use crate::string::captures::Captures;
+use crate::string::locations::CaptureLocations;
+use crate::string::matches::Match;
+use crate::string::regex::Regex;
+use regex_lite_syntax::Error;
+
+impl Regex {
+    /// The groups of the match that [`Regex::find`] answers.
+    ///
+    /// A group that takes part more than once tells of the last time.
+    ///
+    /// ```
+    /// let regex = Regex::new(alloc, "([a-z]+)(?:=([0-9]+))?")?;
+    /// if let Some(caps) = regex.captures("#width=72")? {
+    ///     caps.get(0); // the match of "width=72"
+    ///     caps.get(1); // the match of "width"
+    ///     caps.get(2); // the match of "72"
+    /// }
+    /// ```
+    ///
+    /// The test `tests::examples::captured` runs this example.
+    ///
+    /// # Errors
+    ///
+    /// `Memory` where a growth is refused.
+    pub fn captures<'h>(&self, haystack: &'h str) -> Result<Option<Captures<'h>>, Error>
+        ensures found { IfOk result (λ found. TellsGroups self.now haystack.now 0 found) }
+        ensures refused { IfErr result (λ error. error ≡ out_of_memory) }
+    {
+        self.captures_at(haystack, 0)
+    }
+
+    /// The groups of the match that [`Regex::find_at`] answers.
+    ///
+    /// Looks see the whole haystack, as they do in [`Regex::is_match_at`].
+    ///
+    /// Condition: the start is above the haystack's length or on a character boundary.
+    ///
+    /// # Errors
+    ///
+    /// `Memory` where a growth is refused.
+    pub fn captures_at<'h>(
+        &self,
+        haystack: &'h str,
+        start: usize,
+    ) -> Result<Option<Captures<'h>>, Error>
+        requires { CanStartAt haystack.now start }
+        ensures found { IfOk result (λ found. TellsGroups self.now haystack.now start found) }
+        ensures refused { IfErr result (λ error. error ≡ out_of_memory) }
+    {
+        let (found, _) = self.captures_counted_at(haystack, start)?;
+        Ok(found)
+    }
+
+    /// The match that [`Regex::find`] answers, with its groups written to the locations.
+    ///
+    /// As many groups are written as the locations have. Without a match, or refused, the locations
+    /// stay as they were.
+    ///
+    /// Condition: the locations have no more groups than the regex.
+    ///
+    /// ```
+    /// let regex = Regex::new(alloc, "([a-z]+)([0-9]+)?")?;
+    /// let mut locations = regex.capture_locations()?;
+    /// regex.captures_read(&mut locations, "#b52")?; // the match of "b52"
+    /// locations.get(1); // Some((1, 2))
+    /// locations.get(2); // Some((2, 4))
+    /// ```
+    ///
+    /// The test `tests::examples::read_groups` runs this example.
+    ///
+    /// # Errors
+    ///
+    /// `Memory` where a growth is refused.
+    pub fn captures_read<'h>(
+        &self,
+        locs: &mut CaptureLocations,
+        haystack: &'h str,
+    ) -> Result<Option<Match<'h>>, Error>
+        requires { OfTree self.now (λ tree. length locs.old ≤ captures_len tree) }
+        ensures found { IfOk result
+            (λ found. TellsLocations self.now haystack.now 0 locs.new found) }
+        ensures len { length locs.new ≡ length locs.old }
+        ensures none { IfOk result (λ found. found ≡ None → locs.new ≡ locs.old) }
+        ensures refused { IfErr result
+            (λ error. (error ≡ out_of_memory) × (locs.new ≡ locs.old)) }
+    {
+        self.captures_read_at(locs, haystack, 0)
+    }
+
+    /// The match that [`Regex::find_at`] answers, with its groups written to the locations.
+    ///
+    /// As many groups are written as the locations have. Without a match, or refused, the locations
+    /// stay as they were. Looks see the whole haystack, as they do in [`Regex::is_match_at`].
+    ///
+    /// Conditions: the locations have no more groups than the regex. The start is above the
+    /// haystack's length or on a character boundary.
+    ///
+    /// # Errors
+    ///
+    /// `Memory` where a growth is refused.
+    pub fn captures_read_at<'h>(
+        &self,
+        locs: &mut CaptureLocations,
+        haystack: &'h str,
+        start: usize,
+    ) -> Result<Option<Match<'h>>, Error>
+        requires room { OfTree self.now (λ tree. length locs.old ≤ captures_len tree) }
+        requires start { CanStartAt haystack.now start }
+        ensures found { IfOk result
+            (λ found. TellsLocations self.now haystack.now start locs.new found) }
+        ensures len { length locs.new ≡ length locs.old }
+        ensures none { IfOk result (λ found. found ≡ None → locs.new ≡ locs.old) }
+        ensures refused { IfErr result
+            (λ error. (error ≡ out_of_memory) × (locs.new ≡ locs.old)) }
+    {
+        let Some(caps) = self.captures_at(haystack, start)? else {
+            return Ok(None);
+        };
+        let found = caps.get(0);
+        caps.write(locs);
+        Ok(found)
+    }
+
+    /// Locations with as many groups as the regex has, none of which took part in a match yet.
+    ///
+    /// # Errors
+    ///
+    /// `Memory` where a growth is refused.
+    pub fn capture_locations(&self) -> Result<CaptureLocations, Error>
+        ensures ok { IfOk result
+            (λ locs. OfTree self.now (λ tree. locs ≡ replicate (captures_len tree) None)) }
+        ensures refused { IfErr result (λ error. error ≡ out_of_memory) }
+    {
+        let slots = vec![in self.alloc; None; self.slots()]?;
+        Ok(CaptureLocations { slots })
+    }
+}

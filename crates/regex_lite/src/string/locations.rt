@@ -1,0 +1,101 @@
+//! Where groups matched, without their haystack.
+ghost use Rattle.std.specs.Prelude.{◌≡◌, ◌<◌, ◌≤◌, IfOk, IfErr, length, take};
+ghost use Rattle.regex_lite_syntax.specs.Errors.{out_of_memory};
+ghost use Rattle.regex_lite.specs.Groups.{span_at, spans_of};
+
+use regex_lite_syntax::Error;
+use std::alloc::Global;
+use std::fmt;
+use std::marker::Model;
+
+/// Where the groups of a match start and end, for many searches in turn.
+///
+/// [`Regex::capture_locations`](crate::Regex::capture_locations) makes them, and
+/// [`Regex::captures_read`](crate::Regex::captures_read) writes them. They hold no haystack and no
+/// names, and take no memory after they are made.
+///
+/// ```
+/// let regex = Regex::new(alloc, "(a)(b)?")?;
+/// let mut locations = regex.capture_locations()?;
+/// regex.captures_read(&mut locations, "xa")?;
+/// locations.get(1); // Some((1, 2))
+/// locations.get(2); // None
+/// ```
+///
+/// The test `tests::examples::locations` runs this example.
+#[derive(Drop)]
+pub struct CaptureLocations {
+    /// Slots 2k and 2k + 1 are the start and the end of group k.
+    pub(super) slots: Vec<Option<usize>>,
+}
+
+impl Model for CaptureLocations {
+    ghost use Rattle.std.specs.Prelude.{◌≡◌, ◌*◌, ◌<◌, ℕ, List, Option, length};
+    ghost use Rattle.regex_lite.specs.Groups.{spans_of};
+
+    ghost Value = { List (Option (ℕ × ℕ)) };
+
+    ghost view = { λ locations. spans_of locations.slots.items };
+
+    ghost invariant = { λ locations. (n : ℕ) × (0 < n) × (length locations.slots.items ≡ 2 * n) };
+}
+
+impl CaptureLocations {
+    /// Where the group with this index starts and ends: `None` where it isn't there, or took no
+    /// part in the match that was written last.
+    pub fn get(&self, i: usize) -> Option<(usize, usize)>
+        ensures { result ≡ span_at self.now i }
+    {
+        span_in(self.slots.as_slice(), i)
+    }
+
+    /// How many groups there are, the whole match among them. No search changes it.
+    pub fn len(&self) -> usize
+        ensures len { result ≡ length self.now }
+        ensures some { 0 < result }
+    {
+        self.slots.len() / 2
+    }
+
+    /// Equal locations, of their own.
+    ///
+    /// # Errors
+    ///
+    /// `Memory` where a growth is refused.
+    pub fn try_clone(&self) -> Result<CaptureLocations, Error>
+        ensures ok { IfOk result (λ locations. locations ≡ self.now) }
+        ensures refused { IfErr result (λ error. error ≡ out_of_memory) }
+    {
+        let slots = self.slots.clone()?;
+        Ok(CaptureLocations { slots })
+    }
+
+    /// Writes as many of these groups as there are here.
+    pub(super) fn write(&mut self, slots: &[Option<usize>])
+        requires { length self.old ≤ length (spans_of slots.now) }
+        ensures spans { self.new ≡ take (length self.old) (spans_of slots.now) }
+        ensures len { length self.new ≡ length self.old }
+    {
+        let len = self.slots.len();
+        self.slots.copy_from_slice(&slots[..len]);
+    }
+}
+
+/// Writes where each group starts and ends.
+impl fmt::Debug for CaptureLocations {
+    fn fmt<W: fmt::Write>(&self, f: &mut fmt::Formatter<W>) -> fmt::Result {
+        f.debug_struct("CaptureLocations")
+            .field("slots", &self.slots)
+            .finish()
+    }
+}
+
+/// The span of a group, of which slots 2k and 2k + 1 are the start and the end.
+pub(super) fn span_in(slots: &[Option<usize>], k: usize) -> Option<(usize, usize)>
+    ensures { result ≡ span_at (spans_of slots.now) k }
+{
+    if k >= slots.len() / 2 {
+        return None;
+    }
+    slots[2 * k].zip(slots[2 * k + 1])
+}

@@ -1,0 +1,122 @@
+//! A part of a haystack that the pattern fits.
+ghost use Rattle.std.specs.Prelude.{◌≡◌, ◌-◌, ◌↔◌, IsTrue};
+ghost use Rattle.regex_lite.specs.Groups.{LiesIn};
+
+use std::fmt;
+use std::ops::Range;
+
+/// A match: a part of the haystack, from one offset to another.
+///
+/// It borrows the haystack alone, and outlives the regex that found it. Two matches are equal where
+/// the texts of their haystacks are, and their starts and their ends.
+///
+/// ```
+/// let regex = Regex::new(alloc, "[0-9]+")?;
+/// if let Some(found) = regex.find("b52")? {
+///     found.as_str(); // "52"
+///     found.range(); // 1..3
+/// }
+/// ```
+///
+/// The test `tests::examples::matched_text` runs this example.
+#[derive(Clone, Copy, PartialEq, Eq)]
+pub struct Match<'h> {
+    haystack: &'h str,
+    start: usize,
+    end: usize,
+    pub ghost lies_in: { LiesIn haystack.now (start, end) },
+}
+
+impl<'h> Match<'h> {
+    ghost use Rattle.regex_lite.specs.MatchViews.{match_haystack, match_span, match_text};
+
+    /// The match from one offset of the haystack to another.
+    ///
+    /// Condition: the two are in order, in the haystack and on character boundaries.
+    pub(super) fn new(haystack: &'h str, start: usize, end: usize) -> Match<'h>
+        requires { LiesIn haystack.now (start, end) }
+        ensures span { match_span result ≡ (start, end) }
+        ensures haystack { match_haystack result ≡ haystack.now }
+    {
+        Match {
+            haystack,
+            start,
+            end,
+        }
+    }
+
+    /// The offset of its first byte.
+    pub fn start(&self) -> usize
+        ensures { result ≡ (match_span self.now).0 }
+    {
+        self.start
+    }
+
+    /// The offset behind its last byte.
+    pub fn end(&self) -> usize
+        ensures { result ≡ (match_span self.now).1 }
+    {
+        self.end
+    }
+
+    /// Whether it starts where it ends.
+    pub fn is_empty(&self) -> bool
+        ensures { IsTrue result ↔ ((match_span self.now).0 ≡ (match_span self.now).1) }
+    {
+        self.start == self.end
+    }
+
+    /// How many bytes it has.
+    pub fn len(&self) -> usize
+        ensures { result ≡ (match_span self.now).1 - (match_span self.now).0 }
+    {
+        self.end - self.start
+    }
+
+    /// Its two offsets.
+    pub fn range(&self) -> Range<usize>
+        ensures { (result.start, result.end) ≡ match_span self.now }
+    {
+        self.start..self.end
+    }
+
+    /// What matched, as a part of the haystack.
+    pub fn as_str(&self) -> &'h str
+        ensures { result.now ≡ match_text self.now }
+    {
+        &self.haystack[self.start..self.end]
+    }
+}
+
+/// Writes the two offsets and what matched.
+impl<'h> fmt::Debug for Match<'h> {
+    fn fmt<W: fmt::Write>(&self, f: &mut fmt::Formatter<W>) -> fmt::Result {
+        f.debug_struct("Match")
+            .field("start", &self.start)
+            .field("end", &self.end)
+            .field("string", &self.as_str())
+            .finish()
+    }
+}
+
+impl<'h> From<Match<'h>> for &'h str {
+    ghost use Rattle.regex_lite.specs.MatchViews.{match_text};
+
+    ghost from_gives = { λ m text. text.now ≡ match_text m };
+
+    /// What matched.
+    fn from(m: Match<'h>) -> &'h str {
+        m.as_str()
+    }
+}
+
+impl<'h> From<Match<'h>> for Range<usize> {
+    ghost use Rattle.regex_lite.specs.MatchViews.{match_span};
+
+    ghost from_gives = { λ m range. (range.start, range.end) ≡ match_span m };
+
+    /// The two offsets.
+    fn from(m: Match<'h>) -> Range<usize> {
+        m.range()
+    }
+}

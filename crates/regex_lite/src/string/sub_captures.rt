@@ -1,0 +1,93 @@
+//! The groups of a match, one after another.
+ghost use Rattle.std.specs.Prelude.{◌≡◌, Some, IfSome, length, option_map, ⊤};
+ghost use Rattle.std.specs.Iterator.{YieldsFirstBy, UpTo, item_count};
+ghost use Rattle.std.specs.Iterator.SizeHint.{IsWithinCount};
+
+use crate::string::captures::Captures;
+use crate::string::matches::Match;
+use std::alloc::AllocError;
+use std::fmt;
+use std::iter::FusedIterator;
+
+/// What each group of a match matched last, by index, from the whole match on: `None` for a group
+/// that took no part.
+///
+/// How many are left is known exactly. A clone goes on from the same group, and takes no memory.
+#[derive(Drop)]
+pub struct SubCaptureMatches<'c, 'h> {
+    captures: &'c Captures<'h>,
+    next: usize,
+}
+
+impl<'c, 'h> SubCaptureMatches<'c, 'h> {
+    ghost use Rattle.regex_lite.specs.MatchViews.{groups_left};
+
+    /// All groups of these.
+    pub(super) fn new(captures: &'c Captures<'h>) -> SubCaptureMatches<'c, 'h>
+        ensures captures { result.captures.now ≡ captures.now }
+        ensures groups { groups_left result ≡ captures.now.spans }
+    {
+        SubCaptureMatches { captures, next: 0 }
+    }
+}
+
+impl<'c, 'h> Clone for SubCaptureMatches<'c, 'h> {
+    ghost is_clone = { λ old new. new ≡ old };
+
+    ghost is_infallible = { λ _. ⊤ };
+
+    fn clone(&self) -> Result<SubCaptureMatches<'c, 'h>, AllocError> {
+        Ok(SubCaptureMatches {
+            captures: self.captures,
+            next: self.next,
+        })
+    }
+}
+
+impl<'c, 'h> Iterator for SubCaptureMatches<'c, 'h> {
+    ghost use Rattle.regex_lite.specs.MatchViews.{placed_groups_left, placed_span};
+
+    type Item = Option<Match<'h>>;
+
+    ghost next_gives = { YieldsFirstBy (option_map placed_span) placed_groups_left };
+
+    ghost remaining = { item_count placed_groups_left };
+
+    fn next(&mut self) -> Option<Option<Match<'h>>> {
+        if self.next >= self.captures.len() {
+            return None;
+        }
+        let group = self.captures.get(self.next);
+        self.next += 1;
+        Some(group)
+    }
+
+    fn size_hint(&self) -> (usize, Option<usize>)
+        ensures lower { IsWithinCount result.0 (item_count placed_groups_left self.now) }
+        ensures upper { IfSome result.1 (UpTo (item_count placed_groups_left self.now)) }
+        ensures exact { result ≡ (
+          length (placed_groups_left self.now),
+          Some (length (placed_groups_left self.now)),
+        ) }
+    {
+        let len = self.captures.len().saturating_sub(self.next);
+        (len, Some(len))
+    }
+}
+
+impl<'c, 'h> ExactSizeIterator for SubCaptureMatches<'c, 'h> {
+    fn len(&self) -> usize {
+        self.captures.len().saturating_sub(self.next)
+    }
+}
+
+impl<'c, 'h> FusedIterator for SubCaptureMatches<'c, 'h> {}
+
+/// Writes the match's groups.
+impl<'c, 'h> fmt::Debug for SubCaptureMatches<'c, 'h> {
+    fn fmt<W: fmt::Write>(&self, f: &mut fmt::Formatter<W>) -> fmt::Result {
+        f.debug_tuple("SubCaptureMatches")
+            .field(self.captures)
+            .finish()
+    }
+}
