@@ -35,8 +35,9 @@ def word(dice, letters=('bdfghklmnprstvw', 'aeiou', 'lnrst')):
 
 
 CYRILLIC = ('бвгджзклмнпрст', 'аеиоуыюя', 'лнрст')
-RARE = 'quexotal'
-EIGHT = ['jubzato', 'xeroman', 'cyqunel', 'ozmarit', 'yavutho', 'ekzidor', 'ughanil', 'ipqoren']
+# Some begin with a letter that no other word has, some with a common one.
+RARE = 'fugaxotal'
+EIGHT = ['jubzato', 'xeroman', 'cyqunel', 'zimarot', 'mavutho', 'wekzidor', 'ghanilo', 'pqoren']
 
 
 def sentence(dice):
@@ -89,7 +90,7 @@ def log_line(dice):
 def short_line(dice):
     """A line of a short text, of which about every second has a name with a number."""
     mark = dice.one_of('- ')
-    text = f'{word(dice)} {word(dice)}{mark}{dice.roll(1000)} ' + word(dice) * 3
+    text = f'{word(dice)} {word(dice)}{mark}{dice.roll(1000)} {word(dice)} {word(dice)}'
     return text[:SHORT].ljust(SHORT, '.') + '\n'
 
 
