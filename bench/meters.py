@@ -1,13 +1,15 @@
-"""What valgrind tells of a run: instructions, those of calls in it, and the most memory in use."""
+"""What a run costs: instructions, those of calls in it, the most memory in use, and time."""
 
 import os
 import re
 import subprocess
 import sys
 import tempfile
+import time
 from typing import NamedTuple
 
 TIME_LIMIT = 1200  # seconds a run
+NAME = os.path.basename(sys.argv[0])
 ENVIRONMENT = {'PATH': os.environ.get('PATH', os.defpath), 'LC_ALL': 'C'}
 
 
@@ -17,7 +19,7 @@ def run(command, text):
         done = subprocess.run(command, input=text.encode(), env=ENVIRONMENT, timeout=TIME_LIMIT,
                               stdout=subprocess.PIPE, stderr=subprocess.PIPE, check=False)
     except subprocess.TimeoutExpired:
-        sys.exit(f'compile: over {TIME_LIMIT} seconds: {" ".join(command)[:120]}')
+        sys.exit(f'{NAME}: over {TIME_LIMIT} seconds: {" ".join(command)[:120]}')
     return done.returncode, done.stdout.decode(), done.stderr.decode(errors='replace')
 
 
@@ -28,7 +30,7 @@ def account(tool, options, command, text):
         _, _, fault = run(['valgrind', f'--tool={tool}', file, *options, *command], text)
         written = out.read()
     if not written:
-        sys.exit(f'compile: {tool} counted nothing: {" ".join(command)[:120]}\n{fault[-500:]}')
+        sys.exit(f'{NAME}: {tool} counted nothing: {" ".join(command)[:120]}\n{fault[-500:]}')
     return written
 
 
@@ -42,7 +44,7 @@ class Account(NamedTuple):
         found = [cost for source, target, cost in self.calls
                  if re.fullmatch(caller, source) and re.fullmatch(callee, target)]
         if not found:
-            sys.exit(f'compile: no call of {callee}: was it built into another function?')
+            sys.exit(f'{NAME}: no call of {callee}: was it built into another function?')
         return sum(found)
 
 
@@ -71,3 +73,13 @@ def peak(command, text):
     written = account('massif', ['--peak-inaccuracy=0.0'], command, text)
     sizes = re.findall(r'mem_heap_B=(\d+)\nmem_heap_extra_B=(\d+)', written)
     return max(int(bytes_asked) + int(extra) for bytes_asked, extra in sizes)
+
+
+def seconds(command, text, tries):
+    """The least time that a run takes, of this many runs."""
+    times = []
+    for _ in range(tries):
+        start = time.perf_counter()
+        run(command, text)
+        times.append(time.perf_counter() - start)
+    return min(times)

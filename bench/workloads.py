@@ -1,0 +1,193 @@
+"""The searches that bench/search measures: texts, patterns and goals.
+
+All texts are made up here, from numbers that follow one another by a fixed rule, so each run of the
+measurement has the same ones.
+"""
+
+from typing import NamedTuple
+
+KB = 1024
+SIZES = (16 * KB, 32 * KB, 64 * KB)  # bytes of a text
+SHORT = 20  # bytes of a short text
+
+
+class Dice:
+    """Numbers that look as if they came by chance, and are the same each time."""
+
+    def __init__(self, seed):
+        self.state = seed
+
+    def roll(self, sides):
+        """A number below this one."""
+        self.state = (self.state * 6364136223846793005 + 1442695040888963407) % 2 ** 64
+        return (self.state >> 33) % sides
+
+    def one_of(self, things):
+        """One of these."""
+        return things[self.roll(len(things))]
+
+
+def word(dice, letters=('bdfghklmnprstvw', 'aeiou', 'lnrst')):
+    """A word of one to four syllables, made of first sounds, vowels and last sounds."""
+    first, vowels, last = letters
+    syllables = [dice.one_of(first) + dice.one_of(vowels) for _ in range(1 + dice.roll(4))]
+    return ''.join(syllables) + (dice.one_of(last) if dice.roll(2) else '')
+
+
+CYRILLIC = ('бвгджзклмнпрст', 'аеиоуыюя', 'лнрст')
+# Some begin with a letter that no other word has, some with a common one.
+RARE = 'fugaxotal'
+EIGHT = ['jubzato', 'xeroman', 'cyqunel', 'zimarot', 'mavutho', 'wekzidor', 'ghanilo', 'pqoren']
+
+
+def sentence(dice):
+    """Some words with a capital letter and a full stop; few of them are of a kind of their own."""
+    words = [word(dice) for _ in range(5 + dice.roll(12))]
+    at = dice.roll(len(words))
+    kind = dice.roll(24)
+    if kind < 4:
+        words[at] += 'shing'
+    elif kind < 7:
+        words[at] = str(dice.roll(100_000))
+    elif kind < 8:
+        words[at] = dice.one_of(EIGHT)
+    elif kind < 9:
+        words[at] = RARE
+    return ' '.join(words).capitalize() + dice.one_of(['. ', '. ', '! ', '.\n'])
+
+
+def cyrillic_sentence(dice):
+    """Some words in Cyrillic letters, with a capital one and a full stop."""
+    return ' '.join(word(dice, CYRILLIC) for _ in range(5 + dice.roll(12))).capitalize() + '. '
+
+
+def address(dice):
+    """An IPv4 address and a port."""
+    return '10.{}.{}.{}:{}'.format(*(dice.roll(256) for _ in range(3)), 1024 + dice.roll(60_000))
+
+
+MESSAGES = [
+    lambda dice: f'connection from {address(dice)} closed after {dice.roll(900)} ms',
+    lambda dice: f'GET /api/v{1 + dice.roll(3)}/{word(dice)}/{dice.roll(9000)} '
+                 f'{dice.one_of([200, 200, 200, 204, 404, 503])} took {dice.roll(2500)} ms',
+    lambda dice: f'user {word(dice)} logged in from {address(dice)}',
+    lambda dice: f'no entry for key {word(dice)}:{dice.roll(10_000)}',
+    lambda dice: f'disk {word(dice)} is {dice.roll(100)}% full',
+    lambda dice: f'timeout while waiting for {address(dice)}',
+    lambda dice: f'{word(dice)} was refused by {word(dice)}',
+]
+
+
+def log_line(dice):
+    """A line of a log: when, how bad, where, what."""
+    when = [2020 + dice.roll(5), 1 + dice.roll(12), 1 + dice.roll(28), dice.roll(24), dice.roll(60)]
+    level = dice.one_of(['INFO'] * 12 + ['DEBUG'] * 5 + ['WARN'] * 2 + ['ERROR'])
+    place = dice.one_of(['net', 'store', 'http', 'auth'])
+    stamp = '{}-{:02}-{:02}T{:02}:{:02}'.format(*when)
+    return f'{stamp} {level} [{place}] {dice.one_of(MESSAGES)(dice)}\n'
+
+
+def short_line(dice):
+    """A line of a short text, of which about every second has a name with a number."""
+    mark = dice.one_of('- ')
+    text = f'{word(dice)} {word(dice)}{mark}{dice.roll(1000)} {word(dice)} {word(dice)}'
+    return text[:SHORT].ljust(SHORT, '.') + '\n'
+
+
+def of_parts(part, seed):
+    """A shape of texts that are made of such parts, as many as a size has room for."""
+    def text(size):
+        dice = Dice(seed)
+        parts = []
+        room = size
+        while room >= 0:
+            parts.append(part(dice))
+            room -= len(parts[-1].encode())
+        return ''.join(parts[:-1])
+    return text
+
+
+PROSE = of_parts(sentence, 1)
+CYRILLIC_PROSE = of_parts(cyrillic_sentence, 2)
+LOG = of_parts(log_line, 3)
+SHORT_TEXTS = of_parts(short_line, 4)
+LETTERS = of_parts(word, 5)
+ONLY_A = of_parts(lambda dice: 'a', 6)
+
+FILTERS = [
+    'ERROR',
+    r'\bWARN\b',
+    'timeout',
+    '(?i)failed|refused|denied',
+    r'\b5\d\d\b',
+    r'took \d{4,} ms',
+    r'from 10\.\d+\.\d+\.\d+:\d+',
+    'user [a-z]+ logged',
+    r'^\S+ ERROR \[net\]',
+    r'key [a-z]+:\d+$',
+    r'(?:GET|POST|PUT) /api/v\d/\S+',
+    'panicked at',
+]
+
+
+class Workload(NamedTuple):
+    """Patterns that are searched for in texts of one shape."""
+    name: str
+    goal: float  # of the ratio to upstream
+    call: str  # find or captures
+    unit: str  # the text, or its lines
+    patterns: list
+    text: object  # for each size
+
+
+WORKLOADS = [
+    Workload('literal that is not there', .05, 'find', 'text', ['zyxwvut'], PROSE),
+    Workload('rare literal', .05, 'find', 'text', [RARE], PROSE),
+    Workload('eight words', .20, 'find', 'text', ['|'.join(EIGHT)], PROSE),
+    Workload('12 patterns on log lines', .20, 'find', 'lines', FILTERS, LOG),
+    Workload('date, 5 groups', .50, 'captures', 'text',
+             [r'(\d{4})-(\d\d)-(\d\d)T(\d\d):(\d\d)'], LOG),
+    Workload('anchored line, 5 groups', .70, 'captures', 'lines',
+             [r'^(\S+)T(\S+) ([A-Z]+) \[(\w+)\] (.*)$'], LOG),
+    Workload('whole words', .70, 'find', 'text', [r'\b\w+\b'], PROSE),
+    Workload('words with one ending', .70, 'find', 'text', ['[a-z]+shing'], PROSE),
+    Workload('lines with two words', .70, 'find', 'text', ['(?m)^.*ERROR.*timeout.*$'], LOG),
+    Workload('8 to 13 letters', .70, 'find', 'text', ['[a-zA-Z]{8,13}'], PROSE),
+    Workload('loop of a or aa, then b', .70, 'find', 'text', ['(?:a|aa)+b'], ONLY_A),
+    Workload('30 times a?, 30 times a', .70, 'find', 'text', ['(?:a?){30}a{30}'], ONLY_A),
+    Workload('Cyrillic words', .70, 'find', 'text', ['[а-яё]{4,}'], CYRILLIC_PROSE),
+    Workload('short texts', .50, 'find', 'lines', [r'[a-z]+-\d+'], SHORT_TEXTS),
+]
+
+
+class Family(NamedTuple):
+    """Searches of one shape in three sizes, each twice the one before."""
+    name: str
+    call: str
+    sizes: tuple
+    pattern: object  # for each size
+    text: object  # for each size
+
+
+def nest(depth):
+    """As many loops inside one another, and what isn't there."""
+    pattern = 'a'
+    for _ in range(depth):
+        pattern = f'(?:{pattern}|b)*'
+    return pattern + 'c'
+
+
+def by_two(least):
+    """Three sizes, each twice the one before."""
+    return least, 2 * least, 4 * least
+
+
+FAMILIES = [
+    Family('bytes, rare literal', 'find', by_two(256 * KB), lambda size: RARE, PROSE),
+    Family('bytes, a match at each', 'find', by_two(16 * KB), lambda size: 'a', ONLY_A),
+    Family('groups', 'captures', by_two(8), lambda size: '([a-z])' * size,
+           lambda size: LETTERS(16 * KB)),
+    Family('loops in a loop', 'find', by_two(6), nest, lambda size: ONLY_A(16 * KB)),
+    Family('[a-z] in a row', 'find', by_two(25), lambda size: f'[a-z]{{{size}}}0',
+           lambda size: LETTERS(16 * KB)),
+]
