@@ -53,6 +53,8 @@ fn pass_over(starts: &Starts, haystack: &str, here: Here) -> Here
 }
 
 /// The first offset from this one on of a byte with which such a character may begin, or the end.
+// Not inlined, since the loop of a search is so large that this one would lose its registers.
+#[inline(never)]
 fn next_offset(starts: &Starts, bytes: &[u8], from: usize) -> usize
     requires { from ≤ length bytes.now }
     ensures low { from ≤ result }
