@@ -37,7 +37,7 @@ next-here-requires c =
     let table = table_of a.graph.now in
     let haystack = chars a.haystack.now in
     let w = onward table haystack a.graph.now.start s (length haystack) v.p c.positions.cache.threads
-    (best_of c.positions.cache.best) c.next_start-here.result (c.next_start-here.ensures v.p v.is)
+    (best_of c.positions.cache.best) c.next_start-here.result (c.next_start-here.ensures.passes v.p v.is)
     v.coming in (
       w.q,
       w.is,
@@ -53,13 +53,13 @@ positions-preserved c =
     let table = table_of a.graph.now in
     let haystack = chars a.haystack.now in
     let w = onward table haystack a.graph.now.start s (length haystack) v.p c.positions.cache.threads
-    (best_of c.positions.cache.best) c.next_start-here.result (c.next_start-here.ensures v.p v.is)
+    (best_of c.positions.cache.best) c.next_start-here.result (c.next_start-here.ensures.passes v.p v.is)
     v.coming in
     let low = v.low in
     let later = w.later in
     let first : s ≤ w.q = omega (arith, low, later) in
     let comes = c.turn.ensures.comes haystack w.q s (length haystack) w.is first w.is.inside
-    (c.may_start.ensures haystack w.q w.is) w.coming in
+    (c.may_start.ensures.dead haystack w.q w.is) w.coming in
     let rounds = v.rounds in
     let now = c.turn.ensures.round in
     let old = c.positions.cache in
@@ -89,7 +89,7 @@ positions-smaller c =
     let table = table_of a.graph.now in
     let haystack = chars a.haystack.now in
     let w = onward table haystack a.graph.now.start s (length haystack) v.p c.positions.cache.threads
-    (best_of c.positions.cache.best) c.next_start-here.result (c.next_start-here.ensures v.p v.is)
+    (best_of c.positions.cache.best) c.next_start-here.result (c.next_start-here.ensures.passes v.p v.is)
     v.coming in
     less_left a.haystack.now v.p w.q c.positions.here c.next-here.result c.utf8.haystack v.is
     (c.next-here.ensures w.q w.is) w.later
@@ -102,13 +102,13 @@ returns-then-is_over-clause-found c =
     let table = table_of a.graph.now in
     let haystack = chars a.haystack.now in
     let w = onward table haystack a.graph.now.start s (length haystack) v.p c.positions.cache.threads
-    (best_of c.positions.cache.best) c.next_start-here.result (c.next_start-here.ensures v.p v.is)
+    (best_of c.positions.cache.best) c.next_start-here.result (c.next_start-here.ensures.passes v.p v.is)
     v.coming in
     let low = v.low in
     let later = w.later in
     let first : s ≤ w.q = omega (arith, low, later) in
     let comes = c.turn.ensures.comes haystack w.q s (length haystack) w.is first w.is.inside
-    (c.may_start.ensures haystack w.q w.is) w.coming in
+    (c.may_start.ensures.dead haystack w.q w.is) w.coming in
     ended table haystack a.graph.now.start s w.q c.turn.new.self.threads
     (best_of c.turn.new.self.best) first w.is.inside
     (over_at haystack w.q c.next_start-here.result w.is (c.is_over.ensures.over (search rules)))
