@@ -127,7 +127,8 @@ impl Graph {
 
     /// Where a match can begin.
     pub(crate) fn starts(&self) -> &Starts
-        ensures { AreStartsOf (table_of self.now) self.now.start result.now }
+        ensures same { result.now ≡ self.now.starts }
+        ensures all { AreStartsOf (table_of self.now) self.now.start result.now }
     {
         &self.starts
     }

@@ -1,10 +1,11 @@
 -- Positions at which no match can begin, and the bytes of their characters.
-use Rattle.std.proofs.Common.{◌≡◌, ℕ, zero, suc, ◌*◌, ◌-◌, ◌<◌, ◌≤◌, ◌⊎◌, inl, inr, Bool, true, false, IsTrue, List, [], ◌∷◌, ◌++◌, length, drop, slice_get, slice_index, slice_index_or, nat_lt, if◌then◌else◌, ◌&&◌, ◌||◌, Some, refl, sym, ap, subst, ◌∙◌, arith, length-drop}
-use Rattle.std.specs.Prelude.{IsUtf8, IsCharBoundary, chars}
+use Rattle.std.proofs.Common.{◌≡◌, ℕ, zero, suc, ◌*◌, ◌-◌, ◌<◌, ◌≤◌, ◌⊎◌, inl, inr, Bool, true, false, IsTrue, List, [], ◌∷◌, ◌++◌, length, drop, slice_get, slice_index, slice_index_or, nat_lt, if◌then◌else◌, ◌&&◌, ◌||◌, Option, Some, None, refl, sym, ap, subst, ◌∙◌, arith, length-drop}
+use Rattle.std.specs.Prelude.{IsUtf8, IsCharBoundary, chars, is_none}
 use lib.Utf8.{encode, encodes}
 use Rattle.std.proofs.Math.Nat.{mul-le-mul_left}
 use Rattle.std.proofs.lemmas.Bool.{cases_lt, cases_eq}
 use Rattle.std.proofs.lemmas.Bool.Decides.{nat_tests}
+use Rattle.std.proofs.lemmas.Option.{slice_get_within}
 use Rattle.std.proofs.lemmas.Str.{encodes-chars, char_from_byte, byte_from_char}
 use Rattle.regex_lite_syntax.specs.Text.{Text, after}
 use Rattle.regex_lite_engine.specs.declared.nfa.starts.Starts.{Starts}
@@ -19,7 +20,7 @@ use Rattle.regex_lite_engine.specs.Walk.Turns.{IsComing}
 use Rattle.regex_lite_engine.specs.Walk.Walking.{Best}
 use Rattle.regex_lite_engine.proofs.pikevm.OptionLemmas.{not_there, same_some}
 use Rattle.regex_lite_engine.proofs.pikevm.TurnLemmas.{jumped}
-use Rattle.regex_lite_engine.proofs.pikevm.here.OffsetLemmas.{offset_less, rest_at, boundary_at}
+use Rattle.regex_lite_engine.proofs.pikevm.here.OffsetLemmas.{offset_less, offset_most, rest_at, boundary_at}
 
 never_both : (a : Bool) → (a && false) ≡ true → ⊥
 never_both true e = cc
@@ -61,11 +62,11 @@ there [] i lt = absurd (omega (arith, lt))
 there (c ∷ cs) zero lt = (c, refl)
 there (c ∷ cs) (suc i) lt = there cs i (omega (arith, lt))
 
--- no match begins with a character whose first byte the scan passes
-passed_char : (s : Starts) (bs : List ℕ) (i c : ℕ) → IsUtf8 bs → slice_get (chars bs) i ≡ Some c
+-- a match can begin with a character if the scan stops at its first byte
+first_byte : (s : Starts) (bs : List ℕ) (i c : ℕ) → IsUtf8 bs → slice_get (chars bs) i ≡ Some c
     → i < length (chars bs) → offset (chars bs) i < length bs
-    → stops_at s (slice_index bs (offset (chars bs) i)) ≡ false → begins_with s c ≡ false
-passed_char s bs i c u e within short pass = by_byte (cases_lt byte 128)
+    → begins_with s c ≡ stops_at s (slice_index bs (offset (chars bs) i))
+first_byte s bs i c u e within short = by_byte (cases_lt byte 128)
   where
     at : ℕ
     at = offset (chars bs) i
@@ -93,7 +94,7 @@ passed_char s bs i c u e within short pass = by_byte (cases_lt byte 128)
     stops b = s.any && (if b then slice_index_or s.ascii byte true
         else (if nat_lt byte 192 then false else s.others))
 
-    by_byte : (byte < 128) ⊎ (128 ≤ byte) → begins_with s c ≡ false
+    by_byte : (byte < 128) ⊎ (128 ≤ byte) → begins_with s c ≡ stops_at s byte
     by_byte (inl lt) =
         let same : c ≡ byte =
         char_from_byte (drop at bs) (encodes (drop (suc i) (chars bs))) c rest
@@ -102,7 +103,7 @@ passed_char s bs i c u e within short pass = by_byte (cases_lt byte 128)
         let low : nat_lt byte 128 ≡ true = grind (arith, nat_tests) in
         let low_c : nat_lt c 128 ≡ true = ap (λ z. nat_lt z 128) same ∙ low in
         ap begins low_c ∙ ap (λ z. s.any && slice_index_or s.ascii z true) same
-        ∙ sym (ap stops low) ∙ pass
+        ∙ sym (ap stops low)
     by_byte (inr high) =
         let lead : 192 ≤ byte = edge.1 short high in
         let high_c : 128 ≤ c = by_char (cases_lt c 128) in
@@ -110,13 +111,35 @@ passed_char s bs i c u e within short pass = by_byte (cases_lt byte 128)
         let lead_off : nat_lt byte 192 ≡ false = grind (arith, nat_tests) in
         let off_c : nat_lt c 128 ≡ false = grind (arith, nat_tests) in
         ap begins off_c
-        ∙ sym (ap stops off ∙ ap (λ z. s.any && (if z then false else s.others)) lead_off) ∙ pass
+        ∙ sym (ap stops off ∙ ap (λ z. s.any && (if z then false else s.others)) lead_off)
       where
         by_char : (c < 128) ⊎ (128 ≤ c) → 128 ≤ c
         by_char (inr le) = le
         by_char (inl lt) =
             let same = byte_from_char (drop at bs) (encodes (drop (suc i) (chars bs))) c rest lt in
             absurd (omega (arith, same, head, high, lt))
+
+-- where the scan stops, or at the end, one can begin
+pub stopped : (s : Starts) (bs : List ℕ) (q : ℕ) (y : Here) → IsUtf8 bs → IsHere (chars bs) q y
+    → (y.at < length bs → stops_at s (slice_index bs y.at) ≡ true)
+    → may_begin s y.before y.after ≡ true
+stopped s bs q y u is stops = by_next y.after refl
+  where
+    ahead : (c : ℕ) → y.after ≡ Some c → begins_with s c ≡ true
+    ahead c e =
+        let at_q : slice_get (chars bs) q ≡ Some c = sym is.ahead ∙ e in
+        let within = slice_get_within (chars bs) q c at_q in
+        let less = offset_less (chars bs) q (suc q) (omega arith) (omega (arith, within)) in
+        let most : offset (chars bs) (suc q) ≤ length bs =
+        subst (λ z. offset (chars bs) (suc q) ≤ length z) (encodes-chars bs u)
+        (offset_most (chars bs) (suc q)) in
+        let at = is.bytes in
+        first_byte s bs q c u at_q within (omega (arith, less, most))
+        ∙ ap (λ z. stops_at s (slice_index bs z)) (sym at) ∙ stops (omega (arith, at, less, most))
+
+    by_next : (o : Option ℕ) → y.after ≡ o → may_begin s y.before o ≡ true
+    by_next None e = refl
+    by_next (Some c) e = ap (λ z. z || (s.at_start && is_none y.before)) (ahead c e)
 
 -- none begins where that is told
 pub never_at : (s : Starts) (h : Text) (p : ℕ) (x : Here) → IsHere h p x
@@ -167,9 +190,9 @@ module _ (s : Starts) (bs : List ℕ) (p q : ℕ) (x y : Here) (u : IsUtf8 bs)
       let next = there (chars bs) (suc i) (omega (arith, high, within)) in
       let less = offset_less (chars bs) (suc i) q high within in
       let more = offset_less (chars bs) p (suc i) low (omega (arith, high, within)) in
-      let off = passed_char s bs (suc i) next.0 u next.1 (omega (arith, high, within))
+      let off = first_byte s bs (suc i) next.0 u next.1 (omega (arith, high, within))
       (omega (arith, less, b, most))
-      (pass (offset (chars bs) (suc i)) (omega (arith, a, more)) (omega (arith, b, less))) in
+      ∙ pass (offset (chars bs) (suc i)) (omega (arith, a, more)) (omega (arith, b, less)) in
       begins_later s (chars bs) i (there (chars bs) i (omega (arith, high, within)))
       (next.0, next.1, off)
 

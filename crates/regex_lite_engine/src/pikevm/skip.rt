@@ -1,8 +1,8 @@
 //! The positions at which no match can start, which a search passes over.
-ghost use Rattle.std.specs.Prelude.{◌≡◌, ◌≤◌, ◌<◌, ℕ, false, true, IsTrue, chars, length, slice_index};
+ghost use Rattle.std.specs.Prelude.{◌≡◌, ◌≤◌, ◌<◌, ℕ, None, false, true, chars, length, slice_index};
 ghost use Rattle.regex_lite_syntax.specs.Text.{Text};
 ghost use Rattle.regex_lite_engine.specs.Graph.Stored.{table_of};
-ghost use Rattle.regex_lite_engine.specs.Nfa.Starts.{stops_at, MayBegin};
+ghost use Rattle.regex_lite_engine.specs.Nfa.Starts.{may_begin, stops_at, MayBegin};
 ghost use Rattle.regex_lite_engine.specs.Walk.Standing.{IsHere};
 ghost use Rattle.regex_lite_engine.specs.Walk.Starts.{GoesOnAt, PassesTo};
 ghost use Rattle.regex_lite_engine.specs.Walk.Turns.{best_of, IsDeadAt};
@@ -17,9 +17,11 @@ use crate::pikevm::threads::Threads;
 /// position at which a match can start, or at the haystack's end.
 pub fn next_start(graph: &Graph, haystack: &str, here: Here, threads: &Threads, best: &Best) -> Here
     requires { (p : ℕ) × IsHere (chars haystack.now) p here }
-    ensures { (p : ℕ) → IsHere (chars haystack.now) p here
+    ensures passes { (p : ℕ) → IsHere (chars haystack.now) p here
         → GoesOnAt (table_of graph.now) (chars haystack.now) graph.now.start threads.now
         (best_of best.now) p result }
+    ensures stops { threads.now.len ≡ 0 → best_of best.now ≡ None
+        → may_begin graph.now.starts result.before result.after ≡ true }
 {
     if threads.len() > 0 {
         return here;
@@ -32,8 +34,9 @@ pub fn next_start(graph: &Graph, haystack: &str, here: Here, threads: &Threads, 
 
 /// Whether a match can start here.
 pub fn may_start(graph: &Graph, here: Here) -> bool
-    ensures { (haystack : Text) (p : ℕ) → IsHere haystack p here → result ≡ false
+    ensures dead { (haystack : Text) (p : ℕ) → IsHere haystack p here → result ≡ false
         → IsDeadAt (table_of graph.now) haystack graph.now.start p }
+    ensures tells { result ≡ may_begin graph.now.starts here.before here.after }
 {
     graph.starts().may_begin(here.before, here.after)
 }
@@ -41,9 +44,10 @@ pub fn may_start(graph: &Graph, here: Here) -> bool
 /// The next position from here on at which a match can begin, or the haystack's end.
 fn pass_over(starts: &Starts, haystack: &str, here: Here) -> Here
     requires { (p : ℕ) × IsHere (chars haystack.now) p here }
-    ensures { (p : ℕ) → IsHere (chars haystack.now) p here
+    ensures passes { (p : ℕ) → IsHere (chars haystack.now) p here
         → PassesTo (λ i. ¬ (MayBegin starts.now (chars haystack.now) i)) (chars haystack.now) p
         result }
+    ensures stops { may_begin starts.now result.before result.after ≡ true }
 {
     if starts.may_begin(here.before, here.after) {
         return here;
@@ -53,6 +57,8 @@ fn pass_over(starts: &Starts, haystack: &str, here: Here) -> Here
 }
 
 /// The first offset from this one on of a byte with which such a character may begin, or the end.
+// Not inlined, since the loop of a search is so large that this one would lose its registers.
+#[inline(never)]
 fn next_offset(starts: &Starts, bytes: &[u8], from: usize) -> usize
     requires { from ≤ length bytes.now }
     ensures low { from ≤ result }

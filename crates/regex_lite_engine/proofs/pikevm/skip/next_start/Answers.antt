@@ -6,8 +6,8 @@ use Rattle.regex_lite_engine.specs.Walk.Turns.{IsDeadAt}
 use Rattle.regex_lite_engine.proofs.pikevm.SkipLemmas.{passes_as}
 use Rattle.regex_lite_engine.proofs.pikevm.skip.next_start.Goals as goal
 
-pub returns : goal.returns
-returns c = λ p is.
+pub returns-clause-passes : goal.returns-clause-passes
+returns-clause-passes c = λ p is.
     let haystack = chars c.args.haystack.now in
     let none = c.is_none.ensures.0 (subst IsTrue (sym c.if-not-is_none.false) refl) in
     let no_threads = c.if-len-gt0.false in
@@ -17,5 +17,5 @@ returns c = λ p is.
       none,
       passes_as (λ i. ¬ (MayBegin c.starts.result.now haystack i))
           (IsDeadAt (table_of c.args.graph.now) haystack c.args.graph.now.start) haystack p
-          c.pass_over.result (c.starts.ensures haystack) (c.pass_over.ensures p is),
+          c.pass_over.result (c.starts.ensures.all haystack) (c.pass_over.ensures.passes p is),
     )

@@ -15,7 +15,7 @@ returns-clause-passes c s p is on =
     let old = a.self.now in
     let new = c.turn.new.self in
     let w = onward table haystack a.graph.now.start s (length haystack) p old.threads
-    (best_of old.best) c.next_start-here.result (c.next_start-here.ensures p is) on.coming in
+    (best_of old.best) c.next_start-here.result (c.next_start-here.ensures.passes p is) on.coming in
     let low = on.low in
     let later = w.later in
     let first : s ≤ w.q = omega (arith, low, later) in
@@ -31,7 +31,7 @@ returns-clause-passes c s p is on =
         low = omega (arith, first);
         ready = c.turn.ensures.ready;
         coming = c.turn.ensures.comes haystack w.q s (length haystack) w.is first w.is.inside
-            (c.may_start.ensures haystack w.q w.is) w.coming;
+            (c.may_start.ensures.dead haystack w.q w.is) w.coming;
         tries = bound_on table haystack a.graph.now.start s
             (old.walk.steps.tried + old.threads.len) (new.walk.steps.tried + new.threads.len) p w.q
             (arrows_of table + 1) low later on.tries c.turn.ensures.tries;
