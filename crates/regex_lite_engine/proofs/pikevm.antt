@@ -8,5 +8,6 @@ pub mod OptionLemmas
 pub mod PositionLemmas
 pub mod RoomLemmas
 pub mod StepLemmas
+pub mod ThreadLemmas
 pub mod TurnLemmas
 pub mod WalkLemmas

@@ -1,4 +1,4 @@
-use Rattle.std.proofs.Common.{rules, ℕ, ◌+◌, length, sym, subst, arith}
+use Rattle.std.proofs.Common.{rules, ℕ, ◌+◌, length, ap, sym, subst, arith}
 use Rattle.std.specs.Prelude.{chars}
 use Rattle.regex_lite_engine.specs.Graph.Renumbered.{arrows_of}
 use Rattle.regex_lite_engine.specs.Graph.Stored.{table_of}
@@ -18,9 +18,9 @@ positions-init c =
       is = c.at-here.ensures.here;
       low = omega arith;
       ready = r.between;
-      coming = subst (λ z. IsComing (table_of a.graph.now) (chars a.haystack.now) a.graph.now.start (position_at a.haystack.now a.start) (length (chars a.haystack.now)) (position_at a.haystack.now a.start) a.cache.now.threads z) (sym r.none)
-          (none_coming (table_of a.graph.now) (chars a.haystack.now) a.graph.now.start (position_at a.haystack.now a.start) (length (chars a.haystack.now)) a.cache.now.threads none);
-      tries = omega (arith, tried, none);
+      coming = subst (λ z. IsComing (table_of a.graph.now) (chars a.haystack.now) a.graph.now.start (position_at a.haystack.now a.start) (length (chars a.haystack.now)) (position_at a.haystack.now a.start) a.cache.now.walk.memory.threads z) (sym r.none)
+          (none_coming (table_of a.graph.now) (chars a.haystack.now) a.graph.now.start (position_at a.haystack.now a.start) (length (chars a.haystack.now)) a.cache.now.walk.memory.threads none);
+      tries = omega (arith, tried, ap length none);
       entries = omega (arith, entered);
       rounds = omega (arith, rounds);
     }
@@ -38,7 +38,7 @@ positions-preserved c =
       low = omega (arith, low);
       ready = c.turn.ensures.ready;
       coming = c.turn.ensures.comes (chars a.haystack.now) v.p (position_at a.haystack.now a.start) (length (chars a.haystack.now)) v.is v.low v.is.inside (λ e. cc) v.coming;
-      tries = bound_more (c.positions.cache.walk.steps.tried + c.positions.cache.threads.len) (c.turn.new.self.walk.steps.tried + c.turn.new.self.threads.len) v.p (position_at a.haystack.now a.start) (arrows_of (table_of a.graph.now) + 1) v.low v.tries c.turn.ensures.tries;
+      tries = bound_more (c.positions.cache.walk.steps.tried + length c.positions.cache.walk.memory.threads) (c.turn.new.self.walk.steps.tried + length c.turn.new.self.walk.memory.threads) v.p (position_at a.haystack.now a.start) (arrows_of (table_of a.graph.now) + 1) v.low v.tries c.turn.ensures.tries;
       entries = bound_more c.positions.cache.walk.steps.entered c.turn.new.self.walk.steps.entered v.p (position_at a.haystack.now a.start) (length (table_of a.graph.now)) v.low v.entries c.turn.ensures.entries;
       rounds = omega (arith, rounds, now, low);
     }
@@ -50,6 +50,6 @@ positions-smaller c = let v = c.positions.invariant in
 pub returns-then-is_over-clause-found : goal.returns-then-is_over-clause-found
 returns-then-is_over-clause-found c =
     let v = c.positions.invariant in let a = c.args in
-    ended (table_of a.graph.now) (chars a.haystack.now) a.graph.now.start (position_at a.haystack.now a.start) v.p c.turn.new.self.threads (best_of c.turn.new.self.best) v.low v.is.inside
+    ended (table_of a.graph.now) (chars a.haystack.now) a.graph.now.start (position_at a.haystack.now a.start) v.p c.turn.new.self.walk.memory.threads (best_of c.turn.new.self.best) v.low v.is.inside
     (over_at (chars a.haystack.now) v.p c.positions.here v.is (c.is_over.ensures.over (search rules)))
     (c.turn.ensures.comes (chars a.haystack.now) v.p (position_at a.haystack.now a.start) (length (chars a.haystack.now)) v.is v.low v.is.inside (λ e. cc) v.coming)

@@ -14,10 +14,10 @@ invariant-positions l = record {
   is : IsHere (chars l.haystack) p l.here;
   low : position_at l.haystack l.start ≤ p;
   ready : IsBetween (table_of l.graph) l.cache;
-  coming : IsComing (table_of l.graph) (chars l.haystack) l.graph.start (position_at l.haystack l.start) (length (chars l.haystack)) p l.cache.threads (best_of l.cache.best);
-  tries : l.cache.walk.steps.tried + l.cache.threads.len ≤ (arrows_of (table_of l.graph) + 1) * (p - position_at l.haystack l.start);
+  coming : IsComing (table_of l.graph) (chars l.haystack) l.graph.start (position_at l.haystack l.start) (length (chars l.haystack)) p l.cache.walk.memory.threads (best_of l.cache.best);
+  tries : l.cache.walk.steps.tried + length l.cache.walk.memory.threads ≤ (arrows_of (table_of l.graph) + 1) * (p - position_at l.haystack l.start);
   entries : l.cache.walk.steps.entered ≤ length (table_of l.graph) * (p - position_at l.haystack l.start);
-  rounds : l.cache.walk.seen.now ≤ p - position_at l.haystack l.start;
+  rounds : l.cache.walk.memory.now ≤ p - position_at l.haystack l.start;
 }
 
 abbrev pub decreases-positions : goal.decreases-positions
