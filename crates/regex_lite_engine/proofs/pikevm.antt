@@ -12,5 +12,6 @@ pub mod RoomLemmas
 pub mod ShortestLemmas
 pub mod SkipLemmas
 pub mod StepLemmas
+pub mod ThreadLemmas
 pub mod TurnLemmas
 pub mod WalkLemmas

@@ -5,29 +5,30 @@ ghost use Rattle.regex_lite_engine.specs.Graph.Stored.{table_of};
 ghost use Rattle.regex_lite_engine.specs.Walk.Outcomes.{IsFresh, IsCountable};
 
 mod best;
+pub(crate) mod cell;
 mod enter;
 pub(crate) mod here;
+pub(crate) mod memory;
 mod pass;
+pub(crate) mod rows;
 mod run;
 pub(crate) mod search;
-pub(crate) mod seen;
+mod seen;
 mod shortest;
 mod skip;
-pub(crate) mod stack;
+mod stack;
 pub(crate) mod steps;
 #[cfg(test)]
 mod tests;
-pub(crate) mod threads;
+mod threads;
 mod turn;
 mod walk;
 
 use crate::Graph;
 use best::Best;
-use seen::Seen;
-use stack::Stack;
+use memory::Memory;
 use std::alloc::{AllocError, Global};
 use steps::Steps;
-use threads::Threads;
 use turn::Cache;
 use walk::Walk;
 
@@ -42,13 +43,9 @@ pub(crate) fn cache_for(alloc: Global, graph: &Graph, slots: usize) -> Result<Ca
     let room = graph.reading() + 1;
     Ok(Cache {
         walk: Walk {
-            seen: Seen::with_room(alloc, places)?,
-            stack: Stack::with_room(alloc, places)?,
-            next: Threads::with_room(alloc, room, slots)?,
-            slots: vec![in alloc; None; slots]?,
+            memory: Memory::blank(alloc, places, room, slots)?,
             steps: Steps::none(),
         },
-        threads: Threads::with_room(alloc, room, slots)?,
         best: Best::with_width(alloc, slots)?,
     })
 }

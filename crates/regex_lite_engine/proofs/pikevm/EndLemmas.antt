@@ -8,7 +8,6 @@ use Rattle.std.proofs.Math.Nat.{mul-le-mul_left, mul-suc}
 use Rattle.regex_lite_syntax.specs.Text.{Text, before, after}
 use Rattle.regex_lite_syntax.specs.Tree.Looks.{holds_between}
 use Rattle.regex_lite_engine.specs.declared.pikevm.here.Here.{Here}
-use Rattle.regex_lite_engine.specs.declared.pikevm.threads.Threads.{Threads}
 use Rattle.regex_lite_engine.specs.Graph.Places.{Condition, Arrow, Place, complete, with_arrows, free, holding, reading, taken, behind, arrived, arrow_taken, step_from}
 use Rattle.regex_lite_engine.specs.Search.Answer.{Found}
 use Rattle.regex_lite_engine.specs.Search.Marks.{marks_along}
@@ -18,6 +17,7 @@ use Rattle.regex_lite_engine.specs.Walk.InStep.{Offer}
 use Rattle.regex_lite_engine.specs.Walk.Standing.{IsHere}
 use Rattle.regex_lite_engine.specs.Walk.Outcomes.{IsNumberedOutcome}
 use Rattle.regex_lite_engine.specs.Walk.Turns.{IsComing, FromIs}
+use Rattle.regex_lite_engine.specs.Walk.Machine.{Thread}
 use Rattle.regex_lite_engine.specs.Walk.Walking.{Node, Best, BestHolds, InStep}
 use Rattle.regex_lite_engine.proofs.laws.search.OverLemmas.{answer_when_over}
 use Rattle.regex_lite_engine.proofs.pikevm.OptionLemmas.{not_there, same_some}
@@ -83,8 +83,8 @@ module _ (table : List (Place ℕ)) (h : Text) (s first : ℕ) where
         has,
       )
 
-  pub ended : (p : ℕ) (cur : Threads) (best : Best) → first ≤ p → p ≤ length h →
-      ((p ≡ length h) ⊎ ((best ≡ None → ⊥) × (cur.len ≡ 0))) → IsComing table h s first (length h) (p + 1) cur best → IsNumberedOutcome table h s first best
+  pub ended : (p : ℕ) (cur : List Thread) (best : Best) → first ≤ p → p ≤ length h →
+      ((p ≡ length h) ⊎ ((best ≡ None → ⊥) × (length cur ≡ 0))) → IsComing table h s first (length h) (p + 1) cur best → IsNumberedOutcome table h s first best
   ended p cur best low high over u = go over
     where
       with_none : u.coming ≡ [] → ((length h < u.from) ⊎ ((b : List ℕ) × (u.way ≡ Some b))) → IsNumberedOutcome table h s first best
@@ -99,7 +99,7 @@ module _ (table : List (Place ℕ)) (h : Text) (s first : ℕ) where
       at_end None e is same = inl (omega (arith, is, same))
       at_end (Some x) (w, e, held) is same = inr (w, e)
 
-      go : (p ≡ length h) ⊎ ((best ≡ None → ⊥) × (cur.len ≡ 0)) → IsNumberedOutcome table h s first best
+      go : (p ≡ length h) ⊎ ((best ≡ None → ⊥) × (length cur ≡ 0)) → IsNumberedOutcome table h s first best
       go (inl same) = with_none (nothing_beyond (p + 1) u.from u.recorded u.coming u.way (omega (arith, same)) u.in_step u.before (omega (arith, same))) (at_end best u.best_holds u.from_is same)
       go (inr (some, empty)) = let all = u.all in with_none (nil_from_length u.coming (omega (arith, all, empty))) (inr (way_of best u.best_holds some))
 

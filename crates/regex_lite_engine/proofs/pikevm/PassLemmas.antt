@@ -1,5 +1,5 @@
 -- What holds of a search between two positions, from its start to its end.
-use Rattle.std.proofs.Common.{ℕ, ◌+◌, ◌-◌, ◌*◌, ◌≤◌, List, length, sym, subst, arith}
+use Rattle.std.proofs.Common.{ℕ, ◌+◌, ◌-◌, ◌*◌, ◌≤◌, List, length, ap, sym, subst, arith}
 use Rattle.std.proofs.Math.Nat.{mul-le-mul_left}
 use Rattle.regex_lite_syntax.specs.Text.{Text}
 use Rattle.regex_lite_engine.specs.declared.pikevm.turn.Cache.{Cache}
@@ -24,9 +24,9 @@ module _ (table : List (Place ℕ)) (haystack : Text) (start s : ℕ) where
       record {
         low = omega arith;
         ready = fresh.between;
-        coming = subst (λ z. IsComing table haystack start s (length haystack) s cache.threads z)
-            (sym fresh.none) (none_coming table haystack start s (length haystack) cache.threads none);
-        tries = omega (arith, tried, none);
+        coming = subst (λ z. IsComing table haystack start s (length haystack) s cache.walk.memory.threads z)
+            (sym fresh.none) (none_coming table haystack start s (length haystack) cache.walk.memory.threads none);
+        tries = omega (arith, tried, ap length none);
         entries = omega (arith, entered);
         rounds = omega (arith, rounds);
       }

@@ -4,14 +4,13 @@ use Rattle.std.proofs.lemmas.Bool.{cases_lt}
 use Rattle.regex_lite_syntax.specs.Text.{Text, before, after}
 use Rattle.regex_lite_syntax.specs.Tree.Looks.{holds_between}
 use Rattle.regex_lite_syntax.proofs.ListLemmas.{same_head, same_tail}
-use Rattle.regex_lite_engine.specs.declared.pikevm.threads.Threads.{Threads}
 use Rattle.regex_lite_engine.specs.Graph.Places.{Condition, Arrow, Place, complete, with_arrows, free, holding, reading, taken, behind, arrived, arrow_taken, step_from}
 use Rattle.regex_lite_engine.specs.Graph.Ways.{Leads, NoneTwice}
 use Rattle.regex_lite_engine.specs.Search.Offsets.{offset}
 use Rattle.regex_lite_engine.specs.Walk.Explored.{StartsAt, IsAnswered, IsDead}
 use Rattle.regex_lite_engine.specs.Walk.NumberedAnswer.{place_with, numbered_step, is_end, IsNumberedMatch}
 use Rattle.regex_lite_engine.specs.Walk.InStep.{Offer, In}
-use Rattle.regex_lite_engine.specs.Walk.Machine.{Row}
+use Rattle.regex_lite_engine.specs.Walk.Machine.{Row, Thread}
 use Rattle.regex_lite_engine.specs.Walk.Outcomes.{IsNumberedEnd}
 use Rattle.regex_lite_engine.specs.Walk.Turns.{IsComing, EndsAt}
 use Rattle.regex_lite_engine.specs.Walk.Walking.{Node, Best, BestHolds, InStep}
@@ -84,7 +83,7 @@ module _ (table : List (Place ℕ)) (haystack : Text) where
     In_step p from recorded coming way =
         InStep table haystack start s (length haystack) p from recorded coming [] way
 
-    abbrev Coming : ℕ → Threads → Best → Type 0
+    abbrev Coming : ℕ → List Thread → Best → Type 0
     Coming = IsComing table haystack start s (length haystack)
 
     -- while there is no match
@@ -135,7 +134,7 @@ module _ (table : List (Place ℕ)) (haystack : Text) where
               let rest = leads_on ks (start, i) n along in omega (arith, le, same, rest)
 
     -- then each match ends at the position or later
-    ends_later : (p : ℕ) (threads : Threads) → Coming p threads None → (i q j : ℕ) (way : List ℕ)
+    ends_later : (p : ℕ) (threads : List Thread) → Coming p threads None → (i q j : ℕ) (way : List ℕ)
         → IsNumberedMatch table haystack start s i way q j → p ≤ j
     ends_later p threads u i q j way m =
         later_than_start p u.from u.recorded u.coming
@@ -143,7 +142,7 @@ module _ (table : List (Place ℕ)) (haystack : Text) where
         m.from m.inside u.from_is m.leads.is_way.0 m.leads.ends
 
     -- the best match is one
-    best_matches : (p : ℕ) (threads : Threads) (b : ℕ × ℕ × Row) → Coming p threads (Some b)
+    best_matches : (p : ℕ) (threads : List Thread) (b : ℕ × ℕ × Row) → Coming p threads (Some b)
         → (i : ℕ) × (q : ℕ) × (j : ℕ) × (way : List ℕ) × (b.1 ≡ offset haystack j)
         × IsNumberedMatch table haystack start s i way q j
     best_matches p threads b u = by_way u.best_holds
@@ -195,7 +194,7 @@ module _ (table : List (Place ℕ)) (haystack : Text) where
                 )
 
     -- at the first position with a match, or at the end of the haystack
-    pub shortest_known : (p at : ℕ) (threads threads' : Threads) (best best' : Best) → s ≤ p
+    pub shortest_known : (p at : ℕ) (threads threads' : List Thread) (best best' : Best) → s ≤ p
         → p ≤ length haystack → best ≡ None → at ≡ offset haystack p → EndsAt at best best'
         → ((p ≡ length haystack) ⊎ (best' ≡ None → ⊥)) → Coming p threads best
         → Coming (p + 1) threads' best' → IsNumberedEnd table haystack start s best'

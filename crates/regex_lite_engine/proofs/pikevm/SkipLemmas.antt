@@ -10,10 +10,10 @@ use Rattle.std.proofs.lemmas.Str.{encodes-chars, char_from_byte, byte_from_char}
 use Rattle.regex_lite_syntax.specs.Text.{Text, after}
 use Rattle.regex_lite_engine.specs.declared.nfa.starts.Starts.{Starts}
 use Rattle.regex_lite_engine.specs.declared.pikevm.here.Here.{Here}
-use Rattle.regex_lite_engine.specs.declared.pikevm.threads.Threads.{Threads}
 use Rattle.regex_lite_engine.specs.Graph.Places.{Place}
 use Rattle.regex_lite_engine.specs.Nfa.Starts.{begins_with, stops_at, may_begin, MayBegin}
 use Rattle.regex_lite_engine.specs.Search.Offsets.{offset}
+use Rattle.regex_lite_engine.specs.Walk.Machine.{Thread}
 use Rattle.regex_lite_engine.specs.Walk.Standing.{IsHere}
 use Rattle.regex_lite_engine.specs.Walk.Starts.{GoesOnAt, PassesTo}
 use Rattle.regex_lite_engine.specs.Walk.Turns.{IsComing}
@@ -235,14 +235,14 @@ passes_as Passed Other h p x each w = record {
 }
 
 -- where a search stands after the positions that it passes over
-pub record Onward (table : List (Place ℕ)) (h : Text) (s first last p : ℕ) (threads : Threads)
+pub record Onward (table : List (Place ℕ)) (h : Text) (s first last p : ℕ) (threads : List Thread)
     (best : Best) (x : Here) : Type 0 where
   pub q : ℕ
   pub later : p ≤ q
   pub is : IsHere h q x
   pub coming : IsComing table h s first last q threads best
 
-pub onward : (table : List (Place ℕ)) (h : Text) (s first last p : ℕ) (threads : Threads)
+pub onward : (table : List (Place ℕ)) (h : Text) (s first last p : ℕ) (threads : List Thread)
     (best : Best) (x : Here) → GoesOnAt table h s threads best p x
     → IsComing table h s first last p threads best → Onward table h s first last p threads best x
 onward table h s first last p threads best x (inl is) u =

@@ -5,13 +5,11 @@ use Rattle.std.proofs.lemmas.List.{nil_from_length}
 use Rattle.regex_lite_syntax.specs.Text.{Text}
 use Rattle.regex_lite_engine.specs.declared.pikevm.best.Best as code
 use Rattle.regex_lite_engine.specs.declared.pikevm.here.Here.{Here}
-use Rattle.regex_lite_engine.specs.declared.pikevm.stack.Stack.{Stack}
-use Rattle.regex_lite_engine.specs.declared.pikevm.threads.Threads.{Threads}
 use Rattle.regex_lite_engine.specs.Graph.Places.{Place, kept_back, reading_count}
 use Rattle.regex_lite_engine.specs.Graph.Renumbered.{arrow_count, arrows_of}
 use Rattle.regex_lite_engine.specs.Walk.Entering.{Pushed}
 use Rattle.regex_lite_engine.specs.Walk.InStep.{Offer}
-use Rattle.regex_lite_engine.specs.Walk.Machine.{Row, Thread, thread_at}
+use Rattle.regex_lite_engine.specs.Walk.Machine.{Row, Thread, thread_at, State}
 use Rattle.regex_lite_engine.specs.Walk.NumberedAnswer.{numbered_step, is_end}
 use Rattle.regex_lite_engine.specs.Search.Offsets.{offset}
 use Rattle.regex_lite_engine.specs.Walk.Standing.{IsHere}
@@ -21,28 +19,31 @@ use Rattle.regex_lite_engine.specs.Walk.Walking.{Node, Best, WayHolds, InStep}
 use Rattle.regex_lite_engine.proofs.pikevm.OptionLemmas.{not_there}
 use Rattle.regex_lite_engine.proofs.pikevm.PositionLemmas as deep
 use Rattle.regex_lite_engine.proofs.pikevm.RoomLemmas.{left_most, threads_pushed}
+use Rattle.regex_lite_engine.proofs.pikevm.ThreadLemmas.{pushed_len, pushed_last, pushed_kept}
 use Rattle.regex_lite_engine.proofs.pikevm.WalkLemmas.{held_same, held_more}
 
 pub sum_lone : (table : List (Place ℕ)) → sum_by lone table ≡ length table
 sum_lone [] = refl
 sum_lone (x ∷ table) = let more = sum_lone table in omega (arith, more, sum_by-cons lone x table)
 
-pub fit_first : (table : List (Place ℕ)) (rounds rounds' : List ℕ) (now now' width : ℕ) (slots : Row) (cur next : Threads) (stack : Stack) (best : code.Best) (tried entered looked : ℕ) →
-    IsReady table rounds now width cur next stack best tried entered looked → length slots ≡ width → rounds' ≡ rounds → now' ≡ now + 1 →
-    tried + arrows_of table < 2 ^ 127 → entered + length table < 2 ^ 127 → IsFit table rounds' now' slots [] (length stack.frames.items) next tried entered looked
-fit_first table rounds rounds' now now' width slots cur next stack best tried entered looked ready ew er en few fewe =
-    let a = left_most kept_back now' rounds' table in let b = left_most lone now' rounds' table in let c = left_most arrow_count now' rounds' table in let d = sum_lone table in
-    let g = left_most reading_count now' rounds' table in
-    let e = ready.stack_size in let z = ready.none_next in
+pub fit_first : (table : List (Place ℕ)) (memory memory' : State) (best : code.Best) (tried entered looked : ℕ) →
+    IsReady table memory best tried entered looked → memory' ≡ record memory { now = memory.now + 1; threads = memory'.threads } →
+    tried + arrows_of table < 2 ^ 127 → entered + length table < 2 ^ 127 → IsFit table memory'.rounds memory'.now memory'.row [] memory'.room memory'.next tried entered looked
+fit_first table memory memory' best tried entered looked ready em few fewe =
+    let rounds = memory'.rounds in let now = memory'.now in
+    let a = left_most kept_back now rounds table in let b = left_most lone now rounds table in let c = left_most arrow_count now rounds table in let d = sum_lone table in
+    let g = left_most reading_count now rounds table in
+    let e = ready.stack_room in let z : length memory'.next ≡ 0 = ap (λ (m : State). length m.next) em ∙ ap length ready.none_next in
+    let er : rounds ≡ memory.rounds = ap (λ (m : State). m.rounds) em in let en : now ≡ memory.now + 1 = ap (λ (m : State). m.now) em in
+    let cap = ready.cap in
     record {
-      width = ew ∙ sym ready.next_width;
       all_seen = ap length er ∙ ready.all_seen;
-      old_rounds = λ r. (let le = ready.old_rounds r in let same : slice_index rounds' r ≡ slice_index rounds r = ap (λ x. slice_index x r) er in omega (arith, le, same, en));
+      old_rounds = λ r. (let le = ready.old_rounds r in let same : slice_index rounds r ≡ slice_index memory.rounds r = ap (λ x. slice_index x r) er in omega (arith, le, same, en));
       frames_below = tt;
       threads_below = λ k lt. absurd (omega (arith, lt, z));
       stack_room = omega (arith, a, e);
       next_room = omega (arith, g, z);
-      next_cap = ready.next_cap;
+      next_cap = omega (arith, cap, ap (λ (m : State). m.room) em);
       few_tries = omega (arith, c, few, z);
       few_entries = omega (arith, b, d, fewe);
       entered_tried = ready.entered_tried;
@@ -54,7 +55,7 @@ module _ (table : List (Place ℕ)) (h : Text) (s first last : ℕ) where
   In_step p from recorded cur next way = InStep table h s first last p from recorded cur next way
 
   -- before the first position
-  pub none_coming : (cur : Threads) → cur.len ≡ 0 → IsComing table h s first last first cur None
+  pub none_coming : (cur : List Thread) → cur ≡ [] → IsComing table h s first last first cur None
   none_coming cur empty = record {
     recorded = λ n. None;
     coming = [];
@@ -63,13 +64,13 @@ module _ (table : List (Place ℕ)) (h : Text) (s first last : ℕ) where
     in_step = deep.in_step_none Node (numbered_step table h) (λ j. (s, j)) (is_end table h) first last (λ x. x.1) first (λ n. None) (λ n. refl);
     before = λ n v r. absurd (not_there r);
     hold = tt;
-    all = sym empty;
+    all = sym (ap length empty);
     best_holds = refl;
     from_is = refl;
   }
 
   -- positions at which no match can start are passed over while there is no thread
-  pub jumped : (p p' : ℕ) (cur : Threads) → cur.len ≡ 0 → p ≤ p' → ((i : ℕ) → p ≤ i → i < p' → IsDeadAt table h s i) →
+  pub jumped : (p p' : ℕ) (cur : List Thread) → cur ≡ [] → p ≤ p' → ((i : ℕ) → p ≤ i → i < p' → IsDeadAt table h s i) →
       IsComing table h s first last p cur None → IsComing table h s first last p' cur None
   jumped p p' cur empty more dead u = record {
     recorded = u.recorded;
@@ -81,16 +82,16 @@ module _ (table : List (Place ℕ)) (h : Text) (s first last : ℕ) where
         (subst (λ z. In_step p z u.recorded [] [] u.way) u.from_is (subst (λ z. In_step p u.from u.recorded z [] u.way) nothing u.in_step)));
     before = λ n v r. (let lt = u.before n v r in omega (arith, lt, more));
     hold = tt;
-    all = sym empty;
+    all = sym (ap length empty);
     best_holds = u.best_holds;
     from_is = refl;
   }
     where
       nothing : u.coming ≡ []
-      nothing = let all = u.all in nil_from_length u.coming (omega (arith, all, empty))
+      nothing = let all = u.all in nil_from_length u.coming (omega (arith, all, ap length empty))
 
   module _ (rounds rounds' : List ℕ) (now now' : ℕ) (old : (r : ℕ) → slice_index rounds r ≤ now) (er : rounds' ≡ rounds) (en : now' ≡ now + 1)
-      (cur cur' next : Threads) (empty : next.len ≡ 0) where
+      (cur cur' next : List Thread) (empty : next ≡ []) where
     not_met : (q : ℕ) → slice_index rounds' q ≡ now' → ⊥
     not_met q e = let le = old q in let same : slice_index rounds' q ≡ slice_index rounds q = ap (λ x. slice_index x q) er in omega (arith, le, same, en, e)
 
@@ -99,9 +100,9 @@ module _ (table : List (Place ℕ)) (h : Text) (s first last : ℕ) where
 
     -- without an own start
     begun_alone : (p from : ℕ) (best : Best) (u : IsComing table h s first last p cur best) → In_step p from u.recorded u.coming [] u.way → cur' ≡ cur →
-        Between table h s first last p from rounds' now' (thread_at cur') 0 cur'.len next best
+        Between table h s first last p from rounds' now' (thread_at cur') 0 (length cur') next best
     begun_alone p from best u state same =
-        subst (λ (z : Threads). Between table h s first last p from rounds' now' (thread_at z) 0 z.len next best) (sym same) (record {
+        subst (λ (z : List Thread). Between table h s first last p from rounds' now' (thread_at z) 0 (length z) next best) (sym same) (record {
           recorded = u.recorded;
           under = [];
           later = u.coming;
@@ -114,16 +115,16 @@ module _ (table : List (Place ℕ)) (h : Text) (s first last : ℕ) where
           later_hold = u.hold;
           later_all = (let all = u.all in omega (arith, all));
           coming_hold = tt;
-          coming_all = sym empty;
+          coming_all = sym (ap length empty);
           best_holds = u.best_holds;
         })
 
     -- with it
     begun_own : (p at : ℕ) (blank : Row) → IsBlank blank → at ≡ offset h p → first ≤ p → p ≤ last → Pushed cur cur' (s, at, blank) → IsComing table h s first last p cur None →
-        Between table h s first last p (suc p) rounds' now' (thread_at cur') 0 cur'.len next None
-    begun_own p at blank blanks is_at low high (more, at_end, kept) u =
-        let all = u.all in
-        let same : 0 + length u.coming ≡ cur.len = omega (arith, all) in
+        Between table h s first last p (suc p) rounds' now' (thread_at cur') 0 (length cur') next None
+    begun_own p at blank blanks is_at low high pushed u =
+        let all = u.all in let more = pushed_len cur cur' _ pushed in let at_end = pushed_last cur cur' _ pushed in let kept = pushed_kept cur cur' _ pushed in
+        let same : 0 + length u.coming ≡ length cur = omega (arith, all) in
         record {
           recorded = u.recorded;
           under = [];
@@ -142,7 +143,7 @@ module _ (table : List (Place ℕ)) (h : Text) (s first last : ℕ) where
               (subst (λ (t : Thread). WayHolds table h s t.1 t.2 (s, p) (p ∷ [])) (sym at_end) (start_held p at blank blanks is_at)));
           later_all = omega (arith, all, more, length-append u.coming (((s, p), p ∷ []) ∷ []));
           coming_hold = tt;
-          coming_all = sym empty;
+          coming_all = sym (ap length empty);
           best_holds = refl;
         }
       where
@@ -150,7 +151,7 @@ module _ (table : List (Place ℕ)) (h : Text) (s first last : ℕ) where
         node_of t = (t.0, p)
 
     -- the position is done
-    left_over : (p from n : ℕ) (f : ℕ → Thread) (rounds2 : List ℕ) (now2 : ℕ) (next2 : Threads) (best : Best) → FromIs (p + 1) from best →
+    left_over : (p from n : ℕ) (f : ℕ → Thread) (rounds2 : List ℕ) (now2 : ℕ) (next2 : List Thread) (best : Best) → FromIs (p + 1) from best →
         Between table h s first last p from rounds2 now2 f n n next2 best → IsComing table h s first last (p + 1) next2 best
     left_over p from n f rounds2 now2 next2 best is u =
         subst (λ z. IsComing table h s first last z next2 best) one_more (record {
@@ -178,19 +179,19 @@ module _ (table : List (Place ℕ)) (h : Text) (s first last : ℕ) where
     from_kept p from None None f kept = f
     from_kept p from (Some b) None f kept = let e : ◌≡◌ {A = Best} (Some b) None = kept refl in absurd (not_there (sym e))
 
-    pub turned : (here : Here) (p : ℕ) → IsHere h p here → (may : Bool) (best best' : Best) (rounds2 : List ℕ) (next2 : Threads) → first ≤ p → p ≤ last → (may ≡ false → IsDeadAt table h s p) → Begun s here.at may best cur cur' →
-        StepsTo table here now' (thread_at cur') cur'.len rounds' next best cur'.len rounds2 next2 best' → (best' ≡ None → best ≡ None) →
+    pub turned : (here : Here) (p : ℕ) → IsHere h p here → (may : Bool) (best best' : Best) (rounds2 : List ℕ) (next2 : List Thread) → first ≤ p → p ≤ last → (may ≡ false → IsDeadAt table h s p) → Begun s here.at may best cur cur' →
+        StepsTo table here now' (thread_at cur') (length cur') rounds' next best (length cur') rounds2 next2 best' → (best' ≡ None → best ≡ None) →
         IsComing table h s first last p cur best → IsComing table h s first last (p + 1) next2 best'
     turned here p is may best best' rounds2 next2 low high dead begun steps kept u = go best begun refl u
       where
         Goal : Type 0
         Goal = IsComing table h s first last (p + 1) next2 best'
 
-        on : (from : ℕ) → FromIs (p + 1) from best → Between table h s first last p from rounds' now' (thread_at cur') 0 cur'.len next best → Goal
-        on from fis w = left_over p from cur'.len (thread_at cur') rounds2 now' next2 best' (from_kept (p + 1) from best best' fis kept) (steps h p is s first last from w)
+        on : (from : ℕ) → FromIs (p + 1) from best → Between table h s first last p from rounds' now' (thread_at cur') 0 (length cur') next best → Goal
+        on from fis w = left_over p from (length cur') (thread_at cur') rounds2 now' next2 best' (from_kept (p + 1) from best best' fis kept) (steps h p is s first last from w)
 
-        on_none : (from : ℕ) → from ≡ suc p → best ≡ None → Between table h s first last p from rounds' now' (thread_at cur') 0 cur'.len next None → Goal
-        on_none from e none w = on from (subst (λ z. FromIs (p + 1) from z) (sym none) (omega (arith, e))) (subst (λ z. Between table h s first last p from rounds' now' (thread_at cur') 0 cur'.len next z) (sym none) w)
+        on_none : (from : ℕ) → from ≡ suc p → best ≡ None → Between table h s first last p from rounds' now' (thread_at cur') 0 (length cur') next None → Goal
+        on_none from e none w = on from (subst (λ z. FromIs (p + 1) from z) (sym none) (omega (arith, e))) (subst (λ z. Between table h s first last p from rounds' now' (thread_at cur') 0 (length cur') next z) (sym none) w)
 
         go : (b : Best) → Begun s here.at may b cur cur' → best ≡ b → IsComing table h s first last p cur b → Goal
         go None (inl (none, (blank, blanks, pushed))) e u = on_none (suc p) refl e (begun_own p here.at blank blanks is.bytes low high pushed u)
@@ -201,12 +202,12 @@ module _ (table : List (Place ℕ)) (h : Text) (s first last : ℕ) where
             (subst (λ z. In_step p z u.recorded u.coming [] u.way) u.from_is u.in_step)) same)
         go (Some b) (inl (none, pushed)) e u = absurd (not_there (sym none))
         go (Some b) (inr (why, same)) e u = on u.from (subst (λ z. FromIs (p + 1) u.from z) (sym e) tt)
-            (subst (λ z. Between table h s first last p u.from rounds' now' (thread_at cur') 0 cur'.len next z) (sym e) (begun_alone p u.from (Some b) u u.in_step same))
+            (subst (λ z. Between table h s first last p u.from rounds' now' (thread_at cur') 0 (length cur') next z) (sym e) (begun_alone p u.from (Some b) u u.in_step same))
 
-pub begun_len : (best : Best) (s at : ℕ) (may : Bool) (cur cur' : Threads) → Begun s at may best cur cur' → cur'.len ≤ cur.len + 1
-begun_len best s at may cur cur' (inl (none, (blank, blanks, pushed))) = let e = pushed.0 in omega (arith, e)
-begun_len best s at may cur cur' (inr (some, same)) = let e : cur'.len ≡ cur.len = ap (λ (t : Threads). t.len) same in omega (arith, e)
+pub begun_len : (best : Best) (s at : ℕ) (may : Bool) (cur cur' : List Thread) → Begun s at may best cur cur' → (length cur') ≤ length cur + 1
+begun_len best s at may cur cur' (inl (none, (blank, blanks, pushed))) = let e = (pushed_len cur cur' _ pushed) in omega (arith, e)
+begun_len best s at may cur cur' (inr (some, same)) = let e : (length cur') ≡ length cur = ap (λ (t : List Thread). length t) same in omega (arith, e)
 
-pub begun_below : (c : ℕ) (best : Best) (s at : ℕ) (may : Bool) (cur cur' : Threads) → s < c → ThreadsBelow c cur → Begun s at may best cur cur' → ThreadsBelow c cur'
+pub begun_below : (c : ℕ) (best : Best) (s at : ℕ) (may : Bool) (cur cur' : List Thread) → s < c → ThreadsBelow c cur → Begun s at may best cur cur' → ThreadsBelow c cur'
 begun_below c best s at may cur cur' inside below (inl (none, (blank, blanks, pushed))) = threads_pushed c s at blank cur cur' inside pushed below
-begun_below c best s at may cur cur' inside below (inr (some, same)) = subst (λ (t : Threads). ThreadsBelow c t) (sym same) below
+begun_below c best s at may cur cur' inside below (inr (some, same)) = subst (λ (t : List Thread). ThreadsBelow c t) (sym same) below

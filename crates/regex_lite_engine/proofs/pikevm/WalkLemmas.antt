@@ -4,13 +4,11 @@ use Rattle.std.proofs.lemmas.Option.{slice_get_past}
 use Rattle.std.proofs.lemmas.List.{get_or-set_same, get_or-set_other}
 use Rattle.std.proofs.lemmas.Bool.{cases_eq}
 use Rattle.regex_lite_syntax.specs.Text.{Text}
-use Rattle.regex_lite_engine.specs.declared.pikevm.stack.Frame.{Frame}
-use Rattle.regex_lite_engine.specs.declared.pikevm.stack.Frame.TheVariants.{Explore, Restore}
 use Rattle.regex_lite_engine.specs.Graph.Places.{Place, complete, with_arrows, arrow_taken, step_from}
 use Rattle.regex_lite_engine.specs.Graph.Renumbered.{arrow_count}
 use Rattle.regex_lite_engine.specs.Search.Marks.{Marks, marked, over, mark_of, marks_along}
 use Rattle.regex_lite_engine.specs.Walk.InStep.{Offer}
-use Rattle.regex_lite_engine.specs.Walk.Machine.{Row, Thread}
+use Rattle.regex_lite_engine.specs.Walk.Machine.{Row, Frame, explore, restore, Thread}
 use Rattle.regex_lite_engine.specs.Walk.NumberedAnswer.{place_with, is_complete, numbered_step, is_end}
 use Rattle.regex_lite_engine.specs.Search.Offsets.{offset, HasSlots}
 use Rattle.regex_lite_engine.specs.Walk.Walking.{Node, WayHolds, FramesHold, ThreadsHold, InStep, Best, IsWalking}
@@ -102,7 +100,7 @@ module _ (table : List (Place ℕ)) (h : Text) where
       In_step = InStep table h s first last p from
 
       pub walk_restored : (rounds : List ℕ) (row : Row) (slot : ℕ) (old : Option ℕ) (frames : List Frame) →
-          State rounds row (Restore slot old ∷ frames) → State rounds (slice_set row slot old) frames
+          State rounds row (restore slot old ∷ frames) → State rounds (slice_set row slot old) frames
       walk_restored rounds row slot old frames u = record {
         recorded = u.recorded;
         under = u.under;
@@ -121,7 +119,7 @@ module _ (table : List (Place ℕ)) (h : Text) where
       }
 
       pub walk_seen : (rounds : List ℕ) (row : Row) (q : ℕ) (frames : List Frame) → q < length rounds → slice_index rounds q ≡ now →
-          State rounds row (Explore q ∷ frames) → State rounds row frames
+          State rounds row (explore q ∷ frames) → State rounds row frames
       walk_seen rounds row q frames short was u = go u.frames_hold (u.met q short was)
         where
           go : (w : List ℕ) × (rest : List (Offer Node)) × (u.under ≡ ((q, p), w) ∷ rest) × WayHolds table h s i row (q, p) w × FramesHold table h s p i row frames rest →
@@ -145,7 +143,7 @@ module _ (table : List (Place ℕ)) (h : Text) where
           }
 
       -- what the search keeps of an entered place
-      module _ (rounds : List ℕ) (row : Row) (q : ℕ) (frames : List Frame) (u : State rounds row (Explore q ∷ frames))
+      module _ (rounds : List ℕ) (row : Row) (q : ℕ) (frames : List Frame) (u : State rounds row (explore q ∷ frames))
           (short : q < length rounds) (new : slice_index rounds q ≡ now → ⊥) where
         fresh : u.recorded (q, p) ≡ None
         fresh = none_or (u.recorded (q, p)) (λ v e. new (u.seen q v e))

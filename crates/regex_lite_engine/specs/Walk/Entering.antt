@@ -1,26 +1,20 @@
 -- What entering a place does: to the row of slots, to the frames, and to the threads of the next
 -- position.
-use Rattle.std.specs.Prelude.{◌≡◌, ◌+◌, ◌≤◌, ◌<◌, ◌⊎◌, ℕ, Bool, true, false, List, ◌∷◌, ◌++◌, length, map, Option, Some, None, slice_set, slice_index_or, if◌then◌else◌}
+use Rattle.std.specs.Prelude.{◌≡◌, ◌≤◌, ◌<◌, ◌⊎◌, ℕ, Bool, true, false, List, [], ◌∷◌, ◌++◌, length, map, Option, Some, None, slice_set, slice_index_or, if◌then◌else◌}
 use Rattle.regex_lite_syntax.specs.Ranges.{in_ranges}
 use Rattle.regex_lite_syntax.specs.Sets.{Set, just}
 use Rattle.regex_lite_syntax.specs.Tree.Looks.{holds_between}
 use Rattle.regex_lite_engine.specs.declared.nfa.place.Place.{Place}
 use Rattle.regex_lite_engine.specs.declared.nfa.place.Place.TheVariants as stored
 use Rattle.regex_lite_engine.specs.declared.pikevm.here.Here.{Here}
-use Rattle.regex_lite_engine.specs.declared.pikevm.stack.Frame.{Frame}
-use Rattle.regex_lite_engine.specs.declared.pikevm.stack.Frame.TheVariants.{Explore, Restore}
-use Rattle.regex_lite_engine.specs.declared.pikevm.threads.Threads.{Threads}
-use Rattle.regex_lite_engine.specs.Walk.Machine.{Row, Thread, thread_at}
+use Rattle.regex_lite_engine.specs.Walk.Machine.{Row, Frame, explore, restore, Thread}
 
 -- there is one more thread
-abbrev pub Pushed : (before after : Threads) → Thread → Type 0
-Pushed before after thread =
-    (after.len ≡ before.len + 1) × (thread_at after before.len ≡ thread)
-    × ((k : ℕ) → k < before.len → thread_at after k ≡ thread_at before k)
+abbrev pub Pushed : (before after : List Thread) → Thread → Type 0
+Pushed before after thread = after ≡ before ++ thread ∷ []
 
-abbrev pub Same : (before after : Threads) → Type 0
-Same before after =
-    (after.len ≡ before.len) × ((k : ℕ) → thread_at after k ≡ thread_at before k)
+abbrev pub Same : (before after : List Thread) → Type 0
+Same before after = after ≡ before
 
 -- the next character is one of the set
 abbrev pub reads : Set → Option ℕ → Bool
@@ -28,7 +22,7 @@ reads set None = false
 reads set (Some c) = set c
 
 -- where it is read, the search goes on with this thread at the next position
-abbrev pub ReadsOn : Bool → (before after : Threads) → Thread → Type 0
+abbrev pub ReadsOn : Bool → (before after : List Thread) → Thread → Type 0
 ReadsOn true before after thread = Pushed before after thread
 ReadsOn false before after thread = Same before after
 
@@ -36,15 +30,15 @@ ReadsOn false before after thread = Same before after
 abbrev pub SlotMarked : (at slot to : ℕ) → Row → List Frame → Row → List Frame → Type 0
 SlotMarked at slot to row frames row' frames' =
     ((slot < length row) × (row' ≡ slice_set row slot (Some at))
-    × (frames' ≡ Explore to ∷ (Restore slot (slice_index_or row slot None) ∷ frames)))
-    ⊎ ((length row ≤ slot) × (row' ≡ row) × (frames' ≡ Explore to ∷ frames))
+    × (frames' ≡ explore to ∷ (restore slot (slice_index_or row slot None) ∷ frames)))
+    ⊎ ((length row ≤ slot) × (row' ≡ row) × (frames' ≡ explore to ∷ frames))
 
 module _ (here : Here) (i : ℕ) where
   -- the way to the place started at the offset i; `done` tells that a match is complete there
-  abbrev pub Enters : Place → Row → List Frame → Threads → Row → List Frame → Threads
+  abbrev pub Enters : Place → Row → List Frame → List Thread → Row → List Frame → List Thread
       → (done : Bool) → Type 0
   Enters (stored.Empty to) row frames next row' frames' next' done =
-      (row' ≡ row) × (frames' ≡ Explore to ∷ frames) × Same next next' × (done ≡ false)
+      (row' ≡ row) × (frames' ≡ explore to ∷ frames) × Same next next' × (done ≡ false)
   Enters (stored.Char c to) row frames next row' frames' next' done =
       (row' ≡ row) × (frames' ≡ frames)
       × ReadsOn (reads (just c) here.after) next next' (to, i, row) × (done ≡ false)
@@ -53,16 +47,16 @@ module _ (here : Here) (i : ℕ) where
       × ReadsOn (reads (in_ranges set) here.after) next next' (to, i, row) × (done ≡ false)
   Enters (stored.Look test to) row frames next row' frames' next' done =
       (row' ≡ row)
-      × (frames' ≡ (if holds_between test here.before here.after then Explore to ∷ frames
+      × (frames' ≡ (if holds_between test here.before here.after then explore to ∷ frames
       else frames))
       × Same next next' × (done ≡ false)
   Enters (stored.Slot slot to) row frames next row' frames' next' done =
       SlotMarked here.at slot to row frames row' frames' × Same next next' × (done ≡ false)
   Enters (stored.Choice first second) row frames next row' frames' next' done =
-      (row' ≡ row) × (frames' ≡ Explore first ∷ (Explore second ∷ frames)) × Same next next'
+      (row' ≡ row) × (frames' ≡ explore first ∷ (explore second ∷ frames)) × Same next next'
       × (done ≡ false)
   Enters (stored.Branches entries) row frames next row' frames' next' done =
-      (row' ≡ row) × (frames' ≡ map Explore entries.items ++ frames) × Same next next'
+      (row' ≡ row) × (frames' ≡ map explore entries.items ++ frames) × Same next next'
       × (done ≡ false)
   Enters stored.Match row frames next row' frames' next' done =
       (row' ≡ row) × (frames' ≡ frames) × Same next next' × (done ≡ true)

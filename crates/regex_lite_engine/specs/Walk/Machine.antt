@@ -1,28 +1,34 @@
--- What the working memory of a search stands for.
-use Rattle.std.specs.Prelude.{ℕ, ◌*◌, List, drop, take, Option, slice_index}
-use Rattle.regex_lite_engine.specs.declared.pikevm.stack.Stack.{Stack}
-use Rattle.regex_lite_engine.specs.declared.pikevm.stack.Frame.{Frame}
-use Rattle.regex_lite_engine.specs.declared.pikevm.threads.Threads.{Threads}
-
--- the frames in the order in which they come off
-abbrev pub frames_of : Stack → List Frame
-frames_of stack = drop stack.top stack.frames.items
+-- What a search keeps while it goes over one position.
+use Rattle.std.specs.Prelude.{ℕ, List, [], Option, slice_index_or}
 
 -- the offset that each slot holds
 abbrev pub Row : Type 0
 Row = List (Option ℕ)
 
--- row k of rows of one width that lie one behind the other
-abbrev pub row_at : (rows : Row) → (width k : ℕ) → Row
-row_at rows width k = take width (drop (k * width) rows)
+-- What is left to do: to explore a place, or to let a slot hold again what it held
+pub data Frame : Type 0 where
+  explore : (place : ℕ) → Frame
+  restore : (slot : ℕ) → (old : Option ℕ) → Frame
 
 -- a place, the offset where its way began, and a row
 abbrev pub Thread : Type 0
 Thread = ℕ × ℕ × Row
 
-abbrev pub thread_at : Threads → ℕ → Thread
-thread_at threads k = (
-  slice_index threads.places.items k,
-  slice_index threads.starts.items k,
-  row_at threads.rows.items threads.width k,
-)
+-- the thread with this number
+abbrev pub thread_at : List Thread → ℕ → Thread
+thread_at threads k = slice_index_or threads k (0, 0, [])
+
+-- what the working memory of a search stands for
+pub record State : Type 0 where
+  -- the round in which each place was entered last, and this round
+  pub rounds : List ℕ
+  pub now : ℕ
+  -- what is left to do, in that order
+  pub frames : List Frame
+  -- the row of the way that is followed
+  pub row : Row
+  -- the threads of this position, and those of the next
+  pub threads : List Thread
+  pub next : List Thread
+  -- how many threads there may be in each list
+  pub room : ℕ

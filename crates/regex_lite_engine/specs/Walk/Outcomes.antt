@@ -1,5 +1,5 @@
 -- What a search over a table of numbered places answers, by offsets.
-use Rattle.std.specs.Prelude.{◌≡◌, ◌+◌, ◌*◌, ◌^◌, ◌<◌, ℕ, List, Option, length, Some, None}
+use Rattle.std.specs.Prelude.{◌≡◌, ◌+◌, ◌*◌, ◌^◌, ◌<◌, ℕ, List, [], Option, length, Some, None}
 use Rattle.regex_lite_syntax.specs.Text.{Text}
 use Rattle.regex_lite_engine.specs.declared.pikevm.search.Outcome.{Outcome}
 use Rattle.regex_lite_engine.specs.declared.pikevm.turn.Cache.{Cache}
@@ -36,8 +36,8 @@ IsNumberedEnd table haystack start s (Some best) =
 pub record IsFresh (table : List (Place ℕ)) (cache : Cache) : Type 0 where
   pub between : IsBetween table cache
   pub none : best_of cache.best ≡ None
-  pub no_threads : cache.threads.len ≡ 0
-  pub no_rounds : cache.walk.seen.now ≡ 0
+  pub no_threads : cache.walk.memory.threads ≡ []
+  pub no_rounds : cache.walk.memory.now ≡ 0
   pub no_tries : cache.walk.steps.tried ≡ 0
   pub no_entries : cache.walk.steps.entered ≡ 0
 

@@ -14,18 +14,18 @@ module _ (table : List (Place ℕ)) (haystack : Text) (start s : ℕ) where
   pub record IsUnderWay (p : ℕ) (cache : Cache) : Type 0 where
     pub low : s ≤ p
     pub ready : IsBetween table cache
-    pub coming : IsComing table haystack start s (length haystack) p cache.threads
+    pub coming : IsComing table haystack start s (length haystack) p cache.walk.memory.threads
         (best_of cache.best)
-    pub tries : cache.walk.steps.tried + cache.threads.len ≤ (arrows_of table + 1) * (p - s)
+    pub tries : cache.walk.steps.tried + length cache.walk.memory.threads ≤ (arrows_of table + 1) * (p - s)
     pub entries : cache.walk.steps.entered ≤ length table * (p - s)
-    pub rounds : cache.walk.seen.now ≤ p - s
+    pub rounds : cache.walk.memory.now ≤ p - s
 
   -- it has gone over a position that is not before p
   pub record Passes (p : ℕ) (cache cache' : Cache) (here : Here) : Type 0 where
     pub q : ℕ
     pub later : p ≤ q
     pub is : IsHere haystack q here
-    pub before : IsComing table haystack start s (length haystack) q cache.threads
+    pub before : IsComing table haystack start s (length haystack) q cache.walk.memory.threads
         (best_of cache.best)
     pub ends : EndsAt here.at (best_of cache.best) (best_of cache'.best)
     pub after : IsUnderWay (q + 1) cache'

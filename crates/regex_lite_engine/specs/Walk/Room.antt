@@ -3,13 +3,10 @@
 use Rattle.std.specs.Prelude.{◌≡◌, ◌+◌, ◌^◌, ◌≤◌, ◌<◌, ◌==◌, ℕ, Bool, true, false, List, [], ◌∷◌, length, Some, slice_index, if◌then◌else◌}
 use Rattle.regex_lite_syntax.specs.Text.{Text}
 use Rattle.regex_lite_engine.specs.declared.pikevm.here.Here.{Here}
-use Rattle.regex_lite_engine.specs.declared.pikevm.stack.Frame.{Frame}
-use Rattle.regex_lite_engine.specs.declared.pikevm.stack.Frame.TheVariants.{Explore, Restore}
-use Rattle.regex_lite_engine.specs.declared.pikevm.threads.Threads.{Threads}
 use Rattle.regex_lite_engine.specs.declared.pikevm.walk.Walk.{Walk}
 use Rattle.regex_lite_engine.specs.Graph.Places.{Place, kept_back, reading_count, reading_of}
 use Rattle.regex_lite_engine.specs.Graph.Renumbered.{arrow_count}
-use Rattle.regex_lite_engine.specs.Walk.Machine.{Row, Thread, thread_at}
+use Rattle.regex_lite_engine.specs.Walk.Machine.{Row, Frame, explore, restore, Thread, thread_at, State}
 use Rattle.regex_lite_engine.specs.Walk.Standing.{IsHere}
 use Rattle.regex_lite_engine.specs.Walk.Walking.{Best, IsWalking}
 
@@ -29,23 +26,23 @@ weight place = arrow_count place + 1
 
 abbrev pub explores : List Frame → ℕ
 explores [] = 0
-explores (Explore q ∷ frames) = explores frames + 1
-explores (Restore slot old ∷ frames) = explores frames
+explores (explore q ∷ frames) = explores frames + 1
+explores (restore slot old ∷ frames) = explores frames
 
 abbrev pub FramesBelow : (places width : ℕ) → List Frame → Type 0
 FramesBelow places width [] = Unit {0}
-FramesBelow places width (Explore q ∷ frames) = (q < places) × FramesBelow places width frames
-FramesBelow places width (Restore slot old ∷ frames) =
+FramesBelow places width (explore q ∷ frames) = (q < places) × FramesBelow places width frames
+FramesBelow places width (restore slot old ∷ frames) =
     (slot < width) × FramesBelow places width frames
 
-abbrev pub ThreadsBelow : (places : ℕ) → Threads → Type 0
-ThreadsBelow places threads = (k : ℕ) → k < threads.len → (thread_at threads k).0 < places
+abbrev pub ThreadsBelow : (places : ℕ) → List Thread → Type 0
+ThreadsBelow places threads = (k : ℕ) → k < length threads → (thread_at threads k).0 < places
 
 module _ (table : List (Place ℕ)) where
   -- how often the search has come to a place, or may still come to one from what is left
-  abbrev pub due_tries : (rounds : List ℕ) → (now : ℕ) → List Frame → Threads → (tried : ℕ) → ℕ
+  abbrev pub due_tries : (rounds : List ℕ) → (now : ℕ) → List Frame → List Thread → (tried : ℕ) → ℕ
   due_tries rounds now frames next tried =
-      tried + (explores frames + (next.len + left_of arrow_count now rounds table))
+      tried + (explores frames + (length next + left_of arrow_count now rounds table))
 
   abbrev pub due_entries : (rounds : List ℕ) → (now entered : ℕ) → ℕ
   due_entries rounds now entered = entered + left_of lone now rounds table
@@ -54,38 +51,37 @@ module _ (table : List (Place ℕ)) where
   abbrev pub work : (rounds : List ℕ) → (now : ℕ) → List Frame → ℕ
   work rounds now frames = length frames + left_of weight now rounds table
 
-  pub record IsFit (rounds : List ℕ) (now : ℕ) (row : Row) (frames : List Frame) (size : ℕ)
-      (next : Threads) (tried entered looked : ℕ) : Type 0 where
-    pub width : length row ≡ next.width
+  pub record IsFit (rounds : List ℕ) (now : ℕ) (row : Row) (frames : List Frame) (room : ℕ)
+      (next : List Thread) (tried entered looked : ℕ) : Type 0 where
     pub all_seen : length rounds ≡ length table
     pub old_rounds : (q : ℕ) → slice_index rounds q ≤ now
     pub frames_below : FramesBelow (length table) (length row) frames
     pub threads_below : ThreadsBelow (length table) next
-    pub stack_room : length frames + left_of kept_back now rounds table ≤ size
-    pub next_room : next.len + left_of reading_count now rounds table ≤ reading_of table
-    pub next_cap : reading_of table < length next.places.items
+    pub stack_room : length frames + left_of kept_back now rounds table ≤ length table
+    pub next_room : length next + left_of reading_count now rounds table ≤ reading_of table
+    pub next_cap : reading_of table < room
     pub few_tries : due_tries rounds now frames next tried < 2 ^ 127
     pub few_entries : due_entries rounds now entered < 2 ^ 127
     pub entered_tried : entered ≤ tried
     pub looked_entered : looked ≤ entered
 
   -- from one state of a walk to a later one, in whatever haystack it stands there
-  abbrev pub WalksTo : Here → (i now : ℕ) → (rounds : List ℕ) → Row → List Frame → Threads
-      → (rounds' : List ℕ) → Row → List Frame → Threads → (done : Bool) → Type 0
+  abbrev pub WalksTo : Here → (i now : ℕ) → (rounds : List ℕ) → Row → List Frame → List Thread
+      → (rounds' : List ℕ) → Row → List Frame → List Thread → (done : Bool) → Type 0
   WalksTo here i now rounds row frames next rounds' row' frames' next' done =
       (haystack : Text) (p : ℕ) → IsHere haystack p here
       → (s first last from : ℕ) (threads : ℕ → Thread) (k n : ℕ) (best : Best)
       → IsWalking table haystack s first last p from rounds now i row frames threads k n
-      (thread_at next) next.len best
+      (thread_at next) (length next) best
       → IsWalking table haystack s first last p from rounds' now i row' frames' threads
-      (if done then n else k) n (thread_at next') next'.len
+      (if done then n else k) n (thread_at next') (length next')
       (if done then Some (i, here.at, row') else best)
 
   -- a frame was taken off, or all of them where a match is complete
   pub record Went (here : Here) (i now : ℕ) (rounds : List ℕ) (row : Row) (frames : List Frame)
-      (next : Threads) (tried entered : ℕ) (rounds' : List ℕ) (row' : Row) (frames' : List Frame)
-      (size : ℕ) (next' : Threads) (tried' entered' looked' : ℕ) (done : Bool) : Type 0 where
-    pub fit : IsFit rounds' now row' frames' size next' tried' entered' looked'
+      (next : List Thread) (tried entered : ℕ) (rounds' : List ℕ) (row' : Row) (frames' : List Frame)
+      (room : ℕ) (next' : List Thread) (tried' entered' looked' : ℕ) (done : Bool) : Type 0 where
+    pub fit : IsFit rounds' now row' frames' room next' tried' entered' looked'
     pub walks : WalksTo here i now rounds row frames next rounds' row' frames' next' done
     pub less : done ≡ false → work rounds' now frames' < work rounds now frames
     pub cleared : done ≡ true → frames' ≡ []
@@ -97,31 +93,32 @@ module _ (table : List (Place ℕ)) where
 
   abbrev pub HasRoom : Walk → List Frame → Type 0
   HasRoom walk frames =
-      IsFit walk.seen.rounds.items walk.seen.now walk.slots.items frames
-      (length walk.stack.frames.items) walk.next walk.steps.tried walk.steps.entered
-      walk.steps.looked
+      IsFit walk.memory.rounds walk.memory.now walk.memory.row frames walk.memory.room
+      walk.memory.next walk.steps.tried walk.steps.entered walk.steps.looked
 
   abbrev pub TakesFrame : Here → (i : ℕ) → Walk → List Frame → Walk → List Frame → (done : Bool)
       → Type 0
   TakesFrame here i walk frames walk' frames' done =
-      Went here i walk.seen.now walk.seen.rounds.items walk.slots.items frames walk.next
-      walk.steps.tried walk.steps.entered walk'.seen.rounds.items walk'.slots.items frames'
-      (length walk'.stack.frames.items) walk'.next walk'.steps.tried walk'.steps.entered walk'.steps.looked done
+      Went here i walk.memory.now walk.memory.rounds walk.memory.row frames walk.memory.next
+      walk.steps.tried walk.steps.entered walk'.memory.rounds walk'.memory.row frames'
+      walk'.memory.room walk'.memory.next walk'.steps.tried walk'.steps.entered
+      walk'.steps.looked done
 
   -- all frames were taken off
   pub record Explores (here : Here) (i : ℕ) (walk walk' : Walk) (frames : List Frame)
       (done : Bool) : Type 0 where
-    pub walks : WalksTo here i walk.seen.now walk.seen.rounds.items walk.slots.items frames
-        walk.next walk'.seen.rounds.items walk'.slots.items [] walk'.next done
+    pub walks : WalksTo here i walk.memory.now walk.memory.rounds walk.memory.row frames
+        walk.memory.next walk'.memory.rounds walk'.memory.row [] walk'.memory.next done
     pub spent :
-        due_tries walk'.seen.rounds.items walk.seen.now [] walk'.next walk'.steps.tried
-        ≤ due_tries walk.seen.rounds.items walk.seen.now frames walk.next walk.steps.tried
+        due_tries walk'.memory.rounds walk.memory.now [] walk'.memory.next walk'.steps.tried
+        ≤ due_tries walk.memory.rounds walk.memory.now frames walk.memory.next walk.steps.tried
     pub spent_entries :
-        due_entries walk'.seen.rounds.items walk.seen.now walk'.steps.entered
-        ≤ due_entries walk.seen.rounds.items walk.seen.now walk.steps.entered
+        due_entries walk'.memory.rounds walk.memory.now walk'.steps.entered
+        ≤ due_entries walk.memory.rounds walk.memory.now walk.steps.entered
 
--- the round, and the sizes of what a walk works in
-pub record IsSameMemory (walk walk' : Walk) : Type 0 where
-  pub round : walk'.seen.now ≡ walk.seen.now
-  pub stack : length walk'.stack.frames.items ≡ length walk.stack.frames.items
-  pub slots : length walk'.slots.items ≡ length walk.slots.items
+-- what a walk over the position leaves as it is
+pub record KeepsPosition (memory memory' : State) : Type 0 where
+  pub round : memory'.now ≡ memory.now
+  pub threads : memory'.threads ≡ memory.threads
+  pub room : memory'.room ≡ memory.room
+  pub row : length memory'.row ≡ length memory.row

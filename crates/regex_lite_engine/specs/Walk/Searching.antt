@@ -3,48 +3,43 @@ use Rattle.std.specs.Prelude.{◌≡◌, ◌+◌, ◌^◌, ◌≤◌, ◌<◌, �
 use Rattle.regex_lite_engine.specs.declared.pikevm.here.Here.{Here}
 use Rattle.regex_lite_engine.specs.declared.pikevm.turn.Cache.{Cache}
 use Rattle.regex_lite_engine.specs.Graph.Places.{Place, kept_back_of}
-use Rattle.regex_lite_engine.specs.Walk.Machine.{frames_of, thread_at}
-use Rattle.regex_lite_engine.specs.Walk.Room.{ThreadsBelow, due_tries, due_entries}
+use Rattle.regex_lite_engine.specs.Walk.Machine.{thread_at}
+use Rattle.regex_lite_engine.specs.Walk.Room.{KeepsPosition, ThreadsBelow, due_tries, due_entries}
 use Rattle.regex_lite_engine.specs.Walk.Turns.{best_of, StepsTo, IsReady}
 
 module _ (table : List (Place ℕ)) where
   -- between two positions
   abbrev pub IsBetween : Cache → Type 0
   IsBetween cache =
-      IsReady table cache.walk.seen.rounds.items cache.walk.seen.now
-      (length cache.walk.slots.items) cache.threads cache.walk.next cache.walk.stack cache.best
-      cache.walk.steps.tried cache.walk.steps.entered cache.walk.steps.looked
+      IsReady table cache.walk.memory cache.best cache.walk.steps.tried cache.walk.steps.entered
+      cache.walk.steps.looked
 
   -- before the threads of a position are followed
   pub record IsPlaced (cache : Cache) : Type 0 where
-    pub stack_empty : frames_of cache.walk.stack ≡ []
-    pub stack_size : kept_back_of table < length cache.walk.stack.frames.items
-    pub below : ThreadsBelow (length table) cache.threads
-    pub width : cache.threads.width ≡ length cache.walk.slots.items
-    pub best_width : length cache.best.row.items ≡ length cache.walk.slots.items
+    pub stack_empty : cache.walk.memory.frames ≡ []
+    pub stack_room : kept_back_of table < length table
+    pub below : ThreadsBelow (length table) cache.walk.memory.threads
+    pub best_width : length cache.best.row.items ≡ length cache.walk.memory.row
     pub budget :
-        due_tries table cache.walk.seen.rounds.items cache.walk.seen.now [] cache.walk.next
-        cache.walk.steps.tried + cache.threads.len < 2 ^ 127
+        due_tries table cache.walk.memory.rounds cache.walk.memory.now [] cache.walk.memory.next
+        cache.walk.steps.tried + length cache.walk.memory.threads < 2 ^ 127
 
   -- the threads of the position were followed
   pub record Follows (here : Here) (cache cache' : Cache) : Type 0 where
-    pub steps : StepsTo table here cache.walk.seen.now (thread_at cache.threads) cache.threads.len
-        cache.walk.seen.rounds.items cache.walk.next (best_of cache.best) cache.threads.len
-        cache'.walk.seen.rounds.items cache'.walk.next (best_of cache'.best)
+    pub steps : StepsTo table here cache.walk.memory.now (thread_at cache.walk.memory.threads)
+        (length cache.walk.memory.threads) cache.walk.memory.rounds cache.walk.memory.next
+        (best_of cache.best) (length cache.walk.memory.threads) cache'.walk.memory.rounds
+        cache'.walk.memory.next (best_of cache'.best)
     pub spent :
-        due_tries table cache'.walk.seen.rounds.items cache.walk.seen.now [] cache'.walk.next
+        due_tries table cache'.walk.memory.rounds cache.walk.memory.now [] cache'.walk.memory.next
         cache'.walk.steps.tried
-        ≤ due_tries table cache.walk.seen.rounds.items cache.walk.seen.now [] cache.walk.next
-        cache.walk.steps.tried + cache.threads.len
+        ≤ due_tries table cache.walk.memory.rounds cache.walk.memory.now [] cache.walk.memory.next
+        cache.walk.steps.tried + length cache.walk.memory.threads
     pub spent_entries :
-        due_entries table cache'.walk.seen.rounds.items cache.walk.seen.now
+        due_entries table cache'.walk.memory.rounds cache.walk.memory.now
         cache'.walk.steps.entered
-        ≤ due_entries table cache.walk.seen.rounds.items cache.walk.seen.now
+        ≤ due_entries table cache.walk.memory.rounds cache.walk.memory.now
         cache.walk.steps.entered
-    pub stack_empty : frames_of cache'.walk.stack ≡ []
-    pub stack_size :
-        length cache'.walk.stack.frames.items ≡ length cache.walk.stack.frames.items
-    pub round : cache'.walk.seen.now ≡ cache.walk.seen.now
-    pub slots : length cache'.walk.slots.items ≡ length cache.walk.slots.items
+    pub stack_empty : cache'.walk.memory.frames ≡ []
+    pub kept : KeepsPosition cache.walk.memory cache'.walk.memory
     pub best_width : length cache'.best.row.items ≡ length cache.best.row.items
-    pub threads : cache'.threads ≡ cache.threads

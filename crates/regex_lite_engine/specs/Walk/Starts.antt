@@ -1,11 +1,11 @@
 -- Where a match can begin in a graph, and the positions that a search passes over.
-use Rattle.std.specs.Prelude.{◌≡◌, ◌≤◌, ◌<◌, ◌⊎◌, ℕ, List, None}
+use Rattle.std.specs.Prelude.{◌≡◌, ◌≤◌, ◌<◌, ◌⊎◌, ℕ, List, [], None}
 use Rattle.regex_lite_syntax.specs.Text.{Text}
 use Rattle.regex_lite_engine.specs.declared.nfa.starts.Starts.{Starts}
 use Rattle.regex_lite_engine.specs.declared.pikevm.here.Here.{Here}
-use Rattle.regex_lite_engine.specs.declared.pikevm.threads.Threads.{Threads}
 use Rattle.regex_lite_engine.specs.Graph.Places.{Place}
 use Rattle.regex_lite_engine.specs.Nfa.Starts.{MayBegin}
+use Rattle.regex_lite_engine.specs.Walk.Machine.{Thread}
 use Rattle.regex_lite_engine.specs.Walk.Standing.{IsHere}
 use Rattle.regex_lite_engine.specs.Walk.Turns.{IsDeadAt}
 use Rattle.regex_lite_engine.specs.Walk.Walking.{Best}
@@ -25,9 +25,9 @@ pub record PassesTo (Passed : ℕ → Type 0) (haystack : Text) (p : ℕ) (here 
 
 -- A search goes on here from position p. Where there is neither a thread nor a match it passes over
 -- positions at which no match can start
-abbrev pub GoesOnAt : List (Place ℕ) → Text → (start : ℕ) → Threads → Best → (p : ℕ) → Here
+abbrev pub GoesOnAt : List (Place ℕ) → Text → (start : ℕ) → List Thread → Best → (p : ℕ) → Here
     → Type 0
 GoesOnAt table haystack start threads best p here =
     IsHere haystack p here
-    ⊎ ((threads.len ≡ 0) × (best ≡ None)
+    ⊎ ((threads ≡ []) × (best ≡ None)
     × PassesTo (IsDeadAt table haystack start) haystack p here)

@@ -3,13 +3,11 @@ use Rattle.std.specs.Prelude.{◌≡◌, ◌≤◌, ◌<◌, ◌⊎◌, ℕ, Boo
 use Rattle.regex_lite_syntax.specs.Text.{Text}
 use Rattle.regex_lite_engine.specs.declared.pikevm.best.Best as code
 use Rattle.regex_lite_engine.specs.declared.pikevm.here.Here.{Here}
-use Rattle.regex_lite_engine.specs.declared.pikevm.stack.Stack.{Stack}
-use Rattle.regex_lite_engine.specs.declared.pikevm.threads.Threads.{Threads}
 use Rattle.regex_lite_engine.specs.Graph.Places.{Place, kept_back_of, reading_of}
 use Rattle.regex_lite_engine.specs.Walk.Explored.{IsDead}
 use Rattle.regex_lite_engine.specs.Walk.NumberedAnswer.{numbered_step, is_end}
 use Rattle.regex_lite_engine.specs.Walk.InStep.{Offer}
-use Rattle.regex_lite_engine.specs.Walk.Machine.{Row, Thread, thread_at, frames_of}
+use Rattle.regex_lite_engine.specs.Walk.Machine.{Row, Thread, thread_at, State}
 use Rattle.regex_lite_engine.specs.Walk.Standing.{IsHere}
 use Rattle.regex_lite_engine.specs.Walk.Walking.{Node, Best, ThreadsHold, BestHolds, InStep, IsWalking}
 use Rattle.regex_lite_engine.specs.Walk.Entering.{Pushed}
@@ -45,21 +43,21 @@ module _ (table : List (Place ℕ)) where
 
   -- nothing is on the stack; the threads from the k-th to the n-th are left
   abbrev pub Between : Text → (s first last p from : ℕ) → (rounds : List ℕ) → (now : ℕ)
-      → (ℕ → Thread) → (k n : ℕ) → Threads → Best → Type 0
+      → (ℕ → Thread) → (k n : ℕ) → List Thread → Best → Type 0
   Between haystack s first last p from rounds now threads k n next best =
       IsWalking table haystack s first last p from rounds now 0 [] [] threads k n (thread_at next)
-      next.len best
+      (length next) best
 
   -- from the first of n threads to before the k-th
-  abbrev pub StepsTo : Here → (now : ℕ) → (ℕ → Thread) → (n : ℕ) → (rounds : List ℕ) → Threads
-      → Best → (k : ℕ) → (rounds' : List ℕ) → Threads → Best → Type 0
+  abbrev pub StepsTo : Here → (now : ℕ) → (ℕ → Thread) → (n : ℕ) → (rounds : List ℕ) → List Thread
+      → Best → (k : ℕ) → (rounds' : List ℕ) → List Thread → Best → Type 0
   StepsTo here now threads n rounds next best k rounds' next' best' =
       (haystack : Text) (p : ℕ) → IsHere haystack p here → (s first last from : ℕ)
       → Between haystack s first last p from rounds now threads 0 n next best
       → Between haystack s first last p from rounds' now threads k n next' best'
 
   -- all below position p is done; what is offered at p are the threads, without its own start
-  pub record IsComing (haystack : Text) (s first last p : ℕ) (threads : Threads) (best : Best)
+  pub record IsComing (haystack : Text) (s first last p : ℕ) (threads : List Thread) (best : Best)
       : Type 0 where
     pub recorded : Node → Option (List ℕ)
     pub coming : List (Offer Node)
@@ -68,31 +66,27 @@ module _ (table : List (Place ℕ)) where
     pub in_step : InStep table haystack s first last p from recorded coming [] way
     pub before : (n : Node) (v : List ℕ) → recorded n ≡ Some v → n.1 < p
     pub hold : ThreadsHold table haystack s p (thread_at threads) 0 coming
-    pub all : length coming ≡ threads.len
+    pub all : length coming ≡ length threads
     pub best_holds : BestHolds table haystack s best way
     pub from_is : FromIs p from best
 
   -- the memory of a search between two positions
-  pub record IsReady (rounds : List ℕ) (now width : ℕ) (threads next : Threads) (stack : Stack)
-      (best : code.Best) (tried entered looked : ℕ) : Type 0 where
-    pub all_seen : length rounds ≡ length table
-    pub old_rounds : (q : ℕ) → slice_index rounds q ≤ now
-    pub same_width : threads.width ≡ width
-    pub next_width : next.width ≡ width
-    pub cap : reading_of table < length threads.places.items
-    pub next_cap : reading_of table < length next.places.items
-    pub few : threads.len ≤ reading_of table
-    pub below : ThreadsBelow (length table) threads
-    pub none_next : next.len ≡ 0
-    pub stack_size : kept_back_of table < length stack.frames.items
-    pub stack_empty : frames_of stack ≡ []
-    pub best_width : length best.row.items ≡ width
+  pub record IsReady (memory : State) (best : code.Best) (tried entered looked : ℕ) : Type 0 where
+    pub all_seen : length memory.rounds ≡ length table
+    pub old_rounds : (q : ℕ) → slice_index memory.rounds q ≤ memory.now
+    pub cap : reading_of table < memory.room
+    pub few : length memory.threads ≤ reading_of table
+    pub below : ThreadsBelow (length table) memory.threads
+    pub none_next : memory.next ≡ []
+    pub stack_room : kept_back_of table < length table
+    pub stack_empty : memory.frames ≡ []
+    pub best_width : length best.row.items ≡ length memory.row
     pub entered_tried : entered ≤ tried
     pub looked_entered : looked ≤ entered
 
 -- The position's own start is the last thread. It is left out where there is a match, and where no
 -- match can start
-abbrev pub Begun : (s at : ℕ) → (may_start : Bool) → Best → (before after : Threads) → Type 0
+abbrev pub Begun : (s at : ℕ) → (may_start : Bool) → Best → (before after : List Thread) → Type 0
 Begun s at may_start best before after =
     ((best ≡ None) × ((blank : Row) × IsBlank blank × Pushed before after (s, at, blank)))
     ⊎ (((best ≡ None → ⊥) ⊎ (may_start ≡ false)) × (after ≡ before))

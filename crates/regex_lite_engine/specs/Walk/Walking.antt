@@ -1,14 +1,12 @@
 -- What a search over a table of numbered places keeps true while it goes over one position.
 use Rattle.std.specs.Prelude.{◌≡◌, ◌+◌, ◌<◌, ℕ, suc, IsTrue, List, [], ◌∷◌, ◌++◌, length, Option, Some, None, slice_set, slice_index}
 use Rattle.regex_lite_syntax.specs.Text.{Text}
-use Rattle.regex_lite_engine.specs.declared.pikevm.stack.Frame.{Frame}
-use Rattle.regex_lite_engine.specs.declared.pikevm.stack.Frame.TheVariants.{Explore, Restore}
 use Rattle.regex_lite_engine.specs.Graph.Places.{Place}
 use Rattle.regex_lite_engine.specs.Graph.Ways.{Leads}
 use Rattle.regex_lite_engine.specs.Search.Marks.{marks_along}
 use Rattle.regex_lite_engine.specs.Walk.NumberedAnswer.{place_with, numbered_step, is_end}
 use Rattle.regex_lite_engine.specs.Search.Offsets.{offset, HasSlots}
-use Rattle.regex_lite_engine.specs.Walk.Machine.{Row, Thread}
+use Rattle.regex_lite_engine.specs.Walk.Machine.{Row, Frame, explore, restore, Thread}
 use Rattle.regex_lite_engine.specs.Walk.InStep.{Offer, IsInStep}
 
 -- a place at a position
@@ -32,10 +30,10 @@ module _ (table : List (Place ℕ)) (haystack : Text) where
     -- stands when its frame comes off
     abbrev pub FramesHold : (p i : ℕ) → Row → List Frame → List (Offer Node) → Type 0
     FramesHold p i row [] os = os ≡ []
-    FramesHold p i row (Explore q ∷ frames) os =
+    FramesHold p i row (explore q ∷ frames) os =
         (w : List ℕ) × (rest : List (Offer Node)) × (os ≡ ((q, p), w) ∷ rest)
         × WayHolds i row (q, p) w × FramesHold p i row frames rest
-    FramesHold p i row (Restore slot old ∷ frames) os =
+    FramesHold p i row (restore slot old ∷ frames) os =
         FramesHold p i (slice_set row slot old) frames os
 
     -- the threads from the k-th on hold the offers at position p

@@ -4,51 +4,47 @@ ghost use Rattle.regex_lite_syntax.specs.Ranges.{in_ranges};
 ghost use Rattle.regex_lite_syntax.specs.Sets.{just};
 ghost use Rattle.regex_lite_engine.specs.Graph.Places.{kept_back};
 ghost use Rattle.regex_lite_engine.specs.Graph.Stored.{place_of};
-ghost use Rattle.regex_lite_engine.specs.Walk.Machine.{frames_of};
+ghost use Rattle.regex_lite_engine.specs.Walk.Cells.{frame_of};
+ghost use Rattle.regex_lite_engine.specs.Walk.Machine.{restore};
 ghost use Rattle.regex_lite_engine.specs.Walk.Entering.{reads, Enters, ReadsOn, SlotMarked};
 
 use crate::nfa::class::MappedClass;
 use crate::nfa::place::Place;
+use crate::pikevm::cell::Frame;
 use crate::pikevm::here::Here;
-use crate::pikevm::stack::{Frame, Stack};
-use crate::pikevm::threads::Threads;
+use crate::pikevm::memory::Memory;
 
 /// Puts what the place offers at this position on the stack, and what it offers at the next one
 /// behind the threads there. Tells whether a match is complete.
-pub fn enter(
-    place: &Place,
-    here: Here,
-    start: usize,
-    slots: &mut [Option<usize>],
-    stack: &mut Stack,
-    next: &mut Threads,
-) -> bool
-    requires width { length slots.old ≡ next.old.width }
-    requires room { kept_back (place_of place.now) + 1 ≤ stack.old.top }
-    requires next_room { next.old.len < length next.old.places.items }
-    ensures entered { Enters here start place.now slots.old (frames_of stack.old) next.old
-        slots.new (frames_of stack.new) next.new result }
-    ensures width { next.new.width ≡ next.old.width }
-    ensures next_room { length next.new.places.items ≡ length next.old.places.items }
-    ensures size { length stack.new.frames.items ≡ length stack.old.frames.items }
+pub fn enter(place: &Place, here: Here, start: usize, memory: &mut Memory) -> bool
+    requires room { length memory.old.frames + (kept_back (place_of place.now) + 1)
+        ≤ length memory.old.rounds }
+    requires next_room { length memory.old.next < memory.old.room }
+    ensures entered { Enters here start place.now memory.old.row memory.old.frames memory.old.next
+        memory.new.row memory.new.frames memory.new.next result }
+    ensures same { memory.new ≡ record memory.old {
+      row = memory.new.row;
+      frames = memory.new.frames;
+      next = memory.new.next;
+    } }
 {
     match place {
-        Place::Empty { to } => stack.push(Frame::Explore(*to)),
-        Place::Char { c, to } => read_on(is_read(*c, here.after), *to, start, slots, next),
+        Place::Empty { to } => memory.push(Frame::Explore(*to)),
+        Place::Char { c, to } => read_on(is_read(*c, here.after), *to, start, memory),
         Place::Class { to, set } => {
-            read_on(is_in_set(set, here.after), *to, start, slots, next);
+            read_on(is_in_set(set, here.after), *to, start, memory);
         }
         Place::Look { look, to } => {
             if look.holds(here.before, here.after) {
-                stack.push(Frame::Explore(*to));
+                memory.push(Frame::Explore(*to));
             }
         }
-        Place::Slot { slot, to } => mark(*slot, *to, here.at, slots, stack),
+        Place::Slot { slot, to } => mark(*slot, *to, here.at, memory),
         Place::Choice { first, second } => {
-            stack.push(Frame::Explore(*second));
-            stack.push(Frame::Explore(*first));
+            memory.push(Frame::Explore(*second));
+            memory.push(Frame::Explore(*first));
         }
-        Place::Branches(entries) => stack.push_all(entries),
+        Place::Branches(entries) => memory.push_all(entries),
         Place::Match => return true,
     }
     false
@@ -75,29 +71,39 @@ fn is_in_set(set: &MappedClass, after: Option<char>) -> bool
 }
 
 /// Goes on behind the character, where it is read.
-fn read_on(reads: bool, to: u32, start: usize, slots: &[Option<usize>], next: &mut Threads)
-    requires width { length slots.now ≡ next.old.width }
-    requires room { next.old.len < length next.old.places.items }
-    ensures reads { ReadsOn reads next.old next.new (to, start, slots.now) }
-    ensures width { next.new.width ≡ next.old.width }
-    ensures room { length next.new.places.items ≡ length next.old.places.items }
+fn read_on(reads: bool, to: u32, start: usize, memory: &mut Memory)
+    requires { length memory.old.next < memory.old.room }
+    ensures reads { ReadsOn reads memory.old.next memory.new.next (to, start, memory.old.row) }
+    ensures same { memory.new ≡ record memory.old { next = memory.new.next } }
 {
     if reads {
-        next.push(to, start, slots);
+        memory.push_next(to, start);
     }
 }
 
 /// Marks the slot, if it is kept, and goes on.
-fn mark(slot: u32, to: u32, at: usize, slots: &mut [Option<usize>], stack: &mut Stack)
-    requires { 2 ≤ stack.old.top }
-    ensures marked { SlotMarked at slot to slots.old (frames_of stack.old) slots.new
-        (frames_of stack.new) }
-    ensures size { length stack.new.frames.items ≡ length stack.old.frames.items }
+fn mark(slot: u32, to: u32, at: usize, memory: &mut Memory)
+    requires { length memory.old.frames + 2 ≤ length memory.old.rounds }
+    ensures marked { SlotMarked at slot to memory.old.row memory.old.frames memory.new.row
+        memory.new.frames }
+    ensures same { memory.new
+        ≡ record memory.old { row = memory.new.row; frames = memory.new.frames } }
 {
-    if (slot as usize) < slots.len() {
-        let old = slots[slot as usize];
-        stack.push(Frame::Restore { slot, old });
-        slots[slot as usize] = Some(at);
+    let row = memory.row();
+    if (slot as usize) < row.len() {
+        let old = row[slot as usize];
+        memory.push(undoing(slot, old));
+        memory.put(slot, Some(at));
     }
-    stack.push(Frame::Explore(to));
+    memory.push(Frame::Explore(to));
+}
+
+/// What lets the slot hold this again.
+fn undoing(slot: u32, old: Option<usize>) -> Frame
+    ensures { frame_of result ≡ restore slot old }
+{
+    match old {
+        None => Frame::Unmark { slot },
+        Some(old) => Frame::Restore { slot, old },
+    }
 }

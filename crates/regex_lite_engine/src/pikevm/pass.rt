@@ -24,7 +24,7 @@ impl Cache {
             result }
         ensures width { length self.new.best.row.items ≡ length self.old.best.row.items }
     {
-        let here = next_start(graph, haystack, here, &self.threads, &self.best);
+        let here = next_start(graph, haystack, here, &self.walk.memory, &self.best);
         self.turn(graph, here, may_start(graph, here));
         here
     }

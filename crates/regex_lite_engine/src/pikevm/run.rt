@@ -10,7 +10,7 @@ ghost use Rattle.regex_lite_engine.specs.Walk.Turns.{best_of};
 use crate::Graph;
 use crate::pikevm::best::Best;
 use crate::pikevm::here::Here;
-use crate::pikevm::threads::Threads;
+use crate::pikevm::memory::Memory;
 use crate::pikevm::turn::Cache;
 
 /// Goes from position to position, until the most preferred match is known.
@@ -29,7 +29,7 @@ pub fn run(cache: &mut Cache, graph: &Graph, haystack: &str, start: usize)
     let mut here = Here::at(haystack, start);
     'positions: loop {
         here = cache.pass(graph, haystack, here);
-        if is_over(here, &cache.threads, &cache.best) {
+        if is_over(here, &cache.walk.memory, &cache.best) {
             return;
         }
         here = here.next(haystack);
@@ -37,13 +37,13 @@ pub fn run(cache: &mut Cache, graph: &Graph, haystack: &str, start: usize)
 }
 
 /// Whether nothing is left to do after the position.
-fn is_over(here: Here, threads: &Threads, best: &Best) -> bool
+fn is_over(here: Here, memory: &Memory, best: &Best) -> bool
     ensures over { IsTrue result → (here.after ≡ None)
-        ⊎ (¬ (best_of best.now ≡ None) × (threads.now.len ≡ 0)) }
+        ⊎ (¬ (best_of best.now ≡ None) × (length memory.now.threads ≡ 0)) }
     ensures at_end { here.after ≡ None → IsTrue result }
 {
     if here.after.is_none() {
         return true;
     }
-    threads.len() == 0 && !best.is_none()
+    memory.threads() == 0 && !best.is_none()
 }

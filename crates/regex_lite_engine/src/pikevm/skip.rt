@@ -1,5 +1,5 @@
 //! The positions at which no match can start, which a search passes over.
-ghost use Rattle.std.specs.Prelude.{◌≡◌, ◌≤◌, ◌<◌, ℕ, None, false, true, chars, length, slice_index};
+ghost use Rattle.std.specs.Prelude.{◌≡◌, ◌≤◌, ◌<◌, ℕ, [], None, false, true, chars, length, slice_index};
 ghost use Rattle.regex_lite_syntax.specs.Text.{Text};
 ghost use Rattle.regex_lite_engine.specs.Graph.Stored.{table_of};
 ghost use Rattle.regex_lite_engine.specs.Nfa.Starts.{may_begin, stops_at, MayBegin};
@@ -11,19 +11,19 @@ use crate::Graph;
 use crate::nfa::starts::Starts;
 use crate::pikevm::best::Best;
 use crate::pikevm::here::Here;
-use crate::pikevm::threads::Threads;
+use crate::pikevm::memory::Memory;
 
 /// Where the search goes on: where it is while there is a thread or a match, and else at the next
 /// position at which a match can start, or at the haystack's end.
-pub fn next_start(graph: &Graph, haystack: &str, here: Here, threads: &Threads, best: &Best) -> Here
+pub fn next_start(graph: &Graph, haystack: &str, here: Here, memory: &Memory, best: &Best) -> Here
     requires { (p : ℕ) × IsHere (chars haystack.now) p here }
     ensures passes { (p : ℕ) → IsHere (chars haystack.now) p here
-        → GoesOnAt (table_of graph.now) (chars haystack.now) graph.now.start threads.now
+        → GoesOnAt (table_of graph.now) (chars haystack.now) graph.now.start memory.now.threads
         (best_of best.now) p result }
-    ensures stops { threads.now.len ≡ 0 → best_of best.now ≡ None
+    ensures stops { memory.now.threads ≡ [] → best_of best.now ≡ None
         → may_begin graph.now.starts result.before result.after ≡ true }
 {
-    if threads.len() > 0 {
+    if memory.threads() > 0 {
         return here;
     }
     if !best.is_none() {

@@ -1,126 +1,78 @@
-//! Where a search goes on at a position: places in the order of their preference.
-ghost use Rattle.std.specs.Prelude.{◌≡◌, ◌+◌, ◌*◌, ◌≤◌, ◌<◌, ◌++◌, ℕ, IfOk, None, length, take, drop, replicate, vec_len};
+//! Where a search goes on at a position and at the next: places in the order of their preference, each
+//! with where its way began and with a row of slots.
+ghost use Rattle.std.specs.Prelude.{◌≡◌, ◌+◌, ◌^◌, ◌<◌, ◌++◌, [], ◌∷◌, None, length, replicate};
+ghost use Rattle.regex_lite_engine.specs.Walk.Cells.{first_row};
+ghost use Rattle.regex_lite_engine.specs.Walk.Machine.{thread_at};
 
-use std::alloc::{AllocError, Global};
+use crate::pikevm::cell::Side;
+use crate::pikevm::memory::Memory;
 
-/// A list of places, each with where its way began and with a row of slots. All its memory is asked
-/// for at once.
-#[derive(Drop)]
-pub struct Threads {
-    places: Vec<u32>,
-    starts: Vec<usize>,
-    /// The rows of `width` slots each, one behind the other.
-    rows: Vec<Option<usize>>,
-    width: usize,
-    len: usize,
-    ghost starts_fit: { vec_len starts ≡ vec_len places },
-    ghost rows_fit: { vec_len rows ≡ vec_len places * width },
-    ghost in_places: { len ≤ vec_len places },
-}
-
-impl Threads {
-    ghost use Rattle.regex_lite_engine.specs.Walk.Machine.{thread_at};
-
-    /// An empty list with room for so many threads, each with a row of `width` slots.
-    pub fn with_room(alloc: Global, room: usize, width: usize) -> Result<Threads, AllocError>
-        ensures empty { IfOk result (λ threads. threads.len ≡ 0) }
-        ensures room { IfOk result (λ threads. length threads.places.items ≡ room) }
-        ensures width { IfOk result (λ threads. threads.width ≡ width) }
-    {
-        let cells = room.checked_mul(width).ok_or(AllocError)?;
-        let places = vec![in alloc; 0u32; room]?;
-        let starts = vec![in alloc; 0usize; room]?;
-        let rows = vec![in alloc; None; cells]?;
-        Ok(Threads {
-            places,
-            starts,
-            rows,
-            width,
-            len: 0,
-        })
-    }
-
-    /// How many there are.
-    pub fn len(&self) -> usize
-        ensures { result ≡ self.now.len }
+impl Memory {
+    /// How many threads the position has.
+    pub fn threads(&self) -> usize
+        ensures { result ≡ length self.now.threads }
     {
         self.len
     }
 
-    /// Adds a thread behind the others.
-    pub fn push(&mut self, place: u32, start: usize, slots: &[Option<usize>])
-        requires room { self.old.len < length self.old.places.items }
-        requires width { length slots.now ≡ self.old.width }
-        ensures len { self.new.len ≡ self.old.len + 1 }
-        ensures width { self.new.width ≡ self.old.width }
-        ensures room { length self.new.places.items ≡ length self.old.places.items }
-        ensures added { thread_at self.new self.old.len ≡ (place, start, slots.now) }
-        ensures kept { (k : ℕ) → k < self.old.len → thread_at self.new k ≡ thread_at self.old k }
+    /// Takes up a thread of the position: its row is that which is followed. Answers its place, and
+    /// where its way began.
+    pub fn load(&mut self, k: usize) -> (u32, usize)
+        requires { k < length self.old.threads }
+        ensures thread { thread_at self.old.threads k ≡ (result.0, result.1, self.new.row) }
+        ensures same { self.new ≡ record self.old { row = self.new.row } }
+        ensures width { length self.new.row ≡ length self.old.row }
     {
-        let k = self.len;
-        let from = k * self.width;
-        self.places[k] = place;
-        self.starts[k] = start;
-        put_row(&mut self.rows, from, slots);
-        self.len = k + 1;
+        self.rows.copy(row_of(self.side, self.room, k), 0);
+        self.cells[k].thread(self.side)
     }
 
-    /// Adds a thread whose way begins here, with nothing marked.
+    /// Adds a thread to the position whose way begins here, with nothing marked.
     pub fn push_start(&mut self, place: u32, start: usize)
-        requires { self.old.len < length self.old.places.items }
-        ensures len { self.new.len ≡ self.old.len + 1 }
-        ensures width { self.new.width ≡ self.old.width }
-        ensures room { length self.new.places.items ≡ length self.old.places.items }
-        ensures added { thread_at self.new self.old.len
-            ≡ (place, start, replicate self.old.width None) }
-        ensures kept { (k : ℕ) → k < self.old.len → thread_at self.new k ≡ thread_at self.old k }
+        requires { length self.old.threads < self.old.room }
+        ensures { self.new ≡ record self.old {
+          threads = self.old.threads
+              ++ (place, start, replicate (length self.old.row) None) ∷ [];
+        } }
     {
         let k = self.len;
-        let from = k * self.width;
-        self.places[k] = place;
-        self.starts[k] = start;
-        clear_row(&mut self.rows, from, self.width);
+        self.rows.clear(row_of(self.side, self.room, k));
+        self.cells[k].put_thread(self.side, place, start);
         self.len = k + 1;
     }
 
-    /// The place and the start of a thread. Its row goes to `slots`.
-    pub fn load(&self, k: usize, slots: &mut [Option<usize>]) -> (u32, usize)
-        requires inside { k < self.now.len }
-        requires width { length slots.old ≡ self.now.width }
-        ensures { thread_at self.now k ≡ (result.0, result.1, slots.new) }
+    /// Adds a thread to the next position, with the row that is followed.
+    pub fn push_next(&mut self, place: u32, start: usize)
+        requires { length self.old.next < self.old.room }
+        ensures { self.new ≡ record self.old {
+          next = self.old.next
+              ++ (place, start, self.old.row) ∷ [];
+        } }
     {
-        let from = k * self.width;
-        let to = from + self.width;
-        slots.copy_from_slice(&self.rows[from..to]);
-        (self.places[k], self.starts[k])
+        let side = self.side.other();
+        let k = self.next_len;
+        self.rows.copy(0, row_of(side, self.room, k));
+        self.cells[k].put_thread(side, place, start);
+        self.next_len = k + 1;
     }
 
-    /// Drops all threads.
-    pub fn clear(&mut self)
-        ensures len { self.new.len ≡ 0 }
-        ensures width { self.new.width ≡ self.old.width }
-        ensures room { length self.new.places.items ≡ length self.old.places.items }
+    /// Goes on to the next position, whose next has no threads yet.
+    pub fn turn_over(&mut self)
+        ensures { self.new ≡ record self.old { threads = self.old.next; next = [] } }
     {
-        self.len = 0;
+        self.side = self.side.other();
+        self.len = self.next_len;
+        self.next_len = 0;
     }
 }
 
-/// Writes the slots over what stands there.
-fn put_row(rows: &mut Vec<Option<usize>>, from: usize, slots: &[Option<usize>])
-    requires { from + length slots.now ≤ length rows.old.items }
-    ensures { rows.new.items ≡ take from rows.old.items
-        ++ (slots.now ++ drop (from + length slots.now) rows.old.items) }
+/// The number of the row of a thread.
+fn row_of(side: Side, room: usize, k: usize) -> usize
+    requires { first_row side room + k < 2 ^ 64 }
+    ensures { result ≡ first_row side room + k }
 {
-    let to = from + slots.len();
-    rows[from..to].copy_from_slice(slots);
-}
-
-/// Writes that nothing is marked over a row of this width.
-fn clear_row(rows: &mut Vec<Option<usize>>, from: usize, width: usize)
-    requires { from + width ≤ length rows.old.items }
-    ensures { rows.new.items ≡ take from rows.old.items
-        ++ (replicate width None ++ drop (from + width) rows.old.items) }
-{
-    let to = from + width;
-    rows[from..to].fill(None);
+    match side {
+        Side::First => k + 1,
+        Side::Second => room + k + 1,
+    }
 }

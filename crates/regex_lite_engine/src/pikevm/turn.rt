@@ -7,21 +7,18 @@ ghost use Rattle.regex_lite_engine.specs.Walk.Turns.{best_of, Begun};
 use crate::Graph;
 use crate::pikevm::best::Best;
 use crate::pikevm::here::Here;
-use crate::pikevm::threads::Threads;
+use crate::pikevm::memory::Memory;
 use crate::pikevm::walk::Walk;
 
 /// All that a search works in. Its memory is asked for before the first step.
 #[derive(Drop)]
 pub struct Cache {
     pub walk: Walk,
-    /// The threads of the position.
-    pub threads: Threads,
     pub best: Best,
 }
 
 impl Cache {
     ghost use Rattle.regex_lite_syntax.specs.Text.{Text};
-    ghost use Rattle.regex_lite_engine.specs.Walk.Machine.{frames_of};
     ghost use Rattle.regex_lite_engine.specs.Walk.Standing.{IsHere};
     ghost use Rattle.regex_lite_engine.specs.Walk.Room.{HasRoom};
     ghost use Rattle.regex_lite_engine.specs.Walk.Turns.{EndsAt, IsComing, IsDeadAt};
@@ -30,38 +27,37 @@ impl Cache {
     /// Goes over the position. Its own start comes last, and only while there is no match.
     pub fn turn(&mut self, graph: &Graph, here: Here, may_start: bool)
         requires ready { IsBetween (table_of graph.now) self.old }
-        requires few_tries { self.old.walk.steps.tried + self.old.threads.len
+        requires few_tries { self.old.walk.steps.tried + length self.old.walk.memory.threads
             + (arrows_of (table_of graph.now) + 1) < 2 ^ 127 }
         requires few_entries { self.old.walk.steps.entered + length (table_of graph.now) < 2 ^ 127 }
-        requires few_rounds { self.old.walk.seen.now + 1 < 2 ^ 64 }
+        requires few_rounds { self.old.walk.memory.now + 1 < 2 ^ 64 }
         ensures ready { IsBetween (table_of graph.now) self.new }
         ensures comes { (haystack : Text) (p first last : ℕ) → IsHere haystack p here → first ≤ p
             → p ≤ last
             → (may_start ≡ false → IsDeadAt (table_of graph.now) haystack graph.now.start p)
-            → IsComing (table_of graph.now) haystack graph.now.start first last p self.old.threads
+            → IsComing (table_of graph.now) haystack graph.now.start first last p self.old.walk.memory.threads
             (best_of self.old.best)
             → IsComing (table_of graph.now) haystack graph.now.start first last (p + 1)
-            self.new.threads (best_of self.new.best) }
+            self.new.walk.memory.threads (best_of self.new.best) }
         ensures ends { EndsAt here.at (best_of self.old.best) (best_of self.new.best) }
         ensures width { length self.new.best.row.items ≡ length self.old.best.row.items }
-        ensures tries { self.new.walk.steps.tried + self.new.threads.len
-            ≤ self.old.walk.steps.tried + self.old.threads.len
+        ensures tries { self.new.walk.steps.tried + length self.new.walk.memory.threads
+            ≤ self.old.walk.steps.tried + length self.old.walk.memory.threads
             + (arrows_of (table_of graph.now) + 1) }
         ensures entries { self.new.walk.steps.entered
             ≤ self.old.walk.steps.entered + length (table_of graph.now) }
-        ensures round { self.new.walk.seen.now ≡ self.old.walk.seen.now + 1 }
+        ensures round { self.new.walk.memory.now ≡ self.old.walk.memory.now + 1 }
     {
-        self.walk.seen.clear();
+        self.walk.memory.begin_round();
         begin(
             graph.start(),
             here.at,
             may_start,
             &self.best,
-            &mut self.threads,
+            &mut self.walk.memory,
         );
         self.follow(graph, here);
-        self.threads.clear();
-        std::mem::swap(&mut self.threads, &mut self.walk.next);
+        self.walk.memory.turn_over();
     }
 
     /// Follows the threads of the position in order, up to the first that comes to a match: those
@@ -74,10 +70,10 @@ impl Cache {
         ensures ends { EndsAt here.at (best_of self.old.best) (best_of self.new.best) }
         ensures kept { best_of self.new.best ≡ None → best_of self.old.best ≡ None }
     {
-        'threads: for k in 0..self.threads.len() {
-            let start = self.walk.take_up(&self.threads, k);
+        'threads: for k in 0..self.walk.memory.threads() {
+            let start = self.walk.take_up(k);
             if self.walk.explore(graph, here, start) {
-                self.best.set(start, here.at, &self.walk.slots);
+                self.best.set(start, here.at, self.walk.memory.row());
                 return;
             }
         }
@@ -86,13 +82,13 @@ impl Cache {
 
 /// Adds the position's own start behind the threads, if a match can start there and there is none
 /// yet.
-fn begin(place: u32, at: usize, may_start: bool, best: &Best, threads: &mut Threads)
-    requires { threads.old.len < length threads.old.places.items }
-    ensures begun { Begun place at may_start (best_of best.now) threads.old threads.new }
-    ensures width { threads.new.width ≡ threads.old.width }
-    ensures room { length threads.new.places.items ≡ length threads.old.places.items }
+fn begin(place: u32, at: usize, may_start: bool, best: &Best, memory: &mut Memory)
+    requires { length memory.old.threads < memory.old.room }
+    ensures begun { Begun place at may_start (best_of best.now) memory.old.threads
+        memory.new.threads }
+    ensures same { memory.new ≡ record memory.old { threads = memory.new.threads } }
 {
     if may_start && best.is_none() {
-        threads.push_start(place, at);
+        memory.push_start(place, at);
     }
 }

@@ -1,7 +1,10 @@
-use Rattle.std.proofs.Common.{rules, ◌≡◌, length, map, sym, ◌∙◌, arith}
+use Rattle.std.proofs.Common.{◌≡◌, length, map, sym, ◌∙◌, ap, arith}
 use Rattle.std.proofs.lemmas.List.{length-map}
 use Rattle.regex_lite_engine.specs.Graph.Stored.{place_of}
 use Rattle.regex_lite_engine.proofs.pikevm.cache_for.Goals as goal
+
+pub overflow_add-room : goal.overflow_add-room
+overflow_add-room c = omega (arith, c.places-places.ensures.same, c.places-places.ensures.few, c.reading-room.ensures.few)
 
 pub returns-clause-fresh : goal.returns-clause-fresh
 returns-clause-fresh c =
@@ -9,31 +12,26 @@ returns-clause-fresh c =
     let places : c.places-places.result ≡ length c.args.graph.now.places = c.places-places.ensures.same in
     let kept = c.places-places.ensures.kept_back in
     let reading = c.reading-room.ensures.each in
-    let size = c.in_ok-with_room-2.ensures.size in
-    let next = c.in_ok-with_room-3.ensures.room in let threads = c.in_ok-with_room-4.ensures.room in
-    let none = c.in_ok-with_room-4.ensures.empty in
+    let blank = c.in_ok-blank.ensures in
     let tried = c.none.ensures.tried in let entered = c.none.ensures.entered in let looked = c.none.ensures.looked in
-    let slots : length c.in_ok-vec.field-0.items ≡ c.args.slots = search rules in
+    let rounds = blank.rounds in let room = blank.room in
     record {
       between = record {
-        all_seen = c.in_ok-with_room.ensures.room ∙ places ∙ sym count;
-        old_rounds = λ q. (let le = c.in_ok-with_room.ensures.old q in let e = c.in_ok-with_room.ensures.now in omega (arith, le, e));
-        same_width = c.in_ok-with_room-4.ensures.width ∙ sym slots;
-        next_width = c.in_ok-with_room-3.ensures.width ∙ sym slots;
-        cap = omega (arith, threads, reading);
-        next_cap = omega (arith, next, reading);
-        few = omega (arith, none);
-        below = λ k lt. absurd (omega (arith, lt, none));
-        none_next = c.in_ok-with_room-3.ensures.empty;
-        stack_size = omega (arith, kept, size);
-        stack_empty = c.in_ok-with_room-2.ensures.empty;
-        best_width = c.in_ok-with_width.ensures.width ∙ sym slots;
+        all_seen = omega (arith, rounds, places, count);
+        old_rounds = λ q. (let le = blank.old q in let e = blank.now in omega (arith, le, e));
+        cap = omega (arith, room, reading);
+        few = omega (arith, ap length blank.threads);
+        below = λ k lt. absurd (omega (arith, lt, ap length blank.threads));
+        none_next = blank.next;
+        stack_room = omega (arith, kept, places, count);
+        stack_empty = blank.frames;
+        best_width = c.in_ok-with_width.ensures.width ∙ sym blank.width;
         entered_tried = omega (arith, tried, entered);
         looked_entered = omega (arith, entered, looked);
       };
       none = c.in_ok-with_width.ensures.none;
-      no_threads = none;
-      no_rounds = c.in_ok-with_room.ensures.now;
+      no_threads = blank.threads;
+      no_rounds = blank.now;
       no_tries = tried;
       no_entries = entered;
     }

@@ -66,7 +66,7 @@ returns-then-is_over-clause-found c =
     let low = v.under_way.low in
     let later = w.later in
     let first : s ≤ w.q = omega (arith, low, later) in
-    ended (table_of a.graph.now) haystack a.graph.now.start s w.q c.pass-here.new.self.threads
+    ended (table_of a.graph.now) haystack a.graph.now.start s w.q c.pass-here.new.self.walk.memory.threads
     (best_of c.pass-here.new.self.best) first w.is.inside
     (over_at haystack w.q c.pass-here.result w.is (c.is_over.ensures.over (search rules)))
     w.after.coming

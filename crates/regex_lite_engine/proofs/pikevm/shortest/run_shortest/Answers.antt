@@ -68,7 +68,7 @@ returns-then-is_known-clause-found c =
     let later = w.later in
     let first : s ≤ w.q = omega (arith, low, later) in
     shortest_known (table_of a.graph.now) haystack a.graph.now.start s w.q c.pass-here.result.at
-    c.positions.cache.threads c.pass-here.new.self.threads (best_of c.positions.cache.best)
+    c.positions.cache.walk.memory.threads c.pass-here.new.self.walk.memory.threads (best_of c.positions.cache.best)
     (best_of c.pass-here.new.self.best) first w.is.inside v.none w.is.bytes w.ends
     (over_at haystack w.q c.pass-here.result w.is (c.is_known.ensures.known (search rules)))
     w.before w.after.coming

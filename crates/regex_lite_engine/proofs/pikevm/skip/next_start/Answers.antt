@@ -1,5 +1,6 @@
 use Rattle.std.proofs.Common.{inr, refl, sym, subst, IsTrue, arith}
 use Rattle.std.specs.Prelude.{chars}
+use Rattle.std.proofs.lemmas.List.{nil_from_length}
 use Rattle.regex_lite_engine.specs.Graph.Stored.{table_of}
 use Rattle.regex_lite_engine.specs.Nfa.Starts.{MayBegin}
 use Rattle.regex_lite_engine.specs.Walk.Turns.{IsDeadAt}
@@ -10,10 +11,10 @@ pub returns-clause-passes : goal.returns-clause-passes
 returns-clause-passes c = λ p is.
     let haystack = chars c.args.haystack.now in
     let none = c.is_none.ensures.0 (subst IsTrue (sym c.if-not-is_none.false) refl) in
-    let no_threads = c.if-len-gt0.false in
-    let counted = c.len.ensures in
+    let no_threads = c.if-threads-gt0.false in
+    let counted = c.threads.ensures in
     inr (
-      omega (arith, no_threads, counted),
+      nil_from_length c.args.memory.now.threads (omega (arith, no_threads, counted)),
       none,
       passes_as (λ i. ¬ (MayBegin c.starts.result.now haystack i))
           (IsDeadAt (table_of c.args.graph.now) haystack c.args.graph.now.start) haystack p

@@ -1,92 +1,83 @@
 use Rattle.std.proofs.Common.{◌≡◌, ℕ, ◌+◌, ◌^◌, ◌<◌, length, [], ◌∷◌, if◌then◌else◌, Some, sym, ap, subst, ◌∙◌, arith}
 use Rattle.regex_lite_engine.specs.declared.pikevm.best.Best as code
-use Rattle.regex_lite_engine.specs.declared.pikevm.stack.Frame.TheVariants.{Explore}
-use Rattle.regex_lite_engine.specs.declared.pikevm.threads.Threads.{Threads}
 use Rattle.regex_lite_engine.specs.Graph.Stored.{table_of}
-use Rattle.regex_lite_engine.specs.Walk.Machine.{Row, thread_at}
-use Rattle.regex_lite_engine.specs.Walk.Room.{due_tries}
+use Rattle.regex_lite_engine.specs.Walk.Machine.{Row, explore, State, thread_at}
+use Rattle.regex_lite_engine.specs.Walk.Room.{due_tries, KeepsPosition}
 use Rattle.regex_lite_engine.specs.Walk.Turns.{best_of, StepsTo}
 use Rattle.regex_lite_engine.specs.Walk.Walking.{Best}
-use Rattle.regex_lite_engine.proofs.pikevm.StepLemmas.{empty_top, room_pushed, stepped_walk, spent_walk, entries_walk}
+use Rattle.regex_lite_engine.proofs.pikevm.StepLemmas.{room_pushed, stepped_walk, spent_walk, entries_walk}
 use Rattle.regex_lite_engine.proofs.pikevm.turn.Cache.follow.Goals as goal
 
 abbrev as_best : ℕ → ℕ → Row → Best
 as_best i at row = Some (i, at, row)
 
-pub take_up-start-requires-clause-inside : goal.take_up-start-requires-clause-inside
-take_up-start-requires-clause-inside c =
-    let same : c.threads.self.threads.len ≡ c.args.self.now.threads.len = ap (λ (t : Threads). t.len) c.threads.invariant.threads in
-    let lt = c.threads-test.true in let end = c.len-k-end.ensures in omega (arith, same, lt, end)
-
-pub take_up-start-requires-clause-width : goal.take_up-start-requires-clause-width
-take_up-start-requires-clause-width c =
-    ap (λ (t : Threads). t.width) c.threads.invariant.threads ∙ c.requires.placed.width ∙ sym c.threads.invariant.slots
-
-pub take_up-start-requires-clause-room : goal.take_up-start-requires-clause-room
-take_up-start-requires-clause-room c =
-    let w = c.threads.self.walk in let v = c.threads.invariant in
-    let full = empty_top w.stack.frames.items w.stack.top v.empty (omega (arith, w.stack.in_frames)) in
-    let size = v.size in let room = c.requires.placed.stack_size in
-    omega (arith, full, size, room)
-
 pub explore-requires : goal.explore-requires
 explore-requires c =
-    let a = c.args in let w = c.threads.self.walk in let v = c.threads.invariant in let up = c.take_up-start.ensures in
-    let size = v.size in let room = c.requires.placed.stack_size in let budget = c.requires.placed.budget in let spent = v.spent in
-    let lt : c.threads.k < a.self.now.threads.len = (let t = c.threads-test.true in let e = c.len-k-end.ensures in omega (arith, t, e)) in
-    room_pushed (table_of a.graph.now) w c.take_up-start.new.self up.seen up.next up.steps (thread_at c.threads.self.threads c.threads.k).0 up.slots
-    (subst (λ (t : Threads). (thread_at t c.threads.k).0 < length (table_of a.graph.now)) (sym v.threads) (c.requires.placed.below c.threads.k lt))
-    (omega (arith, size, room)) up.size
-    (subst (λ z. due_tries (table_of a.graph.now) w.seen.rounds.items z [] w.next w.steps.tried + 1 < 2 ^ 127) (sym v.round) (omega (arith, budget, spent, lt)))
-    (up.frames ∙ ap (λ z. Explore (thread_at c.threads.self.threads c.threads.k).0 ∷ z) v.empty) v.room
+    let a = c.args in let i = a.self.now.walk.memory in let w = c.threads.self.walk in let v = c.threads.invariant in let up = c.take_up-start.ensures in
+    let lt : c.threads.k < length i.threads = (let t = c.threads-test.true in let e = c.threads-k-end.ensures in omega (arith, t, e)) in
+    let q : ℕ = (thread_at w.memory.threads c.threads.k).0 in
+    let em = up.memory ∙ ap (λ fs. record w.memory { row = c.take_up-start.new.self.memory.row; frames = explore q ∷ fs }) v.empty in
+    let budget = c.requires.placed.budget in let spent = v.spent in
+    room_pushed (table_of a.graph.now) w c.take_up-start.new.self q em up.steps
+    (subst (λ ts. (thread_at ts c.threads.k).0 < length (table_of a.graph.now)) (sym v.kept.threads) (c.requires.placed.below c.threads.k lt))
+    c.requires.placed.stack_room
+    (subst (λ z. due_tries (table_of a.graph.now) w.memory.rounds z [] w.memory.next w.steps.tried + 1 < 2 ^ 127) (sym v.kept.round) (omega (arith, budget, spent, lt)))
+    v.room
 
 pub threads-preserved : goal.threads-preserved
 threads-preserved c =
-    let a = c.args in let w = c.threads.self.walk in let v = c.threads.invariant in let up = c.take_up-start.ensures in let more = c.explore.ensures in
-    let lt : c.threads.k < a.self.now.threads.len = (let t = c.threads-test.true in let e = c.len-k-end.ensures in omega (arith, t, e)) in
-    let q : ℕ = (thread_at c.threads.self.threads c.threads.k).0 in
-    let ef = up.frames ∙ ap (λ z. Explore q ∷ z) v.empty in
-    let at : thread_at a.self.now.threads c.threads.k ≡ (q, c.take_up-start.result, c.take_up-start.new.self.slots.items) = sym (ap (λ (t : Threads). thread_at t c.threads.k) v.threads) ∙ up.thread in
+    let a = c.args in let i = a.self.now.walk.memory in let w = c.threads.self.walk in let v = c.threads.invariant in let up = c.take_up-start.ensures in
+    let lt : c.threads.k < length i.threads = (let t = c.threads-test.true in let e = c.threads-k-end.ensures in omega (arith, t, e)) in
+    let q : ℕ = (thread_at w.memory.threads c.threads.k).0 in
+    let em = up.memory ∙ ap (λ fs. record w.memory { row = c.take_up-start.new.self.memory.row; frames = explore q ∷ fs }) v.empty in
+    let more = c.explore.ensures in
+    let at : thread_at i.threads c.threads.k ≡ (q, c.take_up-start.result, c.take_up-start.new.self.memory.row) = sym (ap (λ ts. thread_at ts c.threads.k) v.kept.threads) ∙ up.thread in
+    let due = due_tries (table_of a.graph.now) i.rounds i.now [] i.next a.self.now.walk.steps.tried in
+    let kept : KeepsPosition i c.explore.new.self.memory = record {
+      round = more.kept.round ∙ ap (λ (m : State). m.now) em ∙ v.kept.round;
+      threads = more.kept.threads ∙ ap (λ (m : State). m.threads) em ∙ v.kept.threads;
+      room = more.kept.room ∙ ap (λ (m : State). m.room) em ∙ v.kept.room;
+      row = more.kept.row ∙ up.row ∙ v.kept.row;
+    } in
     record {
       room = more.room;
-      steps = subst (λ d. StepsTo (table_of a.graph.now) a.here a.self.now.walk.seen.now (thread_at a.self.now.threads) a.self.now.threads.len a.self.now.walk.seen.rounds.items a.self.now.walk.next (best_of a.self.now.best)
-          (if d then a.self.now.threads.len else c.threads.k + 1) c.explore.new.self.seen.rounds.items c.explore.new.self.next (if d then Some (c.take_up-start.result, a.here.at, c.explore.new.self.slots.items) else best_of a.self.now.best)) c.if-explore.false
-          (stepped_walk (table_of a.graph.now) w c.take_up-start.new.self up.seen up.next up.steps a.here a.self.now.walk.seen.now v.round c.explore.new.self q c.take_up-start.result c.explore.result ef more.explored
-          (thread_at a.self.now.threads) a.self.now.threads.len a.self.now.walk.seen.rounds.items a.self.now.walk.next (best_of a.self.now.best) c.threads.k lt at v.steps);
+      steps = subst (λ d. StepsTo (table_of a.graph.now) a.here i.now (thread_at i.threads) (length i.threads) i.rounds i.next (best_of a.self.now.best)
+          (if d then length i.threads else c.threads.k + 1) c.explore.new.self.memory.rounds c.explore.new.self.memory.next (if d then Some (c.take_up-start.result, a.here.at, c.explore.new.self.memory.row) else best_of a.self.now.best)) c.if-explore.false
+          (stepped_walk (table_of a.graph.now) w c.take_up-start.new.self q em up.steps a.here i.now v.kept.round c.explore.new.self c.take_up-start.result c.explore.result more.explored (thread_at i.threads) (length i.threads) i.rounds i.next (best_of a.self.now.best) c.threads.k lt at v.steps);
       best = v.best;
-      threads = v.threads;
-      spent = spent_walk (table_of a.graph.now) w c.take_up-start.new.self up.seen up.next up.steps a.here a.self.now.walk.seen.now v.round c.explore.new.self q c.take_up-start.result c.explore.result ef more.explored _ c.threads.k v.spent;
-      spent_entries = entries_walk (table_of a.graph.now) w c.take_up-start.new.self up.seen up.next up.steps a.here a.self.now.walk.seen.now v.round c.explore.new.self q c.take_up-start.result c.explore.result ef more.explored _ v.spent_entries;
+      kept = kept;
+      spent = spent_walk (table_of a.graph.now) w c.take_up-start.new.self q em up.steps a.here i.now v.kept.round c.explore.new.self c.take_up-start.result c.explore.result more.explored due c.threads.k v.spent;
+      spent_entries = entries_walk (table_of a.graph.now) w c.take_up-start.new.self q em up.steps a.here i.now v.kept.round c.explore.new.self c.take_up-start.result c.explore.result more.explored _ v.spent_entries;
       empty = more.empty;
-      round = more.same.round ∙ ap (λ s. s.now) up.seen ∙ v.round;
-      slots = more.same.slots ∙ up.slots ∙ v.slots;
-      size = more.same.stack ∙ up.size ∙ v.size;
     }
 
 pub returns-then-explore-clause-followed : goal.returns-then-explore-clause-followed
 returns-then-explore-clause-followed c =
-    let a = c.args in let w = c.threads.self.walk in let v = c.threads.invariant in let up = c.take_up-start.ensures in let more = c.explore.ensures in
-    let lt : c.threads.k < a.self.now.threads.len = (let t = c.threads-test.true in let e = c.len-k-end.ensures in omega (arith, t, e)) in
-    let q : ℕ = (thread_at c.threads.self.threads c.threads.k).0 in
-    let ef = up.frames ∙ ap (λ z. Explore q ∷ z) v.empty in
-    let at : thread_at a.self.now.threads c.threads.k ≡ (q, c.take_up-start.result, c.take_up-start.new.self.slots.items) = sym (ap (λ (t : Threads). thread_at t c.threads.k) v.threads) ∙ up.thread in
-    let spent = spent_walk (table_of a.graph.now) w c.take_up-start.new.self up.seen up.next up.steps a.here a.self.now.walk.seen.now v.round c.explore.new.self q c.take_up-start.result c.explore.result ef more.explored
-    (due_tries (table_of a.graph.now) a.self.now.walk.seen.rounds.items a.self.now.walk.seen.now [] a.self.now.walk.next a.self.now.walk.steps.tried) c.threads.k v.spent in
-    let steps = stepped_walk (table_of a.graph.now) w c.take_up-start.new.self up.seen up.next up.steps a.here a.self.now.walk.seen.now v.round c.explore.new.self q c.take_up-start.result c.explore.result ef more.explored
-    (thread_at a.self.now.threads) a.self.now.threads.len a.self.now.walk.seen.rounds.items a.self.now.walk.next (best_of a.self.now.best) c.threads.k lt at v.steps in
-    let found : best_of c.set.new.self ≡ Some (c.take_up-start.result, a.here.at, c.explore.new.self.slots.items) =
-    c.set.ensures.found ∙ ap (λ (r : Row). as_best c.take_up-start.result a.here.at r) c.deref.ensures.value in
+    let a = c.args in let i = a.self.now.walk.memory in let w = c.threads.self.walk in let v = c.threads.invariant in let up = c.take_up-start.ensures in
+    let lt : c.threads.k < length i.threads = (let t = c.threads-test.true in let e = c.threads-k-end.ensures in omega (arith, t, e)) in
+    let q : ℕ = (thread_at w.memory.threads c.threads.k).0 in
+    let em = up.memory ∙ ap (λ fs. record w.memory { row = c.take_up-start.new.self.memory.row; frames = explore q ∷ fs }) v.empty in
+    let more = c.explore.ensures in
+    let at : thread_at i.threads c.threads.k ≡ (q, c.take_up-start.result, c.take_up-start.new.self.memory.row) = sym (ap (λ ts. thread_at ts c.threads.k) v.kept.threads) ∙ up.thread in
+    let due = due_tries (table_of a.graph.now) i.rounds i.now [] i.next a.self.now.walk.steps.tried in
+    let kept : KeepsPosition i c.explore.new.self.memory = record {
+      round = more.kept.round ∙ ap (λ (m : State). m.now) em ∙ v.kept.round;
+      threads = more.kept.threads ∙ ap (λ (m : State). m.threads) em ∙ v.kept.threads;
+      room = more.kept.room ∙ ap (λ (m : State). m.room) em ∙ v.kept.room;
+      row = more.kept.row ∙ up.row ∙ v.kept.row;
+    } in
+    let spent = spent_walk (table_of a.graph.now) w c.take_up-start.new.self q em up.steps a.here i.now v.kept.round c.explore.new.self c.take_up-start.result c.explore.result more.explored due c.threads.k v.spent in
+    let found : best_of c.set.new.self ≡ Some (c.take_up-start.result, a.here.at, c.explore.new.self.memory.row) =
+    c.set.ensures.found ∙ ap (λ (r : Row). as_best c.take_up-start.result a.here.at r) c.row.ensures in
     record {
-      steps = subst (λ z. StepsTo (table_of a.graph.now) a.here a.self.now.walk.seen.now (thread_at a.self.now.threads) a.self.now.threads.len a.self.now.walk.seen.rounds.items a.self.now.walk.next (best_of a.self.now.best)
-          a.self.now.threads.len c.explore.new.self.seen.rounds.items c.explore.new.self.next z) (sym found)
-          (subst (λ d. StepsTo (table_of a.graph.now) a.here a.self.now.walk.seen.now (thread_at a.self.now.threads) a.self.now.threads.len a.self.now.walk.seen.rounds.items a.self.now.walk.next (best_of a.self.now.best)
-          (if d then a.self.now.threads.len else c.threads.k + 1) c.explore.new.self.seen.rounds.items c.explore.new.self.next (if d then Some (c.take_up-start.result, a.here.at, c.explore.new.self.slots.items) else best_of a.self.now.best)) c.if-explore.true steps);
+      steps = subst (λ z. StepsTo (table_of a.graph.now) a.here i.now (thread_at i.threads) (length i.threads) i.rounds i.next (best_of a.self.now.best)
+          (length i.threads) c.explore.new.self.memory.rounds c.explore.new.self.memory.next z) (sym found)
+          (subst (λ d. StepsTo (table_of a.graph.now) a.here i.now (thread_at i.threads) (length i.threads) i.rounds i.next (best_of a.self.now.best)
+          (if d then length i.threads else c.threads.k + 1) c.explore.new.self.memory.rounds c.explore.new.self.memory.next (if d then Some (c.take_up-start.result, a.here.at, c.explore.new.self.memory.row) else best_of a.self.now.best)) c.if-explore.true
+          (stepped_walk (table_of a.graph.now) w c.take_up-start.new.self q em up.steps a.here i.now v.kept.round c.explore.new.self c.take_up-start.result c.explore.result more.explored (thread_at i.threads) (length i.threads) i.rounds i.next (best_of a.self.now.best) c.threads.k lt at v.steps));
       spent = omega (arith, spent, lt);
-      spent_entries = entries_walk (table_of a.graph.now) w c.take_up-start.new.self up.seen up.next up.steps a.here a.self.now.walk.seen.now v.round c.explore.new.self q c.take_up-start.result c.explore.result ef more.explored _ v.spent_entries;
+      spent_entries = entries_walk (table_of a.graph.now) w c.take_up-start.new.self q em up.steps a.here i.now v.kept.round c.explore.new.self c.take_up-start.result c.explore.result more.explored _ v.spent_entries;
       stack_empty = more.empty;
-      stack_size = more.same.stack ∙ up.size ∙ v.size;
-      round = more.same.round ∙ ap (λ s. s.now) up.seen ∙ v.round;
-      slots = more.same.slots ∙ up.slots ∙ v.slots;
+      kept = kept;
       best_width = c.set.ensures.width ∙ ap (λ (b : code.Best). length b.row.items) v.best;
-      threads = v.threads;
     }

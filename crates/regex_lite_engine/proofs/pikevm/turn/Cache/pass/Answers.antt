@@ -14,7 +14,7 @@ returns-clause-passes c s p is on =
     let haystack = chars a.haystack.now in
     let old = a.self.now in
     let new = c.turn.new.self in
-    let w = onward table haystack a.graph.now.start s (length haystack) p old.threads
+    let w = onward table haystack a.graph.now.start s (length haystack) p old.walk.memory.threads
     (best_of old.best) c.next_start-here.result (c.next_start-here.ensures.passes p is) on.coming in
     let low = on.low in
     let later = w.later in
@@ -33,7 +33,7 @@ returns-clause-passes c s p is on =
         coming = c.turn.ensures.comes haystack w.q s (length haystack) w.is first w.is.inside
             (c.may_start.ensures.dead haystack w.q w.is) w.coming;
         tries = bound_on table haystack a.graph.now.start s
-            (old.walk.steps.tried + old.threads.len) (new.walk.steps.tried + new.threads.len) p w.q
+            (old.walk.steps.tried + length old.walk.memory.threads) (new.walk.steps.tried + length new.walk.memory.threads) p w.q
             (arrows_of table + 1) low later on.tries c.turn.ensures.tries;
         entries = bound_on table haystack a.graph.now.start s old.walk.steps.entered
             new.walk.steps.entered p w.q (length table) low later on.entries

@@ -1,17 +1,16 @@
 use Rattle.regex_lite_engine.specs.Graph.Stored.{table_of}
-use Rattle.regex_lite_engine.specs.Walk.Machine.{frames_of}
-use Rattle.regex_lite_engine.specs.Walk.Room.{HasRoom, IsSameMemory, work}
+use Rattle.regex_lite_engine.specs.Walk.Room.{HasRoom, KeepsPosition, work}
 use Rattle.regex_lite_engine.proofs.pikevm.RoomLemmas.{IsUnder}
 use Rattle.regex_lite_engine.proofs.pikevm.walk.Walk.explore.Given as goal
 
 abbrev pub invariant-frames : goal.invariant-frames
 invariant-frames l = record {
-  room : HasRoom (table_of l.graph) l.self (frames_of l.self.stack);
-  under : IsUnder (table_of l.graph) l.here l.start l.initial.self.seen.now l.initial.self.seen.rounds.items l.initial.self.slots.items (frames_of l.initial.self.stack) l.initial.self.next
+  room : HasRoom (table_of l.graph) l.self l.self.memory.frames;
+  under : IsUnder (table_of l.graph) l.here l.start l.initial.self.memory.now l.initial.self.memory.rounds l.initial.self.memory.row l.initial.self.memory.frames l.initial.self.memory.next
       l.initial.self.steps.tried l.initial.self.steps.entered
-      l.self.seen.rounds.items l.self.slots.items (frames_of l.self.stack) l.self.next l.self.steps.tried l.self.steps.entered;
-  same : IsSameMemory l.initial.self l.self;
+      l.self.memory.rounds l.self.memory.row l.self.memory.frames l.self.memory.next l.self.steps.tried l.self.steps.entered;
+  kept : KeepsPosition l.initial.self.memory l.self.memory;
 }
 
 abbrev pub decreases-frames : goal.decreases-frames
-decreases-frames l = work (table_of l.graph) l.self.seen.rounds.items l.self.seen.now (frames_of l.self.stack)
+decreases-frames l = work (table_of l.graph) l.self.memory.rounds l.self.memory.now l.self.memory.frames

@@ -1,0 +1,6 @@
+use Rattle.std.proofs.Common.{length, ap, sym, ◌∙◌}
+use Rattle.regex_lite_engine.proofs.pikevm.rows.RowLemmas.{count_is}
+use Rattle.regex_lite_engine.proofs.pikevm.rows.Rows.count.Goals as goal
+
+pub returns : goal.returns
+returns c = sym (count_is c.self.inside.slots.items c.self.inside.width c.self.inside.count) ∙ ap length c.self.view_is

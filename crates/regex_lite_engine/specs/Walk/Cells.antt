@@ -1,0 +1,82 @@
+-- How the working memory of a search lies in its cells and rows.
+use Rattle.std.specs.Prelude.{◌≡◌, ◌+◌, ◌*◌, ◌≤◌, ℕ, List, [], take, drop, length, map, Some, None, slice_index, slice_index_or}
+use Rattle.std.specs.List.{range_with_len}
+use Rattle.regex_lite_engine.specs.declared.pikevm.cell.Cell.{Cell}
+use Rattle.regex_lite_engine.specs.declared.pikevm.cell.Frame as code
+use Rattle.regex_lite_engine.specs.declared.pikevm.cell.Frame.TheVariants as stored
+use Rattle.regex_lite_engine.specs.declared.pikevm.cell.Side.{Side}
+use Rattle.regex_lite_engine.specs.declared.pikevm.cell.Side.TheVariants.{First, Second}
+use Rattle.regex_lite_engine.specs.Walk.Machine.{Row, Frame, explore, restore, Thread}
+
+-- row k of rows of one width that lie one behind the other
+abbrev pub row_at : (slots : Row) → (width k : ℕ) → Row
+row_at slots width k = take width (drop (k * width) slots)
+
+abbrev pub rows_in : (slots : Row) → (width count : ℕ) → List Row
+rows_in slots width count = map (row_at slots width) (range_with_len 0 count)
+
+-- the row with this number
+abbrev pub nth_row : List Row → ℕ → Row
+nth_row rows k = slice_index_or rows k []
+
+-- what is left to do
+abbrev pub frame_of : code.Frame → Frame
+frame_of (stored.Explore place) = explore place
+frame_of (stored.Restore slot old) = restore slot (Some old)
+frame_of (stored.Unmark slot) = restore slot None
+
+abbrev pub frame_in : Cell → Frame
+frame_in cell = frame_of cell.frame
+
+abbrev pub round_in : Cell → ℕ
+round_in cell = cell.entered
+
+-- the next frame lies at `top`
+abbrev pub frames_in : List Cell → (top : ℕ) → List Frame
+frames_in cells top = drop top (map frame_in cells)
+
+abbrev pub other : Side → Side
+other First = Second
+other Second = First
+
+-- the thread of the one list or the other
+abbrev pub place_on : Side → Cell → ℕ
+place_on First cell = cell.first_place
+place_on Second cell = cell.second_place
+
+abbrev pub start_on : Side → Cell → ℕ
+start_on First cell = cell.first_start
+start_on Second cell = cell.second_start
+
+abbrev pub with_thread : Side → (place start : ℕ) → Cell → Cell
+with_thread First place start cell =
+    record cell { first_place = place; first_start = start }
+with_thread Second place start cell =
+    record cell { second_place = place; second_start = start }
+
+-- the row of the first thread of the list: behind that of the way that is followed, and those of
+-- the second list behind those of the first
+abbrev pub first_row : Side → (room : ℕ) → ℕ
+first_row First room = 1
+first_row Second room = room + 1
+
+module _ (side : Side) (cells : List Cell) (rows : List Row) (room : ℕ) where
+  abbrev pub thread_on : ℕ → Thread
+  thread_on k = (
+    slice_index (map (place_on side) cells) k,
+    slice_index (map (start_on side) cells) k,
+    nth_row rows (first_row side room + k),
+  )
+
+  -- the first n threads of the list
+  abbrev pub threads_on : (n : ℕ) → List Thread
+  threads_on n = map thread_on (range_with_len 0 n)
+
+-- there is room for what is kept
+pub record HoldTogether (cells : List Cell) (rows : List Row) (room top len next_len : ℕ)
+    : Type 0 where
+  pub frames_fit : top ≤ length cells
+  pub threads_fit : len ≤ room
+  pub next_fit : next_len ≤ room
+  pub cells_fit : room ≤ length cells
+  pub rows_fit : length rows ≡ 2 * room + 1

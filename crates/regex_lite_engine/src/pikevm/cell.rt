@@ -1,0 +1,91 @@
+//! What a search keeps for each number.
+ghost use Rattle.std.specs.Prelude.{◌≡◌};
+ghost use Rattle.regex_lite_engine.specs.Walk.Cells.{other, place_on, start_on, with_thread};
+
+use std::mem::size_of;
+
+/// One thing that is left to do.
+#[derive(Clone, Copy)]
+pub enum Frame {
+    /// To explore a place.
+    Explore(u32),
+    /// To put a slot back to the offset that it held, since the branch that marked it is left.
+    Restore { slot: u32, old: usize },
+    /// To take the mark from a slot again that held nothing.
+    Unmark { slot: u32 },
+}
+
+/// One of the two lists of threads.
+#[derive(Clone, Copy)]
+pub enum Side {
+    First,
+    Second,
+}
+
+/// Parts of what is numbered alike: places, frames, and the threads of two lists. They have nothing
+/// else to do with one another, and lie together so that one request gives memory for all of them.
+#[derive(Clone, Copy)]
+pub struct Cell {
+    /// The round in which the place with this number was entered last.
+    pub entered: u64,
+    /// The frame with this number.
+    pub frame: Frame,
+    /// Where the ways of the threads with this number began, and where they go on.
+    first_start: usize,
+    second_start: usize,
+    first_place: u32,
+    second_place: u32,
+}
+
+// A search has one for each place.
+const _: () = prove!(size_of::<Cell>() == 48);
+
+/// A cell of which nothing is known yet.
+pub const BLANK: Cell = Cell {
+    entered: 0,
+    frame: Frame::Explore(0),
+    first_start: 0,
+    second_start: 0,
+    first_place: 0,
+    second_place: 0,
+};
+
+impl Side {
+    /// The other list.
+    pub fn other(self) -> Side
+        ensures { result ≡ other self }
+    {
+        match self {
+            Side::First => Side::Second,
+            Side::Second => Side::First,
+        }
+    }
+}
+
+impl Cell {
+    /// Where the thread of this list goes on, and where its way began.
+    pub fn thread(&self, side: Side) -> (u32, usize)
+        ensures { result ≡ (place_on side self.now, start_on side self.now) }
+    {
+        match side {
+            Side::First => (self.first_place, self.first_start),
+            Side::Second => (self.second_place, self.second_start),
+        }
+    }
+
+    /// Puts a thread of this list here.
+    pub fn put_thread(&mut self, side: Side, place: u32, start: usize)
+        ensures { self.new ≡ with_thread side place start self.old }
+    {
+        match side {
+            Side::First => {
+                self.first_place = place;
+                self.first_start = start;
+            }
+            Side::Second => {
+                self.second_place = place;
+                self.second_start = start;
+            }
+        }
+    }
+}

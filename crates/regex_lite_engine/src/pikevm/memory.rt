@@ -1,0 +1,98 @@
+//! All that a search works in.
+ghost use Rattle.std.specs.Prelude.{◌≡◌, ◌+◌, ◌^◌, ◌≤◌, ◌<◌, [], ℕ, IfOk, length, slice_index, slice_set};
+
+use crate::pikevm::cell::{BLANK, Cell, Side};
+use crate::pikevm::rows::Rows;
+use std::alloc::{AllocError, Global};
+use std::marker::Model;
+
+/// The working memory of a search. It is asked for by one request, or by two where slots are kept.
+#[derive(Drop)]
+pub struct Memory {
+    /// One for each place of the graph.
+    pub(super) cells: Vec<Cell>,
+    /// The row of the way that is followed, and those of the threads of both lists.
+    pub(super) rows: Rows,
+    /// How many threads each list has room for.
+    pub(super) room: usize,
+    /// The places that were entered in this round are those entered at this position.
+    pub(super) round: u64,
+    /// The frames lie from here to the end, the next one first.
+    pub(super) top: usize,
+    /// The list of the position's threads. That of the next position's is the other.
+    pub(super) side: Side,
+    pub(super) len: usize,
+    pub(super) next_len: usize,
+}
+
+impl Model for Memory {
+    ghost use Rattle.std.specs.Prelude.{map};
+    ghost use Rattle.regex_lite_engine.specs.Walk.Machine.{State};
+    ghost use Rattle.regex_lite_engine.specs.Walk.Cells.{round_in, frames_in, nth_row, threads_on, other, HoldTogether};
+
+    ghost Value = { State };
+
+    ghost view = { λ memory. record {
+      rounds = map round_in memory.cells.items;
+      now = memory.round;
+      frames = frames_in memory.cells.items memory.top;
+      row = nth_row memory.rows 0;
+      threads = threads_on memory.side memory.cells.items memory.rows memory.room memory.len;
+      next = threads_on (other memory.side) memory.cells.items memory.rows memory.room
+          memory.next_len;
+      room = memory.room;
+    } };
+
+    ghost invariant = { λ memory. HoldTogether memory.cells.items memory.rows memory.room
+        memory.top memory.len memory.next_len };
+}
+
+impl Memory {
+    /// Memory for so many places, and for so many threads in each list, with rows of this width.
+    pub fn blank(
+        alloc: Global,
+        places: usize,
+        room: usize,
+        width: usize,
+    ) -> Result<Memory, AllocError>
+        requires { room ≤ places }
+        ensures rounds { IfOk result (λ memory. length memory.rounds ≡ places) }
+        ensures now { IfOk result (λ memory. memory.now ≡ 0) }
+        ensures old { IfOk result (λ memory. (q : ℕ) → slice_index memory.rounds q ≤ 0) }
+        ensures frames { IfOk result (λ memory. memory.frames ≡ []) }
+        ensures width { IfOk result (λ memory. length memory.row ≡ width) }
+        ensures threads { IfOk result (λ memory. memory.threads ≡ []) }
+        ensures next { IfOk result (λ memory. memory.next ≡ []) }
+        ensures room { IfOk result (λ memory. memory.room ≡ room) }
+    {
+        let count = room.checked_mul(2).ok_or(AllocError)?;
+        let count = count.checked_add(1).ok_or(AllocError)?;
+        let cells = vec![in alloc; BLANK; places]?;
+        let rows = Rows::blank(alloc, count, width)?;
+        Ok(Memory {
+            cells,
+            rows,
+            room,
+            round: 0,
+            top: places,
+            side: Side::First,
+            len: 0,
+            next_len: 0,
+        })
+    }
+
+    /// The row of the way that is followed.
+    pub fn row(&self) -> &[Option<usize>]
+        ensures { result.now ≡ self.now.row }
+    {
+        self.rows.first()
+    }
+
+    /// Lets a slot of that row hold this.
+    pub fn put(&mut self, slot: u32, held: Option<usize>)
+        requires { slot < length self.old.row }
+        ensures { self.new ≡ record self.old { row = slice_set self.old.row slot held } }
+    {
+        self.rows.put(slot, held);
+    }
+}
