@@ -16,6 +16,8 @@ pub(crate) mod search;
 mod seen;
 mod stack;
 pub(crate) mod steps;
+#[cfg(test)]
+mod tests;
 mod threads;
 mod turn;
 mod walk;
