@@ -2,6 +2,7 @@
 pub mod EnterLemmas
 pub mod EndLemmas
 pub mod InStepLemmas
+pub mod InStepMatchLemmas
 pub mod MarkLemmas
 pub mod OfferLemmas
 pub mod OptionLemmas
@@ -15,3 +16,4 @@ pub mod StepLemmas
 pub mod ThreadLemmas
 pub mod TurnLemmas
 pub mod WalkLemmas
+pub mod WentLemmas

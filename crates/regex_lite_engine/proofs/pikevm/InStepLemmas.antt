@@ -1,4 +1,4 @@
--- What a walk keeps true when it passes over a node, enters one, or comes to an end.
+-- What a walk keeps true when it passes over a node, or enters one.
 use Rattle.std.proofs.Common.{◌≡◌, ℕ, suc, ◌+◌, ◌<◌, ◌≤◌, ◌⊎◌, inl, inr, ⊎_elim, Bool, IsTrue, List, [], ◌∷◌, ◌++◌, Option, Some, None, refl, sym, ap, subst, ◌∙◌, arith, append-nil}
 use Rattle.std.proofs.lemmas.Bool.{cases_lt}
 use Rattle.regex_lite_engine.specs.Search.Preference.{IsPreferred}
@@ -8,7 +8,7 @@ use Rattle.regex_lite_engine.specs.Walk.InStep.{StartsBelow}
 use Rattle.regex_lite_engine.proofs.pikevm.OptionLemmas.{not_there, same_some}
 use Rattle.regex_lite_engine.proofs.pikevm.OfferLemmas as order
 use Rattle.regex_lite_engine.proofs.pikevm.OfferLemmas.{preferred_before, preferred_append, preferred_longer}
-use Rattle.regex_lite_engine.proofs.laws.search.WayOrderLemmas.{Before-trans, NotAfter-trans, NotAfter-append}
+use Rattle.regex_lite_engine.proofs.laws.search.WayOrderLemmas.{NotAfter-trans, NotAfter-append}
 
 pub or_dead : {A B D : Type 0} → (A → B) → A ⊎ D → B ⊎ D
 or_dead f (inl a) = inl (f a)
@@ -66,12 +66,12 @@ module _ (N : Type 0) (step : N → ℕ → Option N) (same : (x y : N) → (x �
         by_test (inl e) q = inl (e, sym (same_some q))
         by_test (inr f) q = inr q
 
-    grown_still : (best : Option (List ℕ)) (m : N) (v : List ℕ) → IsGrown N step is_end (StartsAt start first last) recorded best m v →
+    pub grown_still : (best : Option (List ℕ)) (m : N) (v : List ℕ) → IsGrown N step is_end (StartsAt start first last) recorded best m v →
         IsGrown N step is_end (StartsAt start first last) extended best m v
     grown_still best m v (inl g) = inl g
     grown_still best m v (inr (o, x, k, r, s, e)) = inr (o, x, k, kept o x r, s, e)
 
-    grown_extended : (best : Option (List ℕ)) → ((m : N) (v : List ℕ) → recorded m ≡ Some v → IsGrown N step is_end (StartsAt start first last) recorded best m v) →
+    pub grown_extended : (best : Option (List ℕ)) → ((m : N) (v : List ℕ) → recorded m ≡ Some v → IsGrown N step is_end (StartsAt start first last) recorded best m v) →
         IsGrown N step is_end (StartsAt start first last) recorded best n w → (m : N) (v : List ℕ) → extended m ≡ Some v → IsGrown N step is_end (StartsAt start first last) extended best m v
     grown_extended best old new m v r = by_case (back m v r)
       where
@@ -144,7 +144,7 @@ module _ (N : Type 0) (step : N → ℕ → Option N) (same : (x y : N) → (x �
     arrow_offered : (k : ℕ) (l : N) → step n k ≡ Some l → In l (w ++ k ∷ []) (offers n w (width n) 0)
     arrow_offered k l s = order.offers_arrow N step n w (width n) 0 k l (omega arith) (all_within k l s) s
 
-    past_now : (m : N) (v : List ℕ) → extended recorded n w fresh m ≡ Some v → position m ≤ p
+    pub past_now : (m : N) (v : List ℕ) → extended recorded n w fresh m ≡ Some v → position m ≤ p
     past_now m v r = by_case (back recorded n w fresh m v r)
       where
         by_case : ((m ≡ n) × (v ≡ w)) ⊎ (recorded m ≡ Some v) → position m ≤ p
@@ -292,50 +292,3 @@ module _ (N : Type 0) (step : N → ℕ → Option N) (same : (x y : N) → (x �
         by_better m v b e (inl i) = u.next_better m v b i e
         by_better m v b e (inr i) = let r = order.offered N step n w (width n) 0 m v i in
             subst (λ z. IsPreferred z b) (sym r.3) (preferred_append w b (r.0 ∷ []) (u.now_better n w b here e))
-
-    -- a match is complete there: it is the best so far, and what is left at this position is dropped
-    pub in_step_complete : IsTrue (is_end n) → ((k : ℕ) → step n k ≡ None) → IsInStep p from (extended recorded n w fresh) [] next (Some w)
-    in_step_complete ends no_arrow = record {
-      grown = λ m v r. regrown m v (grown_extended recorded n w fresh best u.grown (u.now_grown n w here) m v r);
-      now_grown = λ m v i. absurd i;
-      next_grown = λ m v i. regrown m v (grown_still recorded n w fresh best m v (u.next_grown m v i));
-      starts = λ i q r t. or_dead (settle (start i) (i ∷ [])) (u.starts i q r t);
-      arrows = λ m v k l r s. by_back m v k l s (back recorded n w fresh m v r);
-      best_ends = λ b e. (n, ends, extended_here recorded n w fresh ∙ e);
-      best_least = λ m v e r. (w, refl, by_end m v e (back recorded n w fresh m v r));
-      now_ordered = tt;
-      next_ordered = u.next_ordered;
-      behind = λ m v l x i j. absurd j;
-      ahead = λ m v l x i r q. absurd i;
-      now_stands = λ m v i. absurd i;
-      next_stands = u.next_stands;
-      past = past_now;
-      now_below = λ m v i. absurd i;
-      next_below = u.next_below;
-      best_below = λ b e. subst (λ z. StartsBelow from z) (same_some e) (u.now_below n w here);
-      now_better = λ m v b i e. absurd i;
-      next_better = λ m v b i e. subst (λ z. IsPreferred v z) (same_some e) (u.behind m v n w i here);
-    }
-      where
-        regrown : (m : N) (v : List ℕ) → IsGrown N step is_end (StartsAt start first last) (extended recorded n w fresh) best m v →
-            IsGrown N step is_end (StartsAt start first last) (extended recorded n w fresh) (Some w) m v
-        regrown m v (inl g) = inl g
-        regrown m v (inr g) = inr g
-
-        settle : (m : N) (x : List ℕ) → IsAnswered N step is_end (StartsAt start first last) recorded best m x ⊎ (In m x ((n, w) ∷ rest) ⊎ In m x next) →
-            IsAnswered N step is_end (StartsAt start first last) (extended recorded n w fresh) (Some w) m x ⊎ (⊥ ⊎ In m x next)
-        settle m x (inl (inl (v, r, le))) = inl (inl (v, kept recorded n w fresh m v r, le))
-        settle m x (inl (inr (b, e, lt))) = inl (inr (w, refl, Before-trans w b x (preferred_before w b (u.now_better n w b here e)) lt))
-        settle m x (inr (inr i)) = inr (inr i)
-        settle m x (inr (inl (inr i))) = inl (inr (w, refl, preferred_before w x (u.now_ordered.0 m x i)))
-        settle m x (inr (inl (inl e))) = inl (inl (w, ap (extended recorded n w fresh) e.0 ∙ extended_here recorded n w fresh, inl (sym e.1)))
-
-        by_back : (m : N) (v : List ℕ) (k : ℕ) (l : N) → step m k ≡ Some l → ((m ≡ n) × (v ≡ w)) ⊎ (recorded m ≡ Some v) →
-            IsAnswered N step is_end (StartsAt start first last) (extended recorded n w fresh) (Some w) l (v ++ k ∷ []) ⊎ (⊥ ⊎ In l (v ++ k ∷ []) next)
-        by_back m v k l s (inr r) = settle l (v ++ k ∷ []) (u.arrows m v k l r s)
-        by_back m v k l s (inl e) = absurd (not_there (sym (no_arrow k) ∙ ap (λ z. step z k) (sym e.0) ∙ s))
-
-        by_end : (m : N) (v : List ℕ) → IsTrue (is_end m) → ((m ≡ n) × (v ≡ w)) ⊎ (recorded m ≡ Some v) → NotAfter w v
-        by_end m v e (inl f) = inl (sym f.1)
-        by_end m v e (inr r) = let b = u.best_least m v e r in
-            NotAfter-trans w b.0 v (inr (preferred_before w b.0 (u.now_better n w b.0 here b.1))) b.2

@@ -14,6 +14,7 @@ use Rattle.regex_lite_engine.specs.Search.Offsets.{offset, HasSlots}
 use Rattle.regex_lite_engine.specs.Walk.Walking.{Node, WayHolds, FramesHold, ThreadsHold, InStep, Best, IsWalking}
 use Rattle.regex_lite_engine.proofs.laws.LeadsLemmas.{leads_append}
 use Rattle.regex_lite_engine.proofs.pikevm.InStepLemmas as deep
+use Rattle.regex_lite_engine.proofs.pikevm.InStepMatchLemmas as at_match
 use Rattle.regex_lite_engine.proofs.pikevm.MarkLemmas.{marks_append, same_slots}
 use Rattle.regex_lite_engine.proofs.pikevm.OfferLemmas as order
 
@@ -264,7 +265,7 @@ module _ (table : List (Place ℕ)) (h : Text) where
               later = [];
               coming = u.coming;
               way = Some w;
-              in_step = deep.in_step_complete Node (numbered_step table h) same_node wide no_more (λ j. (s, j)) (is_end table h) first last (λ x. x.1)
+              in_step = at_match.in_step_complete Node (numbered_step table h) same_node wide no_more (λ j. (s, j)) (is_end table h) first last (λ x. x.1)
                   p from u.recorded (q, p) w fresh (rest ++ u.later) u.coming u.way (subst (λ z. In_step u.recorded (z ++ u.later) u.coming u.way) e u.in_step)
                   ends (λ a. no_arrow_at (place_with table q) p a ends);
               seen = seen_now w;

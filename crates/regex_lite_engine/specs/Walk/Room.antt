@@ -79,8 +79,9 @@ module _ (table : List (Place ℕ)) where
 
   -- a frame was taken off, or all of them where a match is complete
   pub record Went (here : Here) (i now : ℕ) (rounds : List ℕ) (row : Row) (frames : List Frame)
-      (next : List Thread) (tried entered : ℕ) (rounds' : List ℕ) (row' : Row) (frames' : List Frame)
-      (room : ℕ) (next' : List Thread) (tried' entered' looked' : ℕ) (done : Bool) : Type 0 where
+      (next : List Thread) (tried entered : ℕ) (rounds' : List ℕ) (row' : Row)
+      (frames' : List Frame) (room : ℕ) (next' : List Thread) (tried' entered' looked' : ℕ)
+      (done : Bool) : Type 0 where
     pub fit : IsFit rounds' now row' frames' room next' tried' entered' looked'
     pub walks : WalksTo here i now rounds row frames next rounds' row' frames' next' done
     pub less : done ≡ false → work rounds' now frames' < work rounds now frames

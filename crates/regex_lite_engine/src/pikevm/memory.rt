@@ -1,5 +1,5 @@
 //! All that a search works in.
-ghost use Rattle.std.specs.Prelude.{◌≡◌, ◌+◌, ◌^◌, ◌≤◌, ◌<◌, [], ℕ, IfOk, length, slice_index, slice_set};
+ghost use Rattle.std.specs.Prelude.{◌≡◌, ◌+◌, ◌*◌, ◌≤◌, ◌<◌, [], ℕ, IfOk, length, slice_index, slice_set};
 
 use crate::pikevm::cell::{BLANK, Cell, Side};
 use crate::pikevm::rows::Rows;
@@ -79,6 +79,13 @@ impl Memory {
             len: 0,
             next_len: 0,
         })
+    }
+
+    /// How many rows there are.
+    pub fn rows(&self) -> usize
+        ensures { result ≡ 2 * self.now.room + 1 }
+    {
+        self.rows.count()
     }
 
     /// The row of the way that is followed.

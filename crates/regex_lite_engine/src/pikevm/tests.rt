@@ -1,6 +1,10 @@
-//! Searches from a pattern on: that they run, and that what they tell is what was meant.
+//! Searches from a pattern on: that they run, that what they tell is what was meant, and how many
+//! rows of slots they have.
+use super::cache_for;
 use crate::Graph;
+use crate::pikevm::turn::Cache;
 use regex_lite_syntax::{Config, Flags, Hir};
+use std::alloc::Global;
 use std::test::Fail;
 
 /// Where a match starts and ends, and what slots 2 and 3 hold.
@@ -40,19 +44,19 @@ const ROWS: [Row; 9] = [
 ];
 
 /// The graph of the pattern.
-fn graph_of(rt: &HostRuntime, pattern: &str) -> Result<Graph, Fail> {
+fn graph_of(alloc: Global, pattern: &str) -> Result<Graph, Fail> {
     let config = Config {
         flags: Flags::default(),
         nest_limit: 50,
     };
-    let hir = Hir::parse(rt.alloc(), config, pattern)?;
-    Ok(Graph::new(rt.alloc(), &hir, 1_000_000)?)
+    let hir = Hir::parse(alloc, config, pattern)?;
+    Ok(Graph::new(alloc, &hir, 1_000_000)?)
 }
 
 #[test]
 fn rows(rt: HostRuntime) -> Result<(), Fail> {
     for (pattern, haystack, start, wanted, end) in ROWS {
-        let graph = graph_of(&rt, pattern)?;
+        let graph = graph_of(rt.alloc(), pattern)?;
         let (found, _) = graph.search(rt.alloc(), haystack, start, 4)?;
         let told = match found {
             None => None,
@@ -61,6 +65,29 @@ fn rows(rt: HostRuntime) -> Result<(), Fail> {
         assert!(rt; told == wanted, "{pattern:?} in {haystack:?}");
         let (shortest, _) = graph.search_shortest(rt.alloc(), haystack, start)?;
         assert_eq!(rt; shortest, end, "{pattern:?} in {haystack:?}");
+    }
+    Ok(())
+}
+
+/// How many rows each list of threads has: one for each thread, and one more, which is that of the
+/// way that is followed for the one list and that of the best match for the other.
+fn rows_of_a_list(cache: &Cache) -> usize {
+    cache.walk.memory.rows() / 2 + 1
+}
+
+/// A row for each place that reads a character, one for the match and one for new starts. The
+/// numbers are counted by hand in the patterns.
+#[test]
+fn a_row_for_what_reads(rt: HostRuntime) -> Result<(), Fail> {
+    for (pattern, rows) in [
+        ("(?:a?){30}a{30}", 62),
+        ("[^\\s\\S]", 2),
+        ("", 2),
+        ("(?:a|[b-d]|$)*", 4),
+    ] {
+        let graph = graph_of(rt.alloc(), pattern)?;
+        let cache = cache_for(rt.alloc(), &graph, 2)?;
+        assert_eq!(rt; rows_of_a_list(&cache), rows, "{pattern:?}");
     }
     Ok(())
 }

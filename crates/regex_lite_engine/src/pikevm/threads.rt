@@ -1,5 +1,5 @@
-//! Where a search goes on at a position and at the next: places in the order of their preference, each
-//! with where its way began and with a row of slots.
+//! Where a search goes on at a position and at the next: places in the order of their preference,
+//! each with where its way began and with a row of slots.
 ghost use Rattle.std.specs.Prelude.{◌≡◌, ◌+◌, ◌^◌, ◌<◌, ◌++◌, [], ◌∷◌, None, length, replicate};
 ghost use Rattle.regex_lite_engine.specs.Walk.Cells.{first_row};
 ghost use Rattle.regex_lite_engine.specs.Walk.Machine.{thread_at};

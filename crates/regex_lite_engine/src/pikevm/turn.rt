@@ -35,8 +35,8 @@ impl Cache {
         ensures comes { (haystack : Text) (p first last : ℕ) → IsHere haystack p here → first ≤ p
             → p ≤ last
             → (may_start ≡ false → IsDeadAt (table_of graph.now) haystack graph.now.start p)
-            → IsComing (table_of graph.now) haystack graph.now.start first last p self.old.walk.memory.threads
-            (best_of self.old.best)
+            → IsComing (table_of graph.now) haystack graph.now.start first last p
+            self.old.walk.memory.threads (best_of self.old.best)
             → IsComing (table_of graph.now) haystack graph.now.start first last (p + 1)
             self.new.walk.memory.threads (best_of self.new.best) }
         ensures ends { EndsAt here.at (best_of self.old.best) (best_of self.new.best) }

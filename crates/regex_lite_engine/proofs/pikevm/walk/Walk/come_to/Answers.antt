@@ -6,7 +6,8 @@ use Rattle.regex_lite_engine.specs.Graph.Stored.{LeadsBelow, table_of, place_of}
 use Rattle.regex_lite_engine.specs.Walk.Entering.{Enters}
 use Rattle.regex_lite_engine.specs.Walk.Machine.{explore, State}
 use Rattle.regex_lite_engine.specs.Walk.Room.{Went}
-use Rattle.regex_lite_engine.proofs.pikevm.RoomLemmas.{went_seen, went_entered, got_place, left_room, was_met}
+use Rattle.regex_lite_engine.proofs.pikevm.RoomLemmas.{left_room}
+use Rattle.regex_lite_engine.proofs.pikevm.WentLemmas.{went_seen, went_entered, got_place, was_met}
 use Rattle.regex_lite_engine.proofs.pikevm.walk.Walk.come_to.Goals as goal
 
 pub returns-then-not-insert-clause-taken : goal.returns-then-not-insert-clause-taken

@@ -1,6 +1,6 @@
 use Rattle.regex_lite_engine.specs.Graph.Stored.{table_of}
 use Rattle.regex_lite_engine.specs.Walk.Room.{HasRoom, KeepsPosition, work}
-use Rattle.regex_lite_engine.proofs.pikevm.RoomLemmas.{IsUnder}
+use Rattle.regex_lite_engine.proofs.pikevm.WentLemmas.{IsUnder}
 use Rattle.regex_lite_engine.proofs.pikevm.walk.Walk.explore.Given as goal
 
 abbrev pub invariant-frames : goal.invariant-frames

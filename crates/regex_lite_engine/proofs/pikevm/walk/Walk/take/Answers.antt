@@ -4,7 +4,7 @@ use Rattle.regex_lite_engine.specs.Graph.Stored.{table_of}
 use Rattle.regex_lite_engine.specs.Walk.Cells.{frame_of}
 use Rattle.regex_lite_engine.specs.Walk.Machine.{restore, State}
 use Rattle.regex_lite_engine.specs.Walk.Room.{IsFit, Went}
-use Rattle.regex_lite_engine.proofs.pikevm.RoomLemmas.{went_restored}
+use Rattle.regex_lite_engine.proofs.pikevm.WentLemmas.{went_restored}
 use Rattle.regex_lite_engine.proofs.pikevm.walk.Walk.take.Goals as goal
 
 pub returns-in-Restore-clause-taken : goal.returns-in-Restore-clause-taken
