@@ -1,5 +1,5 @@
 //! Rows of slots.
-ghost use Rattle.std.specs.Prelude.{◌≡◌, ◌+◌, ◌≤◌, ◌<◌, [], ◌++◌, IfOk, None, length, take, drop, replicate, slice_index_or, slice_set};
+ghost use Rattle.std.specs.Prelude.{◌≡◌, ◌+◌, ◌≤◌, ◌<◌, ◌⊎◌, [], ◌++◌, IfOk, None, length, take, drop, replicate, slice_index_or, slice_set};
 
 use std::alloc::{AllocError, Global};
 use std::marker::Model;
@@ -66,10 +66,11 @@ impl Rows {
         self.slots[slot as usize] = held;
     }
 
-    /// Writes a row over another.
+    /// Writes a row over another one.
     pub fn copy(&mut self, from: usize, to: usize)
         requires from { from < length self.old }
         requires to { to < length self.old }
+        requires apart { ¬ (from ≡ to) }
         ensures copied { self.new ≡ slice_set self.old to (slice_index_or self.old from []) }
         ensures width { length (slice_index_or self.old from [])
             ≡ length (slice_index_or self.old to []) }
@@ -94,11 +95,21 @@ impl Rows {
 fn copy_row(slots: &mut Vec<Option<usize>>, from: usize, to: usize, width: usize)
     requires from { from + width ≤ length slots.old.items }
     requires to { to + width ≤ length slots.old.items }
+    requires apart { (from + width ≤ to) ⊎ (to + width ≤ from) }
     ensures { slots.new.items ≡ take to slots.old.items
         ++ (take width (drop from slots.old.items) ++ drop (to + width) slots.old.items) }
 {
-    let end = from + width;
-    slots.copy_within(from..end, to);
+    // Most searches keep no slots, and then a copy costs nothing.
+    if width == 0 {
+        return;
+    }
+    if from < to {
+        let (head, tail) = slots.split_at_mut(to);
+        tail[..width].copy_from_slice(&head[from..from + width]);
+    } else {
+        let (head, tail) = slots.split_at_mut(from);
+        head[to..to + width].copy_from_slice(&tail[..width]);
+    }
 }
 
 /// Writes over a row of this width that nothing is marked.

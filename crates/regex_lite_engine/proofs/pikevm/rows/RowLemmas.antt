@@ -164,3 +164,16 @@ module _ (slots : Row) (w count : ℕ) (rows : List Row) (view : rows_in slots w
   view_put slot held some lt =
       slot_put slots w count slot held (number_inside 0 some) (omega (arith, lt, row_of_view_long 0 some))
       ∙ ap (λ z. set z 0 (set (row_at slots w 0) slot held)) view ∙ ap (λ z. set rows 0 (set z slot held)) (sym (row_of_view 0 some))
+
+-- different rows don't overlap
+pub rows_apart : (i j w : ℕ) → (i ≡ j → ⊥) → (i * w + w ≤ j * w) ⊎ (j * w + w ≤ i * w)
+rows_apart i j w apart = by_order (cases_lt i j)
+  where
+    up_to : (i j : ℕ) → i < j → i * w + w ≤ j * w
+    up_to i j lt =
+        let room : suc i * w ≤ j * w = mul-le-mul_right w (omega (arith, lt)) in
+        omega (arith, room, suc-mul i w)
+
+    by_order : (i < j) ⊎ (j ≤ i) → (i * w + w ≤ j * w) ⊎ (j * w + w ≤ i * w)
+    by_order (inl lt) = inl (up_to i j lt)
+    by_order (inr le) = inr (up_to j i (omega (arith, le, apart)))

@@ -1,5 +1,5 @@
 use Rattle.std.proofs.Common.{◌*◌, length, take, drop, set, ap, sym, ◌∙◌, arith}
-use Rattle.regex_lite_engine.proofs.pikevm.rows.RowLemmas.{inside_slots, row_of_view, row_of_view_long, view_over, over_long}
+use Rattle.regex_lite_engine.proofs.pikevm.rows.RowLemmas.{rows_apart, inside_slots, row_of_view, row_of_view_long, view_over, over_long}
 use Rattle.regex_lite_engine.proofs.pikevm.rows.Rows.copy.Goals as goal
 
 pub overflow_mul-start : goal.overflow_mul-start
@@ -31,3 +31,6 @@ returns-clause-copied c =
 
 pub returns-clause-width : goal.returns-clause-width
 returns-clause-width c = row_of_view_long c.self.inside.slots.items c.self.inside.width c.self.inside.count c.args.self.now c.self.view_is c.self.invariant c.args.from c.requires.from ∙ sym (row_of_view_long c.self.inside.slots.items c.self.inside.width c.self.inside.count c.args.self.now c.self.view_is c.self.invariant c.args.to c.requires.to)
+
+pub copy_row-requires-clause-apart : goal.copy_row-requires-clause-apart
+copy_row-requires-clause-apart c = rows_apart c.args.from c.args.to c.self.inside.width c.requires.apart
