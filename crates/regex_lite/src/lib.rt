@@ -24,6 +24,7 @@
 //! is shared by the clones of a [`Regex`]. `string` holds these types, and `plain` the search.
 #![tactic(auto)]
 
+pub mod laws;
 mod string;
 
 pub use regex_lite_engine::Steps;

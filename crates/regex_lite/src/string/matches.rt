@@ -19,7 +19,7 @@ use std::ops::Range;
 /// ```
 ///
 /// The test `tests::examples::matched_text` runs this example.
-#[derive(Clone, Copy, PartialEq, Eq)]
+#[derive(Clone, Copy)]
 pub struct Match<'h> {
     haystack: &'h str,
     start: usize,
@@ -86,6 +86,28 @@ impl<'h> Match<'h> {
     {
         &self.haystack[self.start..self.end]
     }
+}
+
+impl<'h> PartialEq for Match<'h> {
+    ghost use Rattle.std.proofs.Common.{rules};
+    ghost use Rattle.std.specs.Cmp.Rules.{comparing};
+    ghost use Rattle.regex_lite.specs.MatchViews.{is_same_match};
+
+    ghost eq = { is_same_match };
+
+    ghost laws = { Prim.search (comparing, rules) };
+
+    /// Whether the haystacks are the same text, and the offsets are equal.
+    fn eq(&self, other: &Match<'h>) -> bool {
+        self.haystack == other.haystack && self.start == other.start && self.end == other.end
+    }
+}
+
+impl<'h> Eq for Match<'h> {
+    ghost use Rattle.std.proofs.Common.{rules};
+    ghost use Rattle.std.specs.Cmp.Rules.{comparing};
+
+    ghost laws = { Prim.search (comparing, rules) };
 }
 
 /// Writes the two offsets and what matched.
