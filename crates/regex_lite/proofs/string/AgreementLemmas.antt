@@ -15,9 +15,7 @@ use Rattle.regex_lite.specs.MatchViews.{match_span}
 use Rattle.regex_lite.specs.Searches.{MatchesFrom, TellsAnswer, TellsEnd, TellsGroups, TellsMatch, offsets}
 use Rattle.regex_lite.proofs.string.FoundLemmas.{group_0}
 use Rattle.regex_lite.proofs.string.OneTreeLemmas.{matches_told, one_tree}
-
-same_some : {A : Type 0} {x y : A} → ◌≡◌ {A = Option A} (Some x) (Some y) → x ≡ y
-same_some e = cc
+use Rattle.regex_lite.proofs.string.ToldLemmas.{same_some}
 
 same_truth : (a b : Bool) (P : Type 0) → (IsTrue a ↔ P) → (IsTrue b ↔ P) → a ≡ b
 same_truth true true P p q = refl
