@@ -56,7 +56,7 @@ impl<'h> Deref for Captures<'h> {
 impl<'h> Captures<'h> {
     ghost use Rattle.regex_lite.specs.MatchViews.{groups_left, match_haystack, match_span};
 
-    /// The groups that these slots hold, of a regex that this was built for.
+    /// The groups that these slots hold, of the regex that shares what was built.
     pub(super) fn new(
         haystack: &'h str,
         slots: Vec<Option<usize>>,

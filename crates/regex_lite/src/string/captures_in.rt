@@ -30,8 +30,9 @@ impl Text for &str {
     }
 }
 
-/// The groups of a match in a haystack of this type. A [`Captures`](crate::Captures) is one, with a haystack that is
-/// `&str`.
+/// The groups of a match in a haystack of this type.
+///
+/// A [`Captures`](crate::Captures) leads to one with a haystack that is `&str`.
 #[derive(Drop)]
 pub struct CapturesIn<T: Text> {
     pub(super) haystack: T,
@@ -54,7 +55,7 @@ impl<T: Text> Model for CapturesIn<T> {
 }
 
 impl<T: Text> CapturesIn<T> {
-    /// The groups that these slots hold, of a regex that this was built for.
+    /// The groups that these slots hold, of the regex that shares what was built.
     pub(super) fn new(haystack: T, slots: Vec<Option<usize>>, compiled: Rc<Compiled>) -> Self
         requires { AreGroups (groups_of (T.bytes haystack) slots.items compiled.value) }
         ensures { result ≡ groups_of (T.bytes haystack) slots.items compiled.value }

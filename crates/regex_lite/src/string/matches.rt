@@ -9,16 +9,6 @@ use std::ops::Range;
 ///
 /// It borrows the haystack alone, and outlives the regex that found it. Two matches are equal where
 /// the texts of their haystacks are, and their starts and their ends.
-///
-/// ```
-/// let regex = Regex::new(alloc, "[0-9]+")?;
-/// if let Some(found) = regex.find("b52")? {
-///     found.as_str(); // "52"
-///     found.range(); // 1..3
-/// }
-/// ```
-///
-/// The test `tests::examples::matched_text` runs this example.
 #[derive(Clone, Copy)]
 pub struct Match<'h> {
     haystack: &'h str,
@@ -81,6 +71,16 @@ impl<'h> Match<'h> {
     }
 
     /// What matched, as a part of the haystack.
+    ///
+    /// ```
+    /// let regex = Regex::new(alloc, "[0-9]+")?;
+    /// if let Some(found) = regex.find("b52")? {
+    ///     found.as_str(); // "52"
+    ///     found.range(); // 1..3
+    /// }
+    /// ```
+    ///
+    /// The test `tests::examples::matched_text` runs this example.
     pub fn as_str(&self) -> &'h str
         ensures { result.now ≡ match_text self.now }
     {

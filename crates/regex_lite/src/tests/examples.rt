@@ -121,7 +121,7 @@ fn names(rt: HostRuntime) -> Result<(), Fail> {
     Ok(())
 }
 
-/// At `Match`.
+/// At `Match::as_str`.
 #[test]
 fn matched_text(rt: HostRuntime) -> Result<(), Fail> {
     let regex = Regex::new(rt.alloc(), "[0-9]+")?;
