@@ -1,6 +1,8 @@
 -- lemmas that several proofs here share
 pub mod AcceptanceLemmas
+pub mod AgreementLemmas
 pub mod CapturedLemmas
+pub mod EqualityLemmas
 pub mod FoundLemmas
 pub mod GroupLemmas
 pub mod GroupNameLemmas

@@ -5,6 +5,7 @@ pub mod Expression
 pub mod Groups
 pub mod MatchViews
 pub mod Searches
+pub mod Laws
 pub mod CaptureNames
 pub use Rattle.regex_lite_syntax.specs.Errors
 pub use Rattle.regex_lite_syntax.specs.Text

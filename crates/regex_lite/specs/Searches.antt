@@ -1,5 +1,5 @@
 -- What searches tell, by offsets.
-use Rattle.std.specs.Prelude.{◌≡◌, ◌<◌, ◌⊎◌, ℕ, zero, suc, List, [], ◌∷◌, Option, Some, None, IsCharBoundary, chars, length, option_map}
+use Rattle.std.specs.Prelude.{◌≡◌, ◌<◌, ◌≤◌, ◌⊎◌, ℕ, zero, suc, List, [], ◌∷◌, Option, Some, None, IsSome, IsCharBoundary, chars, length, option_map}
 use Rattle.regex_lite_syntax.specs.Text.{Text}
 use Rattle.regex_lite_syntax.specs.Tree.{Tree}
 use Rattle.regex_lite_syntax.specs.Tree.Properties.{captures_len, static_captures_len}
@@ -10,13 +10,17 @@ use Rattle.regex_lite_engine.specs.Search.Offsets.{offset, search_start}
 use Rattle.regex_lite_engine.specs.Search.Outcomes.{IsEndOutcome, HasCost}
 use Rattle.regex_lite.specs.declared.string.matches.Match.{Match}
 use Rattle.regex_lite.specs.Expression.{Expression, OfTree, AreNames}
-use Rattle.regex_lite.specs.Groups.{Groups}
+use Rattle.regex_lite.specs.Groups.{Groups, group_span}
 use Rattle.regex_lite.specs.MatchViews.{match_haystack, match_span}
 
 -- what every search asks of its start, in a haystack that is given as its bytes: it is above the
 -- length or on a character boundary
 abbrev pub CanStartAt : (haystack : List ℕ) → (start : ℕ) → Type 0
 CanStartAt haystack start = (length haystack < start) ⊎ IsCharBoundary haystack start
+
+-- what a search that writes to locations asks of them: they have no more groups than the regex
+abbrev pub CanRead : Expression → (locations : List (Option (ℕ × ℕ))) → Type 0
+CanRead re locations = OfTree re (λ tree. length locations ≤ captures_len tree)
 
 -- the pattern matches from some position at or after this offset
 abbrev pub MatchesFrom : Expression → (haystack : List ℕ) → (start : ℕ) → Type 0
@@ -59,13 +63,14 @@ TellsMatch re haystack start told =
     TellsAnswer (λ tree. IsMatchOf haystack) re haystack start told
 
 -- the groups are those of what was found, each with its span and its name, and there are as many as
--- the tree has
+-- the tree has. Group 0 took part
 pub record AreGroupsOf (tree : Tree) (bytes : List ℕ) (found : Found) (groups : Groups)
     : Type 0 where
   pub haystack : groups.haystack ≡ bytes
   pub spans : groups.spans ≡ spans_from (chars bytes) found.marks 0 (captures_len tree)
   pub names : AreNames groups.names tree
   pub static_captures : groups.static_captures_len ≡ static_captures_len tree
+  pub whole : IsSome (group_span groups 0)
 
 -- what is told are the groups
 abbrev pub TellsGroups : Expression → (haystack : List ℕ) → (start : ℕ) → Option Groups → Type 0

@@ -2,6 +2,7 @@
 mod builder;
 mod capture_names;
 mod captures;
+mod captures_in;
 mod compiled;
 mod counted;
 mod group_search;
@@ -14,7 +15,8 @@ mod sub_captures;
 
 pub use builder::RegexBuilder;
 pub use capture_names::CaptureNames;
-pub use captures::{Captures, CapturesIn, Text};
+pub use captures::Captures;
+pub use captures_in::{CapturesIn, Text};
 pub use locations::CaptureLocations;
 pub use matches::Match;
 pub use regex::Regex;

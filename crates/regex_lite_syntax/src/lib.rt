@@ -22,4 +22,4 @@ pub use flags::Flags;
 pub use hir::Hir;
 pub use hir::look::Look;
 pub use hir::properties::Properties;
-pub use parse::{Config, characters};
+pub use parse::Config;

@@ -82,7 +82,7 @@ impl Hir {
 }
 
 /// The characters of a text.
-pub fn characters(alloc: Global, text: &str) -> Result<Vec<char>, AllocError>
+fn characters(alloc: Global, text: &str) -> Result<Vec<char>, AllocError>
     ensures { IfOk result (λ found. found.items ≡ chars text.now) }
 {
     text.chars().collect(alloc)

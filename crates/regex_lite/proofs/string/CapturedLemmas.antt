@@ -9,7 +9,7 @@ use Rattle.regex_lite_engine.specs.Search.Answer.{Found, IsFound}
 use Rattle.regex_lite_engine.specs.Search.Offsets.{HasSlots, offset}
 use Rattle.regex_lite.specs.declared.string.compiled.Compiled.{Compiled}
 use Rattle.regex_lite.specs.Compiled.{IsBuilt, groups_of}
-use Rattle.regex_lite.specs.Groups.{AreGroups, LiesIn, span_at, spans_of, text_at, texts_from}
+use Rattle.regex_lite.specs.Groups.{AreGroups, LiesIn, span_at, spans_of, text_at, texts_from, group_span}
 use Rattle.regex_lite.specs.Searches.{AreGroupsOf, spans_from}
 use Rattle.regex_lite.proofs.string.FoundLemmas.{slots_told, length_spans, groups_lie, group_0, enough_texts}
 use Rattle.regex_lite.proofs.string.GroupNameLemmas.{are_names}
@@ -31,6 +31,11 @@ module _ (bytes : List ℕ) (utf8 : IsUtf8 bytes) (compiled : Compiled) (built :
       (λ k slot at. told k slot at
       ∙ ap (λ n. option_map (offset (chars bytes)) (found.marks n)) (omega arith))
 
+  some_group_0 : IsSome (group_span (groups_of bytes slots compiled) 0)
+  some_group_0 =
+      subst IsSome (sym (ap (λ all. span_at all 0) spans_are
+      ∙ group_0 (chars bytes) built.tree s found (captures_len built.tree) given is (omega arith))) refl
+
   pub captured_of : AreGroupsOf built.tree bytes found (groups_of bytes slots compiled)
   captured_of = record {
     haystack = refl;
@@ -38,6 +43,7 @@ module _ (bytes : List ℕ) (utf8 : IsUtf8 bytes) (compiled : Compiled) (built :
     names = are_names _ compiled.graph.capture_names built.tree refl built.regular
         built.groups.captures built.groups.names;
     static_captures = built.groups.static_captures;
+    whole = some_group_0;
   }
 
   pub captured : AreGroups (groups_of bytes slots compiled)
@@ -46,8 +52,7 @@ module _ (bytes : List ℕ) (utf8 : IsUtf8 bytes) (compiled : Compiled) (built :
         (groups_lie bytes utf8 built.tree given s found is (captures_len built.tree) k);
     each = ap length spans_are ∙ length_spans (chars bytes) found.marks 0 (captures_len built.tree)
         ∙ sym built.groups.captures ∙ sym (length-map compiled.graph.capture_names (option_map rc_str_bytes));
-    whole = subst IsSome (sym (ap (λ all. span_at all 0) spans_are
-        ∙ group_0 (chars bytes) built.tree s found (captures_len built.tree) given is (omega arith))) refl;
+    whole = some_group_0;
     enough = each compiled.graph.static_captures_len built.groups.static_captures;
   }
     where

@@ -20,10 +20,10 @@ use Rattle.regex_lite.proofs.string.CapturedLemmas.{captured, captured_of}
 use Rattle.regex_lite.proofs.string.FoundLemmas.{first_told, found_lies, group_0, length_spans}
 use Rattle.regex_lite.proofs.string.OneTreeLemmas.{one_tree}
 
-same_some : {A : Type 0} {x y : A} → ◌≡◌ {A = Option A} (Some x) (Some y) → x ≡ y
+pub same_some : {A : Type 0} {x y : A} → ◌≡◌ {A = Option A} (Some x) (Some y) → x ≡ y
 same_some e = cc
 
-not_there : {A : Type 0} {x : A} → ◌≡◌ {A = Option A} None (Some x) → ⊥
+pub not_there : {A : Type 0} {x : A} → ◌≡◌ {A = Option A} None (Some x) → ⊥
 not_there e = cc
 
 same_pair : {a b i j : ℕ} → a ≡ i → b ≡ j → ◌≡◌ {A = ℕ × ℕ} (a, b) (i, j)

@@ -1,9 +1,9 @@
 //! Searches for the groups of a match.
-ghost use Rattle.std.specs.Prelude.{◌≡◌, ◌≤◌, None, IfOk, IfErr, length, replicate};
+ghost use Rattle.std.specs.Prelude.{◌≡◌, None, IfOk, IfErr, length, replicate};
 ghost use Rattle.regex_lite_syntax.specs.Errors.{out_of_memory};
 ghost use Rattle.regex_lite_syntax.specs.Tree.Properties.{captures_len};
 ghost use Rattle.regex_lite.specs.Expression.{OfTree};
-ghost use Rattle.regex_lite.specs.Searches.{CanStartAt, TellsGroups, TellsLocations};
+ghost use Rattle.regex_lite.specs.Searches.{CanRead, CanStartAt, TellsGroups, TellsLocations};
 
 use crate::string::captures::Captures;
 use crate::string::locations::CaptureLocations;
@@ -84,10 +84,11 @@ impl Regex {
         locs: &mut CaptureLocations,
         haystack: &'h str,
     ) -> Result<Option<Match<'h>>, Error>
-        requires { OfTree self.now (λ tree. length locs.old ≤ captures_len tree) }
+        requires { CanRead self.now locs.old }
         ensures found { IfOk result
             (λ found. TellsLocations self.now haystack.now 0 locs.new found) }
         ensures len { length locs.new ≡ length locs.old }
+        ensures again { CanRead self.now locs.new }
         ensures none { IfOk result (λ found. found ≡ None → locs.new ≡ locs.old) }
         ensures refused { IfErr result
             (λ error. (error ≡ out_of_memory) × (locs.new ≡ locs.old)) }
@@ -112,11 +113,12 @@ impl Regex {
         haystack: &'h str,
         start: usize,
     ) -> Result<Option<Match<'h>>, Error>
-        requires room { OfTree self.now (λ tree. length locs.old ≤ captures_len tree) }
+        requires room { CanRead self.now locs.old }
         requires start { CanStartAt haystack.now start }
         ensures found { IfOk result
             (λ found. TellsLocations self.now haystack.now start locs.new found) }
         ensures len { length locs.new ≡ length locs.old }
+        ensures again { CanRead self.now locs.new }
         ensures none { IfOk result (λ found. found ≡ None → locs.new ≡ locs.old) }
         ensures refused { IfErr result
             (λ error. (error ≡ out_of_memory) × (locs.new ≡ locs.old)) }
@@ -137,6 +139,7 @@ impl Regex {
     pub fn capture_locations(&self) -> Result<CaptureLocations, Error>
         ensures ok { IfOk result
             (λ locs. OfTree self.now (λ tree. locs ≡ replicate (captures_len tree) None)) }
+        ensures room { IfOk result (λ locs. CanRead self.now locs) }
         ensures refused { IfErr result (λ error. error ≡ out_of_memory) }
     {
         let slots = vec![in self.alloc; None; self.slots()]?;

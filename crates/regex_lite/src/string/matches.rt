@@ -9,17 +9,7 @@ use std::ops::Range;
 ///
 /// It borrows the haystack alone, and outlives the regex that found it. Two matches are equal where
 /// the texts of their haystacks are, and their starts and their ends.
-///
-/// ```
-/// let regex = Regex::new(alloc, "[0-9]+")?;
-/// if let Some(found) = regex.find("b52")? {
-///     found.as_str(); // "52"
-///     found.range(); // 1..3
-/// }
-/// ```
-///
-/// The test `tests::examples::matched_text` runs this example.
-#[derive(Clone, Copy, PartialEq, Eq)]
+#[derive(Clone, Copy)]
 pub struct Match<'h> {
     haystack: &'h str,
     start: usize,
@@ -81,11 +71,43 @@ impl<'h> Match<'h> {
     }
 
     /// What matched, as a part of the haystack.
+    ///
+    /// ```
+    /// let regex = Regex::new(alloc, "[0-9]+")?;
+    /// if let Some(found) = regex.find("b52")? {
+    ///     found.as_str(); // "52"
+    ///     found.range(); // 1..3
+    /// }
+    /// ```
+    ///
+    /// The test `tests::examples::matched_text` runs this example.
     pub fn as_str(&self) -> &'h str
         ensures { result.now ≡ match_text self.now }
     {
         &self.haystack[self.start..self.end]
     }
+}
+
+impl<'h> PartialEq for Match<'h> {
+    ghost use Rattle.std.proofs.Common.{rules};
+    ghost use Rattle.std.specs.Cmp.Rules.{comparing};
+    ghost use Rattle.regex_lite.specs.MatchViews.{is_same_match};
+
+    ghost eq = { is_same_match };
+
+    ghost laws = { Prim.search (comparing, rules) };
+
+    /// Whether the haystacks are the same text, and the offsets are equal.
+    fn eq(&self, other: &Match<'h>) -> bool {
+        self.haystack == other.haystack && self.start == other.start && self.end == other.end
+    }
+}
+
+impl<'h> Eq for Match<'h> {
+    ghost use Rattle.std.proofs.Common.{rules};
+    ghost use Rattle.std.specs.Cmp.Rules.{comparing};
+
+    ghost laws = { Prim.search (comparing, rules) };
 }
 
 /// Writes the two offsets and what matched.

@@ -120,3 +120,141 @@ fn names(rt: HostRuntime) -> Result<(), Fail> {
     assert_eq!(rt; names.nth(2), Some(Some("x")));
     Ok(())
 }
+
+/// At `Match::as_str`.
+#[test]
+fn matched_text(rt: HostRuntime) -> Result<(), Fail> {
+    let regex = Regex::new(rt.alloc(), "[0-9]+")?;
+    let found = regex.find("b52")?;
+    assert!(rt; found.is_some());
+    if let Some(found) = found {
+        assert_eq!(rt; found.as_str(), "52");
+        assert_eq!(rt; found.range(), 1..3);
+    }
+    Ok(())
+}
+
+/// At `Regex::find`.
+#[test]
+fn first_match(rt: HostRuntime) -> Result<(), Fail> {
+    let regex = Regex::new(rt.alloc(), "sam|samwise")?;
+    let found = regex.find("mr samwise")?;
+    assert!(rt; found.is_some());
+    if let Some(found) = found {
+        assert_eq!(rt; found.start(), 3);
+        assert_eq!(rt; found.end(), 6);
+    }
+    Ok(())
+}
+
+/// At `Regex::shortest_match`.
+#[test]
+fn least_end(rt: HostRuntime) -> Result<(), Fail> {
+    let regex = Regex::new(rt.alloc(), "a+")?;
+    assert_eq!(rt; regex.shortest_match("aaaaa")?, Some(1));
+    Ok(())
+}
+
+/// At `Regex::captures`.
+#[test]
+fn captured(rt: HostRuntime) -> Result<(), Fail> {
+    let regex = Regex::new(rt.alloc(), "([a-z]+)(?:=([0-9]+))?")?;
+    let found = regex.captures("#width=72")?;
+    assert!(rt; found.is_some());
+    if let Some(caps) = found {
+        assert_eq!(rt; caps.get(0).map(|m| m.as_str()), Some("width=72"));
+        assert_eq!(rt; caps.get(1).map(|m| m.as_str()), Some("width"));
+        assert_eq!(rt; caps.get(2).map(|m| m.as_str()), Some("72"));
+    }
+    Ok(())
+}
+
+/// At `Captures`.
+#[test]
+fn groups(rt: HostRuntime) -> Result<(), Fail> {
+    let regex = Regex::new(rt.alloc(), "(?<key>[a-z]+)=([0-9]+)?")?;
+    let found = regex.captures("width=")?;
+    assert!(rt; found.is_some());
+    if let Some(caps) = found {
+        assert_eq!(rt; caps.at(0), "width=");
+        if caps.name("key").is_some() {
+            assert_eq!(rt; caps.at_name("key"), "width");
+        }
+        assert!(rt; caps.get(2).is_none());
+    }
+    Ok(())
+}
+
+/// At `Captures::name`.
+#[test]
+fn named_groups(rt: HostRuntime) -> Result<(), Fail> {
+    let regex = Regex::new(rt.alloc(), "(?<first>[a-z])(?<second>[0-9])?")?;
+    let found = regex.captures("a")?;
+    assert!(rt; found.is_some());
+    if let Some(caps) = found {
+        assert_eq!(rt; caps.name("first").map(|m| m.as_str()), Some("a"));
+        assert!(rt; caps.name("second").is_none());
+        assert!(rt; caps.name("third").is_none());
+    }
+    Ok(())
+}
+
+/// At `Captures::at`.
+#[test]
+fn group_texts(rt: HostRuntime) -> Result<(), Fail> {
+    let regex = Regex::new(rt.alloc(), "(a+)(b+)?")?;
+    let found = regex.captures("xaa")?;
+    assert!(rt; found.is_some());
+    if let Some(caps) = found {
+        assert_eq!(rt; caps.at(0), "aa");
+        if caps.get(1).is_some() {
+            assert_eq!(rt; caps.at(1), "aa");
+        }
+    }
+    Ok(())
+}
+
+/// At `CaptureLocations`.
+#[test]
+fn locations(rt: HostRuntime) -> Result<(), Fail> {
+    let regex = Regex::new(rt.alloc(), "(a)(b)?")?;
+    let mut locations = regex.capture_locations()?;
+    let found = regex.captures_read(&mut locations, "xa")?;
+    assert!(rt; found.is_some());
+    assert_eq!(rt; locations.get(1), Some((1, 2)));
+    assert_eq!(rt; locations.get(2), None);
+    Ok(())
+}
+
+/// At `Regex::captures_read`.
+#[test]
+fn read_groups(rt: HostRuntime) -> Result<(), Fail> {
+    let regex = Regex::new(rt.alloc(), "([a-z]+)([0-9]+)?")?;
+    let mut locations = regex.capture_locations()?;
+    let found = regex.captures_read(&mut locations, "#b52")?;
+    assert_eq!(rt; found.map(|m| m.as_str()), Some("b52"));
+    assert_eq!(rt; locations.get(1), Some((1, 2)));
+    assert_eq!(rt; locations.get(2), Some((2, 4)));
+    Ok(())
+}
+
+/// At `CapturesIn::extract`.
+#[test]
+fn extracted(rt: HostRuntime) -> Result<(), Fail> {
+    let regex = Regex::new(rt.alloc(), "(?:(a)|(b)){2}")?;
+    assert_eq!(rt; first_group(&regex, "ab")?, Some(("ab", ["a"])));
+    Ok(())
+}
+
+/// The whole match and the first group that took part, of a regex that knows of two.
+fn first_group<'h>(
+    regex: &Regex,
+    haystack: &'h str,
+) -> Result<Option<(&'h str, [&'h str; 1])>, Fail> {
+    if let Some(2) = regex.static_captures_len() {
+        if let Some(caps) = regex.captures(haystack)? {
+            return Ok(Some(caps.extract()));
+        }
+    }
+    Ok(None)
+}

@@ -41,7 +41,3 @@ module _ (haystack : Text) where
     pub SomeBranch : Trees → ℕ → ℕ → Type 0
     SomeBranch none i j = ⊥
     SomeBranch (more a rest) i j = Matches a i j ⊎ SomeBranch rest i j
-
--- the tree matches from some position of the haystack
-abbrev pub HasMatch : Tree → Text → Type 0
-HasMatch tree haystack = (i : ℕ) × (j : ℕ) × IsPosition haystack i × Matches haystack tree i j

@@ -1,4 +1,6 @@
-use Rattle.std.proofs.Common.{◌≡◌, ◌∙◌, ap, None, replicate, rules}
+use Rattle.std.proofs.Common.{◌≡◌, ◌∙◌, ap, ℕ, Option, None, length, replicate, rules, arith}
+use Rattle.std.proofs.lemmas.List.{length-replicate}
+use Rattle.regex_lite_syntax.specs.Tree.Properties.{captures_len}
 use Rattle.regex_lite.specs.Groups.{spans_of}
 use Rattle.regex_lite.proofs.string.SlotLemmas.{no_spans}
 use Rattle.regex_lite.proofs.string.regex.Regex.capture_locations.Goals as goal
@@ -8,3 +10,8 @@ returns-clause-ok c =
     let told = c.slots.ensures in
     let none : c.in_ok-slots.slots.items ≡ replicate c.slots.result None = search rules in
     (told.0, told.1, ap spans_of (none ∙ ap (λ n. replicate n None) told.2) ∙ no_spans _)
+
+pub returns-clause-room : goal.returns-clause-room
+returns-clause-room c =
+    let told = returns-clause-ok c in
+    (told.0, told.1, omega (arith, ap (λ spans. length spans) told.2, length-replicate {A = Option (ℕ × ℕ)} (captures_len told.0) None))

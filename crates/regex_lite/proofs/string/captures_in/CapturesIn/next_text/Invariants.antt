@@ -1,6 +1,6 @@
 use Rattle.std.proofs.Common.{◌≡◌}
 use Rattle.regex_lite.specs.Groups.{texts_from}
-use Rattle.regex_lite.proofs.string.captures.CapturesIn.next_text.Given as goal
+use Rattle.regex_lite.proofs.string.captures_in.CapturesIn.next_text.Given as goal
 
 abbrev pub invariant-loop-k : goal.invariant-loop-k
 invariant-loop-k g l = texts_from l.self l.k ≡ texts_from l.self l.from

@@ -1,6 +1,6 @@
 use Rattle.std.proofs.Common.{◌≡◌, ◌<◌, ℕ, false, None, get_or}
 use Rattle.regex_lite.specs.Groups.{is_named}
-use Rattle.regex_lite.proofs.string.captures.CapturesIn.index_of.Given as goal
+use Rattle.regex_lite.proofs.string.captures_in.CapturesIn.index_of.Given as goal
 
 abbrev pub invariant-loop-k : goal.invariant-loop-k
 invariant-loop-k g l =

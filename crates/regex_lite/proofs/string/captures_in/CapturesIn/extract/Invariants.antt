@@ -1,6 +1,6 @@
 use Rattle.std.proofs.Common.{◌≡◌, ◌++◌, length, take, map}
 use Rattle.regex_lite.specs.Groups.{texts_from}
-use Rattle.regex_lite.proofs.string.captures.CapturesIn.extract.Given as goal
+use Rattle.regex_lite.proofs.string.captures_in.CapturesIn.extract.Given as goal
 
 abbrev pub invariant-loop-i : goal.invariant-loop-i
 invariant-loop-i g l =

@@ -3,7 +3,7 @@ use Rattle.std.proofs.lemmas.List.{length-map}
 use Rattle.std.specs.Rc.{rc_str_bytes}
 use Rattle.regex_lite.specs.Groups.{Groups}
 use Rattle.regex_lite.proofs.string.GroupLemmas.{named_first, named_nowhere, name_read, one_more}
-use Rattle.regex_lite.proofs.string.captures.CapturesIn.index_of.Goals as goal
+use Rattle.regex_lite.proofs.string.captures_in.CapturesIn.index_of.Goals as goal
 
 pub returns-then-is_named : goal.returns-then-is_named
 returns-then-is_named g c =

@@ -1,7 +1,7 @@
 use Rattle.std.proofs.Common.{◌≡◌, ◌∙◌, ℕ, Some, sym}
 use Rattle.regex_lite.specs.Groups.{AreGroups, group_span}
 use Rattle.regex_lite.proofs.string.GroupLemmas.{enough_behind}
-use Rattle.regex_lite.proofs.string.captures.CapturesIn.whole.Goals as goal
+use Rattle.regex_lite.proofs.string.captures_in.CapturesIn.whole.Goals as goal
 
 pub returns-clause-enough : goal.returns-clause-enough
 returns-clause-enough g c =

@@ -1,7 +1,7 @@
 use Rattle.std.proofs.Common.{◌<◌, ◌∙◌, ap, sym, subst}
 use Rattle.regex_lite.specs.Groups.{Groups, text_at}
 use Rattle.regex_lite.proofs.string.GroupLemmas.{no_text, first_text}
-use Rattle.regex_lite.proofs.string.captures.CapturesIn.next_text.Goals as goal
+use Rattle.regex_lite.proofs.string.captures_in.CapturesIn.next_text.Goals as goal
 
 pub returns-in-Some : goal.returns-in-Some
 returns-in-Some g c =

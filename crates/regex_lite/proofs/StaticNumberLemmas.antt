@@ -1,0 +1,19 @@
+-- The groups of a match have the static number that their regex tells, which is what a call of
+-- `extract` asks for.
+use Rattle.std.proofs.Common.{◌≡◌, ◌∙◌, sym, ap, ℕ, List, Option, Some, None, chars}
+use Rattle.regex_lite_syntax.specs.Tree.Properties.{static_captures_len}
+use Rattle.regex_lite.specs.Expression.{Expression, OfTree}
+use Rattle.regex_lite.specs.Groups.{Groups}
+use Rattle.regex_lite.specs.Searches.{TellsGroups}
+use Rattle.regex_lite.proofs.string.OneTreeLemmas.{one_tree}
+use Rattle.regex_lite.proofs.string.ToldLemmas.{not_there, same_some}
+
+pub static_number : (re : Expression) (haystack : List ℕ) (start : ℕ) (known : Option ℕ)
+    (told : Option Groups) (groups : Groups) → OfTree re (λ tree. known ≡ static_captures_len tree)
+    → TellsGroups re haystack start told → told ≡ Some groups
+    → groups.static_captures_len ≡ known
+static_number re haystack start known None groups is_known tells is = absurd (not_there is)
+static_number re haystack start known (Some own) groups (tree, given, e) (other, given_too, (f, found, are)) is =
+    ap (λ (g : Groups). g.static_captures_len) (sym (same_some is)) ∙ are.static_captures
+    ∙ ap static_captures_len (one_tree re.flags (chars re.pattern) other tree given_too given)
+    ∙ sym e

@@ -1,0 +1,170 @@
+//! The groups of a match, in a haystack of any type of text.
+ghost use Rattle.std.specs.Prelude.{◌≡◌, ◌+◌, ◌<◌, ◌≤◌, ◌∷◌, ℕ, List, Some, IfSome, length, map, option_map, slice_range, take};
+ghost use Rattle.std.specs.Rc.{rc_str_bytes};
+ghost use Rattle.regex_lite.specs.Groups.{AreGroups, LiesIn, group_span, group_text, index_of, is_named, texts_from};
+ghost use Rattle.regex_lite.specs.Compiled.{groups_of};
+
+use crate::string::compiled::Compiled;
+use crate::string::locations::{CaptureLocations, span_in};
+use std::marker::Model;
+use std::rc::{Rc, RcStr};
+
+/// A text that parts can be taken of: what [`CapturesIn`] asks of a haystack.
+pub trait Text: Copy {
+    /// The bytes of the text.
+    ghost bytes: { Self → List ℕ };
+
+    /// The part from one offset to another.
+    ///
+    /// Condition: the two are in order, in the text and on character boundaries.
+    fn part(self, start: usize, end: usize) -> Self
+        requires { LiesIn (bytes self) (start, end) }
+        ensures { bytes result ≡ slice_range (bytes self) start end };
+}
+
+impl Text for &str {
+    ghost bytes = { λ text. text.now };
+
+    fn part(self, start: usize, end: usize) -> Self {
+        &self[start..end]
+    }
+}
+
+/// The groups of a match in a haystack of this type.
+///
+/// A [`Captures`](crate::Captures) leads to one with a haystack that is `&str`.
+#[derive(Drop)]
+pub struct CapturesIn<T: Text> {
+    pub(super) haystack: T,
+    /// Slots 2k and 2k + 1 are the start and the end of group k.
+    slots: Vec<Option<usize>>,
+    compiled: Rc<Compiled>,
+}
+
+impl<T: Text> Model for CapturesIn<T> {
+    ghost use Rattle.regex_lite.specs.Groups.{Groups, AreGroups};
+    ghost use Rattle.regex_lite.specs.Compiled.{groups_of};
+
+    ghost Value = { Groups };
+
+    ghost view = { λ caps.
+        groups_of (T.bytes caps.haystack) caps.slots.items caps.compiled.value };
+
+    ghost invariant = { λ caps. AreGroups
+        (groups_of (T.bytes caps.haystack) caps.slots.items caps.compiled.value) };
+}
+
+impl<T: Text> CapturesIn<T> {
+    /// The groups that these slots hold, of the regex that shares what was built.
+    pub(super) fn new(haystack: T, slots: Vec<Option<usize>>, compiled: Rc<Compiled>) -> Self
+        requires { AreGroups (groups_of (T.bytes haystack) slots.items compiled.value) }
+        ensures { result ≡ groups_of (T.bytes haystack) slots.items compiled.value }
+    {
+        CapturesIn {
+            haystack,
+            slots,
+            compiled,
+        }
+    }
+
+    /// The text of the whole match, and those of the first N other groups that took part, by index.
+    ///
+    /// Condition: the regex tells by `static_captures_len` that N + 1 groups at least take part in
+    /// each of its matches.
+    ///
+    /// ```
+    /// let regex = Regex::new(alloc, "(?:(a)|(b)){2}")?;
+    /// if let Some(caps) = regex.captures("ab")? {
+    ///     let (whole, [first]) = caps.extract(); // "ab", "a"
+    /// }
+    /// ```
+    ///
+    /// The test `tests::examples::extracted` runs this example.
+    pub fn extract<const N: usize>(&self) -> (T, [T; N])
+        requires { self.now.static_captures_len ≡ Some (N + 1) }
+        ensures whole { Some (T.bytes result.0) ≡ group_text self.now 0 }
+        ensures parts { map T.bytes result.1 ≡ take N (texts_from self.now 1) }
+    {
+        let whole = self.whole();
+        let mut parts = [whole; N];
+        let mut next = 1;
+        for i in 0..N {
+            let (text, behind) = self.next_text(next);
+            parts[i] = text;
+            next = behind;
+        }
+        (whole, parts)
+    }
+
+    /// The text of the whole match.
+    fn whole(&self) -> T
+        ensures text { Some (T.bytes result) ≡ group_text self.now 0 }
+        ensures enough { IfSome self.now.static_captures_len
+            (λ n. n ≤ 1 + length (texts_from self.now 1)) }
+    {
+        match self.span(0) {
+            Some((start, end)) => self.haystack.part(start, end),
+            None => unreachable!(),
+        }
+    }
+
+    /// The text of the first group from this index on that took part, and the index behind it.
+    fn next_text(&self, from: usize) -> (T, usize)
+        requires { 0 < length (texts_from self.now from) }
+        ensures { texts_from self.now from ≡ T.bytes result.0 ∷ texts_from self.now result.1 }
+    {
+        for k in from..self.groups() {
+            if let Some((start, end)) = self.span(k) {
+                return (self.haystack.part(start, end), k + 1);
+            }
+        }
+        unreachable!()
+    }
+
+    /// How many groups there are.
+    pub(super) fn groups(&self) -> usize
+        ensures { result ≡ length self.now.spans }
+    {
+        self.compiled.graph.capture_names().len()
+    }
+
+    /// Where the group with this index starts and ends, if it is there and took part.
+    pub(super) fn span(&self, k: usize) -> Option<(usize, usize)>
+        ensures span { result ≡ group_span self.now k }
+        ensures inside { IfSome result (LiesIn self.now.haystack) }
+    {
+        span_in(self.slots.as_slice(), k)
+    }
+
+    /// The index of the group with this name.
+    pub(super) fn index_of(&self, name: &str) -> Option<usize>
+        ensures { result ≡ index_of self.now.names name.now }
+    {
+        let names = self.compiled.graph.capture_names();
+        for k in 0..names.len() {
+            if is_named(&names[k], name) {
+                return Some(k);
+            }
+        }
+        None
+    }
+
+    /// Writes as many of the groups to the locations as these have.
+    pub(super) fn write(&self, locs: &mut CaptureLocations)
+        requires { length locs.old ≤ length self.now.spans }
+        ensures spans { locs.new ≡ take (length locs.old) self.now.spans }
+        ensures len { length locs.new ≡ length locs.old }
+    {
+        locs.write(self.slots.as_slice());
+    }
+}
+
+/// Whether this is the group's name.
+fn is_named(own: &Option<RcStr>, name: &str) -> bool
+    ensures { result ≡ is_named name.now (option_map rc_str_bytes own.now) }
+{
+    match own {
+        Some(own) => own.as_str() == name,
+        None => false,
+    }
+}
