@@ -66,17 +66,26 @@ impl Rows {
         self.slots[slot as usize] = held;
     }
 
-    /// Writes a row over another.
-    pub fn copy(&mut self, from: usize, to: usize)
-        requires from { from < length self.old }
-        requires to { to < length self.old }
-        ensures copied { self.new ≡ slice_set self.old to (slice_index_or self.old from []) }
-        ensures width { length (slice_index_or self.old from [])
-            ≡ length (slice_index_or self.old to []) }
+    /// Copies a row over the first.
+    pub fn load(&mut self, row: usize)
+        requires behind { 0 < row }
+        requires inside { row < length self.old }
+        ensures copied { self.new ≡ slice_set self.old 0 (slice_index_or self.old row []) }
+        ensures width { length (slice_index_or self.old row [])
+            ≡ length (slice_index_or self.old 0 []) }
     {
-        let start = from * self.width;
-        let place = to * self.width;
-        copy_row(&mut self.slots, start, place, self.width);
+        let start = row * self.width;
+        load_row(&mut self.slots, start, self.width);
+    }
+
+    /// Copies the first row over another.
+    pub fn keep(&mut self, row: usize)
+        requires behind { 0 < row }
+        requires inside { row < length self.old }
+        ensures { self.new ≡ slice_set self.old row (slice_index_or self.old 0 []) }
+    {
+        let start = row * self.width;
+        keep_row(&mut self.slots, start, self.width);
     }
 
     /// Takes all marks from a row.
@@ -90,15 +99,37 @@ impl Rows {
     }
 }
 
-/// Copies a row of this width.
-fn copy_row(slots: &mut Vec<Option<usize>>, from: usize, to: usize, width: usize)
-    requires from { from + width ≤ length slots.old.items }
-    requires to { to + width ≤ length slots.old.items }
-    ensures { slots.new.items ≡ take to slots.old.items
-        ++ (take width (drop from slots.old.items) ++ drop (to + width) slots.old.items) }
+/// Copies a row of this width, which begins behind the first, over the first.
+fn load_row(slots: &mut Vec<Option<usize>>, from: usize, width: usize)
+    requires behind { width ≤ from }
+    requires inside { from + width ≤ length slots.old.items }
+    ensures { slots.new.items
+        ≡ take width (drop from slots.old.items) ++ drop width slots.old.items }
 {
-    let end = from + width;
-    slots.copy_within(from..end, to);
+    let (first, rest) = slots.split_at_mut(width);
+    let start = from - width;
+    first.copy_from_slice(&rest[start..start + width]);
+}
+
+/// Copies the first row over another, which begins behind it.
+fn keep_row(slots: &mut Vec<Option<usize>>, to: usize, width: usize)
+    requires behind { width ≤ to }
+    requires inside { to + width ≤ length slots.old.items }
+    ensures { slots.new.items ≡ take to slots.old.items
+        ++ (take width slots.old.items ++ drop (to + width) slots.old.items) }
+{
+    let (first, rest) = slots.split_at_mut(width);
+    put_row(rest, to - width, first);
+}
+
+/// Writes a row over what stands there.
+fn put_row(slots: &mut [Option<usize>], at: usize, row: &[Option<usize>])
+    requires { at + length row.now ≤ length slots.old }
+    ensures { slots.new
+        ≡ take at slots.old ++ (row.now ++ drop (at + length row.now) slots.old) }
+{
+    let end = at + row.len();
+    slots[at..end].copy_from_slice(row);
 }
 
 /// Writes over a row of this width that nothing is marked.

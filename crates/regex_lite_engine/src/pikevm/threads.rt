@@ -23,7 +23,7 @@ impl Memory {
         ensures same { self.new ≡ record self.old { row = self.new.row } }
         ensures width { length self.new.row ≡ length self.old.row }
     {
-        self.rows.copy(row_of(self.side, self.room, k), 0);
+        self.rows.load(row_of(self.side, self.room, k));
         self.cells[k].thread(self.side)
     }
 
@@ -51,7 +51,7 @@ impl Memory {
     {
         let side = self.side.other();
         let k = self.next_len;
-        self.rows.copy(0, row_of(side, self.room, k));
+        self.rows.keep(row_of(side, self.room, k));
         self.cells[k].put_thread(side, place, start);
         self.next_len = k + 1;
     }

@@ -1,11 +1,11 @@
 -- Rows that lie one behind the other.
-use Rattle.std.proofs.Common.{◌≡◌, ℕ, zero, suc, ◌+◌, ◌-◌, ◌*◌, ◌<◌, ◌≤◌, ◌⊎◌, inl, inr, List, [], ◌∷◌, ◌++◌, length, map, take, drop, set, slice_index_or, Option, refl, sym, ap, subst, ◌∙◌, arith, length-drop, length-append}
+use Rattle.std.proofs.Common.{◌≡◌, ℕ, zero, suc, ◌+◌, ◌-◌, ◌*◌, ◌<◌, ◌≤◌, ◌⊎◌, inl, inr, List, [], ◌++◌, length, map, take, drop, set, slice_index_or, Option, refl, sym, ap, subst, ◌∙◌, arith, length-drop, length-append, append_assoc}
 use Rattle.std.specs.List.{range_with_len}
-use Rattle.std.proofs.lemmas.List.{drop-append-le, take-append-le, drop-take, take-take, length-take-le, drop-set-lt}
+use Rattle.std.proofs.lemmas.List.{drop-append-le, take-append-le, drop-take, take-take, length-take-le, drop-set-lt, drop-drop}
 use Rattle.std.proofs.lemmas.List.FromFn.{get_or-map-range_with_len, length-map-range_with_len}
 use Rattle.std.proofs.lemmas.Bool.{cases_lt, cases_eq}
 use Rattle.std.proofs.Math.Nat.{mul-le-mul_right, suc-mul}
-use Rattle.std.proofs.Math.Seq.{take-set-lt, drop-append-add, take-append_seam}
+use Rattle.std.proofs.Math.Seq.{take-add, take-set-lt, drop-append-add, take-append_seam}
 use Rattle.regex_lite_engine.specs.Walk.Machine.{Row}
 use Rattle.regex_lite_engine.specs.Walk.Cells.{row_at, rows_in}
 
@@ -58,15 +58,6 @@ module _ (slots mid : Row) (w n : ℕ) (long : length mid ≡ w) (short : n * w 
       ∙ ap (take w) (drop-take (k * w) (n * w - k * w) slots)
       ∙ take-take w (n * w - k * w) (drop (k * w) slots) (omega (arith, later))
 
-  drop_more : (i j : ℕ) (xs : Row) → drop i (drop j xs) ≡ drop (j + i) xs
-  drop_more i zero xs = ap (λ z. drop z xs) (omega arith)
-  drop_more i (suc j) [] = drop_none i ∙ sym (drop_none (suc j + i))
-    where
-      drop_none : (i : ℕ) → ◌≡◌ {A = Row} (drop i []) []
-      drop_none zero = refl
-      drop_none (suc i) = refl
-  drop_more i (suc j) (x ∷ xs) = let same : suc (j + i) ≡ suc j + i = omega arith in drop_more i j xs ∙ ap (λ z. drop z (x ∷ xs)) same
-
   -- a row behind it
   row_behind : (k : ℕ) → n < k → row_at written w k ≡ row_at slots w k
   row_behind k lt =
@@ -80,7 +71,7 @@ module _ (slots mid : Row) (w n : ℕ) (long : length mid ≡ w) (short : n * w 
       (ap (λ z. drop z written) split
       ∙ drop-append-add (take (n * w) slots) (mid ++ rest) (length mid + past)
       ∙ drop-append-add mid rest past
-      ∙ drop_more past (n * w + length mid) slots
+      ∙ drop-drop past (n * w + length mid) slots
       ∙ ap (λ z. drop z slots) (sym all))
 
   pub rows_written : (count : ℕ) → n < count → rows_in written w count ≡ set (rows_in slots w count) n mid
@@ -109,7 +100,7 @@ row_long slots w k short = length-take-le w (drop (k * w) slots) (omega (arith, 
 pub row_inside : (w count k : ℕ) (size : ℕ) → count * w ≡ size → k < count → k * w + w ≤ size
 row_inside w count k size all lt = let room : suc k * w ≤ count * w = mul-le-mul_right w (omega (arith, lt)) in omega (arith, room, suc-mul k w, all)
 
-row_first : (slots : Row) (w : ℕ) → row_at slots w 0 ≡ take w slots
+pub row_first : (slots : Row) (w : ℕ) → row_at slots w 0 ≡ take w slots
 row_first slots w = let none : 0 * w ≡ 0 = omega arith in ap (λ z. take w (drop z slots)) none
 
 -- a slot of the first row
@@ -164,3 +155,44 @@ module _ (slots : Row) (w count : ℕ) (rows : List Row) (view : rows_in slots w
   view_put slot held some lt =
       slot_put slots w count slot held (number_inside 0 some) (omega (arith, lt, row_of_view_long 0 some))
       ∙ ap (λ z. set z 0 (set (row_at slots w 0) slot held)) view ∙ ap (λ z. set rows 0 (set z slot held)) (sym (row_of_view 0 some))
+
+-- the first row, and the rest in which it was written over another
+pub row_kept : (slots first rest rest' : Row) (n w to : ℕ) → n ≡ length slots → w ≤ to → to + w ≤ length slots → first ≡ take w slots → rest ≡ drop w slots →
+    rest' ≡ take (to - w) rest ++ (first ++ drop (to - w + length first) rest) →
+    take n ((first ++ rest') ++ drop (length (first ++ rest')) slots) ≡ take to slots ++ (take w slots ++ drop (to + w) slots)
+row_kept slots first rest rest' n w to all behind inside e1 e2 e3 =
+    let long : length first ≡ w = ap length e1 ∙ length-take-le w slots (omega (arith, behind, inside)) in
+    let up_to : w + (to - w) ≡ to = omega (arith, behind) in
+    let past : w + (to - w + length first) ≡ to + w = omega (arith, behind, long) in
+    let front : first ++ take (to - w) rest ≡ take to slots =
+    ap (λ z. z ++ take (to - w) rest) e1 ∙ ap (λ z. take w slots ++ take (to - w) z) e2 ∙ sym (take-add w (to - w) slots) ∙ ap (λ z. take z slots) up_to in
+    let back : drop (to - w + length first) rest ≡ drop (to + w) slots =
+    ap (drop (to - w + length first)) e2 ∙ drop-drop (to - w + length first) w slots ∙ ap (λ z. drop z slots) past in
+    let whole : first ++ rest' ≡ take to slots ++ (take w slots ++ drop (to + w) slots) =
+    ap (λ z. first ++ z) e3 ∙ sym (append_assoc first (take (to - w) rest) (first ++ drop (to - w + length first) rest))
+    ∙ ap (λ z. z ++ (first ++ drop (to - w + length first) rest)) front
+    ∙ ap (λ z. take to slots ++ (z ++ drop (to - w + length first) rest)) e1 ∙ ap (λ z. take to slots ++ (take w slots ++ z)) back in
+    let as_long : n ≡ length (first ++ rest') = omega (
+      arith,
+      all,
+      inside,
+      behind,
+      ap length whole,
+      length-append (take to slots) (take w slots ++ drop (to + w) slots),
+      length-append (take w slots) (drop (to + w) slots),
+      length-take-le to slots (omega (arith, inside)),
+      length-take-le w slots (omega (arith, behind, inside)),
+      length-drop (to + w) slots,
+    ) in
+    ap (λ z. take z ((first ++ rest') ++ drop (length (first ++ rest')) slots)) as_long
+    ∙ take-append_seam (first ++ rest') (drop (length (first ++ rest')) slots) ∙ whole
+
+-- a row over the first
+pub first_over : (slots mid : Row) (w : ℕ) → mid ++ drop w slots ≡ take (0 * w) slots ++ (mid ++ drop (0 * w + w) slots)
+first_over slots mid w = let none : 0 * w ≡ 0 = omega arith in let same : 0 * w + w ≡ w = omega (arith, none) in
+    ap (λ z. mid ++ drop z slots) (sym same) ∙ ap (λ z. take z slots ++ (mid ++ drop (0 * w + w) slots)) (sym none)
+
+-- a row that is not the first begins behind it
+pub row_behind_first : (w k : ℕ) → 0 < k → w ≤ k * w
+row_behind_first w zero lt = absurd (omega (arith, lt))
+row_behind_first w (suc k) lt = omega (arith, suc-mul k w)

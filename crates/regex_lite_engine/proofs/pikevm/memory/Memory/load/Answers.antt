@@ -12,8 +12,8 @@ row_of-requires c =
     let lt : c.args.k < i.len = omega (arith, c.requires, threads_long i.side i.cells.items i.rows i.room i.len, ap (λ (z : State). length z.threads) v) in let k_fits : c.args.k < i.room = omega (arith, lt, fit.threads_fit) in
     omega (arith, row_fits i.side i.room c.args.k k_fits, fit.cells_fit, i.cells.ok.0, i.cells.small)
 
-pub copy-requires-clause-from : goal.copy-requires-clause-from
-copy-requires-clause-from c =
+pub load-requires-clause-inside : goal.load-requires-clause-inside
+load-requires-clause-inside c =
     let i = c.self.inside in let m = c.args.self.now in let v = c.self.view_is in let fit = c.self.invariant in
     let lt : c.args.k < i.len = omega (arith, c.requires, threads_long i.side i.cells.items i.rows i.room i.len, ap (λ (z : State). length z.threads) v) in let k_fits : c.args.k < i.room = omega (arith, lt, fit.threads_fit) in
     omega (arith, row_fits i.side i.room c.args.k k_fits, fit.rows_fit, c.row_of.ensures)
@@ -30,17 +30,17 @@ returns-clause-thread c =
     let lt : c.args.k < i.len = omega (arith, c.requires, threads_long i.side i.cells.items i.rows i.room i.len, ap (λ (z : State). length z.threads) v) in let k_fits : c.args.k < i.room = omega (arith, lt, fit.threads_fit) in
     let x = c.index.result.now in let short : c.args.k < length i.cells.items = omega (arith, k_fits, fit.cells_fit) in
     let some : 0 < length i.rows = omega (arith, fit.rows_fit) in
-    let row : nth_row c.copy.new.self 0 ≡ nth_row i.rows (first_row i.side i.room + c.args.k) = ap (λ z. nth_row z 0) c.copy.ensures.copied ∙ get_or-set_same i.rows 0 (nth_row i.rows c.row_of.result) [] some ∙ ap (nth_row i.rows) c.row_of.ensures in
+    let row : nth_row c.load.new.self 0 ≡ nth_row i.rows (first_row i.side i.room + c.args.k) = ap (λ z. nth_row z 0) c.load.ensures.copied ∙ get_or-set_same i.rows 0 (nth_row i.rows c.row_of.result) [] some ∙ ap (nth_row i.rows) c.row_of.ensures in
     let place = told_at (place_on i.side) i.cells.items c.args.k x short c.index.ensures in
     let start = told_at (start_on i.side) i.cells.items c.args.k x short c.index.ensures in
     let at = ap (λ ts. thread_at ts c.args.k) (sym (ap (λ (z : State). z.threads) v)) ∙ thread_is i.side i.cells.items i.rows i.room i.len c.args.k lt in
     at ∙ thread_told (slice_index (map (place_on i.side) i.cells.items) c.args.k) (slice_index (map (start_on i.side) i.cells.items) c.args.k) (place_on i.side x) (start_on i.side x)
-    (nth_row i.rows (first_row i.side i.room + c.args.k)) (nth_row c.copy.new.self 0) c.thread.result place start c.thread.ensures row
+    (nth_row i.rows (first_row i.side i.room + c.args.k)) (nth_row c.load.new.self 0) c.thread.result place start c.thread.ensures row
 
 pub returns-clause-same : goal.returns-clause-same
 returns-clause-same c =
     let i = c.self.inside in let m = c.args.self.now in let v = c.self.view_is in let fit = c.self.invariant in
     let written = nth_row i.rows c.row_of.result in
-    let threads = ap (λ z. threads_on i.side i.cells.items z i.room i.len) c.copy.ensures.copied ∙ first_row_alone i.side i.cells.items i.rows i.room i.len written ∙ (ap (λ (z : State). z.threads) v) in
-    let next = ap (λ z. threads_on (other i.side) i.cells.items z i.room i.next_len) c.copy.ensures.copied ∙ first_row_alone (other i.side) i.cells.items i.rows i.room i.next_len written ∙ (ap (λ (z : State). z.next) v) in
+    let threads = ap (λ z. threads_on i.side i.cells.items z i.room i.len) c.load.ensures.copied ∙ first_row_alone i.side i.cells.items i.rows i.room i.len written ∙ (ap (λ (z : State). z.threads) v) in
+    let next = ap (λ z. threads_on (other i.side) i.cells.items z i.room i.next_len) c.load.ensures.copied ∙ first_row_alone (other i.side) i.cells.items i.rows i.room i.next_len written ∙ (ap (λ (z : State). z.next) v) in
     state_is _ _ (ap (λ (z : State). z.rounds) v) (ap (λ (z : State). z.now) v) (ap (λ (z : State). z.frames) v) refl threads next (ap (λ (z : State). z.room) v)
