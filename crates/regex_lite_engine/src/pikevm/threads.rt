@@ -56,7 +56,8 @@ impl Memory {
         self.next_len = k + 1;
     }
 
-    /// Goes on to the next position, whose next has no threads yet.
+    /// Goes on to the next position. Its threads are those that were added to it, and the one after
+    /// it has none yet.
     pub fn turn_over(&mut self)
         ensures { self.new ≡ record self.old { threads = self.old.next; next = [] } }
     {

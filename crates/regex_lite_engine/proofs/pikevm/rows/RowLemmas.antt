@@ -193,6 +193,6 @@ first_over slots mid w = let none : 0 * w ≡ 0 = omega arith in let same : 0 * 
     ap (λ z. mid ++ drop z slots) (sym same) ∙ ap (λ z. take z slots ++ (mid ++ drop (0 * w + w) slots)) (sym none)
 
 -- a row that is not the first begins behind it
-pub row_behind_first : (w k : ℕ) → 0 < k → w ≤ k * w
-row_behind_first w zero lt = absurd (omega (arith, lt))
-row_behind_first w (suc k) lt = omega (arith, suc-mul k w)
+pub begins_behind : (w k : ℕ) → 0 < k → w ≤ k * w
+begins_behind w zero lt = absurd (omega (arith, lt))
+begins_behind w (suc k) lt = omega (arith, suc-mul k w)

@@ -1,12 +1,12 @@
 use Rattle.std.proofs.Common.{◌<◌, length, take, set, ap, sym, ◌∙◌, arith}
-use Rattle.regex_lite_engine.proofs.pikevm.rows.RowLemmas.{inside_slots, row_of_view, row_of_view_long, row_first, view_over, over_long, row_behind_first}
+use Rattle.regex_lite_engine.proofs.pikevm.rows.RowLemmas.{inside_slots, row_of_view, row_of_view_long, row_first, view_over, over_long, begins_behind}
 use Rattle.regex_lite_engine.proofs.pikevm.rows.Rows.keep.Goals as goal
 
 pub overflow_mul-start : goal.overflow_mul-start
 overflow_mul-start c = omega (arith, inside_slots c.self.inside.slots.items c.self.inside.width c.self.inside.count c.args.self.now c.self.view_is c.self.invariant c.args.row c.requires.inside, c.self.inside.slots.ok.0)
 
 pub keep_row-requires-clause-behind : goal.keep_row-requires-clause-behind
-keep_row-requires-clause-behind c = row_behind_first c.self.inside.width c.args.row c.requires.behind
+keep_row-requires-clause-behind c = begins_behind c.self.inside.width c.args.row c.requires.behind
 
 pub keep_row-requires-clause-inside : goal.keep_row-requires-clause-inside
 keep_row-requires-clause-inside c = inside_slots c.self.inside.slots.items c.self.inside.width c.self.inside.count c.args.self.now c.self.view_is c.self.invariant c.args.row c.requires.inside

@@ -1,12 +1,12 @@
 use Rattle.std.proofs.Common.{◌*◌, ◌<◌, length, take, drop, set, ap, sym, ◌∙◌, arith}
-use Rattle.regex_lite_engine.proofs.pikevm.rows.RowLemmas.{inside_slots, row_of_view, row_of_view_long, view_over, over_long, first_over, row_behind_first}
+use Rattle.regex_lite_engine.proofs.pikevm.rows.RowLemmas.{inside_slots, row_of_view, row_of_view_long, view_over, over_long, first_over, begins_behind}
 use Rattle.regex_lite_engine.proofs.pikevm.rows.Rows.load.Goals as goal
 
 pub overflow_mul-start : goal.overflow_mul-start
 overflow_mul-start c = omega (arith, inside_slots c.self.inside.slots.items c.self.inside.width c.self.inside.count c.args.self.now c.self.view_is c.self.invariant c.args.row c.requires.inside, c.self.inside.slots.ok.0)
 
 pub load_row-requires-clause-behind : goal.load_row-requires-clause-behind
-load_row-requires-clause-behind c = row_behind_first c.self.inside.width c.args.row c.requires.behind
+load_row-requires-clause-behind c = begins_behind c.self.inside.width c.args.row c.requires.behind
 
 pub load_row-requires-clause-inside : goal.load_row-requires-clause-inside
 load_row-requires-clause-inside c = inside_slots c.self.inside.slots.items c.self.inside.width c.self.inside.count c.args.self.now c.self.view_is c.self.invariant c.args.row c.requires.inside
