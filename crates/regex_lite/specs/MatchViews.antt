@@ -7,32 +7,32 @@ use Rattle.regex_lite.specs.declared.string.matches.Match.{Match}
 use Rattle.regex_lite.specs.declared.string.sub_captures.SubCaptureMatches.{SubCaptureMatches}
 
 -- the haystack, as its bytes
-abbrev pub match_haystack : Match → List ℕ
-match_haystack m = m.haystack.now
+abbrev pub haystack_of_match : Match → List ℕ
+haystack_of_match m = m.haystack.now
 
 -- where the match starts and ends
-abbrev pub match_span : Match → ℕ × ℕ
-match_span m = (m.start, m.end)
+abbrev pub span_of_match : Match → ℕ × ℕ
+span_of_match m = (m.start, m.end)
 
 -- what matched
-abbrev pub match_text : Match → List ℕ
-match_text m = text_at (match_haystack m) (match_span m)
+abbrev pub text_of_match : Match → List ℕ
+text_of_match m = text_at (haystack_of_match m) (span_of_match m)
 
 -- the two have the same start, the same end and the same text for a haystack
 abbrev pub is_same_match : Match → Match → Bool
 is_same_match =
-    eq_of_both (on match_haystack bytes_eq)
+    eq_of_both (on haystack_of_match bytes_eq)
     (eq_of_both (on (λ m. m.start) nat_eq) (on (λ m. m.end) nat_eq))
 
 -- a match and the haystack that it lies in
-abbrev pub placed_span : Match → List ℕ × (ℕ × ℕ)
-placed_span m = (match_haystack m, match_span m)
+abbrev pub match_with_haystack : Match → List ℕ × (ℕ × ℕ)
+match_with_haystack m = (haystack_of_match m, span_of_match m)
 
 -- the spans of the groups that are still to come
-abbrev pub groups_left : SubCaptureMatches → List (Option (ℕ × ℕ))
-groups_left it = drop it.next it.captures.now.spans
+abbrev pub spans_to_come : SubCaptureMatches → List (Option (ℕ × ℕ))
+spans_to_come it = drop it.next it.captures.now.spans
 
 -- each with the haystack
-abbrev pub placed_groups_left : SubCaptureMatches → List (Option (List ℕ × (ℕ × ℕ)))
-placed_groups_left it =
-    map (option_map (λ span. (it.captures.now.haystack, span))) (groups_left it)
+abbrev pub groups_to_come : SubCaptureMatches → List (Option (List ℕ × (ℕ × ℕ)))
+groups_to_come it =
+    map (option_map (λ span. (it.captures.now.haystack, span))) (spans_to_come it)

@@ -11,7 +11,7 @@ use Rattle.regex_lite_engine.specs.Search.Outcomes.{IsEndOutcome, HasCost}
 use Rattle.regex_lite.specs.declared.string.matches.Match.{Match}
 use Rattle.regex_lite.specs.Expression.{Expression, OfTree, AreNames}
 use Rattle.regex_lite.specs.Groups.{Groups, group_span}
-use Rattle.regex_lite.specs.MatchViews.{match_haystack, match_span}
+use Rattle.regex_lite.specs.MatchViews.{haystack_of_match, span_of_match}
 
 -- what every search asks of its start, in a haystack that is given as its bytes: it is above the
 -- length or on a character boundary
@@ -54,8 +54,8 @@ TellsAnswer says re haystack start told =
 
 -- the match is that which was found in the haystack
 pub record IsMatchOf (bytes : List ℕ) (found : Found) (m : Match) : Type 0 where
-  pub haystack : match_haystack m ≡ bytes
-  pub span : match_span m ≡ offsets (chars bytes) (found.start, found.end)
+  pub haystack : haystack_of_match m ≡ bytes
+  pub span : span_of_match m ≡ offsets (chars bytes) (found.start, found.end)
 
 -- what is told is the match
 abbrev pub TellsMatch : Expression → (haystack : List ℕ) → (start : ℕ) → Option Match → Type 0

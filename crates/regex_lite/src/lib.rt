@@ -21,8 +21,8 @@
 //! and the match relation says which parts of a haystack a tree matches.
 //!
 //! A [`RegexBuilder`] has the pattern read and written out by the two crates below; what it builds
-//! is shared by the clones of a [`Regex`] and by the [`Captures`] that it finds. `string` holds these
-//! types and the searches; `laws` holds what is true of the definitions alone.
+//! is shared by the clones of a [`Regex`] and by the [`Captures`] that it finds. `string` holds
+//! these types and the searches; `laws` holds what is true of the definitions alone.
 #![tactic(auto)]
 
 pub mod laws;

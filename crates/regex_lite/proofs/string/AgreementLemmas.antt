@@ -11,7 +11,7 @@ use Rattle.regex_lite.specs.declared.string.matches.Match.{Match}
 use Rattle.regex_lite.specs.Expression.{Expression}
 use Rattle.regex_lite.specs.Groups.{Groups, group_span, span_at}
 use Rattle.regex_lite.specs.Laws.{Agree}
-use Rattle.regex_lite.specs.MatchViews.{match_span}
+use Rattle.regex_lite.specs.MatchViews.{span_of_match}
 use Rattle.regex_lite.specs.Searches.{MatchesFrom, TellsAnswer, TellsEnd, TellsGroups, TellsMatch, offsets}
 use Rattle.regex_lite.proofs.string.FoundLemmas.{group_0}
 use Rattle.regex_lite.proofs.string.OneTreeLemmas.{matches_told, one_tree}
@@ -40,7 +40,7 @@ module _ (re : Expression) (haystack : List ℕ) (start : ℕ) where
 
   same_whole : (m : Option Match) (groups : Option Groups) → is_some m ≡ is_some groups
       → TellsMatch re haystack start m → TellsGroups re haystack start groups
-      → option_map match_span m ≡ option_and_then (λ own. group_span own 0) groups
+      → option_map span_of_match m ≡ option_and_then (λ own. group_span own 0) groups
   same_whole None None same p q = refl
   same_whole None (Some groups) same p q = absurd (false≢true same)
   same_whole (Some m) None same p q = absurd (false≢true (sym same))

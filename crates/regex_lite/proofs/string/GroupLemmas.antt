@@ -13,7 +13,7 @@ use Rattle.std.proofs.lemmas.Bool.Decides.{nat_tests}
 use Rattle.std.proofs.lemmas.Option.{slice_get-get_or, IfSome_then}
 use Rattle.regex_lite.specs.Groups.{Groups, group_span, is_named, index_of, span_at, text_at, texts_from}
 use Rattle.regex_lite.specs.declared.string.matches.Match.{Match}
-use Rattle.regex_lite.specs.MatchViews.{match_haystack, match_span, placed_span}
+use Rattle.regex_lite.specs.MatchViews.{haystack_of_match, span_of_match, match_with_haystack}
 
 -- the spans from index k on begin with that of group k
 pub spans_on : (spans : List (Option (ℕ × ℕ))) (k : ℕ) → k < length spans
@@ -64,17 +64,17 @@ enough_behind groups span is enough =
     there (first ∷ spans) is = omega arith
 
 -- a match in this haystack, with it
-placed : (haystack : List ℕ) (m : Option Match) → IfSome m (λ own. match_haystack own ≡ haystack)
-    → option_map (λ span. (haystack, span)) (option_map match_span m) ≡ option_map placed_span m
+placed : (haystack : List ℕ) (m : Option Match) → IfSome m (λ own. haystack_of_match own ≡ haystack)
+    → option_map (λ span. (haystack, span)) (option_map span_of_match m) ≡ option_map match_with_haystack m
 placed haystack None within = refl
-placed haystack (Some m) within = ap (λ own. Some (own, match_span m)) (sym within)
+placed haystack (Some m) within = ap (λ own. Some (own, span_of_match m)) (sym within)
 
 -- what is told of group k comes before what is told of those behind it
 pub groups_on : (haystack : List ℕ) (spans : List (Option (ℕ × ℕ))) (k : ℕ) (m : Option Match)
-    → k < length spans → option_map match_span m ≡ span_at spans k
-    → IfSome m (λ own. match_haystack own ≡ haystack)
+    → k < length spans → option_map span_of_match m ≡ span_at spans k
+    → IfSome m (λ own. haystack_of_match own ≡ haystack)
     → map (option_map (λ span. (haystack, span))) (drop k spans)
-    ≡ option_map placed_span m ∷ map (option_map (λ span. (haystack, span))) (drop (k + 1) spans)
+    ≡ option_map match_with_haystack m ∷ map (option_map (λ span. (haystack, span))) (drop (k + 1) spans)
 groups_on haystack spans k m within is own =
     let Placed : List (Option (ℕ × ℕ)) → List (Option (List ℕ × (ℕ × ℕ))) =
     map (option_map (λ span. (haystack, span))) in

@@ -14,7 +14,7 @@ use Rattle.regex_lite.specs.declared.string.matches.Match.{Match}
 use Rattle.regex_lite.specs.Compiled.{IsBuilt, groups_of}
 use Rattle.regex_lite.specs.Expression.{Expression, OfTree}
 use Rattle.regex_lite.specs.Groups.{Groups, AreGroups, LiesIn, group_span, span_at}
-use Rattle.regex_lite.specs.MatchViews.{match_haystack, match_span}
+use Rattle.regex_lite.specs.MatchViews.{haystack_of_match, span_of_match}
 use Rattle.regex_lite.specs.Searches.{AreGroupsOf, TellsMatch, TellsGroups, TellsLocations, offsets, spans_from}
 use Rattle.regex_lite.proofs.string.CapturedLemmas.{captured, captured_of}
 use Rattle.regex_lite.proofs.string.FoundLemmas.{first_told, found_lies, group_0, length_spans}
@@ -63,7 +63,7 @@ module _ (bytes : List ℕ) (utf8 : IsUtf8 bytes) (start : ℕ) (compiled : Comp
 
   -- it is what is told
   pub match_told : (re : Expression) → IsTree re.flags (chars re.pattern) built.tree → (m : Match)
-      → match_haystack m ≡ bytes → match_span m ≡ (outcome.start, outcome.end)
+      → haystack_of_match m ≡ bytes → span_of_match m ≡ (outcome.start, outcome.end)
       → TellsMatch re bytes start (Some m)
   match_told re given m haystack span = (
     built.tree,
@@ -131,8 +131,8 @@ room_told re bytes start n (Some own) groups (tree, given, few) (other, given_to
 pub locations_told : (re : Expression) (bytes : List ℕ) (start n : ℕ) (told : Option Groups)
     (groups : Groups) (m : Option Match) (spans : List (Option (ℕ × ℕ)))
     → TellsGroups re bytes start told → told ≡ Some groups
-    → option_map match_span m ≡ group_span groups 0
-    → IfSome m (λ own. match_haystack own ≡ groups.haystack) → spans ≡ take n groups.spans
+    → option_map span_of_match m ≡ group_span groups 0
+    → IfSome m (λ own. haystack_of_match own ≡ groups.haystack) → spans ≡ take n groups.spans
     → TellsLocations re bytes start spans m
 locations_told re bytes start n None groups m spans tells is found within first = absurd cc
 locations_told re bytes start n (Some own) groups m spans (tree, given, (f, is_found, of_own)) is found within first =
@@ -152,8 +152,8 @@ locations_told re bytes start n (Some own) groups m spans (tree, given, (f, is_f
         let told_first = first_told (chars bytes) f.marks n 0 (captures_len tree) in
         all ∙ told_first ∙ ap (λ s. spans_from (chars bytes) f.marks 0 (length s)) (sym all)
 
-    each : (m : Option Match) → option_map match_span m ≡ group_span groups 0
-        → IfSome m (λ own. match_haystack own ≡ groups.haystack)
+    each : (m : Option Match) → option_map span_of_match m ≡ group_span groups 0
+        → IfSome m (λ own. haystack_of_match own ≡ groups.haystack)
         → TellsLocations re bytes start spans m
     each None found within = absurd (not_there (found ∙ whole))
     each (Some m) found within = (

@@ -54,7 +54,7 @@ impl<'h> Deref for Captures<'h> {
 }
 
 impl<'h> Captures<'h> {
-    ghost use Rattle.regex_lite.specs.MatchViews.{groups_left, match_haystack, match_span};
+    ghost use Rattle.regex_lite.specs.MatchViews.{spans_to_come, haystack_of_match, span_of_match};
 
     /// The groups that these slots hold, of the regex that shares what was built.
     pub(super) fn new(
@@ -73,8 +73,8 @@ impl<'h> Captures<'h> {
     /// What the group with this index matched last: `None` where it isn't there or took no part.
     /// Group 0 is the whole match.
     pub fn get(&self, i: usize) -> Option<Match<'h>>
-        ensures span { option_map match_span result ≡ group_span self.now i }
-        ensures haystack { IfSome result (λ m. match_haystack m ≡ self.now.haystack) }
+        ensures span { option_map span_of_match result ≡ group_span self.now i }
+        ensures haystack { IfSome result (λ m. haystack_of_match m ≡ self.now.haystack) }
     {
         let (start, end) = self.inner.span(i)?;
         Some(Match::new(self.inner.haystack, start, end))
@@ -93,8 +93,8 @@ impl<'h> Captures<'h> {
     ///
     /// The test `tests::examples::named_groups` runs this example.
     pub fn name(&self, name: &str) -> Option<Match<'h>>
-        ensures span { option_map match_span result ≡ named_span self.now name.now }
-        ensures haystack { IfSome result (λ m. match_haystack m ≡ self.now.haystack) }
+        ensures span { option_map span_of_match result ≡ named_span self.now name.now }
+        ensures haystack { IfSome result (λ m. haystack_of_match m ≡ self.now.haystack) }
     {
         let i = self.inner.index_of(name)?;
         self.get(i)
@@ -104,7 +104,7 @@ impl<'h> Captures<'h> {
     /// [`Captures::len`].
     pub fn iter<'c>(&'c self) -> SubCaptureMatches<'c, 'h>
         ensures haystack { result.captures.now ≡ self.now }
-        ensures groups { groups_left result ≡ self.now.spans }
+        ensures groups { spans_to_come result ≡ self.now.spans }
     {
         SubCaptureMatches::new(self)
     }

@@ -18,15 +18,15 @@ pub struct Match<'h> {
 }
 
 impl<'h> Match<'h> {
-    ghost use Rattle.regex_lite.specs.MatchViews.{match_haystack, match_span, match_text};
+    ghost use Rattle.regex_lite.specs.MatchViews.{haystack_of_match, span_of_match, text_of_match};
 
     /// The match from one offset of the haystack to another.
     ///
     /// Condition: the two are in order, in the haystack and on character boundaries.
     pub(super) fn new(haystack: &'h str, start: usize, end: usize) -> Match<'h>
         requires { LiesIn haystack.now (start, end) }
-        ensures span { match_span result ≡ (start, end) }
-        ensures haystack { match_haystack result ≡ haystack.now }
+        ensures span { span_of_match result ≡ (start, end) }
+        ensures haystack { haystack_of_match result ≡ haystack.now }
     {
         Match {
             haystack,
@@ -37,35 +37,35 @@ impl<'h> Match<'h> {
 
     /// The offset of its first byte.
     pub fn start(&self) -> usize
-        ensures { result ≡ (match_span self.now).0 }
+        ensures { result ≡ (span_of_match self.now).0 }
     {
         self.start
     }
 
     /// The offset behind its last byte.
     pub fn end(&self) -> usize
-        ensures { result ≡ (match_span self.now).1 }
+        ensures { result ≡ (span_of_match self.now).1 }
     {
         self.end
     }
 
     /// Whether it starts where it ends.
     pub fn is_empty(&self) -> bool
-        ensures { IsTrue result ↔ ((match_span self.now).0 ≡ (match_span self.now).1) }
+        ensures { IsTrue result ↔ ((span_of_match self.now).0 ≡ (span_of_match self.now).1) }
     {
         self.start == self.end
     }
 
     /// How many bytes it has.
     pub fn len(&self) -> usize
-        ensures { result ≡ (match_span self.now).1 - (match_span self.now).0 }
+        ensures { result ≡ (span_of_match self.now).1 - (span_of_match self.now).0 }
     {
         self.end - self.start
     }
 
     /// Its two offsets.
     pub fn range(&self) -> Range<usize>
-        ensures { (result.start, result.end) ≡ match_span self.now }
+        ensures { span_of_match self.now ≡ (result.start, result.end) }
     {
         self.start..self.end
     }
@@ -82,7 +82,7 @@ impl<'h> Match<'h> {
     ///
     /// The test `tests::examples::matched_text` runs this example.
     pub fn as_str(&self) -> &'h str
-        ensures { result.now ≡ match_text self.now }
+        ensures { result.now ≡ text_of_match self.now }
     {
         &self.haystack[self.start..self.end]
     }
@@ -122,9 +122,9 @@ impl<'h> fmt::Debug for Match<'h> {
 }
 
 impl<'h> From<Match<'h>> for &'h str {
-    ghost use Rattle.regex_lite.specs.MatchViews.{match_text};
+    ghost use Rattle.regex_lite.specs.MatchViews.{text_of_match};
 
-    ghost from_gives = { λ m text. text.now ≡ match_text m };
+    ghost from_gives = { λ found text. text.now ≡ text_of_match found };
 
     /// What matched.
     fn from(m: Match<'h>) -> &'h str {
@@ -133,9 +133,9 @@ impl<'h> From<Match<'h>> for &'h str {
 }
 
 impl<'h> From<Match<'h>> for Range<usize> {
-    ghost use Rattle.regex_lite.specs.MatchViews.{match_span};
+    ghost use Rattle.regex_lite.specs.MatchViews.{span_of_match};
 
-    ghost from_gives = { λ m range. (range.start, range.end) ≡ match_span m };
+    ghost from_gives = { λ found range. span_of_match found ≡ (range.start, range.end) };
 
     /// The two offsets.
     fn from(m: Match<'h>) -> Range<usize> {

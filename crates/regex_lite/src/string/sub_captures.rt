@@ -20,12 +20,12 @@ pub struct SubCaptureMatches<'c, 'h> {
 }
 
 impl<'c, 'h> SubCaptureMatches<'c, 'h> {
-    ghost use Rattle.regex_lite.specs.MatchViews.{groups_left};
+    ghost use Rattle.regex_lite.specs.MatchViews.{spans_to_come};
 
     /// All groups of these.
     pub(super) fn new(captures: &'c Captures<'h>) -> SubCaptureMatches<'c, 'h>
         ensures captures { result.captures.now ≡ captures.now }
-        ensures groups { groups_left result ≡ captures.now.spans }
+        ensures groups { spans_to_come result ≡ captures.now.spans }
     {
         SubCaptureMatches { captures, next: 0 }
     }
@@ -45,13 +45,13 @@ impl<'c, 'h> Clone for SubCaptureMatches<'c, 'h> {
 }
 
 impl<'c, 'h> Iterator for SubCaptureMatches<'c, 'h> {
-    ghost use Rattle.regex_lite.specs.MatchViews.{placed_groups_left, placed_span};
+    ghost use Rattle.regex_lite.specs.MatchViews.{groups_to_come, match_with_haystack};
 
     type Item = Option<Match<'h>>;
 
-    ghost next_gives = { YieldsFirstBy (option_map placed_span) placed_groups_left };
+    ghost next_gives = { YieldsFirstBy (option_map match_with_haystack) groups_to_come };
 
-    ghost remaining = { item_count placed_groups_left };
+    ghost remaining = { item_count groups_to_come };
 
     fn next(&mut self) -> Option<Option<Match<'h>>> {
         if self.next >= self.captures.len() {
@@ -63,11 +63,11 @@ impl<'c, 'h> Iterator for SubCaptureMatches<'c, 'h> {
     }
 
     fn size_hint(&self) -> (usize, Option<usize>)
-        ensures lower { IsWithinCount result.0 (item_count placed_groups_left self.now) }
-        ensures upper { IfSome result.1 (UpTo (item_count placed_groups_left self.now)) }
+        ensures lower { IsWithinCount result.0 (item_count groups_to_come self.now) }
+        ensures upper { IfSome result.1 (UpTo (item_count groups_to_come self.now)) }
         ensures exact { result ≡ (
-          length (placed_groups_left self.now),
-          Some (length (placed_groups_left self.now)),
+          length (groups_to_come self.now),
+          Some (length (groups_to_come self.now)),
         ) }
     {
         let len = self.captures.len().saturating_sub(self.next);
