@@ -16,7 +16,9 @@ module _ (table : List (Place ℕ)) (haystack : Text) (start s : ℕ) where
     pub ready : IsBetween table cache
     pub coming : IsComing table haystack start s (length haystack) p cache.walk.memory.threads
         (best_of cache.best)
-    pub tries : cache.walk.steps.tried + length cache.walk.memory.threads ≤ (arrows_of table + 1) * (p - s)
+    pub tries :
+        cache.walk.steps.tried + length cache.walk.memory.threads
+        ≤ (arrows_of table + 1) * (p - s)
     pub entries : cache.walk.steps.entered ≤ length table * (p - s)
     pub rounds : cache.walk.memory.now ≤ p - s
 
