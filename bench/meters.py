@@ -1,4 +1,4 @@
-"""What a run costs: instructions, those of calls in it, the most memory in use, and time."""
+"""What a run costs: instructions, the most memory in use, and time."""
 
 import os
 import re
@@ -6,7 +6,6 @@ import subprocess
 import sys
 import tempfile
 import time
-from typing import NamedTuple
 
 TIME_LIMIT = 1200  # seconds a run
 NAME = os.path.basename(sys.argv[0])
@@ -24,53 +23,44 @@ def run(command, text):
 
 
 def account(tool, options, command, text):
-    """What a tool of valgrind writes to its file about a run of the command."""
-    with tempfile.NamedTemporaryFile('r') as out:
-        file = f'--{tool}-out-file={out.name}'
-        _, _, fault = run(['valgrind', f'--tool={tool}', file, *options, *command], text)
-        written = out.read()
+    """What a tool of valgrind writes to its files about a run of the command, each in turn."""
+    with tempfile.TemporaryDirectory() as folder:
+        file = os.path.join(folder, 'account')
+        _, _, fault = run(['valgrind', f'--tool={tool}', f'--{tool}-out-file={file}', *options,
+                           *command], text)
+        # What is written at the end of the run has no number.
+        names = sorted(os.listdir(folder), key=lambda name: (name == 'account', name))
+        written = []
+        for name in names:
+            with open(os.path.join(folder, name)) as part:
+                written.append(part.read())
     if not written:
         sys.exit(f'{NAME}: {tool} counted nothing: {" ".join(command)[:120]}\n{fault[-500:]}')
     return written
 
 
-class Account(NamedTuple):
-    """How many instructions a run takes, and the calls in it with all that they call."""
-    total: int
-    calls: list  # of who calls, who is called, and the instructions
-
-    def of_calls(self, caller, callee):
-        """The instructions of the calls between functions whose whole names fit."""
-        found = [cost for source, target, cost in self.calls
-                 if re.fullmatch(caller, source) and re.fullmatch(callee, target)]
-        if not found:
-            sys.exit(f'{NAME}: no call of {callee}: was it built into another function?')
-        return sum(found)
-
-
 def instructions(command, text):
-    """The account of a run.
+    """The instructions of a run."""
+    return sum(parts(command, text, []))
 
-    Callgrind names each function in a line `fn=NAME`. Under it stands, for each call from one
-    place, a line `cfn=NAME`, a line `calls=...`, and a line that ends with what the call took.
-    """
-    options = ['--compress-strings=no', '--compress-pos=no']
+
+def instructions_until(function, command, text):
+    """The instructions of a run up to the first call of a function, and those of the whole run."""
+    counted = parts(command, text, [f'--dump-before={function}'])
+    if len(counted) < 2:
+        sys.exit(f'{NAME}: no call of {function}: {" ".join(command)[:120]}')
+    return counted[0], sum(counted)
+
+
+def parts(command, text, options):
+    """The instructions of the parts of a run that callgrind tells apart."""
     written = account('callgrind', options, command, text)
-    total = re.search(r'(?m)^totals: (\d+)', written)
-    calls = []
-    caller = None
-    shape = r'(?m)^fn=(.*)$|^cfn=(.*)\ncalls=.*\n.* (\d+)$'
-    for found in re.finditer(shape, written):
-        if found[1] is not None:
-            caller = found[1]
-        else:
-            calls.append((caller, found[2], int(found[3])))
-    return Account(int(total[1]), calls)
+    return [int(re.search(r'(?m)^totals: (\d+)', part)[1]) for part in written]
 
 
 def peak(command, text):
     """The most bytes of the heap that are in use at once, with those that the C library adds."""
-    written = account('massif', ['--peak-inaccuracy=0.0'], command, text)
+    written, = account('massif', ['--peak-inaccuracy=0.0'], command, text)
     sizes = re.findall(r'mem_heap_B=(\d+)\nmem_heap_extra_B=(\d+)', written)
     return max(int(bytes_asked) + int(extra) for bytes_asked, extra in sizes)
 
