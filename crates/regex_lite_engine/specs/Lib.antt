@@ -5,6 +5,7 @@ pub mod Graph
 pub mod WayLaws
 pub mod Search
 pub mod SearchLaws
+pub mod Interpolation
 -- What the functions of nfa, and those of the searches, promise one another. No public contract
 -- rests on it.
 pub mod Nfa

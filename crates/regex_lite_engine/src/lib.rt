@@ -2,10 +2,11 @@
 //!
 //! [`Graph::new`] counts a tree, tests it against the limits and writes it out as numbered places
 //! with ordered arrows (`nfa`). `pikevm` goes over a haystack's bytes along the arrows, counts its
-//! [`Steps`] and tells an [`Outcome`]. `laws` holds what is true of the definitions alone: of
+//! [`Steps`] and tells an [`Outcome`]. `interpolate` cuts a template into its pieces. `laws` holds what is true of the definitions alone: of
 //! matches, ways and answers.
 #![tactic(auto)]
 
+pub mod interpolate;
 pub mod laws;
 mod nfa;
 mod pikevm;
