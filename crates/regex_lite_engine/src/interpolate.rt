@@ -9,8 +9,11 @@ ghost use Rattle.regex_lite_syntax.specs.Characters.{is_digit, number_of};
 ghost use Rattle.regex_lite_engine.specs.Interpolation.{BeginsWith, HasNoReference, IsReference, is_index, is_word, referred};
 ghost use Rattle.regex_lite_engine.specs.Interpolation.Pieces.{piece_of};
 
+#[cfg(test)]
+mod tests;
+
 /// A piece of a template.
-#[derive(Clone, Copy, Debug)]
+#[derive(Clone, Copy, PartialEq, Eq, Debug)]
 pub enum Piece<'t> {
     /// Text that stands for itself.
     Text(&'t str),
