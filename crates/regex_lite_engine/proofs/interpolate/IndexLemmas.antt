@@ -40,9 +40,9 @@ pub too_large : (xs : List ℕ) → 2 ^ 64 ≤ number_of 10 xs
     → None ≡ cond (is_index xs) (Some (number_of 10 xs)) None
 too_large xs large =
     let none : is_index xs ≡ false =
-        ap (λ b. (not (eqb (length xs) 0) && list_all is_digit xs) && b)
-        (at_least (number_of 10 xs) large)
-        ∙ false_behind (not (eqb (length xs) 0) && list_all is_digit xs) in
+    ap (λ b. (not (eqb (length xs) 0) && list_all is_digit xs) && b)
+    (at_least (number_of 10 xs) large)
+    ∙ false_behind (not (eqb (length xs) 0) && list_all is_digit xs) in
     ap (λ b. cond b (Some (number_of 10 xs)) None) (sym none)
 
 all_pass : (p : ℕ → Bool) (xs : List ℕ)
@@ -66,6 +66,6 @@ digits_are_index xs n positive digits number small =
     let b = all_pass is_digit xs digits in
     let c = below (number_of 10 xs) (subst (λ m. m < 2 ^ 64) number small) in
     let index : is_index xs ≡ true =
-        ap (λ x. (x && list_all is_digit xs) && ltb (number_of 10 xs) (2 ^ 64)) a
-        ∙ ap (λ x. (true && x) && ltb (number_of 10 xs) (2 ^ 64)) b ∙ c in
+    ap (λ x. (x && list_all is_digit xs) && ltb (number_of 10 xs) (2 ^ 64)) a
+    ∙ ap (λ x. (true && x) && ltb (number_of 10 xs) (2 ^ 64)) b ∙ c in
     ap Some number ∙ ap (λ x. cond x (Some (number_of 10 xs)) None) (sym index)

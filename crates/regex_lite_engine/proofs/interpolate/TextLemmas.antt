@@ -40,9 +40,12 @@ text_first t run rest n some lacks stops start inside is_run is_rest =
     begins : (t : List ℕ) → t ≢ [] → get_or t 0 0 ≡ 36 → (u : List ℕ) × (t ≡ 36 ∷ u)
     begins [] some is = absurd (some refl)
     begins (b ∷ t) some is = (t, ap (λ x. x ∷ t) is)
+
     positive : n ≡ 0 → ⊥
     positive zero_len = let b = begins t some (stops zero_len) in start b.0 b.1
+
     length_run : length run ≡ n
     length_run = omega (arith, ap length is_run, length-take n t, inside)
+
     nonempty : run ≢ []
     nonempty empty = positive (sym length_run ∙ ap length empty)

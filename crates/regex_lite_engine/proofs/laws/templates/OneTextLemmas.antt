@@ -38,9 +38,11 @@ module _ (groups : GroupTexts) where
       → Behind b t text
   begun template t text rest more b piece other starts (no_dollar [] some lacks cut is) further given = absurd (some refl)
   begun template t text rest more b piece other starts (no_dollar (c ∷ run) some lacks cut is) further given =
-      let same = sym cut ∙ starts in
-      (run ++ more, subst (λ u. IsInterpolation groups u (run ++ more)) (same_tail same) (less run rest more (lacks_behind c run lacks) further),
-      given ∙ ap (λ p. piece_text groups p ++ more) is ∙ ap (λ d. d ∷ (run ++ more)) (same_head same))
+      let same = sym cut ∙ starts in (
+        run ++ more,
+        subst (λ u. IsInterpolation groups u (run ++ more)) (same_tail same) (less run rest more (lacks_behind c run lacks) further),
+        given ∙ ap (λ p. piece_text groups p ++ more) is ∙ ap (λ d. d ∷ (run ++ more)) (same_head same),
+      )
   begun template t text rest more b piece other starts (two_dollars cut is) further given = absurd (other (same_head (sym starts ∙ cut)))
   begun template t text rest more b piece other starts (reference after name cut refer is) further given =
       absurd (other (same_head (sym starts ∙ cut)))
@@ -59,9 +61,11 @@ module _ (groups : GroupTexts) where
 
   -- a template that begins with such an element, and one that begins with a `$`
   one_more : (b : ℕ) (t : List ℕ) → b ≢ 36 → OneText t → OneText (b ∷ t)
-  one_more b t other (text, is, only) =
-      (b ∷ text, less (b ∷ []) t text lacks is,
-      λ x i. let left = behind (b ∷ t) t x b other refl i in left.2 ∙ ap (λ u. b ∷ u) (only left.0 left.1))
+  one_more b t other (text, is, only) = (
+    b ∷ text,
+    less (b ∷ []) t text lacks is,
+    λ x i. let left = behind (b ∷ t) t x b other refl i in left.2 ∙ ap (λ u. b ∷ u) (only left.0 left.1),
+  )
     where
       lacks : ¬ (Contains (b ∷ []) 36)
       lacks (zero, inside, e) = other e
@@ -96,5 +100,5 @@ module _ (groups : GroupTexts) where
   plain_text template text lacks is =
       let one = one_text template in
       let whole : IsInterpolation groups template template =
-          subst (λ t. IsInterpolation groups t t) (append-nil template) (less template [] [] lacks (nothing refl refl)) in
+      subst (λ t. IsInterpolation groups t t) (append-nil template) (less template [] [] lacks (nothing refl refl)) in
       one.2 text is ∙ sym (one.2 template whole)

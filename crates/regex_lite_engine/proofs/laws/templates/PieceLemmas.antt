@@ -88,9 +88,12 @@ in_braces [] none = inr (λ name rest refer. ⊎_elim (λ a. absurd (no_opening 
     no_opening name rest a = let e = a.opens in cc
 in_braces (b ∷ t) none = ⊎_elim
     (λ is. ⊎_elim
-    (λ closes. inl (before_first is_closing t, after_first is_closing t,
-    inl (record { inner = t; opens = ap (λ x. x ∷ t) is; closes = closes; is_name = refl; is_rest = refl }),
-    omega (arith, length-drop (position_or_len is_closing t + 1) t)))
+    (λ closes. inl (
+      before_first is_closing t,
+      after_first is_closing t,
+      inl (record { inner = t; opens = ap (λ x. x ∷ t) is; closes = closes; is_name = refl; is_rest = refl }),
+      omega (arith, length-drop (position_or_len is_closing t + 1) t),
+    ))
     (λ unclosed. inr (λ name rest refer. ⊎_elim (λ a. closed t name rest b unclosed a) (λ a. absurd (omega (arith, a.some, none))) refer))
     (cases_lt (position_or_len is_closing t) (length t)))
     (λ other. inr (λ name rest refer. ⊎_elim (λ a. other (same_head a.opens)) (λ a. absurd (omega (arith, a.some, none))) refer))
@@ -100,13 +103,17 @@ in_braces (b ∷ t) none = ⊎_elim
     closed t name rest b unclosed a =
         let same : t ≡ a.inner = same_tail a.opens in
         let closes : position_or_len is_closing t < length t =
-            subst (λ i. position_or_len is_closing i < length i) (sym same) a.closes in
+        subst (λ i. position_or_len is_closing i < length i) (sym same) a.closes in
         omega arith
 
 reference_or_none : (after : List ℕ) → Refers after ⊎ HasNoReference after
 reference_or_none after = ⊎_elim
-    (λ some. inl (take (prefix_len is_word after) after, drop (prefix_len is_word after) after,
-    inr (record { some = some; is_name = refl; is_rest = refl }), omega (arith, length-drop (prefix_len is_word after) after)))
+    (λ some. inl (
+      take (prefix_len is_word after) after,
+      drop (prefix_len is_word after) after,
+      inr (record { some = some; is_name = refl; is_rest = refl }),
+      omega (arith, length-drop (prefix_len is_word after) after),
+    ))
     (λ none. in_braces after (omega arith))
     (cases_lt 0 (prefix_len is_word after))
 
