@@ -3,7 +3,7 @@
 //! `$name` refers to a group by its name, or by its index where the name is digits alone. It is as
 //! long as it can be: ASCII letters, digits and `_`. `${name}` goes up to the next `}`. `$$` gives a
 //! `$`, and so does any other one.
-ghost use Rattle.std.specs.Prelude.{◌≡◌, ◌≢◌, ◌<◌, ◌∷◌, ◌++◌, [], ℕ, List, MatchOption, IfSome, Contains, if◌then◌else◌, Some, None, length, option_map};
+ghost use Rattle.std.specs.Prelude.{◌≡◌, ◌≢◌, ◌<◌, ◌≤◌, ◌+◌, ◌*◌, ◌^◌, ◌∷◌, ◌++◌, [], ℕ, List, MatchOption, IfSome, Contains, if◌then◌else◌, Some, None, length, option_map};
 ghost use Rattle.std.specs.List.{prefix_len};
 ghost use Rattle.regex_lite_syntax.specs.Characters.{is_digit, number_of};
 ghost use Rattle.regex_lite_engine.specs.Interpolation.{BeginsWith, HasNoReference, IsReference, is_index, is_word, referred};
@@ -25,7 +25,8 @@ pub enum Piece<'t> {
 
 /// The first piece of the template, and what follows it: `None` where the template is empty.
 pub fn next_piece(template: &str) -> Option<(Piece<'_>, &str)>
-    ensures cut { MatchOption result (template.now ≡ []) (λ r. BeginsWith template.now (piece_of r.0) r.1.now) }
+    ensures cut { MatchOption result (template.now ≡ [])
+        (λ r. BeginsWith template.now (piece_of r.0) r.1.now) }
     ensures shorter { IfSome result (λ r. length r.1.now < length template.now) }
 {
     if template.is_empty() {
@@ -70,7 +71,8 @@ fn at_dollar<'t>(template: &'t str, after: &'t str) -> (Piece<'t>, &'t str)
 
 /// The name or the index behind a `$`, and what follows the reference.
 fn find_cap_ref(after: &str) -> Option<(&str, &str)>
-    ensures found { MatchOption result (HasNoReference after.now) (λ r. IsReference after.now r.0.now r.1.now) }
+    ensures found { MatchOption result (HasNoReference after.now)
+        (λ r. IsReference after.now r.0.now r.1.now) }
     ensures shorter { IfSome result (λ r. length r.1.now < length after.now) }
 {
     match after.strip_prefix('{') {
@@ -82,7 +84,8 @@ fn find_cap_ref(after: &str) -> Option<(&str, &str)>
 /// The same without braces.
 fn find_bare(after: &str) -> Option<(&str, &str)>
     requires { (t : List ℕ) → after.now ≢ 123 ∷ t }
-    ensures found { MatchOption result (HasNoReference after.now) (λ r. IsReference after.now r.0.now r.1.now) }
+    ensures found { MatchOption result (HasNoReference after.now)
+        (λ r. IsReference after.now r.0.now r.1.now) }
     ensures shorter { IfSome result (λ r. length r.1.now < length after.now) }
 {
     let len = count_word(after.as_bytes());
@@ -132,7 +135,15 @@ fn parse_index(name: &[u8]) -> Option<usize>
         if !byte.is_ascii_digit() {
             return None;
         }
-        index = index.checked_mul(10)?.checked_add((*byte - b'0') as usize)?;
+        index = with_digit(index, *byte - b'0')?;
     }
     Some(index)
+}
+
+/// The number with one more digit, where it is below 2^64.
+fn with_digit(number: usize, digit: u8) -> Option<usize>
+    ensures { MatchOption result (2 ^ 64 ≤ number * 10 + digit)
+        (λ longer. longer ≡ number * 10 + digit) }
+{
+    number.checked_mul(10)?.checked_add(digit as usize)
 }
