@@ -3,9 +3,10 @@
 //! `$name` refers to a group by its name, or by its index where the name is digits alone. It is as
 //! long as it can be: ASCII letters, digits and `_`. `${name}` goes up to the next `}`. `$$` gives a
 //! `$`, and so does any other one.
-ghost use Rattle.std.specs.Prelude.{◌≡◌, ◌≢◌, ◌<◌, ◌≤◌, ◌+◌, ◌*◌, ◌^◌, ◌∷◌, ◌++◌, [], ℕ, List, MatchOption, IfSome, Contains, if◌then◌else◌, Some, None, length, option_map};
+ghost use Rattle.std.specs.Prelude.{◌≡◌, ◌≢◌, ◌<◌, ◌≤◌, ◌+◌, ◌*◌, ◌^◌, ◌∷◌, [], ℕ, List, MatchOption, IfSome, if◌then◌else◌, Some, None, length};
 ghost use Rattle.std.specs.List.{prefix_len};
-ghost use Rattle.regex_lite_syntax.specs.Characters.{is_digit, number_of};
+ghost use Rattle.regex_lite_syntax.specs.Text.{the};
+ghost use Rattle.regex_lite_syntax.specs.Characters.{number_of};
 ghost use Rattle.regex_lite_engine.specs.Interpolation.{BeginsWith, HasNoReference, IsReference, is_index, is_word, referred};
 ghost use Rattle.regex_lite_engine.specs.Interpolation.Pieces.{piece_of};
 
@@ -41,7 +42,7 @@ pub fn next_piece(template: &str) -> Option<(Piece<'_>, &str)>
 /// The text up to the next `$`, and the rest.
 fn split_text(template: &str) -> (Piece<'_>, &str)
     requires some { template.now ≢ [] }
-    requires start { (t : List ℕ) → template.now ≢ 36 ∷ t }
+    requires start { (t : List ℕ) → template.now ≢ the "$" ∷ t }
     ensures cut { BeginsWith template.now (piece_of result.0) result.1.now }
     ensures shorter { length result.1.now < length template.now }
 {
@@ -56,7 +57,7 @@ fn split_text(template: &str) -> (Piece<'_>, &str)
 
 /// The piece that begins with a `$`, and the rest.
 fn at_dollar<'t>(template: &'t str, after: &'t str) -> (Piece<'t>, &'t str)
-    requires { template.now ≡ 36 ∷ after.now }
+    requires { template.now ≡ the "$" ∷ after.now }
     ensures cut { BeginsWith template.now (piece_of result.0) result.1.now }
     ensures shorter { length result.1.now < length template.now }
 {
@@ -83,7 +84,7 @@ fn find_cap_ref(after: &str) -> Option<(&str, &str)>
 
 /// The same without braces.
 fn find_bare(after: &str) -> Option<(&str, &str)>
-    requires { (t : List ℕ) → after.now ≢ 123 ∷ t }
+    requires { (t : List ℕ) → after.now ≢ the "{" ∷ t }
     ensures found { MatchOption result (HasNoReference after.now)
         (λ r. IsReference after.now r.0.now r.1.now) }
     ensures shorter { IfSome result (λ r. length r.1.now < length after.now) }

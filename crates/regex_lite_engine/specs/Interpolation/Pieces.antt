@@ -1,5 +1,4 @@
 -- The pieces of the code as those of a template.
-use Rattle.std.specs.Prelude.{ℕ, List}
 use Rattle.regex_lite_engine.specs.Interpolation as template
 use Rattle.regex_lite_engine.specs.declared.interpolate.Piece.{Piece}
 use Rattle.regex_lite_engine.specs.declared.interpolate.Piece.TheVariants as stored

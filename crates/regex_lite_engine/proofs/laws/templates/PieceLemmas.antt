@@ -1,10 +1,10 @@
 -- A template that begins with a `$` begins with one piece.
-use Rattle.std.proofs.Common.{◌≡◌, ◌≢◌, ◌≤◌, ◌<◌, ℕ, suc, ◌+◌, List, [], ◌∷◌, ◌++◌, Contains, length, get_or, take, drop, refl, sym, ap, ◌∙◌, subst, arith, inl, inr, ◌⊎◌, ⊎_elim}
+use Rattle.std.proofs.Common.{◌≡◌, ◌≢◌, ◌≤◌, ◌<◌, ℕ, ◌+◌, List, [], ◌∷◌, length, take, drop, refl, sym, ap, ◌∙◌, subst, arith, inl, inr, ◌⊎◌, ⊎_elim}
 use Rattle.std.specs.List.{prefix_len, position_or_len, before_first, after_first}
 use Rattle.std.proofs.lemmas.Bool.{cases_eq, cases_lt}
 use Rattle.std.proofs.lemmas.List.{length-drop}
 use Rattle.regex_lite_syntax.proofs.ListLemmas.{same_head, same_tail}
-use Rattle.regex_lite_engine.specs.Interpolation.{Piece, plain, is_word, is_closing, IsBraced, IsBare, IsReference, HasNoReference, referred, BeginsWith, no_dollar, two_dollars, reference, one_dollar}
+use Rattle.regex_lite_engine.specs.Interpolation.{Piece, plain, is_word, is_closing, IsBraced, IsReference, HasNoReference, referred, BeginsWith, no_dollar, two_dollars, reference, one_dollar}
 
 -- what stands behind the `$` of such a piece
 pub data AtDollar (after : List ℕ) (piece : Piece) (rest : List ℕ) : Type 0 where
