@@ -13,14 +13,14 @@ pub data Piece : Type 0 where
   named : (name : List ℕ) → Piece
 
 -- what a name without braces is written with
-abbrev pub is_word : ℕ → Bool
-is_word b = is_digit b || is_letter b || b == the "_"
+abbrev pub is_name_character : ℕ → Bool
+is_name_character b = is_digit b || is_letter b || b == the "_"
 
 abbrev pub is_closing : ℕ → Bool
 is_closing b = b == the "}"
 
--- A reference in braces goes up to the next closing one. What stands behind its `$` is given, the
--- name in it, and what stands behind it.
+-- A reference in braces goes up to the next closing one. Here `after` stands behind its `$`, and
+-- `rest` behind the reference.
 pub record IsBraced (after name rest : List ℕ) : Type 0 where
   pub inner : List ℕ
   pub opens : after ≡ the "{" ∷ inner
@@ -30,9 +30,9 @@ pub record IsBraced (after name rest : List ℕ) : Type 0 where
 
 -- one without braces is the longest run of such characters, of which there is one at least
 pub record IsBare (after name rest : List ℕ) : Type 0 where
-  pub some : 0 < prefix_len is_word after
-  pub is_name : name ≡ take (prefix_len is_word after) after
-  pub is_rest : rest ≡ drop (prefix_len is_word after) after
+  pub some : 0 < prefix_len is_name_character after
+  pub is_name : name ≡ take (prefix_len is_name_character after) after
+  pub is_rest : rest ≡ drop (prefix_len is_name_character after) after
 
 abbrev pub IsReference : (after name rest : List ℕ) → Type 0
 IsReference after name rest = IsBraced after name rest ⊎ IsBare after name rest

@@ -7,7 +7,7 @@ ghost use Rattle.std.specs.Prelude.{◌≡◌, ◌≢◌, ◌<◌, ◌≤◌, �
 ghost use Rattle.std.specs.List.{prefix_len};
 ghost use Rattle.regex_lite_syntax.specs.Text.{the};
 ghost use Rattle.regex_lite_syntax.specs.Characters.{number_of};
-ghost use Rattle.regex_lite_engine.specs.Interpolation.{BeginsWith, HasNoReference, IsReference, is_index, is_word, referred};
+ghost use Rattle.regex_lite_engine.specs.Interpolation.{BeginsWith, HasNoReference, IsReference, is_index, is_name_character, referred};
 ghost use Rattle.regex_lite_engine.specs.Interpolation.Pieces.{piece_of};
 
 #[cfg(test)]
@@ -89,7 +89,7 @@ fn find_bare(after: &str) -> Option<(&str, &str)>
         (λ r. IsReference after.now r.0.now r.1.now) }
     ensures shorter { IfSome result (λ r. length r.1.now < length after.now) }
 {
-    let len = count_word(after.as_bytes());
+    let len = name_len(after.as_bytes());
     if len == 0 {
         return None;
     }
@@ -97,8 +97,8 @@ fn find_bare(after: &str) -> Option<(&str, &str)>
 }
 
 /// How many characters of a name come first.
-fn count_word(bytes: &[u8]) -> usize
-    ensures { result ≡ prefix_len is_word bytes.now }
+fn name_len(bytes: &[u8]) -> usize
+    ensures { result ≡ prefix_len is_name_character bytes.now }
 {
     for (i, byte) in bytes.iter().enumerate() {
         if !is_valid_cap_letter(*byte) {
@@ -109,7 +109,7 @@ fn count_word(bytes: &[u8]) -> usize
 }
 
 fn is_valid_cap_letter(byte: u8) -> bool
-    ensures { result ≡ is_word byte }
+    ensures { result ≡ is_name_character byte }
 {
     byte.is_ascii_alphanumeric() || byte == b'_'
 }

@@ -6,18 +6,18 @@ use Rattle.std.proofs.lemmas.Bool.Decides.{nat_tests}
 use Rattle.std.proofs.lemmas.List.{length-take, get_or-take, get_or_default, take-append-drop}
 use Rattle.std.proofs.lemmas.List.Sums.{prefix_len_passes, prefix_len-le-length}
 use Rattle.std.proofs.lemmas.Str.{IsCharBoundary-after_ascii}
-use Rattle.regex_lite_engine.specs.Interpolation.{is_word, BeginsWith, no_dollar, plain}
+use Rattle.regex_lite_engine.specs.Interpolation.{is_name_character, BeginsWith, no_dollar, plain}
 
-word_is_ascii : (b : ℕ) → is_word b ≡ true → b < 128
-word_is_ascii b word = grind (arith, nat_tests)
+name_is_ascii : (b : ℕ) → is_name_character b ≡ true → b < 128
+name_is_ascii b named = grind (arith, nat_tests)
 
 -- behind the characters of a name is a character boundary
-pub name_ends_cleanly : (t : List ℕ) (n : ℕ) → IsUtf8 t → n ≡ prefix_len is_word t → 0 < n → IsCharBoundary t n
+pub name_ends_cleanly : (t : List ℕ) (n : ℕ) → IsUtf8 t → n ≡ prefix_len is_name_character t → 0 < n → IsCharBoundary t n
 name_ends_cleanly t zero utf8 is some = absurd (omega arith)
 name_ends_cleanly t (suc k) utf8 is some =
     subst (IsCharBoundary t) (one_more k)
-    (IsCharBoundary-after_ascii t k utf8 (omega (arith, is, prefix_len-le-length is_word t))
-    (word_is_ascii (get_or t k 0) (prefix_len_passes is_word t k 0 (omega (arith, is)))))
+    (IsCharBoundary-after_ascii t k utf8 (omega (arith, is, prefix_len-le-length is_name_character t))
+    (name_is_ascii (get_or t k 0) (prefix_len_passes is_name_character t k 0 (omega (arith, is)))))
   where
     one_more : (k : ℕ) → k + 1 ≡ suc k
     one_more k = omega arith

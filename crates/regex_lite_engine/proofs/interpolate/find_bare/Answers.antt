@@ -4,5 +4,5 @@ use Rattle.regex_lite_engine.proofs.interpolate.find_bare.Goals as goal
 
 pub split_at-requires : goal.split_at-requires
 split_at-requires c =
-    let some : 0 < c.count_word-len.result = search rules in
-    name_ends_cleanly c.args.after.now c.count_word-len.result c.utf8.after (search rules) some
+    let some : 0 < c.name_len-len.result = search rules in
+    name_ends_cleanly c.args.after.now c.name_len-len.result c.utf8.after (search rules) some

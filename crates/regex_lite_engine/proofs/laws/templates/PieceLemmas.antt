@@ -4,7 +4,7 @@ use Rattle.std.specs.List.{prefix_len, position_or_len, before_first, after_firs
 use Rattle.std.proofs.lemmas.Bool.{cases_eq, cases_lt}
 use Rattle.std.proofs.lemmas.List.{length-drop}
 use Rattle.regex_lite_syntax.proofs.ListLemmas.{same_head, same_tail}
-use Rattle.regex_lite_engine.specs.Interpolation.{Piece, plain, is_word, is_closing, IsBraced, IsReference, HasNoReference, referred, BeginsWith, no_dollar, two_dollars, reference, one_dollar}
+use Rattle.regex_lite_engine.specs.Interpolation.{Piece, plain, is_name_character, is_closing, IsBraced, IsReference, HasNoReference, referred, BeginsWith, no_dollar, two_dollars, reference, one_dollar}
 
 -- what stands behind the `$` of such a piece
 pub data AtDollar (after : List ℕ) (piece : Piece) (rest : List ℕ) : Type 0 where
@@ -38,14 +38,14 @@ begins_at_dollar template after rest piece starts (lone single none same is) =
     (subst HasNoReference (sym same) none) is
 
 -- no name begins with a brace or a `$`
-no_brace_in_name : (after inner : List ℕ) → after ≡ 123 ∷ inner → 0 < prefix_len is_word after → ⊥
+no_brace_in_name : (after inner : List ℕ) → after ≡ 123 ∷ inner → 0 < prefix_len is_name_character after → ⊥
 no_brace_in_name after inner is some =
-    let none : 0 < prefix_len is_word (123 ∷ inner) = subst (λ t. 0 < prefix_len is_word t) is some in
+    let none : 0 < prefix_len is_name_character (123 ∷ inner) = subst (λ t. 0 < prefix_len is_name_character t) is some in
     absurd (omega (arith, none))
 
-no_dollar_in_name : (after inner : List ℕ) → after ≡ 36 ∷ inner → 0 < prefix_len is_word after → ⊥
+no_dollar_in_name : (after inner : List ℕ) → after ≡ 36 ∷ inner → 0 < prefix_len is_name_character after → ⊥
 no_dollar_in_name after inner is some =
-    let none : 0 < prefix_len is_word (36 ∷ inner) = subst (λ t. 0 < prefix_len is_word t) is some in
+    let none : 0 < prefix_len is_name_character (36 ∷ inner) = subst (λ t. 0 < prefix_len is_name_character t) is some in
     absurd (omega (arith, none))
 
 no_reference_in_dollar : (after t name rest : List ℕ) → after ≡ 36 ∷ t → IsReference after name rest → ⊥
@@ -81,7 +81,7 @@ one_piece after rest left piece other (lone single none a is) (lone single' none
 abbrev Refers : List ℕ → Type 0
 Refers after = (name : List ℕ) × (rest : List ℕ) × IsReference after name rest × (length rest ≤ length after)
 
-in_braces : (after : List ℕ) → prefix_len is_word after ≡ 0 → Refers after ⊎ HasNoReference after
+in_braces : (after : List ℕ) → prefix_len is_name_character after ≡ 0 → Refers after ⊎ HasNoReference after
 in_braces [] none = inr (λ name rest refer. ⊎_elim (λ a. absurd (no_opening name rest a)) (λ a. absurd (omega (arith, a.some))) refer)
   where
     no_opening : (name rest : List ℕ) → IsBraced [] name rest → ⊥
@@ -109,13 +109,13 @@ in_braces (b ∷ t) none = ⊎_elim
 reference_or_none : (after : List ℕ) → Refers after ⊎ HasNoReference after
 reference_or_none after = ⊎_elim
     (λ some. inl (
-      take (prefix_len is_word after) after,
-      drop (prefix_len is_word after) after,
+      take (prefix_len is_name_character after) after,
+      drop (prefix_len is_name_character after) after,
       inr (record { some = some; is_name = refl; is_rest = refl }),
-      omega (arith, length-drop (prefix_len is_word after) after),
+      omega (arith, length-drop (prefix_len is_name_character after) after),
     ))
     (λ none. in_braces after (omega arith))
-    (cases_lt 0 (prefix_len is_word after))
+    (cases_lt 0 (prefix_len is_name_character after))
 
 dollar_or_none : (t : List ℕ) → ((u : List ℕ) × (t ≡ 36 ∷ u)) ⊎ ((u : List ℕ) → t ≢ 36 ∷ u)
 dollar_or_none [] = inr (λ u e. cc)

@@ -1,6 +1,0 @@
-use Rattle.std.proofs.Common.{◌≡◌, ◌<◌, ℕ, true, get_or}
-use Rattle.regex_lite_engine.specs.Interpolation.{is_word}
-use Rattle.regex_lite_engine.proofs.interpolate.count_word.Given as goal
-
-abbrev pub invariant-loop-i : goal.invariant-loop-i
-invariant-loop-i l = (k : ℕ) → k < l.i → is_word (get_or l.bytes k 0) ≡ true
