@@ -1,4 +1,4 @@
-use Rattle.std.proofs.Common.{rules, ◌≡◌, ◌++◌, [], ℕ, List, refl, sym, ap, ◌∙◌, string_bytes, subst, IfErr, Result, Ok, Err}
+use Rattle.std.proofs.Common.{rules, ◌++◌, [], refl, sym, ap, ◌∙◌, string_bytes, subst, IfErr, Result, Ok, Err}
 use Rattle.std.specs.Result.{IsErrAnd}
 use Rattle.std.proofs.lemmas.List.{append_assoc, append-nil}
 use Rattle.regex_lite_engine.specs.Interpolation.{IsInterpolation, piece_and_rest, nothing, piece_text}
@@ -25,9 +25,12 @@ pieces-preserved c =
     let given = piece_text groups (piece_of c.in-Some.piece) in
     record {
       text = search rules;
-      so_far = (so_far.0 ++ given, c.in_ok-push_piece.ensures.ok ∙ ap (λ x. x ++ given) so_far.1 ∙ append_assoc _ so_far.0 given,
-      λ more is. subst (IsInterpolation groups c.args.template.now) (sym (append_assoc so_far.0 given more))
-      (so_far.2 (given ++ more) (piece_and_rest (piece_of c.in-Some.piece) c.in-Some.after.now more c.in-Some.ensures.cut is refl)));
+      so_far = (
+        so_far.0 ++ given,
+        c.in_ok-push_piece.ensures.ok ∙ ap (λ x. x ++ given) so_far.1 ∙ append_assoc _ so_far.0 given,
+        λ more is. subst (IsInterpolation groups c.args.template.now) (sym (append_assoc so_far.0 given more))
+            (so_far.2 (given ++ more) (piece_and_rest (piece_of c.in-Some.piece) c.in-Some.after.now more c.in-Some.ensures.cut is refl)),
+      );
     }
 
 pub returns-clause-ok : goal.returns-clause-ok

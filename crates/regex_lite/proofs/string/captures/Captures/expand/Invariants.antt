@@ -10,7 +10,7 @@ invariant-pieces l = record {
   text : shadow (Utf8 l.rest);
   so_far : (written : List ℕ) × (string_bytes l.dst ≡ string_bytes l.initial.dst ++ written)
       × ((more : List ℕ) → IsInterpolation (texts_of l.self) l.rest more
-      → IsInterpolation (texts_of l.self) l.template (written ++ more))
+      → IsInterpolation (texts_of l.self) l.template (written ++ more));
 }
 
 abbrev pub decreases-pieces : goal.decreases-pieces
