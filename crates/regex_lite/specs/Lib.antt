@@ -1,10 +1,11 @@
 -- Where to begin: Expression says what is built, what is refused and what a regex tells, and
--- Searches what the searches tell.
+-- Searches what the searches tell. Templates says what a template gives for the groups of a match.
 pub mod Settings
 pub mod Expression
 pub mod Groups
 pub mod MatchViews
 pub mod Searches
+pub mod Templates
 pub mod Laws
 pub mod CaptureNames
 pub use Rattle.regex_lite_syntax.specs.Errors

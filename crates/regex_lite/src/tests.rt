@@ -16,6 +16,7 @@ mod refusals;
 mod searches;
 mod setters;
 mod sizes;
+mod templates;
 mod values;
 mod written_out;
 

@@ -14,8 +14,9 @@ pub mod WalkPassLemmas
 pub mod WrittenPartLemmas
 pub mod WrittenRepetitionLemmas
 pub mod WrittenTreeLemmas
--- lemmas on the preference list, on answers and on groups
+-- lemmas on the preference list, on answers, on groups and on templates
 pub mod answer
 pub mod groups
 pub mod list
 pub mod search
+pub mod templates

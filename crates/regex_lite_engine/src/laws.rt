@@ -1,4 +1,5 @@
 //! Laws of the definitions. Each function does nothing: its contract is the law.
+ghost use Rattle.regex_lite_engine.specs.TemplateLaws.{PlainTemplatesGiveThemselves, TemplatesGiveOneText};
 ghost use Rattle.regex_lite_engine.specs.WayLaws.{MatchesAreWays};
 ghost use Rattle.regex_lite_engine.specs.SearchLaws.{AnswerIsHead, AnswersAreMatches, AtMostOneAnswer, EnoughTakePart, GroupsLieInside, HasAnswer, ListIsOfAllWays, PreferenceIsTotal, PreferredWaysAreEarlier};
 
@@ -53,4 +54,14 @@ pub fn groups_lie_inside()
 /// At least as many groups take part in a match as the static number says.
 pub fn enough_groups_take_part()
     ensures { EnoughTakePart }
+{}
+
+/// Whatever the texts of the groups, a template gives one text.
+pub fn templates_give_one_text()
+    ensures { TemplatesGiveOneText }
+{}
+
+/// A template without a `$` gives itself.
+pub fn plain_templates_give_themselves()
+    ensures { PlainTemplatesGiveThemselves }
 {}

@@ -1,11 +1,12 @@
-//! What a pattern is searched with: its graph, and the search.
+//! What a pattern is searched with: its graph, and the search. Templates are read here too.
 //!
 //! [`Graph::new`] counts a tree, tests it against the limits and writes it out as numbered places
 //! with ordered arrows (`nfa`). `pikevm` goes over a haystack's bytes along the arrows, counts its
-//! [`Steps`] and tells an [`Outcome`]. `laws` holds what is true of the definitions alone: of
-//! matches, ways and answers.
+//! [`Steps`] and tells an [`Outcome`]. `interpolate` cuts a template into its pieces. `laws` holds
+//! what is true of the definitions alone: of matches, ways, answers and templates.
 #![tactic(auto)]
 
+pub mod interpolate;
 pub mod laws;
 mod nfa;
 mod pikevm;

@@ -199,6 +199,20 @@ fn named_groups(rt: HostRuntime) -> Result<(), Fail> {
     Ok(())
 }
 
+/// At `Captures::expand`.
+#[test]
+fn expanded(rt: HostRuntime) -> Result<(), Fail> {
+    let regex = Regex::new(rt.alloc(), "(?<first>[a-z]+) ([a-z]+)")?;
+    let found = regex.captures("left right")?;
+    assert!(rt; found.is_some());
+    if let Some(caps) = found {
+        let mut text = String::new(rt.alloc());
+        caps.expand("$2 ${first}_", &mut text)?;
+        assert_eq!(rt; text.as_str(), "right left_");
+    }
+    Ok(())
+}
+
 /// At `Captures::at`.
 #[test]
 fn group_texts(rt: HostRuntime) -> Result<(), Fail> {

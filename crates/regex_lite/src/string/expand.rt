@@ -1,0 +1,73 @@
+//! Templates, expanded by the groups of a match.
+ghost use Rattle.std.specs.Prelude.{◌≡◌, ◌++◌, IfErr, IfOk, string_bytes};
+ghost use Rattle.regex_lite_syntax.specs.Errors.{out_of_memory};
+ghost use Rattle.regex_lite_engine.specs.Interpolation.{piece_text};
+ghost use Rattle.regex_lite_engine.specs.Interpolation.Pieces.{piece_of};
+ghost use Rattle.regex_lite.specs.Templates.{Appends, BeginsExpansion, IsExpansion, texts_of};
+
+use crate::string::captures::Captures;
+use regex_lite_engine::interpolate::{Piece, next_piece};
+use regex_lite_syntax::Error;
+
+impl<'h> Captures<'h> {
+    /// Appends the template with the groups' texts in the place of its references: `$name` and
+    /// `${name}` refer to the group with this name, or with this index where it is digits alone.
+    /// Without braces a name is as long as it can be. `$$` gives a `$`.
+    ///
+    /// A reference to no group, or to one that took no part, gives nothing.
+    ///
+    /// ```
+    /// let regex = Regex::new(alloc, "(?<first>[a-z]+) ([a-z]+)")?;
+    /// if let Some(caps) = regex.captures("left right")? {
+    ///     let mut text = String::new(alloc);
+    ///     caps.expand("$2 ${first}_", &mut text)?; // "right left_"
+    /// }
+    /// ```
+    ///
+    /// The test `tests::examples::expanded` runs this example.
+    ///
+    /// # Errors
+    ///
+    /// `Memory` where a growth is refused. What was appended by then is a beginning of the text.
+    pub fn expand(&self, template: &str, dst: &mut String) -> Result<(), Error>
+        ensures ok { IfOk result (λ _. Appends (IsExpansion self.now template.now)
+            (string_bytes dst.old) (string_bytes dst.new)) }
+        ensures begun { IfErr result (λ _. Appends (BeginsExpansion self.now template.now)
+            (string_bytes dst.old) (string_bytes dst.new)) }
+        ensures refused { IfErr result (λ error. error ≡ out_of_memory) }
+    {
+        let mut rest = template;
+        'pieces: while let Some((piece, after)) = next_piece(rest) {
+            self.push_piece(piece, dst)?;
+            rest = after;
+        }
+        Ok(())
+    }
+
+    /// Appends what the piece gives.
+    fn push_piece(&self, piece: Piece<'_>, dst: &mut String) -> Result<(), Error>
+        ensures ok { IfOk result (λ _. string_bytes dst.new
+            ≡ string_bytes dst.old ++ piece_text (texts_of self.now) (piece_of piece.entry)) }
+        ensures same { IfErr result (λ _. string_bytes dst.new ≡ string_bytes dst.old) }
+        ensures refused { IfErr result (λ error. error ≡ out_of_memory) }
+    {
+        let found = match piece {
+            Piece::Text(text) => return push(text, dst),
+            Piece::Number(index) => self.get(index),
+            Piece::Name(name) => self.name(name),
+        };
+        match found {
+            Some(group) => push(group.as_str(), dst),
+            None => Ok(()),
+        }
+    }
+}
+
+fn push(text: &str, dst: &mut String) -> Result<(), Error>
+    ensures ok { IfOk result (λ _. string_bytes dst.new ≡ string_bytes dst.old ++ text.now) }
+    ensures same { IfErr result (λ _. string_bytes dst.new ≡ string_bytes dst.old) }
+    ensures refused { IfErr result (λ error. error ≡ out_of_memory) }
+{
+    dst.push_str(text)?;
+    Ok(())
+}

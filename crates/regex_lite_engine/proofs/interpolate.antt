@@ -1,0 +1,3 @@
+-- lemmas that several proofs here share
+pub mod IndexLemmas
+pub mod TextLemmas
