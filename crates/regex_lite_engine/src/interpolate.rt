@@ -1,8 +1,8 @@
 //! What a template is made of: text, and references to groups.
 //!
 //! `$name` refers to a group by its name, or by its index where the name is digits alone. It is as
-//! long as it can be: ASCII letters, digits and `_`. `${name}` goes up to the next `}`. `$$` gives a
-//! `$`, and so does any other one.
+//! long as it can be: ASCII letters, digits and `_`. `${name}` goes up to the next `}`. `$$` gives
+//! a `$`, and so does any other one.
 ghost use Rattle.std.specs.Prelude.{◌≡◌, ◌≢◌, ◌<◌, ◌≤◌, ◌+◌, ◌*◌, ◌^◌, ◌∷◌, [], ℕ, List, MatchOption, IfSome, if◌then◌else◌, Some, None, length};
 ghost use Rattle.std.specs.List.{prefix_len};
 ghost use Rattle.regex_lite_syntax.specs.Text.{the};
