@@ -30,6 +30,7 @@ mod string;
 
 pub use regex_lite_engine::Steps;
 pub use regex_lite_syntax::{Error, ErrorKind};
+pub use string::escape::escape;
 pub use string::{
     CaptureLocations, CaptureNames, Captures, CapturesIn, Match, Regex, RegexBuilder,
     SubCaptureMatches, Text,

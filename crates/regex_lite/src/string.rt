@@ -5,6 +5,7 @@ mod captures;
 mod captures_in;
 mod compiled;
 mod counted;
+pub(super) mod escape;
 mod expand;
 mod group_search;
 mod locations;
