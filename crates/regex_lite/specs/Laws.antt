@@ -46,17 +46,17 @@ abbrev pub escaped_settings : (text : List ℕ) → Settings
 escaped_settings text = default_settings (escaped_pattern text)
 
 -- a refusal of this kind says that the pattern is too large, or that memory was wanting
-abbrev pub IsTooMuch : ErrorKind → Type 0
-IsTooMuch Size = Unit {0}
-IsTooMuch Places = Unit {0}
-IsTooMuch Memory = Unit {0}
-IsTooMuch _ = ⊥
+abbrev pub IsForSize : ErrorKind → Type 0
+IsForSize Size = Unit {0}
+IsForSize Places = Unit {0}
+IsForSize Memory = Unit {0}
+IsForSize _ = ⊥
 
 -- no other refusal of an escaped text is due
-abbrev pub EscapedTextsAreRefusedAsTooMuch : Type 0
-EscapedTextsAreRefusedAsTooMuch =
+abbrev pub EscapedTextsAreRefusedForSize : Type 0
+EscapedTextsAreRefusedForSize =
     (text : List ℕ) (error : Error) → IsUtf8 text → IsDue (escaped_settings text) error
-    → IsTooMuch (kind_of error)
+    → IsForSize (kind_of error)
 
 -- an escaped text has a tree, which matches exactly where the text stands
 abbrev pub EscapedTextsMatchThemselves : Type 0

@@ -17,7 +17,7 @@ use Rattle.regex_lite_syntax.proofs.CharacterLemmas.{chars_are}
 use Rattle.regex_lite.specs.Settings.{no_flags}
 use Rattle.regex_lite.specs.Escapes.{escaped_pattern}
 use Rattle.regex_lite.specs.Expression.{IsDue, OfTree, expression_of}
-use Rattle.regex_lite.specs.Laws.{escaped_settings, IsTooMuch, EscapedTextsMatchThemselves}
+use Rattle.regex_lite.specs.Laws.{escaped_settings, IsForSize, EscapedTextsMatchThemselves}
 use Rattle.regex_lite.proofs.string.OneTreeLemmas.{one_tree}
 
 -- characters in a row stand in nothing, and are in no group
@@ -59,29 +59,29 @@ module _ (text : List ℕ) (utf8 : IsUtf8 text) where
       subst (λ pattern. Grammar no_flags pattern (literal (chars text)) 0 0) pattern_chars
       (escaped_literal no_flags (chars text) refl refl (chars_are text utf8))
 
-  pub refused_as_too_much : (error : Refusal) → IsDue (escaped_settings text) error → IsTooMuch (kind_of error)
-  refused_as_too_much (passed_limit limit.Size) due = tt
-  refused_as_too_much (passed_limit limit.Places) due = tt
-  refused_as_too_much out_of_memory due = tt
-  refused_as_too_much (syntax_error rule) (inl none) = none (literal (chars text), (0, 0, tree_of_pattern))
-  refused_as_too_much (syntax_error rule) (inr (tree, read, says)) = says
-  refused_as_too_much too_deep (inl says) =
+  pub refused_for_size : (error : Refusal) → IsDue (escaped_settings text) error → IsForSize (kind_of error)
+  refused_for_size (passed_limit limit.Size) due = tt
+  refused_for_size (passed_limit limit.Places) due = tt
+  refused_for_size out_of_memory due = tt
+  refused_for_size (syntax_error rule) (inl none) = none (literal (chars text), (0, 0, tree_of_pattern))
+  refused_for_size (syntax_error rule) (inr (tree, read, says)) = says
+  refused_for_size too_deep (inl says) =
       absurd (deep (says.with_tree (literal (chars text)) 0 0 tree_of_pattern))
     where
       deep : PassesNesting 50 (literal (chars text)) 0 → ⊥
       deep (inl groups) = absurd (omega (arith, groups))
       deep (inr nodes) = absurd (omega (arith, nodes, literal_depth (chars text)))
-  refused_as_too_much too_deep (inr (tree, read, says)) = says
-  refused_as_too_much too_many_groups (inl says) =
+  refused_for_size too_deep (inr (tree, read, says)) = says
+  refused_for_size too_many_groups (inl says) =
       let many = says.with_tree (literal (chars text)) 0 0 tree_of_pattern in absurd (omega (arith, many))
-  refused_as_too_much too_many_groups (inr (tree, read, says)) = says
-  refused_as_too_much (passed_limit limit.Slots) (inl says) = says
-  refused_as_too_much (passed_limit limit.Slots) (inr (tree, read, many)) =
+  refused_for_size too_many_groups (inr (tree, read, says)) = says
+  refused_for_size (passed_limit limit.Slots) (inl says) = says
+  refused_for_size (passed_limit limit.Slots) (inr (tree, read, many)) =
       let same = one_tree no_flags (chars (escaped_pattern text)) tree (literal (chars text)) (read.0, read.1, read.2) (0, 0, tree_of_pattern) in
       let index = ap greatest_index same ∙ literal_index (chars text) in
       absurd (omega (arith, many, index))
-  refused_as_too_much refused_replacement (inl says) = says
-  refused_as_too_much refused_replacement (inr (tree, read, says)) = says
+  refused_for_size refused_replacement (inl says) = says
+  refused_for_size refused_replacement (inr (tree, read, says)) = says
 
 pub escaped_matches : EscapedTextsMatchThemselves
 escaped_matches text utf8 =

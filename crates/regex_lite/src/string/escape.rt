@@ -43,25 +43,24 @@ pub fn escape(alloc: Global, pattern: &str) -> Result<String, Error>
 fn is_meta_character(c: char) -> bool
     ensures { result ≡ is_meta_character c }
 {
-    match c {
-        '\\'
-        | '.'
-        | '+'
-        | '*'
-        | '?'
-        | '('
-        | ')'
-        | '|'
-        | '['
-        | ']'
-        | '{'
-        | '}'
-        | '^'
-        | '$'
-        | '#'
-        | '&'
-        | '-'
-        | '~' => true,
-        _ => false,
-    }
+    matches!(
+        c,
+        '\\' | '.'
+            | '+'
+            | '*'
+            | '?'
+            | '('
+            | ')'
+            | '|'
+            | '['
+            | ']'
+            | '{'
+            | '}'
+            | '^'
+            | '$'
+            | '#'
+            | '&'
+            | '-'
+            | '~'
+    )
 }
