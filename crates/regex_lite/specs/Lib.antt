@@ -1,5 +1,6 @@
 -- Where to begin: Expression says what is built, what is refused and what a regex tells, and
--- Searches what the searches tell. Templates says what a template gives for the groups of a match.
+-- Searches what the searches tell. Templates says what a template gives for the groups of a match,
+-- and Escapes which pattern is made of a text.
 pub mod Settings
 pub mod Expression
 pub mod Groups

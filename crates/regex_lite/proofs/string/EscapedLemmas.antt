@@ -1,11 +1,11 @@
 -- The pattern that is made of a text: its characters, and why it can be refused.
-use Rattle.std.proofs.Common.{◌≡◌, ◌≤◌, ◌↔◌, inl, inr, refl, sym, ◌∙◌, ap, subst, cond, ℕ, Bool, true, false, ◌&&◌, List, [], ◌∷◌, ◌++◌, map, max, chars, IsUtf8, arith}
+use Rattle.std.proofs.Common.{◌≡◌, ◌≤◌, inl, inr, refl, sym, ◌∙◌, ap, subst, cond, ℕ, true, false, List, [], ◌∷◌, map, chars, IsUtf8, arith}
 use Rattle.std.specs.Str.{all_scalars}
 use Rattle.std.proofs.lemmas.Bool.{and_from, and_parts}
 use Rattle.std.proofs.lemmas.Str.{chars-encodes, scalars-chars}
 use Rattle.regex_lite_syntax.specs.declared.error.LimitFault.TheVariants as limit
 use Rattle.regex_lite_syntax.specs.Text.{Text, the}
-use Rattle.regex_lite_syntax.specs.Tree.{Tree, Trees, character, trees}
+use Rattle.regex_lite_syntax.specs.Tree.{character, trees}
 use Rattle.regex_lite_syntax.specs.Tree.Properties.{greatest_index, greatest_index_in}
 use Rattle.regex_lite_syntax.specs.Escaped.{is_meta_character, escaped, literal}
 use Rattle.regex_lite_syntax.specs.Grammar.{Grammar}
@@ -16,7 +16,7 @@ use Rattle.regex_lite_syntax.proofs.grammar.LiteralMatchLemmas.{literal_matches}
 use Rattle.regex_lite_syntax.proofs.CharacterLemmas.{chars_are}
 use Rattle.regex_lite.specs.Settings.{no_flags}
 use Rattle.regex_lite.specs.Escapes.{escaped_pattern}
-use Rattle.regex_lite.specs.Expression.{IsDue, OfTree, expression_of}
+use Rattle.regex_lite.specs.Expression.{IsDue}
 use Rattle.regex_lite.specs.Laws.{escaped_settings, IsForSize, EscapedTextsMatchThemselves}
 use Rattle.regex_lite.proofs.string.OneTreeLemmas.{one_tree}
 
@@ -44,7 +44,8 @@ escaped_scalars [] all = refl
 escaped_scalars (c ∷ t) all =
     let each = and_parts _ (all_scalars t) all in
     let rest = escaped_scalars t each.1 in
-    elim (is_meta_character c) as (λ b. all_scalars (cond b (the "\\" ∷ c ∷ escaped t) (c ∷ escaped t)) ≡ true) [
+    elim (is_meta_character c)
+    as (λ b. all_scalars (cond b (the "\\" ∷ c ∷ escaped t) (c ∷ escaped t)) ≡ true) [
       | true ↦ and_from _ _ each.0 rest
       | false ↦ and_from _ _ each.0 rest
     ]
@@ -52,7 +53,9 @@ escaped_scalars (c ∷ t) all =
 module _ (text : List ℕ) (utf8 : IsUtf8 text) where
   -- the characters of the pattern are those of the text, escaped
   pattern_chars : escaped (chars text) ≡ chars (escaped_pattern text)
-  pattern_chars = sym (chars-encodes (escaped (chars text)) (escaped_scalars (chars text) (scalars-chars text utf8)))
+  pattern_chars =
+      let scalars = escaped_scalars (chars text) (scalars-chars text utf8) in
+      sym (chars-encodes (escaped (chars text)) scalars)
 
   tree_of_pattern : Grammar no_flags (chars (escaped_pattern text)) (literal (chars text)) 0 0
   tree_of_pattern =
@@ -77,7 +80,8 @@ module _ (text : List ℕ) (utf8 : IsUtf8 text) where
   refused_for_size too_many_groups (inr (tree, read, says)) = says
   refused_for_size (passed_limit limit.Slots) (inl says) = says
   refused_for_size (passed_limit limit.Slots) (inr (tree, read, many)) =
-      let same = one_tree no_flags (chars (escaped_pattern text)) tree (literal (chars text)) (read.0, read.1, read.2) (0, 0, tree_of_pattern) in
+      let same = one_tree no_flags (chars (escaped_pattern text)) tree (literal (chars text))
+      (read.0, read.1, read.2) (0, 0, tree_of_pattern) in
       let index = ap greatest_index same ∙ literal_index (chars text) in
       absurd (omega (arith, many, index))
   refused_for_size refused_replacement (inl says) = says

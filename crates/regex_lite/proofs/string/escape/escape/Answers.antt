@@ -1,6 +1,6 @@
 use Rattle.std.proofs.Common.{sym, ◌∙◌, ap, true, false, append-nil, string_bytes}
 use Rattle.std.proofs.lemmas.Str.{IsUtf8-past_char}
-use Rattle.regex_lite.proofs.string.escape.EscapeLemmas.{no_more, one_more}
+use Rattle.regex_lite.proofs.string.escape.EscapeLemmas.{all_written, one_more}
 use Rattle.regex_lite.proofs.string.escape.escape.Goals as goal
 use Rattle.regex_lite.proofs.string.escape.escape.Goals.{then-is_meta_character+in_ok-push, else-is_meta_character}
 
@@ -23,5 +23,4 @@ loop-c-preserved c =
     }
 
 pub returns-clause-ok : goal.returns-clause-ok
-returns-clause-ok c =
-    sym (append-nil _) ∙ rw (no_more _ c.in-None.ensures.steps.0.0) at c.loop-c.invariant.so_far
+returns-clause-ok c = all_written _ _ _ c.in-None.ensures.steps.0.0 c.loop-c.invariant.so_far
