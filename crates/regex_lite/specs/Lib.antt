@@ -1,5 +1,6 @@
 -- Where to begin: Expression says what is built, what is refused and what a regex tells, and
--- Searches what the searches tell. Templates says what a template gives for the groups of a match.
+-- Searches what the searches tell. Templates says what a template gives for the groups of a match,
+-- and Escapes which pattern is made of a text.
 pub mod Settings
 pub mod Expression
 pub mod Groups
@@ -11,11 +12,13 @@ pub mod Pieces
 pub mod Replacing
 pub mod Replacements
 pub mod Templates
+pub mod Escapes
 pub mod Laws
 pub mod CaptureNames
 pub use Rattle.regex_lite_syntax.specs.Errors
 pub use Rattle.regex_lite_syntax.specs.Text
 pub use Rattle.regex_lite_syntax.specs.Grammar
+pub use Rattle.regex_lite_syntax.specs.Escaped
 pub use Rattle.regex_lite_syntax.specs.Limits
 pub use Rattle.regex_lite_syntax.specs.Tree.Matches
 pub use Rattle.regex_lite_syntax.specs.Tree.Properties
