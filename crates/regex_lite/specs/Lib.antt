@@ -12,6 +12,7 @@ pub mod Replacing
 pub mod Replacements
 pub mod Templates
 pub mod Laws
+pub mod PieceLaws
 pub mod CaptureNames
 pub use Rattle.regex_lite_syntax.specs.Errors
 pub use Rattle.regex_lite_syntax.specs.Text
