@@ -65,3 +65,14 @@ FixedTextIsTemplate R =
     → ¬ (Contains (template rep) (the "$")) → IsReplacedBy (template rep) a new
     → IsReplacedInTurn (TemplateFixed template) (TemplateAppends template) rep a other
     → new ≡ other
+
+-- where a replacer is lent, the relations between the states of what lends it are those of the one
+-- behind it, and what it gives in the place of the matches is what that one gives
+module _ {R : Type 0} (Fixed : R → Option (List ℕ) → R → Type 0)
+    (Appends : R → Groups → (text : List ℕ) → Answer → R → Type 0) where
+  abbrev pub LentReplacersReplaceAlike : Type 0 → Type 0
+  LentReplacersReplaceAlike Lent =
+      (behind : Lent → R) (rep : Lent) (a : Ahead) (new : List ℕ)
+      → IsReplacement (λ old text after. Fixed (behind old) text (behind after))
+      (λ old groups text answer after. Appends (behind old) groups text answer (behind after)) rep a new
+      → IsReplacement Fixed Appends (behind rep) a new

@@ -3,7 +3,9 @@
 ghost use Rattle.std.specs.Cmp.{IsEquivalence};
 ghost use Rattle.regex_lite.specs.Laws.{MatchesAreTheirSpans, SearchesAgree};
 ghost use Rattle.regex_lite.specs.MatchViews.{is_same_match};
-ghost use Rattle.regex_lite.specs.PieceLaws.{FixedTextIsTemplate, OnePieceList, PiecesAndMatches, WholeMatchesGiveHaystack};
+ghost use Rattle.regex_lite.specs.PieceLaws.{FixedTextIsTemplate, LentReplacersReplaceAlike, OnePieceList, PiecesAndMatches, WholeMatchesGiveHaystack};
+
+use crate::Replacer;
 
 /// The searches of a pattern in a haystack, from one offset on, agree on whether there is a match,
 /// and the match that is found is group 0.
@@ -28,6 +30,12 @@ pub fn whole_matches_give_the_haystack<R>()
 /// matches both give one text.
 pub fn fixed_text_is_template<R>()
     ensures { FixedTextIsTemplate R }
+{}
+
+/// A replacer that is lent replaces as it does itself. Here `L` is what lends it, as a `ReplacerRef`
+/// does.
+pub fn lent_replacers_replace_alike<L, R: Replacer>()
+    ensures { LentReplacersReplaceAlike R.fixed R.appends L }
 {}
 
 /// Equality of matches is an equivalence: two are equal exactly where the texts of their haystacks

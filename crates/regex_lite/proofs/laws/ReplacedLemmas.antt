@@ -11,9 +11,10 @@ use Rattle.regex_lite.specs.Ahead.{Ahead, AreGroupsFound}
 use Rattle.regex_lite.specs.Expression.{Expression}
 use Rattle.regex_lite.specs.Groups.{Groups, group_span, group_text, span_at, text_at, whole_span}
 use Rattle.regex_lite.specs.MatchList.{AreWithin, one_less}
-use Rattle.regex_lite.specs.PieceLaws.{FixedTextIsTemplate, TemplateAppends, TemplateFixed, WholeMatchesGiveHaystack}
+use Rattle.regex_lite.specs.PieceLaws.{FixedTextIsTemplate, LentReplacersReplaceAlike, TemplateAppends, TemplateFixed, WholeMatchesGiveHaystack}
 use Rattle.regex_lite.specs.Pieces.{found_span}
 use Rattle.regex_lite.specs.Replacements.{AreGroupsOfEach, IsChain, IsReplaced, replaced_by}
+use Rattle.regex_lite.specs.Replacing.{Answer}
 use Rattle.regex_lite.specs.Searches.{offsets, spans_from}
 use Rattle.regex_lite.specs.Templates.{texts_of}
 use Rattle.regex_lite.proofs.laws.BetweenLemmas.{cut_around}
@@ -138,3 +139,36 @@ fixed_text R template rep a new other lacks by in_turn =
     ∙ ap (λ found. replaced_by (template rep) a.haystack 0 (map (found_span h) found)) same
     ∙ sym (plain_chain template a.regex a.haystack a.limit a.ended 0 in_turn.found in_turn.groups rep other
     lacks in_turn.are_ahead in_turn.each in_turn.chain)
+
+module _ {R Lent : Type 0} (Fixed : R → Option (List ℕ) → R → Type 0)
+    (Appends : R → Groups → List ℕ → Answer → R → Type 0) (behind : Lent → R) where
+  abbrev LentFixed : Lent → Option (List ℕ) → Lent → Type 0
+  LentFixed old text after = Fixed (behind old) text (behind after)
+
+  abbrev LentAppends : Lent → Groups → List ℕ → Answer → Lent → Type 0
+  LentAppends old groups text answer after = Appends (behind old) groups text answer (behind after)
+
+  lent_chain : (hay : List ℕ) (rep : Lent) (from : ℕ) (groups : List Groups) (new : List ℕ)
+      → IsChain LentFixed LentAppends hay rep from groups new
+      → IsChain Fixed Appends hay (behind rep) from groups new
+  lent_chain hay rep from [] new chain = chain
+  lent_chain hay rep from (own ∷ groups) new (text, rest, after, appends, new_is, chain) =
+      (text, rest, behind after, appends, new_is, lent_chain hay after (whole_span own).1 groups rest chain)
+
+  lent_replaced : (fixed : Option (List ℕ)) (rep : Lent) (a : Ahead) (new : List ℕ)
+      → IsReplaced LentFixed LentAppends fixed rep a new
+      → IsReplaced Fixed Appends fixed (behind rep) a new
+  lent_replaced (Some text) rep a new by = by
+  lent_replaced None rep a new in_turn = record {
+    found = in_turn.found;
+    are_ahead = in_turn.are_ahead;
+    groups = in_turn.groups;
+    each = in_turn.each;
+    chain = lent_chain a.haystack rep 0 in_turn.groups new in_turn.chain;
+  }
+
+pub lent_alike : {R : Type 0} (Fixed : R → Option (List ℕ) → R → Type 0)
+    (Appends : R → Groups → List ℕ → Answer → R → Type 0) (Lent : Type 0)
+    → LentReplacersReplaceAlike Fixed Appends Lent
+lent_alike Fixed Appends Lent behind rep a new (fixed, after, asked, replaced) =
+    (fixed, behind after, asked, lent_replaced Fixed Appends behind fixed after a new replaced)
