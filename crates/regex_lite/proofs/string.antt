@@ -1,6 +1,7 @@
 -- lemmas that several proofs here share
 pub mod AcceptanceLemmas
 pub mod AgreementLemmas
+pub mod AheadLemmas
 pub mod CapturedLemmas
 pub mod EqualityLemmas
 pub mod EscapedLemmas
@@ -8,5 +9,6 @@ pub mod FoundLemmas
 pub mod GroupLemmas
 pub mod GroupNameLemmas
 pub mod OneTreeLemmas
+pub mod PieceLemmas
 pub mod SlotLemmas
 pub mod ToldLemmas

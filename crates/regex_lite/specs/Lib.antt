@@ -14,6 +14,7 @@ pub mod Replacements
 pub mod Templates
 pub mod Escapes
 pub mod Laws
+pub mod PieceLaws
 pub mod CaptureNames
 pub use Rattle.regex_lite_syntax.specs.Errors
 pub use Rattle.regex_lite_syntax.specs.Text

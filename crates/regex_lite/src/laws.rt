@@ -1,13 +1,41 @@
-//! Laws of what searches tell, of equality and of escaped texts. Each function does nothing: its
-//! contract is the law.
+//! Laws of what searches tell, of lists, pieces and replacements, of escaped texts and of equality.
+//! Each function does nothing: its contract is the law.
 ghost use Rattle.std.specs.Cmp.{IsEquivalence};
 ghost use Rattle.regex_lite.specs.Laws.{EscapedTextsAreRefusedForSize, EscapedTextsMatchThemselves, MatchesAreTheirSpans, SearchesAgree};
 ghost use Rattle.regex_lite.specs.MatchViews.{is_same_match};
+ghost use Rattle.regex_lite.specs.PieceLaws.{FixedTextIsTemplate, LentReplacersReplaceAlike, OnePieceList, PiecesAndMatches, WholeMatchesGiveHaystack};
+
+use crate::Replacer;
 
 /// The searches of a pattern in a haystack, from one offset on, agree on whether there is a match,
 /// and the match that is found is group 0.
 pub fn searches_agree()
     ensures { SearchesAgree }
+{}
+
+/// The pieces of a haystack are one more than its matches, and pieces and matches in turn give the
+/// haystack. It has one list of pieces.
+pub fn pieces_and_matches_are_the_haystack()
+    ensures between { PiecesAndMatches }
+    ensures one_list { OnePieceList }
+{}
+
+/// Matches that are replaced by the template `$0` stay as they are. Here `R` is any text that is a
+/// template, by the relations that all of these have as replacers.
+pub fn whole_matches_give_the_haystack<R>()
+    ensures { WholeMatchesGiveHaystack R }
+{}
+
+/// A template without a `$` is the same as a fixed text and as a template: in the place of the
+/// matches both give one text.
+pub fn fixed_text_is_template<R>()
+    ensures { FixedTextIsTemplate R }
+{}
+
+/// A replacer that is lent replaces as it does itself. Here `L` is what lends it, as a `ReplacerRef`
+/// does.
+pub fn lent_replacers_replace_alike<L, R: Replacer>()
+    ensures { LentReplacersReplaceAlike R.fixed R.appends L }
 {}
 
 /// Equality of matches is an equivalence: two are equal exactly where the texts of their haystacks

@@ -284,3 +284,25 @@ fn first_group<'h>(
     }
     Ok(None)
 }
+
+/// At `Regex::split`.
+#[test]
+fn pieces(rt: HostRuntime) -> Result<(), Fail> {
+    let regex = Regex::new(rt.alloc(), " *, *")?;
+    let mut fields = regex.split("name , age")?;
+    assert_eq!(rt; fields.next(), Some("name"));
+    assert_eq!(rt; fields.next(), Some("age"));
+    assert_eq!(rt; fields.next(), None);
+    Ok(())
+}
+
+/// At `Regex::splitn`.
+#[test]
+fn first_pieces(rt: HostRuntime) -> Result<(), Fail> {
+    let regex = Regex::new(rt.alloc(), " ")?;
+    let mut words = regex.splitn("a b c", 2)?;
+    assert_eq!(rt; words.next(), Some("a"));
+    assert_eq!(rt; words.next(), Some("b c"));
+    assert_eq!(rt; words.next(), None);
+    Ok(())
+}

@@ -1,0 +1,4 @@
+-- lemmas on what comes next, on pieces and on replacements
+pub mod NextMatchLemmas
+pub mod BetweenLemmas
+pub mod ReplacedLemmas

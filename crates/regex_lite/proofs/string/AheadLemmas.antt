@@ -1,0 +1,36 @@
+-- What is ahead, match after match.
+use Rattle.std.proofs.Common.{◌≡◌, ◌≢◌, ◌-◌, ◌⊎◌, inl, inr, ℕ, zero, suc, List, [], ◌∷◌, Option, Some, None, chars, refl, subst, arith}
+use Rattle.regex_lite_syntax.specs.Text.{Text}
+use Rattle.regex_lite_engine.specs.Search.Answer.{Found}
+use Rattle.regex_lite.specs.Expression.{Expression}
+use Rattle.regex_lite.specs.MatchList.{AreFirst, AreWithin, IsNext, one_less}
+use Rattle.regex_lite.specs.Ahead.{Ahead, AreAhead, IsOver, Passes}
+
+module _ (re : Expression) (haystack : Text) where
+  within_cons : (limit ended : Option ℕ) (found : Found) (list : List Found) → limit ≢ Some 0
+      → IsNext re haystack ended (Some found)
+      → AreWithin re haystack (one_less limit) (Some found.end) list
+      → AreWithin re haystack limit ended (found ∷ list)
+  within_cons None ended found list more next rest = (next, rest)
+  within_cons (Some zero) ended found list more next rest = absurd (more refl)
+  within_cons (Some (suc k)) ended found list more next rest =
+      (next, subst (λ n. AreFirst re haystack n (Some found.end) list) (omega arith) rest)
+
+  within_nil : (limit ended : Option ℕ) → (limit ≡ Some 0) ⊎ IsNext re haystack ended None
+      → AreWithin re haystack limit ended []
+  within_nil None ended (inl spent) = absurd cc
+  within_nil None ended (inr none) = none
+  within_nil (Some zero) ended over = refl
+  within_nil (Some (suc k)) ended (inl spent) = absurd cc
+  within_nil (Some (suc k)) ended (inr none) = none
+
+-- a match that was passed comes before those that are ahead behind it
+pub ahead_cons : (old new : Ahead) (found : Found) (list : List Found) → Passes old found new
+    → AreAhead new list → AreAhead old (found ∷ list)
+ahead_cons old new found list passes rest =
+    within_cons old.regex (chars old.haystack) old.limit old.ended found list passes.may_come
+    passes.comes (subst (λ a. AreAhead a list) passes.passed rest)
+
+-- where it is over, nothing is ahead
+pub ahead_nil : (a : Ahead) → IsOver a → AreAhead a []
+ahead_nil a over = within_nil a.regex (chars a.haystack) a.limit a.ended over

@@ -1,0 +1,78 @@
+-- Laws of pieces, and of replacements by templates.
+use Rattle.std.specs.Prelude.{◌≡◌, ◌+◌, ◌++◌, ℕ, List, [], ◌∷◌, Option, None, Contains, chars, codes, length, map}
+use Rattle.std.specs.List.{concat}
+use Rattle.regex_lite_syntax.specs.Text.{the}
+use Rattle.regex_lite_engine.specs.Search.Answer.{Found}
+use Rattle.regex_lite.specs.Ahead.{Ahead, whole}
+use Rattle.regex_lite.specs.Expression.{Expression}
+use Rattle.regex_lite.specs.Groups.{Groups, text_at}
+use Rattle.regex_lite.specs.MatchList.{AreMatches}
+use Rattle.regex_lite.specs.Pieces.{ArePieces, found_span}
+use Rattle.regex_lite.specs.Replacements.{IsReplacedBy, IsReplacedInTurn, IsReplacement}
+use Rattle.regex_lite.specs.Replacing.{Answer, IsAppendedTemplate, IsFixedText}
+
+-- one text of each list in turn, the first list first, and then what is left of it
+abbrev pub in_turn : (list others : List (List ℕ)) → List ℕ
+in_turn [] others = []
+in_turn (text ∷ list) [] = text ++ concat list
+in_turn (text ∷ list) (other ∷ others) = text ++ (other ++ in_turn list others)
+
+-- the pieces are one more than the matches, and pieces and matches in turn give the haystack
+pub record AreBetween (haystack : List ℕ) (list matches : List (List ℕ)) : Type 0 where
+  pub one_more : length list ≡ length matches + 1
+  pub whole : in_turn list matches ≡ haystack
+
+-- the texts of the matches
+abbrev pub texts_of_matches : (haystack : List ℕ) → List Found → List (List ℕ)
+texts_of_matches haystack found =
+    map (λ one. text_at haystack (found_span (chars haystack) one)) found
+
+-- so it is for the pieces and the matches of a haystack, of which there is one list each
+abbrev pub PiecesAndMatches : Type 0
+PiecesAndMatches =
+    (re : Expression) (haystack : List ℕ) (list : List (List ℕ)) (found : List Found)
+    → ArePieces re haystack list → AreMatches re (chars haystack) None found
+    → AreBetween haystack list (texts_of_matches haystack found)
+
+abbrev pub OnePieceList : Type 0
+OnePieceList =
+    (re : Expression) (haystack : List ℕ) (list other : List (List ℕ))
+    → ArePieces re haystack list → ArePieces re haystack other → list ≡ other
+
+-- the relations of a replacer that is a template, as every text is
+module _ {R : Type 0} (template : R → List ℕ) where
+  abbrev pub TemplateFixed : R → Option (List ℕ) → R → Type 0
+  TemplateFixed old text new = IsFixedText (template old) text × (new ≡ old)
+
+  abbrev pub TemplateAppends : R → Groups → (text : List ℕ) → Answer → R → Type 0
+  TemplateAppends old groups text answer new =
+      IsAppendedTemplate (template old) groups text answer × (new ≡ old)
+
+-- where matches are replaced by the template `$0`, all or up to a limit, the text is the haystack's
+abbrev pub WholeMatchesGiveHaystack : Type 0 → Type 0
+WholeMatchesGiveHaystack R =
+    (template : R → List ℕ) (rep : R) (re : Expression) (haystack : List ℕ) (limit : Option ℕ)
+    (new : List ℕ) → template rep ≡ codes "$0"
+    → IsReplacement (TemplateFixed template) (TemplateAppends template) rep
+    (whole re haystack limit) new
+    → new ≡ haystack
+
+-- where a template has no `$`, its text in the place of each match and what it gives for the groups
+-- of each are the same
+abbrev pub FixedTextIsTemplate : Type 0 → Type 0
+FixedTextIsTemplate R =
+    (template : R → List ℕ) (rep : R) (a : Ahead) (new other : List ℕ)
+    → ¬ (Contains (template rep) (the "$")) → IsReplacedBy (template rep) a new
+    → IsReplacedInTurn (TemplateFixed template) (TemplateAppends template) rep a other
+    → new ≡ other
+
+-- where a replacer is lent, the relations between the states of what lends it are those of the one
+-- behind it, and what it gives in the place of the matches is what that one gives
+module _ {R : Type 0} (Fixed : R → Option (List ℕ) → R → Type 0)
+    (Appends : R → Groups → (text : List ℕ) → Answer → R → Type 0) where
+  abbrev pub LentReplacersReplaceAlike : Type 0 → Type 0
+  LentReplacersReplaceAlike Lent =
+      (behind : Lent → R) (rep : Lent) (a : Ahead) (new : List ℕ)
+      → IsReplacement (λ old text after. Fixed (behind old) text (behind after))
+      (λ old groups text answer after. Appends (behind old) groups text answer (behind after)) rep a new
+      → IsReplacement Fixed Appends (behind rep) a new
