@@ -8,6 +8,8 @@ pub mod EscapedLemmas
 pub mod FoundLemmas
 pub mod GroupLemmas
 pub mod GroupNameLemmas
+pub mod ListLemmas
+pub mod NextLemmas
 pub mod OneTreeLemmas
 pub mod PieceLemmas
 pub mod SlotLemmas

@@ -15,6 +15,7 @@ pub mod Templates
 pub mod Escapes
 pub mod Laws
 pub mod PieceLaws
+pub mod ListLaws
 pub mod CaptureNames
 pub use Rattle.regex_lite_syntax.specs.Errors
 pub use Rattle.regex_lite_syntax.specs.Text
@@ -26,5 +27,6 @@ pub use Rattle.regex_lite_syntax.specs.Tree.Properties
 pub use Rattle.regex_lite_engine.specs.Graph.PlaceCounts
 pub use Rattle.regex_lite_engine.specs.Graph.Size
 pub use Rattle.regex_lite_engine.specs.Search
--- What every regex keeps.
+-- What every regex keeps, and what is told behind a match.
 pub mod Compiled
+pub mod NextMatch
