@@ -1,11 +1,14 @@
 -- lemmas that several proofs here share
 pub mod AcceptanceLemmas
 pub mod AgreementLemmas
+pub mod AheadLemmas
+pub mod AnsweredLemmas
 pub mod CapturedLemmas
 pub mod EqualityLemmas
 pub mod FoundLemmas
 pub mod GroupLemmas
 pub mod GroupNameLemmas
 pub mod OneTreeLemmas
+pub mod ReplacementLemmas
 pub mod SlotLemmas
 pub mod ToldLemmas
