@@ -8,6 +8,8 @@ pub mod EqualityLemmas
 pub mod FoundLemmas
 pub mod GroupLemmas
 pub mod GroupNameLemmas
+pub mod ListLemmas
+pub mod NextLemmas
 pub mod OneTreeLemmas
 pub mod ReplacementLemmas
 pub mod SlotLemmas
