@@ -2,6 +2,7 @@
 pub mod AcceptanceLemmas
 pub mod AgreementLemmas
 pub mod AheadLemmas
+pub mod AnsweredLemmas
 pub mod CapturedLemmas
 pub mod EqualityLemmas
 pub mod EscapedLemmas
@@ -12,5 +13,6 @@ pub mod ListLemmas
 pub mod NextLemmas
 pub mod OneTreeLemmas
 pub mod PieceLemmas
+pub mod ReplacementLemmas
 pub mod SlotLemmas
 pub mod ToldLemmas

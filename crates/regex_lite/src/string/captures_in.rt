@@ -1,7 +1,7 @@
 //! The groups of a match, in a haystack of any type of text.
 ghost use Rattle.std.specs.Prelude.{◌≡◌, ◌+◌, ◌<◌, ◌≤◌, ◌∷◌, ℕ, List, Some, IfSome, length, map, option_map, slice_range, take};
 ghost use Rattle.std.specs.Rc.{rc_str_bytes};
-ghost use Rattle.regex_lite.specs.Groups.{AreGroups, LiesIn, group_span, group_text, index_of, is_named, texts_from};
+ghost use Rattle.regex_lite.specs.Groups.{AreGroups, LiesIn, group_span, group_text, index_of, is_named, texts_from, whole_span};
 ghost use Rattle.regex_lite.specs.Compiled.{groups_of};
 
 use crate::string::compiled::Compiled;
@@ -134,6 +134,17 @@ impl<T: Text> CapturesIn<T> {
         ensures inside { IfSome result (LiesIn self.now.haystack) }
     {
         span_in(self.slots.as_slice(), k)
+    }
+
+    /// Where the whole match starts and ends.
+    pub(super) fn whole_span(&self) -> (usize, usize)
+        ensures span { result ≡ whole_span self.now }
+        ensures inside { LiesIn self.now.haystack result }
+    {
+        match span_in(self.slots.as_slice(), 0) {
+            Some(span) => span,
+            None => unreachable!(),
+        }
     }
 
     /// The index of the group with this name.

@@ -1,9 +1,10 @@
 //! Haystacks with their matches replaced.
 ghost use Rattle.std.specs.Prelude.{◌≡◌, ◌⊎◌, None, IfOk, IfErr, chars};
-ghost use Rattle.std.specs.Cow.{cow_str_bytes};
+ghost use Rattle.std.specs.Cow.{IsOwnedStr, cow_str_bytes};
 ghost use Rattle.regex_lite_syntax.specs.Errors.{out_of_memory};
-ghost use Rattle.regex_lite.specs.Ahead.{whole};
+ghost use Rattle.regex_lite.specs.Ahead.{IsOver, whole};
 ghost use Rattle.regex_lite.specs.MatchList.{IsAnswerOf};
+ghost use Rattle.regex_lite.specs.Searches.{MatchesFrom};
 ghost use Rattle.regex_lite.specs.Replacements.{IsHandedOn, IsRefused, IsReplacedBy, IsReplacedInTurn, IsReplacement, limit_of};
 
 use crate::string::captures_iter::CaptureMatches;
@@ -30,6 +31,8 @@ impl Regex {
             (whole self.now haystack.now (limit_of 1)) (cow_str_bytes text)) }
         ensures borrowed { IfOk result (λ text. IsAnswerOf self.now (chars haystack.now) 0 None
             → text ≡ CowStr.Borrowed haystack.entry) }
+        ensures owned { IfOk result (λ text. MatchesFrom self.now haystack.now 0
+            → IsOwnedStr text) }
         ensures refused { IfErr result (λ error. (error ≡ out_of_memory)
             ⊎ IsHandedOn R.fixed R.appends rep (whole self.now haystack.now (limit_of 1)) error) }
     {
@@ -56,6 +59,8 @@ impl Regex {
             (whole self.now haystack.now None) (cow_str_bytes text)) }
         ensures borrowed { IfOk result (λ text. IsAnswerOf self.now (chars haystack.now) 0 None
             → text ≡ CowStr.Borrowed haystack.entry) }
+        ensures owned { IfOk result (λ text. MatchesFrom self.now haystack.now 0
+            → IsOwnedStr text) }
         ensures refused { IfErr result (λ error. (error ≡ out_of_memory)
             ⊎ IsHandedOn R.fixed R.appends rep (whole self.now haystack.now None) error) }
     {
@@ -86,6 +91,8 @@ impl Regex {
             (whole self.now haystack.now (limit_of limit)) (cow_str_bytes text)) }
         ensures borrowed { IfOk result (λ text. IsAnswerOf self.now (chars haystack.now) 0 None
             → text ≡ CowStr.Borrowed haystack.entry) }
+        ensures owned { IfOk result (λ text. MatchesFrom self.now haystack.now 0
+            → IsOwnedStr text) }
         ensures refused { IfErr result (λ error. (error ≡ out_of_memory)
             ⊎ IsHandedOn R.fixed R.appends rep (whole self.now haystack.now (limit_of limit))
             error) }
@@ -106,11 +113,28 @@ impl Regex {
     ) -> Result<CowStr<'h>, Error>
         ensures replaced { IfOk result (λ new. IsReplacedBy text.now
             (whole self.now haystack.now limit) (cow_str_bytes new)) }
-        ensures borrowed { IfOk result (λ new. IsAnswerOf self.now (chars haystack.now) 0 None
+        ensures borrowed { IfOk result (λ new. IsOver (whole self.now haystack.now limit)
             → new ≡ CowStr.Borrowed haystack.entry) }
+        ensures owned { IfOk result (λ new. ¬ (IsOver (whole self.now haystack.now limit))
+            → IsOwnedStr new) }
         ensures refused { IfErr result (λ error. error ≡ out_of_memory) }
     {
-        Err(Error::memory())
+        let mut new = String::new(self.alloc);
+        let mut from = 0;
+        let mut is_replaced = false;
+        for found in Matches::new(self, haystack, limit)? {
+            // At the first match this is room for the whole haystack.
+            new.reserve(haystack.len() - from)?;
+            new.push_str(&haystack[from..found.start()])?;
+            new.push_str(text)?;
+            from = found.end();
+            is_replaced = true;
+        }
+        if !is_replaced {
+            return Ok(CowStr::Borrowed(haystack));
+        }
+        new.push_str(&haystack[from..])?;
+        Ok(CowStr::Owned(new))
     }
 
     /// Replaces each match by what the replacer appends for it.
@@ -123,12 +147,30 @@ impl Regex {
         requires { R.can_append rep }
         ensures replaced { IfOk result (λ new. IsReplacedInTurn R.fixed R.appends rep
             (whole self.now haystack.now limit) (cow_str_bytes new)) }
-        ensures borrowed { IfOk result (λ new. IsAnswerOf self.now (chars haystack.now) 0 None
+        ensures borrowed { IfOk result (λ new. IsOver (whole self.now haystack.now limit)
             → new ≡ CowStr.Borrowed haystack.entry) }
+        ensures owned { IfOk result (λ new. ¬ (IsOver (whole self.now haystack.now limit))
+            → IsOwnedStr new) }
         ensures refused { IfErr result (λ error. (error ≡ out_of_memory)
             ⊎ IsRefused R.fixed R.appends rep (whole self.now haystack.now limit) error) }
     {
-        Err(Error::memory())
+        let mut new = String::new(self.alloc);
+        let mut from = 0;
+        let mut is_replaced = false;
+        for item in CaptureMatches::new(self, haystack, limit)? {
+            let caps = item?;
+            let (start, end) = caps.whole_span();
+            new.reserve(haystack.len() - from)?;
+            new.push_str(&haystack[from..start])?;
+            rep.replace_append(&caps, &mut new)?;
+            from = end;
+            is_replaced = true;
+        }
+        if !is_replaced {
+            return Ok(CowStr::Borrowed(haystack));
+        }
+        new.push_str(&haystack[from..])?;
+        Ok(CowStr::Owned(new))
     }
 }
 

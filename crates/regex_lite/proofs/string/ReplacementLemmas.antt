@@ -1,0 +1,117 @@
+-- Replacements, match after match.
+use Rattle.std.proofs.Common.{◌≡◌, ◌≢◌, ◌⊎◌, ◌++◌, inl, inr, ℕ, Bool, true, false, List, [], ◌∷◌, Option, Some, None, Ok, Err, MatchBool, refl, sym, ap, ◌∙◌, subst, map, drop, slice_range, chars, unwrap_or}
+use Rattle.std.proofs.lemmas.List.{append_assoc}
+use Rattle.regex_lite_syntax.specs.declared.error.Error.{Error}
+use Rattle.regex_lite_engine.specs.Search.Answer.{Found}
+use Rattle.regex_lite.specs.Ahead.{Ahead, AreAhead, AreFirstAhead, AreGroupsFound, ComesNext, IsOver, Passes}
+use Rattle.regex_lite.specs.Expression.{Expression}
+use Rattle.regex_lite.specs.Groups.{Groups, whole_span}
+use Rattle.regex_lite.specs.Pieces.{found_span}
+use Rattle.regex_lite.specs.Replacements.{AreGroupsOfEach, IsChain, IsRefused, IsRefusedAt, IsReplacedBy, IsReplacedInTurn, replaced_by}
+use Rattle.regex_lite.specs.Replacing.{Answer}
+use Rattle.regex_lite.proofs.string.AheadLemmas.{ahead_cons, ahead_nil, first_cons}
+
+together : (a b c d : List ℕ) → ((a ++ b) ++ c) ++ d ≡ a ++ (b ++ c ++ d)
+together a b c d = simp append_assoc
+
+-- the text that was made, followed by the haystack from this offset on with what is ahead of it
+-- replaced, is a replacement of what was ahead at the start
+pub record Continues (text : List ℕ) (start a : Ahead) (from : ℕ) (made : List ℕ) : Type 0 where
+  pub on : (found : List Found) → AreAhead a found
+      → IsReplacedBy text start
+      (made ++ replaced_by text start.haystack from (map (found_span (chars start.haystack)) found))
+
+pub at_start : (text : List ℕ) (start : Ahead) → Continues text start start 0 []
+at_start text start = record {
+  on = λ found are. record { found = found; are_ahead = are; replaced = refl };
+}
+
+pub passed_on : (text : List ℕ) (start old new : Ahead) (found : Found) (from to : ℕ) (span : ℕ × ℕ)
+    (made written : List ℕ) → Continues text start old from made → Passes old found new
+    → span ≡ found_span (chars start.haystack) found → to ≡ span.1
+    → written ≡ (made ++ slice_range start.haystack from span.0) ++ text
+    → Continues text start new to written
+passed_on text start old new found from to span made written so_far passes is at more =
+    subst (λ n. Continues text start new n written) (sym at)
+    (subst (Continues text start new span.1) (sym more)
+    (record {
+      on = λ list are.
+          let rest : ℕ × ℕ → List ℕ = λ own. replaced_by text start.haystack own.1
+              (map (found_span (chars start.haystack)) list) in
+          subst (IsReplacedBy text start)
+          (ap (λ (own : ℕ × ℕ). made ++ (slice_range start.haystack from own.0 ++ text ++ rest own)) (sym is)
+          ∙ sym (together made (slice_range start.haystack from span.0) text (rest span)))
+          (so_far.on (found ∷ list) (ahead_cons old new found list passes are));
+    }))
+
+pub replaced_at_end : (text : List ℕ) (start a : Ahead) (from : ℕ) (made : List ℕ)
+    → Continues text start a from made → IsOver a
+    → IsReplacedBy text start (made ++ drop from start.haystack)
+replaced_at_end text start a from made so_far over = so_far.on [] (ahead_nil a over)
+
+module _ {R : Type 0} (Fixed : R → Option (List ℕ) → R → Type 0)
+    (Appends : R → Groups → List ℕ → Answer → R → Type 0) where
+  -- the same for what a replacer appends match by match, and for what it refuses
+  pub record ContinuesInTurn (first : R) (start a : Ahead) (rep : R) (from : ℕ) (made : List ℕ)
+      : Type 0 where
+    pub on : (found : List Found) (groups : List Groups) (rest : List ℕ) → AreAhead a found
+        → AreGroupsOfEach start.regex start.haystack found groups
+        → IsChain Fixed Appends start.haystack rep from groups rest
+        → IsReplacedInTurn Fixed Appends first start (made ++ rest)
+    pub refuses : (found : List Found) (groups : List Groups) (error : Error)
+        → AreFirstAhead a found → AreGroupsOfEach start.regex start.haystack found groups
+        → IsRefusedAt Fixed Appends rep groups error → IsRefused Fixed Appends first start error
+
+  pub in_turn_at_start : (first : R) (start : Ahead) → ContinuesInTurn first start start first 0 []
+  in_turn_at_start first start = record {
+    on = λ found groups rest are each chain.
+        record { found = found; are_ahead = are; groups = groups; each = each; chain = chain };
+    refuses = λ found groups error are each refused.
+        record { found = found; are_first = are; groups = groups; each = each; refused = refused };
+  }
+
+  pub in_turn_passed : (first : R) (start old new : Ahead) (rep after : R) (found : Found)
+      (groups : Groups) (from : ℕ) (span : ℕ × ℕ) (made text written : List ℕ)
+      → ContinuesInTurn first start old rep from made → Passes old found new
+      → AreGroupsFound start.regex start.haystack found groups → Appends rep groups text (Ok tt) after
+      → span ≡ whole_span groups
+      → written ≡ (made ++ slice_range start.haystack from (whole_span groups).0) ++ text
+      → ContinuesInTurn first start new after span.1 written
+  in_turn_passed first start old new rep after found groups from span made text written so_far passes are asked is more =
+      subst (λ (own : ℕ × ℕ). ContinuesInTurn first start new after own.1 written) (sym is)
+      (subst (ContinuesInTurn first start new after (whole_span groups).1) (sym more)
+      (record {
+        on = λ list others rest ahead each chain.
+            let before = slice_range start.haystack from (whole_span groups).0 in
+            subst (IsReplacedInTurn Fixed Appends first start) (sym (together made before text rest))
+            (so_far.on (found ∷ list) (groups ∷ others) (before ++ text ++ rest)
+            (ahead_cons old new found list passes ahead) (are, each)
+            (text, rest, after, asked, refl, chain));
+        refuses = λ list others error ahead each refused.
+            so_far.refuses (found ∷ list) (groups ∷ others) error
+            (first_cons old new found list passes ahead) (are, each)
+            (inr (text, after, asked, refused));
+      }))
+
+  pub in_turn_at_end : (first : R) (start a : Ahead) (rep : R) (from : ℕ) (made : List ℕ)
+      → ContinuesInTurn first start a rep from made → IsOver a
+      → IsReplacedInTurn Fixed Appends first start (made ++ drop from start.haystack)
+  in_turn_at_end first start a rep from made so_far over =
+      so_far.on [] [] (drop from start.haystack) (ahead_nil a over) tt refl
+
+  pub in_turn_refused : (first : R) (start old new : Ahead) (rep after : R) (found : Found)
+      (groups : Groups) (from : ℕ) (made text : List ℕ) (error : Error)
+      → ContinuesInTurn first start old rep from made → Passes old found new
+      → AreGroupsFound start.regex start.haystack found groups
+      → Appends rep groups text (Err error) after → IsRefused Fixed Appends first start error
+  in_turn_refused first start old new rep after found groups from made text error so_far passes are asked =
+      so_far.refuses (found ∷ []) (groups ∷ []) error (first_cons old new found [] passes tt)
+      (are, tt) (inl (text, after, asked))
+
+-- groups that were found by the same regex in the same haystack
+pub found_there : (re other : Expression) (bytes haystack : List ℕ) (found : Found) (groups : Groups)
+    → re ≡ other → bytes ≡ haystack → AreGroupsFound re bytes found groups
+    → AreGroupsFound other haystack found groups
+found_there re other bytes haystack found groups same there are =
+    subst (λ own. AreGroupsFound own haystack found groups) same
+    (subst (λ own. AreGroupsFound re own found groups) there are)
