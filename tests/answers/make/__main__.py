@@ -23,6 +23,7 @@ import sys
 
 sys.dont_write_bytecode = True  # nothing but the lists is written here
 
+import escapes
 import flags
 import lists
 import plain
@@ -123,6 +124,7 @@ def main():
     written = {ANSWERS / f'{name}.tsv': lines_of(judge, name) for name in LISTS}
     written[ANSWERS / 'searches.tsv'] = searches.lines(judge)
     written[ANSWERS / 'lists.tsv'] = lists.lines(judge)
+    written[ANSWERS / 'escapes.tsv'] = escapes.lines(judge)
     written[ANSWERS / 'runs.tsv'] = runs.lines(judge)
     written[SIZES] = sizes.lines(judge)
     for path, lines in written.items():

@@ -112,5 +112,5 @@ def check_spans(judge, listed):
 def question(word, case):
     """A line that asks the judge by this word for such a case."""
     head = word if case.limit is None else f'{word}:{case.limit}'
-    rest = (case.flags or '-', case.pattern, case.haystack or '', case.template or '')
+    rest = (case.flags, case.pattern, case.haystack, case.template or '')
     return '\t'.join([head, *map(escaped, rest)]) + '\n'

@@ -1,5 +1,5 @@
-"""The list of calls that answer with all matches: with lists of them, with pieces and with replaced
-texts. The escapes of texts stand in it too."""
+"""The list of calls that answer by all matches: with the groups of each, with the pieces between
+them, and with replaced texts."""
 
 import itertools
 import re
@@ -8,7 +8,6 @@ from typing import NamedTuple, Optional
 from data import escaped, rows_of
 from dice import Dice
 from judge import told
-from leaves import ALPHABETS
 from searches import drawn, is_fit
 from whole import sample
 
@@ -17,7 +16,6 @@ SEED = 4  # another than those of the other lists
 PATTERNS = 14_000  # how many generated patterns the judge is asked about
 TEXT = 60  # characters of a haystack
 LIMITS = {'splitn': range(5), 'replacen': range(4)}
-ESCAPES = 400  # generated texts that are escaped
 
 # How many cases of generated patterns are kept: of each call where there is no match, one match,
 # more, where all are empty, and where empty ones stand beside others. `splitn, cut` and `replacen,
@@ -36,19 +34,17 @@ QUOTAS = {
 PIECES = ('$$', '$', '${', '${}', '}', '$$$', '$x', '${x}', '${ 1}', '${+1}', '${-1}', '${0x1}',
           '$01', '${00}', '$99', '${18446744073709551615}', '$18446744073709551616', '${1', '$é',
           '${☃}', '$-', '\n', ' ', '_', '1', 'é', '💩')
-MARKS = tuple('\\.+*?()|[]{}^$#&-~')
 
 
 class Case(NamedTuple):
-    """A call, and what it is given. None stands where it takes nothing of the kind. The text of
-    `escape` stands as the pattern."""
+    """A call, and what it is given. None stands where it takes no limit or no template."""
 
     call: str
     limit: Optional[int]
-    flags: Optional[str]
+    flags: str
     pattern: str
-    haystack: Optional[str] = None
-    template: Optional[str] = None
+    haystack: str
+    template: Optional[str]
 
 
 def texts(dice, maker, tree):
@@ -154,17 +150,6 @@ def picked_cases():
     ))
 
 
-def escapes(dice):
-    """The texts that are escaped: those picked by hand, and generated ones."""
-    made = []
-    for _ in range(ESCAPES):
-        letters = dice.pick(ALPHABETS)
-        count = dice.pick((1, 2, 3, 4, 6, 10, 20))
-        made.append(''.join(dice.pick(dice.pick((MARKS, letters))) for _ in range(count)))
-    texts_of = [*(text for text, in rows_of('escapes')), *made]
-    return [Case('escape', None, None, text) for text in dict.fromkeys(texts_of)]
-
-
 def line_of(case, answer):
     """A case and its answer as a line of the list."""
     fields = ['-' if field is None else escaped(str(field)) for field in (*case, answer)]
@@ -173,7 +158,7 @@ def line_of(case, answer):
 
 def lines(judge):
     """The lines of the list."""
-    picked = picked_cases() + escapes(Dice(SEED))
+    picked = picked_cases()
     made = [line_of(case, answer) for case, answer in zip(picked, told(judge, picked))]
     rows = itertools.islice(generated(Dice(SEED)), 2 * PATTERNS)
     return made + kept_lines(judge, rows, set(picked))
