@@ -82,9 +82,9 @@ def template(dice, letters, pattern):
 def asked(flags, pattern, haystack, limits, replacement):
     """The calls on a haystack, with these limits and this replacement."""
     calls = [('captures_iter', None, None), ('split', None, None)]
-    for call, among in LIMITS.items():
-        calls += [(call, limit, replacement if call == 'replacen' else None)
-                  for limit in among if limit in limits[call]]
+    for call, some in limits.items():
+        text = replacement if call == 'replacen' else None
+        calls += [(call, limit, text) for limit in some]
     return [Case(call, limit, flags, pattern, haystack, text) for call, limit, text in calls]
 
 
