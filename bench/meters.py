@@ -1,4 +1,4 @@
-"""What a run costs: instructions, the most memory in use, and time."""
+"""What a run costs: instructions, the most memory in use, requests for memory, and time."""
 
 import os
 import re
@@ -63,6 +63,13 @@ def peak(command, text):
     written, = account('massif', ['--peak-inaccuracy=0.0'], command, text)
     sizes = re.findall(r'mem_heap_B=(\d+)\nmem_heap_extra_B=(\d+)', written)
     return max(int(bytes_asked) + int(extra) for bytes_asked, extra in sizes)
+
+
+def requests(command, text):
+    """How often a run asks for memory."""
+    _, _, told = run(['valgrind', '--tool=memcheck', '--leak-check=no', '--undef-value-errors=no',
+                      *command], text)
+    return int(re.search(r'total heap usage: ([\d,]+) allocs', told)[1].replace(',', ''))
 
 
 def seconds(command, text, tries):

@@ -1,4 +1,4 @@
-"""The searches that bench/search measures: texts, patterns and goals.
+"""The texts that are searched, and the searches that bench/search measures, with their goals.
 
 All texts are made up here, from numbers that follow one another by a fixed rule, so each run of the
 measurement has the same ones.

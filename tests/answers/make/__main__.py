@@ -1,9 +1,10 @@
 """make JUDGE: rewrites the lists of answers, and the sizes in the tests of regex_lite.
 
 Each list has what was picked by hand, from the files in picked/, and then generated cases by the
-quotas in choice.py, or in searches.py for the list of searches. With `--fresh SEED NUMBER` so many
-new cases of the whole grammar are written to standard output instead, and no file, and with
-`--fresh-searches SEED NUMBER` so many new searches.
+quotas in choice.py, or in searches.py and lists.py for the lists that these two make. The list of
+runs has no generated ones. With `--fresh SEED NUMBER` so many new cases of the whole grammar are
+written to standard output instead, and no file, with `--fresh-searches SEED NUMBER` so many new
+searches, and with `--fresh-lists SEED NUMBER` so many new cases of the list of lists.
 
 JUDGE is a program over the Rust crate regex-lite 0.1.9 with the changes that README.md tells,
 started as `JUDGE batch`. For each line of standard input it writes one line. A question has four
@@ -12,7 +13,9 @@ haystack. In a field a backslash begins one of the escapes \\t, \\n, \\r, \\\\ a
 H is a character's number in hexadecimal. The answer is `ok:true`, `ok:false`, or `err:` and the
 text with which the pattern is refused. Another question has three fields: `limit:` and a size
 limit, flags, the pattern; its answer is `ok:`, or `err:` and a text as before. The questions about
-searches have flags, a pattern and a haystack after a word; README.md tells their words and answers.
+searches have flags, a pattern and a haystack after a word, and those about lists a template too;
+README.md tells their words and answers. For the list of runs JUDGE is started with the arguments of
+each run.
 """
 
 import argparse
@@ -20,8 +23,11 @@ import sys
 
 sys.dont_write_bytecode = True  # nothing but the lists is written here
 
+import escapes
 import flags
+import lists
 import plain
+import runs
 import searches
 import sizes
 import whole
@@ -99,6 +105,10 @@ def main():
         '--fresh-searches', nargs=2, type=int, metavar=('SEED', 'NUMBER'),
         help='write so many new searches of this seed to standard output, and no file',
     )
+    parser.add_argument(
+        '--fresh-lists', nargs=2, type=int, metavar=('SEED', 'NUMBER'),
+        help='write so many new cases with all matches to standard output, and no file',
+    )
     arguments = parser.parse_args()
     judge = arguments.judge
     fresh = []
@@ -106,11 +116,16 @@ def main():
         fresh += fresh_lines(judge, *arguments.fresh)
     if arguments.fresh_searches:
         fresh += searches.fresh(judge, *arguments.fresh_searches)
+    if arguments.fresh_lists:
+        fresh += lists.fresh(judge, *arguments.fresh_lists)
     if fresh:
         sys.stdout.buffer.write(''.join(fresh).encode())
         return
     written = {ANSWERS / f'{name}.tsv': lines_of(judge, name) for name in LISTS}
     written[ANSWERS / 'searches.tsv'] = searches.lines(judge)
+    written[ANSWERS / 'lists.tsv'] = lists.lines(judge)
+    written[ANSWERS / 'escapes.tsv'] = escapes.lines(judge)
+    written[ANSWERS / 'runs.tsv'] = runs.lines(judge)
     written[SIZES] = sizes.lines(judge)
     for path, lines in written.items():
         with open(path, 'w', encoding='utf-8', newline='\n') as out:

@@ -30,6 +30,17 @@ def escaped(text):
     return ''.join(out)
 
 
+def bytes_of(text):
+    """The bytes of a text. In it the characters from U+DC80 to U+DCFF stand for the bytes from 80
+    to FF that belong to no character."""
+    return text.encode('utf-8', 'surrogateescape')
+
+
+def text_of(written):
+    """The text of these bytes, the other way round."""
+    return written.decode('utf-8', 'surrogateescape')
+
+
 def line_of(case, status, text):
     """A case and its answer as a line of a list."""
     fields = [escaped(field) for field in case] + [str(status)]

@@ -83,3 +83,34 @@ def meant(case, told):
     number = re.fullmatch(r'None|Some\((\d+)\)', static)[1]
     return Found(groups or None, int(shortest) if shortest else None,
                  int(number) if number else None, unescaped(names))
+
+
+def told(judge, cases):
+    """What the judge tells of these cases of the list of lists."""
+    words = {'captures_iter': 'captures'}
+    texts = []
+    for case, answer in zip(cases, answers(judge, [
+        question(words.get(case.call, case.call), case) for case in cases
+    ])):
+        if not answer.startswith('ok:'):
+            raise SystemExit(f'unexpected answer to {case!r}: {answer}')
+        texts.append(unescaped(answer[3:]))
+    check_spans(judge, [(case, text) for case, text in zip(cases, texts)
+                        if case.call == 'captures_iter'])
+    return texts
+
+
+def check_spans(judge, listed):
+    """Ends the program unless the judge finds just the matches whose groups it told."""
+    found_there = answers(judge, [question('find', case) for case, _ in listed])
+    for (case, groups), spans in zip(listed, found_there):
+        whole = [line.partition(' ')[0] for line in groups.splitlines()]
+        if spans != 'ok:' + ''.join(f'{span}\\n' for span in whole):
+            raise SystemExit(f'answers to {case!r} that disagree: {groups!r} and {spans}')
+
+
+def question(word, case):
+    """A line that asks the judge by this word for such a case."""
+    head = word if case.limit is None else f'{word}:{case.limit}'
+    rest = (case.flags, case.pattern, case.haystack, case.template or '')
+    return '\t'.join([head, *map(escaped, rest)]) + '\n'

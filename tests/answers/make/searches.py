@@ -139,16 +139,21 @@ def is_fit(pattern):
     return len(pattern) <= LONGEST and product <= LARGEST and '\0' not in pattern
 
 
+def drawn(dice):
+    """A family, flags, a pattern, and the maker and the tree that it is of."""
+    name = dice.pick(tuple(FAMILIES))
+    family = FAMILIES[name]
+    maker = SearchMaker(dice, family)
+    tree = maker.whole(dice.pick(family.depths), dice.pick(family.stacking))
+    letters = dice.pick(family.flags) if dice.chance(0.5) else '-'
+    writer = Writer(dice, dice.pick((0.05, 0.15, 0.3)), 'x' in letters)
+    return name, letters, ''.join(writer.parts(tree)), maker, tree
+
+
 def generated(dice):
     """Makes rows without end: a family, flags, a pattern, and haystacks with starts in them."""
     while True:
-        name = dice.pick(tuple(FAMILIES))
-        family = FAMILIES[name]
-        maker = SearchMaker(dice, family)
-        tree = maker.whole(dice.pick(family.depths), dice.pick(family.stacking))
-        letters = dice.pick(family.flags) if dice.chance(0.5) else '-'
-        writer = Writer(dice, dice.pick((0.05, 0.15, 0.3)), 'x' in letters)
-        pattern = ''.join(writer.parts(tree))
+        name, letters, pattern, maker, tree = drawn(dice)
         asked = [(text, start) for text in haystacks(dice, maker, tree)
                  for start in starts(dice, text)]
         if is_fit(pattern):

@@ -1,0 +1,171 @@
+"""The list of calls that answer by all matches: with the groups of each, with the pieces between
+them, and with replaced texts."""
+
+import itertools
+import re
+from typing import NamedTuple, Optional
+
+from data import escaped, rows_of
+from dice import Dice
+from judge import told
+from searches import drawn, is_fit
+from whole import sample
+
+SEED = 4  # another than those of the other lists
+
+PATTERNS = 14_000  # how many generated patterns the judge is asked about
+TEXT = 60  # characters of a haystack
+LIMITS = {'splitn': range(5), 'replacen': range(4)}
+
+# How many cases of generated patterns are kept: of each call where there is no match, one match,
+# more, where all are empty, and where empty ones stand beside others. `splitn, cut` and `replacen,
+# cut` have a limit that leaves some match alone.
+SHAPES = ('none', 'one', 'more', 'empty', 'both')
+QUOTAS = {
+    'captures_iter': (80, 160, 700, 300, 760),
+    'split': (40, 80, 300, 180, 400),
+    'splitn': (20, 40, 150, 100, 80),
+    'splitn, cut': (40, 60, 300, 180, 480),
+    'replacen': (60, 120, 350, 180, 390),
+    'replacen, cut': (0, 0, 300, 180, 420),
+}
+
+# What templates are made of besides references to groups that are there, and letters.
+PIECES = ('$$', '$', '${', '${}', '}', '$$$', '$x', '${x}', '${ 1}', '${+1}', '${-1}', '${0x1}',
+          '$01', '${00}', '$99', '${18446744073709551615}', '$18446744073709551616', '${1', '$é',
+          '${☃}', '$-', '\n', ' ', '_', '1', 'é', '💩')
+
+
+class Case(NamedTuple):
+    """A call, and what it is given. None stands where it takes no limit or no template."""
+
+    call: str
+    limit: Optional[int]
+    flags: str
+    pattern: str
+    haystack: str
+    template: Optional[str]
+
+
+def texts(dice, maker, tree):
+    """Two haystacks: one of several texts that the tree often matches, mostly with something
+    between them, and one of random characters."""
+    def some(counts):
+        return ''.join(dice.pick(maker.letters) for _ in range(dice.pick(counts)))
+
+    between = dice.pick(((0,), (0, 1), (0, 1, 2), (1, 2, 3)))
+    near = some(between)
+    for _ in range(dice.pick((1, 2, 3, 4, 6))):
+        near += sample(dice, tree)[:TEXT // 2] + some(between)
+    return near[:TEXT], some((0, 1, 2, 3, 4, 6, 8, 12))
+
+
+def template(dice, letters, pattern):
+    """A template, in most cases with references to groups of the pattern."""
+    names = re.findall(r'\(\?P?<([^>]+)>', pattern) or ['n']
+    pieces = []
+    for _ in range(dice.pick((0, 1, 1, 2, 2, 3, 3, 4))):
+        kind = dice.random()
+        number = dice.below(pattern.count('(') + 2)
+        if kind < 0.25:
+            pieces.append(dice.pick((f'${number}', f'${{{number}}}')))
+        elif kind < 0.4:
+            name = dice.pick(names)
+            pieces.append(dice.pick((f'${name}', f'${{{name}}}')))
+        elif kind < 0.65:
+            pieces.append(dice.pick(PIECES))
+        else:
+            pieces.append(dice.pick(letters))
+    return ''.join(pieces)
+
+
+def asked(flags, pattern, haystack, limits, replacement):
+    """The calls on a haystack, with these limits and this replacement."""
+    calls = [('captures_iter', None, None), ('split', None, None)]
+    for call, some in limits.items():
+        text = replacement if call == 'replacen' else None
+        calls += [(call, limit, text) for limit in some]
+    return [Case(call, limit, flags, pattern, haystack, text) for call, limit, text in calls]
+
+
+def generated(dice):
+    """Makes lists of cases without end, each of a pattern, flags and a haystack."""
+    while True:
+        _, flags, pattern, maker, tree = drawn(dice)
+        for haystack in texts(dice, maker, tree):
+            limits = {call: [dice.pick(among)] for call, among in LIMITS.items()}
+            replacement = template(dice, maker.letters, pattern)
+            if is_fit(pattern):
+                yield asked(flags, pattern, haystack, limits, replacement)
+
+
+def shape_of(matches):
+    """The shape of the matches that `captures_iter` answers, one of SHAPES."""
+    spans = [line.partition(' ')[0].split('..') for line in matches.splitlines()]
+    empty = [start == end for start, end in spans]
+    if not spans:
+        return 'none'
+    if any(empty):
+        return 'empty' if all(empty) else 'both'
+    return 'one' if len(spans) == 1 else 'more'
+
+
+def kind_of(case, matches):
+    """The kind of a case, by the matches of its pattern in its haystack."""
+    count = len(matches.splitlines())
+    # The limit of `splitn` is one on pieces, which are one more than the matches, and that of
+    # `replacen` is none where it is 0.
+    cut = {'splitn': case.limit is not None and case.limit <= count,
+           'replacen': bool(case.limit) and case.limit < count}
+    return case.call + ', cut' * cut.get(case.call, False), shape_of(matches)
+
+
+def kept_lines(judge, rows, picked):
+    """The lines of the first cases of each kind, as many as its quota says, without those in
+    `picked`."""
+    left = {(kind, shape): number for kind, numbers in QUOTAS.items()
+            for shape, number in zip(SHAPES, numbers)}
+    cases = [case for row in rows for case in row]
+    lines = []
+    matches = None
+    for case, answer in zip(cases, told(judge, cases)):
+        if case.call == 'captures_iter':
+            matches = answer
+        kind = kind_of(case, matches)
+        if case not in picked and left[kind]:
+            picked.add(case)
+            left[kind] -= 1
+            lines.append(line_of(case, answer))
+    if any(left.values()):
+        raise SystemExit(f'too few lists: {left}')
+    return lines
+
+
+def picked_cases():
+    """The cases picked by hand: the calls on each haystack, with all limits and the template."""
+    return list(dict.fromkeys(
+        case for flags, pattern, replacement, *haystacks in rows_of('lists')
+        for haystack in haystacks
+        for case in asked(flags, pattern, haystack, LIMITS, replacement)
+    ))
+
+
+def line_of(case, answer):
+    """A case and its answer as a line of the list."""
+    fields = ['-' if field is None else escaped(str(field)) for field in (*case, answer)]
+    return '\t'.join(fields) + '\n'
+
+
+def lines(judge):
+    """The lines of the list."""
+    picked = picked_cases()
+    made = [line_of(case, answer) for case, answer in zip(picked, told(judge, picked))]
+    rows = itertools.islice(generated(Dice(SEED)), 2 * PATTERNS)
+    return made + kept_lines(judge, rows, set(picked))
+
+
+def fresh(judge, seed, count):
+    """So many lines of generated cases of another seed, without any choice among their kinds."""
+    rows = itertools.chain.from_iterable(generated(Dice(seed)))
+    cases = list(itertools.islice(dict.fromkeys(itertools.islice(rows, 2 * count)), count))
+    return [line_of(case, answer) for case, answer in zip(cases, told(judge, cases))]
