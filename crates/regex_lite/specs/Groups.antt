@@ -1,5 +1,5 @@
 -- Spans in a haystack, and the groups of a match, as plain values.
-use Rattle.std.specs.Prelude.{◌≡◌, ◌≤◌, ℕ, List, [], ◌∷◌, Bool, false, Option, Some, None, IsSome, IfSome, IsCharBoundary, length, drop, filter_map, slice_get, slice_range, option_map, option_and_then}
+use Rattle.std.specs.Prelude.{◌≡◌, ◌≤◌, ℕ, List, [], ◌∷◌, Bool, false, Option, Some, None, IsSome, IfSome, IsCharBoundary, length, drop, filter_map, slice_get, slice_range, option_map, option_and_then, unwrap_or}
 use Rattle.std.specs.List.{position}
 use Rattle.std.specs.Option.{option_zip, option_flatten}
 use Rattle.std.specs.Str.{bytes_eq}
@@ -36,7 +36,11 @@ span_at spans k = option_flatten (slice_get spans k)
 abbrev pub group_span : Groups → (k : ℕ) → Option (ℕ × ℕ)
 group_span groups k = span_at groups.spans k
 
--- its text
+-- the span of the whole match, which is there in the groups of each match
+abbrev pub whole_span : Groups → ℕ × ℕ
+whole_span groups = unwrap_or (group_span groups 0) (0, 0)
+
+-- the text of a group
 abbrev pub group_text : Groups → (k : ℕ) → Option (List ℕ)
 group_text groups k = option_map (text_at groups.haystack) (group_span groups k)
 

@@ -5,6 +5,11 @@ pub mod Expression
 pub mod Groups
 pub mod MatchViews
 pub mod Searches
+pub mod MatchList
+pub mod Ahead
+pub mod Pieces
+pub mod Replacing
+pub mod Replacements
 pub mod Templates
 pub mod Laws
 pub mod CaptureNames

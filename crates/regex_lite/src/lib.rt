@@ -31,8 +31,8 @@ mod string;
 pub use regex_lite_engine::Steps;
 pub use regex_lite_syntax::{Error, ErrorKind};
 pub use string::{
-    CaptureLocations, CaptureNames, Captures, CapturesIn, Match, Regex, RegexBuilder,
-    SubCaptureMatches, Text,
+    CaptureLocations, CaptureMatches, CaptureNames, Captures, CapturesIn, Match, Matches, NoExpand,
+    Regex, RegexBuilder, ReplaceBy, Replacer, ReplacerRef, Split, SplitN, SubCaptureMatches, Text,
 };
 
 #[cfg(test)]

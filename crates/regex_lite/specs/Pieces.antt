@@ -1,0 +1,65 @@
+-- The pieces of a haystack between its matches.
+use Rattle.std.specs.Prelude.{◌≡◌, ◌+◌, ℕ, zero, suc, Bool, true, false, List, [], ◌∷◌, Option, Some, None, MatchOption, MatchBool, map, drop, length, slice_range, chars, unwrap_or, if◌then◌else◌}
+use Rattle.std.specs.Borrow.{Bor}
+use Rattle.std.specs.Iterator.{Count, at_most}
+use Rattle.regex_lite_syntax.specs.Text.{Text}
+use Rattle.regex_lite_engine.specs.Search.Answer.{Found}
+use Rattle.regex_lite.specs.declared.string.split.Split.{Split}
+use Rattle.regex_lite.specs.declared.string.split.SplitN.{SplitN}
+use Rattle.regex_lite.specs.Expression.{Expression}
+use Rattle.regex_lite.specs.Searches.{offsets}
+use Rattle.regex_lite.specs.Ahead.{Ahead, AreAhead, ahead_of, most_left, whole}
+
+-- where a match starts and ends, as offsets
+abbrev pub found_span : Text → Found → ℕ × ℕ
+found_span haystack found = offsets haystack (found.start, found.end)
+
+-- what stands from this offset on before, between and behind the spans
+abbrev pub pieces : (haystack : List ℕ) → (from : ℕ) → (spans : List (ℕ × ℕ)) → List (List ℕ)
+pieces haystack from [] = drop from haystack ∷ []
+pieces haystack from (span ∷ spans) =
+    slice_range haystack from span.0 ∷ pieces haystack span.1 spans
+
+-- the haystack from this offset on is cut at the matches ahead
+pub record IsCut (a : Ahead) (from : ℕ) (list : List (List ℕ)) : Type 0 where
+  pub found : List Found
+  pub are_ahead : AreAhead a found
+  pub cut : list ≡ pieces a.haystack from (map (found_span (chars a.haystack)) found)
+
+-- these are the pieces of the haystack
+abbrev pub ArePieces : Expression → (haystack : List ℕ) → List (List ℕ) → Type 0
+ArePieces re haystack list = IsCut (whole re haystack None) 0 list
+
+-- these are at most so many of them, the last of which is all that is left
+abbrev pub ArePiecesWithin : (limit : ℕ) → Expression → (haystack : List ℕ) → List (List ℕ)
+    → Type 0
+ArePiecesWithin zero re haystack list = list ≡ []
+ArePiecesWithin (suc cuts) re haystack list = IsCut (whole re haystack (Some cuts)) 0 list
+
+-- these pieces are still to come
+abbrev pub ArePiecesLeft : Split → List (List ℕ) → Type 0
+ArePiecesLeft it list =
+    MatchBool it.is_done (list ≡ [])
+    (IsCut (ahead_of it.matches) (unwrap_or it.matches.cursor.ended 0) list)
+
+abbrev pub ArePiecesLeftN : SplitN → List (List ℕ) → Type 0
+ArePiecesLeftN it list = ArePiecesLeft it.pieces list
+
+-- the first of the pieces that were left came; or none was left, and none comes from then on
+abbrev pub GivesPiece : Split → Option (Bor (List ℕ)) → Split → Type 0
+GivesPiece old item new =
+    MatchOption item ((old.is_done ≡ true) × (new.is_done ≡ true))
+    (λ piece. (old.is_done ≡ false)
+    × ((list : List (List ℕ)) → ArePiecesLeft new list → ArePiecesLeft old (piece.now ∷ list)))
+
+abbrev pub GivesPieceN : SplitN → Option (Bor (List ℕ)) → SplitN → Type 0
+GivesPieceN old item new = GivesPiece old.pieces item new.pieces
+
+-- at most so many are left
+abbrev pub most_pieces : Split → Count
+most_pieces it =
+    at_most (if it.is_done then 0 else most_left it.matches.cursor.limit
+    (length it.matches.cursor.haystack.now) it.matches.cursor.ended + 1)
+
+abbrev pub most_pieces_n : SplitN → Count
+most_pieces_n it = most_pieces it.pieces

@@ -1,0 +1,87 @@
+-- The texts that replacements give.
+use Rattle.std.specs.Prelude.{◌≡◌, ◌++◌, ◌⊎◌, ℕ, zero, suc, List, [], ◌∷◌, Option, Some, None, Ok, Err, map, chars, drop, slice_range}
+use Rattle.regex_lite_syntax.specs.declared.error.Error.{Error}
+use Rattle.regex_lite_engine.specs.Search.Answer.{Found}
+use Rattle.regex_lite.specs.Groups.{Groups, whole_span}
+use Rattle.regex_lite.specs.Ahead.{Ahead, AreAhead, AreFirstAhead, AreGroupsFound, whole}
+use Rattle.regex_lite.specs.Expression.{Expression}
+use Rattle.regex_lite.specs.Pieces.{found_span}
+use Rattle.regex_lite.specs.Replacing.{Answer}
+
+-- how many matches are replaced: 0 stands for all
+abbrev pub limit_of : ℕ → Option ℕ
+limit_of zero = None
+limit_of (suc k) = Some (suc k)
+
+-- these are the groups of each of the matches that were found
+abbrev pub AreGroupsOfEach : Expression → (haystack : List ℕ) → List Found → List Groups → Type 0
+AreGroupsOfEach re haystack [] [] = Unit {0}
+AreGroupsOfEach re haystack [] (groups ∷ list) = ⊥
+AreGroupsOfEach re haystack (found ∷ matches) [] = ⊥
+AreGroupsOfEach re haystack (found ∷ matches) (groups ∷ list) =
+    AreGroupsFound re haystack found groups × AreGroupsOfEach re haystack matches list
+
+-- the haystack from this offset on with one text in the place of each span
+abbrev pub replaced_by : (text haystack : List ℕ) → (from : ℕ) → (spans : List (ℕ × ℕ)) → List ℕ
+replaced_by text haystack from [] = drop from haystack
+replaced_by text haystack from (span ∷ spans) =
+    slice_range haystack from span.0 ++ text ++ replaced_by text haystack span.1 spans
+
+-- each match ahead is replaced by one text
+pub record IsReplacedBy (text : List ℕ) (a : Ahead) (new : List ℕ) : Type 0 where
+  pub found : List Found
+  pub are_ahead : AreAhead a found
+  pub replaced :
+      new ≡ replaced_by text a.haystack 0 (map (found_span (chars a.haystack)) found)
+
+-- A replacer is known by two relations: what it answers where it is asked for a fixed text, and what
+-- it appends for groups, and answers
+module _ {R : Type 0} (Fixed : R → Option (List ℕ) → R → Type 0)
+    (Appends : R → Groups → List ℕ → Answer → R → Type 0) where
+  -- the haystack from this offset on where the replacer, asked for each match in turn, appended a
+  -- text with `Ok`
+  abbrev pub IsChain : (haystack : List ℕ) → R → (from : ℕ) → List Groups → List ℕ → Type 0
+  IsChain haystack rep from [] new = new ≡ drop from haystack
+  IsChain haystack rep from (groups ∷ list) new =
+      (text : List ℕ) × (rest : List ℕ) × (after : R)
+      × Appends rep groups text (Ok tt) after
+      × (new ≡ slice_range haystack from (whole_span groups).0 ++ text ++ rest)
+      × IsChain haystack after (whole_span groups).1 list rest
+
+  -- it answered this error for one of the matches, and `Ok` for those before it
+  abbrev pub IsRefusedAt : R → List Groups → Error → Type 0
+  IsRefusedAt rep [] error = ⊥
+  IsRefusedAt rep (groups ∷ list) error =
+      ((text : List ℕ) × (after : R) × Appends rep groups text (Err error) after)
+      ⊎ ((text : List ℕ) × (after : R) × Appends rep groups text (Ok tt) after
+      × IsRefusedAt after list error)
+
+  -- each match ahead is replaced by what the replacer appends for its groups
+  pub record IsReplacedInTurn (rep : R) (a : Ahead) (new : List ℕ) : Type 0 where
+    pub found : List Found
+    pub are_ahead : AreAhead a found
+    pub groups : List Groups
+    pub each : AreGroupsOfEach a.regex a.haystack found groups
+    pub chain : IsChain a.haystack rep 0 groups new
+
+  -- the replacer refused one of the first matches ahead
+  pub record IsRefused (rep : R) (a : Ahead) (error : Error) : Type 0 where
+    pub found : List Found
+    pub are_first : AreFirstAhead a found
+    pub groups : List Groups
+    pub each : AreGroupsOfEach a.regex a.haystack found groups
+    pub refused : IsRefusedAt rep groups error
+
+  abbrev pub IsReplaced : (fixed : Option (List ℕ)) → R → Ahead → List ℕ → Type 0
+  IsReplaced (Some text) rep a new = IsReplacedBy text a new
+  IsReplaced None rep a new = IsReplacedInTurn rep a new
+
+  -- The replacer is asked for a fixed text, once and first. Where it has one, that text replaces each
+  -- match; else it is asked for each match in turn
+  abbrev pub IsReplacement : R → Ahead → List ℕ → Type 0
+  IsReplacement rep a new =
+      (fixed : Option (List ℕ)) × (after : R) × Fixed rep fixed after × IsReplaced fixed after a new
+
+  -- it has no fixed text, and the error is one that it answers for a match that is to be replaced
+  abbrev pub IsHandedOn : R → Ahead → Error → Type 0
+  IsHandedOn rep a error = (after : R) × Fixed rep None after × IsRefused after a error

@@ -1,0 +1,85 @@
+//! The groups of all matches of a haystack, match after match.
+ghost use Rattle.std.specs.Prelude.{◌≡◌, None, IfOk, IfErr};
+ghost use Rattle.regex_lite_syntax.specs.Errors.{out_of_memory};
+ghost use Rattle.regex_lite.specs.Ahead.{groups_ahead_of, whole};
+
+use crate::string::captures::Captures;
+use crate::string::cursor::Cursor;
+use crate::string::regex::Regex;
+use crate::string::searcher::GroupSearcher;
+use regex_lite_syntax::Error;
+use std::iter::FusedIterator;
+
+impl Regex {
+    /// The groups of all matches that [`Regex::find_iter`] gives.
+    ///
+    /// ```
+    /// let regex = Regex::new(alloc, "([a-z])([0-9])")?;
+    /// for caps in regex.captures_iter("a1 b2")? {
+    ///     caps?.at(2); // "1", then "2"
+    /// }
+    /// ```
+    ///
+    /// The test `tests::examples::all_groups` runs this example.
+    ///
+    /// # Errors
+    ///
+    /// `Memory` where a growth is refused. Each item takes memory of its own. One that is refused
+    /// is the last.
+    pub fn captures_iter<'r, 'h>(
+        &'r self,
+        haystack: &'h str,
+    ) -> Result<CaptureMatches<'r, 'h>, Error>
+        ensures ahead { IfOk result (λ it. groups_ahead_of it ≡ whole self.now haystack.now None) }
+        ensures begins { IfOk result (λ it. it.cursor.ended ≡ None) }
+        ensures refused { IfErr result (λ error. error ≡ out_of_memory) }
+    {
+        CaptureMatches::new(self, haystack, None)
+    }
+}
+
+/// The groups of all matches of a haystack, match after match: an iterator that
+/// [`Regex::captures_iter`] makes.
+///
+/// After the last match, and after an error, it gives `None`, and goes on giving it. The groups
+/// borrow the haystack alone, and outlive the iterator and the regex.
+#[derive(Debug, Drop)]
+pub struct CaptureMatches<'r, 'h> {
+    searcher: GroupSearcher<'r>,
+    pub(super) cursor: Cursor<'h>,
+}
+
+impl<'r, 'h> CaptureMatches<'r, 'h> {
+    /// The groups of the matches that the limit allows, where there is one.
+    pub(super) fn new(
+        regex: &'r Regex,
+        haystack: &'h str,
+        limit: Option<usize>,
+    ) -> Result<CaptureMatches<'r, 'h>, Error>
+        ensures ahead { IfOk result
+            (λ it. groups_ahead_of it ≡ whole regex.now haystack.now limit) }
+        ensures begins { IfOk result (λ it. it.cursor.ended ≡ None) }
+        ensures refused { IfErr result (λ error. error ≡ out_of_memory) }
+    {
+        Ok(CaptureMatches {
+            searcher: GroupSearcher::new(regex)?,
+            cursor: Cursor::start(haystack, limit),
+        })
+    }
+}
+
+impl<'r, 'h> Iterator for CaptureMatches<'r, 'h> {
+    ghost use Rattle.regex_lite.specs.Ahead.{GivesGroups, most_groups};
+
+    type Item = Result<Captures<'h>, Error>;
+
+    ghost next_gives = { GivesGroups };
+
+    ghost remaining = { most_groups };
+
+    fn next(&mut self) -> Option<Result<Captures<'h>, Error>> {
+        None
+    }
+}
+
+impl<'r, 'h> FusedIterator for CaptureMatches<'r, 'h> {}

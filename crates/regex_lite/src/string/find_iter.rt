@@ -1,0 +1,83 @@
+//! The matches of a haystack, one after another.
+ghost use Rattle.std.specs.Prelude.{◌≡◌, ◌==◌, ◌&&◌, None, IfOk, IfErr, IfSome};
+ghost use Rattle.regex_lite_syntax.specs.Errors.{out_of_memory};
+ghost use Rattle.regex_lite.specs.Ahead.{ahead_of, whole};
+
+use crate::string::cursor::Cursor;
+use crate::string::matches::Match;
+use crate::string::regex::Regex;
+use crate::string::searcher::Searcher;
+use regex_lite_syntax::Error;
+use std::iter::FusedIterator;
+
+impl Regex {
+    /// All matches, from left to right.
+    ///
+    /// The first is that of [`Regex::find`]. Behind a match the search goes on where it ended; but a
+    /// match that is empty there is passed over, and the search goes on from the next character. So
+    /// no two matches overlap.
+    ///
+    /// ```
+    /// let regex = Regex::new(alloc, "a*")?;
+    /// for found in regex.find_iter("aab")? {
+    ///     found.range(); // 0..2, then 3..3
+    /// }
+    /// ```
+    ///
+    /// The test `tests::examples::all_matches` runs this example.
+    ///
+    /// # Errors
+    ///
+    /// `Memory` where a growth is refused. The items take no memory, and are never refused.
+    pub fn find_iter<'r, 'h>(&'r self, haystack: &'h str) -> Result<Matches<'r, 'h>, Error>
+        ensures ahead { IfOk result (λ it. ahead_of it ≡ whole self.now haystack.now None) }
+        ensures begins { IfOk result (λ it. it.cursor.ended ≡ None) }
+        ensures refused { IfErr result (λ error. error ≡ out_of_memory) }
+    {
+        Matches::new(self, haystack, None)
+    }
+}
+
+/// The matches of a haystack, one after another: an iterator that [`Regex::find_iter`] makes.
+///
+/// After the last match it gives `None`, and goes on giving it. The matches borrow the haystack
+/// alone, and outlive the iterator and the regex.
+#[derive(Debug, Drop)]
+pub struct Matches<'r, 'h> {
+    searcher: Searcher<'r>,
+    pub(super) cursor: Cursor<'h>,
+}
+
+impl<'r, 'h> Matches<'r, 'h> {
+    /// The matches that the limit allows, where there is one.
+    pub(super) fn new(
+        regex: &'r Regex,
+        haystack: &'h str,
+        limit: Option<usize>,
+    ) -> Result<Matches<'r, 'h>, Error>
+        ensures ahead { IfOk result (λ it. ahead_of it ≡ whole regex.now haystack.now limit) }
+        ensures begins { IfOk result (λ it. it.cursor.ended ≡ None) }
+        ensures refused { IfErr result (λ error. error ≡ out_of_memory) }
+    {
+        Ok(Matches {
+            searcher: Searcher::new(regex)?,
+            cursor: Cursor::start(haystack, limit),
+        })
+    }
+}
+
+impl<'r, 'h> Iterator for Matches<'r, 'h> {
+    ghost use Rattle.regex_lite.specs.Ahead.{GivesMatch, most_matches};
+
+    type Item = Match<'h>;
+
+    ghost next_gives = { GivesMatch };
+
+    ghost remaining = { most_matches };
+
+    fn next(&mut self) -> Option<Match<'h>> {
+        None
+    }
+}
+
+impl<'r, 'h> FusedIterator for Matches<'r, 'h> {}

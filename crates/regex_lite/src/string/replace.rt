@@ -1,0 +1,140 @@
+//! Haystacks with their matches replaced.
+ghost use Rattle.std.specs.Prelude.{◌≡◌, ◌⊎◌, None, IfOk, IfErr, chars};
+ghost use Rattle.std.specs.Cow.{cow_str_bytes};
+ghost use Rattle.regex_lite_syntax.specs.Errors.{out_of_memory};
+ghost use Rattle.regex_lite.specs.Ahead.{whole};
+ghost use Rattle.regex_lite.specs.MatchList.{IsAnswerOf};
+ghost use Rattle.regex_lite.specs.Replacements.{IsHandedOn, IsRefused, IsReplacedBy, IsReplacedInTurn, IsReplacement, limit_of};
+
+use crate::string::captures_iter::CaptureMatches;
+use crate::string::find_iter::Matches;
+use crate::string::regex::Regex;
+use crate::string::replacer::Replacer;
+use regex_lite_syntax::Error;
+use std::borrow::CowStr;
+
+impl Regex {
+    /// The haystack with its first match replaced.
+    ///
+    /// [`Regex::replacen`] says more.
+    ///
+    /// ```
+    /// let regex = Regex::new(alloc, "[0-9]+")?;
+    /// regex.replace("7 of 9", "no. $0")?; // "no. 7 of 9"
+    /// ```
+    ///
+    /// The test `tests::examples::replaced_once` runs this example.
+    pub fn replace<'h, R: Replacer>(&self, haystack: &'h str, rep: R) -> Result<CowStr<'h>, Error>
+        requires { R.can_append rep }
+        ensures replaced { IfOk result (λ text. IsReplacement R.fixed R.appends rep
+            (whole self.now haystack.now (limit_of 1)) (cow_str_bytes text)) }
+        ensures borrowed { IfOk result (λ text. IsAnswerOf self.now (chars haystack.now) 0 None
+            → text ≡ CowStr.Borrowed haystack.entry) }
+        ensures refused { IfErr result (λ error. (error ≡ out_of_memory)
+            ⊎ IsHandedOn R.fixed R.appends rep (whole self.now haystack.now (limit_of 1)) error) }
+    {
+        self.replacen(haystack, 1, rep)
+    }
+
+    /// The haystack with all its matches replaced.
+    ///
+    /// [`Regex::replacen`] says more.
+    ///
+    /// ```
+    /// let regex = Regex::new(alloc, "(?<first>[a-z]+) (?<last>[a-z]+)")?;
+    /// regex.replace_all("ada lovelace", "$last, $first")?; // "lovelace, ada"
+    /// ```
+    ///
+    /// The test `tests::examples::replaced` runs this example.
+    pub fn replace_all<'h, R: Replacer>(
+        &self,
+        haystack: &'h str,
+        rep: R,
+    ) -> Result<CowStr<'h>, Error>
+        requires { R.can_append rep }
+        ensures replaced { IfOk result (λ text. IsReplacement R.fixed R.appends rep
+            (whole self.now haystack.now None) (cow_str_bytes text)) }
+        ensures borrowed { IfOk result (λ text. IsAnswerOf self.now (chars haystack.now) 0 None
+            → text ≡ CowStr.Borrowed haystack.entry) }
+        ensures refused { IfErr result (λ error. (error ≡ out_of_memory)
+            ⊎ IsHandedOn R.fixed R.appends rep (whole self.now haystack.now None) error) }
+    {
+        self.replacen(haystack, 0, rep)
+    }
+
+    /// The haystack with its first matches replaced, as many as the limit says; a limit of 0 stands
+    /// for all. The matches are those of [`Regex::find_iter`].
+    ///
+    /// The replacer is asked for a fixed text once, before the first match is looked for. Where it
+    /// has none, it is asked to append a text for each match. Without a match the haystack itself is
+    /// answered.
+    ///
+    /// Condition: a closure in a [`ReplaceBy`](crate::ReplaceBy) may be called on any groups.
+    ///
+    /// # Errors
+    ///
+    /// `Memory` where a growth is refused, and the error that the replacer answers for one of the
+    /// matches that are replaced. It may have been asked for some of them by then.
+    pub fn replacen<'h, R: Replacer>(
+        &self,
+        haystack: &'h str,
+        limit: usize,
+        mut rep: R,
+    ) -> Result<CowStr<'h>, Error>
+        requires { R.can_append rep }
+        ensures replaced { IfOk result (λ text. IsReplacement R.fixed R.appends rep
+            (whole self.now haystack.now (limit_of limit)) (cow_str_bytes text)) }
+        ensures borrowed { IfOk result (λ text. IsAnswerOf self.now (chars haystack.now) 0 None
+            → text ≡ CowStr.Borrowed haystack.entry) }
+        ensures refused { IfErr result (λ error. (error ≡ out_of_memory)
+            ⊎ IsHandedOn R.fixed R.appends rep (whole self.now haystack.now (limit_of limit))
+            error) }
+    {
+        let limit = limit_of_matches(limit);
+        if let Some(text) = rep.no_expansion() {
+            return self.replace_by(haystack, limit, text);
+        }
+        self.replace_in_turn(haystack, limit, rep)
+    }
+
+    /// Replaces each match by one text.
+    fn replace_by<'h>(
+        &self,
+        haystack: &'h str,
+        limit: Option<usize>,
+        text: &str,
+    ) -> Result<CowStr<'h>, Error>
+        ensures replaced { IfOk result (λ new. IsReplacedBy text.now
+            (whole self.now haystack.now limit) (cow_str_bytes new)) }
+        ensures borrowed { IfOk result (λ new. IsAnswerOf self.now (chars haystack.now) 0 None
+            → new ≡ CowStr.Borrowed haystack.entry) }
+        ensures refused { IfErr result (λ error. error ≡ out_of_memory) }
+    {
+        Err(Error::memory())
+    }
+
+    /// Replaces each match by what the replacer appends for it.
+    fn replace_in_turn<'h, R: Replacer>(
+        &self,
+        haystack: &'h str,
+        limit: Option<usize>,
+        mut rep: R,
+    ) -> Result<CowStr<'h>, Error>
+        requires { R.can_append rep }
+        ensures replaced { IfOk result (λ new. IsReplacedInTurn R.fixed R.appends rep
+            (whole self.now haystack.now limit) (cow_str_bytes new)) }
+        ensures borrowed { IfOk result (λ new. IsAnswerOf self.now (chars haystack.now) 0 None
+            → new ≡ CowStr.Borrowed haystack.entry) }
+        ensures refused { IfErr result (λ error. (error ≡ out_of_memory)
+            ⊎ IsRefused R.fixed R.appends rep (whole self.now haystack.now limit) error) }
+    {
+        Err(Error::memory())
+    }
+}
+
+/// How many matches may be replaced, where not all may.
+fn limit_of_matches(limit: usize) -> Option<usize>
+    ensures { result ≡ limit_of limit }
+{
+    if limit == 0 { None } else { Some(limit) }
+}

@@ -1,0 +1,130 @@
+//! What stands in the place of a match.
+ghost use Rattle.std.specs.Prelude.{◌≡◌, ◌++◌, ℕ, List, Option, None, Some, ⊤, string_bytes, option_map};
+ghost use Rattle.std.specs.Borrow.{sem};
+ghost use Rattle.regex_lite.specs.Groups.{Groups};
+ghost use Rattle.regex_lite.specs.Replacing.{Answer, IsAppendedResult, IsAppendedText, Rests};
+
+use crate::string::captures::Captures;
+use regex_lite_syntax::Error;
+
+/// What stands in the place of each match that is replaced: [`Regex::replacen`](crate::Regex::replacen)
+/// asks it for a fixed text once, and where it has none, for what to append for the groups of each
+/// match.
+///
+/// Texts are replacers, and stand for themselves as templates, as [`Captures::expand`] reads them.
+/// [`NoExpand`] is a text that is none, and [`ReplaceBy`] a closure.
+pub trait Replacer: Drop {
+    /// In which states it may be asked.
+    ghost can_append: { Self → Type 0 } = { λ _. ⊤ };
+
+    /// What it may append for groups and answer, from its state before to that after.
+    ghost appends: { Self → Groups → List ℕ → Answer → Self → Type 0 };
+
+    /// What it may answer where it is asked for a fixed text, from its state before to that after.
+    ghost fixed: { Self → Option (List ℕ) → Self → Type 0 };
+
+    /// Appends what stands in the place of the match with these groups. What was there before stays,
+    /// with an error too.
+    ///
+    /// # Errors
+    ///
+    /// What the replacer answers: the provided ones only `Memory`, where a growth is refused, and a
+    /// [`ReplaceBy`] that of its closure.
+    fn replace_append(&mut self, caps: &Captures<'_>, dst: &mut String) -> Result<(), Error>
+        requires { can_append self.old }
+        ensures appended { (text : List ℕ)
+            × (string_bytes dst.new ≡ string_bytes dst.old ++ text)
+            × appends self.old caps.now text result self.new }
+        ensures again { can_append self.new };
+
+    /// A text that stands in the place of every match, if there is one.
+    fn no_expansion(&mut self) -> Option<&str>
+        requires { can_append self.old }
+        ensures* rests { sem 𝓛 (Rests Self.row self.entry (λ new. can_append new
+            × fixed self.old (option_map (λ text. text.now) result) new)) };
+
+    /// The replacer lent, so that it can be used again.
+    fn by_ref(&mut self) -> ReplacerRef<'_, Self>
+    where
+        Self: Sized,
+        ensures same_reference { result.0.ghost_name ≡ self.entry.ghost_name }
+        ensures value { result.0.now ≡ self.old }
+    {
+        ReplacerRef(self)
+    }
+}
+
+/// A replacer that is lent: [`Replacer::by_ref`] makes it.
+#[derive(Debug, Drop)]
+pub struct ReplacerRef<'a, R>(&'a mut R);
+
+impl<'a, R: Replacer> Replacer for ReplacerRef<'a, R> {
+    ghost can_append = { λ old. R.can_append old.0.now };
+
+    ghost appends = { λ old groups text answer new.
+        R.appends old.0.now groups text answer new.0.now };
+
+    ghost fixed = { λ old text new. R.fixed old.0.now text new.0.now };
+
+    fn replace_append(&mut self, caps: &Captures<'_>, dst: &mut String) -> Result<(), Error> {
+        self.0.replace_append(caps, dst)
+    }
+
+    fn no_expansion(&mut self) -> Option<&str> {
+        self.0.no_expansion()
+    }
+}
+
+/// A text that is no template: it stands as it is in the place of each match.
+#[derive(Clone, Copy, Debug)]
+pub struct NoExpand<'t>(pub &'t str);
+
+impl<'t> Replacer for NoExpand<'t> {
+    ghost appends = { λ old _ text answer new.
+        IsAppendedText old.0.now text answer × (new ≡ old) };
+
+    ghost fixed = { λ old text new. (text ≡ Some old.0.now) × (new ≡ old) };
+
+    fn replace_append(&mut self, _caps: &Captures<'_>, dst: &mut String) -> Result<(), Error> {
+        append(self.0, dst)
+    }
+
+    fn no_expansion(&mut self) -> Option<&str> {
+        Some(self.0)
+    }
+}
+
+/// A closure that makes the text for each match of its groups, or an error.
+///
+/// Condition: the closure may be called on any groups.
+#[derive(Drop)]
+pub struct ReplaceBy<F>(pub F);
+
+impl<F: Drop + FnMut(&Captures<'_>) -> Result<String, Error>> Replacer for ReplaceBy<F> {
+    ghost can_append = { λ old. F.IsAlwaysCallable old.0 };
+
+    ghost appends = { λ old groups text answer new. (caps : _) × (made : _) × (caps.now ≡ groups)
+        × F.step old.0 caps made new.0 × IsAppendedResult made text answer };
+
+    ghost fixed = { λ old text new. (text ≡ None) × (new ≡ old) };
+
+    fn replace_append(&mut self, caps: &Captures<'_>, dst: &mut String) -> Result<(), Error> {
+        match (self.0)(caps) {
+            Ok(text) => append(text.as_str(), dst),
+            Err(error) => Err(error),
+        }
+    }
+
+    fn no_expansion(&mut self) -> Option<&str> {
+        None
+    }
+}
+
+/// Appends the text.
+fn append(complete: &str, dst: &mut String) -> Result<(), Error>
+    ensures { (text : List ℕ) × (string_bytes dst.new ≡ string_bytes dst.old ++ text)
+        × IsAppendedText complete.now text result }
+{
+    dst.push_str(complete)?;
+    Ok(())
+}

@@ -1,0 +1,134 @@
+//! The pieces of a haystack between its matches.
+ghost use Rattle.std.specs.Prelude.{◌≡◌, ◌↔◌, List, ℕ, IfOk, IfErr};
+ghost use Rattle.regex_lite_syntax.specs.Errors.{out_of_memory};
+ghost use Rattle.regex_lite.specs.Pieces.{ArePieces, ArePiecesLeft, ArePiecesLeftN, ArePiecesWithin};
+
+use crate::string::find_iter::Matches;
+use crate::string::regex::Regex;
+use regex_lite_syntax::Error;
+use std::iter::FusedIterator;
+
+impl Regex {
+    /// What stands between the matches of [`Regex::find_iter`], from left to right.
+    ///
+    /// There is always one piece more than there are matches: a match at the start or at the end of
+    /// the haystack has an empty piece before or behind it.
+    ///
+    /// ```
+    /// let regex = Regex::new(alloc, " *, *")?;
+    /// for field in regex.split("name , age")? {
+    ///     field; // "name", then "age"
+    /// }
+    /// ```
+    ///
+    /// The test `tests::examples::pieces` runs this example.
+    ///
+    /// # Errors
+    ///
+    /// `Memory` where a growth is refused. The items take no memory, and are never refused.
+    pub fn split<'r, 'h>(&'r self, haystack: &'h str) -> Result<Split<'r, 'h>, Error>
+        ensures pieces { IfOk result (λ it. (list : List (List ℕ))
+            → ArePiecesLeft it list ↔ ArePieces self.now haystack.now list) }
+        ensures refused { IfErr result (λ error. error ≡ out_of_memory) }
+    {
+        Ok(Split {
+            matches: Matches::new(self, haystack, None)?,
+            is_done: false,
+        })
+    }
+
+    /// The pieces of [`Regex::split`] where they are at most so many, and else so many, of which
+    /// the last is the rest of the haystack as it is. A limit of 0 gives none.
+    ///
+    /// ```
+    /// let regex = Regex::new(alloc, " ")?;
+    /// for word in regex.splitn("a b c", 2)? {
+    ///     word; // "a", then "b c"
+    /// }
+    /// ```
+    ///
+    /// The test `tests::examples::first_pieces` runs this example.
+    ///
+    /// # Errors
+    ///
+    /// `Memory` where a growth is refused. The items take no memory, and are never refused.
+    pub fn splitn<'r, 'h>(
+        &'r self,
+        haystack: &'h str,
+        limit: usize,
+    ) -> Result<SplitN<'r, 'h>, Error>
+        ensures pieces { IfOk result (λ it. (list : List (List ℕ))
+            → ArePiecesLeftN it list ↔ ArePiecesWithin limit self.now haystack.now list) }
+        ensures refused { IfErr result (λ error. error ≡ out_of_memory) }
+    {
+        let matches = Matches::new(self, haystack, Some(limit.saturating_sub(1)))?;
+        Ok(SplitN {
+            pieces: Split {
+                matches,
+                is_done: limit == 0,
+            },
+        })
+    }
+}
+
+/// The pieces of a haystack between its matches: an iterator that [`Regex::split`] makes.
+///
+/// After the last piece it gives `None`, and goes on giving it. The pieces borrow the haystack
+/// alone, and outlive the iterator and the regex.
+#[derive(Debug, Drop)]
+pub struct Split<'r, 'h> {
+    matches: Matches<'r, 'h>,
+    is_done: bool,
+}
+
+impl<'r, 'h> Iterator for Split<'r, 'h> {
+    ghost use Rattle.regex_lite.specs.Pieces.{GivesPiece, most_pieces};
+
+    type Item = &'h str;
+
+    ghost next_gives = { GivesPiece };
+
+    ghost remaining = { most_pieces };
+
+    fn next(&mut self) -> Option<&'h str> {
+        if self.is_done {
+            return None;
+        }
+        let cursor = self.matches.cursor;
+        let from = cursor.ended.unwrap_or(0);
+        match self.matches.next() {
+            Some(found) => Some(&cursor.haystack[from..found.start()]),
+            None => {
+                self.is_done = true;
+                Some(&cursor.haystack[from..])
+            }
+        }
+    }
+}
+
+impl<'r, 'h> FusedIterator for Split<'r, 'h> {}
+
+/// At most so many pieces of a haystack: an iterator that [`Regex::splitn`] makes.
+///
+/// After the last piece it gives `None`, and goes on giving it. The pieces borrow the haystack
+/// alone, and outlive the iterator and the regex.
+#[derive(Debug, Drop)]
+pub struct SplitN<'r, 'h> {
+    pieces: Split<'r, 'h>,
+}
+
+impl<'r, 'h> Iterator for SplitN<'r, 'h> {
+    ghost use Rattle.regex_lite.specs.Pieces.{GivesPieceN, most_pieces_n};
+
+    type Item = &'h str;
+
+    ghost next_gives = { GivesPieceN };
+
+    ghost remaining = { most_pieces_n };
+
+    fn next(&mut self) -> Option<&'h str> {
+        self.pieces.next()
+    }
+}
+
+impl<'r, 'h> FusedIterator for SplitN<'r, 'h> {}
