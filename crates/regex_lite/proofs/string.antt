@@ -7,6 +7,8 @@ pub mod EqualityLemmas
 pub mod FoundLemmas
 pub mod GroupLemmas
 pub mod GroupNameLemmas
+pub mod ListLemmas
+pub mod NextLemmas
 pub mod OneTreeLemmas
 pub mod PieceLemmas
 pub mod SlotLemmas

@@ -12,6 +12,7 @@ pub mod Replacing
 pub mod Replacements
 pub mod Templates
 pub mod Laws
+pub mod ListLaws
 pub mod PieceLaws
 pub mod CaptureNames
 pub use Rattle.regex_lite_syntax.specs.Errors
@@ -23,5 +24,6 @@ pub use Rattle.regex_lite_syntax.specs.Tree.Properties
 pub use Rattle.regex_lite_engine.specs.Graph.PlaceCounts
 pub use Rattle.regex_lite_engine.specs.Graph.Size
 pub use Rattle.regex_lite_engine.specs.Search
--- What every regex keeps.
+-- What every regex keeps, and what is told behind a match.
 pub mod Compiled
+pub mod NextMatch

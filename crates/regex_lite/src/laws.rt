@@ -1,7 +1,8 @@
-//! Laws of what searches tell, of pieces and replacements, and of equality. Each function does
-//! nothing: its contract is the law.
+//! Laws of what searches tell, of match lists, pieces and replacements, and of equality. Each
+//! function does nothing: its contract is the law.
 ghost use Rattle.std.specs.Cmp.{IsEquivalence};
 ghost use Rattle.regex_lite.specs.Laws.{MatchesAreTheirSpans, SearchesAgree};
+ghost use Rattle.regex_lite.specs.ListLaws.{MatchesAreApart, OneMatchList};
 ghost use Rattle.regex_lite.specs.MatchViews.{is_same_match};
 ghost use Rattle.regex_lite.specs.PieceLaws.{FixedTextIsTemplate, LentReplacersReplaceAlike, OnePieceList, PiecesAndMatches, WholeMatchesGiveHaystack};
 
@@ -11,6 +12,13 @@ use crate::Replacer;
 /// and the match that is found is group 0.
 pub fn searches_agree()
     ensures { SearchesAgree }
+{}
+
+/// The matches of a haystack don't overlap, their ends strictly grow, and they are at most one more
+/// than its characters. A haystack has one list of them.
+pub fn matches_are_apart()
+    ensures apart { MatchesAreApart }
+    ensures one_list { OneMatchList }
 {}
 
 /// The pieces of a haystack are one more than its matches, and pieces and matches in turn give the

@@ -12,6 +12,7 @@ mod find_iter;
 mod group_search;
 mod locations;
 mod matches;
+mod next_search;
 mod properties;
 mod regex;
 mod replace;

@@ -1,3 +1,4 @@
 -- lemmas that several modules use
 pub mod ArrowBoundLemmas
 pub mod OffsetLemmas
+pub mod PositionLemmas

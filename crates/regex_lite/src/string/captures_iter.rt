@@ -5,6 +5,7 @@ ghost use Rattle.regex_lite.specs.Ahead.{groups_ahead_of, whole};
 
 use crate::string::captures::Captures;
 use crate::string::cursor::Cursor;
+use crate::string::next_search::{end_of, next_groups};
 use crate::string::regex::Regex;
 use crate::string::searcher::GroupSearcher;
 use regex_lite_syntax::Error;
@@ -78,7 +79,23 @@ impl<'r, 'h> Iterator for CaptureMatches<'r, 'h> {
     ghost remaining = { most_groups };
 
     fn next(&mut self) -> Option<Result<Captures<'h>, Error>> {
-        None
+        if self.cursor.is_over() {
+            return None;
+        }
+        match next_groups(&mut self.searcher, self.cursor.haystack, self.cursor.ended) {
+            Ok(Some(caps)) => {
+                self.cursor = self.cursor.behind(end_of(&caps));
+                Some(Ok(caps))
+            }
+            Ok(None) => {
+                self.cursor = self.cursor.at_end();
+                None
+            }
+            Err(error) => {
+                self.cursor = self.cursor.at_end();
+                Some(Err(error))
+            }
+        }
     }
 }
 

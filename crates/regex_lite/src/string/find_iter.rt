@@ -1,10 +1,11 @@
 //! The matches of a haystack, one after another.
-ghost use Rattle.std.specs.Prelude.{◌≡◌, ◌==◌, ◌&&◌, None, IfOk, IfErr, IfSome};
+ghost use Rattle.std.specs.Prelude.{◌≡◌, None, IfOk, IfErr};
 ghost use Rattle.regex_lite_syntax.specs.Errors.{out_of_memory};
 ghost use Rattle.regex_lite.specs.Ahead.{ahead_of, whole};
 
 use crate::string::cursor::Cursor;
 use crate::string::matches::Match;
+use crate::string::next_search::next_match;
 use crate::string::regex::Regex;
 use crate::string::searcher::Searcher;
 use regex_lite_syntax::Error;
@@ -76,7 +77,19 @@ impl<'r, 'h> Iterator for Matches<'r, 'h> {
     ghost remaining = { most_matches };
 
     fn next(&mut self) -> Option<Match<'h>> {
-        None
+        if self.cursor.is_over() {
+            return None;
+        }
+        match next_match(&mut self.searcher, self.cursor.haystack, self.cursor.ended) {
+            Some(found) => {
+                self.cursor = self.cursor.behind(found.end());
+                Some(found)
+            }
+            None => {
+                self.cursor = self.cursor.at_end();
+                None
+            }
+        }
     }
 }
 

@@ -1,0 +1,29 @@
+-- Laws of match lists.
+use Rattle.std.specs.Prelude.{◌≡◌, ◌≤◌, ◌<◌, ◌+◌, ℕ, List, [], ◌∷◌, Option, Some, None, length}
+use Rattle.regex_lite_syntax.specs.Text.{Text}
+use Rattle.regex_lite_engine.specs.Search.Answer.{Found}
+use Rattle.regex_lite.specs.Expression.{Expression}
+use Rattle.regex_lite.specs.MatchList.{AreMatches}
+
+-- a match starts where the last one ended or later, and ends later
+abbrev pub Follows : (ended : Option ℕ) → Found → Type 0
+Follows None found = Unit {0}
+Follows (Some e) found = (e ≤ found.start) × (e < found.end)
+
+-- none overlaps the one before it, and the ends strictly grow
+abbrev pub AreApart : (ended : Option ℕ) → List Found → Type 0
+AreApart ended [] = Unit {0}
+AreApart ended (found ∷ list) =
+    Follows ended found × (found.start ≤ found.end) × AreApart (Some found.end) list
+
+-- the matches of a haystack are apart, and they are at most one more than its characters
+abbrev pub MatchesAreApart : Type 0
+MatchesAreApart =
+    (re : Expression) (haystack : Text) (list : List Found) → AreMatches re haystack None list
+    → AreApart None list × (length list ≤ length haystack + 1)
+
+-- a haystack has one list of matches
+abbrev pub OneMatchList : Type 0
+OneMatchList =
+    (re : Expression) (haystack : Text) (list other : List Found)
+    → AreMatches re haystack None list → AreMatches re haystack None other → list ≡ other
