@@ -28,14 +28,14 @@ pub fn pieces_and_matches_are_the_haystack()
     ensures one_list { OnePieceList }
 {}
 
-/// Matches that are replaced by the template `$0` stay as they are. Here `R` is any text that is a
-/// template, by the relations that all of these have as replacers.
+/// Matches that are replaced by the template `$0` stay as they are. Here `R` is any text, by the
+/// relations that each of them has as a replacer.
 pub fn whole_matches_give_the_haystack<R>()
     ensures { WholeMatchesGiveHaystack R }
 {}
 
-/// A template without a `$` is the same as a fixed text and as a template: in the place of the
-/// matches both give one text.
+/// Where a text has no `$`, replacing each match by the text as it stands gives the same as
+/// replacing it by what the text gives as a template. Here `R` is as above.
 pub fn fixed_text_is_template<R>()
     ensures { FixedTextIsTemplate R }
 {}

@@ -1,14 +1,13 @@
 -- What comes next stands behind what came before, and is one.
-use Rattle.std.proofs.Common.{◌≡◌, ◌≤◌, ◌-◌, ℕ, zero, suc, Bool, true, false, MatchBool, List, [], ◌∷◌, Option, Some, None, chars, unwrap_or, refl, sym, ap, ◌∙◌, subst, arith}
+use Rattle.std.proofs.Common.{◌≡◌, ◌≤◌, ℕ, zero, suc, Bool, true, false, MatchBool, List, [], ◌∷◌, Option, Some, None, chars, unwrap_or, refl, sym, ap, ◌∙◌, subst, arith}
 use Rattle.regex_lite_syntax.specs.Text.{Text}
-use Rattle.regex_lite_engine.specs.Search.Answer.{Found, IsAnswer}
+use Rattle.regex_lite_engine.specs.Search.Answer.{Found}
 use Rattle.regex_lite_engine.specs.Search.Marks.{span}
 use Rattle.regex_lite_engine.proofs.laws.PatternTreeLemmas.{regular_tree}
-use Rattle.regex_lite_engine.proofs.laws.answer.AnswerLemmas.{one_answer}
 use Rattle.regex_lite_engine.proofs.laws.groups.SpanLemmas.{groups_inside}
 use Rattle.regex_lite.specs.Expression.{Expression}
 use Rattle.regex_lite.specs.MatchList.{AreFirst, AreWithin, IsAnswerOf, IsNext, is_empty_at, one_less}
-use Rattle.regex_lite.proofs.string.OneTreeLemmas.{one_tree}
+use Rattle.regex_lite.proofs.string.ListLemmas.{one_next}
 use Rattle.regex_lite.proofs.string.ToldLemmas.{not_there, same_some}
 
 -- it starts at position s or later and ends no earlier than it starts, and group 0 is all of it
@@ -45,27 +44,6 @@ module _ (re : Expression) (haystack : Text) where
   next_stands (Some e) found (from_end, there, next) =
       behind e found from_end (is_empty_at e from_end) there next
 
-  same_answer : (s : ℕ) (a b : Option Found) → IsAnswerOf re haystack s a
-      → IsAnswerOf re haystack s b → a ≡ b
-  same_answer s a b (tree, given, is) (other, given_too, is_too) =
-      let one = one_tree re.flags (chars re.pattern) other tree given_too given in
-      one_answer tree haystack (regular_tree tree (re.flags, _, given)) s a b is
-      (subst (λ t. IsAnswer t haystack s b) one is_too)
-
-  same_behind : (e : ℕ) (from_end a b : Option Found) (empty : Bool)
-      → MatchBool empty (IsAnswerOf re haystack (suc e) a) (a ≡ from_end)
-      → MatchBool empty (IsAnswerOf re haystack (suc e) b) (b ≡ from_end) → a ≡ b
-  same_behind e from_end a b true p q = same_answer (suc e) a b p q
-  same_behind e from_end a b false p q = p ∙ sym q
-
-  same_next : (ended : Option ℕ) (a b : Option Found) → IsNext re haystack ended a
-      → IsNext re haystack ended b → a ≡ b
-  same_next None a b p q = same_answer 0 a b p q
-  same_next (Some e) a b (x, there, p) (y, there_too, q) =
-      let one = same_answer e y x there_too there in
-      same_behind e x a b (is_empty_at e x) p
-      (subst (λ o. MatchBool (is_empty_at e o) (IsAnswerOf re haystack (suc e) b) (b ≡ o)) one q)
-
   -- the first of a list that is up to a limit, and those behind it
   pub within_first : (limit ended : Option ℕ) (found : Found) (list : List Found)
       → AreWithin re haystack limit ended (found ∷ list)
@@ -85,10 +63,10 @@ module _ (re : Expression) (haystack : Text) where
   none_or_some : (limit ended : Option ℕ) (found : Found) (list : List Found)
       → AreWithin re haystack limit ended [] → AreWithin re haystack limit ended (found ∷ list) → ⊥
   none_or_some None ended found list none (next, rest) =
-      not_there (same_next ended None (Some found) none next)
+      not_there (one_next re haystack ended None (Some found) none next)
   none_or_some (Some zero) ended found list none are = absurd cc
   none_or_some (Some (suc k)) ended found list none (next, rest) =
-      not_there (same_next ended None (Some found) none next)
+      not_there (one_next re haystack ended None (Some found) none next)
 
   -- there is one such list
   pub same_within : (limit ended : Option ℕ) (list other : List Found)
@@ -100,7 +78,7 @@ module _ (re : Expression) (haystack : Text) where
   same_within limit ended (f ∷ list) (g ∷ other) p q =
       let a = within_first limit ended f list p in
       let b = within_first limit ended g other q in
-      let one : f ≡ g = same_some (same_next ended (Some f) (Some g) a.0 b.0) in
+      let one : f ≡ g = same_some (one_next re haystack ended (Some f) (Some g) a.0 b.0) in
       let rest = same_within (one_less limit) (Some g.end) list other
       (subst (λ (x : Found). AreWithin re haystack (one_less limit) (Some x.end) list) one a.1) b.1 in
       ap (λ x. x ∷ list) one ∙ ap (λ l. g ∷ l) rest

@@ -80,7 +80,8 @@ module _ (re : Expression) (haystack : Text) where
       (subst (λ t. IsAnswer t haystack s b)
       (one_tree re.flags (chars re.pattern) other tree given_too given) is_too)
 
-  one_next : (ended : Option ℕ) (a b : Option Found) → IsNext re haystack ended a
+  -- one at most comes next
+  pub one_next : (ended : Option ℕ) (a b : Option Found) → IsNext re haystack ended a
       → IsNext re haystack ended b → a ≡ b
   one_next None a b p q = one_of 0 a b p q
   one_next (Some e) a b (f, is, p) (g, is_too, q) =

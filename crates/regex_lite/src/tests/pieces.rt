@@ -1,7 +1,6 @@
 //! Pieces, one after another.
 use crate::{Error, Regex};
 use std::alloc::Global;
-use std::process::Abort;
 use std::test::Fail;
 
 /// A pattern, a haystack, and its pieces.
@@ -14,7 +13,7 @@ const ROWS: [Row; 8] = [
     ("", "", &["", ""]),
     ("b", "a", &["a"]),
     ("a*", "aab", &["", "b", ""]),
-    ("[^\\w]+", "é, ü", &["é", "ü"]),
+    ("[, ]+", "é, ü", &["é", "ü"]),
     ("(?i)(?<y>[a-c]{1,2})-|(x)", "aB-x", &["", "", ""]),
 ];
 
@@ -30,26 +29,37 @@ const LIMIT_ROWS: [LimitRow; 6] = [
     (usize::MAX, &["", "a", ""]),
 ];
 
-/// These come, and then nothing, again and again.
-fn expect_pieces<'h, H: Abort + AllocGlobal, I: Drop + Iterator<Item = &'h str>>(
-    rt: &H,
-    name: &str,
-    mut pieces: I,
-    wanted: &[&str],
-) {
-    for text in wanted {
-        assert_eq!(rt; pieces.next(), Some(*text), "{name:?}");
+/// All pieces, in a row.
+fn split<'h>(alloc: Global, regex: &Regex, haystack: &'h str) -> Result<Vec<&'h str>, Error> {
+    let mut pieces = Vec::new(alloc);
+    for piece in regex.split(haystack)? {
+        pieces.push(piece)?;
     }
-    assert_eq!(rt; pieces.next(), None, "{name:?}");
-    assert_eq!(rt; pieces.next(), None, "{name:?}");
+    Ok(pieces)
+}
+
+/// The pieces within a limit, in a row.
+fn splitn<'h>(
+    alloc: Global,
+    regex: &Regex,
+    haystack: &'h str,
+    limit: usize,
+) -> Result<Vec<&'h str>, Error> {
+    let mut pieces = Vec::new(alloc);
+    for piece in regex.splitn(haystack, limit)? {
+        pieces.push(piece)?;
+    }
+    Ok(pieces)
 }
 
 #[test]
 fn rows(rt: HostRuntime) -> Result<(), Fail> {
     for (pattern, haystack, wanted) in ROWS {
         let regex = Regex::new(rt.alloc(), pattern)?;
-        expect_pieces(&rt, pattern, regex.split(haystack)?, wanted);
-        expect_pieces(&rt, pattern, regex.splitn(haystack, usize::MAX)?, wanted);
+        let pieces = split(rt.alloc(), &regex, haystack)?;
+        assert_eq!(rt; pieces.as_slice(), wanted, "{pattern:?}");
+        let pieces = splitn(rt.alloc(), &regex, haystack, usize::MAX)?;
+        assert_eq!(rt; pieces.as_slice(), wanted, "{pattern:?}");
     }
     Ok(())
 }
@@ -58,12 +68,28 @@ fn rows(rt: HostRuntime) -> Result<(), Fail> {
 fn limits(rt: HostRuntime) -> Result<(), Fail> {
     let regex = Regex::new(rt.alloc(), ",")?;
     for (limit, wanted) in LIMIT_ROWS {
-        expect_pieces(&rt, ",", regex.splitn(",a,", limit)?, wanted);
+        let pieces = splitn(rt.alloc(), &regex, ",a,", limit)?;
+        assert_eq!(rt; pieces.as_slice(), wanted, "{limit}");
     }
     Ok(())
 }
 
-/// The first piece of two that lie at a comma, which outlives the iterator and the regex.
+/// After the last piece none comes, however often it is asked for.
+#[test]
+fn fused(rt: HostRuntime) -> Result<(), Fail> {
+    let regex = Regex::new(rt.alloc(), ",")?;
+    let mut all = regex.split("a")?;
+    assert_eq!(rt; all.next(), Some("a"));
+    assert_eq!(rt; all.next(), None);
+    assert_eq!(rt; all.next(), None);
+    let mut one = regex.splitn("a,", 1)?;
+    assert_eq!(rt; one.next(), Some("a,"));
+    assert_eq!(rt; one.next(), None);
+    assert_eq!(rt; one.next(), None);
+    Ok(())
+}
+
+/// The first piece at commas, where both calls agree on it. It outlives the iterators and the regex.
 fn first_piece<'h>(alloc: Global, haystack: &'h str) -> Result<Option<&'h str>, Error> {
     let regex = Regex::new(alloc, ",")?;
     let mut all = regex.split(haystack)?;
