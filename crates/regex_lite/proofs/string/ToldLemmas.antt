@@ -31,7 +31,7 @@ not_there e = cc
 same_pair : {a b i j : ℕ} → a ≡ i → b ≡ j → ◌≡◌ {A = ℕ × ℕ} (a, b) (i, j)
 same_pair {a} {b} {i} {j} start end = rw (start, end) refl
 
--- what a search of the graph tells, whatever its tree
+-- what a search of the graph tells, whatever its tree: an outcome, or a span with its slots
 abbrev pub TellsOutcome : StoredGraph → (bytes : List ℕ) → (start : ℕ) → Option Outcome → Type 0
 TellsOutcome graph bytes start told =
     (tree : Tree) → IsRegular tree → IsGraphOf tree graph → IsOutcome tree bytes start told
@@ -41,7 +41,7 @@ abbrev pub TellsSpan : StoredGraph → (bytes : List ℕ) → (start : ℕ) → 
 TellsSpan graph bytes start slots told =
     (tree : Tree) → IsRegular tree → IsGraphOf tree graph → IsSpanOutcome tree bytes start slots told
 
--- it is what the search of this tree's graph tells
+-- what is told of a regex's graph is so of its tree
 pub outcome_of : (compiled : Compiled) (built : IsBuilt compiled) (graph : StoredGraph)
     (bytes : List ℕ) (start : ℕ) (told : Option Outcome) (outcome : Outcome)
     → graph ≡ compiled.graph → TellsOutcome graph bytes start told → told ≡ Some outcome
@@ -50,7 +50,7 @@ outcome_of compiled built graph bytes start told outcome same tells is =
     subst (λ o. IsOutcome built.tree bytes start o) is
     (tells built.tree built.regular (subst (λ g. IsGraphOf built.tree g) (sym same) built.graph))
 
--- so it is of a searcher
+-- and what a searcher tells of the pattern's
 pub span_of : (re : Expression) (searcher : Searching) (bytes : List ℕ) (start : ℕ)
     (slots : List (Option ℕ)) (told : Option (ℕ × ℕ)) → SearchesFor re searcher
     → TellsSpan searcher.graph bytes start slots told
@@ -58,7 +58,7 @@ pub span_of : (re : Expression) (searcher : Searching) (bytes : List ℕ) (start
 span_of re searcher bytes start slots told (tree, given, (regular, is_graph)) tells =
     (tree, given, tells tree regular is_graph)
 
--- and of one for groups, with a copy of its slots
+-- a searcher for groups, and a copy of the slots after a search
 module _ (re : Expression) (old new : Searching) (for_groups : SearchesForGroups re old)
     (slots : List (Option ℕ)) (copied : slots ≡ new.slots) where
   pub copy_of : (bytes : List ℕ) (start : ℕ) (told : Option (ℕ × ℕ)) (span : ℕ × ℕ)

@@ -50,6 +50,7 @@ impl<'r> Searcher<'r> {
     }
 }
 
+/// Writes the regex.
 impl<'r> fmt::Debug for Searcher<'r> {
     fn fmt<W: fmt::Write>(&self, f: &mut fmt::Formatter<W>) -> fmt::Result {
         write!(f, "{:?}", self.regex)
@@ -108,6 +109,7 @@ impl<'r> GroupSearcher<'r> {
     }
 }
 
+/// Writes the regex.
 impl<'r> fmt::Debug for GroupSearcher<'r> {
     fn fmt<W: fmt::Write>(&self, f: &mut fmt::Formatter<W>) -> fmt::Result {
         write!(f, "{:?}", self.regex)

@@ -1,7 +1,5 @@
-use Rattle.std.proofs.Common.{ap, chars, Some}
+use Rattle.std.proofs.Common.{ap, chars}
 use Rattle.regex_lite_syntax.specs.Grammar.{IsTree}
-use Rattle.regex_lite_engine.specs.Search.Outcomes.{IsSpanOutcome}
-use Rattle.regex_lite.specs.Expression.{OfTree}
 use Rattle.regex_lite.proofs.string.ToldLemmas.{match_told, outcome_of, span_lies}
 use Rattle.regex_lite.proofs.string.regex.Regex.find_counted_at.Goals as goal
 

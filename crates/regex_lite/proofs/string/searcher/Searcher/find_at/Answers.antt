@@ -1,7 +1,7 @@
-use Rattle.std.proofs.Common.{Some, subst}
+use Rattle.std.proofs.Common.{subst}
 use Rattle.regex_lite_engine.specs.Search.Outcomes.{IsSpanOutcome}
 use Rattle.regex_lite.specs.Expression.{OfTree}
-use Rattle.regex_lite.proofs.string.ToldLemmas.{match_told, span_lies, span_of}
+use Rattle.regex_lite.proofs.string.ToldLemmas.{span_lies, span_of}
 use Rattle.regex_lite.proofs.string.searcher.Searcher.find_at.Goals as goal
 
 pub new-requires : goal.new-requires
