@@ -13,6 +13,7 @@ mod limits;
 mod looks;
 mod matching;
 mod refusals;
+mod replacements;
 mod searches;
 mod setters;
 mod sizes;

@@ -1,4 +1,6 @@
 //! The examples of the documentation.
+mod replacing;
+
 use crate::{Regex, RegexBuilder};
 use std::test::Fail;
 
