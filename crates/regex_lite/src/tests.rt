@@ -15,6 +15,7 @@ mod looks;
 mod matching;
 mod pieces;
 mod refusals;
+mod replacements;
 mod searches;
 mod setters;
 mod sizes;

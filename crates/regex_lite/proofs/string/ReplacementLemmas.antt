@@ -37,7 +37,7 @@ passed_on text start old new found from to span made written so_far passes is at
     (record {
       on = λ list are.
           let rest : ℕ × ℕ → List ℕ = λ own. replaced_by text start.haystack own.1
-              (map (found_span (chars start.haystack)) list) in
+          (map (found_span (chars start.haystack)) list) in
           subst (IsReplacedBy text start)
           (ap (λ (own : ℕ × ℕ). made ++ (slice_range start.haystack from own.0 ++ text ++ rest own)) (sym is)
           ∙ sym (together made (slice_range start.haystack from span.0) text (rest span)))

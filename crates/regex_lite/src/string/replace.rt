@@ -24,7 +24,7 @@ impl Regex {
     /// regex.replace("7 of 9", "no. $0")?; // "no. 7 of 9"
     /// ```
     ///
-    /// The test `tests::examples::replaced_once` runs this example.
+    /// The test `tests::examples::replacing::replaced_once` runs this example.
     pub fn replace<'h, R: Replacer>(&self, haystack: &'h str, rep: R) -> Result<CowStr<'h>, Error>
         requires { R.can_append rep }
         ensures replaced { IfOk result (λ text. IsReplacement R.fixed R.appends rep
@@ -48,7 +48,7 @@ impl Regex {
     /// regex.replace_all("ada lovelace", "$last, $first")?; // "lovelace, ada"
     /// ```
     ///
-    /// The test `tests::examples::replaced` runs this example.
+    /// The test `tests::examples::replacing::replaced` runs this example.
     pub fn replace_all<'h, R: Replacer>(
         &self,
         haystack: &'h str,
@@ -72,7 +72,14 @@ impl Regex {
     ///
     /// The replacer is asked for a fixed text once, before the first match is looked for. Where it
     /// has none, it is asked to append a text for each match. Without a match the haystack itself is
-    /// answered.
+    /// answered, and with one a text of its own.
+    ///
+    /// ```
+    /// let regex = Regex::new(alloc, " +")?;
+    /// regex.replacen("to be  or not", 2, "_")?; // "to_be_or not"
+    /// ```
+    ///
+    /// The test `tests::examples::replacing::replaced_within` runs this example.
     ///
     /// Condition: a closure in a [`ReplaceBy`](crate::ReplaceBy) may be called on any groups.
     ///

@@ -76,6 +76,13 @@ impl<'a, R: Replacer> Replacer for ReplacerRef<'a, R> {
 }
 
 /// A text that is no template: it stands as it is in the place of each match.
+///
+/// ```
+/// let regex = Regex::new(alloc, "(?<sum>[0-9]+) dollars")?;
+/// regex.replace("5 dollars", NoExpand("$sum"))?; // "$sum"
+/// ```
+///
+/// The test `tests::examples::replacing::not_expanded` runs this example.
 #[derive(Clone, Copy, Debug)]
 pub struct NoExpand<'t>(pub &'t str);
 
@@ -95,6 +102,17 @@ impl<'t> Replacer for NoExpand<'t> {
 }
 
 /// A closure that makes the text for each match of its groups, or an error.
+///
+/// ```
+/// let regex = Regex::new(alloc, "[a-z]+")?;
+/// let lengths = ReplaceBy(|caps: &Captures<'_>| -> Result<String, Error> {
+///     let len = caps.get(0).map_or(0, |m| m.len());
+///     Ok(format!(in alloc; "{len}")?)
+/// });
+/// regex.replace_all("to be, or not", lengths)?; // "2 2, 2 3"
+/// ```
+///
+/// The test `tests::examples::replacing::replaced_by_closure` runs this example.
 ///
 /// Condition: the closure may be called on any groups.
 #[derive(Drop)]

@@ -1,4 +1,6 @@
 //! The examples of the documentation.
+mod replacing;
+
 use crate::{Regex, RegexBuilder, escape};
 use std::test::Fail;
 
