@@ -167,7 +167,7 @@ module _ {A : Type 0} (says : Tree → Found → A → Type 0) (means : Found �
               ),
               own,
               ap (position_at bytes) end
-              ∙ position_of bytes utf8 found.end (offset (chars bytes) found.end) (within.inside, refl),
+                  ∙ position_of bytes utf8 found.end (offset (chars bytes) found.end) (within.inside, refl),
               (omega (arith, start, from), later),
             )
 
@@ -232,6 +232,6 @@ pub groups_meant : (re : Expression) (bytes : List ℕ)
 groups_meant re bytes tree s found told given is of = (
   (tree, given, of),
   ap (λ spans. unwrap_or (span_at spans 0) (0, 0)) of.spans
-  ∙ ap (λ own. unwrap_or own (0, 0))
-  (group_0 (chars bytes) tree s found (captures_len tree) (re.flags, _, given) is (omega arith)),
+      ∙ ap (λ own. unwrap_or own (0, 0))
+      (group_0 (chars bytes) tree s found (captures_len tree) (re.flags, _, given) is (omega arith)),
 )
