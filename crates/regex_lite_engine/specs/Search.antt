@@ -5,4 +5,5 @@ pub mod Answer
 pub mod PreferenceList
 pub mod Offsets
 pub mod Outcomes
+pub mod Searching
 pub mod Bounds

@@ -13,4 +13,5 @@ mod pikevm;
 
 pub use nfa::Graph;
 pub use pikevm::search::Outcome;
+pub use pikevm::searcher::Searcher;
 pub use pikevm::steps::Steps;

@@ -13,6 +13,7 @@ mod pass;
 pub(crate) mod rows;
 mod run;
 pub(crate) mod search;
+pub(crate) mod searcher;
 mod seen;
 mod shortest;
 mod skip;

@@ -7,11 +7,13 @@ use Rattle.regex_lite_syntax.specs.Grammar.{IsTree}
 use Rattle.regex_lite_engine.specs.declared.pikevm.search.Outcome.{Outcome}
 use Rattle.regex_lite_engine.specs.Graph.Renumbered.{IsGraphOf}
 use Rattle.regex_lite_engine.specs.Graph.Stored.{StoredGraph}
+use Rattle.regex_lite_engine.specs.Search.Answer.{Found}
 use Rattle.regex_lite_engine.specs.Search.Offsets.{search_start}
-use Rattle.regex_lite_engine.specs.Search.Outcomes.{IsOutcome}
+use Rattle.regex_lite_engine.specs.Search.Outcomes.{IsSpanOutcome, IsOutcome}
+use Rattle.regex_lite_engine.specs.Search.Searching.{Searching}
 use Rattle.regex_lite.specs.declared.string.compiled.Compiled.{Compiled}
 use Rattle.regex_lite.specs.declared.string.matches.Match.{Match}
-use Rattle.regex_lite.specs.Compiled.{IsBuilt, groups_of}
+use Rattle.regex_lite.specs.Compiled.{IsBuilt, SearchesFor, SearchesForGroups, groups_of}
 use Rattle.regex_lite.specs.Expression.{Expression, OfTree}
 use Rattle.regex_lite.specs.Groups.{Groups, AreGroups, LiesIn, group_span, span_at}
 use Rattle.regex_lite.specs.MatchViews.{haystack_of_match, span_of_match}
@@ -34,74 +36,115 @@ abbrev pub TellsOutcome : StoredGraph → (bytes : List ℕ) → (start : ℕ) �
 TellsOutcome graph bytes start told =
     (tree : Tree) → IsRegular tree → IsGraphOf tree graph → IsOutcome tree bytes start told
 
+abbrev pub TellsSpan : StoredGraph → (bytes : List ℕ) → (start : ℕ) → (slots : List (Option ℕ))
+    → Option (ℕ × ℕ) → Type 0
+TellsSpan graph bytes start slots told =
+    (tree : Tree) → IsRegular tree → IsGraphOf tree graph → IsSpanOutcome tree bytes start slots told
+
 -- it is what the search of this tree's graph tells
-outcome_of : (tree : Tree) (graph stored : StoredGraph) (bytes : List ℕ) (start : ℕ)
-    (told : Option Outcome) (outcome : Outcome) → IsRegular tree → IsGraphOf tree stored
-    → graph ≡ stored → TellsOutcome graph bytes start told → told ≡ Some outcome
-    → IsOutcome tree bytes start (Some outcome)
-outcome_of tree graph stored bytes start told outcome regular is_graph same tells is =
-    subst (λ o. IsOutcome tree bytes start o) is
-    (tells tree regular (subst (λ g. IsGraphOf tree g) (sym same) is_graph))
+pub outcome_of : (compiled : Compiled) (built : IsBuilt compiled) (graph : StoredGraph)
+    (bytes : List ℕ) (start : ℕ) (told : Option Outcome) (outcome : Outcome)
+    → graph ≡ compiled.graph → TellsOutcome graph bytes start told → told ≡ Some outcome
+    → IsOutcome built.tree bytes start (Some outcome)
+outcome_of compiled built graph bytes start told outcome same tells is =
+    subst (λ o. IsOutcome built.tree bytes start o) is
+    (tells built.tree built.regular (subst (λ g. IsGraphOf built.tree g) (sym same) built.graph))
 
-module _ (bytes : List ℕ) (utf8 : IsUtf8 bytes) (start : ℕ) (compiled : Compiled)
-    (built : IsBuilt compiled) (graph : StoredGraph) (same : graph ≡ compiled.graph)
-    (told : Option Outcome) (tells : TellsOutcome graph bytes start told) (outcome : Outcome)
-    (is : told ≡ Some outcome) where
-  abbrev own : IsOutcome built.tree bytes start (Some outcome)
-  own = outcome_of built.tree graph compiled.graph bytes start told outcome built.regular
-      built.graph same tells is
+-- so it is of a searcher
+pub span_of : (re : Expression) (searcher : Searching) (bytes : List ℕ) (start : ℕ)
+    (slots : List (Option ℕ)) (told : Option (ℕ × ℕ)) → SearchesFor re searcher
+    → TellsSpan searcher.graph bytes start slots told
+    → OfTree re (λ tree. IsSpanOutcome tree bytes start slots told)
+span_of re searcher bytes start slots told (tree, given, (regular, is_graph)) tells =
+    (tree, given, tells tree regular is_graph)
 
-  span_is : offsets (chars bytes) (own.0.start, own.0.end) ≡ (outcome.start, outcome.end)
-  span_is = same_pair (sym own.2.start) (sym own.2.end)
+-- and of one for groups, with a copy of its slots
+module _ (re : Expression) (old new : Searching) (for_groups : SearchesForGroups re old)
+    (slots : List (Option ℕ)) (copied : slots ≡ new.slots) where
+  pub copy_of : (bytes : List ℕ) (start : ℕ) (told : Option (ℕ × ℕ)) (span : ℕ × ℕ)
+      → TellsSpan old.graph bytes start new.slots told → told ≡ Some span
+      → OfTree re (λ tree. IsSpanOutcome tree bytes start slots (Some span))
+  copy_of bytes start told span tells is =
+      subst (λ held. OfTree re (λ tree. IsSpanOutcome tree bytes start held (Some span))) (sym copied)
+      (subst (λ t. OfTree re (λ tree. IsSpanOutcome tree bytes start new.slots t)) is
+      (span_of re old bytes start new.slots told for_groups.0 tells))
 
-  -- the match of the outcome lies in the haystack
-  pub outcome_lies : LiesIn bytes (outcome.start, outcome.end)
-  outcome_lies =
+  pub copy_len : (tree : Tree) → IsTree re.flags (chars re.pattern) tree
+      → length new.slots ≡ length old.slots → length slots ≡ 2 * captures_len tree
+  copy_len tree given len =
+      let own = for_groups.1 in
+      ap length copied ∙ len ∙ own.2
+      ∙ ap (λ t. 2 * captures_len t) (one_tree re.flags (chars re.pattern) own.0 tree own.1 given)
+
+-- a searcher goes on searching for the groups
+pub still_for_groups : (re : Expression) (old new : Searching) → new.graph ≡ old.graph
+    → length new.slots ≡ length old.slots → SearchesForGroups re old → SearchesForGroups re new
+still_for_groups re old new graph len ((tree, given, (regular, is_graph)), (own, given_too, all)) = (
+  (tree, given, (regular, subst (λ g. IsGraphOf tree g) (sym graph) is_graph)),
+  (own, given_too, len ∙ all),
+)
+
+module _ (bytes : List ℕ) (utf8 : IsUtf8 bytes) (start : ℕ) (re : Expression) (span : ℕ × ℕ)
+    (slots : List (Option ℕ))
+    (own : OfTree re (λ tree. IsSpanOutcome tree bytes start slots (Some span))) where
+  abbrev found : Found
+  found = own.2.0
+
+  span_is : offsets (chars bytes) (found.start, found.end) ≡ span
+  span_is = same_pair (sym own.2.2.start) (sym own.2.2.end)
+
+  -- the match lies in the haystack
+  pub span_lies : LiesIn bytes span
+  span_lies =
       subst (LiesIn bytes) span_is
-      (found_lies bytes utf8 built.tree (compiled.flags, _, built.given)
-      (search_start bytes start) own.0 own.1)
+      (found_lies bytes utf8 own.0 (re.flags, _, own.1) (search_start bytes start) found own.2.1)
 
   -- it is what is told
-  pub match_told : (re : Expression) → IsTree re.flags (chars re.pattern) built.tree → (m : Match)
-      → haystack_of_match m ≡ bytes → span_of_match m ≡ (outcome.start, outcome.end)
+  pub match_told : (m : Match) → haystack_of_match m ≡ bytes → span_of_match m ≡ span
       → TellsMatch re bytes start (Some m)
-  match_told re given m haystack span = (
-    built.tree,
-    given,
+  match_told m haystack is = (
+    own.0,
+    own.1,
     (
-      own.0,
-      own.1,
+      found,
+      own.2.1,
       record {
         haystack = haystack;
-        span = span ∙ sym span_is;
+        span = is ∙ sym span_is;
       },
     ),
   )
 
-  module _ (len : length outcome.slots.items ≡ 2 * captures_len built.tree) (shared : Compiled)
-      (same_compiled : shared ≡ compiled) where
-    -- its slots hold groups
-    pub groups_are : AreGroups (groups_of bytes outcome.slots.items shared)
+  module _ (compiled : Compiled) (built : IsBuilt compiled)
+      (given : IsTree re.flags (chars re.pattern) built.tree)
+      (len : length slots ≡ 2 * captures_len built.tree) (shared : Compiled)
+      (same : shared ≡ compiled) where
+    of_built : IsSpanOutcome built.tree bytes start slots (Some span)
+    of_built =
+        subst (λ tree. IsSpanOutcome tree bytes start slots (Some span))
+        (one_tree re.flags (chars re.pattern) own.0 built.tree own.1 given) own.2
+
+    -- the slots hold groups
+    pub groups_are : AreGroups (groups_of bytes slots shared)
     groups_are =
-        subst (λ c. AreGroups (groups_of bytes outcome.slots.items c)) (sym same_compiled)
-        (captured bytes utf8 compiled built outcome.slots.items (search_start bytes start) own.0
-        own.1 own.2.slots len)
+        subst (λ c. AreGroups (groups_of bytes slots c)) (sym same)
+        (captured bytes utf8 compiled built slots (search_start bytes start) of_built.0
+        of_built.1 of_built.2.slots len)
 
     -- which are what is told
-    pub groups_told : (re : Expression) → IsTree re.flags (chars re.pattern) built.tree
-        → (groups : Groups) → groups ≡ groups_of bytes outcome.slots.items shared
+    pub groups_told : (groups : Groups) → groups ≡ groups_of bytes slots shared
         → TellsGroups re bytes start (Some groups)
-    groups_told re given groups are =
-        let all = captured_of bytes utf8 compiled built outcome.slots.items
-        (search_start bytes start) own.0 own.1 own.2.slots len in
-        let as_shared = subst (λ c. AreGroupsOf built.tree bytes own.0 (groups_of bytes outcome.slots.items c))
-        (sym same_compiled) all in (
+    groups_told groups are =
+        let all = captured_of bytes utf8 compiled built slots (search_start bytes start)
+        of_built.0 of_built.1 of_built.2.slots len in
+        let as_shared = subst (λ c. AreGroupsOf built.tree bytes of_built.0 (groups_of bytes slots c))
+        (sym same) all in (
           built.tree,
           given,
           (
-            own.0,
-            own.1,
-            subst (λ g. AreGroupsOf built.tree bytes own.0 g) (sym are) as_shared,
+            of_built.0,
+            of_built.1,
+            subst (λ g. AreGroupsOf built.tree bytes of_built.0 g) (sym are) as_shared,
           ),
         )
 

@@ -1,5 +1,5 @@
 -- What a search tells: where it starts, that its counts fit, and the tree's answer by offsets.
-use Rattle.std.proofs.Common.{◌≡◌, ℕ, ◌+◌, ◌*◌, ◌^◌, ◌<◌, ◌≤◌, List, length, Option, Some, None, sym, subst, arith}
+use Rattle.std.proofs.Common.{◌≡◌, ℕ, ◌+◌, ◌*◌, ◌^◌, ◌<◌, ◌≤◌, List, [], length, Option, Some, None, sym, subst, arith}
 use Rattle.std.specs.Prelude.{IsUtf8, chars, option_map}
 use Rattle.std.proofs.lemmas.Str.{encodes-chars, length-le-encodes}
 use Rattle.std.proofs.Math.Nat.{mul-le-mul_left, mul-le-mul_right}
@@ -12,8 +12,9 @@ use Rattle.regex_lite_engine.specs.Graph.Stored.{StoredGraph, table_of}
 use Rattle.regex_lite_engine.specs.Search.Bounds.{characters_left}
 use Rattle.regex_lite_engine.specs.Search.Answer.{IsAnswer, IsShortest}
 use Rattle.regex_lite_engine.specs.Search.Offsets.{position_at, search_start}
-use Rattle.regex_lite_engine.specs.Search.Outcomes.{IsOutcome, IsEndOutcome}
+use Rattle.regex_lite_engine.specs.Search.Outcomes.{IsSpanOutcome, IsOutcome, IsEndOutcome}
 use Rattle.regex_lite_engine.specs.Walk.Outcomes.{IsNumberedOutcome, IsNumberedEnd, IsCountable, CanCount, match_told}
+use Rattle.regex_lite_engine.specs.Walk.Turns.{best_at}
 use Rattle.regex_lite_engine.specs.Walk.Walking.{Best}
 use Rattle.regex_lite_engine.proofs.laws.search.NumberedAnswerLemmas.{answer_of_numbers, shortest_of_numbers}
 
@@ -55,21 +56,29 @@ module _ (tree : Tree) (regular : IsRegular tree) (graph : StoredGraph)
       → P (search_start haystack start)
   at_position P p = subst P (sym (start_inside haystack start inside)) p
 
-  pub answer_told : (outcome : Option Outcome)
+  pub span_told : (span : Option (ℕ × ℕ)) (slots : List (Option ℕ))
       → IsNumberedOutcome (table_of graph) (chars haystack) graph.start
-      (position_at haystack start) (match_told outcome)
-      → IsOutcome tree haystack start outcome
-  answer_told None none =
+      (position_at haystack start) (best_at span slots)
+      → IsSpanOutcome tree haystack start slots span
+  span_told None slots none =
       at_position (λ s. IsAnswer tree (chars haystack) s None)
       (answer_of_numbers tree (chars haystack) (table_of graph) graph.start is.name is.written
       is.start regular (position_at haystack start) None none)
-  answer_told (Some outcome) (found, answer, from, to, slots) = (
+  span_told (Some span) slots (found, answer, from, to, held) = (
     found,
     at_position (λ s. IsAnswer tree (chars haystack) s (Some found))
         (answer_of_numbers tree (chars haystack) (table_of graph) graph.start is.name
         is.written is.start regular (position_at haystack start) (Some found) answer),
-    record { start = from; end = to; slots = slots },
+    record { start = from; end = to; slots = held },
   )
+
+  pub answer_told : (outcome : Option Outcome)
+      → IsNumberedOutcome (table_of graph) (chars haystack) graph.start
+      (position_at haystack start) (match_told outcome)
+      → IsOutcome tree haystack start outcome
+  answer_told None none = span_told None [] none
+  answer_told (Some outcome) some =
+      span_told (Some (outcome.start, outcome.end)) outcome.slots.items some
 
   pub end_told : (best : Best)
       → IsNumberedEnd (table_of graph) (chars haystack) graph.start

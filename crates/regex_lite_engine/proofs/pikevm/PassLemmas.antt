@@ -20,7 +20,7 @@ module _ (table : List (Place ℕ)) (haystack : Text) (start s : ℕ) where
       let none = fresh.no_threads in
       let tried = fresh.no_tries in
       let entered = fresh.no_entries in
-      let rounds = fresh.no_rounds in
+      let rounds = fresh.few_rounds in
       record {
         low = omega arith;
         ready = fresh.between;

@@ -1,5 +1,5 @@
 -- What a search tells, by offsets.
-use Rattle.std.specs.Prelude.{◌≡◌, ℕ, List, Option, Some, None, chars}
+use Rattle.std.specs.Prelude.{◌≡◌, ℕ, List, [], Option, Some, None, chars}
 use Rattle.regex_lite_syntax.specs.Text.{Text}
 use Rattle.regex_lite_syntax.specs.Tree.{Tree}
 use Rattle.regex_lite_engine.specs.declared.pikevm.search.Outcome.{Outcome}
@@ -8,19 +8,27 @@ use Rattle.regex_lite_engine.specs.Search.Answer.{Found, IsAnswer, IsShortest}
 use Rattle.regex_lite_engine.specs.Search.Bounds.{StepCounts, IsBounded}
 use Rattle.regex_lite_engine.specs.Search.Offsets.{offset, search_start, HasSlots}
 
--- the outcome has the offsets of what was found
-pub record Tells (haystack : Text) (found : Found) (outcome : Outcome) : Type 0 where
-  pub start : outcome.start ≡ offset haystack found.start
-  pub end : outcome.end ≡ offset haystack found.end
-  pub slots : HasSlots haystack outcome.slots.items found.marks
+-- the span and the slots have the offsets of what was found
+pub record Tells (haystack : Text) (found : Found) (span : ℕ × ℕ) (held : List (Option ℕ))
+    : Type 0 where
+  pub start : span.0 ≡ offset haystack found.start
+  pub end : span.1 ≡ offset haystack found.end
+  pub slots : HasSlots haystack held found.marks
 
--- the outcome of a search from an offset on tells the answer
-abbrev pub IsOutcome : Tree → (haystack : List ℕ) → (start : ℕ) → Option Outcome → Type 0
-IsOutcome tree haystack start None =
+-- the span that a search from an offset on finds, and its slots, tell the answer
+abbrev pub IsSpanOutcome : Tree → (haystack : List ℕ) → (start : ℕ) → (slots : List (Option ℕ))
+    → Option (ℕ × ℕ) → Type 0
+IsSpanOutcome tree haystack start slots None =
     IsAnswer tree (chars haystack) (search_start haystack start) None
-IsOutcome tree haystack start (Some outcome) =
+IsSpanOutcome tree haystack start slots (Some span) =
     (found : Found) × IsAnswer tree (chars haystack) (search_start haystack start) (Some found)
-    × Tells (chars haystack) found outcome
+    × Tells (chars haystack) found span slots
+
+-- so does its outcome
+abbrev pub IsOutcome : Tree → (haystack : List ℕ) → (start : ℕ) → Option Outcome → Type 0
+IsOutcome tree haystack start None = IsSpanOutcome tree haystack start [] None
+IsOutcome tree haystack start (Some outcome) =
+    IsSpanOutcome tree haystack start outcome.slots.items (Some (outcome.start, outcome.end))
 
 -- so does that of a search for the shortest match, which is where it ends
 abbrev pub IsEndOutcome : Tree → (haystack : List ℕ) → (start : ℕ) → Option ℕ → Type 0

@@ -32,12 +32,12 @@ IsNumberedEnd table haystack start s (Some best) =
     (end : ℕ) × IsNumberedShortest table haystack start s (Some end)
     × (best.1 ≡ offset haystack end)
 
--- a search from position s on has not begun
+-- a search from position s on has not begun. There may have been rounds of others
 pub record IsFresh (table : List (Place ℕ)) (cache : Cache) : Type 0 where
   pub between : IsBetween table cache
   pub none : best_of cache.best ≡ None
   pub no_threads : cache.walk.memory.threads ≡ []
-  pub no_rounds : cache.walk.memory.now ≡ 0
+  pub few_rounds : cache.walk.memory.now < 2 ^ 63
   pub no_tries : cache.walk.steps.tried ≡ 0
   pub no_entries : cache.walk.steps.entered ≡ 0
 
@@ -50,4 +50,4 @@ pub record IsCountable (table : List (Place ℕ)) : Type 0 where
 pub record CanCount (table : List (Place ℕ)) (characters : ℕ) : Type 0 where
   pub tries : (arrows_of table + 1) * (characters + 1) < 2 ^ 127
   pub entries : length table * (characters + 1) < 2 ^ 127
-  pub rounds : characters + 1 < 2 ^ 64
+  pub rounds : characters < 2 ^ 63

@@ -1,5 +1,5 @@
 -- From one position of a search to a later one.
-use Rattle.std.specs.Prelude.{◌+◌, ◌-◌, ◌*◌, ◌≤◌, ℕ, List, length}
+use Rattle.std.specs.Prelude.{◌+◌, ◌-◌, ◌*◌, ◌^◌, ◌≤◌, ◌<◌, ℕ, List, length}
 use Rattle.regex_lite_syntax.specs.Text.{Text}
 use Rattle.regex_lite_engine.specs.declared.pikevm.here.Here.{Here}
 use Rattle.regex_lite_engine.specs.declared.pikevm.turn.Cache.{Cache}
@@ -20,7 +20,7 @@ module _ (table : List (Place ℕ)) (haystack : Text) (start s : ℕ) where
         cache.walk.steps.tried + length cache.walk.memory.threads
         ≤ (arrows_of table + 1) * (p - s)
     pub entries : cache.walk.steps.entered ≤ length table * (p - s)
-    pub rounds : cache.walk.memory.now ≤ p - s
+    pub rounds : cache.walk.memory.now < 2 ^ 63 + (p - s)
 
   -- it has gone over a position that is not before p
   pub record Passes (p : ℕ) (cache cache' : Cache) (here : Here) : Type 0 where

@@ -12,7 +12,7 @@ pub struct Best {
 }
 
 impl Best {
-    ghost use Rattle.regex_lite_engine.specs.Walk.Turns.{best_of};
+    ghost use Rattle.regex_lite_engine.specs.Walk.Turns.{best_at, best_of};
     ghost use Rattle.regex_lite_engine.specs.Walk.Outcomes.{match_told};
 
     /// None yet, with room for a row of so many slots.
@@ -39,6 +39,28 @@ impl Best {
     {
         self.found = Some((start, end));
         self.row.copy_from_slice(slots);
+    }
+
+    /// Forgets the match. Its row stays as it is.
+    pub fn clear(&mut self)
+        ensures none { best_of self.new ≡ None }
+        ensures row { self.new.row ≡ self.old.row }
+    {
+        self.found = None;
+    }
+
+    /// Where it starts and where it ends.
+    pub fn span(&self) -> Option<(usize, usize)>
+        ensures { best_of self.now ≡ best_at result self.now.row.items }
+    {
+        self.found
+    }
+
+    /// The slots of the last match that was found.
+    pub fn row(&self) -> &[Option<usize>]
+        ensures { result.now ≡ self.now.row.items }
+    {
+        &self.row
     }
 
     /// Where it ends.

@@ -1,10 +1,14 @@
 //! All that a search works in.
-ghost use Rattle.std.specs.Prelude.{◌≡◌, ◌+◌, ◌*◌, ◌≤◌, ◌<◌, [], ℕ, IfOk, length, slice_index, slice_set};
+ghost use Rattle.std.specs.Prelude.{◌≡◌, ◌+◌, ◌*◌, ◌^◌, ◌≤◌, ◌<◌, [], ℕ, IfOk, length, slice_index, slice_set};
 
 use crate::pikevm::cell::{BLANK, Cell, Side};
 use crate::pikevm::rows::Rows;
 use std::alloc::{AllocError, Global};
 use std::marker::Model;
+
+/// No search begins after so many rounds, so that none runs out of them: a haystack has fewer
+/// characters.
+const MOST_ROUNDS: u64 = 1 << 63;
 
 /// The working memory of a search. It is asked for by one request, or by two where slots are kept.
 #[derive(Drop)]
@@ -79,6 +83,30 @@ impl Memory {
             len: 0,
             next_len: 0,
         })
+    }
+
+    /// Makes ready for another search: forgets the threads and the frames that are left. The rounds
+    /// go on, so that the places that were entered are not looked through.
+    pub fn restart(&mut self)
+        ensures rounds { length self.new.rounds ≡ length self.old.rounds }
+        ensures now { self.new.now < 2 ^ 63 }
+        ensures old { ((q : ℕ) → slice_index self.old.rounds q ≤ self.old.now)
+            → (q : ℕ) → slice_index self.new.rounds q ≤ self.new.now }
+        ensures same { self.new ≡ record self.old {
+          rounds = self.new.rounds;
+          now = self.new.now;
+          frames = [];
+          threads = [];
+          next = [];
+        } }
+    {
+        if self.round >= MOST_ROUNDS {
+            self.cells.fill(BLANK);
+            self.round = 0;
+        }
+        self.top = self.cells.len();
+        self.len = 0;
+        self.next_len = 0;
     }
 
     /// How many rows there are.

@@ -5,6 +5,7 @@ ghost use Rattle.regex_lite_engine.specs.Graph.Stored.{table_of};
 ghost use Rattle.regex_lite_engine.specs.Search.Bounds.{IsBounded, characters_left};
 ghost use Rattle.regex_lite_engine.specs.Search.Offsets.{position_at};
 ghost use Rattle.regex_lite_engine.specs.Walk.Outcomes.{IsNumberedOutcome, IsFresh, CanCount};
+ghost use Rattle.regex_lite_engine.specs.Walk.Searching.{IsBetween};
 ghost use Rattle.regex_lite_engine.specs.Walk.Turns.{best_of};
 
 use crate::Graph;
@@ -25,6 +26,7 @@ pub fn run(cache: &mut Cache, graph: &Graph, haystack: &str, start: usize)
         (chars haystack.now) (position_at haystack.now start) cache.new.walk.steps.tried
         cache.new.walk.steps.entered cache.new.walk.steps.looked }
     ensures width { length cache.new.best.row.items ≡ length cache.old.best.row.items }
+    ensures between { IsBetween (table_of graph.now) cache.new }
 {
     let mut here = Here::at(haystack, start);
     'positions: loop {

@@ -1,8 +1,8 @@
-//! Searches from a pattern on: that they run, that what they tell is what was meant, and how many
-//! rows of slots they have.
+//! Searches from a pattern on: that they run, alone and in one searcher, that what they tell is what
+//! was meant, and how many rows of slots they have.
 use super::cache_for;
-use crate::Graph;
 use crate::pikevm::turn::Cache;
+use crate::{Graph, Searcher};
 use regex_lite_syntax::{Config, Flags, Hir};
 use std::alloc::Global;
 use std::test::Fail;
@@ -65,6 +65,36 @@ fn rows(rt: HostRuntime) -> Result<(), Fail> {
         assert!(rt; told == wanted, "{pattern:?} in {haystack:?}");
         let (shortest, _) = graph.search_shortest(rt.alloc(), haystack, start)?;
         assert_eq!(rt; shortest, end, "{pattern:?} in {haystack:?}");
+    }
+    Ok(())
+}
+
+/// Searches for `(?:a|ab)(c|bc)*`, one after another: the haystack, where the search starts, and what
+/// it finds. The second is over before the haystack's end, and marks nothing.
+const TURNS: [(&'static str, usize, Option<Found>); 6] = [
+    ("xabccd", 0, Some((1, 5, Some(4), Some(5)))),
+    ("abb", 0, Some((0, 1, None, None))),
+    ("xabccd", 2, None),
+    ("abb", 4, None),
+    ("ac", 0, Some((0, 2, Some(1), Some(2)))),
+    ("xabccd", 0, Some((1, 5, Some(4), Some(5)))),
+];
+
+/// Each finds in one searcher what it would find alone.
+#[test]
+fn searches_in_turn(rt: HostRuntime) -> Result<(), Fail> {
+    let graph = graph_of(rt.alloc(), "(?:a|ab)(c|bc)*")?;
+    let mut searcher = Searcher::new(rt.alloc(), &graph, 4)?;
+    for (haystack, start, wanted) in TURNS {
+        let told = match searcher.search(haystack, start) {
+            None => None,
+            Some((from, to)) => {
+                let slots = searcher.slots();
+                assert!(rt; slots.len() == 4);
+                Some((from, to, slots[2], slots[3]))
+            }
+        };
+        assert!(rt; told == wanted, "{haystack:?} from {start}");
     }
     Ok(())
 }

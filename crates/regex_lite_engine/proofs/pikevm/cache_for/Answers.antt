@@ -14,7 +14,7 @@ returns-clause-fresh c =
     let reading = c.reading-room.ensures.each in
     let blank = c.in_ok-blank.ensures in
     let tried = c.none.ensures.tried in let entered = c.none.ensures.entered in let looked = c.none.ensures.looked in
-    let rounds = blank.rounds in let room = blank.room in
+    let rounds = blank.rounds in let now = blank.now in let room = blank.room in
     record {
       between = record {
         all_seen = omega (arith, rounds, places, count);
@@ -31,7 +31,7 @@ returns-clause-fresh c =
       };
       none = c.in_ok-with_width.ensures.none;
       no_threads = blank.threads;
-      no_rounds = blank.now;
+      few_rounds = omega (arith, now);
       no_tries = tried;
       no_entries = entered;
     }

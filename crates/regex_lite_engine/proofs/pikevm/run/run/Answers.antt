@@ -81,3 +81,10 @@ returns-then-is_over-clause-bounded c =
     let later = w.later in
     bounded (table_of a.graph.now) (chars a.haystack.now) a.graph.now.start s w.q
     c.pass-here.new.self (omega (arith, low, later)) w.is.inside w.after
+
+pub returns-then-is_over-clause-between : goal.returns-then-is_over-clause-between
+returns-then-is_over-clause-between c =
+    let v = c.positions.invariant in
+    let w = c.pass-here.ensures.passes (position_at c.args.haystack.now c.args.start) v.p v.is
+    v.under_way in
+    w.after.ready

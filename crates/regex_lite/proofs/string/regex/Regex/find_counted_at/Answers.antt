@@ -1,17 +1,38 @@
-use Rattle.std.proofs.Common.{ap}
-use Rattle.regex_lite.proofs.string.ToldLemmas.{outcome_lies, match_told}
+use Rattle.std.proofs.Common.{ap, chars, Some}
+use Rattle.regex_lite_syntax.specs.Grammar.{IsTree}
+use Rattle.regex_lite_engine.specs.Search.Outcomes.{IsSpanOutcome}
+use Rattle.regex_lite.specs.Expression.{OfTree}
+use Rattle.regex_lite.proofs.string.ToldLemmas.{match_told, outcome_of, span_lies}
 use Rattle.regex_lite.proofs.string.regex.Regex.find_counted_at.Goals as goal
 
 pub new-found-requires : goal.new-found-requires
 new-found-requires c =
-    outcome_lies c.args.haystack.now c.utf8.haystack c.args.start c.self.inside.compiled.value
-    c.self.invariant c.deref.result.now.graph (ap (λ compiled. compiled.graph) c.deref.ensures)
-    c.in_ok-outcome.outcome c.in_ok-outcome.ensures.found c.in-Some.outcome c.in-Some.is
+    let a = c.args in
+    let outcome = c.in-Some.outcome in
+    let given : IsTree a.self.now.flags (chars a.self.now.pattern) c.self.invariant.tree =
+    rw (← c.self.view_is) c.self.invariant.given in
+    span_lies a.haystack.now c.utf8.haystack a.start a.self.now (outcome.start, outcome.end)
+    outcome.slots.items (
+      c.self.invariant.tree,
+      given,
+      outcome_of c.self.inside.compiled.value c.self.invariant c.deref.result.now.graph
+          a.haystack.now a.start c.in_ok-outcome.outcome outcome
+          (ap (λ compiled. compiled.graph) c.deref.ensures) c.in_ok-outcome.ensures.found
+          c.in-Some.is,
+    )
 
 pub returns-clause-found : goal.returns-clause-found
 returns-clause-found c =
-    match_told c.args.haystack.now c.utf8.haystack c.args.start c.self.inside.compiled.value
-    c.self.invariant c.deref.result.now.graph (ap (λ compiled. compiled.graph) c.deref.ensures)
-    c.in_ok-outcome.outcome c.in_ok-outcome.ensures.found c.in-Some.outcome c.in-Some.is
-    c.args.self.now (rw (← c.self.view_is) c.self.invariant.given) c.new-found.result
-    c.new-found.ensures.haystack c.new-found.ensures.span
+    let a = c.args in
+    let outcome = c.in-Some.outcome in
+    let given : IsTree a.self.now.flags (chars a.self.now.pattern) c.self.invariant.tree =
+    rw (← c.self.view_is) c.self.invariant.given in
+    match_told a.haystack.now c.utf8.haystack a.start a.self.now (outcome.start, outcome.end)
+    outcome.slots.items (
+      c.self.invariant.tree,
+      given,
+      outcome_of c.self.inside.compiled.value c.self.invariant c.deref.result.now.graph
+          a.haystack.now a.start c.in_ok-outcome.outcome outcome
+          (ap (λ compiled. compiled.graph) c.deref.ensures) c.in_ok-outcome.ensures.found
+          c.in-Some.is,
+    ) c.new-found.result c.new-found.ensures.haystack c.new-found.ensures.span

@@ -1,0 +1,26 @@
+use Rattle.std.proofs.Common.{rules, length, ◌<◌, ◌^◌, sym, subst}
+use Rattle.std.specs.Prelude.{chars}
+use Rattle.regex_lite_engine.specs.Graph.Renumbered.{IsGraphOf}
+use Rattle.regex_lite_engine.specs.Graph.Stored.{table_of}
+use Rattle.regex_lite_engine.specs.Search.Offsets.{position_at}
+use Rattle.regex_lite_engine.specs.Search.Searching.{Searching}
+use Rattle.regex_lite_engine.specs.Walk.Outcomes.{IsNumberedOutcome}
+use Rattle.regex_lite_engine.proofs.pikevm.OutcomeLemmas.{can_count, span_told}
+use Rattle.regex_lite_engine.proofs.pikevm.searcher.Searcher.search.Goals as goal
+
+pub run-requires-clause-counts : goal.run-requires-clause-counts
+run-requires-clause-counts c =
+    let haystack = c.args.haystack.now in
+    let short : length haystack < 2 ^ 63 = search rules in
+    can_count (table_of c.self.inside.graph.now) haystack (position_at haystack c.args.start)
+    c.utf8.haystack short c.self.invariant.1
+
+pub returns-clause-found : goal.returns-clause-found
+returns-clause-found c = λ tree regular is.
+    let graph = c.self.inside.graph.now in
+    let haystack = c.args.haystack.now in
+    let of_graph = subst (λ (z : Searching). IsGraphOf tree z.graph) (sym c.self.view_is) is in
+    span_told tree regular graph of_graph haystack c.args.start c.if-start-haystack.false
+    c.span.result c.run.new.cache.best.row.items
+    (subst (λ z. IsNumberedOutcome (table_of graph) (chars haystack) graph.start
+    (position_at haystack c.args.start) z) c.span.ensures c.run.ensures.found)

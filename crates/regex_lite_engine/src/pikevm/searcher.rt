@@ -1,0 +1,94 @@
+//! Searches in one graph, one after another, in the same working memory.
+ghost use Rattle.std.specs.Prelude.{◌≡◌, ◌<◌, ◌⊎◌, List, ℕ, IfOk, IsCharBoundary, length};
+ghost use Rattle.regex_lite_syntax.specs.Tree.{Tree};
+ghost use Rattle.regex_lite_syntax.specs.Tree.Regular.{IsRegular};
+ghost use Rattle.regex_lite_engine.specs.Graph.Places.{Place};
+ghost use Rattle.regex_lite_engine.specs.Graph.Renumbered.{IsGraphOf};
+ghost use Rattle.regex_lite_engine.specs.Search.Outcomes.{IsSpanOutcome};
+ghost use Rattle.regex_lite_engine.specs.Walk.Outcomes.{IsFresh};
+ghost use Rattle.regex_lite_engine.specs.Walk.Searching.{IsBetween};
+
+use crate::Graph;
+use crate::pikevm::cache_for;
+use crate::pikevm::run::run;
+use crate::pikevm::steps::Steps;
+use crate::pikevm::turn::Cache;
+use std::alloc::{AllocError, Global};
+use std::marker::Model;
+
+/// A graph, and the memory in which it is searched, search after search.
+#[derive(Drop)]
+pub struct Searcher<'g> {
+    graph: &'g Graph,
+    cache: Cache,
+}
+
+impl<'g> Model for Searcher<'g> {
+    ghost use Rattle.regex_lite_engine.specs.Graph.Stored.{table_of};
+    ghost use Rattle.regex_lite_engine.specs.Search.Searching.{Searching};
+    ghost use Rattle.regex_lite_engine.specs.Walk.Outcomes.{IsCountable};
+    ghost use Rattle.regex_lite_engine.specs.Walk.Searching.{IsBetween};
+
+    ghost Value = { Searching };
+
+    ghost view = { λ searcher. record {
+      graph = searcher.graph.now;
+      slots = searcher.cache.best.row.items;
+    } };
+
+    ghost invariant = { λ searcher. IsBetween (table_of searcher.graph.now) searcher.cache
+        × IsCountable (table_of searcher.graph.now) };
+}
+
+impl<'g> Searcher<'g> {
+    /// A searcher of this graph, whose matches have so many slots. All the memory of its searches
+    /// is asked for here.
+    ///
+    /// # Errors
+    ///
+    /// Where a growth is refused.
+    pub fn new(alloc: Global, graph: &'g Graph, slots: usize) -> Result<Searcher<'g>, AllocError>
+        ensures graph { IfOk result (λ searcher. searcher.graph ≡ graph.now) }
+        ensures slots { IfOk result (λ searcher. length searcher.slots ≡ slots) }
+    {
+        let cache = cache_for(alloc, graph, slots)?;
+        Ok(Searcher { graph, cache })
+    }
+
+    /// Where the most preferred match starts and ends, from the least start at or after this
+    /// offset. It takes no memory, and [`Searcher::slots`] has the slots of the match.
+    ///
+    /// Condition: the start is above the haystack's length or on a character boundary.
+    pub fn search(&mut self, haystack: &str, start: usize) -> Option<(usize, usize)>
+        requires { (length haystack.now < start) ⊎ IsCharBoundary haystack.now start }
+        ensures found { (tree : Tree) → IsRegular tree → IsGraphOf tree self.old.graph
+            → IsSpanOutcome tree haystack.now start self.new.slots result }
+        ensures graph { self.new.graph ≡ self.old.graph }
+        ensures slots { length self.new.slots ≡ length self.old.slots }
+    {
+        if start > haystack.len() {
+            return None;
+        }
+        restart(&mut self.cache);
+        run(&mut self.cache, self.graph, haystack, start);
+        self.cache.best.span()
+    }
+
+    /// The slots of the last match that was found, none of them marked before the first. Slots 2k
+    /// and 2k + 1 are the start and the end of group k.
+    pub fn slots(&self) -> &[Option<usize>]
+        ensures { result.now ≡ self.now.slots }
+    {
+        self.cache.best.row()
+    }
+}
+
+/// Makes ready for another search: what the last one left is forgotten.
+fn restart(cache: &mut Cache)
+    ensures fresh { (table : List (Place ℕ)) → IsBetween table cache.old → IsFresh table cache.new }
+    ensures width { length cache.new.best.row.items ≡ length cache.old.best.row.items }
+{
+    cache.walk.memory.restart();
+    cache.walk.steps = Steps::none();
+    cache.best.clear();
+}
