@@ -1,12 +1,12 @@
 -- The positions of offsets: of the haystack's start and end, of a position, and of the next one.
-use Rattle.std.proofs.Common.{◌≡◌, ◌<◌, ◌≤◌, ◌++◌, ◌+◌, ℕ, suc, List, length, take, drop, slice_get, Some, refl, sym, ap, ◌∙◌, chars, IsUtf8, arith}
+use Rattle.std.proofs.Common.{◌≡◌, ◌++◌, ◌+◌, ℕ, suc, List, length, drop, slice_get, Some, sym, ap, ◌∙◌, chars, IsUtf8, arith}
 use Rattle.std.specs.Prelude.{IsCharBoundary}
 use Rattle.std.specs.Char.{len_utf8}
 use lib.Utf8.{encode}
 use Rattle.std.proofs.lemmas.List.{take_all}
 use Rattle.std.proofs.lemmas.Option.{slice_get_within}
 use Rattle.std.proofs.lemmas.Str.{IsUtf8-drop, chars-nil, chars_past_char}
-use Rattle.regex_lite_engine.specs.Search.Offsets.{offset, position_at, search_start, IsOffset}
+use Rattle.regex_lite_engine.specs.Search.Offsets.{position_at, search_start, IsOffset}
 use Rattle.regex_lite_engine.proofs.OffsetLemmas.{boundary_at, offset_next}
 use Rattle.regex_lite_engine.proofs.pikevm.here.OffsetLemmas.{after_at, same_position}
 pub use Rattle.regex_lite_engine.proofs.pikevm.here.OffsetLemmas.{position_is}

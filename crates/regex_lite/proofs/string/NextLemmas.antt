@@ -1,5 +1,5 @@
 -- What is told by a search that goes on behind a match.
-use Rattle.std.proofs.Common.{◌≡◌, ◌<◌, ◌≤◌, ◌⊎◌, inl, inr, ◌&&◌, eqb, true, false, MatchBool, ℕ, suc, List, length, Option, Some, None, refl, sym, ap, subst, ◌∙◌, chars, IsUtf8, option_map, unwrap_or, arith}
+use Rattle.std.proofs.Common.{◌≡◌, ◌<◌, ◌≤◌, ◌⊎◌, inl, inr, true, false, MatchBool, ℕ, suc, List, length, Option, Some, None, refl, sym, ap, subst, ◌∙◌, chars, IsUtf8, option_map, unwrap_or, arith}
 use Rattle.std.specs.Prelude.{IsCharBoundary}
 use Rattle.std.proofs.lemmas.Bool.{cases_order}
 use Rattle.std.proofs.lemmas.Bool.Decides.{nat_tests}
@@ -10,16 +10,15 @@ use Rattle.regex_lite_syntax.specs.Grammar.{IsTree}
 use Rattle.regex_lite_engine.specs.WayLaws.{IsPatternTree}
 use Rattle.regex_lite_engine.specs.Graph.WrittenOut.{place_of_pattern, start_address, end_address}
 use Rattle.regex_lite_engine.specs.Search.Answer.{Found, IsFound, IsAnswer}
-use Rattle.regex_lite_engine.specs.Search.Offsets.{offset, position_at, search_start}
+use Rattle.regex_lite_engine.specs.Search.Offsets.{offset, position_at}
 use Rattle.regex_lite_engine.proofs.OffsetLemmas.{offset_less}
 use Rattle.regex_lite_engine.proofs.PositionLemmas.{first_position, position_is, position_of, start_position}
 use Rattle.regex_lite_engine.proofs.laws.PatternTreeLemmas.{regular_tree}
 use Rattle.regex_lite_engine.proofs.laws.answer.ReachLemmas.{walk_inside}
 use Rattle.regex_lite_engine.proofs.laws.groups.SpanLemmas.{groups_inside}
-use Rattle.regex_lite.specs.declared.string.matches.Match.{Match}
 use Rattle.regex_lite.specs.Ahead.{AreGroupsFound, IsOnward}
 use Rattle.regex_lite.specs.Expression.{Expression, OfTree}
-use Rattle.regex_lite.specs.Groups.{Groups, span_at, whole_span}
+use Rattle.regex_lite.specs.Groups.{span_at, whole_span}
 use Rattle.regex_lite.specs.MatchList.{IsAnswerOf, IsNext, is_empty_at}
 use Rattle.regex_lite.specs.MatchViews.{span_of_match}
 use Rattle.regex_lite.specs.NextMatch.{IsNextOffset, TellsNext}

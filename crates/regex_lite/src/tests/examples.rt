@@ -266,6 +266,32 @@ fn read_groups(rt: HostRuntime) -> Result<(), Fail> {
     Ok(())
 }
 
+/// At `Regex::find_iter`.
+#[test]
+fn all_matches(rt: HostRuntime) -> Result<(), Fail> {
+    let regex = Regex::new(rt.alloc(), "a*")?;
+    let mut matches = regex.find_iter("aab")?;
+    assert_eq!(rt; matches.next().map(|m| m.range()), Some(0..2));
+    assert_eq!(rt; matches.next().map(|m| m.range()), Some(3..3));
+    assert_eq!(rt; matches.next(), None);
+    Ok(())
+}
+
+/// At `Regex::captures_iter`.
+#[test]
+fn all_groups(rt: HostRuntime) -> Result<(), Fail> {
+    let regex = Regex::new(rt.alloc(), "([a-z])([0-9])")?;
+    let mut digits = String::new(rt.alloc());
+    for caps in regex.captures_iter("a1 b2")? {
+        let caps = caps?;
+        if caps.get(2).is_some() {
+            digits.push_str(caps.at(2))?;
+        }
+    }
+    assert_eq!(rt; digits.as_str(), "12");
+    Ok(())
+}
+
 /// At `CapturesIn::extract`.
 #[test]
 fn extracted(rt: HostRuntime) -> Result<(), Fail> {

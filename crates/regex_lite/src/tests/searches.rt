@@ -4,6 +4,7 @@ ghost use Rattle.regex_lite.specs.Searches.{CanStartAt};
 
 mod costs;
 mod groups;
+mod lists;
 mod reads;
 mod spans;
 

@@ -1,4 +1,4 @@
-use Rattle.std.proofs.Common.{◌<◌, ◌≤◌, Some, None, sym, subst, unwrap_or, arith}
+use Rattle.std.proofs.Common.{◌<◌, ◌≤◌, Some, sym, subst, unwrap_or, arith}
 use Rattle.std.specs.Prelude.{IsCharBoundary}
 use Rattle.regex_lite.specs.MatchViews.{span_of_match}
 use Rattle.regex_lite.specs.NextMatch.{TellsNextMatch}

@@ -1,4 +1,4 @@
-use Rattle.std.proofs.Common.{◌≡◌, ◌++◌, ◌+◌, ◌<◌, length, drop, Some, sym, ap, ◌∙◌, subst, arith, rules}
+use Rattle.std.proofs.Common.{◌≡◌, ◌++◌, ◌+◌, length, drop, Some, sym, ap, ◌∙◌, subst, arith, rules}
 use Rattle.std.specs.Char.{len_utf8}
 use lib.Utf8.{encode}
 use Rattle.regex_lite.specs.NextMatch.{IsNextOffset}
