@@ -3,7 +3,7 @@ use Rattle.std.specs.Prelude.{◌≡◌, ◌++◌, ◌⊎◌, ℕ, zero, suc, Li
 use Rattle.regex_lite_syntax.specs.declared.error.Error.{Error}
 use Rattle.regex_lite_engine.specs.Search.Answer.{Found}
 use Rattle.regex_lite.specs.Groups.{Groups, whole_span}
-use Rattle.regex_lite.specs.Ahead.{Ahead, AreAhead, AreFirstAhead, AreGroupsFound, whole}
+use Rattle.regex_lite.specs.Ahead.{Ahead, AreAhead, AreFirstAhead, AreGroupsFound}
 use Rattle.regex_lite.specs.Expression.{Expression}
 use Rattle.regex_lite.specs.Pieces.{found_span}
 use Rattle.regex_lite.specs.Replacing.{Answer}

@@ -1,5 +1,5 @@
 -- Whether anything is ahead of a whole haystack.
-use Rattle.std.proofs.Common.{◌≡◌, ◌≢◌, ◌⊎◌, ◌++◌, ◌-◌, ◌+◌, inl, inr, ℕ, suc, zero, Bool, true, false, List, [], Option, Some, None, Result, Ok, Err, IfOk, MatchBool, refl, sym, ap, ◌∙◌, subst, drop, chars, length, arith}
+use Rattle.std.proofs.Common.{◌≡◌, ◌≢◌, ◌++◌, inl, inr, ℕ, suc, zero, Bool, true, false, List, [], Option, Some, None, Result, Ok, Err, IfOk, MatchBool, sym, ap, ◌∙◌, subst, drop, chars, length, arith}
 use Rattle.std.proofs.lemmas.Str.{chars-nil}
 use Rattle.regex_lite_engine.specs.Search.Answer.{Found, HasMatchFrom, IsAnswer}
 use Rattle.regex_lite_engine.specs.Search.Offsets.{search_start}
@@ -7,7 +7,7 @@ use Rattle.regex_lite_engine.proofs.laws.PatternTreeLemmas.{regular_tree}
 use Rattle.regex_lite_engine.proofs.laws.answer.AnswerLemmas.{one_answer}
 use Rattle.regex_lite_syntax.specs.Text.{Text}
 use Rattle.regex_lite.specs.Expression.{Expression}
-use Rattle.regex_lite.specs.Ahead.{Ahead, ComesNext, IsOver, Passes, whole}
+use Rattle.regex_lite.specs.Ahead.{Ahead, IsOver, Passes, whole}
 use Rattle.regex_lite.specs.MatchList.{IsAnswerOf}
 use Rattle.regex_lite.specs.Replacements.{limit_of}
 use Rattle.regex_lite.specs.Searches.{MatchesFrom}

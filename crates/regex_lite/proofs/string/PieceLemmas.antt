@@ -43,9 +43,10 @@ left_at_first zero re hay a ended is begins list = (λ none. none, λ none. none
 left_at_first (suc k) re hay a ended is begins list =
     let same : a ≡ whole re hay (Some k) = is ∙ ap (λ n. whole re hay (Some n)) (omega arith) in
     let start : unwrap_or ended 0 ≡ 0 = ap (λ e. unwrap_or e 0) begins in
-    let more : nat_eq (suc k) 0 ≡ false = grind (arith, nat_tests) in
-    (λ left. subst (λ from. IsCut (whole re hay (Some k)) from list) start
-    (subst (λ b. IsCut b (unwrap_or ended 0) list) same (chose (list ≡ []) (nat_eq (suc k) 0) more left)),
-    λ cut. chosen (list ≡ []) (nat_eq (suc k) 0) more
-    (subst (λ b. IsCut b (unwrap_or ended 0) list) (sym same)
-    (subst (λ from. IsCut (whole re hay (Some k)) from list) (sym start) cut)))
+    let more : nat_eq (suc k) 0 ≡ false = grind (arith, nat_tests) in (
+      λ left. subst (λ from. IsCut (whole re hay (Some k)) from list) start
+          (subst (λ b. IsCut b (unwrap_or ended 0) list) same (chose (list ≡ []) (nat_eq (suc k) 0) more left)),
+      λ cut. chosen (list ≡ []) (nat_eq (suc k) 0) more
+          (subst (λ b. IsCut b (unwrap_or ended 0) list) (sym same)
+          (subst (λ from. IsCut (whole re hay (Some k)) from list) (sym start) cut)),
+    )

@@ -1,4 +1,4 @@
-use Rattle.std.proofs.Common.{◌≡◌, ◌++◌, ◌∙◌, ℕ, unwrap_or, string_bytes, slice_range, chars, refl, sym, ap, subst}
+use Rattle.std.proofs.Common.{◌++◌, ◌∙◌, unwrap_or, string_bytes, slice_range, chars, refl, sym, ap, subst}
 use Rattle.std.proofs.lemmas.Slice.{pushed}
 use Rattle.std.specs.Str.{IsCharBoundary}
 use Rattle.regex_lite.specs.Ahead.{ahead_of, whole}
@@ -6,7 +6,7 @@ use Rattle.regex_lite.specs.MatchViews.{span_of_match}
 use Rattle.regex_lite.specs.Pieces.{found_span}
 use Rattle.regex_lite.specs.Replacements.{IsReplacedBy}
 use Rattle.regex_lite.proofs.string.AnsweredLemmas.{begun_on, nothing_ahead, nothing_made}
-use Rattle.regex_lite.proofs.string.ReplacementLemmas.{Continues, passed_on, replaced_at_end}
+use Rattle.regex_lite.proofs.string.ReplacementLemmas.{passed_on, replaced_at_end}
 use Rattle.regex_lite.proofs.string.regex.Regex.replace_by.Goals as goal
 
 pub loop-found-preserved : goal.loop-found-preserved

@@ -1,8 +1,7 @@
-use Rattle.std.proofs.Common.{◌≡◌, ◌⊎◌, inr, ◌++◌, ◌∙◌, ℕ, Result, Ok, Err, IfErr, unwrap_or, string_bytes, slice_range, refl, sym, ap, subst}
+use Rattle.std.proofs.Common.{inr, ◌++◌, ◌∙◌, ℕ, Result, Ok, Err, IfErr, unwrap_or, string_bytes, slice_range, refl, sym, ap, subst}
 use Rattle.std.specs.Result.{IsErrAnd}
 use Rattle.std.specs.Str.{IsCharBoundary}
 use Rattle.std.proofs.lemmas.Slice.{pushed}
-use Rattle.regex_lite_syntax.specs.Errors.{out_of_memory}
 use Rattle.regex_lite.specs.Ahead.{groups_ahead_of, whole}
 use Rattle.regex_lite.specs.Groups.{Groups, whole_span}
 use Rattle.regex_lite.specs.Replacements.{IsRefused, IsReplacedInTurn}

@@ -1,4 +1,4 @@
-use Rattle.std.proofs.Common.{◌≡◌, ℕ, false, Option, Some, None, [], ◌∷◌, drop, slice_range, unwrap_or, sym, ap, ◌∙◌, subst, rules}
+use Rattle.std.proofs.Common.{◌≡◌, ℕ, false, Option, [], ◌∷◌, drop, slice_range, unwrap_or, sym, ap, ◌∙◌, subst, rules}
 use Rattle.regex_lite.specs.Ahead.{ahead_of}
 use Rattle.regex_lite.specs.Pieces.{IsCut}
 use Rattle.regex_lite.proofs.string.PieceLemmas.{chosen, chose, cut_cons, cut_nil}
