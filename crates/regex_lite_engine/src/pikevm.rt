@@ -16,6 +16,7 @@ pub(crate) mod search;
 mod seen;
 mod shortest;
 mod skip;
+pub(crate) mod slot;
 mod stack;
 pub(crate) mod steps;
 #[cfg(test)]

@@ -1,5 +1,5 @@
 -- How the working memory of a search lies in its cells and rows.
-use Rattle.std.specs.Prelude.{◌≡◌, ◌+◌, ◌*◌, ◌≤◌, ℕ, List, [], take, drop, length, map, Some, None, slice_index, slice_index_or}
+use Rattle.std.specs.Prelude.{◌≡◌, ◌+◌, ◌*◌, ◌≤◌, ℕ, List, [], take, drop, length, map, slice_index, slice_index_or}
 use Rattle.std.specs.List.{range_with_len}
 use Rattle.regex_lite_engine.specs.declared.pikevm.cell.Cell.{Cell}
 use Rattle.regex_lite_engine.specs.declared.pikevm.cell.Frame as code
@@ -22,8 +22,7 @@ nth_row rows k = slice_index_or rows k []
 -- what is left to do
 abbrev pub frame_of : code.Frame → Frame
 frame_of (stored.Explore place) = explore place
-frame_of (stored.Restore slot old) = restore slot (Some old)
-frame_of (stored.Unmark slot) = restore slot None
+frame_of (stored.Restore slot old) = restore slot old
 
 abbrev pub frame_in : Cell → Frame
 frame_in cell = frame_of cell.frame

@@ -1,6 +1,7 @@
 //! Rows of slots.
 ghost use Rattle.std.specs.Prelude.{◌≡◌, ◌+◌, ◌≤◌, ◌<◌, ◌⊎◌, [], ◌++◌, IfOk, None, length, take, drop, replicate, slice_index_or, slice_set};
 
+use crate::pikevm::slot::Slot;
 use std::alloc::{AllocError, Global};
 use std::marker::Model;
 
@@ -8,7 +9,7 @@ use std::marker::Model;
 #[derive(Drop)]
 pub struct Rows {
     /// The rows one behind the other.
-    slots: Vec<Option<usize>>,
+    slots: Vec<Slot>,
     width: usize,
     count: usize,
 }
@@ -33,7 +34,7 @@ impl Rows {
             → length (slice_index_or rows 0 []) ≡ width) }
     {
         let all = count.checked_mul(width).ok_or(AllocError)?;
-        let slots = vec![in alloc; None; all]?;
+        let slots = vec![in alloc; Slot::blank(); all]?;
         Ok(Rows {
             slots,
             width,
@@ -49,7 +50,7 @@ impl Rows {
     }
 
     /// The first row.
-    pub fn first(&self) -> &[Option<usize>]
+    pub fn first(&self) -> &[Slot]
         requires { 0 < length self.now }
         ensures { result.now ≡ slice_index_or self.now 0 [] }
     {
@@ -57,7 +58,7 @@ impl Rows {
     }
 
     /// Lets a slot of the first row hold this.
-    pub fn put(&mut self, slot: u32, held: Option<usize>)
+    pub fn put(&mut self, slot: u32, held: Slot)
         requires some { 0 < length self.old }
         requires inside { slot < length (slice_index_or self.old 0 []) }
         ensures { self.new
@@ -92,7 +93,7 @@ impl Rows {
 }
 
 /// Copies a row of this width.
-fn copy_row(slots: &mut Vec<Option<usize>>, from: usize, to: usize, width: usize)
+fn copy_row(slots: &mut Vec<Slot>, from: usize, to: usize, width: usize)
     requires from { from + width ≤ length slots.old.items }
     requires to { to + width ≤ length slots.old.items }
     requires apart { (from + width ≤ to) ⊎ (to + width ≤ from) }
@@ -113,11 +114,11 @@ fn copy_row(slots: &mut Vec<Option<usize>>, from: usize, to: usize, width: usize
 }
 
 /// Writes over a row of this width that nothing is marked.
-fn clear_row(slots: &mut Vec<Option<usize>>, from: usize, width: usize)
+fn clear_row(slots: &mut Vec<Slot>, from: usize, width: usize)
     requires { from + width ≤ length slots.old.items }
     ensures { slots.new.items ≡ take from slots.old.items
         ++ (replicate width None ++ drop (from + width) slots.old.items) }
 {
     let to = from + width;
-    slots[from..to].fill(None);
+    slots[from..to].fill(Slot::blank());
 }
