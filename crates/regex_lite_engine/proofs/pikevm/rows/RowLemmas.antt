@@ -109,7 +109,7 @@ row_long slots w k short = length-take-le w (drop (k * w) slots) (omega (arith, 
 pub row_inside : (w count k : ℕ) (size : ℕ) → count * w ≡ size → k < count → k * w + w ≤ size
 row_inside w count k size all lt = let room : suc k * w ≤ count * w = mul-le-mul_right w (omega (arith, lt)) in omega (arith, room, suc-mul k w, all)
 
-row_first : (slots : Row) (w : ℕ) → row_at slots w 0 ≡ take w slots
+pub row_first : (slots : Row) (w : ℕ) → row_at slots w 0 ≡ take w slots
 row_first slots w = let none : 0 * w ≡ 0 = omega arith in ap (λ z. take w (drop z slots)) none
 
 -- a slot of the first row
