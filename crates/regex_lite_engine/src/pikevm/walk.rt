@@ -32,7 +32,7 @@ impl Walk {
         ensures empty { self.new.memory.frames ≡ [] }
         ensures kept { KeepsPosition self.old.memory self.new.memory }
     {
-        // Most threads come to no second place, so that theirs need not be on the stack first.
+        // It would be the first to be taken off the stack again.
         if self.come_to(place, graph, here, start) {
             return true;
         }
