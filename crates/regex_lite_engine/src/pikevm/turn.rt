@@ -71,8 +71,8 @@ impl Cache {
         ensures kept { best_of self.new.best ≡ None → best_of self.old.best ≡ None }
     {
         'threads: for k in 0..self.walk.memory.threads() {
-            let (place, start) = self.walk.memory.load(k);
-            if self.walk.explore(place, graph, here, start) {
+            let start = self.walk.take_up(k);
+            if self.walk.explore(graph, here, start) {
                 self.best.set(start, here.at, self.walk.memory.row());
                 return;
             }

@@ -1,8 +1,8 @@
 //! The walk over one position: from a place over all that its arrows lead to without reading.
-ghost use Rattle.std.specs.Prelude.{◌≡◌, [], ◌∷◌};
+ghost use Rattle.std.specs.Prelude.{◌≡◌, ◌<◌, [], ◌∷◌, length};
 ghost use Rattle.regex_lite_engine.specs.Graph.Stored.{table_of};
 ghost use Rattle.regex_lite_engine.specs.Walk.Cells.{frame_of};
-ghost use Rattle.regex_lite_engine.specs.Walk.Machine.{explore};
+ghost use Rattle.regex_lite_engine.specs.Walk.Machine.{explore, thread_at};
 ghost use Rattle.regex_lite_engine.specs.Walk.Room.{HasRoom, TakesFrame, Explores, KeepsPosition};
 
 use crate::Graph;
@@ -20,22 +20,35 @@ pub struct Walk {
 }
 
 impl Walk {
-    /// Explores the place, and all that this puts on the stack: the ways of one thread that started
-    /// at `start`. Stops where a match is complete, and tells whether one is: what is left then is
-    /// less preferred.
-    pub fn explore(&mut self, place: u32, graph: &Graph, here: Here, start: usize) -> bool
-        requires { HasRoom (table_of graph.now) self.old
-            (explore place ∷ self.old.memory.frames) }
+    /// Takes up a thread of the position: its row is that which is followed, and its place is left
+    /// to explore. Answers where its way started.
+    pub fn take_up(&mut self, k: usize) -> usize
+        requires inside { k < length self.old.memory.threads }
+        requires room { length self.old.memory.frames < length self.old.memory.rounds }
+        ensures thread { thread_at self.old.memory.threads k
+            ≡ ((thread_at self.old.memory.threads k).0, result, self.new.memory.row) }
+        ensures memory { self.new.memory ≡ record self.old.memory {
+          row = self.new.memory.row;
+          frames = explore (thread_at self.old.memory.threads k).0 ∷ self.old.memory.frames;
+        } }
+        ensures row { length self.new.memory.row ≡ length self.old.memory.row }
+        ensures steps { self.new.steps ≡ self.old.steps }
+    {
+        let (place, start) = self.memory.load(k);
+        self.memory.push(Frame::Explore(place));
+        start
+    }
+
+    /// Explores all that is on the stack, the ways of one thread that started at `start`. Stops
+    /// where a match is complete, and tells whether one is: what is left then is less preferred.
+    pub fn explore(&mut self, graph: &Graph, here: Here, start: usize) -> bool
+        requires { HasRoom (table_of graph.now) self.old self.old.memory.frames }
         ensures room { HasRoom (table_of graph.now) self.new [] }
         ensures explored { Explores (table_of graph.now) here start self.old self.new
-            (explore place ∷ self.old.memory.frames) result }
+            self.old.memory.frames result }
         ensures empty { self.new.memory.frames ≡ [] }
         ensures kept { KeepsPosition self.old.memory self.new.memory }
     {
-        // It would be the first to be taken off the stack again.
-        if self.come_to(place, graph, here, start) {
-            return true;
-        }
         'frames: while let Some(frame) = self.memory.pop() {
             if self.take(frame, graph, here, start) {
                 return true;
