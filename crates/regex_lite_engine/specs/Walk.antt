@@ -3,6 +3,7 @@ pub mod Explored
 pub mod NumberedAnswer
 pub mod Standing
 pub mod Machine
+pub mod Slots
 pub mod Cells
 pub mod InStep
 pub mod Walking

@@ -17,6 +17,7 @@ pub(crate) mod searcher;
 mod seen;
 mod shortest;
 mod skip;
+pub(crate) mod slot;
 mod stack;
 pub(crate) mod steps;
 #[cfg(test)]

@@ -1,5 +1,5 @@
 -- How the working memory of a search lies in its cells and rows.
-use Rattle.std.specs.Prelude.{◌≡◌, ◌+◌, ◌*◌, ◌≤◌, ℕ, List, [], take, drop, length, map, Some, None, slice_index, slice_index_or}
+use Rattle.std.specs.Prelude.{◌≡◌, ◌+◌, ◌-◌, ◌*◌, ◌≤◌, ◌<◌, ℕ, List, [], ◌++◌, take, drop, replicate, length, map, None, slice_index, slice_index_or}
 use Rattle.std.specs.List.{range_with_len}
 use Rattle.regex_lite_engine.specs.declared.pikevm.cell.Cell.{Cell}
 use Rattle.regex_lite_engine.specs.declared.pikevm.cell.Frame as code
@@ -12,6 +12,16 @@ use Rattle.regex_lite_engine.specs.Walk.Machine.{Row, Frame, explore, restore, T
 abbrev pub row_at : (slots : Row) → (width k : ℕ) → Row
 row_at slots width k = take width (drop (k * width) slots)
 
+-- slots of which those behind the last that was come to hold nothing
+abbrev pub padded : Row → (size : ℕ) → Row
+padded slots size = slots ++ replicate (size - length slots) None
+
+-- there is room for so many rows of this width, of which the first is there
+pub record AreRows (slots : Row) (capacity width count : ℕ) : Type 0 where
+  pub within : length slots ≤ count * width
+  pub fitting : count * width ≤ capacity
+  pub first : 0 < count → width ≤ length slots
+
 abbrev pub rows_in : (slots : Row) → (width count : ℕ) → List Row
 rows_in slots width count = map (row_at slots width) (range_with_len 0 count)
 
@@ -22,8 +32,7 @@ nth_row rows k = slice_index_or rows k []
 -- what is left to do
 abbrev pub frame_of : code.Frame → Frame
 frame_of (stored.Explore place) = explore place
-frame_of (stored.Restore slot old) = restore slot (Some old)
-frame_of (stored.Unmark slot) = restore slot None
+frame_of (stored.Restore slot old) = restore slot old
 
 abbrev pub frame_in : Cell → Frame
 frame_in cell = frame_of cell.frame
@@ -54,18 +63,18 @@ with_thread First place start cell =
 with_thread Second place start cell =
     record cell { second_place = place; second_start = start }
 
--- the row of the first thread of the list: behind that of the way that is followed, and those of
--- the second list behind those of the first
-abbrev pub first_row : Side → (room : ℕ) → ℕ
-first_row First room = 1
-first_row Second room = room + 1
+-- the number of a thread's row: that of the way that is followed is 0, and behind it those of both
+-- lists take turns, so that few threads need only the first rows
+abbrev pub row_on : Side → (k : ℕ) → ℕ
+row_on First k = 2 * k + 1
+row_on Second k = 2 * k + 2
 
 module _ (side : Side) (cells : List Cell) (rows : List Row) (room : ℕ) where
   abbrev pub thread_on : ℕ → Thread
   thread_on k = (
     slice_index (map (place_on side) cells) k,
     slice_index (map (start_on side) cells) k,
-    nth_row rows (first_row side room + k),
+    nth_row rows (row_on side k),
   )
 
   -- the first n threads of the list

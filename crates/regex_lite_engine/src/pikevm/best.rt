@@ -2,6 +2,7 @@
 ghost use Rattle.std.specs.Prelude.{◌≡◌, ◌↔◌, IfOk, IfSome, IsTrue, None, Some, length, option_map};
 
 use crate::pikevm::search::Outcome;
+use crate::pikevm::slot::Slot;
 use std::alloc::{AllocError, Global};
 
 /// Its start and its end, and its slots in `row`.
@@ -32,13 +33,13 @@ impl Best {
     }
 
     /// Takes this match for the best, since the search has found it last.
-    pub fn set(&mut self, start: usize, end: usize, slots: &[Option<usize>])
+    pub fn set(&mut self, start: usize, end: usize, slots: &[Slot])
         requires { length slots.now ≡ length self.old.row.items }
         ensures found { best_of self.new ≡ Some (start, end, slots.now) }
         ensures width { length self.new.row.items ≡ length self.old.row.items }
     {
         self.found = Some((start, end));
-        self.row.copy_from_slice(slots);
+        tell(slots, &mut self.row);
     }
 
     /// Forgets the match. Its row stays as it is.
@@ -88,5 +89,15 @@ impl Best {
                 slots: row,
             }),
         }
+    }
+}
+
+/// Writes what each slot holds.
+fn tell(slots: &[Slot], row: &mut [Option<usize>])
+    requires { length slots.now ≡ length row.old }
+    ensures { row.new ≡ slots.now }
+{
+    'slots: for k in 0..slots.len() {
+        row[k] = slots[k].get();
     }
 }

@@ -2,6 +2,7 @@
 ghost use Rattle.std.specs.Prelude.{◌≡◌};
 ghost use Rattle.regex_lite_engine.specs.Walk.Cells.{other, place_on, start_on, with_thread};
 
+use crate::pikevm::slot::Slot;
 use std::mem::size_of;
 
 /// One thing that is left to do.
@@ -9,10 +10,8 @@ use std::mem::size_of;
 pub enum Frame {
     /// To explore a place.
     Explore(u32),
-    /// To put a slot back to the offset that it held, since the branch that marked it is left.
-    Restore { slot: u32, old: usize },
-    /// To take the mark from a slot again that held nothing.
-    Unmark { slot: u32 },
+    /// To let a slot hold again what it held, since the branch that marked it is left.
+    Restore { slot: u32, old: Slot },
 }
 
 /// One of the two lists of threads.

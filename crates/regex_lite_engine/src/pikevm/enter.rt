@@ -1,11 +1,9 @@
 //! One place entered: what its arrows offer.
-ghost use Rattle.std.specs.Prelude.{◌≡◌, ◌+◌, ◌≤◌, ◌<◌, length};
+ghost use Rattle.std.specs.Prelude.{◌≡◌, ◌+◌, ◌^◌, ◌≤◌, ◌<◌, length};
 ghost use Rattle.regex_lite_syntax.specs.Ranges.{in_ranges};
 ghost use Rattle.regex_lite_syntax.specs.Sets.{just};
 ghost use Rattle.regex_lite_engine.specs.Graph.Places.{kept_back};
 ghost use Rattle.regex_lite_engine.specs.Graph.Stored.{place_of};
-ghost use Rattle.regex_lite_engine.specs.Walk.Cells.{frame_of};
-ghost use Rattle.regex_lite_engine.specs.Walk.Machine.{restore};
 ghost use Rattle.regex_lite_engine.specs.Walk.Entering.{reads, Enters, ReadsOn, SlotMarked};
 
 use crate::nfa::class::MappedClass;
@@ -13,6 +11,7 @@ use crate::nfa::place::Place;
 use crate::pikevm::cell::Frame;
 use crate::pikevm::here::Here;
 use crate::pikevm::memory::Memory;
+use crate::pikevm::slot::Slot;
 
 /// Puts what the place offers at this position on the stack, and what it offers at the next one
 /// behind the threads there. Tells whether a match is complete.
@@ -83,7 +82,8 @@ fn read_on(reads: bool, to: u32, start: usize, memory: &mut Memory)
 
 /// Marks the slot, if it is kept, and goes on.
 fn mark(slot: u32, to: u32, at: usize, memory: &mut Memory)
-    requires { length memory.old.frames + 2 ≤ length memory.old.rounds }
+    requires room { length memory.old.frames + 2 ≤ length memory.old.rounds }
+    requires small { at + 1 < 2 ^ 64 }
     ensures marked { SlotMarked at slot to memory.old.row memory.old.frames memory.new.row
         memory.new.frames }
     ensures same { memory.new
@@ -92,18 +92,8 @@ fn mark(slot: u32, to: u32, at: usize, memory: &mut Memory)
     let row = memory.row();
     if (slot as usize) < row.len() {
         let old = row[slot as usize];
-        memory.push(undoing(slot, old));
-        memory.put(slot, Some(at));
+        memory.push(Frame::Restore { slot, old });
+        memory.put(slot, Slot::marked(at));
     }
     memory.push(Frame::Explore(to));
-}
-
-/// What lets the slot hold this again.
-fn undoing(slot: u32, old: Option<usize>) -> Frame
-    ensures { frame_of result ≡ restore slot old }
-{
-    match old {
-        None => Frame::Unmark { slot },
-        Some(old) => Frame::Restore { slot, old },
-    }
 }

@@ -1,8 +1,7 @@
 //! Where a search stands in the haystack.
-ghost use Rattle.std.specs.Prelude.{◌≡◌, ◌+◌, ℕ, IsSome, IsCharBoundary, chars, drop, slice_get};
+ghost use Rattle.std.specs.Prelude.{◌≡◌, ◌+◌, ◌^◌, ◌<◌, ℕ, IsSome, IsCharBoundary, chars, drop, slice_get};
 ghost use Rattle.regex_lite_syntax.specs.Text.{before};
 ghost use Rattle.regex_lite_engine.specs.Search.Offsets.{position_at, IsOffset};
-ghost use Rattle.regex_lite_engine.specs.Walk.Standing.{IsHere};
 
 /// An offset into the haystack, with the characters before and after it.
 #[derive(Clone, Copy)]
@@ -10,15 +9,20 @@ pub struct Here {
     pub before: Option<char>,
     pub after: Option<char>,
     pub at: usize,
+    /// One more can be told, since no haystack has so many bytes.
+    pub ghost small: { at + 1 < 2 ^ 64 },
 }
 
 impl Here {
+    ghost use Rattle.regex_lite_engine.specs.Walk.Standing.{IsHere};
+
     /// The place at this offset.
     pub fn at(haystack: &str, at: usize) -> Here
         requires { IsCharBoundary haystack.now at }
         ensures here { IsHere (chars haystack.now) (position_at haystack.now at) result }
         ensures at { result.at ≡ at }
     {
+        let _bytes = haystack.len();
         Here {
             before: last_char(haystack, at),
             after: first_char(haystack, at),
@@ -32,18 +36,16 @@ impl Here {
         ensures { (p : ℕ) → IsHere (chars haystack.now) p self
             → IsHere (chars haystack.now) (p + 1) result }
     {
-        match self.after {
-            None => self,
-            Some(c) => {
-                // The sum fits, since a haystack has no more bytes than can be counted.
-                let _bytes = haystack.len();
-                let at = self.at + c.len_utf8();
-                Here {
-                    before: Some(c),
-                    after: first_char(haystack, at),
-                    at,
-                }
-            }
+        let Some(c) = self.after else {
+            return self;
+        };
+        // The sum fits, since a haystack has no more bytes than can be counted.
+        let _bytes = haystack.len();
+        let at = self.at + c.len_utf8();
+        Here {
+            before: Some(c),
+            after: first_char(haystack, at),
+            at,
         }
     }
 }

@@ -3,6 +3,7 @@ ghost use Rattle.std.specs.Prelude.{◌≡◌, ◌+◌, ◌*◌, ◌^◌, ◌≤
 
 use crate::pikevm::cell::{BLANK, Cell, Side};
 use crate::pikevm::rows::Rows;
+use crate::pikevm::slot::Slot;
 use std::alloc::{AllocError, Global};
 use std::marker::Model;
 
@@ -117,14 +118,14 @@ impl Memory {
     }
 
     /// The row of the way that is followed.
-    pub fn row(&self) -> &[Option<usize>]
+    pub fn row(&self) -> &[Slot]
         ensures { result.now ≡ self.now.row }
     {
         self.rows.first()
     }
 
     /// Lets a slot of that row hold this.
-    pub fn put(&mut self, slot: u32, held: Option<usize>)
+    pub fn put(&mut self, slot: u32, held: Slot)
         requires { slot < length self.old.row }
         ensures { self.new ≡ record self.old { row = slice_set self.old.row slot held } }
     {

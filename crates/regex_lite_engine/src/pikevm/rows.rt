@@ -1,28 +1,32 @@
 //! Rows of slots.
-ghost use Rattle.std.specs.Prelude.{◌≡◌, ◌+◌, ◌≤◌, ◌<◌, ◌⊎◌, [], ◌++◌, IfOk, None, length, take, drop, replicate, slice_index_or, slice_set};
+ghost use Rattle.std.specs.Prelude.{◌≡◌, ◌+◌, ◌-◌, ◌≤◌, ◌<◌, ◌⊎◌, [], ◌++◌, IfOk, None, length, take, drop, replicate, slice_index_or, slice_set, vec_capacity};
 
+use crate::pikevm::slot::Slot;
 use std::alloc::{AllocError, Global};
 use std::marker::Model;
 
 /// So many rows of one width. All their memory is asked for at once, and none where the width is 0.
 #[derive(Drop)]
 pub struct Rows {
-    /// The rows one behind the other.
-    slots: Vec<Option<usize>>,
+    /// The rows one behind the other, up to the last that was come to: a search needs few of them,
+    /// and to fill the others would cost more than a short search. They are as good as blank.
+    slots: Vec<Slot>,
     width: usize,
     count: usize,
 }
 
 impl Model for Rows {
-    ghost use Rattle.std.specs.Prelude.{◌≡◌, ◌*◌, List, length};
+    ghost use Rattle.std.specs.Prelude.{◌*◌, List, vec_capacity};
     ghost use Rattle.regex_lite_engine.specs.Walk.Machine.{Row};
-    ghost use Rattle.regex_lite_engine.specs.Walk.Cells.{rows_in};
+    ghost use Rattle.regex_lite_engine.specs.Walk.Cells.{rows_in, padded, AreRows};
 
     ghost Value = { List Row };
 
-    ghost view = { λ rows. rows_in rows.slots.items rows.width rows.count };
+    ghost view = { λ rows. rows_in (padded rows.slots.items (rows.count * rows.width)) rows.width
+        rows.count };
 
-    ghost invariant = { λ rows. rows.count * rows.width ≡ length rows.slots.items };
+    ghost invariant = { λ rows. AreRows rows.slots.items (vec_capacity rows.slots) rows.width
+        rows.count };
 }
 
 impl Rows {
@@ -33,7 +37,8 @@ impl Rows {
             → length (slice_index_or rows 0 []) ≡ width) }
     {
         let all = count.checked_mul(width).ok_or(AllocError)?;
-        let slots = vec![in alloc; None; all]?;
+        let mut slots = Vec::with_capacity(alloc, all)?;
+        slots.resize(width.min(all), Slot::blank())?;
         Ok(Rows {
             slots,
             width,
@@ -49,7 +54,7 @@ impl Rows {
     }
 
     /// The first row.
-    pub fn first(&self) -> &[Option<usize>]
+    pub fn first(&self) -> &[Slot]
         requires { 0 < length self.now }
         ensures { result.now ≡ slice_index_or self.now 0 [] }
     {
@@ -57,7 +62,7 @@ impl Rows {
     }
 
     /// Lets a slot of the first row hold this.
-    pub fn put(&mut self, slot: u32, held: Option<usize>)
+    pub fn put(&mut self, slot: u32, held: Slot)
         requires some { 0 < length self.old }
         requires inside { slot < length (slice_index_or self.old 0 []) }
         ensures { self.new
@@ -77,6 +82,8 @@ impl Rows {
     {
         let start = from * self.width;
         let place = to * self.width;
+        fill_to(&mut self.slots, start + self.width);
+        fill_to(&mut self.slots, place + self.width);
         copy_row(&mut self.slots, start, place, self.width);
     }
 
@@ -87,17 +94,32 @@ impl Rows {
             (replicate (length (slice_index_or self.old 0 [])) None) }
     {
         let start = row * self.width;
+        fill_to(&mut self.slots, start + self.width);
         clear_row(&mut self.slots, start, self.width);
     }
 }
 
+/// Lets all slots be there up to this number, those that are new with nothing marked. There is room
+/// for them.
+fn fill_to(slots: &mut Vec<Slot>, end: usize)
+    requires { end ≤ vec_capacity slots.old }
+    ensures items { slots.new.items
+        ≡ slots.old.items ++ replicate (end - length slots.old.items) None }
+    ensures capacity { vec_capacity slots.old ≤ vec_capacity slots.new }
+{
+    if slots.len() < end {
+        let _ = slots.resize(end, Slot::blank());
+    }
+}
+
 /// Copies a row of this width.
-fn copy_row(slots: &mut Vec<Option<usize>>, from: usize, to: usize, width: usize)
+fn copy_row(slots: &mut Vec<Slot>, from: usize, to: usize, width: usize)
     requires from { from + width ≤ length slots.old.items }
     requires to { to + width ≤ length slots.old.items }
     requires apart { (from + width ≤ to) ⊎ (to + width ≤ from) }
-    ensures { slots.new.items ≡ take to slots.old.items
+    ensures copied { slots.new.items ≡ take to slots.old.items
         ++ (take width (drop from slots.old.items) ++ drop (to + width) slots.old.items) }
+    ensures capacity { vec_capacity slots.new ≡ vec_capacity slots.old }
 {
     // Most searches keep no slots, and then a copy costs nothing.
     if width == 0 {
@@ -113,11 +135,12 @@ fn copy_row(slots: &mut Vec<Option<usize>>, from: usize, to: usize, width: usize
 }
 
 /// Writes over a row of this width that nothing is marked.
-fn clear_row(slots: &mut Vec<Option<usize>>, from: usize, width: usize)
+fn clear_row(slots: &mut Vec<Slot>, from: usize, width: usize)
     requires { from + width ≤ length slots.old.items }
-    ensures { slots.new.items ≡ take from slots.old.items
+    ensures cleared { slots.new.items ≡ take from slots.old.items
         ++ (replicate width None ++ drop (from + width) slots.old.items) }
+    ensures capacity { vec_capacity slots.new ≡ vec_capacity slots.old }
 {
     let to = from + width;
-    slots[from..to].fill(None);
+    slots[from..to].fill(Slot::blank());
 }

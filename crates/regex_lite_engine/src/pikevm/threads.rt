@@ -1,7 +1,7 @@
 //! Where a search goes on at a position and at the next: places in the order of their preference,
 //! each with where its way began and with a row of slots.
 ghost use Rattle.std.specs.Prelude.{◌≡◌, ◌+◌, ◌^◌, ◌<◌, ◌++◌, [], ◌∷◌, None, length, replicate};
-ghost use Rattle.regex_lite_engine.specs.Walk.Cells.{first_row};
+ghost use Rattle.regex_lite_engine.specs.Walk.Cells.{row_on};
 ghost use Rattle.regex_lite_engine.specs.Walk.Machine.{thread_at};
 
 use crate::pikevm::cell::Side;
@@ -23,7 +23,7 @@ impl Memory {
         ensures same { self.new ≡ record self.old { row = self.new.row } }
         ensures width { length self.new.row ≡ length self.old.row }
     {
-        self.rows.copy(row_of(self.side, self.room, k), 0);
+        self.rows.copy(row_of(self.side, k), 0);
         self.cells[k].thread(self.side)
     }
 
@@ -36,7 +36,7 @@ impl Memory {
         } }
     {
         let k = self.len;
-        self.rows.clear(row_of(self.side, self.room, k));
+        self.rows.clear(row_of(self.side, k));
         self.cells[k].put_thread(self.side, place, start);
         self.len = k + 1;
     }
@@ -51,7 +51,7 @@ impl Memory {
     {
         let side = self.side.other();
         let k = self.next_len;
-        self.rows.copy(0, row_of(side, self.room, k));
+        self.rows.copy(0, row_of(side, k));
         self.cells[k].put_thread(side, place, start);
         self.next_len = k + 1;
     }
@@ -67,12 +67,12 @@ impl Memory {
 }
 
 /// The number of the row of a thread.
-fn row_of(side: Side, room: usize, k: usize) -> usize
-    requires { first_row side room + k < 2 ^ 64 }
-    ensures { result ≡ first_row side room + k }
+fn row_of(side: Side, k: usize) -> usize
+    requires { row_on side k < 2 ^ 64 }
+    ensures { result ≡ row_on side k }
 {
     match side {
-        Side::First => k + 1,
-        Side::Second => room + k + 1,
+        Side::First => 2 * k + 1,
+        Side::Second => 2 * k + 2,
     }
 }

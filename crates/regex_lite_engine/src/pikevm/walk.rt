@@ -68,11 +68,7 @@ impl Walk {
         match frame {
             Frame::Explore(place) => self.come_to(place, graph, here, start),
             Frame::Restore { slot, old } => {
-                self.memory.put(slot, Some(old));
-                false
-            }
-            Frame::Unmark { slot } => {
-                self.memory.put(slot, None);
+                self.memory.put(slot, old);
                 false
             }
         }

@@ -1,5 +1,5 @@
 -- Positions and offsets.
-use Rattle.std.proofs.Common.{◌≡◌, ℕ, zero, suc, ◌+◌, ◌-◌, ◌<◌, ◌≤◌, ◌⊎◌, inl, inr, List, [], ◌∷◌, ◌++◌, length, take, drop, sum_by, slice_get, Option, Some, None, refl, sym, ap, subst, ◌∙◌, arith, length-append, append-nil}
+use Rattle.std.proofs.Common.{◌≡◌, ℕ, zero, suc, ◌+◌, ◌-◌, ◌<◌, ◌≤◌, ◌⊎◌, inl, inr, List, [], ◌∷◌, ◌++◌, length, take, drop, sum_by, slice_get, Some, None, refl, sym, ap, subst, ◌∙◌, arith, length-append, append-nil}
 use Rattle.std.specs.Prelude.{IsUtf8, IsCharBoundary, chars}
 use Rattle.std.specs.Char.{len_utf8, IsScalar}
 use Rattle.regex_lite_engine.specs.declared.pikevm.here.Here.{Here}
@@ -106,17 +106,17 @@ moved bs p c x is e =
     let within = slice_get_within (chars bs) p c at in let next = offset_next (chars bs) p c at in let bytes = is.bytes in
     (omega (arith, within), omega (arith, next, bytes))
 
-pub here_next : (bs : List ℕ) (p c : ℕ) (x : Here) (o : Option ℕ) → IsUtf8 bs → x.after ≡ Some c → o ≡ slice_get (chars (drop (x.at + len_utf8 c) bs)) 0 → IsHere (chars bs) p x →
-    IsHere (chars bs) (p + 1) (record { before = Some c; after = o; at = x.at + len_utf8 c })
-here_next bs p c x o u e eo is =
-    let next = moved bs p c x is e in
-    subst (λ z. IsHere (chars bs) z (record { before = Some c; after = o; at = x.at + len_utf8 c })) (omega arith)
-    (record { inside = next.0; bytes = next.1; behind = sym (sym is.ahead ∙ e); ahead = eo ∙ after_at bs (suc p) (x.at + len_utf8 c) u next })
+pub here_next : (bs : List ℕ) (p c : ℕ) (x y : Here) → IsUtf8 bs → x.after ≡ Some c → y.before ≡ Some c → y.at ≡ x.at + len_utf8 c → y.after ≡ slice_get (chars (drop y.at bs)) 0 →
+    IsHere (chars bs) p x → IsHere (chars bs) (p + 1) y
+here_next bs p c x y u e eb ey ea is =
+    let next : IsOffset (chars bs) (suc p) y.at = subst (IsOffset (chars bs) (suc p)) (sym ey) (moved bs p c x is e) in
+    subst (λ z. IsHere (chars bs) z y) (omega arith)
+    (record { inside = next.0; bytes = next.1; behind = eb ∙ sym (sym is.ahead ∙ e); ahead = ea ∙ after_at bs (suc p) y.at u next })
 
-pub here_begins : (bs : List ℕ) (at : ℕ) (a b : Option ℕ) → IsUtf8 bs → IsCharBoundary bs at → ((p : ℕ) → IsOffset (chars bs) p at → b ≡ before (chars bs) p) →
-    a ≡ slice_get (chars (drop at bs)) 0 → IsHere (chars bs) (position_at bs at) (record { before = b; after = a; at = at })
-here_begins bs at a b u edge eb ea = let is = position_is bs at u edge in
-    record { inside = is.0; bytes = is.1; behind = eb (position_at bs at) is; ahead = ea ∙ after_at bs (position_at bs at) at u is }
+pub here_begins : (bs : List ℕ) (at : ℕ) (x : Here) → IsUtf8 bs → IsCharBoundary bs at → x.at ≡ at → ((p : ℕ) → IsOffset (chars bs) p at → x.before ≡ before (chars bs) p) →
+    x.after ≡ slice_get (chars (drop at bs)) 0 → IsHere (chars bs) (position_at bs at) x
+here_begins bs at x u edge e eb ea = let is = position_is bs at u edge in
+    record { inside = is.0; bytes = e ∙ is.1; behind = eb (position_at bs at) is; ahead = ea ∙ after_at bs (position_at bs at) at u is }
 
 -- there is less to come
 pub less_left : (bs : List ℕ) (p q : ℕ) (x y : Here) → IsUtf8 bs → IsHere (chars bs) p x → IsHere (chars bs) (q + 1) y → p ≤ q → length bs - y.at < length bs - x.at

@@ -6,7 +6,7 @@ use Rattle.regex_lite_engine.specs.declared.pikevm.cell.Cell.{Cell}
 use Rattle.regex_lite_engine.specs.declared.pikevm.cell.Frame as code
 use Rattle.regex_lite_engine.specs.declared.pikevm.cell.Side.{Side}
 use Rattle.regex_lite_engine.specs.declared.pikevm.cell.Side.TheVariants.{First, Second}
-use Rattle.regex_lite_engine.specs.Walk.Cells.{round_in, frame_in, frames_in, other, place_on, start_on, with_thread, first_row}
+use Rattle.regex_lite_engine.specs.Walk.Cells.{round_in, frame_in, frames_in, other, place_on, start_on, with_thread, row_on}
 use Rattle.regex_lite_engine.specs.Walk.Machine.{Row, Frame, Thread, State}
 
 -- a cell with a thread more
@@ -44,19 +44,23 @@ back First = refl
 back Second = refl
 
 -- the rows of threads
-pub row_apart : (s t : Side) (room j k : ℕ) → t ≡ other s → j < room → k < room → first_row t room + j ≡ first_row s room + k → ⊥
+pub row_apart : (s t : Side) (room j k : ℕ) → t ≡ other s → j < room → k < room → row_on t j ≡ row_on s k → ⊥
 row_apart First First room j k e lt lt' same = cc
 row_apart First Second room j k e lt lt' same = omega (arith, lt, lt', same)
 row_apart Second First room j k e lt lt' same = omega (arith, lt, lt', same)
 row_apart Second Second room j k e lt lt' same = cc
 
-pub row_fits : (s : Side) (room k : ℕ) → k < room → first_row s room + k < 2 * room + 1
+pub row_fits : (s : Side) (room k : ℕ) → k < room → row_on s k < 2 * room + 1
 row_fits First room k lt = omega (arith, lt)
 row_fits Second room k lt = omega (arith, lt)
 
-pub row_behind_first : (s : Side) (room k : ℕ) → first_row s room + k ≡ 0 → ⊥
+pub row_behind_first : (s : Side) (room k : ℕ) → row_on s k ≡ 0 → ⊥
 row_behind_first First room k e = omega (arith, e)
 row_behind_first Second room k e = omega (arith, e)
+
+pub row_other : (s : Side) (j k : ℕ) → j < k → row_on s j ≡ row_on s k → ⊥
+row_other First j k lt e = omega (arith, lt, e)
+row_other Second j k lt e = omega (arith, lt, e)
 
 -- what cannot tell the new cell from the old one
 pub not_told : {X : Type 0} (f : Cell → X) (cells : List Cell) (i : ℕ) (x y : Cell) → x ≡ slice_index_or cells i x → f y ≡ f x → map f (set cells i y) ≡ map f cells

@@ -1,5 +1,5 @@
 -- Rows that lie one behind the other.
-use Rattle.std.proofs.Common.{◌≡◌, ℕ, zero, suc, ◌+◌, ◌-◌, ◌*◌, ◌<◌, ◌≤◌, ◌⊎◌, inl, inr, List, [], ◌∷◌, ◌++◌, length, map, take, drop, set, slice_index_or, Option, refl, sym, ap, subst, ◌∙◌, arith, length-drop, length-append}
+use Rattle.std.proofs.Common.{◌≡◌, ℕ, zero, suc, ◌+◌, ◌-◌, ◌*◌, ◌<◌, ◌≤◌, ◌⊎◌, inl, inr, List, [], ◌∷◌, ◌++◌, length, map, take, drop, set, slice_index_or, Option, refl, sym, ap, subst, ◌∙◌, arith, length-drop}
 use Rattle.std.specs.List.{range_with_len}
 use Rattle.std.proofs.lemmas.List.{drop-append-le, take-append-le, drop-take, take-take, length-take-le, drop-set-lt}
 use Rattle.std.proofs.lemmas.List.FromFn.{get_or-map-range_with_len, length-map-range_with_len}
@@ -109,7 +109,7 @@ row_long slots w k short = length-take-le w (drop (k * w) slots) (omega (arith, 
 pub row_inside : (w count k : ℕ) (size : ℕ) → count * w ≡ size → k < count → k * w + w ≤ size
 row_inside w count k size all lt = let room : suc k * w ≤ count * w = mul-le-mul_right w (omega (arith, lt)) in omega (arith, room, suc-mul k w, all)
 
-row_first : (slots : Row) (w : ℕ) → row_at slots w 0 ≡ take w slots
+pub row_first : (slots : Row) (w : ℕ) → row_at slots w 0 ≡ take w slots
 row_first slots w = let none : 0 * w ≡ 0 = omega arith in ap (λ z. take w (drop z slots)) none
 
 -- a slot of the first row
@@ -151,13 +151,6 @@ module _ (slots : Row) (w count : ℕ) (rows : List Row) (view : rows_in slots w
   pub view_over : (slots' mid : Row) (n : ℕ) → n < length rows → length mid ≡ w → slots' ≡ take (n * w) slots ++ (mid ++ drop (n * w + w) slots) →
       rows_in slots' w count ≡ set rows n mid
   view_over slots' mid n lt long e = row_over slots slots' mid w count n all (number_inside n lt) long e ∙ ap (λ z. set z n mid) view
-
-  pub over_long : (slots' mid : Row) (n : ℕ) → n < length rows → length mid ≡ w → slots' ≡ take (n * w) slots ++ (mid ++ drop (n * w + w) slots) →
-      count * w ≡ length slots'
-  over_long slots' mid n lt long e =
-      let fits = inside_slots n lt in
-      let front = length-take-le (n * w) slots (omega (arith, fits)) in
-      omega (arith, all, fits, front, long, ap length e, length-append (take (n * w) slots) (mid ++ drop (n * w + w) slots), length-append mid (drop (n * w + w) slots), length-drop (n * w + w) slots)
 
   pub view_put : (slot : ℕ) (held : Option ℕ) → 0 < length rows → slot < length (slice_index_or rows 0 []) →
       rows_in (set slots slot held) w count ≡ set rows 0 (set (slice_index_or rows 0 []) slot held)

@@ -1,6 +1,5 @@
-use Rattle.std.proofs.Common.{rules, ◌≡◌, ◌+◌, drop, slice_get, chars, Some, suc, sym, subst}
+use Rattle.std.proofs.Common.{rules, ◌+◌, chars, suc, refl, sym, ap, subst}
 use Rattle.regex_lite_engine.specs.Search.Offsets.{IsOffset}
-use Rattle.regex_lite_engine.specs.Walk.Standing.{IsHere}
 use Rattle.regex_lite_engine.proofs.pikevm.here.OffsetLemmas.{moved, here_next, boundary_at}
 use Rattle.regex_lite_engine.proofs.pikevm.here.Here.next.Goals as goal
 
@@ -17,8 +16,14 @@ first_char-requires c =
     (subst (λ z. IsOffset (chars c.args.haystack.now) (suc c.requires.0) (c.args.self.at + z)) (sym c.len_utf8.ensures.value)
     (moved c.args.haystack.now c.requires.0 c.in-Some.c c.args.self c.requires.1 c.in-Some.is))
 
-pub returns-in-Some : goal.returns-in-Some
-returns-in-Some c = λ p is.
-    subst (λ z. IsHere (chars c.args.haystack.now) (p + 1) (record { before = Some c.in-Some.c; after = c.first_char.result; at = c.args.self.at + z })) (sym c.len_utf8.ensures.value)
-    (here_next c.args.haystack.now p c.in-Some.c c.args.self c.first_char.result c.utf8.haystack c.in-Some.is
-    (subst (λ z. c.first_char.result ≡ slice_get (chars (drop (c.args.self.at + z) c.args.haystack.now)) 0) c.len_utf8.ensures.value c.first_char.ensures) is)
+pub invariant_of-result : goal.invariant_of-result
+invariant_of-result c =
+    let edge = boundary_at c.args.haystack.now (suc c.requires.0) (c.args.self.at + c.len_utf8.result) c.utf8.haystack
+    (subst (λ z. IsOffset (chars c.args.haystack.now) (suc c.requires.0) (c.args.self.at + z)) (sym c.len_utf8.ensures.value)
+    (moved c.args.haystack.now c.requires.0 c.in-Some.c c.args.self c.requires.1 c.in-Some.is)) in
+    search rules
+
+pub returns : goal.returns
+returns c = λ p is.
+    here_next c.args.haystack.now p c.in-Some.c c.args.self _ c.utf8.haystack c.in-Some.is refl
+    (ap (λ z. c.args.self.at + z) c.len_utf8.ensures.value) c.first_char.ensures is

@@ -1,6 +1,6 @@
-use Rattle.std.proofs.Common.{◌≡◌, ◌<◌, ◌+◌, [], length, map, slice_index, refl, ap, sym, ◌∙◌, arith}
+use Rattle.std.proofs.Common.{◌≡◌, ◌<◌, [], length, map, slice_index, refl, ap, sym, ◌∙◌, arith}
 use Rattle.std.proofs.lemmas.List.{get_or-set_same}
-use Rattle.regex_lite_engine.specs.Walk.Cells.{nth_row, threads_on, other, first_row, place_on, start_on}
+use Rattle.regex_lite_engine.specs.Walk.Cells.{nth_row, threads_on, other, row_on, place_on, start_on}
 use Rattle.regex_lite_engine.specs.Walk.Machine.{State, thread_at}
 use Rattle.regex_lite_engine.proofs.pikevm.memory.CellLemmas.{row_fits, told_at, state_is}
 use Rattle.regex_lite_engine.proofs.pikevm.memory.ListLemmas.{first_row_alone, thread_is, thread_told, threads_long}
@@ -30,12 +30,12 @@ returns-clause-thread c =
     let lt : c.args.k < i.len = omega (arith, c.requires, threads_long i.side i.cells.items i.rows i.room i.len, ap (λ (z : State). length z.threads) v) in let k_fits : c.args.k < i.room = omega (arith, lt, fit.threads_fit) in
     let x = c.index.result.now in let short : c.args.k < length i.cells.items = omega (arith, k_fits, fit.cells_fit) in
     let some : 0 < length i.rows = omega (arith, fit.rows_fit) in
-    let row : nth_row c.copy.new.self 0 ≡ nth_row i.rows (first_row i.side i.room + c.args.k) = ap (λ z. nth_row z 0) c.copy.ensures.copied ∙ get_or-set_same i.rows 0 (nth_row i.rows c.row_of.result) [] some ∙ ap (nth_row i.rows) c.row_of.ensures in
+    let row : nth_row c.copy.new.self 0 ≡ nth_row i.rows (row_on i.side c.args.k) = ap (λ z. nth_row z 0) c.copy.ensures.copied ∙ get_or-set_same i.rows 0 (nth_row i.rows c.row_of.result) [] some ∙ ap (nth_row i.rows) c.row_of.ensures in
     let place = told_at (place_on i.side) i.cells.items c.args.k x short c.index.ensures in
     let start = told_at (start_on i.side) i.cells.items c.args.k x short c.index.ensures in
     let at = ap (λ ts. thread_at ts c.args.k) (sym (ap (λ (z : State). z.threads) v)) ∙ thread_is i.side i.cells.items i.rows i.room i.len c.args.k lt in
     at ∙ thread_told (slice_index (map (place_on i.side) i.cells.items) c.args.k) (slice_index (map (start_on i.side) i.cells.items) c.args.k) (place_on i.side x) (start_on i.side x)
-    (nth_row i.rows (first_row i.side i.room + c.args.k)) (nth_row c.copy.new.self 0) c.thread.result place start c.thread.ensures row
+    (nth_row i.rows (row_on i.side c.args.k)) (nth_row c.copy.new.self 0) c.thread.result place start c.thread.ensures row
 
 pub returns-clause-same : goal.returns-clause-same
 returns-clause-same c =

@@ -1,5 +1,5 @@
 use Rattle.std.proofs.Common.{◌<◌, ◌+◌, ◌++◌, ◌∷◌, [], length, drop, set, ap, sym, ◌∙◌, arith, length-set}
-use Rattle.regex_lite_engine.specs.Walk.Cells.{nth_row, threads_on, other, first_row}
+use Rattle.regex_lite_engine.specs.Walk.Cells.{nth_row, threads_on, other, row_on}
 use Rattle.regex_lite_engine.specs.Walk.Machine.{State, Row}
 use Rattle.regex_lite_engine.proofs.pikevm.memory.CellLemmas.{back, row_fits, state_is}
 use Rattle.regex_lite_engine.proofs.pikevm.memory.ListLemmas.{threads_long, rounds_stay, frames_stay, row_stays, own_list, other_list}
@@ -29,7 +29,7 @@ invariant_of-self c =
       threads_fit = omega (arith, lt, fit.threads_fit);
       next_fit = omega (arith, lt, fit.next_fit);
       cells_fit = omega (arith, cells, fit.cells_fit);
-      rows_fit = ap length copied ∙ length-set i.rows (first_row c.other-side.result i.room + i.next_len) row ∙ fit.rows_fit;
+      rows_fit = ap length copied ∙ length-set i.rows (row_on c.other-side.result i.next_len) row ∙ fit.rows_fit;
     }
 
 pub returns : goal.returns

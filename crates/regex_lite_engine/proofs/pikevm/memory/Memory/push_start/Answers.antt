@@ -1,5 +1,5 @@
-use Rattle.std.proofs.Common.{◌<◌, ◌+◌, ◌++◌, ◌∷◌, [], None, length, drop, replicate, set, refl, ap, ◌∙◌, arith, length-set}
-use Rattle.regex_lite_engine.specs.Walk.Cells.{nth_row, other, first_row}
+use Rattle.std.proofs.Common.{◌<◌, ◌++◌, ◌∷◌, [], None, length, drop, replicate, set, refl, ap, ◌∙◌, arith, length-set}
+use Rattle.regex_lite_engine.specs.Walk.Cells.{nth_row, other, row_on}
 use Rattle.regex_lite_engine.specs.Walk.Machine.{State, Row}
 use Rattle.regex_lite_engine.proofs.pikevm.memory.CellLemmas.{row_fits, state_is}
 use Rattle.regex_lite_engine.proofs.pikevm.memory.ListLemmas.{threads_long, rounds_stay, frames_stay, row_stays, own_list, other_list}
@@ -29,7 +29,7 @@ invariant_of-self c =
       threads_fit = omega (arith, lt, fit.threads_fit);
       next_fit = omega (arith, lt, fit.next_fit);
       cells_fit = omega (arith, cells, fit.cells_fit);
-      rows_fit = ap length copied ∙ length-set i.rows (first_row i.side i.room + i.len) row ∙ fit.rows_fit;
+      rows_fit = ap length copied ∙ length-set i.rows (row_on i.side i.len) row ∙ fit.rows_fit;
     }
 
 pub returns : goal.returns

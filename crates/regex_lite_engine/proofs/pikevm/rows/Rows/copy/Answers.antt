@@ -1,36 +1,62 @@
-use Rattle.std.proofs.Common.{◌*◌, length, take, drop, set, ap, sym, ◌∙◌, arith}
-use Rattle.regex_lite_engine.proofs.pikevm.rows.RowLemmas.{rows_apart, inside_slots, row_of_view, row_of_view_long, view_over, over_long}
+use Rattle.std.proofs.Common.{◌≡◌, ℕ, ◌*◌, ◌+◌, ◌≤◌, length, take, drop, set, vec_capacity, ap, sym, ◌∙◌, arith}
+use Rattle.regex_lite_engine.proofs.pikevm.rows.RowLemmas.{rows_apart}
+use Rattle.regex_lite_engine.proofs.pikevm.rows.BlankLemmas.{filled, over_long, row_within, row_wide, row_put_over, row_read}
 use Rattle.regex_lite_engine.proofs.pikevm.rows.Rows.copy.Goals as goal
 
 pub overflow_mul-start : goal.overflow_mul-start
-overflow_mul-start c = omega (arith, inside_slots c.self.inside.slots.items c.self.inside.width c.self.inside.count c.args.self.now c.self.view_is c.self.invariant c.args.from c.requires.from, c.self.inside.slots.ok.0)
+overflow_mul-start c = omega (arith, row_within c.self.inside.slots.items (vec_capacity c.self.inside.slots) c.self.inside.width c.self.inside.count c.args.self.now c.self.view_is c.self.invariant c.args.from c.requires.from, c.self.invariant.fitting, c.self.inside.slots.ok.0)
 
 pub overflow_mul-place : goal.overflow_mul-place
-overflow_mul-place c = omega (arith, inside_slots c.self.inside.slots.items c.self.inside.width c.self.inside.count c.args.self.now c.self.view_is c.self.invariant c.args.to c.requires.to, c.self.inside.slots.ok.0)
+overflow_mul-place c = omega (arith, row_within c.self.inside.slots.items (vec_capacity c.self.inside.slots) c.self.inside.width c.self.inside.count c.args.self.now c.self.view_is c.self.invariant c.args.to c.requires.to, c.self.invariant.fitting, c.self.inside.slots.ok.0)
 
-pub copy_row-requires-clause-from : goal.copy_row-requires-clause-from
-copy_row-requires-clause-from c = inside_slots c.self.inside.slots.items c.self.inside.width c.self.inside.count c.args.self.now c.self.view_is c.self.invariant c.args.from c.requires.from
+pub overflow_add-start : goal.overflow_add-start
+overflow_add-start c = omega (arith, row_within c.self.inside.slots.items (vec_capacity c.self.inside.slots) c.self.inside.width c.self.inside.count c.args.self.now c.self.view_is c.self.invariant c.args.from c.requires.from, c.self.invariant.fitting, c.self.inside.slots.ok.0)
 
-pub copy_row-requires-clause-to : goal.copy_row-requires-clause-to
-copy_row-requires-clause-to c = inside_slots c.self.inside.slots.items c.self.inside.width c.self.inside.count c.args.self.now c.self.view_is c.self.invariant c.args.to c.requires.to
+pub fill_to-requires : goal.fill_to-requires
+fill_to-requires c = omega (arith, row_within c.self.inside.slots.items (vec_capacity c.self.inside.slots) c.self.inside.width c.self.inside.count c.args.self.now c.self.view_is c.self.invariant c.args.from c.requires.from, c.self.invariant.fitting)
 
-pub invariant_of-self : goal.invariant_of-self
-invariant_of-self c =
-    let mid = take c.self.inside.width (drop (c.args.from * c.self.inside.width) c.self.inside.slots.items) in
-    over_long c.self.inside.slots.items c.self.inside.width c.self.inside.count c.args.self.now c.self.view_is c.self.invariant
-    c.copy_row.new.slots.items mid c.args.to c.requires.to
-    (sym (ap length (row_of_view c.self.inside.slots.items c.self.inside.width c.self.inside.count c.args.self.now c.self.view_is c.self.invariant c.args.from c.requires.from)) ∙ row_of_view_long c.self.inside.slots.items c.self.inside.width c.self.inside.count c.args.self.now c.self.view_is c.self.invariant c.args.from c.requires.from) c.copy_row.ensures
+pub overflow_add-place : goal.overflow_add-place
+overflow_add-place c = omega (arith, row_within c.self.inside.slots.items (vec_capacity c.self.inside.slots) c.self.inside.width c.self.inside.count c.args.self.now c.self.view_is c.self.invariant c.args.to c.requires.to, c.self.invariant.fitting, c.self.inside.slots.ok.0)
 
-pub returns-clause-copied : goal.returns-clause-copied
-returns-clause-copied c =
-    let mid = take c.self.inside.width (drop (c.args.from * c.self.inside.width) c.self.inside.slots.items) in
-    let held = row_of_view c.self.inside.slots.items c.self.inside.width c.self.inside.count c.args.self.now c.self.view_is c.self.invariant c.args.from c.requires.from in
-    view_over c.self.inside.slots.items c.self.inside.width c.self.inside.count c.args.self.now c.self.view_is c.self.invariant
-    c.copy_row.new.slots.items mid c.args.to c.requires.to (sym (ap length held) ∙ row_of_view_long c.self.inside.slots.items c.self.inside.width c.self.inside.count c.args.self.now c.self.view_is c.self.invariant c.args.from c.requires.from) c.copy_row.ensures
-    ∙ ap (λ row. set c.args.self.now c.args.to row) (sym held)
-
-pub returns-clause-width : goal.returns-clause-width
-returns-clause-width c = row_of_view_long c.self.inside.slots.items c.self.inside.width c.self.inside.count c.args.self.now c.self.view_is c.self.invariant c.args.from c.requires.from ∙ sym (row_of_view_long c.self.inside.slots.items c.self.inside.width c.self.inside.count c.args.self.now c.self.view_is c.self.invariant c.args.to c.requires.to)
+pub fill_to-requires-2 : goal.fill_to-requires-2
+fill_to-requires-2 c = omega (arith, row_within c.self.inside.slots.items (vec_capacity c.self.inside.slots) c.self.inside.width c.self.inside.count c.args.self.now c.self.view_is c.self.invariant c.args.to c.requires.to, c.self.invariant.fitting, c.fill_to.ensures.capacity)
 
 pub copy_row-requires-clause-apart : goal.copy_row-requires-clause-apart
 copy_row-requires-clause-apart c = rows_apart c.args.from c.args.to c.self.inside.width c.requires.apart
+
+pub invariant_of-self : goal.invariant_of-self
+invariant_of-self c =
+    let r = c.self.inside in let size : ℕ = r.count * r.width in
+    let in_from = row_within c.self.inside.slots.items (vec_capacity c.self.inside.slots) c.self.inside.width c.self.inside.count c.args.self.now c.self.view_is c.self.invariant c.args.from c.requires.from in
+    let in_to = row_within c.self.inside.slots.items (vec_capacity c.self.inside.slots) c.self.inside.width c.self.inside.count c.args.self.now c.self.view_is c.self.invariant c.args.to c.requires.to in
+    let one = filled r.slots.items c.fill_to.new.slots.items (c.args.from * r.width + r.width) size c.fill_to.ensures.items in_from c.self.invariant.within in
+    let two = filled c.fill_to.new.slots.items c.fill_to-2.new.slots.items (c.args.to * r.width + r.width) size c.fill_to-2.ensures.items in_to one.1 in
+    let there = c.fill_to-2.new.slots.items in
+    let from_there : c.args.from * r.width + r.width ≤ length there = omega (arith, one.2, two.3) in
+    let mid = take r.width (drop (c.args.from * r.width) there) in
+    let held = row_read c.self.inside.slots.items (vec_capacity c.self.inside.slots) c.self.inside.width c.self.inside.count c.args.self.now c.self.view_is c.self.invariant there c.args.from (two.0 ∙ one.0) c.requires.from from_there in
+    let long : length mid ≡ r.width = ap length held ∙ row_wide c.self.inside.slots.items (vec_capacity c.self.inside.slots) c.self.inside.width c.self.inside.count c.args.self.now c.self.view_is c.self.invariant c.args.from c.requires.from in
+    let after : length c.copy_row.new.slots.items ≡ length there = ap length c.copy_row.ensures.copied ∙ over_long there mid (c.args.to * r.width) r.width two.2 long in
+    record {
+      within = omega (arith, after, two.1);
+      fitting = omega (arith, c.self.invariant.fitting, c.fill_to.ensures.capacity, c.fill_to-2.ensures.capacity, c.copy_row.ensures.capacity);
+      first = λ some. (let first = c.self.invariant.first some in omega (arith, first, after, one.3, two.3));
+    }
+
+pub returns-clause-copied : goal.returns-clause-copied
+returns-clause-copied c =
+    let r = c.self.inside in let size : ℕ = r.count * r.width in
+    let in_from = row_within c.self.inside.slots.items (vec_capacity c.self.inside.slots) c.self.inside.width c.self.inside.count c.args.self.now c.self.view_is c.self.invariant c.args.from c.requires.from in
+    let in_to = row_within c.self.inside.slots.items (vec_capacity c.self.inside.slots) c.self.inside.width c.self.inside.count c.args.self.now c.self.view_is c.self.invariant c.args.to c.requires.to in
+    let one = filled r.slots.items c.fill_to.new.slots.items (c.args.from * r.width + r.width) size c.fill_to.ensures.items in_from c.self.invariant.within in
+    let two = filled c.fill_to.new.slots.items c.fill_to-2.new.slots.items (c.args.to * r.width + r.width) size c.fill_to-2.ensures.items in_to one.1 in
+    let there = c.fill_to-2.new.slots.items in
+    let from_there : c.args.from * r.width + r.width ≤ length there = omega (arith, one.2, two.3) in
+    let mid = take r.width (drop (c.args.from * r.width) there) in
+    let held = row_read c.self.inside.slots.items (vec_capacity c.self.inside.slots) c.self.inside.width c.self.inside.count c.args.self.now c.self.view_is c.self.invariant there c.args.from (two.0 ∙ one.0) c.requires.from from_there in
+    let long : length mid ≡ r.width = ap length held ∙ row_wide c.self.inside.slots.items (vec_capacity c.self.inside.slots) c.self.inside.width c.self.inside.count c.args.self.now c.self.view_is c.self.invariant c.args.from c.requires.from in
+    row_put_over c.self.inside.slots.items (vec_capacity c.self.inside.slots) c.self.inside.width c.self.inside.count c.args.self.now c.self.view_is c.self.invariant there c.copy_row.new.slots.items mid c.args.to (two.0 ∙ one.0) c.requires.to two.2 long c.copy_row.ensures.copied
+    ∙ ap (λ row. set c.args.self.now c.args.to row) held
+
+pub returns-clause-width : goal.returns-clause-width
+returns-clause-width c = row_wide c.self.inside.slots.items (vec_capacity c.self.inside.slots) c.self.inside.width c.self.inside.count c.args.self.now c.self.view_is c.self.invariant c.args.from c.requires.from ∙ sym (row_wide c.self.inside.slots.items (vec_capacity c.self.inside.slots) c.self.inside.width c.self.inside.count c.args.self.now c.self.view_is c.self.invariant c.args.to c.requires.to)
