@@ -80,6 +80,10 @@ impl Rows {
         ensures width { length (slice_index_or self.old from [])
             ≡ length (slice_index_or self.old to []) }
     {
+        // Most searches keep no slots, and then a copy costs nothing.
+        if self.width == 0 {
+            return;
+        }
         let start = from * self.width;
         let place = to * self.width;
         fill_to(&mut self.slots, start + self.width);
@@ -121,10 +125,6 @@ fn copy_row(slots: &mut Vec<Slot>, from: usize, to: usize, width: usize)
         ++ (take width (drop from slots.old.items) ++ drop (to + width) slots.old.items) }
     ensures capacity { vec_capacity slots.new ≡ vec_capacity slots.old }
 {
-    // Most searches keep no slots, and then a copy costs nothing.
-    if width == 0 {
-        return;
-    }
     if from < to {
         let (head, tail) = slots.split_at_mut(to);
         tail[..width].copy_from_slice(&head[from..from + width]);

@@ -1,4 +1,6 @@
-use Rattle.std.proofs.Common.{◌≡◌, ℕ, ◌*◌, ◌+◌, ◌≤◌, length, take, drop, set, vec_capacity, ap, sym, ◌∙◌, arith}
+use Rattle.std.proofs.Common.{rules, ◌≡◌, ℕ, ◌*◌, ◌+◌, ◌≤◌, [], ◌∷◌, length, take, drop, set, slice_index_or, vec_capacity, refl, ap, sym, ◌∙◌, arith}
+use Rattle.std.proofs.lemmas.List.{set-get_or}
+use Rattle.regex_lite_engine.specs.Walk.Machine.{Row}
 use Rattle.regex_lite_engine.proofs.pikevm.rows.RowLemmas.{rows_apart}
 use Rattle.regex_lite_engine.proofs.pikevm.rows.BlankLemmas.{filled, over_long, row_within, row_wide, row_put_over, row_read}
 use Rattle.regex_lite_engine.proofs.pikevm.rows.Rows.copy.Goals as goal
@@ -60,3 +62,18 @@ returns-clause-copied c =
 
 pub returns-clause-width : goal.returns-clause-width
 returns-clause-width c = row_wide c.self.inside.slots.items (vec_capacity c.self.inside.slots) c.self.inside.width c.self.inside.count c.args.self.now c.self.view_is c.self.invariant c.args.from c.requires.from ∙ sym (row_wide c.self.inside.slots.items (vec_capacity c.self.inside.slots) c.self.inside.width c.self.inside.count c.args.self.now c.self.view_is c.self.invariant c.args.to c.requires.to)
+
+-- rows of no width are alike
+empty_row : (row : Row) (w : ℕ) → length row ≡ w → w ≡ 0 → row ≡ []
+empty_row [] w long none = refl
+empty_row (a ∷ row) w long none = absurd (omega (arith, long, none))
+
+pub returns-then-self-eq0-clause-copied : goal.returns-then-self-eq0-clause-copied
+returns-then-self-eq0-clause-copied c =
+    let none : c.self.inside.width ≡ 0 = search rules in
+    let from = empty_row (slice_index_or c.args.self.now c.args.from []) c.self.inside.width (row_wide c.self.inside.slots.items (vec_capacity c.self.inside.slots) c.self.inside.width c.self.inside.count c.args.self.now c.self.view_is c.self.invariant c.args.from c.requires.from) none in
+    let to = empty_row (slice_index_or c.args.self.now c.args.to []) c.self.inside.width (row_wide c.self.inside.slots.items (vec_capacity c.self.inside.slots) c.self.inside.width c.self.inside.count c.args.self.now c.self.view_is c.self.invariant c.args.to c.requires.to) none in
+    sym (ap (λ row. set c.args.self.now c.args.to row) (from ∙ sym to) ∙ set-get_or c.args.self.now c.args.to [])
+
+pub returns-then-self-eq0-clause-width : goal.returns-then-self-eq0-clause-width
+returns-then-self-eq0-clause-width c = row_wide c.self.inside.slots.items (vec_capacity c.self.inside.slots) c.self.inside.width c.self.inside.count c.args.self.now c.self.view_is c.self.invariant c.args.from c.requires.from ∙ sym (row_wide c.self.inside.slots.items (vec_capacity c.self.inside.slots) c.self.inside.width c.self.inside.count c.args.self.now c.self.view_is c.self.invariant c.args.to c.requires.to)
