@@ -3,6 +3,7 @@ pub mod AcceptanceLemmas
 pub mod AgreementLemmas
 pub mod CapturedLemmas
 pub mod EqualityLemmas
+pub mod EscapedLemmas
 pub mod FoundLemmas
 pub mod GroupLemmas
 pub mod GroupNameLemmas

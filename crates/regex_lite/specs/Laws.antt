@@ -1,11 +1,20 @@
 -- Laws of what searches tell, and of equality.
-use Rattle.std.specs.Prelude.{◌≡◌, ◌↔◌, ℕ, List, Bool, IsTrue, Option, is_some, option_map, option_and_then}
+use Rattle.std.specs.Prelude.{◌≡◌, ◌↔◌, ℕ, List, Bool, IsTrue, IsUtf8, Option, chars, is_some, option_map, option_and_then}
 use Rattle.std.specs.Bool.{Decides}
+use Rattle.regex_lite_syntax.specs.declared.error.Error.{Error}
+use Rattle.regex_lite_syntax.specs.declared.error.ErrorKind.{ErrorKind}
+use Rattle.regex_lite_syntax.specs.declared.error.ErrorKind.TheVariants.{Size, Places, Memory}
+use Rattle.regex_lite_syntax.specs.Errors.{kind_of}
+use Rattle.regex_lite_syntax.specs.Escaped.{StandsAt}
+use Rattle.regex_lite_syntax.specs.Text.{Text}
+use Rattle.regex_lite_syntax.specs.Tree.Matches.{Matches}
 use Rattle.regex_lite.specs.declared.string.matches.Match.{Match}
-use Rattle.regex_lite.specs.Expression.{Expression}
+use Rattle.regex_lite.specs.Escapes.{escaped_pattern}
+use Rattle.regex_lite.specs.Expression.{Expression, IsDue, OfTree, expression_of}
 use Rattle.regex_lite.specs.Groups.{Groups, group_span}
 use Rattle.regex_lite.specs.MatchViews.{is_same_match, span_of_match, match_with_haystack}
 use Rattle.regex_lite.specs.Searches.{MatchesFrom, TellsEnd, TellsGroups, TellsMatch}
+use Rattle.regex_lite.specs.Settings.{Settings, default_settings}
 
 -- a search for whether there is a match, one for the match, one for its groups and one for the
 -- least end agree
@@ -31,3 +40,27 @@ abbrev pub MatchesAreTheirSpans : Type 0
 MatchesAreTheirSpans =
     (m n : Match)
     → Decides (is_same_match m n) (match_with_haystack m ≡ match_with_haystack n)
+
+-- an escaped text as a pattern, under the default settings
+abbrev pub escaped_settings : (text : List ℕ) → Settings
+escaped_settings text = default_settings (escaped_pattern text)
+
+-- a refusal of this kind says that the pattern is too large, or that memory was wanting
+abbrev pub IsForSize : ErrorKind → Type 0
+IsForSize Size = Unit {0}
+IsForSize Places = Unit {0}
+IsForSize Memory = Unit {0}
+IsForSize _ = ⊥
+
+-- no other refusal of an escaped text is due
+abbrev pub EscapedTextsAreRefusedForSize : Type 0
+EscapedTextsAreRefusedForSize =
+    (text : List ℕ) (error : Error) → IsUtf8 text → IsDue (escaped_settings text) error
+    → IsForSize (kind_of error)
+
+-- an escaped text has a tree, which matches exactly where the text stands
+abbrev pub EscapedTextsMatchThemselves : Type 0
+EscapedTextsMatchThemselves =
+    (text : List ℕ) → IsUtf8 text
+    → OfTree (expression_of (escaped_settings text)) (λ tree.
+    (haystack : Text) (i j : ℕ) → Matches haystack tree i j ↔ StandsAt (chars text) haystack i j)

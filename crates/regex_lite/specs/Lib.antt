@@ -11,11 +11,13 @@ pub mod Pieces
 pub mod Replacing
 pub mod Replacements
 pub mod Templates
+pub mod Escapes
 pub mod Laws
 pub mod CaptureNames
 pub use Rattle.regex_lite_syntax.specs.Errors
 pub use Rattle.regex_lite_syntax.specs.Text
 pub use Rattle.regex_lite_syntax.specs.Grammar
+pub use Rattle.regex_lite_syntax.specs.Escaped
 pub use Rattle.regex_lite_syntax.specs.Limits
 pub use Rattle.regex_lite_syntax.specs.Tree.Matches
 pub use Rattle.regex_lite_syntax.specs.Tree.Properties

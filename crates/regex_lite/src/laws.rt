@@ -1,7 +1,7 @@
-//! Laws of what searches tell, and of equality. Each function does nothing: its contract is the
-//! law.
+//! Laws of what searches tell, of equality and of escaped texts. Each function does nothing: its
+//! contract is the law.
 ghost use Rattle.std.specs.Cmp.{IsEquivalence};
-ghost use Rattle.regex_lite.specs.Laws.{MatchesAreTheirSpans, SearchesAgree};
+ghost use Rattle.regex_lite.specs.Laws.{EscapedTextsAreRefusedForSize, EscapedTextsMatchThemselves, MatchesAreTheirSpans, SearchesAgree};
 ghost use Rattle.regex_lite.specs.MatchViews.{is_same_match};
 
 /// The searches of a pattern in a haystack, from one offset on, agree on whether there is a match,
@@ -21,4 +21,12 @@ pub fn matches_are_equal_by_text_and_span()
 /// equivalence.
 pub fn equality_is_an_equivalence<T: Eq>()
     ensures { IsEquivalence T.eq }
+{}
+
+/// The pattern that [`escape`](crate::escape) makes of a text has a tree under the default settings,
+/// and matches exactly where the text stands in the haystack. It is refused only as too large, by
+/// `Size` or `Places`, or for want of memory.
+pub fn escaped_texts_match_themselves()
+    ensures refused { EscapedTextsAreRefusedForSize }
+    ensures matches { EscapedTextsMatchThemselves }
 {}

@@ -30,6 +30,7 @@ mod string;
 
 pub use regex_lite_engine::Steps;
 pub use regex_lite_syntax::{Error, ErrorKind};
+pub use string::escape::escape;
 pub use string::{
     CaptureLocations, CaptureMatches, CaptureNames, Captures, CapturesIn, Match, Matches, NoExpand,
     Regex, RegexBuilder, ReplaceBy, Replacer, ReplacerRef, Split, SplitN, SubCaptureMatches, Text,

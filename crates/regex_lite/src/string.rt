@@ -7,6 +7,7 @@ mod captures_iter;
 mod compiled;
 mod counted;
 mod cursor;
+pub(super) mod escape;
 mod expand;
 mod find_iter;
 mod group_search;

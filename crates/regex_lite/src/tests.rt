@@ -6,6 +6,7 @@ mod classes;
 mod conversions;
 mod counts;
 mod errors;
+mod escapes;
 mod examples;
 mod groups;
 mod hostile;

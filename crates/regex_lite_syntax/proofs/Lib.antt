@@ -1,4 +1,5 @@
 -- lemmas that several modules use
+pub mod CharacterLemmas
 pub mod LetterCaseLemmas
 pub mod ListLemmas
 pub mod NameTableLemmas

@@ -3,9 +3,11 @@ pub mod AtomLemmas
 pub mod ClassLemmas
 pub mod CountLemmas
 pub mod EscapeLemmas
+pub mod EscapedLemmas
 pub mod FlagLetterLemmas
 pub mod GapLemmas
 pub mod HeadLemmas
+pub mod LiteralMatchLemmas
 pub mod NameLemmas
 pub mod NameOpeningLemmas
 pub mod NameReadingLemmas

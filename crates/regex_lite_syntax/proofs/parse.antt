@@ -1,4 +1,3 @@
 -- lemmas that several proofs here share
 pub mod DenialLemmas
-pub mod CharacterLemmas
 pub mod IndexLemmas

@@ -8,6 +8,7 @@ pub mod AsciiMaps
 pub mod NamedSets
 pub mod Tree
 pub mod Grammar
+pub mod Escaped
 pub mod FaultTexts
 pub mod Errors
 pub mod Limits

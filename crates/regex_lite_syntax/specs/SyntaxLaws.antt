@@ -1,13 +1,16 @@
 -- Laws of the definitions.
-use Rattle.std.specs.Prelude.{◌≡◌, ℕ, List}
+use Rattle.std.specs.Prelude.{◌≡◌, ◌↔◌, ℕ, List, false}
 use Rattle.std.specs.List.Sorted.{IsStrictlyIncreasing}
 use Rattle.regex_lite_syntax.specs.declared.class.ClassRange.{ClassRange}
 use Rattle.regex_lite_syntax.specs.declared.flags.Flags.{Flags}
 use Rattle.regex_lite_syntax.specs.Text.{Text}
+use Rattle.regex_lite_syntax.specs.Characters.{AreCharacters}
 use Rattle.regex_lite_syntax.specs.Ranges.{in_ranges, AreRuns}
 use Rattle.regex_lite_syntax.specs.Tree.{Tree}
+use Rattle.regex_lite_syntax.specs.Tree.Matches.{Matches}
 use Rattle.regex_lite_syntax.specs.Tree.Numbering.{indices, IndicesDiffer}
 use Rattle.regex_lite_syntax.specs.Grammar.{Grammar, IsTree}
+use Rattle.regex_lite_syntax.specs.Escaped.{escaped, literal, StandsAt}
 
 -- flags and a pattern have at most one tree, one number of groups and one depth of groups
 abbrev pub AtMostOneTree : Type 0
@@ -34,3 +37,16 @@ abbrev pub NoIndexStandsTwice : Type 0
 NoIndexStandsTwice =
     (flags : Flags) (pattern : Text) (tree : Tree) → IsTree flags pattern tree
     → IndicesDiffer tree
+
+-- where neither `i` nor `x` is on, the tree of an escaped text is its characters, without a group
+abbrev pub EscapedTextsAreLiteral : Type 0
+EscapedTextsAreLiteral =
+    (flags : Flags) (text : Text) → flags.case_insensitive ≡ false
+    → flags.ignore_whitespace ≡ false → AreCharacters text
+    → Grammar flags (escaped text) (literal text) 0 0
+
+-- the characters of a text match exactly where the text stands
+abbrev pub LiteralsMatchTheirText : Type 0
+LiteralsMatchTheirText =
+    (text haystack : Text) (i j : ℕ)
+    → Matches haystack (literal text) i j ↔ StandsAt text haystack i j

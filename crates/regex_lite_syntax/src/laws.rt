@@ -1,5 +1,5 @@
 //! Laws of the definitions. Each function does nothing: its contract is the law.
-ghost use Rattle.regex_lite_syntax.specs.SyntaxLaws.{AtMostOneTree, EqualSetsHaveEqualRanges, GroupsAreNumbered, NoIndexStandsTwice};
+ghost use Rattle.regex_lite_syntax.specs.SyntaxLaws.{AtMostOneTree, EqualSetsHaveEqualRanges, EscapedTextsAreLiteral, GroupsAreNumbered, LiteralsMatchTheirText, NoIndexStandsTwice};
 
 /// Flags and a pattern have at most one tree, one number of groups and one depth of groups.
 pub fn at_most_one_tree()
@@ -20,4 +20,15 @@ pub fn groups_are_numbered()
 /// rests on it: two groups of one index would count twice and hold one span.
 pub fn no_index_stands_twice()
     ensures { NoIndexStandsTwice }
+{}
+
+/// Where neither `i` nor `x` is on, an escaped text has for its tree its characters, one after
+/// another, and no group.
+pub fn escaped_texts_are_literal()
+    ensures { EscapedTextsAreLiteral }
+{}
+
+/// The characters of a text, one after another, match exactly where the text stands.
+pub fn literals_match_their_text()
+    ensures { LiteralsMatchTheirText }
 {}

@@ -1,5 +1,5 @@
 //! The examples of the documentation.
-use crate::{Regex, RegexBuilder};
+use crate::{Regex, RegexBuilder, escape};
 use std::test::Fail;
 
 /// At the head of the crate.
@@ -210,6 +210,18 @@ fn expanded(rt: HostRuntime) -> Result<(), Fail> {
         caps.expand("$2 ${first}_", &mut text)?;
         assert_eq!(rt; text.as_str(), "right left_");
     }
+    Ok(())
+}
+
+/// At `escape`.
+#[test]
+fn escaped(rt: HostRuntime) -> Result<(), Fail> {
+    let alloc = rt.alloc();
+    let pattern = escape(alloc, "3.5 (or so)")?;
+    assert_eq!(rt; pattern.as_str(), r"3\.5 \(or so\)");
+    let regex = Regex::new(alloc, pattern.as_str())?;
+    assert!(rt; regex.is_match("it takes 3.5 (or so) days")?);
+    assert!(rt; !regex.is_match("it takes 325 or so days")?);
     Ok(())
 }
 

@@ -1,5 +1,5 @@
 use Rattle.std.proofs.Common.{◌∙◌}
-use Rattle.regex_lite_syntax.proofs.parse.CharacterLemmas.{chars_are}
+use Rattle.regex_lite_syntax.proofs.CharacterLemmas.{chars_are}
 use Rattle.regex_lite_syntax.proofs.hir.Hir.parse.Goals as goal
 
 pub parse_chars-requires : goal.parse_chars-requires
