@@ -1,1 +1,2 @@
 -- lemmas that several modules use
+pub mod OutputLemmas
