@@ -1,5 +1,5 @@
 -- What is printed, gathered and written, step by step.
-use Rattle.std.proofs.Common.{◌≡◌, ℕ, Bool, true, false, not, List, [], ◌++◌, Option, Some, None, MatchBool, refl, sym, ap, ◌∙◌, subst, take, drop, take-append-drop}
+use Rattle.std.proofs.Common.{◌≡◌, ℕ, Bool, true, false, not, List, [], ◌++◌, Option, Some, None, MatchBool, Result, Ok, Err, IsErr, is_ok, is_err, refl, sym, ap, ◌∙◌, subst, take, drop, take-append-drop}
 use Rattle.std.specs.Io.KnownBytes.{Appends, Keeps}
 use Rattle.std.proofs.lemmas.List.{append_assoc, append-nil}
 use Rattle.regex_lite.specs.Replacing.{Begins}
@@ -160,6 +160,15 @@ unflushed before holds done text kept w = record {
   appended = appends_kept before holds done w.written w.appended kept;
   told = ([], w.told ∙ sym (append-nil w.written));
 }
+
+-- what a failed call answers is not `Ok`
+pub failed_is_not_ok : {T E : Type 0} (result : Result T E) → IsErr result → is_ok result ≡ false
+failed_is_not_ok (Ok value) failed = cc
+failed_is_not_ok (Err error) failed = refl
+
+pub error_is_not_ok : {T E : Type 0} (result : Result T E) → is_err result ≡ not (is_ok result)
+error_is_not_ok (Ok value) = refl
+error_is_not_ok (Err error) = refl
 
 -- one text behind another
 pub puts_more : (old mid new : Output) (held holds done : Option (List ℕ)) (first second : List ℕ)

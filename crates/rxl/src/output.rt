@@ -1,5 +1,5 @@
 //! Output that is gathered, and written in large parts.
-ghost use Rattle.std.specs.Prelude.{◌≡◌, ◌++◌, ℕ, List, [], Option, IfErr, false, is_ok};
+ghost use Rattle.std.specs.Prelude.{◌≡◌, ◌≤◌, ◌++◌, ℕ, List, [], drop, length, Option, IfErr, false, is_ok};
 ghost use Rattle.std.specs.Fmt.{decimal};
 ghost use Rattle.rxl.specs.declared.fault.Fault.TheVariants.{Unwritten};
 ghost use Rattle.rxl.specs.Output.{IsPrinted, IsWritten, Puts};
@@ -105,10 +105,18 @@ fn write_all<W: Write>(out: &mut W, bytes: &[u8]) -> io::Result<()>
         }
         match out.write(rest) {
             Ok(0) => break,
-            Ok(count) => rest = &rest[count..],
+            Ok(count) => rest = behind(rest, count),
             Err(error) if error.kind() == io::ErrorKind::Interrupted => {}
             Err(error) => return Err(error),
         }
     }
     Err(io::Error::from(io::ErrorKind::WriteZero))
+}
+
+/// The bytes behind the first so many.
+fn behind(bytes: &[u8], count: usize) -> &[u8]
+    requires { count ≤ length bytes.now }
+    ensures { result.now ≡ drop count bytes.now }
+{
+    &bytes[count..]
 }

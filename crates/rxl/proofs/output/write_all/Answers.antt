@@ -14,8 +14,9 @@ loop-preserved g c =
           written = held.written ++ take w.in-Ok.count c.loop.rest.now;
           appended = appends_more bytes before after held.written
               (take w.in-Ok.count c.loop.rest.now) held.appended w.in-Ok.ensures.bytes;
-          parts = front_written c.args.bytes.now held.written c.loop.rest.now w.in-Ok.count
-              held.parts ∙ ap (λ rest. (held.written ++ take w.in-Ok.count c.loop.rest.now) ++ rest.now) (sym w.rest-is);
+          parts = front_written c.args.bytes.now held.written c.loop.rest.now w.in-Ok.count held.parts
+              ∙ ap (λ left. (held.written ++ take w.in-Ok.count c.loop.rest.now) ++ left)
+              (sym (ap (λ rest. rest.now) w.rest-is ∙ w.behind-rest.ensures));
         }
       | in-Err w ↦ record {
           written = held.written;
