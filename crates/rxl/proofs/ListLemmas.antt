@@ -58,7 +58,7 @@ leads_more first old new has printed found line leads passes is = record {
       let all = leads.on (found ∷ list) (ahead_more old new found list passes are) in
       let rest = flat_map span_line (map (found_span (chars first.haystack)) list) in
       (all.0, all.1, all.2 ∙ or_true has,
-      append_assoc printed line rest ∙ ap (λ x. printed ++ x ++ rest) is ∙ all.3);
+      append_assoc printed line rest ∙ ap (λ x. printed ++ (x ++ rest)) is ∙ all.3);
 }
   where
     or_true : (b : Bool) → (b || true) ≡ true
