@@ -181,3 +181,24 @@ puts_more old mid new held holds done first second a b before printed was =
 pub puts_nothing : (output : Output) (held : Option (List ℕ)) → Puts output held output held []
 puts_nothing output held before printed was =
     subst (IsPrinted before held output) (sym (append-nil printed)) was
+
+-- nothing is printed yet
+pub nothing_printed : (output : Output) (held : Option (List ℕ)) → output.waiting.items ≡ []
+    → output.has_failed ≡ false → IsPrinted held held output []
+nothing_printed output held empty still = record {
+  written = [];
+  appended = appends_nothing held;
+  told = at_false _ _ output.has_failed still (sym empty);
+}
+
+-- a text was refused where it was to wait, and so all further ones are dropped
+pub refused : (old new : Output) (held : Option (List ℕ)) (text : List ℕ)
+    → old.has_failed ≡ false → new.has_failed ≡ true → Puts old held new held text
+refused old new held text still now before printed was = record {
+  written = was.written;
+  appended = was.appended;
+  told = at_true _ _ new.has_failed now
+      (old.waiting.items ++ text,
+      ap (λ x. x ++ text) (from_false _ _ old.has_failed still was.told)
+      ∙ append_assoc was.written old.waiting.items text);
+}

@@ -1,17 +1,21 @@
 //! Output that is gathered, and written in large parts.
-ghost use Rattle.std.specs.Prelude.{◌≡◌, ◌≤◌, ◌++◌, ℕ, List, [], drop, length, Option, IfErr, false, is_ok};
+ghost use Rattle.std.specs.Prelude.{◌≡◌, ◌≤◌, ◌++◌, ℕ, List, [], drop, length, Option, IfErr, IfOk, false, is_ok};
 ghost use Rattle.std.specs.Fmt.{decimal};
 ghost use Rattle.rxl.specs.declared.fault.Fault.TheVariants.{Unwritten};
+ghost use Rattle.regex_lite.specs.Errors.{out_of_memory};
 ghost use Rattle.rxl.specs.Output.{IsPrinted, IsWritten, Puts};
 
 use crate::fault::Fault;
-use itoa::Buffer;
+use regex_lite::Error;
 use std::alloc::Global;
 use std::io;
 use std::io::Write;
 
 /// How many bytes are gathered at most.
 const LARGE: usize = 8192;
+
+/// How many digits a number has at most.
+const DIGITS: usize = 20;
 
 /// Texts that were printed and are still to be written. Once a write failed, all further texts are
 /// dropped.
@@ -23,14 +27,19 @@ pub(crate) struct Output {
 
 impl Output {
     /// Nothing is printed yet.
-    pub fn new(alloc: Global) -> Output
-        ensures waiting { result.waiting.items ≡ [] }
-        ensures has_failed { result.has_failed ≡ false }
+    ///
+    /// # Errors
+    ///
+    /// The room for what will be gathered is asked for here, and may be refused.
+    pub fn new(alloc: Global) -> Result<Output, Error>
+        ensures waiting { IfOk result (λ output. output.waiting.items ≡ []) }
+        ensures has_failed { IfOk result (λ output. output.has_failed ≡ false) }
+        ensures refused { IfErr result (λ error. error ≡ out_of_memory) }
     {
-        Output {
-            waiting: Vec::new(alloc),
+        Ok(Output {
+            waiting: Vec::with_capacity(alloc, LARGE)?,
             has_failed: false,
-        }
+        })
     }
 
     /// Prints a text. Where there is no room to gather it, it's written at once.
@@ -52,15 +61,22 @@ impl Output {
         ensures { Puts self.old (W.contents out.old) self.new (W.contents out.new)
             (decimal number) }
     {
-        let mut digits = Buffer::new();
-        self.text(out, digits.format(number));
+        if self.waiting.len() > LARGE - DIGITS {
+            self.send(out, b"");
+        }
+        if !self.has_failed {
+            // There is room for the digits. Were they refused, nothing more would be written.
+            self.has_failed = write!(self.waiting, "{number}").is_err();
+        }
     }
 
     /// Writes what was gathered, and then these bytes.
     fn send<W: Write>(&mut self, out: &mut W, bytes: &[u8])
-        requires { self.old.has_failed ≡ false }
         ensures { Puts self.old (W.contents out.old) self.new (W.contents out.new) bytes.now }
     {
+        if self.has_failed {
+            return;
+        }
         self.has_failed = write_both(out, self.waiting.as_slice(), bytes).is_err();
         self.waiting.clear();
     }

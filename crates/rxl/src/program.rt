@@ -2,12 +2,12 @@
 ghost use Rattle.std.specs.Prelude.{◌≡◌, ◌<◌, ◌≤◌, ◌≢◌, ⊤, List, ℕ, Option, IfOk, IfErr, IfSome, IsUtf8, MatchResult};
 ghost use Rattle.std.specs.Io.KnownBytes.{Appends, Keeps};
 ghost use Rattle.rxl.specs.declared.fault.Fault.TheVariants.{NotUtf8};
-ghost use Rattle.rxl.specs.Faults.{Ends, IsFault, IsQuestionFault, IsReadFault};
+ghost use Rattle.rxl.specs.Faults.{Ends, IsFaultOf, IsQuestionFault, IsReadFault};
 ghost use Rattle.regex_lite.specs.Errors.{out_of_memory};
 ghost use Rattle.rxl.specs.declared.fault.Fault.{Fault};
 ghost use Rattle.rxl.specs.Output.{PutsSome};
 ghost use Rattle.rxl.specs.Printed.{Prints};
-ghost use Rattle.rxl.specs.Program.{IsAnswered, IsDone, IsQuestionAnswered, status_of};
+ghost use Rattle.rxl.specs.Program.{IsCommandAnswered, IsDone, IsQuestionAnswered, status_of};
 
 use crate::command::{Command, Question};
 use crate::commands::{
@@ -65,35 +65,36 @@ fn print_answer<R: Read, W: Write>(
         (W.contents out.old) (W.contents out.new)) }
     ensures kept { (text : List ℕ) × Appends (W.contents out.old) (W.contents out.new) text }
 {
-    let mut output = Output::new(alloc);
-    let answer = answer(alloc, args, input, &mut output, out);
+    let Some(command) = Command::of(args) else {
+        return Err(Fault::Usage);
+    };
+    let mut output = Output::new(alloc)?;
+    let answer = answer(alloc, command, input, &mut output, out);
     let written = output.finish(out);
     let found = answer?;
     written?;
     Ok(found)
 }
 
-/// Prints the answer to what the arguments ask.
+/// Prints the answer to a command.
 fn answer<R: Read, W: Write>(
     alloc: Global,
-    args: &[&str],
+    command: Command<'_>,
     input: &mut R,
     output: &mut Output,
     out: &mut W,
 ) -> Result<bool, Fault>
     ensures ok { IfOk result (λ found.
-        PutsSome (IsAnswered args.now (R.remaining input.old) found)
+        PutsSome (IsCommandAnswered command.entry (R.remaining input.old) found)
         output.old (W.contents out.old) output.new (W.contents out.new)) }
     ensures kept { PutsSome (λ _. ⊤)
         output.old (W.contents out.old) output.new (W.contents out.new) }
-    ensures refused { IfErr result (λ fault. IsFault fault args.now (R.remaining input.old)) }
+    ensures refused { IfErr result (λ fault.
+        IsFaultOf fault command.entry (R.remaining input.old)) }
 {
-    match Command::of(args) {
-        Some(Command::Ask(question, pattern)) => {
-            ask(alloc, question, pattern, input, output, out)
-        }
-        Some(Command::Escape(text)) => Ok(print_escaped(alloc, text, output, out)?),
-        None => Err(Fault::Usage),
+    match command {
+        Command::Ask(question, pattern) => ask(alloc, question, pattern, input, output, out),
+        Command::Escape(text) => Ok(print_escaped(alloc, text, output, out)?),
     }
 }
 
