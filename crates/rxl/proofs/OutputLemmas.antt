@@ -1,5 +1,5 @@
 -- What is printed, gathered and written, step by step.
-use Rattle.std.proofs.Common.{◌≡◌, ℕ, Bool, true, false, not, List, [], ◌++◌, Option, Some, None, MatchBool, Result, Ok, Err, IsErr, is_ok, is_err, refl, sym, ap, ◌∙◌, subst, take, drop, take-append-drop}
+use Rattle.std.proofs.Common.{◌≡◌, ℕ, Bool, true, false, not, List, [], ◌++◌, Option, Some, None, MatchBool, Result, Ok, Err, IsErr, OnOk, is_ok, is_err, refl, sym, ap, ◌∙◌, subst, take, drop, take-append-drop}
 use Rattle.std.specs.Io.KnownBytes.{Appends, Keeps}
 use Rattle.std.proofs.lemmas.List.{append_assoc, append-nil}
 use Rattle.regex_lite.specs.Replacing.{Begins}
@@ -87,9 +87,11 @@ both_written held holds done first second true a b = record {
 both_written held holds done first second false a b = record {
   written = a.written ++ b.written;
   appended = appends_more held holds done a.written b.written a.appended b.appended;
-  told = (b.told.0,
-      ap (λ x. x ++ second) a.told ∙ ap (λ x. a.written ++ x) b.told.1
-      ∙ sym (append_assoc a.written b.written b.told.0));
+  told = (
+    b.told.0,
+    ap (λ x. x ++ second) a.told ∙ ap (λ x. a.written ++ x) b.told.1
+        ∙ sym (append_assoc a.written b.written b.told.0),
+  );
 }
 
 pub part_written : (held holds : Option (List ℕ)) (first second : List ℕ)
@@ -117,12 +119,13 @@ sent old new held holds text true still now empty w before printed was = record 
 sent old new held holds text false still now empty w before printed was = record {
   written = was.written ++ w.written;
   appended = appends_more before held holds was.written w.written was.appended w.appended;
-  told = at_true _ _ new.has_failed now
-      (w.told.0,
-      ap (λ x. x ++ text) (from_false _ _ old.has_failed still was.told)
-      ∙ append_assoc was.written old.waiting.items text
-      ∙ ap (λ x. was.written ++ x) w.told.1
-      ∙ sym (append_assoc was.written w.written w.told.0));
+  told = at_true _ _ new.has_failed now (
+    w.told.0,
+    ap (λ x. x ++ text) (from_false _ _ old.has_failed still was.told)
+        ∙ append_assoc was.written old.waiting.items text
+        ∙ ap (λ x. was.written ++ x) w.told.1
+        ∙ sym (append_assoc was.written w.written w.told.0),
+  );
 }
 
 -- a write failed before
@@ -197,8 +200,26 @@ pub refused : (old new : Output) (held : Option (List ℕ)) (text : List ℕ)
 refused old new held text still now before printed was = record {
   written = was.written;
   appended = was.appended;
-  told = at_true _ _ new.has_failed now
-      (old.waiting.items ++ text,
-      ap (λ x. x ++ text) (from_false _ _ old.has_failed still was.told)
-      ∙ append_assoc was.written old.waiting.items text);
+  told = at_true _ _ new.has_failed now (
+    old.waiting.items ++ text,
+    ap (λ x. x ++ text) (from_false _ _ old.has_failed still was.told)
+        ∙ append_assoc was.written old.waiting.items text,
+  );
 }
+
+-- a text that is to wait does so, or was refused
+pub waits_or_refused : (old new : Output) (held : Option (List ℕ)) (text : List ℕ)
+    → old.has_failed ≡ false
+    → (new.has_failed ≡ false → new.waiting.items ≡ old.waiting.items ++ text)
+    → Puts old held new held text
+waits_or_refused old new held text still waits = by_end new.has_failed refl
+  where
+    by_end : (has_failed : Bool) → new.has_failed ≡ has_failed → Puts old held new held text
+    by_end true is = refused old new held text still is
+    by_end false is = gathered old new held text still is (waits is)
+
+-- what a call that didn't fail ensures
+pub on_ok : {T E : Type 0} (result : Result T E) (P : Type 0) → is_err result ≡ false
+    → OnOk result P → P
+on_ok (Ok value) P is told = told
+on_ok (Err error) P is told = cc

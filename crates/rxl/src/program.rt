@@ -1,7 +1,6 @@
 //! What the program does, over any reader and writers.
-ghost use Rattle.std.specs.Prelude.{◌≡◌, ◌<◌, ◌≤◌, ◌≢◌, ⊤, List, ℕ, Option, IfOk, IfErr, IfSome, IsUtf8, MatchResult};
+ghost use Rattle.std.specs.Prelude.{◌≡◌, ◌<◌, ◌≤◌, ◌≢◌, ⊤, List, ℕ, Option, IfOk, IfErr, IfSome};
 ghost use Rattle.std.specs.Io.KnownBytes.{Appends, Keeps};
-ghost use Rattle.rxl.specs.declared.fault.Fault.TheVariants.{NotUtf8};
 ghost use Rattle.rxl.specs.Faults.{Ends, IsFaultOf, IsQuestionFault, IsReadFault};
 ghost use Rattle.regex_lite.specs.Errors.{out_of_memory};
 ghost use Rattle.rxl.specs.declared.fault.Fault.{Fault};
@@ -10,9 +9,7 @@ ghost use Rattle.rxl.specs.Printed.{Prints};
 ghost use Rattle.rxl.specs.Program.{IsCommandAnswered, IsDone, IsQuestionAnswered, status_of};
 
 use crate::command::{Command, Question};
-use crate::commands::{
-    print_captures, print_escaped, print_matches, print_pieces, print_replaced,
-};
+use crate::commands::{print_captures, print_escaped, print_matches, print_pieces, print_replaced};
 use crate::fault::Fault;
 use crate::output::Output;
 use regex_lite::{Error, Regex};
@@ -117,7 +114,9 @@ fn ask<R: Read, W: Write>(
 {
     let regex = Regex::new(alloc, pattern)?;
     let bytes = read_all(alloc, input)?;
-    let haystack = text_of(bytes.as_slice())?;
+    let Ok(haystack) = str::from_utf8(bytes.as_slice()) else {
+        return Err(Fault::NotUtf8);
+    };
     Ok(print_question(&regex, question, haystack, output, out)?)
 }
 
@@ -155,16 +154,5 @@ fn read_all<R: Read>(alloc: Global, input: &mut R) -> Result<Vec<u8>, Fault>
     match input.read_to_end(&mut bytes) {
         Ok(_) => Ok(bytes),
         Err(error) => Err(Fault::of_read(error)),
-    }
-}
-
-/// The bytes as a text. Bytes that are none are never told as unreadable.
-fn text_of(bytes: &[u8]) -> Result<&str, Fault>
-    ensures { MatchResult result (λ text. (text.now ≡ bytes.now) × IsUtf8 bytes.now)
-        (λ fault. (fault ≡ NotUtf8) × ¬ (IsUtf8 bytes.now)) }
-{
-    match str::from_utf8(bytes) {
-        Ok(text) => Ok(text),
-        Err(_) => Err(Fault::NotUtf8),
     }
 }

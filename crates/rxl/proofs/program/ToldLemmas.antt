@@ -1,18 +1,21 @@
 -- From what is printed for a question to what a run tells.
-use Rattle.std.proofs.Common.{◌≡◌, ℕ, Bool, true, false, List, [], Option, Some, None, IfSome, IsUtf8, refl, sym, subst}
+use Rattle.std.proofs.Common.{◌≡◌, ℕ, Bool, true, false, List, [], Option, Some, None, Result, Ok, Err, IfOk, IfSome, IsTrue, IsUtf8, ◌↔◌, refl, sym, subst}
+use Rattle.std.specs.Prelude.{⊤}
 use Rattle.std.specs.Borrow.{Bor}
 use Rattle.std.specs.Io.KnownBytes.{Appends}
+use Rattle.regex_lite.specs.Searches.{MatchesFrom}
 use Rattle.regex_lite.specs.Settings.{default_settings}
 use Rattle.regex_lite.specs.Expression.{Expression, IsAccepted, expression_of}
 use Rattle.rxl.specs.declared.command.Command.{Command}
 use Rattle.rxl.specs.declared.command.Question.{Question}
+use Rattle.rxl.specs.declared.command.Question.TheVariants.{IsMatch}
 use Rattle.rxl.specs.declared.output.Output.{Output}
 use Rattle.rxl.specs.Commands.{Asks}
 use Rattle.rxl.specs.Faults.{IsCutShort}
-use Rattle.rxl.specs.Output.{IsPrinted, IsWritten, Puts}
+use Rattle.rxl.specs.Output.{IsPrinted, IsWritten, Puts, PutsSome}
 use Rattle.rxl.specs.Printed.{Prints}
 use Rattle.rxl.specs.Program.{IsCommandAnswered, IsDone, IsQuestionAnswered, status_of}
-use Rattle.rxl.proofs.OutputLemmas.{nothing_printed}
+use Rattle.rxl.proofs.OutputLemmas.{nothing_printed, puts_nothing}
 
 -- what is printed for the whole input answers the question
 pub answered_by_print : (question : Question) (pattern : List ℕ) (input : Option (List ℕ))
@@ -31,15 +34,34 @@ answered_by_print question pattern (Some known) re haystack re_is accepted whole
           whole (subst (λ r. Prints question r haystack found text) re_is prints);
     }
 
+-- a search prints nothing
+pub printed_by_search : {E : Type 0} (result : Result Bool E) (re : Expression) (haystack : List ℕ)
+    (output : Output) (held : Option (List ℕ))
+    → IfOk result (λ found. IsTrue found ↔ MatchesFrom re haystack 0)
+    → IfOk result (λ found. PutsSome (Prints IsMatch re haystack found) output held output held)
+printed_by_search (Ok found) re haystack output held told =
+    ([], (told, refl), puts_nothing output held)
+printed_by_search (Err error) re haystack output held told = tt
+
 -- what was printed since nothing was, is what was written at the end
-pub all_written : (before held done : Option (List ℕ)) (old new : Output) (all : Bool)
+pub all_written : (before held holds : Option (List ℕ)) (old new : Output) (all : Bool)
     (text : List ℕ) → old.waiting.items ≡ [] → old.has_failed ≡ false
     → Puts old before new held text
     → ((first : Option (List ℕ)) → (printed : List ℕ) → IsPrinted first held new printed
-    → IsWritten first done printed all)
-    → IsWritten before done text all
-all_written before held done old new all text empty still puts ends =
+    → IsWritten first holds printed all)
+    → IsWritten before holds text all
+all_written before held holds old new all text empty still puts ends =
     ends before text (puts before [] (nothing_printed old before empty still))
+
+-- so some text was written
+pub some_written : (before held holds : Option (List ℕ)) (old new : Output) (all : Bool)
+    → old.waiting.items ≡ [] → old.has_failed ≡ false → PutsSome (λ _. ⊤) old before new held
+    → ((first : Option (List ℕ)) → (printed : List ℕ) → IsPrinted first held new printed
+    → IsWritten first holds printed all)
+    → (text : List ℕ) × Appends before holds text
+some_written before held holds old new all empty still some ends =
+    let w = all_written before held holds old new all some.0 empty still some.2 ends in
+    (w.written, w.appended)
 
 -- all of the answer was written
 pub done : (args : List (Bor (List ℕ))) (command : Command) (input before now : Option (List ℕ))

@@ -6,5 +6,5 @@ abbrev pub invariant-loop : goal.invariant-loop
 invariant-loop g l = record {
   written : List ℕ;
   appended : Appends (g.W.Write.contents l.initial.out) (g.W.Write.contents l.out) written;
-  parts : l.bytes ≡ written ++ l.rest
+  parts : l.bytes ≡ written ++ l.rest;
 }
