@@ -11,11 +11,11 @@ abbrev pub separated : (before : List ℕ) → List (Option (ℕ × ℕ)) → Li
 separated before [] = codes "\n"
 separated before (span ∷ spans) = before ++ group_text span ++ spaced spans ++ codes "\n"
 
-span_alone : List ℕ × (ℕ × ℕ) → ℕ × ℕ
+-- the span of a group that comes with its haystack
+abbrev span_alone : List ℕ × (ℕ × ℕ) → ℕ × ℕ
 span_alone (haystack, span) = span
 
--- the span of a group that comes with its haystack
-pub alone : Option (List ℕ × (ℕ × ℕ)) → Option (ℕ × ℕ)
+abbrev pub alone : Option (List ℕ × (ℕ × ℕ)) → Option (ℕ × ℕ)
 alone None = None
 alone (Some group) = Some (span_alone group)
 
@@ -43,16 +43,13 @@ pub line_begins : (spans : List (Option (ℕ × ℕ))) → separated [] spans �
 line_begins [] = refl
 line_begins (span ∷ spans) = refl
 
-together : (a b c d : List ℕ) → ((a ++ b) ++ c) ++ d ≡ a ++ (b ++ c ++ d)
-together a b c d = simp append_assoc
-
-one_by_one : (a b c d : List ℕ) → (a ++ (b ++ c)) ++ d ≡ a ++ (b ++ c ++ d)
-one_by_one a b c d = simp append_assoc
+one_by_one : (a b c d e : List ℕ) → (a ++ (b ++ c)) ++ (d ++ e) ≡ a ++ (((b ++ c) ++ d) ++ e)
+one_by_one a b c d e = simp append_assoc
 
 follows : (spans : List (Option (ℕ × ℕ)))
     → spaced spans ++ codes "\n" ≡ separated (codes " ") spans
 follows [] = refl
-follows (span ∷ spans) = together (codes " ") (group_text span) (spaced spans) (codes "\n")
+follows (span ∷ spans) = refl
 
 -- one more group was printed, behind what stands before it
 pub line_goes_on : (printed before : List ℕ) (old new : List (Option (ℕ × ℕ)))
@@ -61,7 +58,7 @@ pub line_goes_on : (printed before : List ℕ) (old new : List (Option (ℕ × �
     → (printed ++ (before ++ group_text span)) ++ separated (codes " ") new ≡ line
 line_goes_on printed before old new span line so_far is =
     ap (λ rest. (printed ++ (before ++ group_text span)) ++ rest) (sym (follows new))
-    ∙ one_by_one printed before (group_text span) (spaced new ++ codes "\n")
+    ∙ one_by_one printed before (group_text span) (spaced new) (codes "\n")
     ∙ ap (λ left. printed ++ separated before left) (sym is) ∙ so_far
 
 pub line_ends : (printed before : List ℕ) (old : List (Option (ℕ × ℕ))) (line : List ℕ)

@@ -1,4 +1,4 @@
-use Rattle.std.proofs.Common.{◌++◌, ◌∷◌, [], codes, map, option_map, ap, subst, ◌∙◌}
+use Rattle.std.proofs.Common.{◌++◌, ◌∷◌, [], codes, map, option_map, ap, rules, subst, ◌∙◌}
 use Rattle.regex_lite.specs.MatchViews.{span_of_match, spans_to_come}
 use Rattle.rxl.specs.Output.{Puts}
 use Rattle.rxl.specs.Printed.{group_text, groups_line}
@@ -10,10 +10,11 @@ pub loop-group-init : goal.loop-group-init
 loop-group-init g c =
     let spans = c.args.caps.now.spans in
     let are = ap (λ it. spans_to_come it) c.into_iter-group-iterator.ensures.into_iter_gives
-    ∙ c.iter.ensures.groups in
+    ∙ c.iter-group-items.ensures.groups in
     record {
       can = tt;
       finite = tt;
+      text = search rules;
       printed = [];
       puts = puts_nothing c.args.output.now (g.W.Write.contents c.args.out.now);
       on = ap (separated []) (all_left c.into_iter-group-iterator.result spans are) ∙ line_begins spans;
@@ -30,6 +31,7 @@ loop-group-preserved g c =
     record {
       can = tt;
       finite = tt;
+      text = search rules;
       printed = inv.printed ++ (before ++ group_text span);
       puts = puts_more c.args.output.now c.loop-group.output c.print_group.new.output
           (g.W.Write.contents c.args.out.now) holds done inv.printed (before ++ group_text span)
