@@ -1,5 +1,5 @@
 -- From the matches that an iterator gives, one after another, to the list of all.
-use Rattle.std.proofs.Common.{◌≡◌, ◌≢◌, ◌⊎◌, ℕ, suc, zero, Bool, true, false, Option, Some, None, List, [], ◌∷◌, ◌++◌, map, flat_map, chars, refl, sym, ap, ◌∙◌, subst, inl, inr, arith, ◌-◌, ◌||◌}
+use Rattle.std.proofs.Common.{◌≡◌, ◌≢◌, ◌⊎◌, ℕ, suc, zero, Bool, true, false, Option, Some, None, List, [], ◌∷◌, ◌++◌, map, flat_map, chars, refl, sym, ap, ◌∙◌, subst, inl, inr, arith, ◌||◌}
 use Rattle.std.proofs.lemmas.List.{append_assoc, append-nil}
 use Rattle.regex_lite.specs.Search.Answer.{Found}
 use Rattle.regex_lite.specs.Ahead.{Ahead, Passes, AreAhead, IsOver, AreGroupsFound, whole}
@@ -64,10 +64,14 @@ pub leads_more : (first old new : Ahead) (has : Bool) (printed : List ℕ) (foun
 leads_more first old new has printed found line leads passes is = record {
   on = λ list are.
       let all = leads.on (found ∷ list) (ahead_more old new found list passes are) in
-      let rest = flat_map span_line (map (found_span (chars first.haystack)) list) in
-      (all.0, all.1, all.2 ∙ or_true has,
-      append_assoc printed line rest ∙ ap (λ x. printed ++ (x ++ rest)) is ∙ all.3);
+      let rest = flat_map span_line (map (found_span (chars first.haystack)) list) in (
+        all.0,
+        all.1,
+        all.2 ∙ or_true has,
+        append_assoc printed line rest ∙ ap (λ x. printed ++ (x ++ rest)) is ∙ all.3,
+      );
 }
+
 pub leads_end : (re : Expression) (haystack : List ℕ) (a : Ahead) (has : Bool) (printed : List ℕ)
     → LeadsOn (whole re haystack None) a has printed → IsOver a
     → PrintsMatches re haystack has printed
@@ -107,9 +111,14 @@ groups_more first old new has printed found own leads passes same there are = re
       let is = subst (λ re. AreGroupsFound re first.haystack found own) same
       (subst (λ haystack. AreGroupsFound old.regex haystack found own) there are) in
       let all = leads.on (found ∷ list) (own ∷ groups)
-      (ahead_more old new found list passes ahead) (is, each) in
-      (all.0, all.1, all.2, all.3, all.4 ∙ or_true has,
-      append_assoc printed (line_of own) (flat_map line_of groups) ∙ all.5);
+      (ahead_more old new found list passes ahead) (is, each) in (
+        all.0,
+        all.1,
+        all.2,
+        all.3,
+        all.4 ∙ or_true has,
+        append_assoc printed (line_of own) (flat_map line_of groups) ∙ all.5,
+      );
 }
 
 pub groups_end : (re : Expression) (haystack : List ℕ) (a : Ahead) (has : Bool)

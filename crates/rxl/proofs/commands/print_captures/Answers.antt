@@ -48,11 +48,12 @@ returns-in_err-caps-clause-kept g c =
 
 pub returns-clause-ok : goal.returns-clause-ok
 returns-clause-ok g c =
-    let inv = c.loop-item.invariant in
-    (inv.printed,
-    groups_end c.args.regex.now c.args.haystack.now (groups_ahead_of c.loop-item.item-iterator)
-    c.loop-item.has_match inv.printed inv.so_far c.in-None.ensures.steps.over,
-    inv.puts)
+    let inv = c.loop-item.invariant in (
+      inv.printed,
+      groups_end c.args.regex.now c.args.haystack.now (groups_ahead_of c.loop-item.item-iterator)
+          c.loop-item.has_match inv.printed inv.so_far c.in-None.ensures.steps.over,
+      inv.puts,
+    )
 
 pub returns-clause-kept : goal.returns-clause-kept
 returns-clause-kept g c =

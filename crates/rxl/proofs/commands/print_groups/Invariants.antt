@@ -13,5 +13,5 @@ invariant-loop-group g l = record {
   text : shadow (Utf8 l.separator);
   printed : List ℕ;
   puts : Puts l.fn.output (g.W.Write.contents l.fn.out) l.output (g.W.Write.contents l.out) printed;
-  on : printed ++ separated l.separator (spans_left l.group-iterator) ≡ groups_line l.fn.caps.spans
+  on : printed ++ separated l.separator (spans_left l.group-iterator) ≡ groups_line l.fn.caps.spans;
 }

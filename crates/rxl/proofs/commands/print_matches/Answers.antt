@@ -46,11 +46,12 @@ loop-found-preserved g c =
 
 pub returns-clause-ok : goal.returns-clause-ok
 returns-clause-ok g c =
-    let inv = c.loop-found.invariant in
-    (inv.printed,
-    leads_end c.args.regex.now c.args.haystack.now (ahead_of c.loop-found.found-iterator)
-    c.loop-found.has_match inv.printed inv.so_far c.in-None.ensures.steps.over,
-    inv.puts)
+    let inv = c.loop-found.invariant in (
+      inv.printed,
+      leads_end c.args.regex.now c.args.haystack.now (ahead_of c.loop-found.found-iterator)
+          c.loop-found.has_match inv.printed inv.so_far c.in-None.ensures.steps.over,
+      inv.puts,
+    )
 
 pub returns-clause-kept : goal.returns-clause-kept
 returns-clause-kept g c =
