@@ -1,3 +1,4 @@
 -- lemmas that several modules use
 pub mod OutputLemmas
 pub mod ListLemmas
+pub mod GroupLineLemmas

@@ -1,5 +1,5 @@
 -- From the matches that an iterator gives, one after another, to the list of all.
-use Rattle.std.proofs.Common.{◌≡◌, ◌≢◌, ◌⊎◌, ℕ, suc, zero, Bool, true, false, Option, Some, None, List, [], ◌∷◌, ◌++◌, map, flat_map, chars, refl, sym, ap, ◌∙◌, subst, inl, inr, arith, ◌-◌, ◌||◌}
+use Rattle.std.proofs.Common.{◌≡◌, ◌≢◌, ◌⊎◌, ℕ, suc, zero, Bool, true, false, Option, Some, None, List, [], ◌∷◌, ◌++◌, map, flat_map, chars, refl, sym, ap, ◌∙◌, subst, inl, inr, arith, ◌||◌}
 use Rattle.std.proofs.lemmas.List.{append_assoc, append-nil}
 use Rattle.regex_lite.specs.Search.Answer.{Found}
 use Rattle.regex_lite.specs.Ahead.{Ahead, Passes, AreAhead, IsOver, AreGroupsFound, whole}
@@ -38,6 +38,14 @@ ahead_more old new found list passes rest =
 pub ahead_none : (a : Ahead) → IsOver a → AreAhead a []
 ahead_none a over = within_none a.regex (chars a.haystack) a.limit a.ended over
 
+or_true : (b : Bool) → (b || true) ≡ true
+or_true true = refl
+or_true false = refl
+
+or_false : (b : Bool) → (b || false) ≡ b
+or_false true = refl
+or_false false = refl
+
 -- The matches ahead of the first, of which some were passed and their lines printed; whether there
 -- was one
 pub record LeadsOn (first a : Ahead) (has : Bool) (printed : List ℕ) : Type 0 where
@@ -56,14 +64,13 @@ pub leads_more : (first old new : Ahead) (has : Bool) (printed : List ℕ) (foun
 leads_more first old new has printed found line leads passes is = record {
   on = λ list are.
       let all = leads.on (found ∷ list) (ahead_more old new found list passes are) in
-      let rest = flat_map span_line (map (found_span (chars first.haystack)) list) in
-      (all.0, all.1, all.2 ∙ or_true has,
-      append_assoc printed line rest ∙ ap (λ x. printed ++ (x ++ rest)) is ∙ all.3);
+      let rest = flat_map span_line (map (found_span (chars first.haystack)) list) in (
+        all.0,
+        all.1,
+        all.2 ∙ or_true has,
+        append_assoc printed line rest ∙ ap (λ x. printed ++ (x ++ rest)) is ∙ all.3,
+      );
 }
-  where
-    or_true : (b : Bool) → (b || true) ≡ true
-    or_true true = refl
-    or_true false = refl
 
 pub leads_end : (re : Expression) (haystack : List ℕ) (a : Ahead) (has : Bool) (printed : List ℕ)
     → LeadsOn (whole re haystack None) a has printed → IsOver a
@@ -76,7 +83,54 @@ leads_end re haystack a has printed leads over =
       known = sym (all.2 ∙ or_false has);
       printed = sym (append-nil printed) ∙ all.3;
     }
-  where
-    or_false : (b : Bool) → (b || false) ≡ b
-    or_false true = refl
-    or_false false = refl
+
+-- the line of the groups of a match
+abbrev pub line_of : Groups → List ℕ
+line_of own = groups_line own.spans
+
+-- The same where the lines are those of the groups
+pub record GroupsLeadOn (first a : Ahead) (has : Bool) (printed : List ℕ) : Type 0 where
+  pub on : (list : List Found) (groups : List Groups) → AreAhead a list
+      → AreGroupsOfEach first.regex first.haystack list groups
+      → (all : List Found) × (own : List Groups) × AreAhead first all
+      × AreGroupsOfEach first.regex first.haystack all own
+      × (has_some all ≡ (has || has_some list))
+      × (printed ++ flat_map line_of groups ≡ flat_map line_of own)
+
+pub groups_start : (first : Ahead) → GroupsLeadOn first first false []
+groups_start first =
+    record { on = λ list groups are each. (list, groups, are, each, refl, refl) }
+
+pub groups_more : (first old new : Ahead) (has : Bool) (printed : List ℕ) (found : Found)
+    (own : Groups) → GroupsLeadOn first old has printed → Passes old found new
+    → old.regex ≡ first.regex → old.haystack ≡ first.haystack
+    → AreGroupsFound old.regex old.haystack found own
+    → GroupsLeadOn first new true (printed ++ line_of own)
+groups_more first old new has printed found own leads passes same there are = record {
+  on = λ list groups ahead each.
+      let is = subst (λ re. AreGroupsFound re first.haystack found own) same
+      (subst (λ haystack. AreGroupsFound old.regex haystack found own) there are) in
+      let all = leads.on (found ∷ list) (own ∷ groups)
+      (ahead_more old new found list passes ahead) (is, each) in (
+        all.0,
+        all.1,
+        all.2,
+        all.3,
+        all.4 ∙ or_true has,
+        append_assoc printed (line_of own) (flat_map line_of groups) ∙ all.5,
+      );
+}
+
+pub groups_end : (re : Expression) (haystack : List ℕ) (a : Ahead) (has : Bool)
+    (printed : List ℕ) → GroupsLeadOn (whole re haystack None) a has printed → IsOver a
+    → PrintsGroups re haystack has printed
+groups_end re haystack a has printed leads over =
+    let all = leads.on [] [] (ahead_none a over) tt in
+    record {
+      matches = all.0;
+      are_all = all.2;
+      groups = all.1;
+      each = all.3;
+      known = sym (all.4 ∙ or_false has);
+      printed = sym (append-nil printed) ∙ all.5;
+    }

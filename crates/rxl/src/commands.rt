@@ -50,8 +50,8 @@ pub(crate) fn print_captures<W: Write>(
     ensures refused { IfErr result (λ error. error ≡ out_of_memory) }
 {
     let mut has_match = false;
-    for caps in regex.captures_iter(haystack)? {
-        let caps = caps?;
+    for item in regex.captures_iter(haystack)? {
+        let caps = item?;
         print_groups(&caps, output, out);
         has_match = true;
     }
@@ -129,13 +129,11 @@ fn print_groups<W: Write>(caps: &Captures<'_>, output: &mut Output, out: &mut W)
     ensures { Puts output.old (W.contents out.old) output.new (W.contents out.new)
         (groups_line caps.now.spans) }
 {
-    let mut groups = caps.iter();
-    if let Some(whole) = groups.next() {
-        print_group(whole, output, out);
-    }
-    for group in groups {
-        output.text(out, " ");
+    let mut separator = "";
+    for group in caps.iter() {
+        output.text(out, separator);
         print_group(group, output, out);
+        separator = " ";
     }
     output.text(out, "\n");
 }
