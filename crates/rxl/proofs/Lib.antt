@@ -1,1 +1,3 @@
 -- lemmas that several modules use
+pub mod OutputLemmas
+pub mod ListLemmas

@@ -1,3 +1,1 @@
 -- lemmas that several proofs here share
-pub mod AskedLemmas
-pub mod ToldLemmas

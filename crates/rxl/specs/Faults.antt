@@ -1,35 +1,57 @@
 -- What a fault says, and the line that reports it.
-use Rattle.std.specs.Prelude.{ℕ, List, Option, IfSome, IsUtf8, codes}
+use Rattle.std.specs.Prelude.{◌≡◌, ◌⊎◌, ℕ, Bool, false, List, Option, IfSome, IsUtf8, codes}
 use Rattle.std.specs.Borrow.{Bor}
-use Rattle.regex_lite.specs.Errors.{text_of}
+use Rattle.regex_lite.specs.Errors.{out_of_memory, text_of}
 use Rattle.regex_lite.specs.Settings.{default_settings}
 use Rattle.regex_lite.specs.Expression.{IsDue}
-use Rattle.rxl.specs.Program.{AsksForMatch}
+use Rattle.rxl.specs.declared.command.Command.{Command}
+use Rattle.rxl.specs.declared.command.Command.TheVariants.{Ask, Escape}
 use Rattle.rxl.specs.declared.fault.Fault.{Fault}
-use Rattle.rxl.specs.declared.fault.Fault.TheVariants.{Usage, NotUtf8, Unreadable, Refused}
+use Rattle.rxl.specs.declared.fault.Fault.TheVariants.{Usage, NotUtf8, Unreadable, Unwritten, Refused}
+use Rattle.rxl.specs.Commands.{Asks}
+use Rattle.rxl.specs.Output.{IsWritten}
+use Rattle.rxl.specs.Program.{IsAnswered}
 
 -- the text of a fault
 abbrev pub text_of_fault : Fault → List ℕ
 text_of_fault Usage = codes "usage: rxl is-match|find|captures|split|replace|escape PATTERN [TEXT]"
 text_of_fault NotUtf8 = codes "standard input is not UTF-8"
 text_of_fault Unreadable = codes "standard input cannot be read"
+text_of_fault Unwritten = codes "standard output cannot be written"
 text_of_fault (Refused error) = text_of error
 
--- what the fault says of the pattern and the input is so
-abbrev pub IsPatternFault : Fault → (pattern : List ℕ) → (input : Option (List ℕ)) → Type 0
-IsPatternFault Usage pattern input = ⊥
-IsPatternFault NotUtf8 pattern input = IfSome input (λ bytes. IsUtf8 bytes → ⊥)
-IsPatternFault Unreadable pattern input = Unit {0}
-IsPatternFault (Refused error) pattern input = IsDue (default_settings pattern) error
+-- the input could not be read, or there was no memory for it
+abbrev pub IsReadFault : Fault → Type 0
+IsReadFault fault = (fault ≡ Unreadable) ⊎ (fault ≡ Refused out_of_memory)
 
--- what the fault says is so whatever the pattern and the input are
-abbrev pub IsAnyFault : Fault → Type 0
-IsAnyFault fault =
-    (pattern : List ℕ) → (input : Option (List ℕ)) → IsPatternFault fault pattern input
+-- what the fault says of a pattern that is asked about and of the input is so
+abbrev pub IsQuestionFault : Fault → (pattern : List ℕ) → (input : Option (List ℕ)) → Type 0
+IsQuestionFault Usage pattern input = ⊥
+IsQuestionFault NotUtf8 pattern input = IfSome input (λ bytes. IsUtf8 bytes → ⊥)
+IsQuestionFault Unreadable pattern input = Unit {0}
+IsQuestionFault Unwritten pattern input = ⊥
+IsQuestionFault (Refused error) pattern input = IsDue (default_settings pattern) error
 
--- what the fault says is so: the arguments ask for nothing, or it is a fault of the pattern that
--- they ask for, or of the input
+-- what the fault says of the command and the input is so
+abbrev pub IsFaultOf : Fault → Command → (input : Option (List ℕ)) → Type 0
+IsFaultOf fault (Ask question pattern) input = IsQuestionFault fault pattern.now input
+IsFaultOf fault (Escape text) input = fault ≡ Refused out_of_memory
+
+-- the fault is one of the arguments, or of the command that they ask for
 abbrev pub IsFault : Fault → (args : List (Bor (List ℕ))) → (input : Option (List ℕ)) → Type 0
-IsFault Usage args input = (pattern : List ℕ) → AsksForMatch args pattern → ⊥
+IsFault Usage args input = (command : Command) → Asks args command → ⊥
 IsFault fault args input =
-    (pattern : List ℕ) × AsksForMatch args pattern × IsPatternFault fault pattern input
+    (command : Command) × Asks args command × IsFaultOf fault command input
+
+-- this would have been printed, and a beginning of it was written
+abbrev pub IsCutShort : (args : List (Bor (List ℕ))) → (input before now : Option (List ℕ))
+    → Type 0
+IsCutShort args input before now =
+    (found : Bool) × (text : List ℕ) × IsAnswered args input found text
+    × IsWritten before now text false
+
+-- what the fault says is so
+abbrev pub Ends : Fault → (args : List (Bor (List ℕ))) → (input before now : Option (List ℕ))
+    → Type 0
+Ends Unwritten args input before now = IsCutShort args input before now
+Ends fault args input before now = IsFault fault args input

@@ -1,2 +1,5 @@
+pub mod Commands
+pub mod Printed
+pub mod Output
 pub mod Program
 pub mod Faults

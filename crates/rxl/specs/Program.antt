@@ -1,34 +1,52 @@
--- What the program tells by its exit status.
-use Rattle.std.specs.Prelude.{◌≡◌, ◌↔◌, ℕ, Bool, true, false, List, [], ◌∷◌, Option, IfSome, IsUtf8, map, codes}
+-- What a run tells.
+use Rattle.std.specs.Prelude.{◌≡◌, ℕ, Bool, true, false, List, Option, IfSome, IsUtf8}
 use Rattle.std.specs.Borrow.{Bor}
-use Rattle.regex_lite.specs.Settings.{default_settings}
+use Rattle.std.specs.Io.KnownBytes.{Appends}
+use Rattle.regex_lite.specs.Escapes.{escaped_pattern}
 use Rattle.regex_lite.specs.Expression.{IsAccepted, expression_of}
-use Rattle.regex_lite.specs.Searches.{MatchesFrom}
+use Rattle.regex_lite.specs.Settings.{default_settings}
+use Rattle.rxl.specs.declared.command.Command.{Command}
+use Rattle.rxl.specs.declared.command.Command.TheVariants.{Ask, Escape}
+use Rattle.rxl.specs.declared.command.Question.{Question}
+use Rattle.rxl.specs.Commands.{Asks}
+use Rattle.rxl.specs.Printed.{Prints}
 
--- the exit status of a run that found a match, or found that there is none
+-- the exit status of a run that found what was asked for, or found that it isn't there
 abbrev pub status_of : (found : Bool) → ℕ
 status_of true = 0
 status_of false = 1
 
--- the arguments ask whether the pattern matches
-abbrev pub AsksForMatch : (args : List (Bor (List ℕ))) → (pattern : List ℕ) → Type 0
-AsksForMatch args pattern = map (λ arg. arg.now) args ≡ codes "is-match" ∷ pattern ∷ []
-
--- the status tells whether the pattern, under the default settings, matches somewhere in the
--- input. Of an input whose bytes aren't known nothing can be said
-pub record IsPatternAnswered (pattern : List ℕ) (input : Option (List ℕ)) (status : ℕ)
-    : Type 0 where
+-- this is printed for the question about the pattern, under the default settings, and the input.
+-- Where the input's bytes aren't known nothing is said of the text
+pub record IsQuestionAnswered (question : Question) (pattern : List ℕ) (input : Option (List ℕ))
+    (found : Bool) (text : List ℕ) : Type 0 where
   -- the grammar gives the pattern a tree, and no limit is passed
   pub accepted : IsAccepted (default_settings pattern)
   -- the input is a text
   pub is_text : IfSome input IsUtf8
-  -- status 0 is a match
-  pub told : IfSome input
-      (λ haystack. (status ≡ 0) ↔ MatchesFrom (expression_of (default_settings pattern)) haystack 0)
+  pub prints : IfSome input
+      (λ haystack. Prints question (expression_of (default_settings pattern)) haystack found text)
 
--- the arguments ask whether a pattern matches, and the status tells it
-pub record IsAnswered (args : List (Bor (List ℕ))) (input : Option (List ℕ)) (status : ℕ)
+-- this is printed for the command
+abbrev pub IsCommandAnswered : Command → (input : Option (List ℕ)) → (found : Bool)
+    → (text : List ℕ) → Type 0
+IsCommandAnswered (Ask question pattern) input found text =
+    IsQuestionAnswered question pattern.now input found text
+IsCommandAnswered (Escape pattern) input found text =
+    (found ≡ true) × (text ≡ escaped_pattern pattern.now)
+
+-- the arguments ask for a command, and this is printed for it
+abbrev pub IsAnswered : (args : List (Bor (List ℕ))) → (input : Option (List ℕ))
+    → (found : Bool) → (text : List ℕ) → Type 0
+IsAnswered args input found text =
+    (command : Command) × Asks args command × IsCommandAnswered command input found text
+
+-- the writer that held the first bytes has received what is printed, and the status tells whether
+-- it was found
+pub record IsDone (args : List (Bor (List ℕ))) (input before now : Option (List ℕ)) (status : ℕ)
     : Type 0 where
-  pub pattern : List ℕ
-  pub asked : AsksForMatch args pattern
-  pub answered : IsPatternAnswered pattern input status
+  pub found : Bool
+  pub told : status ≡ status_of found
+  pub text : List ℕ
+  pub answered : IsAnswered args input found text
+  pub written : Appends before now text

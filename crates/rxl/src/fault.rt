@@ -1,6 +1,6 @@
 //! Why the program ends without an answer.
 ghost use Rattle.std.specs.Prelude.{Some};
-ghost use Rattle.rxl.specs.Faults.{text_of_fault, IsAnyFault};
+ghost use Rattle.rxl.specs.Faults.{text_of_fault, IsReadFault};
 
 use regex_lite::Error;
 use std::{fmt, io};
@@ -14,6 +14,8 @@ pub(crate) enum Fault {
     NotUtf8,
     /// A read of standard input failed.
     Unreadable,
+    /// A write to standard output failed.
+    Unwritten,
     /// The pattern was refused, or a growth.
     Refused(Error),
 }
@@ -21,7 +23,7 @@ pub(crate) enum Fault {
 impl Fault {
     /// What a failed read of standard input is reported as.
     pub(crate) fn of_read(error: io::Error) -> Fault
-        ensures { IsAnyFault result }
+        ensures { IsReadFault result }
     {
         match error.kind() {
             io::ErrorKind::OutOfMemory => Fault::Refused(Error::memory()),
@@ -43,6 +45,7 @@ impl fmt::Display for Fault {
             }
             Fault::NotUtf8 => write!(f, "standard input is not UTF-8"),
             Fault::Unreadable => write!(f, "standard input cannot be read"),
+            Fault::Unwritten => write!(f, "standard output cannot be written"),
             Fault::Refused(error) => write!(f, "{error}"),
         }
     }
@@ -56,5 +59,17 @@ impl From<Error> for Fault {
 
     fn from(error: Error) -> Fault {
         Fault::Refused(error)
+    }
+}
+
+impl From<io::Error> for Fault {
+    ghost use Rattle.std.specs.Prelude.{◌≡◌};
+    ghost use Rattle.rxl.specs.declared.fault.Fault.TheVariants.{Unwritten};
+
+    ghost from_gives = { λ _ fault. fault ≡ Unwritten };
+
+    /// What a failed write of standard output is reported as.
+    fn from(_: io::Error) -> Fault {
+        Fault::Unwritten
     }
 }

@@ -4,7 +4,10 @@
 //! over any reader and writers, and `fault` says why a run ends without an answer.
 #![tactic(auto)]
 
+mod command;
+mod commands;
 mod fault;
+mod output;
 mod program;
 #[cfg(test)]
 mod tests;

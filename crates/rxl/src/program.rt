@@ -1,19 +1,31 @@
 //! What the program does, over any reader and writers.
-ghost use Rattle.std.specs.Prelude.{◌≡◌, ◌<◌, ◌≤◌, IfOk, IfErr, IfSome};
-ghost use Rattle.rxl.specs.Faults.{IsAnyFault, IsFault, IsPatternFault};
-ghost use Rattle.rxl.specs.Program.{IsAnswered, IsPatternAnswered, status_of};
+ghost use Rattle.std.specs.Prelude.{◌≡◌, ◌<◌, ◌≤◌, ◌≢◌, ⊤, List, ℕ, Option, IfOk, IfErr, IfSome, IsUtf8, MatchResult};
+ghost use Rattle.std.specs.Io.KnownBytes.{Appends, Keeps};
+ghost use Rattle.rxl.specs.declared.fault.Fault.TheVariants.{NotUtf8};
+ghost use Rattle.rxl.specs.Faults.{Ends, IsFault, IsQuestionFault, IsReadFault};
+ghost use Rattle.regex_lite.specs.Errors.{out_of_memory};
+ghost use Rattle.rxl.specs.declared.fault.Fault.{Fault};
+ghost use Rattle.rxl.specs.Output.{PutsSome};
+ghost use Rattle.rxl.specs.Printed.{Prints};
+ghost use Rattle.rxl.specs.Program.{IsAnswered, IsDone, IsQuestionAnswered, status_of};
 
+use crate::command::{Command, Question};
+use crate::commands::{
+    print_captures, print_escaped, print_matches, print_pieces, print_replaced,
+};
 use crate::fault::Fault;
-use regex_lite::Regex;
+use crate::output::Output;
+use regex_lite::{Error, Regex};
 use std::alloc::Global;
 use std::io::{Read, Write};
 use std::str;
 
 /// Runs the program on its arguments, without the program's own name, and answers its exit
-/// status: 0 with a match, 1 without one and 2 after a fault, which is one line on `err`.
+/// status: 0 where what was asked for is found, 1 where it isn't there, and 2 after a fault, which
+/// is one line on `err`.
 ///
 /// Wrong arguments are found before all else. Then the pattern is built, and then the whole input
-/// is read.
+/// is read. What was printed before a fault stays.
 pub(crate) fn run<R: Read, O: Write, E: Write>(
     alloc: Global,
     args: &[&str],
@@ -22,10 +34,14 @@ pub(crate) fn run<R: Read, O: Write, E: Write>(
     err: &mut E,
 ) -> u8
     ensures known { result ≤ 2 }
-    ensures answered { result < 2 → IsAnswered args.now (R.remaining input.old) result }
-    ensures silent { O.contents out.new ≡ O.contents out.old }
+    ensures done { result < 2 → IsDone args.now (R.remaining input.old)
+        (O.contents out.old) (O.contents out.new) result }
+    ensures silent { result < 2 → err.new ≡ err.old }
+    ensures fault { result ≡ 2 → (fault : Fault) × Ends fault args.now (R.remaining input.old)
+        (O.contents out.old) (O.contents out.new) }
+    ensures kept { (text : List ℕ) × Appends (O.contents out.old) (O.contents out.new) text }
 {
-    match answer(alloc, args, input) {
+    match print_answer(alloc, args, input, out) {
         Ok(true) => 0,
         Ok(false) => 1,
         Err(fault) => {
@@ -36,43 +52,118 @@ pub(crate) fn run<R: Read, O: Write, E: Write>(
     }
 }
 
-/// Whether there is a match, as the arguments ask.
-fn answer<R: Read>(alloc: Global, args: &[&str], input: &mut R) -> Result<bool, Fault>
-    ensures ok { IfOk result
-        (λ found. IsAnswered args.now (R.remaining input.old) (status_of found)) }
+/// Writes the answer to what the arguments ask, and tells whether it was found.
+fn print_answer<R: Read, W: Write>(
+    alloc: Global,
+    args: &[&str],
+    input: &mut R,
+    out: &mut W,
+) -> Result<bool, Fault>
+    ensures ok { IfOk result (λ found. IsDone args.now (R.remaining input.old)
+        (W.contents out.old) (W.contents out.new) (status_of found)) }
+    ensures refused { IfErr result (λ fault. Ends fault args.now (R.remaining input.old)
+        (W.contents out.old) (W.contents out.new)) }
+    ensures kept { (text : List ℕ) × Appends (W.contents out.old) (W.contents out.new) text }
+{
+    let mut output = Output::new(alloc);
+    let answer = answer(alloc, args, input, &mut output, out);
+    let written = output.finish(out);
+    let found = answer?;
+    written?;
+    Ok(found)
+}
+
+/// Prints the answer to what the arguments ask.
+fn answer<R: Read, W: Write>(
+    alloc: Global,
+    args: &[&str],
+    input: &mut R,
+    output: &mut Output,
+    out: &mut W,
+) -> Result<bool, Fault>
+    ensures ok { IfOk result (λ found.
+        PutsSome (IsAnswered args.now (R.remaining input.old) found)
+        output.old (W.contents out.old) output.new (W.contents out.new)) }
+    ensures kept { PutsSome (λ _. ⊤)
+        output.old (W.contents out.old) output.new (W.contents out.new) }
     ensures refused { IfErr result (λ fault. IsFault fault args.now (R.remaining input.old)) }
 {
-    match args {
-        ["is-match", pattern] => is_match(alloc, pattern, input),
-        _ => Err(Fault::Usage),
+    match Command::of(args) {
+        Some(Command::Ask(question, pattern)) => {
+            ask(alloc, question, pattern, input, output, out)
+        }
+        Some(Command::Escape(text)) => Ok(print_escaped(alloc, text, output, out)?),
+        None => Err(Fault::Usage),
     }
 }
 
-/// Whether the pattern matches somewhere in the input.
-fn is_match<R: Read>(alloc: Global, pattern: &str, input: &mut R) -> Result<bool, Fault>
-    ensures ok { IfOk result
-        (λ found. IsPatternAnswered pattern.now (R.remaining input.old) (status_of found)) }
-    ensures refused { IfErr result
-        (λ fault. IsPatternFault fault pattern.now (R.remaining input.old)) }
+/// Prints the answer to a question about the pattern and the input.
+fn ask<R: Read, W: Write>(
+    alloc: Global,
+    question: Question<'_>,
+    pattern: &str,
+    input: &mut R,
+    output: &mut Output,
+    out: &mut W,
+) -> Result<bool, Fault>
+    ensures ok { IfOk result (λ found.
+        PutsSome (IsQuestionAnswered question.entry pattern.now (R.remaining input.old) found)
+        output.old (W.contents out.old) output.new (W.contents out.new)) }
+    ensures kept { PutsSome (λ _. ⊤)
+        output.old (W.contents out.old) output.new (W.contents out.new) }
+    ensures refused { IfErr result (λ fault.
+        IsQuestionFault fault pattern.now (R.remaining input.old)) }
 {
     let regex = Regex::new(alloc, pattern)?;
     let bytes = read_all(alloc, input)?;
-    let Ok(haystack) = str::from_utf8(bytes.as_slice()) else {
-        return Err(Fault::NotUtf8);
-    };
-    let found = regex.is_match(haystack)?;
-    Ok(found)
+    let haystack = text_of(bytes.as_slice())?;
+    Ok(print_question(&regex, question, haystack, output, out)?)
+}
+
+/// Prints the answer to a question about the regex and the haystack.
+fn print_question<W: Write>(
+    regex: &Regex,
+    question: Question<'_>,
+    haystack: &str,
+    output: &mut Output,
+    out: &mut W,
+) -> Result<bool, Error>
+    ensures ok { IfOk result (λ found.
+        PutsSome (Prints question.entry regex.now haystack.now found)
+        output.old (W.contents out.old) output.new (W.contents out.new)) }
+    ensures kept { PutsSome (λ _. ⊤)
+        output.old (W.contents out.old) output.new (W.contents out.new) }
+    ensures refused { IfErr result (λ error. error ≡ out_of_memory) }
+{
+    match question {
+        Question::IsMatch => regex.is_match(haystack),
+        Question::Find => print_matches(regex, haystack, output, out),
+        Question::Captures => print_captures(regex, haystack, output, out),
+        Question::Split => print_pieces(regex, haystack, output, out),
+        Question::Replace(template) => print_replaced(regex, haystack, template, output, out),
+    }
 }
 
 /// All bytes that the reader still has.
 fn read_all<R: Read>(alloc: Global, input: &mut R) -> Result<Vec<u8>, Fault>
     ensures ok { IfOk result
         (λ bytes. IfSome (R.remaining input.old) (λ known. bytes.items ≡ known)) }
-    ensures refused { IfErr result IsAnyFault }
+    ensures refused { IfErr result IsReadFault }
 {
     let mut bytes = Vec::new(alloc);
     match input.read_to_end(&mut bytes) {
         Ok(_) => Ok(bytes),
         Err(error) => Err(Fault::of_read(error)),
+    }
+}
+
+/// The bytes as a text. Bytes that are none are never told as unreadable.
+fn text_of(bytes: &[u8]) -> Result<&str, Fault>
+    ensures { MatchResult result (λ text. (text.now ≡ bytes.now) × IsUtf8 bytes.now)
+        (λ fault. (fault ≡ NotUtf8) × ¬ (IsUtf8 bytes.now)) }
+{
+    match str::from_utf8(bytes) {
+        Ok(text) => Ok(text),
+        Err(_) => Err(Fault::NotUtf8),
     }
 }

@@ -1,0 +1,82 @@
+-- From the matches that an iterator gives, one after another, to the list of all.
+use Rattle.std.proofs.Common.{◌≡◌, ◌≢◌, ◌⊎◌, ℕ, suc, zero, Bool, true, false, Option, Some, None, List, [], ◌∷◌, ◌++◌, map, flat_map, chars, refl, sym, ap, ◌∙◌, subst, inl, inr, arith, ◌-◌, ◌||◌}
+use Rattle.std.proofs.lemmas.List.{append_assoc, append-nil}
+use Rattle.regex_lite.specs.Search.Answer.{Found}
+use Rattle.regex_lite.specs.Ahead.{Ahead, Passes, AreAhead, IsOver, AreGroupsFound, whole}
+use Rattle.regex_lite.specs.Expression.{Expression}
+use Rattle.regex_lite.specs.Groups.{Groups}
+use Rattle.regex_lite.specs.MatchList.{IsNext, AreFirst, AreWithin, one_less}
+use Rattle.regex_lite.specs.Pieces.{found_span}
+use Rattle.regex_lite.specs.Replacements.{AreGroupsOfEach}
+use Rattle.rxl.specs.Printed.{PrintsMatches, PrintsGroups, groups_line, has_some, span_line}
+
+module _ (re : Expression) (haystack : List ℕ) where
+  within_more : (limit ended : Option ℕ) (found : Found) (list : List Found)
+      → limit ≢ Some 0 → IsNext re haystack ended (Some found)
+      → AreWithin re haystack (one_less limit) (Some found.end) list
+      → AreWithin re haystack limit ended (found ∷ list)
+  within_more None ended found list some comes rest = (comes, rest)
+  within_more (Some zero) ended found list some comes rest = absurd (some refl)
+  within_more (Some (suc k)) ended found list some comes rest =
+      (comes, subst (λ m. AreFirst re haystack m (Some found.end) list) (omega arith) rest)
+
+  within_none : (limit ended : Option ℕ) → (limit ≡ Some 0) ⊎ IsNext re haystack ended None
+      → AreWithin re haystack limit ended []
+  within_none None ended (inl is) = absurd (cc)
+  within_none None ended (inr comes) = comes
+  within_none (Some zero) ended over = refl
+  within_none (Some (suc k)) ended (inl is) = absurd (cc)
+  within_none (Some (suc k)) ended (inr comes) = comes
+
+-- a match that was passed, and those behind it
+pub ahead_more : (old new : Ahead) (found : Found) (list : List Found) → Passes old found new
+    → AreAhead new list → AreAhead old (found ∷ list)
+ahead_more old new found list passes rest =
+    within_more old.regex (chars old.haystack) old.limit old.ended found list passes.may_come
+    passes.comes (subst (λ a. AreAhead a list) passes.passed rest)
+
+pub ahead_none : (a : Ahead) → IsOver a → AreAhead a []
+ahead_none a over = within_none a.regex (chars a.haystack) a.limit a.ended over
+
+-- The matches ahead of the first, of which some were passed and their lines printed; whether there
+-- was one
+pub record LeadsOn (first a : Ahead) (has : Bool) (printed : List ℕ) : Type 0 where
+  pub on : (list : List Found) → AreAhead a list
+      → (all : List Found) × AreAhead first all × (has_some all ≡ (has || has_some list))
+      × (printed ++ flat_map span_line (map (found_span (chars first.haystack)) list)
+      ≡ flat_map span_line (map (found_span (chars first.haystack)) all))
+
+pub leads_start : (first : Ahead) → LeadsOn first first false []
+leads_start first = record { on = λ list are. (list, are, refl, refl) }
+
+pub leads_more : (first old new : Ahead) (has : Bool) (printed : List ℕ) (found : Found)
+    (line : List ℕ) → LeadsOn first old has printed → Passes old found new
+    → line ≡ span_line (found_span (chars first.haystack) found)
+    → LeadsOn first new true (printed ++ line)
+leads_more first old new has printed found line leads passes is = record {
+  on = λ list are.
+      let all = leads.on (found ∷ list) (ahead_more old new found list passes are) in
+      let rest = flat_map span_line (map (found_span (chars first.haystack)) list) in
+      (all.0, all.1, all.2 ∙ or_true has,
+      append_assoc printed line rest ∙ ap (λ x. printed ++ (x ++ rest)) is ∙ all.3);
+}
+  where
+    or_true : (b : Bool) → (b || true) ≡ true
+    or_true true = refl
+    or_true false = refl
+
+pub leads_end : (re : Expression) (haystack : List ℕ) (a : Ahead) (has : Bool) (printed : List ℕ)
+    → LeadsOn (whole re haystack None) a has printed → IsOver a
+    → PrintsMatches re haystack has printed
+leads_end re haystack a has printed leads over =
+    let all = leads.on [] (ahead_none a over) in
+    record {
+      matches = all.0;
+      are_all = all.1;
+      known = sym (all.2 ∙ or_false has);
+      printed = sym (append-nil printed) ∙ all.3;
+    }
+  where
+    or_false : (b : Bool) → (b || false) ≡ b
+    or_false true = refl
+    or_false false = refl

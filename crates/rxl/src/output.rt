@@ -1,0 +1,122 @@
+//! Output that is gathered, and written in large parts.
+ghost use Rattle.std.specs.Prelude.{◌≡◌, ◌≤◌, ◌++◌, ℕ, List, [], drop, length, Option, IfErr, false, is_ok};
+ghost use Rattle.std.specs.Fmt.{decimal};
+ghost use Rattle.rxl.specs.declared.fault.Fault.TheVariants.{Unwritten};
+ghost use Rattle.rxl.specs.Output.{IsPrinted, IsWritten, Puts};
+
+use crate::fault::Fault;
+use itoa::Buffer;
+use std::alloc::Global;
+use std::io;
+use std::io::Write;
+
+/// How many bytes are gathered at most.
+const LARGE: usize = 8192;
+
+/// Texts that were printed and are still to be written. Once a write failed, all further texts are
+/// dropped.
+#[derive(Drop)]
+pub(crate) struct Output {
+    waiting: Vec<u8>,
+    has_failed: bool,
+}
+
+impl Output {
+    /// Nothing is printed yet.
+    pub fn new(alloc: Global) -> Output
+        ensures waiting { result.waiting.items ≡ [] }
+        ensures has_failed { result.has_failed ≡ false }
+    {
+        Output {
+            waiting: Vec::new(alloc),
+            has_failed: false,
+        }
+    }
+
+    /// Prints a text. Where there is no room to gather it, it's written at once.
+    pub fn text<W: Write>(&mut self, out: &mut W, text: &str)
+        ensures { Puts self.old (W.contents out.old) self.new (W.contents out.new) text.now }
+    {
+        if self.has_failed {
+            return;
+        }
+        let bytes = text.as_bytes();
+        let room = LARGE.saturating_sub(self.waiting.len());
+        if bytes.len() > room || self.waiting.extend_from_slice(bytes).is_err() {
+            self.send(out, bytes);
+        }
+    }
+
+    /// Prints a number in decimal digits.
+    pub fn number<W: Write>(&mut self, out: &mut W, number: usize)
+        ensures { Puts self.old (W.contents out.old) self.new (W.contents out.new)
+            (decimal number) }
+    {
+        let mut digits = Buffer::new();
+        self.text(out, digits.format(number));
+    }
+
+    /// Writes what was gathered, and then these bytes.
+    fn send<W: Write>(&mut self, out: &mut W, bytes: &[u8])
+        requires { self.old.has_failed ≡ false }
+        ensures { Puts self.old (W.contents out.old) self.new (W.contents out.new) bytes.now }
+    {
+        self.has_failed = write_both(out, self.waiting.as_slice(), bytes).is_err();
+        self.waiting.clear();
+    }
+
+    /// Writes what is left.
+    ///
+    /// # Errors
+    ///
+    /// `Unwritten` where a write failed, now or before.
+    pub fn finish<W: Write>(self, out: &mut W) -> Result<(), Fault>
+        ensures written { (before : Option (List ℕ)) → (text : List ℕ)
+            → IsPrinted before (W.contents out.old) self text
+            → IsWritten before (W.contents out.new) text (is_ok result) }
+        ensures refused { IfErr result (λ fault. fault ≡ Unwritten) }
+    {
+        if self.has_failed {
+            return Err(Fault::Unwritten);
+        }
+        write_all(out, self.waiting.as_slice())?;
+        out.flush()?;
+        Ok(())
+    }
+}
+
+/// Writes the bytes of both.
+fn write_both<W: Write>(out: &mut W, first: &[u8], second: &[u8]) -> io::Result<()>
+    ensures { IsWritten (W.contents out.old) (W.contents out.new) (first.now ++ second.now)
+        (is_ok result) }
+{
+    write_all(out, first)?;
+    write_all(out, second)
+}
+
+/// Writes all bytes. Where a write fails, a beginning of them was written.
+fn write_all<W: Write>(out: &mut W, bytes: &[u8]) -> io::Result<()>
+    ensures { IsWritten (W.contents out.old) (W.contents out.new) bytes.now (is_ok result) }
+{
+    let mut rest = bytes;
+    for _ in 0..u64::MAX {
+        if rest.is_empty() {
+            return Ok(());
+        }
+        match out.write(rest) {
+            Ok(0) => break,
+            Ok(count) => rest = behind(rest, count),
+            Err(error) if error.kind() == io::ErrorKind::Interrupted => {}
+            Err(error) => return Err(error),
+        }
+    }
+    Err(io::Error::from(io::ErrorKind::WriteZero))
+}
+
+/// The bytes behind the first so many.
+fn behind(bytes: &[u8], count: usize) -> &[u8]
+    requires { count ≤ length bytes.now }
+    ensures { result.now ≡ drop count bytes.now }
+{
+    &bytes[count..]
+}
