@@ -1,3 +1,5 @@
 -- lemmas that several modules use
 pub mod OutputLemmas
 pub mod ListLemmas
+pub mod PieceLemmas
+pub mod TemplateLemmas
