@@ -2,3 +2,5 @@
 pub mod OutputLemmas
 pub mod ListLemmas
 pub mod GroupLineLemmas
+pub mod PieceLemmas
+pub mod TemplateLemmas
