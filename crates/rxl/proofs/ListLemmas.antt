@@ -38,6 +38,16 @@ ahead_more old new found list passes rest =
 pub ahead_none : (a : Ahead) → IsOver a → AreAhead a []
 ahead_none a over = within_none a.regex (chars a.haystack) a.limit a.ended over
 
+-- the regex and the haystack stay the same
+pub same_regex : (old new : Ahead) (found : Found) (re : Expression) → Passes old found new
+    → old.regex ≡ re → new.regex ≡ re
+same_regex old new found re passes same = ap (λ a. a.regex) passes.passed ∙ same
+
+pub same_haystack : (old new : Ahead) (found : Found) (haystack : List ℕ)
+    → Passes old found new → old.haystack ≡ haystack → new.haystack ≡ haystack
+same_haystack old new found haystack passes same =
+    ap (λ a. a.haystack) passes.passed ∙ same
+
 or_true : (b : Bool) → (b || true) ≡ true
 or_true true = refl
 or_true false = refl
