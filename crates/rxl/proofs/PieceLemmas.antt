@@ -28,9 +28,11 @@ module _ (re : Expression) (haystack : List ℕ) where
       → PiecesFollow re haystack new (printed ++ piece_line piece)
   pieces_more old new printed piece follow came = record {
     on = λ list left.
-        let all = follow.on (piece ∷ list) (came list left) in
-        (all.0, all.1,
-        append_assoc printed (piece_line piece) (flat_map piece_line list) ∙ all.2);
+        let all = follow.on (piece ∷ list) (came list left) in (
+          all.0,
+          all.1,
+          append_assoc printed (piece_line piece) (flat_map piece_line list) ∙ all.2,
+        );
   }
 
   -- where none is left all lines are printed

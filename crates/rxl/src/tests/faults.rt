@@ -86,7 +86,12 @@ fn input_that_fails(rt: HostRuntime) {
         kind: io::ErrorKind::OutOfMemory,
     };
     let report = "out of memory\n";
-    expect(&rt, &["replace", "sam", "x"], &mut without_room, (2, "", report));
+    expect(
+        &rt,
+        &["replace", "sam", "x"],
+        &mut without_room,
+        (2, "", report),
+    );
 }
 
 /// What is escaped needs no input.

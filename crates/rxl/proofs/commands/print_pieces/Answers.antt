@@ -33,11 +33,15 @@ loop-piece-preserved g c =
 
 pub returns-clause-ok : goal.returns-clause-ok
 returns-clause-ok g c =
-    let held = c.loop-piece.invariant in
-    (held.printed,
-    (refl, pieces_end c.args.regex.now c.args.haystack.now c.loop-piece.piece-iterator held.printed
-    held.follow c.in-None.ensures.steps.0),
-    held.puts)
+    let held = c.loop-piece.invariant in (
+      held.printed,
+      (
+        refl,
+        pieces_end c.args.regex.now c.args.haystack.now c.loop-piece.piece-iterator held.printed
+            held.follow c.in-None.ensures.steps.0,
+      ),
+      held.puts,
+    )
 
 pub returns-clause-kept : goal.returns-clause-kept
 returns-clause-kept g c =

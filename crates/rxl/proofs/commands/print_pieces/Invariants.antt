@@ -7,5 +7,5 @@ abbrev pub invariant-loop-piece : goal.invariant-loop-piece
 invariant-loop-piece g l = record {
   printed : List ℕ;
   puts : Puts l.fn.output (g.W.Write.contents l.fn.out) l.output (g.W.Write.contents l.out) printed;
-  follow : PiecesFollow l.fn.regex l.fn.haystack l.piece-iterator printed
+  follow : PiecesFollow l.fn.regex l.fn.haystack l.piece-iterator printed;
 }

@@ -15,10 +15,13 @@ returns-in_err-replaced-clause-refused g c =
 pub returns-clause-ok : goal.returns-clause-ok
 returns-clause-ok g c =
     let regex = c.args.regex.now in
-    let haystack = c.args.haystack.now in
-    (c.as_str.result.now,
-    (subst (λ found. IsTrue found ↔ MatchesFrom regex haystack 0) c.if-not-branch.false
-    c.in_ok-is_match.ensures.found,
-    subst (IsReplacedText regex c.args.template haystack) (sym c.as_str.ensures.value)
-    c.in_ok-replaced.ensures.replaced),
-    c.text-2.ensures)
+    let haystack = c.args.haystack.now in (
+      c.as_str.result.now,
+      (
+        subst (λ found. IsTrue found ↔ MatchesFrom regex haystack 0) c.if-not-branch.false
+            c.in_ok-is_match.ensures.found,
+        subst (IsReplacedText regex c.args.template haystack) (sym c.as_str.ensures.value)
+            c.in_ok-replaced.ensures.replaced,
+      ),
+      c.text-2.ensures,
+    )
