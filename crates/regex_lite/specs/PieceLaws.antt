@@ -74,5 +74,6 @@ module _ {R : Type 0} (Fixed : R → Option (List ℕ) → R → Type 0)
   LentReplacersReplaceAlike Lent =
       (behind : Lent → R) (rep : Lent) (a : Ahead) (new : List ℕ)
       → IsReplacement (λ old text after. Fixed (behind old) text (behind after))
-      (λ old groups text answer after. Appends (behind old) groups text answer (behind after)) rep a new
+      (λ old groups text answer after. Appends (behind old) groups text answer (behind after))
+      rep a new
       → IsReplacement Fixed Appends (behind rep) a new

@@ -34,8 +34,8 @@ pub record IsReplacedBy (text : List ℕ) (a : Ahead) (new : List ℕ) : Type 0 
   pub replaced :
       new ≡ replaced_by text a.haystack 0 (map (found_span (chars a.haystack)) found)
 
--- A replacer is known by two relations: what it answers where it is asked for a fixed text, and what
--- it appends for groups, and answers
+-- A replacer is known by two relations: what it answers where it is asked for a fixed text, and
+-- what it appends for groups, and answers
 module _ {R : Type 0} (Fixed : R → Option (List ℕ) → R → Type 0)
     (Appends : R → Groups → List ℕ → Answer → R → Type 0) where
   -- the haystack from this offset on where the replacer, asked for each match in turn, appended a
@@ -76,8 +76,8 @@ module _ {R : Type 0} (Fixed : R → Option (List ℕ) → R → Type 0)
   IsReplaced (Some text) rep a new = IsReplacedBy text a new
   IsReplaced None rep a new = IsReplacedInTurn rep a new
 
-  -- The replacer is asked for a fixed text, once and first. Where it has one, that text replaces each
-  -- match; else it is asked for each match in turn
+  -- The replacer is asked for a fixed text, once and first. Where it has one, that text replaces
+  -- each match; else it is asked for each match in turn
   abbrev pub IsReplacement : R → Ahead → List ℕ → Type 0
   IsReplacement rep a new =
       (fixed : Option (List ℕ)) × (after : R) × Fixed rep fixed after × IsReplaced fixed after a new

@@ -1,5 +1,5 @@
-//! Laws of what searches tell, of lists, pieces and replacements, of escaped texts and of equality.
-//! Each function does nothing: its contract is the law.
+//! Laws of what searches tell, of lists, pieces and replacements, of escaped texts and of
+//! equality. Each function does nothing: its contract is the law.
 ghost use Rattle.std.specs.Cmp.{IsEquivalence};
 ghost use Rattle.regex_lite.specs.Laws.{EscapedTextsAreRefusedForSize, EscapedTextsMatchThemselves, MatchesAreTheirSpans, SearchesAgree};
 ghost use Rattle.regex_lite.specs.ListLaws.{MatchesAreApart, OneMatchList};
@@ -14,8 +14,8 @@ pub fn searches_agree()
     ensures { SearchesAgree }
 {}
 
-/// The matches of a haystack don't overlap, their ends strictly grow, and they are at most one more
-/// than its characters. A haystack has one list of them.
+/// The matches of a haystack don't overlap, their ends strictly grow, and they are at most one
+/// more than its characters. A haystack has one list of them.
 pub fn matches_are_apart()
     ensures apart { MatchesAreApart }
     ensures one_list { OneMatchList }
@@ -40,8 +40,8 @@ pub fn fixed_text_is_template<R>()
     ensures { FixedTextIsTemplate R }
 {}
 
-/// A replacer that is lent replaces as it does itself. Here `L` is what lends it, as a `ReplacerRef`
-/// does.
+/// A replacer that is lent replaces as it does itself. Here `L` is what lends it, as a
+/// `ReplacerRef` does.
 pub fn lent_replacers_replace_alike<L, R: Replacer>()
     ensures { LentReplacersReplaceAlike R.fixed R.appends L }
 {}
@@ -59,9 +59,9 @@ pub fn equality_is_an_equivalence<T: Eq>()
     ensures { IsEquivalence T.eq }
 {}
 
-/// The pattern that [`escape`](crate::escape) makes of a text has a tree under the default settings,
-/// and matches exactly where the text stands in the haystack. It is refused only as too large, by
-/// `Size` or `Places`, or for want of memory.
+/// The pattern that [`escape`](crate::escape) makes of a text has a tree under the default
+/// settings, and matches exactly where the text stands in the haystack. It is refused only as too
+/// large, by `Size` or `Places`, or for want of memory.
 pub fn escaped_texts_match_themselves()
     ensures refused { EscapedTextsAreRefusedForSize }
     ensures matches { EscapedTextsMatchThemselves }

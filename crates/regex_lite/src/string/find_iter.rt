@@ -14,9 +14,9 @@ use std::iter::FusedIterator;
 impl Regex {
     /// All matches, from left to right.
     ///
-    /// The first is that of [`Regex::find`]. Behind a match the search goes on where it ended; but a
-    /// match that is empty there is passed over, and the search goes on from the next character. So
-    /// no two matches overlap.
+    /// The first is that of [`Regex::find`]. The next is looked for where the last one ended;
+    /// where that would be an empty match at that very place, it is looked for one character
+    /// further on. So no two matches overlap.
     ///
     /// ```
     /// let regex = Regex::new(alloc, "a*")?;

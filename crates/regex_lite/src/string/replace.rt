@@ -67,12 +67,12 @@ impl Regex {
         self.replacen(haystack, 0, rep)
     }
 
-    /// The haystack with its first matches replaced, as many as the limit says; a limit of 0 stands
-    /// for all. The matches are those of [`Regex::find_iter`].
+    /// The haystack with its first matches replaced, as many as the limit says; a limit of 0
+    /// stands for all. The matches are those of [`Regex::find_iter`].
     ///
     /// The replacer is asked for a fixed text once, before the first match is looked for. Where it
-    /// has none, it is asked to append a text for each match. Without a match the haystack itself is
-    /// answered, and with one a text of its own.
+    /// has none, it is asked to append a text for each match. Without a match the haystack itself
+    /// is answered, and with one a text of its own.
     ///
     /// ```
     /// let regex = Regex::new(alloc, " +")?;

@@ -7,9 +7,9 @@ ghost use Rattle.regex_lite.specs.Replacing.{Answer, IsAppendedResult, IsAppende
 use crate::string::captures::Captures;
 use regex_lite_syntax::Error;
 
-/// What stands in the place of each match that is replaced: [`Regex::replacen`](crate::Regex::replacen)
-/// asks it for a fixed text once, and where it has none, for what to append for the groups of each
-/// match.
+/// What stands in the place of each match that is replaced:
+/// [`Regex::replacen`](crate::Regex::replacen) asks it for a fixed text once, and where it has
+/// none, for what to append for the groups of each match.
 ///
 /// Texts are replacers, and stand for themselves as templates, as [`Captures::expand`] reads them.
 /// [`NoExpand`] is a text that is none, and [`ReplaceBy`] a closure.
@@ -23,13 +23,13 @@ pub trait Replacer: Drop {
     /// What it may answer where it is asked for a fixed text, from its state before to that after.
     ghost fixed: { Self → Option (List ℕ) → Self → Type 0 };
 
-    /// Appends what stands in the place of the match with these groups. What was there before stays,
-    /// with an error too.
+    /// Appends what stands in the place of the match with these groups. What was there before
+    /// stays, with an error too.
     ///
     /// # Errors
     ///
-    /// What the replacer answers: the provided ones only `Memory`, where a growth is refused, and a
-    /// [`ReplaceBy`] that of its closure.
+    /// What the replacer answers: the provided ones only `Memory`, where a growth is refused, and
+    /// a [`ReplaceBy`] that of its closure.
     fn replace_append(&mut self, caps: &Captures<'_>, dst: &mut String) -> Result<(), Error>
         requires { can_append self.old }
         ensures appended { (text : List ℕ)

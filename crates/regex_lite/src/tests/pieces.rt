@@ -89,7 +89,8 @@ fn fused(rt: HostRuntime) -> Result<(), Fail> {
     Ok(())
 }
 
-/// The first piece at commas, where both calls agree on it. It outlives the iterators and the regex.
+/// The first piece at commas, where both calls agree on it. It outlives the iterators and the
+/// regex.
 fn first_piece<'h>(alloc: Global, haystack: &'h str) -> Result<Option<&'h str>, Error> {
     let regex = Regex::new(alloc, ",")?;
     let mut all = regex.split(haystack)?;

@@ -1,5 +1,5 @@
-//! Searches from a pattern on: that they run, alone and in one searcher, that what they tell is what
-//! was meant, and how many rows of slots they have.
+//! Searches from a pattern on: that they run, alone and in one searcher, that what they tell is
+//! what was meant, and how many rows of slots they have.
 use super::cache_for;
 use crate::pikevm::turn::Cache;
 use crate::{Graph, Searcher};
@@ -69,8 +69,8 @@ fn rows(rt: HostRuntime) -> Result<(), Fail> {
     Ok(())
 }
 
-/// Searches for `(?:a|ab)(c|bc)*`, one after another: the haystack, where the search starts, and what
-/// it finds. The second is over before the haystack's end, and marks nothing.
+/// Searches for `(?:a|ab)(c|bc)*`, one after another: the haystack, where the search starts, and
+/// what it finds. The second is over before the haystack's end, and marks nothing.
 const TURNS: [(&'static str, usize, Option<Found>); 6] = [
     ("xabccd", 0, Some((1, 5, Some(4), Some(5)))),
     ("abb", 0, Some((0, 1, None, None))),
