@@ -1,9 +1,10 @@
 //! What the program does, over any reader and writers.
-ghost use Rattle.std.specs.Prelude.{◌≡◌, ◌<◌, ◌≤◌, ◌≢◌, ⊤, List, ℕ, Option, IfOk, IfErr, IfSome};
-ghost use Rattle.std.specs.Io.KnownBytes.{Appends, Keeps};
+ghost use Rattle.std.specs.Prelude.{◌≡◌, ◌<◌, ◌≤◌, ⊤, List, ℕ, IfOk, IfErr, IfSome, IsUtf8};
+ghost use Rattle.std.specs.Io.KnownBytes.{Appends};
 ghost use Rattle.rxl.specs.Faults.{Ends, IsFaultOf, IsQuestionFault, IsReadFault};
 ghost use Rattle.regex_lite.specs.Errors.{out_of_memory};
 ghost use Rattle.rxl.specs.declared.fault.Fault.{Fault};
+ghost use Rattle.rxl.specs.declared.fault.Fault.TheVariants.{NotUtf8};
 ghost use Rattle.rxl.specs.Output.{PutsSome};
 ghost use Rattle.rxl.specs.Printed.{Prints};
 ghost use Rattle.rxl.specs.Program.{IsCommandAnswered, IsDone, IsQuestionAnswered, status_of};
@@ -114,9 +115,7 @@ fn ask<R: Read, W: Write>(
 {
     let regex = Regex::new(alloc, pattern)?;
     let bytes = read_all(alloc, input)?;
-    let Ok(haystack) = str::from_utf8(bytes.as_slice()) else {
-        return Err(Fault::NotUtf8);
-    };
+    let haystack = text_of(bytes.as_slice())?;
     Ok(print_question(&regex, question, haystack, output, out)?)
 }
 
@@ -154,5 +153,16 @@ fn read_all<R: Read>(alloc: Global, input: &mut R) -> Result<Vec<u8>, Fault>
     match input.read_to_end(&mut bytes) {
         Ok(_) => Ok(bytes),
         Err(error) => Err(Fault::of_read(error)),
+    }
+}
+
+/// The bytes as a text.
+fn text_of(bytes: &[u8]) -> Result<&str, Fault>
+    ensures ok { IfOk result (λ text. (text.now ≡ bytes.now) × IsUtf8 bytes.now) }
+    ensures refused { IfErr result (λ fault. (fault ≡ NotUtf8) × ¬ (IsUtf8 bytes.now)) }
+{
+    match str::from_utf8(bytes) {
+        Ok(text) => Ok(text),
+        Err(_) => Err(Fault::NotUtf8),
     }
 }

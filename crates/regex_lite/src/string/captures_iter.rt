@@ -5,7 +5,7 @@ ghost use Rattle.regex_lite.specs.Ahead.{groups_ahead_of, whole};
 
 use crate::string::captures::Captures;
 use crate::string::cursor::Cursor;
-use crate::string::next_search::{end_of, next_groups};
+use crate::string::next_search::next_groups;
 use crate::string::regex::Regex;
 use crate::string::searcher::GroupSearcher;
 use regex_lite_syntax::Error;
@@ -84,7 +84,7 @@ impl<'r, 'h> Iterator for CaptureMatches<'r, 'h> {
         }
         match next_groups(&mut self.searcher, self.cursor.haystack, self.cursor.ended) {
             Ok(Some(caps)) => {
-                self.cursor = self.cursor.behind(end_of(&caps));
+                self.cursor = self.cursor.behind(caps.whole_span().1);
                 Some(Ok(caps))
             }
             Ok(None) => {

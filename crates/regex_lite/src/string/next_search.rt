@@ -1,7 +1,6 @@
 //! Searches for what comes behind a match.
-ghost use Rattle.std.specs.Prelude.{◌≡◌, IfOk, IfErr, IsSome, IsCharBoundary, unwrap_or};
+ghost use Rattle.std.specs.Prelude.{◌≡◌, IfOk, IfErr, IsCharBoundary, unwrap_or};
 ghost use Rattle.regex_lite_syntax.specs.Errors.{out_of_memory};
-ghost use Rattle.regex_lite.specs.Groups.{group_span, whole_span};
 ghost use Rattle.regex_lite.specs.NextMatch.{IsNextOffset, TellsNextGroups, TellsNextMatch};
 
 use crate::string::captures::Captures;
@@ -48,24 +47,12 @@ pub(super) fn next_groups<'h>(
     let Some(caps) = searcher.captures_at(haystack, end)? else {
         return Ok(None);
     };
-    if end_of(&caps) > end {
+    if caps.whole_span().1 > end {
         return Ok(Some(caps));
     }
     match next_offset(haystack, end) {
         Some(next) => searcher.captures_at(haystack, next),
         None => Ok(None),
-    }
-}
-
-/// Where the match ends whose groups these are.
-pub(super) fn end_of(caps: &Captures<'_>) -> usize
-    requires { IsSome (group_span caps.now 0) }
-    ensures end { result ≡ (whole_span caps.now).1 }
-    ensures boundary { IsCharBoundary caps.now.haystack result }
-{
-    match caps.get(0) {
-        Some(whole) => whole.end(),
-        None => unreachable!(),
     }
 }
 

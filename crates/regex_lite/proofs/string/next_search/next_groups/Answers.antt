@@ -31,15 +31,15 @@ returns-in_default-2-clause-next c =
     (none_told (λ tree. AreGroupsOf tree bytes) (AreGroupsFound re bytes) whole_span re bytes c.utf8.haystack (groups_meant re bytes)
     end edge tells)
 
-pub returns-then-end_of-end-clause-next : goal.returns-then-end_of-end-clause-next
-returns-then-end_of-end-clause-next c =
+pub returns-then-whole_span-end-clause-next : goal.returns-then-whole_span-end-clause-next
+returns-then-whole_span-end-clause-next c =
     let re = c.args.searcher.now in
     let bytes = c.args.haystack.now in
     let end = c.in-Some.end in
     let caps = c.in-Some-2.caps in
     let edge : IsCharBoundary bytes end = subst (λ ended. IsCharBoundary bytes (unwrap_or ended 0)) c.in-Some.is c.requires in
     let tells : TellsGroups re bytes end (Some caps) = subst (λ told. TellsGroups re bytes end told) c.in-Some-2.is c.in_ok-caps.ensures.found in
-    let later : end < (whole_span caps).1 = omega (arith, c.if-end_of-end.true, c.end_of.ensures.end) in
+    let later : end < (whole_span caps).1 = rw (← c.deref.ensures, ← c.whole_span.ensures.span) (omega (arith, c.if-whole_span-end.true)) in
     subst (λ ended. TellsNextGroups re bytes ended (Some caps)) (sym c.in-Some.is)
     (later_told (λ tree. AreGroupsOf tree bytes) (AreGroupsFound re bytes) whole_span re bytes c.utf8.haystack (groups_meant re bytes)
     end edge caps tells later)
@@ -53,7 +53,7 @@ returns-in-Some-next_offset-clause-next c =
     let further = c.captures_at-in-Some-next_offset in
     let edge : IsCharBoundary bytes end = subst (λ ended. IsCharBoundary bytes (unwrap_or ended 0)) c.in-Some.is c.requires in
     let tells : TellsGroups re bytes end (Some caps) = subst (λ told. TellsGroups re bytes end told) c.in-Some-2.is c.in_ok-caps.ensures.found in
-    let early : (whole_span caps).1 ≤ end = omega (arith, c.if-end_of-end.false, c.end_of.ensures.end) in
+    let early : (whole_span caps).1 ≤ end = rw (← c.deref.ensures, ← c.whole_span.ensures.span) (omega (arith, c.if-whole_span-end.false)) in
     let next = c.in-Some-next_offset.next in
     let found : IfOk further.result (TellsGroups re bytes next) = rw (← c.captures_at-2.ensures.same) further.ensures.found in
     subst (λ ended. IfOk further.result (λ told. TellsNextGroups re bytes ended told)) (sym c.in-Some.is)
@@ -71,7 +71,7 @@ returns-clause-next c =
     let caps = c.in-Some-2.caps in
     let edge : IsCharBoundary bytes end = subst (λ ended. IsCharBoundary bytes (unwrap_or ended 0)) c.in-Some.is c.requires in
     let tells : TellsGroups re bytes end (Some caps) = subst (λ told. TellsGroups re bytes end told) c.in-Some-2.is c.in_ok-caps.ensures.found in
-    let early : (whole_span caps).1 ≤ end = omega (arith, c.if-end_of-end.false, c.end_of.ensures.end) in
+    let early : (whole_span caps).1 ≤ end = rw (← c.deref.ensures, ← c.whole_span.ensures.span) (omega (arith, c.if-whole_span-end.false)) in
     subst (λ ended. TellsNextGroups re bytes ended None) (sym c.in-Some.is)
     (over_told (λ tree. AreGroupsOf tree bytes) (AreGroupsFound re bytes) whole_span re bytes c.utf8.haystack (groups_meant re bytes)
     end edge caps tells early c.in-None.ensures)
