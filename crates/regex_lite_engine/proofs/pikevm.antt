@@ -9,6 +9,7 @@ pub mod OptionLemmas
 pub mod OutcomeLemmas
 pub mod PassLemmas
 pub mod PositionLemmas
+pub mod RecordLemmas
 pub mod RoomLemmas
 pub mod ShortestLemmas
 pub mod SkipLemmas

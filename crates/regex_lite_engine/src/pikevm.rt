@@ -16,7 +16,7 @@ pub(crate) mod search;
 pub(crate) mod searcher;
 mod seen;
 mod shortest;
-mod skip;
+pub(crate) mod skip;
 pub(crate) mod slot;
 mod stack;
 pub(crate) mod steps;

@@ -71,7 +71,8 @@ module _ (table : List (Place ℕ)) (h : Text) (s first : ℕ) where
   explored q from recorded way enough u =
       deep.in_step_over Node (numbered_step table h) (λ j. (s, j)) (is_end table h) first (length h) (λ x. x.1) q from recorded way enough u
 
-  answered : (best : Best) (recorded : Node → Option (List ℕ)) (way : Option (List ℕ)) → BestHolds table h s best way → IsOver table h s first recorded way → IsNumberedOutcome table h s first best
+  -- a search that is over tells the answer
+  pub answered : (best : Best) (recorded : Node → Option (List ℕ)) (way : Option (List ℕ)) → BestHolds table h s best way → IsOver table h s first recorded way → IsNumberedOutcome table h s first best
   answered None recorded way e over =
       answer_when_over table h s first recorded None None (subst (λ z. IsOver table h s first recorded z) e over) refl
   answered (Some b) recorded way (w, e, (q, end, at_end, ends, (j, ks, at, parts, along, has))) over =

@@ -25,7 +25,7 @@ use Rattle.regex_lite_engine.proofs.pikevm.ThreadLemmas.{same_len, same_at, push
 use Rattle.regex_lite_engine.proofs.pikevm.OptionLemmas.{not_there, same_some}
 use Rattle.regex_lite_engine.proofs.pikevm.WalkLemmas.{one, wide, no_more, offered_by, holds_on, held_same, held_more, walk_entered, walk_read, walk_complete}
 
-got_map : (qs : List ℕ) (t l : ℕ) → slice_get qs t ≡ Some l → slice_get (map go qs) t ≡ Some (go l)
+pub got_map : (qs : List ℕ) (t l : ℕ) → slice_get qs t ≡ Some l → slice_get (map go qs) t ≡ Some (go l)
 got_map [] t l e = absurd (not_there e)
 got_map (q ∷ qs) zero l e = ap (λ z. Some (go z)) (same_some e)
 got_map (q ∷ qs) (suc t) l e = got_map qs t l e
@@ -35,7 +35,7 @@ free_stays h [] p a l e = absurd (not_there e)
 free_stays h (q ∷ qs) p zero l e = sym (ap (λ (z : Node). z.1) (same_some e))
 free_stays h (q ∷ qs) p (suc a) l e = free_stays h qs p a l e
 
-free_marks : (qs : List ℕ) (a : ℕ) → mark_of (with_arrows (map go qs)) a ≡ None
+pub free_marks : (qs : List ℕ) (a : ℕ) → mark_of (with_arrows (map go qs)) a ≡ None
 free_marks [] a = refl
 free_marks (q ∷ qs) zero = refl
 free_marks (q ∷ qs) (suc a) = free_marks qs a
@@ -252,7 +252,15 @@ module _ (table : List (Place ℕ)) (h : Text) (s first last p from now i : ℕ)
           settle_look (holds_between l here.before here.after) (go_holding l to) to row' frames' t' done e
           (ap (λ x. step_from h x p 0) e ∙ ap (λ b. arrived to (if b then Some p else None)) (ap (λ o. holds_between l o (after h p)) (sym is.behind) ∙ ap (λ o. holds_between l here.before o) (sym is.ahead)))
           (ap (λ x. mark_of x 0) e) er ef same ed
-      walk_enters (stored.Slot slot to) row' frames' t' done e (inl (within, er, ef), same, ed) =
+      walk_enters (stored.Slot slot to) row' frames' t' done e (inl (within, er, inr (none, ef)), same, ed) =
+          settle (slice_set row slot (Some here.at)) row' (explore to ∷ frames) frames' t' done
+          (walk_single (thread_at t) (length t) u (go_marking slot to) to (slice_set row slot (Some here.at)) frames e
+          (ap (λ x. step_from h x p 0) e)
+          (λ ms has. subst (λ z. HasSlots h (slice_set row slot (Some here.at)) (over (marked z p) ms)) (sym (ap (λ x. mark_of x 0) e))
+          (subst (λ z. HasSlots h (slice_set row slot (Some z)) (over (marked (Some slot) p) ms)) (sym is.bytes) (slots_set h row ms slot p has)))
+          (λ os w. subst (λ z. FramesHold table h s p i (slice_set row slot (Some here.at)) z os) (sym none) (subst (λ z. FramesHold table h s p i row z os) none w)))
+          er ef same ed
+      walk_enters (stored.Slot slot to) row' frames' t' done e (inl (within, er, inl ef), same, ed) =
           settle (slice_set row slot (Some here.at)) row' (explore to ∷ (restore slot (slice_index_or row slot None) ∷ frames)) frames' t' done
           (walk_single (thread_at t) (length t) u (go_marking slot to) to (slice_set row slot (Some here.at)) (restore slot (slice_index_or row slot None) ∷ frames) e
           (ap (λ x. step_from h x p 0) e)

@@ -1,13 +1,12 @@
 -- What a walk keeps true when it passes over a node, or enters one.
-use Rattle.std.proofs.Common.{◌≡◌, ℕ, suc, ◌+◌, ◌<◌, ◌≤◌, ◌⊎◌, inl, inr, ⊎_elim, Bool, IsTrue, List, [], ◌∷◌, ◌++◌, Option, Some, None, refl, sym, ap, subst, ◌∙◌, arith, append-nil}
-use Rattle.std.proofs.lemmas.Bool.{cases_lt}
+use Rattle.std.proofs.Common.{◌≡◌, ℕ, suc, ◌≤◌, ◌⊎◌, inl, inr, ⊎_elim, Bool, IsTrue, List, [], ◌∷◌, ◌++◌, Option, Some, None, refl, sym, ap, subst, ◌∙◌, arith, append-nil}
 use Rattle.regex_lite_engine.specs.Search.Preference.{IsPreferred}
 use Rattle.regex_lite_engine.specs.Walk.Explored.{NotAfter, StartsAt, IsAnswered, IsGrown}
 use Rattle.regex_lite_engine.specs.Walk.InStep as walk
 use Rattle.regex_lite_engine.specs.Walk.InStep.{StartsBelow}
-use Rattle.regex_lite_engine.proofs.pikevm.OptionLemmas.{not_there, same_some}
 use Rattle.regex_lite_engine.proofs.pikevm.OfferLemmas as order
-use Rattle.regex_lite_engine.proofs.pikevm.OfferLemmas.{preferred_before, preferred_append, preferred_longer}
+use Rattle.regex_lite_engine.proofs.pikevm.OfferLemmas.{preferred_before, preferred_append, preferred_longer, below_append}
+use Rattle.regex_lite_engine.proofs.pikevm.RecordLemmas as records
 use Rattle.regex_lite_engine.proofs.laws.search.WayOrderLemmas.{NotAfter-trans, NotAfter-append}
 
 pub or_dead : {A B D : Type 0} → (A → B) → A ⊎ D → B ⊎ D
@@ -34,59 +33,6 @@ module _ (N : Type 0) (step : N → ℕ → Option N) (same : (x y : N) → (x �
 
   abbrev pub IsInStep : ℕ → ℕ → Recorded → List Offer → List Offer → Option (List ℕ) → Type 0
   IsInStep p from recorded now next best = walk.IsInStep N step start is_end first last position p from recorded now next best
-
-  abbrev pub with_record : Recorded → N → List ℕ → Recorded
-  with_record recorded n w = λ m. elim (same m n) [ inl e ↦ Some w | inr differ ↦ recorded m ]
-
-  module _ (recorded : Recorded) (n : N) (w : List ℕ) (fresh : recorded n ≡ None) where
-    pub extended : Recorded
-    extended = with_record recorded n w
-
-    pub extended_here : extended n ≡ Some w
-    unfolding extended
-    extended_here = by_test (same n n)
-      where
-        by_test : (d : (n ≡ n) ⊎ (n ≡ n → ⊥)) → elim d [ inl e ↦ Some w | inr differ ↦ recorded n ] ≡ Some w
-        by_test (inl e) = refl
-        by_test (inr f) = absurd (f refl)
-
-    pub kept : (m : N) (v : List ℕ) → recorded m ≡ Some v → extended m ≡ Some v
-    unfolding extended
-    kept m v r = by_test (same m n)
-      where
-        by_test : (d : (m ≡ n) ⊎ (m ≡ n → ⊥)) → elim d [ inl e ↦ Some w | inr differ ↦ recorded m ] ≡ Some v
-        by_test (inl e) = absurd (not_there (sym fresh ∙ ap recorded (sym e) ∙ r))
-        by_test (inr f) = r
-
-    pub back : (m : N) (v : List ℕ) → extended m ≡ Some v → ((m ≡ n) × (v ≡ w)) ⊎ (recorded m ≡ Some v)
-    unfolding extended
-    back m v r = by_test (same m n) r
-      where
-        by_test : (d : (m ≡ n) ⊎ (m ≡ n → ⊥)) → elim d [ inl e ↦ Some w | inr differ ↦ recorded m ] ≡ Some v → ((m ≡ n) × (v ≡ w)) ⊎ (recorded m ≡ Some v)
-        by_test (inl e) q = inl (e, sym (same_some q))
-        by_test (inr f) q = inr q
-
-    pub grown_still : (best : Option (List ℕ)) (m : N) (v : List ℕ) → IsGrown N step is_end (StartsAt start first last) recorded best m v →
-        IsGrown N step is_end (StartsAt start first last) extended best m v
-    grown_still best m v (inl g) = inl g
-    grown_still best m v (inr (o, x, k, r, s, e)) = inr (o, x, k, kept o x r, s, e)
-
-    pub grown_extended : (best : Option (List ℕ)) → ((m : N) (v : List ℕ) → recorded m ≡ Some v → IsGrown N step is_end (StartsAt start first last) recorded best m v) →
-        IsGrown N step is_end (StartsAt start first last) recorded best n w → (m : N) (v : List ℕ) → extended m ≡ Some v → IsGrown N step is_end (StartsAt start first last) extended best m v
-    grown_extended best old new m v r = by_case (back m v r)
-      where
-        by_case : ((m ≡ n) × (v ≡ w)) ⊎ (recorded m ≡ Some v) → IsGrown N step is_end (StartsAt start first last) extended best m v
-        by_case (inl e) = subst (λ z. IsGrown N step is_end (StartsAt start first last) extended best z v) (sym e.0)
-            (subst (λ z. IsGrown N step is_end (StartsAt start first last) extended best n z) (sym e.1) (grown_still best n w new))
-        by_case (inr q) = grown_still best m v (old m v q)
-
-  below_start : (from i : ℕ) (v : List ℕ) → StartsBelow from v → from ≤ i → IsPreferred v (i ∷ [])
-  below_start from i [] h q = absurd h
-  below_start from i (j ∷ v) h q = inl (omega (arith, h, q))
-
-  below_append : (from : ℕ) (v x : List ℕ) → StartsBelow from v → StartsBelow from (v ++ x)
-  below_append from [] x h = absurd h
-  below_append from (i ∷ v) x h = h
 
   pub in_step_passed : (p from : ℕ) (recorded : Recorded) (n : N) (w v : List ℕ) (rest next : List Offer) (best : Option (List ℕ)) → recorded n ≡ Some v →
       IsInStep p from recorded ((n, w) ∷ rest) next best → IsInStep p from recorded rest next best
@@ -121,64 +67,75 @@ module _ (N : Type 0) (step : N → ℕ → Option N) (same : (x y : N) → (x �
 
   module _ (p from : ℕ) (recorded : Recorded) (n : N) (w : List ℕ) (fresh : recorded n ≡ None) (rest next : List Offer) (best : Option (List ℕ))
       (u : IsInStep p from recorded ((n, w) ∷ rest) next best) where
+    abbrev extended : Recorded
+    extended = records.extended N same recorded n w
+
     here : In n w ((n, w) ∷ rest)
     here = inl (refl, refl)
+
+    extended_here : extended n ≡ Some w
+    extended_here = records.extended_here N same recorded n w
+
+    kept : (m : N) (v : List ℕ) → recorded m ≡ Some v → extended m ≡ Some v
+    kept = records.kept N same recorded n w fresh
+
+    back : (m : N) (v : List ℕ) → extended m ≡ Some v → ((m ≡ n) × (v ≡ w)) ⊎ (recorded m ≡ Some v)
+    back = records.back N same recorded n w
+
+    grown_still : (m : N) (v : List ℕ) → IsGrown N step is_end (StartsAt start first last) recorded best m v → IsGrown N step is_end (StartsAt start first last) extended best m v
+    grown_still = records.grown_still N same recorded n w fresh step is_end (StartsAt start first last) best
+
+    grown_extended : (m : N) (v : List ℕ) → extended m ≡ Some v → IsGrown N step is_end (StartsAt start first last) extended best m v
+    grown_extended = records.grown_extended N same recorded n w fresh step is_end (StartsAt start first last) best u.grown (u.now_grown n w here)
 
     -- the record of n stands for the offer at n
     settle_on : (rest' next' : List Offer) → ((m : N) (x : List ℕ) → In m x rest → In m x rest') → ((m : N) (x : List ℕ) → In m x next → In m x next') →
         (m : N) (x : List ℕ) → IsAnswered N step is_end (StartsAt start first last) recorded best m x ⊎ (In m x ((n, w) ∷ rest) ⊎ In m x next) →
-        IsAnswered N step is_end (StartsAt start first last) (extended recorded n w fresh) best m x ⊎ (In m x rest' ⊎ In m x next')
-    settle_on rest' next' f g m x (inl (inl (v, r, le))) = inl (inl (v, kept recorded n w fresh m v r, le))
+        IsAnswered N step is_end (StartsAt start first last) extended best m x ⊎ (In m x rest' ⊎ In m x next')
+    settle_on rest' next' f g m x (inl (inl (v, r, le))) = inl (inl (v, kept m v r, le))
     settle_on rest' next' f g m x (inl (inr a)) = inl (inr a)
     settle_on rest' next' f g m x (inr (inr i)) = inr (inr (g m x i))
     settle_on rest' next' f g m x (inr (inl (inr i))) = inr (inl (f m x i))
-    settle_on rest' next' f g m x (inr (inl (inl e))) = inl (inl (w, ap (extended recorded n w fresh) e.0 ∙ extended_here recorded n w fresh, inl (sym e.1)))
-
-    all_within : (k : ℕ) (l : N) → step n k ≡ Some l → k < 0 + width n
-    all_within k l s = by_size (cases_lt k (width n))
-      where
-        by_size : (k < width n) ⊎ (width n ≤ k) → k < 0 + width n
-        by_size (inl lt) = omega (arith, lt)
-        by_size (inr le) = absurd (not_there (sym (no_more n k le) ∙ s))
+    settle_on rest' next' f g m x (inr (inl (inl e))) = inl (inl (w, ap extended e.0 ∙ extended_here, inl (sym e.1)))
 
     arrow_offered : (k : ℕ) (l : N) → step n k ≡ Some l → In l (w ++ k ∷ []) (offers n w (width n) 0)
-    arrow_offered k l s = order.offers_arrow N step n w (width n) 0 k l (omega arith) (all_within k l s) s
+    arrow_offered = order.arrow_offered N step n w (width n) (no_more n)
 
-    pub past_now : (m : N) (v : List ℕ) → extended recorded n w fresh m ≡ Some v → position m ≤ p
-    past_now m v r = by_case (back recorded n w fresh m v r)
+    pub past_now : (m : N) (v : List ℕ) → extended m ≡ Some v → position m ≤ p
+    past_now m v r = by_case (back m v r)
       where
         by_case : ((m ≡ n) × (v ≡ w)) ⊎ (recorded m ≡ Some v) → position m ≤ p
         by_case (inl e) = let same_pos : position m ≡ p = ap position e.0 ∙ u.now_stands n w here in omega (arith, same_pos)
         by_case (inr q) = u.past m v q
 
-    not_ended : (IsTrue (is_end n) → ⊥) → (m : N) (v : List ℕ) → IsTrue (is_end m) → extended recorded n w fresh m ≡ Some v → (b : List ℕ) × (best ≡ Some b) × NotAfter b v
-    not_ended open_still m v e r = by_case (back recorded n w fresh m v r)
+    not_ended : (IsTrue (is_end n) → ⊥) → (m : N) (v : List ℕ) → IsTrue (is_end m) → extended m ≡ Some v → (b : List ℕ) × (best ≡ Some b) × NotAfter b v
+    not_ended open_still m v e r = by_case (back m v r)
       where
         by_case : ((m ≡ n) × (v ≡ w)) ⊎ (recorded m ≡ Some v) → (b : List ℕ) × (best ≡ Some b) × NotAfter b v
         by_case (inl f) = absurd (open_still (subst (λ z. IsTrue (is_end z)) f.0 e))
         by_case (inr q) = u.best_least m v e q
 
-    best_ends_now : (b : List ℕ) → best ≡ Some b → (m : N) × IsTrue (is_end m) × (extended recorded n w fresh m ≡ Some b)
-    best_ends_now b e = let r = u.best_ends b e in (r.0, r.1, kept recorded n w fresh r.0 b r.2)
+    best_ends_now : (b : List ℕ) → best ≡ Some b → (m : N) × IsTrue (is_end m) × (extended m ≡ Some b)
+    best_ends_now b e = let r = u.best_ends b e in (r.0, r.1, kept r.0 b r.2)
 
     arrows_settled : (rest' next' : List Offer) → ((m : N) (x : List ℕ) → In m x rest → In m x rest') → ((m : N) (x : List ℕ) → In m x next → In m x next') →
         ((k : ℕ) (l : N) → step n k ≡ Some l → In l (w ++ k ∷ []) rest' ⊎ In l (w ++ k ∷ []) next') →
-        (m : N) (v : List ℕ) (k : ℕ) (l : N) → extended recorded n w fresh m ≡ Some v → step m k ≡ Some l →
-        IsAnswered N step is_end (StartsAt start first last) (extended recorded n w fresh) best l (v ++ k ∷ []) ⊎ (In l (v ++ k ∷ []) rest' ⊎ In l (v ++ k ∷ []) next')
-    arrows_settled rest' next' f g new m v k l r s = by_case (back recorded n w fresh m v r)
+        (m : N) (v : List ℕ) (k : ℕ) (l : N) → extended m ≡ Some v → step m k ≡ Some l →
+        IsAnswered N step is_end (StartsAt start first last) extended best l (v ++ k ∷ []) ⊎ (In l (v ++ k ∷ []) rest' ⊎ In l (v ++ k ∷ []) next')
+    arrows_settled rest' next' f g new m v k l r s = by_case (back m v r)
       where
         by_case : ((m ≡ n) × (v ≡ w)) ⊎ (recorded m ≡ Some v) →
-            IsAnswered N step is_end (StartsAt start first last) (extended recorded n w fresh) best l (v ++ k ∷ []) ⊎ (In l (v ++ k ∷ []) rest' ⊎ In l (v ++ k ∷ []) next')
+            IsAnswered N step is_end (StartsAt start first last) extended best l (v ++ k ∷ []) ⊎ (In l (v ++ k ∷ []) rest' ⊎ In l (v ++ k ∷ []) next')
         by_case (inr q) = settle_on rest' next' f g l (v ++ k ∷ []) (u.arrows m v k l q s)
         by_case (inl e) = inr (subst (λ z. In l (z ++ k ∷ []) rest' ⊎ In l (z ++ k ∷ []) next') (sym e.1) (new k l (ap (λ z. step z k) (sym e.0) ∙ s)))
 
     -- where all arrows stay at the position, they come first of what is left there
     pub in_step_free : (IsTrue (is_end n) → ⊥) → ((k : ℕ) (l : N) → step n k ≡ Some l → position l ≡ position n) →
-        IsInStep p from (extended recorded n w fresh) (offers n w (width n) 0 ++ rest) next best
+        IsInStep p from extended (offers n w (width n) 0 ++ rest) next best
     in_step_free open_still stays = record {
-      grown = grown_extended recorded n w fresh best u.grown (u.now_grown n w here);
+      grown = grown_extended;
       now_grown = λ m v i. by_now_grown m v (order.in_either N step m v (offers n w (width n) 0) rest i);
-      next_grown = λ m v i. grown_still recorded n w fresh best m v (u.next_grown m v i);
+      next_grown = λ m v i. grown_still m v (u.next_grown m v i);
       starts = λ i q r t. or_dead (settle_on (offers n w (width n) 0 ++ rest) next (λ m v j. order.in_right N step m v (offers n w (width n) 0) rest j) (λ m v j. j) (start i) (i ∷ [])) (u.starts i q r t);
       arrows = arrows_settled (offers n w (width n) 0 ++ rest) next (λ m v j. order.in_right N step m v (offers n w (width n) 0) rest j) (λ m v j. j)
           (λ k l s. inl (order.in_left N step l (w ++ k ∷ []) (offers n w (width n) 0) rest (arrow_offered k l s)));
@@ -187,7 +144,7 @@ module _ (N : Type 0) (step : N → ℕ → Option N) (same : (x y : N) → (x �
       now_ordered = order.offers_ordered N step n w (width n) 0 rest u.now_ordered.1 u.now_ordered.0;
       next_ordered = u.next_ordered;
       behind = λ m v l x i j. by_behind m v l x i (order.in_either N step l x (offers n w (width n) 0) rest j);
-      ahead = λ m v l x i r q. by_ahead m v l x q (order.in_either N step m v (offers n w (width n) 0) rest i) (back recorded n w fresh l x r);
+      ahead = λ m v l x i r q. by_ahead m v l x q (order.in_either N step m v (offers n w (width n) 0) rest i) (back l x r);
       now_stands = λ m v i. by_pos m v (order.in_either N step m v (offers n w (width n) 0) rest i);
       next_stands = u.next_stands;
       past = past_now;
@@ -198,9 +155,9 @@ module _ (N : Type 0) (step : N → ℕ → Option N) (same : (x y : N) → (x �
       next_better = u.next_better;
     }
       where
-        by_now_grown : (m : N) (v : List ℕ) → In m v (offers n w (width n) 0) ⊎ In m v rest → IsGrown N step is_end (StartsAt start first last) (extended recorded n w fresh) best m v
-        by_now_grown m v (inr i) = grown_still recorded n w fresh best m v (u.now_grown m v (inr i))
-        by_now_grown m v (inl i) = let r = order.offered N step n w (width n) 0 m v i in inr (n, w, r.0, extended_here recorded n w fresh, r.2, r.3)
+        by_now_grown : (m : N) (v : List ℕ) → In m v (offers n w (width n) 0) ⊎ In m v rest → IsGrown N step is_end (StartsAt start first last) extended best m v
+        by_now_grown m v (inr i) = grown_still m v (u.now_grown m v (inr i))
+        by_now_grown m v (inl i) = let r = order.offered N step n w (width n) 0 m v i in inr (n, w, r.0, extended_here, r.2, r.3)
 
         by_behind : (m : N) (v : List ℕ) (l : N) (x : List ℕ) → In m v next → In l x (offers n w (width n) 0) ⊎ In l x rest → IsPreferred v x
         by_behind m v l x i (inr j) = u.behind m v l x i (inr j)
@@ -230,10 +187,10 @@ module _ (N : Type 0) (step : N → ℕ → Option N) (same : (x y : N) → (x �
 
     -- where all arrows lead to the next position, they come last there
     pub in_step_read : (IsTrue (is_end n) → ⊥) → ((k : ℕ) (l : N) → step n k ≡ Some l → position l ≡ suc (position n)) →
-        IsInStep p from (extended recorded n w fresh) rest (next ++ offers n w (width n) 0) best
+        IsInStep p from extended rest (next ++ offers n w (width n) 0) best
     in_step_read open_still moves = record {
-      grown = grown_extended recorded n w fresh best u.grown (u.now_grown n w here);
-      now_grown = λ m v i. grown_still recorded n w fresh best m v (u.now_grown m v (inr i));
+      grown = grown_extended;
+      now_grown = λ m v i. grown_still m v (u.now_grown m v (inr i));
       next_grown = λ m v i. by_next_grown m v (order.in_either N step m v next (offers n w (width n) 0) i);
       starts = λ i q r t. or_dead (settle_on rest (next ++ offers n w (width n) 0) (λ m v j. j) (λ m v j. order.in_left N step m v next (offers n w (width n) 0) j) (start i) (i ∷ [])) (u.starts i q r t);
       arrows = arrows_settled rest (next ++ offers n w (width n) 0) (λ m v j. j) (λ m v j. order.in_left N step m v next (offers n w (width n) 0) j)
@@ -243,7 +200,7 @@ module _ (N : Type 0) (step : N → ℕ → Option N) (same : (x y : N) → (x �
       now_ordered = u.now_ordered.1;
       next_ordered = joined next u.next_ordered (λ m v i. u.behind m v n w i here);
       behind = λ m v l x i j. by_behind m v l x j (order.in_either N step m v next (offers n w (width n) 0) i);
-      ahead = λ m v l x i r q. by_ahead m v l x q i (back recorded n w fresh l x r);
+      ahead = λ m v l x i r q. by_ahead m v l x q i (back l x r);
       now_stands = λ m v i. u.now_stands m v (inr i);
       next_stands = λ m v i. by_pos m v (order.in_either N step m v next (offers n w (width n) 0) i);
       past = past_now;
@@ -254,9 +211,9 @@ module _ (N : Type 0) (step : N → ℕ → Option N) (same : (x y : N) → (x �
       next_better = λ m v b i e. by_better m v b e (order.in_either N step m v next (offers n w (width n) 0) i);
     }
       where
-        by_next_grown : (m : N) (v : List ℕ) → In m v next ⊎ In m v (offers n w (width n) 0) → IsGrown N step is_end (StartsAt start first last) (extended recorded n w fresh) best m v
-        by_next_grown m v (inl i) = grown_still recorded n w fresh best m v (u.next_grown m v i)
-        by_next_grown m v (inr i) = let r = order.offered N step n w (width n) 0 m v i in inr (n, w, r.0, extended_here recorded n w fresh, r.2, r.3)
+        by_next_grown : (m : N) (v : List ℕ) → In m v next ⊎ In m v (offers n w (width n) 0) → IsGrown N step is_end (StartsAt start first last) extended best m v
+        by_next_grown m v (inl i) = grown_still m v (u.next_grown m v i)
+        by_next_grown m v (inr i) = let r = order.offered N step n w (width n) 0 m v i in inr (n, w, r.0, extended_here, r.2, r.3)
 
         -- the offers of n, as a list that is in order by itself
         alone : Ordered (offers n w (width n) 0)

@@ -8,6 +8,7 @@ use Rattle.regex_lite_engine.proofs.pikevm.InStepLemmas as deep
 use Rattle.regex_lite_engine.proofs.pikevm.InStepLemmas.{or_dead}
 use Rattle.regex_lite_engine.proofs.pikevm.OptionLemmas.{not_there, same_some}
 use Rattle.regex_lite_engine.proofs.pikevm.OfferLemmas.{preferred_before}
+use Rattle.regex_lite_engine.proofs.pikevm.RecordLemmas as records
 use Rattle.regex_lite_engine.proofs.laws.search.WayOrderLemmas.{Before-trans, NotAfter-trans}
 
 module _ (N : Type 0) (step : N → ℕ → Option N) (same : (x y : N) → (x ≡ y) ⊎ (x ≡ y → ⊥))
@@ -28,26 +29,26 @@ module _ (N : Type 0) (step : N → ℕ → Option N) (same : (x y : N) → (x �
   module _ (p from : ℕ) (recorded : Recorded) (n : N) (w : List ℕ) (fresh : recorded n ≡ None) (rest next : List Offer) (best : Option (List ℕ))
       (u : IsInStep p from recorded ((n, w) ∷ rest) next best) where
     abbrev extended : Recorded
-    extended = deep.extended N step same width no_more start is_end first last position recorded n w fresh
+    extended = records.extended N same recorded n w
 
     here : In n w ((n, w) ∷ rest)
     here = inl (refl, refl)
 
     extended_here : extended n ≡ Some w
-    extended_here = deep.extended_here N step same width no_more start is_end first last position recorded n w fresh
+    extended_here = records.extended_here N same recorded n w
 
     kept : (m : N) (v : List ℕ) → recorded m ≡ Some v → extended m ≡ Some v
-    kept = deep.kept N step same width no_more start is_end first last position recorded n w fresh
+    kept = records.kept N same recorded n w fresh
 
     back : (m : N) (v : List ℕ) → extended m ≡ Some v → ((m ≡ n) × (v ≡ w)) ⊎ (recorded m ≡ Some v)
-    back = deep.back N step same width no_more start is_end first last position recorded n w fresh
+    back = records.back N same recorded n w
 
     -- a match is complete there: it is the best so far, and what is left at this position is dropped
     pub in_step_complete : IsTrue (is_end n) → ((k : ℕ) → step n k ≡ None) → IsInStep p from extended [] next (Some w)
     in_step_complete ends no_arrow = record {
-      grown = λ m v r. regrown m v (deep.grown_extended N step same width no_more start is_end first last position recorded n w fresh best u.grown (u.now_grown n w here) m v r);
+      grown = λ m v r. regrown m v (records.grown_extended N same recorded n w fresh step is_end (StartsAt start first last) best u.grown (u.now_grown n w here) m v r);
       now_grown = λ m v i. absurd i;
-      next_grown = λ m v i. regrown m v (deep.grown_still N step same width no_more start is_end first last position recorded n w fresh best m v (u.next_grown m v i));
+      next_grown = λ m v i. regrown m v (records.grown_still N same recorded n w fresh step is_end (StartsAt start first last) best m v (u.next_grown m v i));
       starts = λ i q r t. or_dead (settle (start i) (i ∷ [])) (u.starts i q r t);
       arrows = λ m v k l r s. by_back m v k l s (back m v r);
       best_ends = λ b e. (n, ends, extended_here ∙ e);

@@ -1,9 +1,11 @@
 -- The order of ways, and the ways that are still to be followed.
 use Rattle.std.proofs.Common.{◌≡◌, ℕ, zero, suc, ◌+◌, ◌<◌, ◌≤◌, ◌⊎◌, inl, inr, ⊎_elim, List, [], ◌∷◌, ◌++◌, Option, Some, None, refl, sym, ap, subst, ◌∙◌, arith}
-use Rattle.std.proofs.lemmas.Bool.{cases_order}
+use Rattle.std.proofs.lemmas.Bool.{cases_lt, cases_order}
 use Rattle.regex_lite_engine.specs.Search.Preference.{IsPreferred}
 use Rattle.regex_lite_engine.specs.Walk.Explored.{Before}
 use Rattle.regex_lite_engine.specs.Walk.InStep as walk
+use Rattle.regex_lite_engine.specs.Walk.InStep.{StartsBelow}
+use Rattle.regex_lite_engine.proofs.pikevm.OptionLemmas.{not_there}
 
 pub preferred_before : (a b : List ℕ) → IsPreferred a b → Before a b
 preferred_before [] b p = absurd p
@@ -28,6 +30,18 @@ preferred_longer (x ∷ a) (y ∷ b) c (inr (e, p)) = inr (e, preferred_longer a
 pub preferred_snoc : (w : List ℕ) (j k : ℕ) → j < k → IsPreferred (w ++ j ∷ []) (w ++ k ∷ [])
 preferred_snoc [] j k p = inl p
 preferred_snoc (x ∷ w) j k p = inr (refl, preferred_snoc w j k p)
+
+pub below_start : (from i : ℕ) (v : List ℕ) → StartsBelow from v → from ≤ i → IsPreferred v (i ∷ [])
+below_start from i [] h q = absurd h
+below_start from i (j ∷ v) h q = inl (omega (arith, h, q))
+
+pub below_append : (from : ℕ) (v x : List ℕ) → StartsBelow from v → StartsBelow from (v ++ x)
+below_append from [] x h = absurd h
+below_append from (i ∷ v) x h = h
+
+pub below_up : (from from' : ℕ) (v : List ℕ) → from ≤ from' → StartsBelow from v → StartsBelow from' v
+below_up from from' [] le h = absurd h
+below_up from from' (i ∷ v) le h = omega (arith, h, le)
 
 module _ (N : Type 0) (step : N → ℕ → Option N) where
   abbrev pub Offer : Type 0
@@ -93,6 +107,15 @@ module _ (N : Type 0) (step : N → ℕ → Option N) where
       by_place (inl f) g = in_left m (w ++ j ∷ []) (one_offer (step n k) (w ++ k ∷ [])) (offers n w c (suc k)) (here f)
       by_place (inr (inl lt)) g = in_right m (w ++ j ∷ []) (one_offer (step n k) (w ++ k ∷ [])) (offers n w c (suc k)) (g lt)
       by_place (inr (inr lt)) g = absurd (omega (arith, lt, p))
+
+  -- where there are no more than c, those are all
+  pub arrow_offered : (n : N) (w : List ℕ) (c : ℕ) → ((k : ℕ) → c ≤ k → step n k ≡ None)
+      → (k : ℕ) (m : N) → step n k ≡ Some m → In m (w ++ k ∷ []) (offers n w c 0)
+  arrow_offered n w c no_more k m e = by_size (cases_lt k c)
+    where
+      by_size : (k < c) ⊎ (c ≤ k) → In m (w ++ k ∷ []) (offers n w c 0)
+      by_size (inl lt) = offers_arrow n w c 0 k m (omega arith) (omega (arith, lt)) e
+      by_size (inr le) = absurd (not_there (sym (no_more k le) ∙ e))
 
   pub offers_ordered : (n : N) (w : List ℕ) (c k : ℕ) (rest : List Offer) → Ordered rest → ((m : N) (v : List ℕ) → In m v rest → IsPreferred w v) →
       Ordered (offers n w c k ++ rest)

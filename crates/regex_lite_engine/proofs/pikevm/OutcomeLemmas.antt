@@ -19,7 +19,7 @@ use Rattle.regex_lite_engine.specs.Walk.Walking.{Best}
 use Rattle.regex_lite_engine.proofs.laws.search.NumberedAnswerLemmas.{answer_of_numbers, shortest_of_numbers}
 
 -- there are no more characters than bytes
-few_chars : (bytes : List ℕ) → IsUtf8 bytes → length (chars bytes) ≤ length bytes
+pub few_chars : (bytes : List ℕ) → IsUtf8 bytes → length (chars bytes) ≤ length bytes
 few_chars bytes utf8 =
     subst (λ z. length (chars bytes) ≤ length z) (encodes-chars bytes utf8)
     (length-le-encodes (chars bytes))

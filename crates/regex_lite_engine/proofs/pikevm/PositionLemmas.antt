@@ -7,12 +7,8 @@ use Rattle.regex_lite_engine.specs.Walk.InStep as walk
 use Rattle.regex_lite_engine.specs.Walk.InStep.{StartsBelow}
 use Rattle.regex_lite_engine.proofs.pikevm.OptionLemmas.{not_there}
 use Rattle.regex_lite_engine.proofs.pikevm.OfferLemmas as order
-use Rattle.regex_lite_engine.proofs.pikevm.OfferLemmas.{preferred_before}
+use Rattle.regex_lite_engine.proofs.pikevm.OfferLemmas.{preferred_before, below_start, below_up}
 use Rattle.regex_lite_engine.proofs.pikevm.InStepLemmas.{or_dead}
-
-below_start : (from i : ℕ) (v : List ℕ) → StartsBelow from v → from ≤ i → IsPreferred v (i ∷ [])
-below_start from i [] h q = absurd h
-below_start from i (j ∷ v) h q = inl (omega (arith, h, q))
 
 module _ (N : Type 0) (step : N → ℕ → Option N) (start : ℕ → N) (is_end : N → Bool)
     (first last : ℕ) (position : N → ℕ) where
@@ -76,10 +72,6 @@ module _ (N : Type 0) (step : N → ℕ → Option N) (start : ℕ → N) (is_en
     now_better = λ m v b i e. absurd i;
     next_better = λ m v b i e. absurd i;
   }
-
-  below_up : (from from' : ℕ) (v : List ℕ) → from ≤ from' → StartsBelow from v → StartsBelow from' v
-  below_up from from' [] le h = absurd h
-  below_up from from' (i ∷ v) le h = omega (arith, h, le)
 
   -- starts from which no arrows lead to an end are left out
   pub in_step_skip : (p from from' : ℕ) (recorded : Recorded) (now next : List Offer) (best : Option (List ℕ)) → from ≤ from' →

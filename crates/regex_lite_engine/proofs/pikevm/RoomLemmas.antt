@@ -35,7 +35,7 @@ test_other r n x d = go (r == n) (grind (arith, nat_tests))
     go true e = cc
     go false e = refl
 
-test_most : (b : Bool) (x : ℕ) → (if b then 0 else x) ≤ x
+pub test_most : (b : Bool) (x : ℕ) → (if b then 0 else x) ≤ x
 test_most true x = omega arith
 test_most false x = omega arith
 
@@ -109,7 +109,10 @@ module _ (here : Here) (i : ℕ) (row row' : Row) (fs fs' : List Frame) (t t' : 
       by_test true e = few_pushed (to ∷ []) e er same
       by_test false e = let a : explores fs' ≡ explores fs = ap explores e in let b : length fs' ≡ length fs = ap length e in
           few_stay 0 1 (omega (arith, a)) (omega (arith, b)) (omega arith) (ap length er) same
-  enters_few (stored.Slot slot to) (inl (within, er, ef), same, ed) =
+  enters_few (stored.Slot slot to) (inl (within, er, inr (none, ef)), same, ed) =
+      let a : explores fs' ≡ explores fs + 1 = ap explores ef in let b : length fs' ≡ suc (length fs) = ap length ef in let c : length t' ≡ length t = same_len same in
+      (omega (arith, a, c), omega (arith, b), ap length er ∙ length-set row slot (Some here.at), omega (arith, c))
+  enters_few (stored.Slot slot to) (inl (within, er, inl ef), same, ed) =
       let a : explores fs' ≡ explores fs + 1 = ap explores ef in let b : length fs' ≡ suc (suc (length fs)) = ap length ef in let c : length t' ≡ length t = same_len same in
       (omega (arith, a, c), omega (arith, b), ap length er ∙ length-set row slot (Some here.at), omega (arith, c))
   enters_few (stored.Slot slot to) (inr (past, er, ef), same, ed) = few_pushed (to ∷ []) ef er same
@@ -134,7 +137,8 @@ module _ (here : Here) (i : ℕ) (row row' : Row) (fs fs' : List Frame) (t t' : 
       by_test : (b : Bool) → fs' ≡ (if b then explore to ∷ fs else fs) → length fs' ≤ length fs + 1
       by_test true e = let le = keeps_pushed (to ∷ []) e in omega (arith, le)
       by_test false e = let le = keeps_pushed [] e in omega (arith, le)
-  enters_keeps (stored.Slot slot to) (inl (within, er, ef), same, ed) = let b : length fs' ≡ suc (suc (length fs)) = ap length ef in omega (arith, b)
+  enters_keeps (stored.Slot slot to) (inl (within, er, inr (none, ef)), same, ed) = let e = keeps_pushed (to ∷ []) ef in omega (arith, e)
+  enters_keeps (stored.Slot slot to) (inl (within, er, inl ef), same, ed) = let b : length fs' ≡ suc (suc (length fs)) = ap length ef in omega (arith, b)
   enters_keeps (stored.Slot slot to) (inr (past, er, ef), same, ed) = let e = keeps_pushed (to ∷ []) ef in omega (arith, e)
   enters_keeps (stored.Choice a b) (er, ef, same, ed) = let e = keeps_pushed (a ∷ (b ∷ [])) ef in omega (arith, e)
   enters_keeps (stored.Branches all) (er, ef, same, ed) = let e = keeps_pushed all.items ef in let n = entries_kept all.items in omega (arith, e, n)
@@ -207,7 +211,12 @@ module _ (here : Here) (i c : ℕ) (row row' : Row) (fs fs' : List Frame) (t t' 
       by_test : (b : Bool) → fs' ≡ (if b then explore to ∷ fs else fs) → Inside
       by_test true e = frames_pushed (to ∷ []) (inside.0, tt) e er same
       by_test false e = frames_pushed [] tt e er same
-  enters_within (stored.Slot slot to) inside (inl (lt, er, ef), same, ed) = (
+  enters_within (stored.Slot slot to) inside (inl (lt, er, inr (none, ef)), same, ed) = (
+    subst (λ z. FramesBelow c z fs') (sym (ap length er ∙ length-set row slot (Some here.at)))
+        (subst (λ z. FramesBelow c (length row) z) (sym ef) (inside.0, within)),
+    threads_same c t t' same all,
+  )
+  enters_within (stored.Slot slot to) inside (inl (lt, er, inl ef), same, ed) = (
     subst (λ z. FramesBelow c z fs') (sym (ap length er ∙ length-set row slot (Some here.at)))
         (subst (λ z. FramesBelow c (length row) z) (sym ef) (inside.0, (lt, within))),
     threads_same c t t' same all,

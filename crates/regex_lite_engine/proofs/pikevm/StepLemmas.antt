@@ -109,7 +109,7 @@ entries_more table now now' r r' entered entered' due en less so_far =
     omega (arith, less', so_far)
 
 -- a thread was taken up: w1 is w but for the frames and the row
-module _ (table : List (Place ℕ)) (w w1 : Walk) (q : ℕ) (em : w1.memory ≡ record w.memory { row = w1.memory.row; frames = explore q ∷ [] }) (et : w1.steps ≡ w.steps) where
+module _ (table : List (Place ℕ)) (w w1 : Walk) (q : ℕ) (em : w1.memory ≡ record w.memory { row = w1.memory.row; frames = [] }) (et : w1.steps ≡ w.steps) where
   same_rounds : w1.memory.rounds ≡ w.memory.rounds
   same_rounds = ap (λ (m : State). m.rounds) em
 
@@ -119,8 +119,8 @@ module _ (table : List (Place ℕ)) (w w1 : Walk) (q : ℕ) (em : w1.memory ≡ 
   same_now : w1.memory.now ≡ w.memory.now
   same_now = ap (λ (m : State). m.now) em
 
-  same_frames : w1.memory.frames ≡ explore q ∷ []
-  same_frames = ap (λ (m : State). m.frames) em
+  same_frames : explore q ∷ w1.memory.frames ≡ explore q ∷ []
+  same_frames = ap (λ (m : State). explore q ∷ m.frames) em
 
   same_walk : (P : List ℕ → ℕ → List Thread → StepCounts → Type 0) → P w.memory.rounds w.memory.now w.memory.next w.steps → P w1.memory.rounds w1.memory.now w1.memory.next w1.steps
   same_walk P x =
@@ -130,14 +130,14 @@ module _ (table : List (Place ℕ)) (w w1 : Walk) (q : ℕ) (em : w1.memory ≡ 
       (subst (λ z. P w.memory.rounds w.memory.now w.memory.next z) (sym et) x)))
 
   pub room_pushed : q < length table → kept_back_of table < length table →
-      due_tries table w.memory.rounds w.memory.now [] w.memory.next w.steps.tried + 1 < 2 ^ 127 → HasRoom table w [] → HasRoom table w1 w1.memory.frames
+      due_tries table w.memory.rounds w.memory.now [] w.memory.next w.steps.tried + 1 < 2 ^ 127 → HasRoom table w [] → HasRoom table w1 (explore q ∷ w1.memory.frames)
   room_pushed inside kept few fit =
-      subst (λ z. IsFit table w1.memory.rounds w1.memory.now w1.memory.row w1.memory.frames z w1.memory.next w1.steps.tried w1.steps.entered w1.steps.looked) (sym (ap (λ (m : State). m.room) em))
-      (same_walk (λ r n t s. IsFit table r n w1.memory.row w1.memory.frames w.memory.room t s.tried s.entered s.looked)
-      (fit_pushed table w.memory.rounds w.memory.now w.memory.row w1.memory.row q w1.memory.frames w.memory.room w.memory.next w.steps.tried w.steps.entered w.steps.looked
+      subst (λ z. IsFit table w1.memory.rounds w1.memory.now w1.memory.row (explore q ∷ w1.memory.frames) z w1.memory.next w1.steps.tried w1.steps.entered w1.steps.looked) (sym (ap (λ (m : State). m.room) em))
+      (same_walk (λ r n t s. IsFit table r n w1.memory.row (explore q ∷ w1.memory.frames) w.memory.room t s.tried s.entered s.looked)
+      (fit_pushed table w.memory.rounds w.memory.now w.memory.row w1.memory.row q (explore q ∷ w1.memory.frames) w.memory.room w.memory.next w.steps.tried w.steps.entered w.steps.looked
       inside kept few same_frames fit))
 
-  module _ (here : Here) (now : ℕ) (round : w.memory.now ≡ now) (w2 : Walk) (i : ℕ) (done : Bool) (explored : Explores table here i w1 w2 w1.memory.frames done) where
+  module _ (here : Here) (now : ℕ) (round : w.memory.now ≡ now) (w2 : Walk) (i : ℕ) (done : Bool) (explored : Explores table here i w1 w2 (explore q ∷ w1.memory.frames) done) where
     round_now : w1.memory.now ≡ now
     round_now = same_now ∙ round
 
@@ -145,13 +145,13 @@ module _ (table : List (Place ℕ)) (w w1 : Walk) (q : ℕ) (em : w1.memory ≡ 
         StepsTo table here now f n r0 t0 b0 k w.memory.rounds w.memory.next b0 →
         StepsTo table here now f n r0 t0 b0 (if done then n else k + 1) w2.memory.rounds w2.memory.next (if done then Some (i, here.at, w2.memory.row) else b0)
     stepped_walk f n r0 t0 b0 k below at steps =
-        stepped table here now f n r0 t0 b0 k w1.memory.rounds w2.memory.rounds w1.memory.next w2.memory.next q i w1.memory.row w2.memory.row w1.memory.frames done below at same_frames
+        stepped table here now f n r0 t0 b0 k w1.memory.rounds w2.memory.rounds w1.memory.next w2.memory.next q i w1.memory.row w2.memory.row (explore q ∷ w1.memory.frames) done below at same_frames
         (same_walk (λ r n' t s. StepsTo table here now f n r0 t0 b0 k r t b0) steps)
-        (subst (λ z. WalksTo table here i z w1.memory.rounds w1.memory.row w1.memory.frames w1.memory.next w2.memory.rounds w2.memory.row [] w2.memory.next done) round_now explored.walks)
+        (subst (λ z. WalksTo table here i z w1.memory.rounds w1.memory.row (explore q ∷ w1.memory.frames) w1.memory.next w2.memory.rounds w2.memory.row [] w2.memory.next done) round_now explored.walks)
 
     pub spent_walk : (due k : ℕ) → due_tries table w.memory.rounds now [] w.memory.next w.steps.tried ≤ due + k → due_tries table w2.memory.rounds now [] w2.memory.next w2.steps.tried ≤ due + (k + 1)
     spent_walk due k so_far =
-        spent_more table now w1.memory.now w1.memory.rounds w2.memory.rounds q w1.memory.frames w1.memory.next w2.memory.next w1.steps.tried w2.steps.tried due k round_now same_frames explored.spent
+        spent_more table now w1.memory.now w1.memory.rounds w2.memory.rounds q (explore q ∷ w1.memory.frames) w1.memory.next w2.memory.next w1.steps.tried w2.steps.tried due k round_now same_frames explored.spent
         (same_walk (λ r n t s. due_tries table r now [] t s.tried ≤ due + k) so_far)
 
     pub entries_walk : (due : ℕ) → due_entries table w.memory.rounds now w.steps.entered ≤ due → due_entries table w2.memory.rounds now w2.steps.entered ≤ due

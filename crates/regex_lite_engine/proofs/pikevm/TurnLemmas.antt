@@ -1,5 +1,5 @@
 -- From one position to the next.
-use Rattle.std.proofs.Common.{◌≡◌, ℕ, suc, ◌+◌, ◌^◌, ◌<◌, ◌≤◌, inl, inr, Bool, false, List, [], ◌∷◌, ◌++◌, length, slice_index, sum_by, Option, Some, None, refl, sym, ap, subst, ◌∙◌, arith, length-append}
+use Rattle.std.proofs.Common.{◌≡◌, ℕ, zero, suc, ◌+◌, ◌^◌, ◌<◌, ◌≤◌, inl, inr, Bool, true, false, List, [], ◌∷◌, ◌++◌, length, replicate, slice_index, sum_by, Option, Some, None, refl, sym, ap, subst, ◌∙◌, arith, length-append}
 use Rattle.std.proofs.lemmas.List.Sums.{sum_by-cons}
 use Rattle.std.proofs.lemmas.List.{nil_from_length}
 use Rattle.regex_lite_syntax.specs.Text.{Text}
@@ -14,9 +14,9 @@ use Rattle.regex_lite_engine.specs.Walk.NumberedAnswer.{numbered_step, is_end}
 use Rattle.regex_lite_engine.specs.Search.Offsets.{offset}
 use Rattle.regex_lite_engine.specs.Walk.Standing.{IsHere}
 use Rattle.regex_lite_engine.specs.Walk.Room.{IsFit, ThreadsBelow, lone}
-use Rattle.regex_lite_engine.specs.Walk.Turns.{Between, StepsTo, IsComing, IsDeadAt, Begun, FromIs, IsBlank, IsReady}
+use Rattle.regex_lite_engine.specs.Walk.Turns.{with_start, Between, StepsTo, IsComing, IsDeadAt, Begun, FromIs, IsBlank, IsReady}
 use Rattle.regex_lite_engine.specs.Walk.Walking.{Node, Best, WayHolds, InStep}
-use Rattle.regex_lite_engine.proofs.pikevm.OptionLemmas.{not_there}
+use Rattle.regex_lite_engine.proofs.pikevm.OptionLemmas.{not_there, same_some}
 use Rattle.regex_lite_engine.proofs.pikevm.PositionLemmas as deep
 use Rattle.regex_lite_engine.proofs.pikevm.RoomLemmas.{left_most, threads_pushed}
 use Rattle.regex_lite_engine.proofs.pikevm.ThreadLemmas.{pushed_len, pushed_last, pushed_kept}
@@ -27,7 +27,7 @@ sum_lone [] = refl
 sum_lone (x ∷ table) = let more = sum_lone table in omega (arith, more, sum_by-cons lone x table)
 
 pub fit_first : (table : List (Place ℕ)) (memory memory' : State) (best : code.Best) (tried entered looked : ℕ) →
-    IsReady table memory best tried entered looked → memory' ≡ record memory { now = memory.now + 1; threads = memory'.threads } →
+    IsReady table memory best tried entered looked → memory' ≡ record memory { now = memory.now + 1 } →
     tried + arrows_of table < 2 ^ 127 → entered + length table < 2 ^ 127 → IsFit table memory'.rounds memory'.now memory'.row [] memory'.room memory'.next tried entered looked
 fit_first table memory memory' best tried entered looked ready em few fewe =
     let rounds = memory'.rounds in let now = memory'.now in
@@ -211,3 +211,24 @@ begun_len best s at may cur cur' (inr (some, same)) = let e : (length cur') ≡ 
 pub begun_below : (c : ℕ) (best : Best) (s at : ℕ) (may : Bool) (cur cur' : List Thread) → s < c → ThreadsBelow c cur → Begun s at may best cur cur' → ThreadsBelow c cur'
 begun_below c best s at may cur cur' inside below (inl (none, (blank, blanks, pushed))) = threads_pushed c s at blank cur cur' inside pushed below
 begun_below c best s at may cur cur' inside below (inr (some, same)) = subst (λ (t : List Thread). ThreadsBelow c t) (sym same) below
+
+blank_row : (w : ℕ) → IsBlank (replicate w None)
+blank_row zero k slot e = absurd (not_there e)
+blank_row (suc w) zero slot e = sym (same_some e)
+blank_row (suc w) (suc k) slot e = blank_row w k slot e
+
+pub start_begun : (s at w : ℕ) (may : Bool) (best : Best) (ts : List Thread) → Begun s at may best ts (with_start s at may best w ts)
+start_begun s at w true None ts = inl (refl, (replicate w None, blank_row w, refl))
+start_begun s at w false None ts = inr (inr refl, refl)
+start_begun s at w true (Some b) ts = inr (inl (λ e. not_there (sym e)), refl)
+start_begun s at w false (Some b) ts = inr (inl (λ e. not_there (sym e)), refl)
+
+-- a thread, or the own start behind them
+abbrev IsTakenUp : (s at w : ℕ) (ts ways : List Thread) (k : ℕ) → Type 0
+IsTakenUp s at w ts ways k = (k ≤ length ts) × (thread_at ways k ≡ thread_at (ts ++ (s, at, replicate w None) ∷ []) k)
+
+pub start_taken : (s at w : ℕ) (may : Bool) (best : Best) (ts : List Thread) (k : ℕ) → k < length (with_start s at may best w ts) → IsTakenUp s at w ts (with_start s at may best w ts) k
+start_taken s at w true None ts k lt = let e = pushed_len ts (ts ++ (s, at, replicate w None) ∷ []) _ refl in (omega (arith, lt, e), refl)
+start_taken s at w false None ts k lt = (omega (arith, lt), sym (pushed_kept ts (ts ++ (s, at, replicate w None) ∷ []) _ refl k lt))
+start_taken s at w true (Some b) ts k lt = (omega (arith, lt), sym (pushed_kept ts (ts ++ (s, at, replicate w None) ∷ []) _ refl k lt))
+start_taken s at w false (Some b) ts k lt = (omega (arith, lt), sym (pushed_kept ts (ts ++ (s, at, replicate w None) ∷ []) _ refl k lt))

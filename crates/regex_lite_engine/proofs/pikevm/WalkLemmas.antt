@@ -17,6 +17,7 @@ use Rattle.regex_lite_engine.proofs.pikevm.InStepLemmas as deep
 use Rattle.regex_lite_engine.proofs.pikevm.InStepMatchLemmas as at_match
 use Rattle.regex_lite_engine.proofs.pikevm.MarkLemmas.{marks_append, same_slots}
 use Rattle.regex_lite_engine.proofs.pikevm.OfferLemmas as order
+use Rattle.regex_lite_engine.proofs.pikevm.RecordLemmas as records
 
 pub same_node : (x y : Node) → (x ≡ y) ⊎ (x ≡ y → ⊥)
 same_node (a, b) (c, d) = go (cases_eq a c) (cases_eq b d)
@@ -26,7 +27,7 @@ same_node (a, b) (c, d) = go (cases_eq a c) (cases_eq b d)
     go (inr e) f = inr (λ g. e (ap (λ (z : Node). z.0) g))
     go (inl e) (inr f) = inr (λ g. f (ap (λ (z : Node). z.1) g))
 
-none_or : (o : Option (List ℕ)) → ((v : List ℕ) → o ≡ Some v → ⊥) → o ≡ None
+pub none_or : (o : Option (List ℕ)) → ((v : List ℕ) → o ≡ Some v → ⊥) → o ≡ None
 none_or None f = refl
 none_or (Some v) f = absurd (f v refl)
 
@@ -41,7 +42,7 @@ module _ (table : List (Place ℕ)) (h : Text) where
   pub no_more : (n : Node) (k : ℕ) → wide n ≤ k → numbered_step table h n k ≡ None
   no_more n k le = no_more_at (place_with table n.0) n.1 k le
 
-  no_arrow_at : (x : Place ℕ) (i k : ℕ) → IsTrue (is_complete x) → step_from h x i k ≡ None
+  pub no_arrow_at : (x : Place ℕ) (i k : ℕ) → IsTrue (is_complete x) → step_from h x i k ≡ None
   no_arrow_at complete i k e = refl
   no_arrow_at (with_arrows arrows) i k e = cc
 
@@ -53,6 +54,22 @@ module _ (table : List (Place ℕ)) (h : Text) where
   abbrev pub offered_by : Place ℕ → ℕ → List ℕ → ℕ → ℕ → List (Offer Node)
   offered_by x p w zero k = []
   offered_by x p w (suc c) k = one (step_from h x p k) (w ++ k ∷ []) ++ offered_by x p w c (suc k)
+
+  -- the place's arrows, one by one
+  pub offers_listed : (q p : ℕ) (w : List ℕ) (c j : ℕ)
+      → order.offers Node (numbered_step table h) (q, p) w c j
+      ≡ offered_by (place_with table q) p w c j
+  offers_listed q p w zero j = refl
+  offers_listed q p w (suc c) j =
+      by_first (step_from h (place_with table q) p j) (offers_listed q p w c (suc j))
+    where
+      by_first : (o : Option Node) → order.offers Node (numbered_step table h) (q, p) w c (suc j)
+          ≡ offered_by (place_with table q) p w c (suc j)
+          → order.one_offer Node (numbered_step table h) o (w ++ j ∷ [])
+          ++ order.offers Node (numbered_step table h) (q, p) w c (suc j)
+          ≡ one o (w ++ j ∷ []) ++ offered_by (place_with table q) p w c (suc j)
+      by_first None e = e
+      by_first (Some m) e = ap (λ z. (m, w ++ j ∷ []) ∷ z) e
 
   module _ (s : ℕ) where
     pub holds_on : (i : ℕ) (row row' : Row) (n : Node) (w : List ℕ) (a : ℕ) (l : Node) → WayHolds table h s i row n w → numbered_step table h n a ≡ Some l →
@@ -150,11 +167,11 @@ module _ (table : List (Place ℕ)) (h : Text) where
         fresh = none_or (u.recorded (q, p)) (λ v e. new (u.seen q v e))
 
         abbrev recorded_now : List ℕ → Node → Option (List ℕ)
-        recorded_now w = deep.extended Node (numbered_step table h) same_node wide no_more (λ j. (s, j)) (is_end table h) first last (λ x. x.1) u.recorded (q, p) w fresh
+        recorded_now w = records.extended Node same_node u.recorded (q, p) w
 
         seen_now : (w : List ℕ) (r : ℕ) (v : List ℕ) → recorded_now w (r, p) ≡ Some v → slice_index (slice_set rounds q now) r ≡ now
         seen_now w r v e = go (cases_eq r q)
-            (deep.back Node (numbered_step table h) same_node wide no_more (λ j. (s, j)) (is_end table h) first last (λ x. x.1) u.recorded (q, p) w fresh (r, p) v e)
+            (records.back Node same_node u.recorded (q, p) w (r, p) v e)
           where
             Goal : Type 0
             Goal = slice_index (slice_set rounds q now) r ≡ now
@@ -171,20 +188,10 @@ module _ (table : List (Place ℕ)) (h : Text) where
             go (inl d) = (
               w,
               ap (λ z. recorded_now w (z, p)) d
-                  ∙ deep.extended_here Node (numbered_step table h) same_node wide no_more (λ j. (s, j)) (is_end table h) first last (λ x. x.1) u.recorded (q, p) w fresh,
+                  ∙ records.extended_here Node same_node u.recorded (q, p) w,
             )
             go (inr d) = let r' = u.met r (omega (arith, lt, length-set rounds q now)) (sym (get_or-set_other rounds q r now 0 d) ∙ e) in
-                (r'.0, deep.kept Node (numbered_step table h) same_node wide no_more (λ j. (s, j)) (is_end table h) first last (λ x. x.1) u.recorded (q, p) w fresh (r, p) r'.0 r'.1)
-
-        offers_listed : (w : List ℕ) (c j : ℕ) → order.offers Node (numbered_step table h) (q, p) w c j ≡ offered_by (place_with table q) p w c j
-        offers_listed w zero j = refl
-        offers_listed w (suc c) j = go (step_from h (place_with table q) p j) (offers_listed w c (suc j))
-          where
-            go : (o : Option Node) → order.offers Node (numbered_step table h) (q, p) w c (suc j) ≡ offered_by (place_with table q) p w c (suc j) →
-                order.one_offer Node (numbered_step table h) o (w ++ j ∷ []) ++ order.offers Node (numbered_step table h) (q, p) w c (suc j)
-                ≡ one o (w ++ j ∷ []) ++ offered_by (place_with table q) p w c (suc j)
-            go None e = e
-            go (Some m) e = ap (λ z. (m, w ++ j ∷ []) ∷ z) e
+                (r'.0, records.kept Node same_node u.recorded (q, p) w fresh (r, p) r'.0 r'.1)
 
         -- all its arrows stay at the position
         pub walk_entered : (row' : Row) (frames' : List Frame) → (IsTrue (is_end table h (q, p)) → ⊥) →
@@ -205,7 +212,7 @@ module _ (table : List (Place ℕ)) (h : Text) where
                   coming = u.coming;
                   way = u.way;
                   in_step = subst (λ z. In_step (recorded_now w) z u.coming u.way) (sym (append_assoc listed rest u.later))
-                      (subst (λ z. In_step (recorded_now w) (z ++ (rest ++ u.later)) u.coming u.way) (offers_listed w (wide (q, p)) 0)
+                      (subst (λ z. In_step (recorded_now w) (z ++ (rest ++ u.later)) u.coming u.way) (offers_listed q p w (wide (q, p)) 0)
                       (deep.in_step_free Node (numbered_step table h) same_node wide no_more (λ j. (s, j)) (is_end table h) first last (λ x. x.1)
                       p from u.recorded (q, p) w fresh (rest ++ u.later) u.coming u.way (subst (λ z. In_step u.recorded (z ++ u.later) u.coming u.way) e u.in_step)
                       open_still stays));
@@ -239,7 +246,7 @@ module _ (table : List (Place ℕ)) (h : Text) where
                   later = u.later;
                   coming = u.coming ++ listed;
                   way = u.way;
-                  in_step = subst (λ z. In_step (recorded_now w) (rest ++ u.later) (u.coming ++ z) u.way) (offers_listed w (wide (q, p)) 0)
+                  in_step = subst (λ z. In_step (recorded_now w) (rest ++ u.later) (u.coming ++ z) u.way) (offers_listed q p w (wide (q, p)) 0)
                       (deep.in_step_read Node (numbered_step table h) same_node wide no_more (λ j. (s, j)) (is_end table h) first last (λ x. x.1)
                       p from u.recorded (q, p) w fresh (rest ++ u.later) u.coming u.way (subst (λ z. In_step u.recorded (z ++ u.later) u.coming u.way) e u.in_step)
                       open_still moves);

@@ -1,14 +1,16 @@
 -- A frame was taken off: the memory still suffices, and the counts stay within what is left.
-use Rattle.std.proofs.Common.{◌≡◌, ℕ, zero, suc, ◌+◌, ◌<◌, ◌≤◌, ◌⊎◌, inl, inr, Bool, true, false, List, [], ◌∷◌, length, set, map, slice_get, slice_set, slice_index, if◌then◌else◌, Option, Some, unwrap_or, sym, ap, subst, ◌∙◌, arith, length-set}
+use Rattle.std.proofs.Common.{◌≡◌, ℕ, zero, suc, ◌+◌, ◌<◌, ◌≤◌, ◌⊎◌, inl, inr, Bool, true, false, List, [], ◌∷◌, length, set, map, slice_get, slice_set, slice_index, if◌then◌else◌, Option, Some, unwrap_or, refl, sym, ap, subst, ◌∙◌, arith, length-set}
 use Rattle.std.proofs.lemmas.List.{set-get_or, get_or-set_same, get_or-set_other}
 use Rattle.std.proofs.lemmas.Bool.{cases_eq}
 use Rattle.regex_lite_engine.specs.declared.nfa.place.Place as code
+use Rattle.regex_lite_engine.specs.declared.pikevm.enter.Onward.{Onward}
+use Rattle.regex_lite_engine.specs.declared.pikevm.enter.Onward.TheVariants as onward
 use Rattle.regex_lite_engine.specs.declared.pikevm.here.Here.{Here}
 use Rattle.regex_lite_engine.specs.Graph.Places.{Place, with_arrows, kept_back, reading_count}
 use Rattle.regex_lite_engine.specs.Graph.Renumbered.{arrow_count}
 use Rattle.regex_lite_engine.specs.Graph.Stored.{LeadsBelow, place_of}
-use Rattle.regex_lite_engine.specs.Walk.Entering.{Enters}
-use Rattle.regex_lite_engine.specs.Walk.Machine.{Row, Frame, explore, restore, Thread, thread_at}
+use Rattle.regex_lite_engine.specs.Walk.Entering.{completes, Enters}
+use Rattle.regex_lite_engine.specs.Walk.Machine.{Row, Frame, explore, restore, unwound, Thread, thread_at}
 use Rattle.regex_lite_engine.specs.Walk.Room.{left_of, lone, weight, due_tries, due_entries, explores, FramesBelow, IsFit, WalksTo, Went}
 use Rattle.regex_lite_engine.specs.Walk.Walking.{IsWalking}
 use Rattle.regex_lite_engine.proofs.pikevm.EnterLemmas.{walk_enters}
@@ -156,9 +158,64 @@ was_met a b r e f = go (cases_eq a b)
     go (inl d) = d
     go (inr d) = let t : r ≡ true = f d in cc
 
+pub goes_on : (o : Onward) → (o ≡ onward.Complete → ⊥) → completes o ≡ false
+goes_on (onward.To place) d = refl
+goes_on onward.Back d = refl
+goes_on onward.Complete d = absurd (d refl)
+
 -- a walk so far, and what is kept of the counts
 pub record IsUnder (table : List (Place ℕ)) (here : Here) (i now : ℕ) (rounds : List ℕ) (row : Row) (frames : List Frame) (t : List Thread) (tried entered : ℕ)
     (rounds' : List ℕ) (row' : Row) (frames' : List Frame) (t' : List Thread) (tried' entered' : ℕ) : Type 0 where
   pub walks : WalksTo table here i now rounds row frames t rounds' row' frames' t' false
   pub spent : due_tries table rounds' now frames' t' tried' ≤ due_tries table rounds now frames t tried
   pub spent_entries : due_entries table rounds' now entered' ≤ due_entries table rounds now entered
+
+-- frames were taken off up to the next place
+pub record IsBack (table : List (Place ℕ)) (here : Here) (i now : ℕ) (rounds : List ℕ) (row : Row) (frames : List Frame) (left : Row × List Frame) (room : ℕ) (t : List Thread) (tried entered looked : ℕ) : Type 0 where
+  pub fit : IsFit table rounds now left.0 left.1 room t tried entered looked
+  pub under : IsUnder table here i now rounds row frames t tried entered rounds left.0 left.1 t tried entered
+  pub few : length left.1 ≤ length frames
+
+pub went_back : (table : List (Place ℕ)) (here : Here) (i now : ℕ) (rounds : List ℕ) (row : Row) (fs : List Frame) (room : ℕ) (t : List Thread) (tried entered looked : ℕ) →
+    IsFit table rounds now row fs room t tried entered looked → IsBack table here i now rounds row fs (unwound row fs) room t tried entered looked
+went_back table here i now rounds row [] room t tried entered looked fit = record {
+  fit = fit;
+  under = record { walks = λ h p is s first last from f k n best w. w; spent = omega arith; spent_entries = omega arith };
+  few = omega arith;
+}
+went_back table here i now rounds row (explore q ∷ fs) room t tried entered looked fit = record {
+  fit = fit;
+  under = record { walks = λ h p is s first last from f k n best w. w; spent = omega arith; spent_entries = omega arith };
+  few = omega arith;
+}
+went_back table here i now rounds row (restore slot old ∷ fs) room t tried entered looked fit =
+    let one = went_restored table here i now rounds row slot old fs room t tried entered looked fit in
+    let more = went_back table here i now rounds (slice_set row slot old) fs room t tried entered looked one.fit in
+    let few = more.few in let spent = one.spent in let spent_more = more.under.spent in
+    let entries = one.spent_entries in let entries_more = more.under.spent_entries in
+    record {
+      fit = more.fit;
+      under = record {
+        walks = λ h p is s first last from f k n best w. more.under.walks h p is s first last from f k n best (one.walks h p is s first last from f k n best w);
+        spent = omega (arith, spent, spent_more);
+        spent_entries = omega (arith, entries, entries_more);
+      };
+      few = omega (arith, few);
+    }
+
+-- so far, then a place, and back to the next one
+pub under_back : (table : List (Place ℕ)) (here : Here) (i now : ℕ) (rounds : List ℕ) (row : Row) (fs : List Frame) (t : List Thread) (tried entered : ℕ)
+    (rounds1 : List ℕ) (row1 : Row) (fs1 : List Frame) (t1 : List Thread) (tried1 entered1 : ℕ)
+    (rounds2 : List ℕ) (row2 : Row) (fs2 : List Frame) (room : ℕ) (t2 : List Thread) (tried2 entered2 looked2 : ℕ) (left : Row × List Frame) →
+    IsUnder table here i now rounds row fs t tried entered rounds1 row1 fs1 t1 tried1 entered1 →
+    Went table here i now rounds1 row1 fs1 t1 tried1 entered1 rounds2 row2 fs2 room t2 tried2 entered2 looked2 false →
+    IsBack table here i now rounds2 row2 fs2 left room t2 tried2 entered2 looked2 →
+    IsUnder table here i now rounds row fs t tried entered rounds2 left.0 left.1 t2 tried2 entered2
+under_back table here i now rounds row fs t tried entered rounds1 row1 fs1 t1 tried1 entered1 rounds2 row2 fs2 room t2 tried2 entered2 looked2 left under went back =
+    let spent = under.spent in let spent1 = went.spent in let spent2 = back.under.spent in
+    let entries = under.spent_entries in let entries1 = went.spent_entries in let entries2 = back.under.spent_entries in
+    record {
+      walks = λ h p is s first last from f k n best w. back.under.walks h p is s first last from f k n best (went.walks h p is s first last from f k n best (under.walks h p is s first last from f k n best w));
+      spent = omega (arith, spent, spent1, spent2);
+      spent_entries = omega (arith, entries, entries1, entries2);
+    }

@@ -6,8 +6,22 @@ use Rattle.regex_lite_syntax.specs.Sets.{Set, just}
 use Rattle.regex_lite_syntax.specs.Tree.Looks.{holds_between}
 use Rattle.regex_lite_engine.specs.declared.nfa.place.Place.{Place}
 use Rattle.regex_lite_engine.specs.declared.nfa.place.Place.TheVariants as stored
+use Rattle.regex_lite_engine.specs.declared.pikevm.enter.Onward as code
+use Rattle.regex_lite_engine.specs.declared.pikevm.enter.Onward.TheVariants as onward
 use Rattle.regex_lite_engine.specs.declared.pikevm.here.Here.{Here}
 use Rattle.regex_lite_engine.specs.Walk.Machine.{Row, Frame, explore, restore, Thread}
+
+-- what is left to do, the place that comes next as the first
+abbrev pub onto : code.Onward → List Frame → List Frame
+onto (onward.To place) frames = explore place ∷ frames
+onto onward.Back frames = frames
+onto onward.Complete frames = frames
+
+-- a match is complete
+abbrev pub completes : code.Onward → Bool
+completes (onward.To place) = false
+completes onward.Back = false
+completes onward.Complete = true
 
 -- there is one more thread
 abbrev pub Pushed : (before after : List Thread) → Thread → Type 0
@@ -26,11 +40,13 @@ abbrev pub ReadsOn : Bool → (before after : List Thread) → Thread → Type 0
 ReadsOn true before after thread = Pushed before after thread
 ReadsOn false before after thread = Same before after
 
--- the slot holds the offset, until the branch is left. A slot behind the row is not kept
+-- the slot holds the offset until the branch is left, or for good where nothing else is left to do.
+-- A slot behind the row is not kept
 abbrev pub SlotMarked : (at slot to : ℕ) → Row → List Frame → Row → List Frame → Type 0
 SlotMarked at slot to row frames row' frames' =
     ((slot < length row) × (row' ≡ slice_set row slot (Some at))
-    × (frames' ≡ explore to ∷ (restore slot (slice_index_or row slot None) ∷ frames)))
+    × ((frames' ≡ explore to ∷ (restore slot (slice_index_or row slot None) ∷ frames))
+    ⊎ ((frames ≡ []) × (frames' ≡ explore to ∷ frames))))
     ⊎ ((length row ≤ slot) × (row' ≡ row) × (frames' ≡ explore to ∷ frames))
 
 module _ (here : Here) (i : ℕ) where

@@ -1,5 +1,5 @@
 -- What a search keeps while it goes over one position.
-use Rattle.std.specs.Prelude.{ℕ, List, [], Option, slice_index_or}
+use Rattle.std.specs.Prelude.{ℕ, List, [], ◌∷◌, Option, slice_index_or, slice_set}
 
 -- the offset that each slot holds
 abbrev pub Row : Type 0
@@ -9,6 +9,13 @@ Row = List (Option ℕ)
 pub data Frame : Type 0 where
   explore : (place : ℕ) → Frame
   restore : (slot : ℕ) → (old : Option ℕ) → Frame
+
+-- What is left, and the row, when all is taken off that lies on the next place: each slot holds
+-- again what it held
+abbrev pub unwound : Row → List Frame → Row × List Frame
+unwound row [] = (row, [])
+unwound row (explore place ∷ frames) = (row, explore place ∷ frames)
+unwound row (restore slot old ∷ frames) = unwound (slice_set row slot old) frames
 
 -- a place, the offset where its way began, and a row
 abbrev pub Thread : Type 0

@@ -1,11 +1,17 @@
 -- What a search works in, as one value.
-use Rattle.std.specs.Prelude.{◌≡◌, ◌+◌, ◌^◌, ◌≤◌, ◌<◌, ℕ, List, [], length}
+use Rattle.std.specs.Prelude.{◌≡◌, ◌+◌, ◌^◌, ◌≤◌, ◌<◌, ℕ, Bool, List, [], length}
 use Rattle.regex_lite_engine.specs.declared.pikevm.here.Here.{Here}
 use Rattle.regex_lite_engine.specs.declared.pikevm.turn.Cache.{Cache}
 use Rattle.regex_lite_engine.specs.Graph.Places.{Place, kept_back_of}
-use Rattle.regex_lite_engine.specs.Walk.Machine.{thread_at}
+use Rattle.regex_lite_engine.specs.Walk.Machine.{Thread, thread_at}
 use Rattle.regex_lite_engine.specs.Walk.Room.{KeepsPosition, ThreadsBelow, due_tries, due_entries}
-use Rattle.regex_lite_engine.specs.Walk.Turns.{best_of, StepsTo, IsReady}
+use Rattle.regex_lite_engine.specs.Walk.Turns.{best_of, with_start, StepsTo, IsReady}
+
+-- the ways that are followed at a position: its threads, and its own start
+abbrev pub ways_at : (s at : ℕ) → (may_start : Bool) → Cache → List Thread
+ways_at s at may_start cache =
+    with_start s at may_start (best_of cache.best) (length cache.walk.memory.row)
+    cache.walk.memory.threads
 
 module _ (table : List (Place ℕ)) where
   -- between two positions
@@ -14,27 +20,26 @@ module _ (table : List (Place ℕ)) where
       IsReady table cache.walk.memory cache.best cache.walk.steps.tried cache.walk.steps.entered
       cache.walk.steps.looked
 
-  -- before the threads of a position are followed
-  pub record IsPlaced (cache : Cache) : Type 0 where
+  -- before these ways are followed
+  pub record IsPlaced (ways : List Thread) (cache : Cache) : Type 0 where
     pub stack_empty : cache.walk.memory.frames ≡ []
     pub stack_room : kept_back_of table < length table
     pub below : ThreadsBelow (length table) cache.walk.memory.threads
     pub best_width : length cache.best.row.items ≡ length cache.walk.memory.row
     pub budget :
         due_tries table cache.walk.memory.rounds cache.walk.memory.now [] cache.walk.memory.next
-        cache.walk.steps.tried + length cache.walk.memory.threads < 2 ^ 127
+        cache.walk.steps.tried + length ways < 2 ^ 127
 
-  -- the threads of the position were followed
-  pub record Follows (here : Here) (cache cache' : Cache) : Type 0 where
-    pub steps : StepsTo table here cache.walk.memory.now (thread_at cache.walk.memory.threads)
-        (length cache.walk.memory.threads) cache.walk.memory.rounds cache.walk.memory.next
-        (best_of cache.best) (length cache.walk.memory.threads) cache'.walk.memory.rounds
-        cache'.walk.memory.next (best_of cache'.best)
+  -- these ways were followed
+  pub record Follows (here : Here) (ways : List Thread) (cache cache' : Cache) : Type 0 where
+    pub steps : StepsTo table here cache.walk.memory.now (thread_at ways) (length ways)
+        cache.walk.memory.rounds cache.walk.memory.next (best_of cache.best) (length ways)
+        cache'.walk.memory.rounds cache'.walk.memory.next (best_of cache'.best)
     pub spent :
         due_tries table cache'.walk.memory.rounds cache.walk.memory.now [] cache'.walk.memory.next
         cache'.walk.steps.tried
         ≤ due_tries table cache.walk.memory.rounds cache.walk.memory.now [] cache.walk.memory.next
-        cache.walk.steps.tried + length cache.walk.memory.threads
+        cache.walk.steps.tried + length ways
     pub spent_entries :
         due_entries table cache'.walk.memory.rounds cache.walk.memory.now
         cache'.walk.steps.entered

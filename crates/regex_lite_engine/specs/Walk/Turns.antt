@@ -1,5 +1,5 @@
 -- The threads of one position, and from one position to the next.
-use Rattle.std.specs.Prelude.{◌≡◌, ◌≤◌, ◌<◌, ◌⊎◌, ℕ, Bool, false, List, [], length, slice_get, slice_index, Option, Some, None}
+use Rattle.std.specs.Prelude.{◌≡◌, ◌≤◌, ◌<◌, ◌⊎◌, ℕ, Bool, true, false, List, [], ◌∷◌, ◌++◌, length, replicate, slice_get, slice_index, Option, Some, None}
 use Rattle.regex_lite_syntax.specs.Text.{Text}
 use Rattle.regex_lite_engine.specs.declared.pikevm.best.Best as code
 use Rattle.regex_lite_engine.specs.declared.pikevm.here.Here.{Here}
@@ -90,3 +90,10 @@ abbrev pub Begun : (s at : ℕ) → (may_start : Bool) → Best → (before afte
 Begun s at may_start best before after =
     ((best ≡ None) × ((blank : Row) × IsBlank blank × Pushed before after (s, at, blank)))
     ⊎ (((best ≡ None → ⊥) ⊎ (may_start ≡ false)) × (after ≡ before))
+
+-- the threads, and the position's own start behind them unless it is left out
+abbrev pub with_start : (s at : ℕ) → (may_start : Bool) → Best → (width : ℕ) → List Thread
+    → List Thread
+with_start s at true None width threads = threads ++ (s, at, replicate width None) ∷ []
+with_start s at false None width threads = threads
+with_start s at may_start (Some best) width threads = threads

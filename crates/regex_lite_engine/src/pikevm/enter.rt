@@ -1,10 +1,11 @@
 //! One place entered: what its arrows offer.
-ghost use Rattle.std.specs.Prelude.{◌≡◌, ◌+◌, ◌^◌, ◌≤◌, ◌<◌, length};
+ghost use Rattle.std.specs.Prelude.{◌≡◌, ◌+◌, ◌^◌, ◌≤◌, ◌<◌, ◌∷◌, ℕ, length};
 ghost use Rattle.regex_lite_syntax.specs.Ranges.{in_ranges};
 ghost use Rattle.regex_lite_syntax.specs.Sets.{just};
 ghost use Rattle.regex_lite_engine.specs.Graph.Places.{kept_back};
 ghost use Rattle.regex_lite_engine.specs.Graph.Stored.{place_of};
-ghost use Rattle.regex_lite_engine.specs.Walk.Entering.{reads, Enters, ReadsOn, SlotMarked};
+ghost use Rattle.regex_lite_engine.specs.Walk.Entering.{completes, onto, reads, Enters, ReadsOn, SlotMarked};
+ghost use Rattle.regex_lite_engine.specs.Walk.Machine.{explore};
 
 use crate::nfa::class::MappedClass;
 use crate::nfa::place::Place;
@@ -13,14 +14,25 @@ use crate::pikevm::here::Here;
 use crate::pikevm::memory::Memory;
 use crate::pikevm::slot::Slot;
 
-/// Puts what the place offers at this position on the stack, and what it offers at the next one
-/// behind the threads there. Tells whether a match is complete.
-pub fn enter(place: &Place, here: Here, start: usize, memory: &mut Memory) -> bool
+/// How a walk goes on from a place.
+#[derive(Clone, Copy)]
+pub enum Onward {
+    /// To this place, without the stack.
+    To(u32),
+    /// To what is left on the stack.
+    Back,
+    /// Not at all: a match is complete.
+    Complete,
+}
+
+/// Tells which place is the first that this one offers at this position. The others are put on the
+/// stack, and what it offers at the next position behind the threads there.
+pub fn enter(place: &Place, here: Here, start: usize, memory: &mut Memory) -> Onward
     requires room { length memory.old.frames + (kept_back (place_of place.now) + 1)
         ≤ length memory.old.rounds }
     requires next_room { length memory.old.next < memory.old.room }
     ensures entered { Enters here start place.now memory.old.row memory.old.frames memory.old.next
-        memory.new.row memory.new.frames memory.new.next result }
+        memory.new.row (onto result memory.new.frames) memory.new.next (completes result) }
     ensures same { memory.new ≡ record memory.old {
       row = memory.new.row;
       frames = memory.new.frames;
@@ -28,25 +40,28 @@ pub fn enter(place: &Place, here: Here, start: usize, memory: &mut Memory) -> bo
     } }
 {
     match place {
-        Place::Empty { to } => memory.push(Frame::Explore(*to)),
+        Place::Empty { to } => return Onward::To(*to),
         Place::Char { c, to } => read_on(is_read(*c, here.after), *to, start, memory),
         Place::Class { to, set } => {
             read_on(is_in_set(set, here.after), *to, start, memory);
         }
         Place::Look { look, to } => {
             if look.holds(here.before, here.after) {
-                memory.push(Frame::Explore(*to));
+                return Onward::To(*to);
             }
         }
-        Place::Slot { slot, to } => mark(*slot, *to, here.at, memory),
+        Place::Slot { slot, to } => {
+            mark(*slot, here.at, memory);
+            return Onward::To(*to);
+        }
         Place::Choice { first, second } => {
             memory.push(Frame::Explore(*second));
-            memory.push(Frame::Explore(*first));
+            return Onward::To(*first);
         }
         Place::Branches(entries) => memory.push_all(entries),
-        Place::Match => return true,
+        Place::Match => return Onward::Complete,
     }
-    false
+    Onward::Back
 }
 
 /// Whether this character comes next.
@@ -80,20 +95,22 @@ fn read_on(reads: bool, to: u32, start: usize, memory: &mut Memory)
     }
 }
 
-/// Marks the slot, if it is kept, and goes on.
-fn mark(slot: u32, to: u32, at: usize, memory: &mut Memory)
-    requires room { length memory.old.frames + 2 ≤ length memory.old.rounds }
+/// Marks the slot, if it is kept.
+fn mark(slot: u32, at: usize, memory: &mut Memory)
+    requires room { length memory.old.frames < length memory.old.rounds }
     requires small { at + 1 < 2 ^ 64 }
-    ensures marked { SlotMarked at slot to memory.old.row memory.old.frames memory.new.row
-        memory.new.frames }
+    ensures marked { (to : ℕ) → SlotMarked at slot to memory.old.row memory.old.frames
+        memory.new.row (explore to ∷ memory.new.frames) }
     ensures same { memory.new
         ≡ record memory.old { row = memory.new.row; frames = memory.new.frames } }
 {
     let row = memory.row();
     if (slot as usize) < row.len() {
-        let old = row[slot as usize];
-        memory.push(Frame::Restore { slot, old });
+        // Where nothing else is left to do, nobody asks what the slot held.
+        if !memory.is_done() {
+            let old = row[slot as usize];
+            memory.push(Frame::Restore { slot, old });
+        }
         memory.put(slot, Slot::marked(at));
     }
-    memory.push(Frame::Explore(to));
 }

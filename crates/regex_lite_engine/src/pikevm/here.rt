@@ -1,5 +1,6 @@
 //! Where a search stands in the haystack.
 ghost use Rattle.std.specs.Prelude.{◌≡◌, ◌+◌, ◌^◌, ◌<◌, ℕ, IsSome, IsCharBoundary, chars, drop, slice_get};
+ghost use Rattle.std.specs.Char.{len_utf8};
 ghost use Rattle.regex_lite_syntax.specs.Text.{before};
 ghost use Rattle.regex_lite_engine.specs.Search.Offsets.{position_at, IsOffset};
 
@@ -41,7 +42,7 @@ impl Here {
         };
         // The sum fits, since a haystack has no more bytes than can be counted.
         let _bytes = haystack.len();
-        let at = self.at + c.len_utf8();
+        let at = self.at + byte_len(c);
         Here {
             before: Some(c),
             after: first_char(haystack, at),
@@ -50,8 +51,24 @@ impl Here {
     }
 }
 
+/// How many bytes the character has.
+fn byte_len(c: char) -> usize
+    ensures { result ≡ len_utf8 c }
+{
+    if c.is_ascii() { 1 } else { wide_len(c) }
+}
+
+/// The same of a character that is not ASCII.
+// Not inlined, so that an ASCII one takes a single test.
+#[inline(never)]
+fn wide_len(c: char) -> usize
+    ensures { result ≡ len_utf8 c }
+{
+    c.len_utf8()
+}
+
 /// The character that begins there.
-fn first_char(haystack: &str, at: usize) -> Option<char>
+pub fn first_char(haystack: &str, at: usize) -> Option<char>
     requires { IsCharBoundary haystack.now at }
     ensures { result ≡ slice_get (chars (drop at haystack.now)) 0 }
 {

@@ -1,5 +1,6 @@
 //! Rows of slots.
 ghost use Rattle.std.specs.Prelude.{◌≡◌, ◌+◌, ◌-◌, ◌≤◌, ◌<◌, ◌⊎◌, [], ◌++◌, IfOk, None, length, take, drop, replicate, slice_index_or, slice_set, vec_capacity};
+ghost use Rattle.regex_lite_engine.specs.Walk.Cells.{padded};
 
 use crate::pikevm::slot::Slot;
 use std::alloc::{AllocError, Global};
@@ -81,14 +82,31 @@ impl Rows {
             ≡ length (slice_index_or self.old to []) }
     {
         // Most searches keep no slots, and then a copy costs nothing.
-        if self.width == 0 {
-            return;
+        if self.width > 0 {
+            self.copy_slots(from, to);
         }
+    }
+
+    /// The same where a row has slots.
+    // Not inlined, so that a search without slots has no more than the test in its loop.
+    #[inline(never)]
+    fn copy_slots(&mut self, from: usize, to: usize)
+        requires from { from < length self.old }
+        requires to { to < length self.old }
+        requires apart { ¬ (from ≡ to) }
+        ensures copied { self.new ≡ slice_set self.old to (slice_index_or self.old from []) }
+        ensures width { length (slice_index_or self.old from [])
+            ≡ length (slice_index_or self.old to []) }
+    {
         let start = from * self.width;
         let place = to * self.width;
-        fill_to(&mut self.slots, start + self.width);
-        fill_to(&mut self.slots, place + self.width);
-        copy_row(&mut self.slots, start, place, self.width);
+        let end = start.max(place) + self.width;
+        // Apart, so that the one that takes most calls has no more to keep than it needs.
+        if self.slots.len() < end {
+            copy_filled(&mut self.slots, start, place, self.width, end);
+        } else {
+            copy_row(&mut self.slots, start, place, self.width);
+        }
     }
 
     /// Takes all marks from a row.
@@ -108,12 +126,28 @@ impl Rows {
 fn fill_to(slots: &mut Vec<Slot>, end: usize)
     requires { end ≤ vec_capacity slots.old }
     ensures items { slots.new.items
-        ≡ slots.old.items ++ replicate (end - length slots.old.items) None }
+        ≡ padded slots.old.items end }
     ensures capacity { vec_capacity slots.old ≤ vec_capacity slots.new }
 {
     if slots.len() < end {
         let _ = slots.resize(end, Slot::blank());
     }
+}
+
+/// Copies a row of this width, once all slots up to this end are there.
+#[inline(never)]
+fn copy_filled(slots: &mut Vec<Slot>, from: usize, to: usize, width: usize, end: usize)
+    requires room { end ≤ vec_capacity slots.old }
+    requires from { from + width ≤ end }
+    requires to { to + width ≤ end }
+    requires apart { (from + width ≤ to) ⊎ (to + width ≤ from) }
+    ensures copied { slots.new.items ≡ take to (padded slots.old.items end)
+        ++ (take width (drop from (padded slots.old.items end))
+        ++ drop (to + width) (padded slots.old.items end)) }
+    ensures capacity { vec_capacity slots.old ≤ vec_capacity slots.new }
+{
+    fill_to(slots, end);
+    copy_row(slots, from, to, width);
 }
 
 /// Copies a row of this width.

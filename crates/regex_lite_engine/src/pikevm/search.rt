@@ -23,22 +23,15 @@ pub struct Outcome {
 }
 
 impl Graph {
-    /// The most preferred match from the least start at or after this offset, with so many slots,
-    /// and what the search did.
-    ///
-    /// Condition: the start is above the haystack's length or on a character boundary.
-    ///
-    /// # Errors
-    ///
-    /// Where a growth is refused, which can only be before the first step.
-    pub fn search(
+    /// What [`Graph::search`] answers, found position by position.
+    pub(crate) fn search_in_step(
         &self,
         alloc: Global,
         haystack: &str,
         start: usize,
         slots: usize,
     ) -> Result<(Option<Outcome>, Steps), AllocError>
-        requires { (length haystack.now < start) ⊎ IsCharBoundary haystack.now start }
+        requires { IsCharBoundary haystack.now start }
         ensures found { IfOk result (λ told. (tree : Tree) → IsRegular tree
             → IsGraphOf tree self.now → IsOutcome tree haystack.now start told.0) }
         ensures slots { IfOk result (λ told. IfSome told.0
@@ -46,9 +39,6 @@ impl Graph {
         ensures cost { IfOk result (λ told. (tree : Tree) → IsGraphOf tree self.now
             → HasCost tree haystack.now start told.1) }
     {
-        if start > haystack.len() {
-            return Ok((None, Steps::none()));
-        }
         let mut cache = cache_for(alloc, self, slots)?;
         run(&mut cache, self, haystack, start);
         let Cache { walk, best, .. } = cache;

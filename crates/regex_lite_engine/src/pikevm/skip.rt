@@ -42,7 +42,7 @@ pub fn may_start(graph: &Graph, here: Here) -> bool
 }
 
 /// The next position from here on at which a match can begin, or the haystack's end.
-fn pass_over(starts: &Starts, haystack: &str, here: Here) -> Here
+pub fn pass_over(starts: &Starts, haystack: &str, here: Here) -> Here
     requires { (p : ℕ) × IsHere (chars haystack.now) p here }
     ensures passes { (p : ℕ) → IsHere (chars haystack.now) p here
         → PassesTo (λ i. ¬ (MayBegin starts.now (chars haystack.now) i)) (chars haystack.now) p
@@ -72,7 +72,15 @@ fn next_offset(starts: &Starts, bytes: &[u8], from: usize) -> usize
         return bytes.len();
     }
     let mut at = from;
-    while at < bytes.len() {
+    'fours: while bytes.len() - at >= 4 {
+        for k in 0..4 {
+            if starts.stops_at(bytes[at + k]) {
+                return at + k;
+            }
+        }
+        at += 4;
+    }
+    'ones: while at < bytes.len() {
         if starts.stops_at(bytes[at]) {
             return at;
         }

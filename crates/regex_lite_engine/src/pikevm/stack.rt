@@ -1,7 +1,8 @@
 //! What a walk still has to do at a position, last put first out.
-ghost use Rattle.std.specs.Prelude.{◌≡◌, ◌+◌, ◌≤◌, ◌<◌, ◌++◌, [], ◌∷◌, MatchOption, length, map};
+ghost use Rattle.std.specs.Prelude.{◌≡◌, ◌+◌, ◌≤◌, ◌<◌, ◌++◌, [], ◌∷◌, ℕ, IsTrue, MatchOption, length, map};
 ghost use Rattle.regex_lite_engine.specs.Walk.Cells.{frame_of};
-ghost use Rattle.regex_lite_engine.specs.Walk.Machine.{explore};
+ghost use Rattle.regex_lite_engine.specs.Walk.Machine.{explore, unwound};
+ghost use Rattle.regex_lite_engine.specs.Walk.Room.{FramesBelow};
 
 use crate::pikevm::cell::Frame;
 use crate::pikevm::memory::Memory;
@@ -41,6 +42,34 @@ impl Memory {
         let frame = self.cells[self.top].frame;
         self.top += 1;
         Some(frame)
+    }
+
+    /// Takes frames off, up to the next place, and answers it. Each slot that was marked since then
+    /// holds again what it held.
+    pub fn next_place(&mut self) -> Option<u32>
+        requires { (places : ℕ) × FramesBelow places (length self.old.row) self.old.frames }
+        ensures place { MatchOption result
+            (unwound self.old.row self.old.frames ≡ (self.new.row, []) × (self.new.frames ≡ []))
+            (λ place. unwound self.old.row self.old.frames
+            ≡ (self.new.row, explore place ∷ self.new.frames)) }
+        ensures same { self.new
+            ≡ record self.old { row = self.new.row; frames = self.new.frames } }
+        ensures width { length self.new.row ≡ length self.old.row }
+    {
+        'frames: while let Some(frame) = self.pop() {
+            match frame {
+                Frame::Explore(place) => return Some(place),
+                Frame::Restore { slot, old } => self.put(slot, old),
+            }
+        }
+        None
+    }
+
+    /// Whether nothing is left to do.
+    pub fn is_done(&self) -> bool
+        ensures { IsTrue result → self.now.frames ≡ [] }
+    {
+        self.top == self.cells.len()
     }
 
     /// Drops all frames.

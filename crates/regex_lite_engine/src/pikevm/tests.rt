@@ -1,10 +1,9 @@
 //! Searches from a pattern on: that they run, alone and in one searcher, that what they tell is
 //! what was meant, and how many rows of slots they have.
 use super::cache_for;
+use crate::Searcher;
 use crate::pikevm::turn::Cache;
-use crate::{Graph, Searcher};
-use regex_lite_syntax::{Config, Flags, Hir};
-use std::alloc::Global;
+use crate::tests::graph_of;
 use std::test::Fail;
 
 /// Where a match starts and ends, and what slots 2 and 3 hold.
@@ -42,16 +41,6 @@ const ROWS: [Row; 9] = [
     ("(x)?$", "ab", 0, Some((2, 2, None, None)), Some(2)),
     ("", "", 0, Some((0, 0, None, None)), Some(0)),
 ];
-
-/// The graph of the pattern.
-fn graph_of(alloc: Global, pattern: &str) -> Result<Graph, Fail> {
-    let config = Config {
-        flags: Flags::default(),
-        nest_limit: 50,
-    };
-    let hir = Hir::parse(alloc, config, pattern)?;
-    Ok(Graph::new(alloc, &hir, 1_000_000)?)
-}
 
 #[test]
 fn rows(rt: HostRuntime) -> Result<(), Fail> {

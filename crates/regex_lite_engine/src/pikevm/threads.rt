@@ -10,7 +10,8 @@ use crate::pikevm::memory::Memory;
 impl Memory {
     /// How many threads the position has.
     pub fn threads(&self) -> usize
-        ensures { result ≡ length self.now.threads }
+        ensures same { result ≡ length self.now.threads }
+        ensures few { result + 1 < 2 ^ 64 }
     {
         self.len
     }
@@ -27,18 +28,11 @@ impl Memory {
         self.cells[k].thread(self.side)
     }
 
-    /// Adds a thread to the position whose way begins here, with nothing marked.
-    pub fn push_start(&mut self, place: u32, start: usize)
-        requires { length self.old.threads < self.old.room }
-        ensures { self.new ≡ record self.old {
-          threads = self.old.threads
-              ++ (place, start, replicate (length self.old.row) None) ∷ [];
-        } }
+    /// Begins a way with nothing marked.
+    pub fn clear_row(&mut self)
+        ensures { self.new ≡ record self.old { row = replicate (length self.old.row) None } }
     {
-        let k = self.len;
-        self.rows.clear(row_of(self.side, k));
-        self.cells[k].put_thread(self.side, place, start);
-        self.len = k + 1;
+        self.rows.clear(0);
     }
 
     /// Adds a thread to the next position, with the row that is followed.

@@ -2,12 +2,11 @@
 ghost use Rattle.std.specs.Prelude.{◌≡◌, ◌+◌, ◌^◌, ◌≤◌, ◌<◌, [], ℕ, false, None, length};
 ghost use Rattle.regex_lite_engine.specs.Graph.Renumbered.{arrows_of};
 ghost use Rattle.regex_lite_engine.specs.Graph.Stored.{table_of};
-ghost use Rattle.regex_lite_engine.specs.Walk.Turns.{best_of, Begun};
+ghost use Rattle.regex_lite_engine.specs.Walk.Turns.{best_of};
 
 use crate::Graph;
 use crate::pikevm::best::Best;
 use crate::pikevm::here::Here;
-use crate::pikevm::memory::Memory;
 use crate::pikevm::walk::Walk;
 
 /// All that a search works in. Its memory is asked for before the first step.
@@ -22,7 +21,7 @@ impl Cache {
     ghost use Rattle.regex_lite_engine.specs.Walk.Standing.{IsHere};
     ghost use Rattle.regex_lite_engine.specs.Walk.Room.{HasRoom};
     ghost use Rattle.regex_lite_engine.specs.Walk.Turns.{EndsAt, IsComing, IsDeadAt};
-    ghost use Rattle.regex_lite_engine.specs.Walk.Searching.{IsPlaced, Follows, IsBetween};
+    ghost use Rattle.regex_lite_engine.specs.Walk.Searching.{ways_at, IsPlaced, Follows, IsBetween};
 
     /// Goes over the position. Its own start comes last, and only while there is no match.
     pub fn turn(&mut self, graph: &Graph, here: Here, may_start: bool)
@@ -49,46 +48,41 @@ impl Cache {
         ensures round { self.new.walk.memory.now ≡ self.old.walk.memory.now + 1 }
     {
         self.walk.memory.begin_round();
-        begin(
-            graph.start(),
-            here.at,
-            may_start,
-            &self.best,
-            &mut self.walk.memory,
-        );
-        self.follow(graph, here);
+        self.follow(graph, here, may_start);
         self.walk.memory.turn_over();
     }
 
-    /// Follows the threads of the position in order, up to the first that comes to a match: those
-    /// behind it are less preferred.
-    fn follow(&mut self, graph: &Graph, here: Here)
-        requires placed { IsPlaced (table_of graph.now) self.old }
+    /// Follows the threads of the position in order, and its own start behind them, up to the first
+    /// that comes to a match: those behind it are less preferred.
+    fn follow(&mut self, graph: &Graph, here: Here, may_start: bool)
+        requires placed { IsPlaced (table_of graph.now)
+            (ways_at graph.now.start here.at may_start self.old) self.old }
         requires room { HasRoom (table_of graph.now) self.old.walk [] }
-        ensures followed { Follows (table_of graph.now) here self.old self.new }
+        ensures followed { Follows (table_of graph.now) here
+            (ways_at graph.now.start here.at may_start self.old) self.old self.new }
         ensures room { HasRoom (table_of graph.now) self.new.walk [] }
         ensures ends { EndsAt here.at (best_of self.old.best) (best_of self.new.best) }
         ensures kept { best_of self.new.best ≡ None → best_of self.old.best ≡ None }
     {
-        'threads: for k in 0..self.walk.memory.threads() {
-            let start = self.walk.take_up(k);
-            if self.walk.explore(graph, here, start) {
+        'ways: for k in 0..self.ways(may_start) {
+            let (place, start) = self.walk.take_up(k, graph.start(), here.at);
+            if self.walk.explore(place, graph, here, start) {
                 self.best.set(start, here.at, self.walk.memory.row());
                 return;
             }
         }
     }
-}
 
-/// Adds the position's own start behind the threads, if a match can start there and there is none
-/// yet.
-fn begin(place: u32, at: usize, may_start: bool, best: &Best, memory: &mut Memory)
-    requires { length memory.old.threads < memory.old.room }
-    ensures begun { Begun place at may_start (best_of best.now) memory.old.threads
-        memory.new.threads }
-    ensures same { memory.new ≡ record memory.old { threads = memory.new.threads } }
-{
-    if may_start && best.is_none() {
-        memory.push_start(place, at);
+    /// How many ways are followed: those of the threads and, behind them, the position's own start,
+    /// if a match can start there and there is none yet.
+    fn ways(&self, may_start: bool) -> usize
+        ensures { (s at : ℕ) → result ≡ length (ways_at s at may_start self.now) }
+    {
+        let threads = self.walk.memory.threads();
+        if may_start && self.best.is_none() {
+            threads + 1
+        } else {
+            threads
+        }
     }
 }

@@ -112,3 +112,14 @@ module _ (slots : Row) (capacity w count : ℕ) (rows : List Row) (view : rows_i
   pub row_read : (there : Row) (k : ℕ) → padded there (count * w) ≡ all_slots → k < length rows → k * w + w ≤ length there → take w (drop (k * w) there) ≡ slice_index_or rows k []
   row_read there k same lt le =
       sym (padded_part there (k * w) w (count * w) le) ∙ ap (λ z. take w (drop (k * w) z)) same ∙ sym (row_of_view all_slots w count rows view all k lt)
+
+  -- a row is written over another one, once the slots up to the ends of both are there
+  pub row_copied : (there after : Row) (from to : ℕ) → padded there (count * w) ≡ all_slots → from < length rows → to < length rows → from * w + w ≤ length there → to * w + w ≤ length there →
+      after ≡ take (to * w) there ++ (take w (drop (from * w) there) ++ drop (to * w + w) there) →
+      (rows_in (padded after (count * w)) w count ≡ set rows to (slice_index_or rows from [])) × (length after ≡ length there)
+  row_copied there after from to same lt_from lt_to le_from le_to e =
+      let held = row_read there from same lt_from le_from in
+      let long : length (take w (drop (from * w) there)) ≡ w = ap length held ∙ row_wide from lt_from in (
+        row_put_over there after (take w (drop (from * w) there)) to same lt_to le_to long e ∙ ap (λ row. set rows to row) held,
+        ap length e ∙ over_long there (take w (drop (from * w) there)) (to * w) w le_to long,
+      )

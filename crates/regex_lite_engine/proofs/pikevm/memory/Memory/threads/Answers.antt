@@ -1,9 +1,14 @@
-use Rattle.std.proofs.Common.{length, ap, sym, ◌∙◌}
+use Rattle.std.proofs.Common.{length, ap, sym, ◌∙◌, arith}
 use Rattle.regex_lite_engine.specs.Walk.Machine.{State}
 use Rattle.regex_lite_engine.proofs.pikevm.memory.ListLemmas.{threads_long}
 use Rattle.regex_lite_engine.proofs.pikevm.memory.Memory.threads.Goals as goal
 
-pub returns : goal.returns
-returns c =
+pub returns-clause-few : goal.returns-clause-few
+returns-clause-few c =
+    let i = c.self.inside in let fit = c.self.invariant in
+    omega (arith, fit.threads_fit, fit.cells_fit, i.cells.ok.0, i.cells.small)
+
+pub returns-clause-same : goal.returns-clause-same
+returns-clause-same c =
     let i = c.self.inside in
     sym (threads_long i.side i.cells.items i.rows i.room i.len) ∙ ap (λ (z : State). length z.threads) c.self.view_is

@@ -1,0 +1,16 @@
+use Rattle.std.proofs.Common.{◌≡◌, ℕ, length}
+use Rattle.regex_lite_engine.specs.Walk.Machine.{unwound}
+use Rattle.regex_lite_engine.specs.Walk.Room.{FramesBelow}
+use Rattle.regex_lite_engine.proofs.pikevm.memory.Memory.next_place.Given as goal
+
+abbrev pub invariant-frames : goal.invariant-frames
+invariant-frames l = record {
+  places : ℕ;
+  below : FramesBelow places (length l.self.row) l.self.frames;
+  unwound : unwound l.initial.self.row l.initial.self.frames ≡ unwound l.self.row l.self.frames;
+  same : l.self ≡ record l.initial.self { row = l.self.row; frames = l.self.frames };
+  width : length l.self.row ≡ length l.initial.self.row;
+}
+
+abbrev pub decreases-frames : goal.decreases-frames
+decreases-frames l = length l.self.frames
