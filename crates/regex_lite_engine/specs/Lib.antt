@@ -12,3 +12,4 @@ pub mod TemplateLaws
 -- rests on it.
 pub mod Nfa
 pub mod Walk
+pub mod Backtrack

@@ -1,15 +1,21 @@
-//! What a pattern is searched with: its graph, and the search. Templates are read here too.
+//! What a pattern is searched with: its graph, and the searches. Templates are read here too.
 //!
 //! [`Graph::new`] counts a tree, tests it against the limits and writes it out as numbered places
-//! with ordered arrows (`nfa`). `pikevm` goes over a haystack's bytes along the arrows, counts its
-//! [`Steps`] and tells an [`Outcome`]. `interpolate` cuts a template into its pieces. `laws` holds
-//! what is true of the definitions alone: of matches, ways, answers and templates.
+//! with ordered arrows (`nfa`). [`Graph::search`] goes over a haystack's bytes along the arrows,
+//! counts its [`Steps`] and tells an [`Outcome`]: depth first where there is little to keep
+//! (`backtrack`), and else position by position (`pikevm`). `interpolate` cuts a template into its
+//! pieces. `laws` holds what is true of the definitions alone: of matches, ways, answers and
+//! templates.
 #![tactic(auto)]
 
+mod backtrack;
 pub mod interpolate;
 pub mod laws;
 mod nfa;
 mod pikevm;
+mod search;
+#[cfg(test)]
+mod tests;
 
 pub use nfa::Graph;
 pub use pikevm::search::Outcome;

@@ -129,6 +129,7 @@ impl Graph {
     pub(crate) fn starts(&self) -> &Starts
         ensures same { result.now ≡ self.now.starts }
         ensures all { AreStartsOf (table_of self.now) self.now.start result.now }
+        ensures inside { self.now.start < length self.now.places }
     {
         &self.starts
     }
@@ -138,6 +139,7 @@ impl Graph {
         ensures same { result ≡ length self.now.places }
         ensures few { result < 2 ^ 32 }
         ensures kept_back { kept_back_of (table_of self.now) < result }
+        ensures few_arrows { arrows_of (table_of self.now) < 2 ^ 34 }
     {
         self.places.len()
     }

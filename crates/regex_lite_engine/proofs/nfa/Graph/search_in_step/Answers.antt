@@ -1,10 +1,10 @@
-use Rattle.std.proofs.Common.{rules, length, ◌<◌, ◌^◌, sym, subst, arith}
+use Rattle.std.proofs.Common.{rules, length, ◌<◌, ◌^◌, sym, subst}
 use Rattle.std.specs.Prelude.{chars}
 use Rattle.regex_lite_engine.specs.Graph.Stored.{table_of}
 use Rattle.regex_lite_engine.specs.Search.Offsets.{position_at}
 use Rattle.regex_lite_engine.specs.Walk.Outcomes.{IsNumberedOutcome}
 use Rattle.regex_lite_engine.proofs.pikevm.OutcomeLemmas.{can_count, answer_told}
-use Rattle.regex_lite_engine.proofs.nfa.Graph.search.Goals as goal
+use Rattle.regex_lite_engine.proofs.nfa.Graph.search_in_step.Goals as goal
 
 pub run-requires-clause-counts : goal.run-requires-clause-counts
 run-requires-clause-counts c =
@@ -13,7 +13,6 @@ run-requires-clause-counts c =
 
 pub returns-clause-found : goal.returns-clause-found
 returns-clause-found c = λ tree regular is. (
-    let over = c.if-start-haystack.false in
-    answer_told tree regular c.args.self.now is c.args.haystack.now c.args.start (omega (arith, over)) c.into_outcome.result
+    answer_told tree regular c.args.self.now is c.args.haystack.now c.args.start c.requires.0 c.into_outcome.result
     (subst (λ z. IsNumberedOutcome (table_of c.args.self.now) (chars c.args.haystack.now) c.args.self.now.start (position_at c.args.haystack.now c.args.start) z)
     (sym c.into_outcome.ensures.told) c.run.ensures.found))

@@ -1,0 +1,16 @@
+-- lemmas that several proofs here share
+pub mod BitLemmas
+pub mod DepthFirstEnterLemmas
+pub mod DepthFirstLemmas
+pub mod EnterLemmas
+pub mod ExploreLemmas
+pub mod LeadsLemmas
+pub mod LeftLemmas
+pub mod NumberedLemmas
+pub mod PairLemmas
+pub mod RoomLemmas
+pub mod RunLemmas
+pub mod StackLemmas
+pub mod UnwindLemmas
+pub mod WalkLemmas
+pub mod WentLemmas

@@ -1,0 +1,184 @@
+-- Bits in words of 64.
+use Rattle.std.proofs.Common.{◌≡◌, ◌==◌, ℕ, ◌++◌, refl, ◌*◌, ◌-◌, ◌/◌, ◌%◌, ◌^◌, ◌<◌, ◌↔◌, inl, inr, Bool, IsTrue, true, false, List, length, replicate, slice_index, slice_index_or, slice_set, bit_and, bit_or, ap, sym, subst, ◌∙◌, arith, length-set, w64}
+use Rattle.std.specs.Int.{bit_at}
+use Rattle.std.proofs.lemmas.Bool.{cases_lt, cases_eq}
+use Rattle.std.proofs.lemmas.Bool.Decides.{nat_tests}
+use Rattle.std.proofs.lemmas.List.{get_or-replicate, get_or_append_left, get_or-append_right, get_or_past, get_or-set_same, get_or-set_other, length-replicate}
+use Rattle.std.proofs.lemmas.List.FromFn.{fill_by_all, get_or-map-range_with_len, length-map-range_with_len}
+use Rattle.std.proofs.lemmas.Nat.{one_shl, pow_pos}
+use Rattle.std.proofs.lemmas.Nat.Bits.{and_pow, bit_at-lt, bit_at-zero, bit_at_set_same, bit_at_set_other}
+use Rattle.regex_lite_syntax.specs.AsciiMaps.{bit_of_words}
+use Rattle.regex_lite_engine.specs.declared.backtrack.visited.Visited.TheInside.{Inside}
+use Rattle.regex_lite_engine.specs.Backtrack.Bits.{bits_of, words_of}
+use Rattle.regex_lite_engine.specs.Backtrack.Machine.{Pairs, pair_number, was_entered}
+
+-- whether bit k of the words is 1
+abbrev is_set : List ℕ → ℕ → Bool
+is_set words k = bit_of_words words k == 1
+
+pub length_of_bits : (words : List ℕ) (count : ℕ) → length (bits_of words count) ≡ count
+length_of_bits words count = length-map-range_with_len (is_set words) 0 count
+
+bit_of_bits : (words : List ℕ) (count k : ℕ) → k < count
+    → slice_index_or (bits_of words count) k false ≡ is_set words k
+bit_of_bits words count k lt =
+    get_or-map-range_with_len (is_set words) 0 count k k false lt (omega arith)
+
+zero_at : (n i : ℕ) → slice_index (replicate n 0) i ≡ 0
+zero_at n i = elim (cases_lt i n) [
+  | inl lt ↦ get_or-replicate n i 0 0 lt
+  | inr le ↦ get_or_past (replicate n 0) i 0 (omega (arith, le, length-replicate {A = ℕ} n 0))
+]
+
+-- where each word is 0, no bit is set
+pub none_of_zeros : (n count : ℕ) → bits_of (replicate n 0) count ≡ replicate count false
+none_of_zeros n count =
+    sym (fill_by_all (is_set (replicate n 0)) (replicate count false) count false
+    (length-replicate count false) at_each)
+  where
+    at_each : (k : ℕ) → k < count
+        → slice_index_or (replicate count false) k false ≡ is_set (replicate n 0) k
+    at_each k lt =
+        get_or-replicate count k false false lt
+        ∙ sym (ap (λ word. bit_at word (k % 64) == 1) (zero_at n (k / 64))
+        ∙ ap (λ bit. bit == 1) (bit_at-zero (k % 64)))
+
+-- words of zeros behind them change no bit
+pub bits_before_zeros : (words : List ℕ) (n count : ℕ)
+    → bits_of (words ++ replicate n 0) count ≡ bits_of words count
+bits_before_zeros words n count =
+    sym (fill_by_all (is_set (words ++ replicate n 0)) (bits_of words count) count false
+    (length_of_bits words count) at_each)
+  where
+    same_word : (i : ℕ) → slice_index (words ++ replicate n 0) i ≡ slice_index words i
+    same_word i = elim (cases_lt i (length words)) [
+      | inl lt ↦ get_or_append_left words (replicate n 0) 0 i lt
+      | inr le ↦
+          get_or-append_right words (replicate n 0) (length words) i 0 refl le
+          ∙ zero_at n (i - length words)
+          ∙ sym (get_or_past words i 0 le)
+    ]
+
+    at_each : (k : ℕ) → k < count
+        → slice_index_or (bits_of words count) k false ≡ is_set (words ++ replicate n 0) k
+    at_each k lt =
+        bit_of_bits words count k lt
+        ∙ sym (ap (λ word. bit_at word (k % 64) == 1) (same_word (k / 64)))
+
+-- what `1 << k % 64` finds in a word
+pub found_by_mask : (words : List ℕ) (count k : ℕ) → k < count
+    → IsTrue (bit_and (slice_index words (k / 64)) (1 * 2 ^ (k % 64) % 2 ^ 64) == 0)
+    ↔ (slice_index_or (bits_of words count) k false ≡ false)
+found_by_mask words count k lt =
+    let word = slice_index words (k / 64) in
+    let j = k % 64 in
+    let within : j < 64 = omega arith in
+    let mask : 1 * 2 ^ j % 2 ^ 64 ≡ 2 ^ j = one_shl j 64 within in
+    let bit : bit_at word j < 2 = bit_at-lt word j in
+    let some : 0 < 2 ^ j = pow_pos j in
+    rw (bit_of_bits words count k lt, mask, and_pow)
+    (elim (cases_eq (bit_at word j) 0) [
+      | inl none ↦ rw none (grind (arith, nat_tests))
+      | inr one ↦
+          let is : bit_at word j ≡ 1 = omega arith in
+          rw is (grind (arith, nat_tests))
+    ])
+
+-- what `1 << k % 64` sets in a word
+pub set_by_mask : (words : List ℕ) (count k : ℕ) → k < 64 * length words → k < count
+    → bits_of (slice_set words (k / 64)
+    (bit_or (slice_index words (k / 64)) (1 * 2 ^ (k % 64) % 2 ^ 64))) count
+    ≡ slice_set (bits_of words count) k true
+set_by_mask words count k inside lt =
+    sym (fill_by_all (is_set words') (slice_set bits k true) count false
+    (length-set bits k true ∙ length_of_bits words count) at_each)
+  where
+    bits : List Bool
+    bits = bits_of words count
+
+    word : ℕ
+    word = slice_index words (k / 64)
+
+    word' : ℕ
+    word' = bit_or word (1 * 2 ^ (k % 64) % 2 ^ 64)
+
+    words' : List ℕ
+    words' = slice_set words (k / 64) word'
+
+    within : (l : ℕ) → l % 64 < 64
+    within l = omega arith
+
+    same_word : slice_index words' (k / 64) ≡ word'
+    same_word = get_or-set_same words (k / 64) word' 0 (omega (arith, inside))
+
+    -- the other bits
+    kept : (l : ℕ) → (l ≡ k → ⊥) → bit_of_words words' l ≡ bit_of_words words l
+    kept l other = elim (cases_eq (l / 64) (k / 64)) [
+      | inl same ↦
+          ap (λ i. bit_at (slice_index words' i) (l % 64)) same
+          ∙ ap (λ w. bit_at w (l % 64)) same_word
+          ∙ bit_at_set_other w64 word (k % 64) (within k) (l % 64) (λ e. other (omega (arith, e, same)))
+          ∙ ap (λ i. bit_at (slice_index words i) (l % 64)) (sym same)
+      | inr apart ↦
+          ap (λ w. bit_at w (l % 64)) (get_or-set_other words (k / 64) (l / 64) word' 0 apart)
+    ]
+
+    at_each : (l : ℕ) → l < count
+        → slice_index_or (slice_set bits k true) l false ≡ is_set words' l
+    at_each l below = elim (cases_eq l k) [
+      | inl same ↦
+          ap (λ i. slice_index_or (slice_set bits k true) i false) same
+          ∙ get_or-set_same bits k true false (omega (arith, lt, length_of_bits words count))
+          ∙ sym (ap (is_set words') same
+          ∙ ap (λ w. bit_at w (k % 64) == 1) same_word
+          ∙ ap (λ bit. bit == 1) (bit_at_set_same w64 word (k % 64) (within k)))
+      | inr other ↦
+          get_or-set_other bits k l true false other
+          ∙ bit_of_bits words count l below
+          ∙ sym (ap (λ bit. bit == 1) (kept l other))
+    ]
+
+-- the pairs that the fields stand for, with the bits of these words
+abbrev pub pairs_of : Inside → List ℕ → Pairs
+pairs_of v words =
+    record { entered = bits_of words v.count; places = v.places; first = v.first }
+
+-- what the fields say of one pair
+module _ (v : Inside) (pairs : Pairs) (same : pairs_of v (words_of v.words) ≡ pairs)
+    (place at : ℕ) where
+  abbrev k : ℕ
+  k = pair_number v.places v.first place at
+
+  pub number_inside : pair_number pairs.places pairs.first place at < length pairs.entered
+      → pair_number v.places v.first place at < v.count
+  number_inside =
+      subst (λ p. pair_number p.places p.first place at < length p.entered → k < v.count) same
+      (subst (λ n. k < n) (length_of_bits (words_of v.words) v.count))
+
+  module _ (words : List ℕ) (is : words_of v.words ≡ words) where
+    of_words : pairs_of v words ≡ pairs
+    of_words = ap (pairs_of v) (sym is) ∙ same
+
+    pub found_in_pairs : (fresh : Bool)
+        → IsTrue fresh
+        ↔ (slice_index_or (bits_of words v.count) (pair_number v.places v.first place at) false
+        ≡ false)
+        → IsTrue fresh ↔ (was_entered pairs place at ≡ false)
+    found_in_pairs fresh found =
+        subst (λ p. IsTrue fresh ↔ (was_entered p place at ≡ false)) of_words found
+
+    pub set_in_pairs : (words' : List ℕ)
+        → bits_of words' v.count
+        ≡ slice_set (bits_of words v.count) (pair_number v.places v.first place at) true
+        → pairs_of v words' ≡ record pairs {
+          entered = slice_set pairs.entered (pair_number pairs.places pairs.first place at) true;
+        }
+    set_in_pairs words' set = ap with_bits set ∙ ap entering of_words
+      where
+        with_bits : List Bool → Pairs
+        with_bits bits = record { entered = bits; places = v.places; first = v.first }
+
+        entering : Pairs → Pairs
+        entering p = record p {
+          entered = slice_set p.entered (pair_number p.places p.first place at) true;
+        }

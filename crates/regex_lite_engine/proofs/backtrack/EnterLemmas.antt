@@ -1,0 +1,311 @@
+-- Entering a place in a depth-first walk, by what stands there.
+use Rattle.std.proofs.Common.{◌≡◌, ℕ, zero, suc, ◌+◌, ◌<◌, ◌≤◌, inl, inr, Bool, true, false, IsTrue, List, [], ◌∷◌, ◌++◌, length, map, slice_get, slice_set, slice_index_or, if◌then◌else◌, Option, Some, None, refl, sym, ap, subst, ◌∙◌, arith}
+use Rattle.std.specs.Char.{len_utf8}
+use Rattle.std.proofs.lemmas.List.{length-map, set-set, set-get_or}
+use Rattle.std.proofs.lemmas.Option.{slice_get_within}
+use Rattle.regex_lite_syntax.specs.declared.class.ClassRange.{ClassRange}
+use Rattle.regex_lite_syntax.specs.Ranges.{in_ranges}
+use Rattle.regex_lite_syntax.specs.Sets.{Set, just}
+use Rattle.regex_lite_syntax.specs.Text.{Text, before, after}
+use Rattle.regex_lite_syntax.specs.Tree.Looks.{holds_between}
+use Rattle.regex_lite_engine.specs.declared.nfa.place.Place as code
+use Rattle.regex_lite_engine.specs.declared.nfa.place.Place.TheVariants as stored
+use Rattle.regex_lite_engine.specs.Backtrack.Entering.{Enters, read_on}
+use Rattle.regex_lite_engine.specs.Backtrack.Machine.{Frame, explore, restore, Pairs, pair_number, was_entered}
+use Rattle.regex_lite_engine.specs.Backtrack.Walking as walk
+use Rattle.regex_lite_engine.specs.Graph.Places.{Arrow, Place, with_arrows, go, go_holding, go_marking, go_reading, one_of, arrived, behind, arrow_taken, step_from}
+use Rattle.regex_lite_engine.specs.Graph.Renumbered.{arrow_count}
+use Rattle.regex_lite_engine.specs.Graph.Stored.{place_of}
+use Rattle.regex_lite_engine.specs.Search.Marks.{Marks, marked, over, mark_of}
+use Rattle.regex_lite_engine.specs.Search.Offsets.{offset, IsOffset, HasSlots}
+use Rattle.regex_lite_engine.specs.Walk.InStep.{Offer}
+use Rattle.regex_lite_engine.specs.Walk.Machine.{Row}
+use Rattle.regex_lite_engine.specs.Walk.NumberedAnswer.{place_with, is_complete, numbered_step, is_end}
+use Rattle.regex_lite_engine.specs.Walk.Outcomes.{IsNumberedOutcome}
+use Rattle.regex_lite_engine.specs.Walk.Walking.{Node, WayHolds}
+use Rattle.regex_lite_engine.proofs.OffsetLemmas.{offset_next}
+use Rattle.regex_lite_engine.proofs.backtrack.WalkLemmas.{walk_entered, walk_complete}
+use Rattle.regex_lite_engine.proofs.pikevm.EnterLemmas.{got_map, free_marks}
+use Rattle.regex_lite_engine.proofs.pikevm.MarkLemmas.{slots_set, slots_past}
+use Rattle.regex_lite_engine.proofs.pikevm.OptionLemmas.{not_there}
+use Rattle.regex_lite_engine.proofs.pikevm.WalkLemmas.{one, wide, no_more, offered_by, holds_on}
+
+-- nothing is read of the empty set
+read_none : (at to : ℕ) (o : Option ℕ) (frames : List Frame)
+    → read_on at (in_ranges []) o to frames ≡ frames
+read_none at to None frames = refl
+read_none at to (Some c) frames = refl
+
+module _ (table : List (Place ℕ)) (haystack : Text) (s first from i : ℕ) (pairs : Pairs)
+    (row : Row) (q p at : ℕ) (frames : List Frame) (inside : q < length table) (low : first ≤ p)
+    (is_offset : IsOffset haystack p at)
+    (u : walk.IsWalking table haystack s first from i pairs row (explore q at ∷ frames))
+    (new : was_entered pairs q at ≡ false) (all : pairs.places ≡ length table)
+    (begins : pairs.first ≡ offset haystack first)
+    (short : pair_number pairs.places pairs.first q at < length pairs.entered) where
+  abbrev pairs_now : Pairs
+  pairs_now = record pairs {
+    entered = slice_set pairs.entered (pair_number pairs.places pairs.first q at) true;
+  }
+
+  abbrev Walks : Row → List Frame → Type 0
+  Walks = walk.IsWalking table haystack s first from i pairs_now
+
+  abbrev FramesHold : Row → List Frame → List (Offer Node) → Type 0
+  FramesHold = walk.FramesHold table haystack s i
+
+  abbrev Holds : Row → Node → List ℕ → Type 0
+  Holds = WayHolds table haystack s i
+
+  abbrev listed : List ℕ → ℕ → ℕ → List (Offer Node)
+  listed = offered_by table haystack (place_with table q) p
+
+  -- the row then has what arrow k marks
+  abbrev Marking : ℕ → Row → Type 0
+  Marking k row' =
+      (marks : Marks) → HasSlots haystack row marks
+      → HasSlots haystack row' (over (marked (mark_of (place_with table q) k) p) marks)
+
+  unmarked : (k : ℕ) → mark_of (place_with table q) k ≡ None → Marking k row
+  unmarked k e marks has =
+      subst (λ z. HasSlots haystack row (over (marked z p) marks)) (sym e) has
+
+  not_end : (arrows : List (Arrow ℕ)) → place_with table q ≡ with_arrows arrows
+      → IsTrue (is_end table haystack (q, p)) → ⊥
+  not_end arrows e ends = closed (subst (λ x. IsTrue (is_complete x)) e ends)
+    where
+      closed : IsTrue (is_complete (with_arrows arrows)) → ⊥
+      closed b = cc
+
+  goes_on : (arrows : List (Arrow ℕ)) (row' : Row) (frames' : List Frame)
+      → place_with table q ≡ with_arrows arrows
+      → ((w : List ℕ) (rest : List (Offer Node)) → Holds row (q, p) w → FramesHold row frames rest
+      → FramesHold row' frames' (listed w (length arrows) 0 ++ rest))
+      → Walks row' frames'
+  goes_on arrows row' frames' e hold' =
+      walk_entered table haystack s first from i pairs row q p at frames inside low is_offset u new
+      all begins short row' frames' (not_end arrows e)
+      (λ w rest holds waits. subst (λ c. FramesHold row' frames' (listed w c 0 ++ rest))
+      (sym (ap arrow_count e)) (hold' w rest holds waits))
+
+  -- no arrow fits
+  walk_blocked : (arrows : List (Arrow ℕ)) → place_with table q ≡ with_arrows arrows
+      → ((k : ℕ) → numbered_step table haystack (q, p) k ≡ None) → Walks row frames
+  walk_blocked arrows e blocked =
+      goes_on arrows row frames e
+      (λ w rest holds waits. subst (λ z. FramesHold row frames (z ++ rest))
+      (sym (nothing w (length arrows) 0)) waits)
+    where
+      nothing : (w : List ℕ) (c k : ℕ) → listed w c k ≡ []
+      nothing w zero k = refl
+      nothing w (suc c) k =
+          by_first (step_from haystack (place_with table q) p k) (blocked k) (nothing w c (suc k))
+        where
+          by_first : (o : Option Node) → o ≡ None → listed w c (suc k) ≡ []
+              → one table haystack o (w ++ k ∷ []) ++ listed w c (suc k) ≡ []
+          by_first None e rest = rest
+          by_first (Some z) e rest = absurd (not_there (sym e))
+
+  -- free arrows
+  walk_choice : (to : List ℕ) → place_with table q ≡ with_arrows (map go to)
+      → Walks row (map (λ l. explore l at) to ++ frames)
+  walk_choice to e =
+      goes_on (map go to) row (map (λ l. explore l at) to ++ frames) e
+      (λ w rest holds waits. subst
+      (λ c. FramesHold row (map (λ l. explore l at) to ++ frames) (listed w c 0 ++ rest))
+      (sym (length-map to go)) (each to 0 w rest hops holds waits))
+    where
+      hops : (t l : ℕ) → slice_get to t ≡ Some l
+          → numbered_step table haystack (q, p) (0 + t) ≡ Some (l, p)
+      hops t l got =
+          ap (λ x. step_from haystack x p (0 + t)) e
+          ∙ ap (λ y. arrow_taken haystack p (slice_get (map go to) y)) (omega arith)
+          ∙ ap (arrow_taken haystack p) (got_map to t l got)
+
+      each : (qs : List ℕ) (k : ℕ) (w : List ℕ) (rest : List (Offer Node))
+          → ((t l : ℕ) → slice_get qs t ≡ Some l
+          → numbered_step table haystack (q, p) (k + t) ≡ Some (l, p))
+          → Holds row (q, p) w → FramesHold row frames rest
+          → FramesHold row (map (λ l. explore l at) qs ++ frames)
+          (listed w (length qs) k ++ rest)
+      each [] k w rest hops holds waits = waits
+      each (l ∷ qs) k w rest hops holds waits =
+          subst (λ o. FramesHold row (explore l at ∷ (map (λ l. explore l at) qs ++ frames))
+          ((one table haystack o (w ++ k ∷ []) ++ listed w (length qs) (suc k)) ++ rest))
+          (sym here) (
+            p,
+            w ++ k ∷ [],
+            listed w (length qs) (suc k) ++ rest,
+            is_offset,
+            refl,
+            holds_on table haystack s i row row (q, p) w k (l, p) holds here
+                (unmarked k (ap (λ x. mark_of x k) e ∙ free_marks to k)),
+            each qs (suc k) w rest
+                (λ t o got. subst (λ z. numbered_step table haystack (q, p) z ≡ Some (o, p))
+                (next t) (hops (suc t) o got)) holds waits,
+          )
+        where
+          here : numbered_step table haystack (q, p) k ≡ Some (l, p)
+          here =
+              let same : k + 0 ≡ k = omega arith in
+              subst (λ z. numbered_step table haystack (q, p) z ≡ Some (l, p)) same
+              (hops 0 l refl)
+
+          next : (t : ℕ) → k + suc t ≡ suc k + t
+          next t = omega arith
+
+  -- one arrow
+  walk_single : (arrow : Arrow ℕ) (to j last : ℕ) (row' : Row) (frames' : List Frame)
+      → place_with table q ≡ with_arrows (arrow ∷ [])
+      → numbered_step table haystack (q, p) 0 ≡ Some (to, j) → IsOffset haystack j last
+      → Marking 0 row'
+      → ((rest : List (Offer Node)) → FramesHold row frames rest → FramesHold row' frames' rest)
+      → Walks row' (explore to last ∷ frames')
+  walk_single arrow to j last row' frames' e here is_last marking waits' =
+      goes_on (arrow ∷ []) row' (explore to last ∷ frames') e
+      (λ w rest holds waits. subst
+      (λ o. FramesHold row' (explore to last ∷ frames')
+      ((one table haystack o (w ++ 0 ∷ []) ++ []) ++ rest)) (sym here) (
+        j,
+        w ++ 0 ∷ [],
+        rest,
+        is_last,
+        refl,
+        holds_on table haystack s i row row' (q, p) w 0 (to, j) holds here marking,
+        waits' rest waits,
+      ))
+
+  -- where a character of the set comes next, the walk goes on behind it
+  walk_reads : (set : Set) (to : ℕ) → place_with table q ≡ with_arrows (go_reading set to ∷ [])
+      → Walks row (read_on at set (after haystack p) to frames)
+  walk_reads set to e = by_next (after haystack p) refl
+    where
+      first_step : numbered_step table haystack (q, p) 0
+          ≡ arrived to (behind set p (after haystack p))
+      first_step = ap (λ x. step_from haystack x p 0) e
+
+      blocked : arrived {A = ℕ} to (behind set p (after haystack p)) ≡ None → (k : ℕ)
+          → numbered_step table haystack (q, p) k ≡ None
+      blocked none zero = first_step ∙ none
+      blocked none (suc k) = ap (λ x. step_from haystack x p (suc k)) e
+
+      by_next : (o : Option ℕ) → after haystack p ≡ o → Walks row (read_on at set o to frames)
+      by_next None none =
+          walk_blocked (go_reading set to ∷ []) e
+          (blocked (ap (λ z. arrived to (behind set p z)) none))
+      by_next (Some c) some = by_test (set c) refl
+        where
+          fits : (b : Bool) → set c ≡ b
+              → arrived {A = ℕ} to (behind set p (after haystack p))
+              ≡ arrived to (if b then Some (suc p) else None)
+          fits b d =
+              ap (λ z. arrived to (behind set p z)) some
+              ∙ ap (λ z. arrived to (if z then Some (suc p) else None)) d
+
+          by_test : (b : Bool) → set c ≡ b
+              → Walks row (if b then explore to (at + len_utf8 c) ∷ frames else frames)
+          by_test false d = walk_blocked (go_reading set to ∷ []) e (blocked (fits false d))
+          by_test true d =
+              let within = slice_get_within haystack p c some in
+              let next = offset_next haystack p c some in
+              let here = is_offset.1 in
+              walk_single (go_reading set to) to (suc p) (at + len_utf8 c) row frames e
+              (first_step ∙ fits true d) (omega (arith, within), omega (arith, next, here))
+              (unmarked 0 (ap (λ x. mark_of x 0) e)) (λ rest waits. waits)
+
+  -- the empty set has no arrow
+  walk_class : (ranges : List ClassRange) (to : ℕ) → place_with table q ≡ one_of ranges to
+      → Walks row (read_on at (in_ranges ranges) (after haystack p) to frames)
+  walk_class [] to e =
+      subst (Walks row) (sym (read_none at to (after haystack p) frames))
+      (walk_blocked [] e (λ k. ap (λ x. step_from haystack x p k) e))
+  walk_class (range ∷ ranges) to e = walk_reads (in_ranges (range ∷ ranges)) to e
+
+  walk_look : (b : Bool) (arrow : Arrow ℕ) (to : ℕ) → place_with table q ≡ with_arrows (arrow ∷ [])
+      → numbered_step table haystack (q, p) 0 ≡ arrived to (if b then Some p else None)
+      → mark_of (place_with table q) 0 ≡ None
+      → Walks row (if b then explore to at ∷ frames else frames)
+  walk_look true arrow to e here none =
+      walk_single arrow to p at row frames e here is_offset (unmarked 0 none)
+      (λ rest waits. waits)
+  walk_look false arrow to e here none = walk_blocked (arrow ∷ []) e blocked
+    where
+      blocked : (k : ℕ) → numbered_step table haystack (q, p) k ≡ None
+      blocked zero = here
+      blocked (suc k) =
+          let lone : wide table haystack (q, p) ≡ 1 = ap arrow_count e in
+          no_more table haystack (q, p) (suc k) (omega (arith, lone))
+
+  -- the slot holds the offset until the way is left
+  walk_marks : (slot to : ℕ) → place_with table q ≡ with_arrows (go_marking slot to ∷ [])
+      → Walks (slice_set row slot (Some at))
+      (explore to at ∷ (restore slot (slice_index_or row slot None) ∷ frames))
+  walk_marks slot to e =
+      walk_single (go_marking slot to) to p at (slice_set row slot (Some at))
+      (restore slot (slice_index_or row slot None) ∷ frames) e
+      (ap (λ x. step_from haystack x p 0) e) is_offset
+      (λ marks has. subst (λ z. HasSlots haystack (slice_set row slot (Some at))
+      (over (marked z p) marks)) (sym (ap (λ x. mark_of x 0) e))
+      (subst (λ z. HasSlots haystack (slice_set row slot (Some z))
+      (over (marked (Some slot) p) marks)) (sym is_offset.1)
+      (slots_set haystack row marks slot p has)))
+      (λ rest waits. subst (λ z. FramesHold z frames rest)
+      (sym (set-set row slot (Some at) (slice_index_or row slot None) ∙ set-get_or row slot None))
+      waits)
+
+  -- a slot behind the row is not kept
+  walk_past : (slot to : ℕ) → length row ≤ slot
+      → place_with table q ≡ with_arrows (go_marking slot to ∷ [])
+      → Walks row (explore to at ∷ frames)
+  walk_past slot to past e =
+      walk_single (go_marking slot to) to p at row frames e
+      (ap (λ x. step_from haystack x p 0) e) is_offset
+      (λ marks has. subst (λ z. HasSlots haystack row (over (marked z p) marks))
+      (sym (ap (λ x. mark_of x 0) e)) (slots_past haystack row marks slot p past has))
+      (λ rest waits. waits)
+
+  -- what is true after a place is entered
+  abbrev pub Entered : Row → List Frame → Bool → Type 0
+  Entered row' frames' false = Walks row' frames'
+  Entered row' frames' true = IsNumberedOutcome table haystack s first (Some (i, at, row'))
+
+  settle : (row' row'' : Row) (fs' fs'' : List Frame) (done : Bool) → Walks row' fs'
+      → row'' ≡ row' → fs'' ≡ fs' → done ≡ false → Entered row'' fs'' done
+  settle row' row'' fs' fs'' done w same_row same_frames open_still =
+      subst (Entered row'' fs'') (sym open_still)
+      (subst (λ z. Walks z fs'') (sym same_row) (subst (Walks row') (sym same_frames) w))
+
+  -- the walk goes on from what the place offers, or a match is complete
+  pub walk_enters : (x : code.Place) (row' : Row) (frames' : List Frame) (done : Bool)
+      → place_with table q ≡ place_of x
+      → Enters haystack p at x row frames row' frames' done → Entered row' frames' done
+  walk_enters (stored.Empty to) row' frames' done e (er, ef, ed) =
+      settle row row' (explore to at ∷ frames) frames' done (walk_choice (to ∷ []) e) er ef ed
+  walk_enters (stored.Char c to) row' frames' done e (er, ef, ed) =
+      settle row row' (read_on at (just c) (after haystack p) to frames) frames' done
+      (walk_reads (just c) to e) er ef ed
+  walk_enters (stored.Class to set) row' frames' done e (er, ef, ed) =
+      settle row row' (read_on at (in_ranges set) (after haystack p) to frames) frames' done
+      (walk_class set to e) er ef ed
+  walk_enters (stored.Look test to) row' frames' done e (er, ef, ed) =
+      let b = holds_between test (before haystack p) (after haystack p) in
+      settle row row' (if b then explore to at ∷ frames else frames) frames' done
+      (walk_look b (go_holding test to) to e (ap (λ x. step_from haystack x p 0) e)
+      (ap (λ x. mark_of x 0) e)) er ef ed
+  walk_enters (stored.Slot slot to) row' frames' done e (inl (within, er, ef), ed) =
+      settle (slice_set row slot (Some at)) row'
+      (explore to at ∷ (restore slot (slice_index_or row slot None) ∷ frames)) frames' done
+      (walk_marks slot to e) er ef ed
+  walk_enters (stored.Slot slot to) row' frames' done e (inr (past, er, ef), ed) =
+      settle row row' (explore to at ∷ frames) frames' done (walk_past slot to past e) er ef ed
+  walk_enters (stored.Choice a b) row' frames' done e (er, ef, ed) =
+      settle row row' (explore a at ∷ (explore b at ∷ frames)) frames' done
+      (walk_choice (a ∷ (b ∷ [])) e) er ef ed
+  walk_enters (stored.Branches entries) row' frames' done e (er, ef, ed) =
+      settle row row' (map (λ l. explore l at) entries.items ++ frames) frames' done
+      (walk_choice entries.items e) er ef ed
+  walk_enters stored.Match row' frames' done e (er, ef, ed) =
+      subst (Entered row' frames') (sym ed)
+      (subst (λ z. IsNumberedOutcome table haystack s first (Some (i, at, z))) (sym er)
+      (walk_complete table haystack s first from i pairs row q p at frames inside low is_offset u
+      new (subst (λ x. IsTrue (is_complete x)) (sym e) refl)))

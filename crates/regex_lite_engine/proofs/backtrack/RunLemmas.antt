@@ -1,0 +1,176 @@
+-- What holds of a depth-first search between two starts, from the first to the last.
+use Rattle.std.proofs.Common.{◌≡◌, ℕ, ◌+◌, ◌-◌, ◌*◌, ◌<◌, ◌≤◌, ◌⊎◌, inl, inr, false, List, [], ◌∷◌, length, drop, sum_by, chars, Option, None, Some, refl, ap, subst, ◌∙◌, arith}
+use Rattle.std.specs.Prelude.{IsUtf8, IsCharBoundary, is_some}
+use Rattle.std.proofs.lemmas.List.{length-drop}
+use Rattle.std.proofs.lemmas.Str.{IsUtf8-drop}
+use Rattle.std.proofs.Math.Nat.{mul-le-mul_left, mul-le-mul_right, suc-mul}
+use Rattle.regex_lite_syntax.specs.Text.{Text}
+use Rattle.regex_lite_engine.specs.declared.backtrack.walk.Walk.{Walk}
+use Rattle.regex_lite_engine.specs.declared.pikevm.here.Here.{Here}
+use Rattle.regex_lite_engine.specs.Backtrack.Machine.{explore}
+use Rattle.regex_lite_engine.specs.Backtrack.Room.{HasRoom, left_of}
+use Rattle.regex_lite_engine.specs.Backtrack.Searching.{Explores, IsFresh, IsUnderWay}
+use Rattle.regex_lite_engine.specs.Backtrack.Walking.{IsWalking}
+use Rattle.regex_lite_engine.specs.Graph.Places.{Place, kept_back, kept_back_of}
+use Rattle.regex_lite_engine.specs.Graph.Renumbered.{arrow_count, arrows_of}
+use Rattle.regex_lite_engine.specs.Search.Bounds.{characters_left}
+use Rattle.regex_lite_engine.specs.Search.Offsets.{position_at, IsOffset}
+use Rattle.regex_lite_engine.specs.Walk.Outcomes.{CanCount}
+use Rattle.regex_lite_engine.specs.Walk.Room.{lone}
+use Rattle.regex_lite_engine.specs.Walk.Standing.{IsHere}
+use Rattle.regex_lite_engine.specs.Walk.Turns.{IsDeadAt}
+use Rattle.regex_lite_engine.proofs.OffsetLemmas.{boundary_at}
+use Rattle.regex_lite_engine.proofs.backtrack.LeadsLemmas.{start_left}
+use Rattle.regex_lite_engine.proofs.backtrack.LeftLemmas.{left_blank, left_most, lone_all}
+use Rattle.regex_lite_engine.proofs.backtrack.PairLemmas.{offset_grows}
+use Rattle.regex_lite_engine.proofs.backtrack.WalkLemmas.{walk_begun}
+use Rattle.regex_lite_engine.proofs.pikevm.EndLemmas.{over_at}
+use Rattle.regex_lite_engine.proofs.pikevm.OutcomeLemmas.{few_chars}
+use Rattle.regex_lite_engine.proofs.pikevm.here.OffsetLemmas.{chars_at, position_is}
+
+-- nothing comes next at the end alone
+pub over_here : (text : Text) (q : ℕ) (here : Here) → IsHere text q here
+    → is_some here.after ≡ false → q ≡ length text
+over_here text q here is none = at_end (over_at text q here is (inl (no_char here.after none)))
+  where
+    no_char : (next : Option ℕ) → is_some next ≡ false → next ≡ None
+    no_char None e = refl
+    no_char (Some c) e = cc
+
+    at_end : (q ≡ length text) ⊎ ⊥ → q ≡ length text
+    at_end (inl same) = same
+    at_end (inr never) = absurd never
+
+module _ (table : List (Place ℕ)) (haystack : List ℕ) (utf8 : IsUtf8 haystack) (start : ℕ)
+    (edge : IsCharBoundary haystack start) (s : ℕ) where
+  abbrev first : ℕ
+  first = position_at haystack start
+
+  abbrev left : ℕ
+  left = characters_left (chars haystack) first
+
+  abbrev bytes_left : ℕ
+  bytes_left = length haystack - start
+
+  -- no more characters are left than bytes
+  few_left : left ≤ bytes_left
+  few_left =
+      let few = few_chars (drop start haystack) (IsUtf8-drop haystack start utf8 edge) in
+      let same : length (chars (drop start haystack)) ≡ left
+      = ap length (chars_at haystack first start utf8 (position_is haystack start utf8 edge))
+      ∙ length-drop first (chars haystack) in
+      let size = length-drop start haystack in
+      omega (arith, few, same, size)
+
+  -- where all is left
+  all_left : (walk : Walk) → IsFresh table haystack start walk → (f : Place ℕ → ℕ)
+      → left_of table haystack f walk.visited ≡ sum_by f table * (left + 1)
+  all_left walk fresh f =
+      left_blank table haystack f walk.visited (length table * (bytes_left + 1)) fresh.none
+      ∙ ap (λ z. sum_by f table * (characters_left (chars haystack) (position_at haystack z) + 1)) fresh.first
+
+  kept_fits : kept_back_of table * (left + 1) ≤ kept_back_of table * (bytes_left + 1)
+  kept_fits = let few = few_left in mul-le-mul_left (kept_back_of table) (omega (arith, few))
+
+  -- a search that has not begun
+  pub begun : (walk : Walk) → CanCount table left → IsFresh table haystack start walk
+      → IsUnderWay table haystack start s first walk
+  begun walk counts fresh =
+      let inside = (position_is haystack start utf8 edge).0 in
+      let tried = fresh.tried in
+      let entered = fresh.entered in
+      let looked = fresh.looked in
+      let arrows : left_of table haystack arrow_count walk.visited ≡ arrows_of table * (left + 1)
+      = all_left walk fresh arrow_count in
+      let kept : left_of table haystack kept_back walk.visited ≡ kept_back_of table * (left + 1)
+      = all_left walk fresh kept_back in
+      let each : left_of table haystack lone walk.visited ≡ length table * (left + 1)
+      = all_left walk fresh lone ∙ ap (λ z. z * (left + 1)) (lone_all table) in
+      let one_more = suc-mul (arrows_of table) (left + 1) in
+      let few_tries = counts.tries in
+      let few_entries = counts.entries in
+      let few_kept = fresh.few_kept_back in
+      let most : kept_back_of table * (bytes_left + 1) ≤ length table * (bytes_left + 1)
+      = mul-le-mul_right (bytes_left + 1) (omega (arith, few_kept)) in
+      let room = fresh.room in
+      let fits = kept_fits in
+      record {
+        low = omega arith;
+        first = fresh.first;
+        fit = record {
+          all = fresh.all;
+          below = tt;
+          stack_room = omega (arith, kept, fits, most, room);
+          few_tries = omega (arith, tried, arrows, one_more, few_tries);
+          few_entries = omega (arith, entered, each, few_entries);
+          entered_tried = omega (arith, entered);
+          looked_entered = omega (arith, looked);
+        };
+        room = omega (arith, most, room);
+        empty = fresh.frames;
+        walking = walk_begun table (chars haystack) s first (length table * (bytes_left + 1)) 0 walk.visited
+            walk.stack.row fresh.none fresh.blank;
+        tries = omega (arith, tried, arrows, one_more, inside);
+        entries = omega (arith, entered, each);
+      }
+
+  -- from position p it comes to position q
+  module _ (p : ℕ) (walk : Walk) (on : IsUnderWay table haystack start s p walk) (q at : ℕ)
+      (later : p ≤ q) (is : IsOffset (chars haystack) q at) where
+    low : first ≤ q
+    low = let from = on.low in omega (arith, from, later)
+
+    -- there is room for the start there
+    pub start_fits : CanCount table left → s < length table
+        → HasRoom table haystack walk (explore s at ∷ [])
+    start_fits counts lt =
+        let start_is = (position_is haystack start utf8 edge).1 in
+        let grows = offset_grows (chars haystack) first q low is.0 in
+        let there = is.1 in
+        let begins = on.first in
+        let inside = is.0 in
+        let most : left_of table haystack kept_back walk.visited ≤ kept_back_of table * (left + 1)
+        = subst (λ z. left_of table haystack kept_back walk.visited
+        ≤ kept_back_of table * (characters_left (chars haystack) (position_at haystack z) + 1))
+        on.first (left_most table haystack kept_back walk.visited) in
+        let fits = kept_fits in
+        let room = on.room in
+        let tries = on.tries in
+        let few = counts.tries in
+        record {
+          all = on.fit.all;
+          below = (lt, omega (arith, begins, start_is, grows, there), boundary_at haystack q at utf8 is, tt);
+          stack_room = omega (arith, most, fits, room);
+          few_tries = omega (arith, tries, few, inside, later);
+          few_entries = on.fit.few_entries;
+          entered_tried = on.fit.entered_tried;
+          looked_entered = on.fit.looked_entered;
+        }
+
+    -- the next start comes, where no way from it leads to a match
+    pub went_on : (walk' : Walk)
+        → ((k : ℕ) → p ≤ k → k < q → IsDeadAt table (chars haystack) s k)
+        → Explores table haystack s at walk walk' None
+        → IsUnderWay table haystack start s (q + 1) walk'
+    went_on walk' dead explores =
+        let from = low in
+        let inside = is.0 in
+        let room = on.room in
+        let tries = on.tries in
+        let spent = explores.spent in
+        let entries = on.entries in
+        let spent_entries = explores.spent_entries in
+        let same_room = explores.kept.room in
+        record {
+          low = omega (arith, from);
+          first = explores.kept.first ∙ on.first;
+          fit = explores.fit refl;
+          room = omega (arith, room, same_room);
+          empty = explores.empty refl;
+          walking = subst (λ z. IsWalking table (chars haystack) s first z 0 walk'.visited walk'.stack.row [])
+              (omega arith)
+              (start_left haystack utf8 table s start p q at walk.visited walk'.visited walk.stack.row
+              walk'.stack.row on.first later low is dead on.walking 0 explores.walks);
+          tries = omega (arith, tries, spent, later, inside);
+          entries = omega (arith, entries, spent_entries);
+        }

@@ -1,0 +1,283 @@
+-- The steps of a depth-first walk over pairs of a place and an offset.
+use Rattle.std.proofs.Common.{◌≡◌, ℕ, suc, ◌<◌, ◌≤◌, ◌⊎◌, inl, inr, true, false, IsTrue, List, [], ◌∷◌, ◌++◌, length, replicate, slice_set, slice_index_or, Option, Some, None, refl, sym, ap, subst, ◌∙◌, arith}
+use Rattle.std.proofs.lemmas.Bool.{cases_eq}
+use Rattle.std.proofs.lemmas.List.{get_or-set_same, get_or-set_other}
+use Rattle.regex_lite_syntax.specs.Text.{Text}
+use Rattle.regex_lite_syntax.specs.Tree.Matches.{IsPosition}
+use Rattle.regex_lite_engine.specs.Backtrack.DepthFirst as order
+use Rattle.regex_lite_engine.specs.Backtrack.Machine.{Frame, explore, restore, Pairs, pair_number, was_entered}
+use Rattle.regex_lite_engine.specs.Backtrack.Searching.{Unwinds, taken_up}
+use Rattle.regex_lite_engine.specs.Backtrack.Walking as walk
+use Rattle.regex_lite_engine.specs.Graph.Places.{Place}
+use Rattle.regex_lite_engine.specs.Search.Offsets.{offset, IsOffset}
+use Rattle.regex_lite_engine.specs.Walk.InStep.{Offer}
+use Rattle.regex_lite_engine.specs.Walk.Machine.{Row}
+use Rattle.regex_lite_engine.specs.Walk.NumberedAnswer.{place_with, numbered_step, is_end}
+use Rattle.regex_lite_engine.specs.Walk.Outcomes.{IsNumberedOutcome}
+use Rattle.regex_lite_engine.specs.Walk.Turns.{IsBlank, IsDeadAt}
+use Rattle.regex_lite_engine.specs.Walk.Walking.{Node, WayHolds}
+use Rattle.regex_lite_engine.proofs.backtrack.DepthFirstLemmas.{depth_first_begun, depth_first_passed, depth_first_started}
+use Rattle.regex_lite_engine.proofs.backtrack.NumberedLemmas.{numbered_over, numbered_entered, numbered_complete}
+use Rattle.regex_lite_engine.proofs.backtrack.PairLemmas.{same_pair, offset_grows, none_entered, not_both}
+use Rattle.regex_lite_engine.proofs.pikevm.OptionLemmas.{not_there}
+use Rattle.regex_lite_engine.proofs.pikevm.RecordLemmas as records
+use Rattle.regex_lite_engine.proofs.pikevm.WalkLemmas.{same_node, none_or, wide, offered_by}
+use Rattle.regex_lite_engine.proofs.pikevm.here.OffsetLemmas.{same_position}
+
+module _ (table : List (Place ℕ)) (haystack : Text) (s first : ℕ) where
+  abbrev pub IsWalking : (from i : ℕ) → Pairs → Row → List Frame → Type 0
+  IsWalking = walk.IsWalking table haystack s first
+
+  abbrev FramesHold : (i : ℕ) → Row → List Frame → List (Offer Node) → Type 0
+  FramesHold = walk.FramesHold table haystack s
+
+  abbrev IsDepthFirst : ℕ → (Node → Option (List ℕ)) → List (Offer Node) → Type 0
+  IsDepthFirst =
+      order.IsDepthFirst Node (numbered_step table haystack) (λ j. (s, j)) (is_end table haystack)
+      first (length haystack)
+
+  -- nothing is entered yet
+  pub walk_begun : (n i : ℕ) (pairs : Pairs) (row : Row) → pairs.entered ≡ replicate n false
+      → IsBlank row → IsWalking first i pairs row []
+  walk_begun n i pairs row none blank = record {
+    recorded = λ m. None;
+    offers = [];
+    depth_first = depth_first_begun Node (numbered_step table haystack) (λ j. (s, j))
+        (is_end table haystack) first (length haystack) (λ m. None) (λ m. refl);
+    seen = λ q p way r. absurd (not_there r);
+    met = λ q p inside low within was.
+        absurd (not_both (was_entered pairs q (offset haystack p))
+        (none_entered pairs n none q (offset haystack p)) was);
+    frames_hold = (refl, blank);
+  }
+
+  -- the start that was followed does not matter once nothing is left
+  pub walk_between : (from i j : ℕ) (pairs : Pairs) (row : Row) → IsWalking from i pairs row []
+      → IsWalking from j pairs row []
+  walk_between from i j pairs row u = record {
+    recorded = u.recorded;
+    offers = u.offers;
+    depth_first = u.depth_first;
+    seen = u.seen;
+    met = u.met;
+    frames_hold = u.frames_hold;
+  }
+
+  -- the start at a position is offered
+  pub walk_started : (from j p at : ℕ) (pairs : Pairs) (row : Row) → from ≤ p → first ≤ p
+      → IsOffset haystack p at → ((k : ℕ) → from ≤ k → k < p → IsDeadAt table haystack s k)
+      → IsWalking from j pairs row [] → IsWalking (suc p) at pairs row (explore s at ∷ [])
+  walk_started from j p at pairs row later low (within, is_at) dead u = record {
+    recorded = u.recorded;
+    offers = ((s, p), p ∷ []) ∷ [];
+    depth_first = depth_first_started Node (numbered_step table haystack) (λ k. (s, k))
+        (is_end table haystack) first (length haystack) from p u.recorded later low within dead
+        (subst (IsDepthFirst from u.recorded) u.frames_hold.0 u.depth_first);
+    seen = u.seen;
+    met = u.met;
+    frames_hold = (
+      p,
+      p ∷ [],
+      [],
+      (within, is_at),
+      refl,
+      (p, [], is_at, refl, refl, u.frames_hold.1),
+      (refl, u.frames_hold.1),
+    );
+  }
+
+  -- no match has its start at or after the first position
+  pub walk_over : (from j : ℕ) (pairs : Pairs) (row : Row)
+      → ((k : ℕ) → from ≤ k → k ≤ length haystack → IsDeadAt table haystack s k)
+      → IsWalking from j pairs row [] → IsNumberedOutcome table haystack s first None
+  walk_over from j pairs row dead u =
+      numbered_over table haystack s first from u.recorded dead
+      (subst (IsDepthFirst from u.recorded) u.frames_hold.0 u.depth_first)
+
+  frames_unwound : (i : ℕ) (row : Row) (frames : List Frame) (offers : List (Offer Node))
+      (next : Option (ℕ × ℕ)) (row' : Row) (frames' : List Frame)
+      → Unwinds row frames next row' frames' → FramesHold i row frames offers
+      → FramesHold i row' (taken_up next frames') offers
+  frames_unwound i row [] offers next row' frames' (none, same, empty) holds =
+      subst (λ z. FramesHold i row' (taken_up z frames') offers) (sym none)
+      (subst (λ z. FramesHold i z frames' offers) (sym same)
+      (subst (λ z. FramesHold i row z offers) (sym empty) holds))
+  frames_unwound i row (explore q at ∷ frames) offers next row' frames' (some, same, rest) holds =
+      subst (λ z. FramesHold i row' (taken_up z frames') offers) (sym some)
+      (subst (λ z. FramesHold i z (explore q at ∷ frames') offers) (sym same)
+      (subst (λ z. FramesHold i row (explore q at ∷ z) offers) (sym rest) holds))
+  frames_unwound i row (restore slot old ∷ frames) offers next row' frames' back holds =
+      frames_unwound i (slice_set row slot old) frames offers next row' frames' back holds
+
+  -- slots hold again what they held
+  pub walk_unwinds : (from i : ℕ) (pairs : Pairs) (row : Row) (frames : List Frame)
+      (next : Option (ℕ × ℕ)) (row' : Row) (frames' : List Frame)
+      → Unwinds row frames next row' frames' → IsWalking from i pairs row frames
+      → IsWalking from i pairs row' (taken_up next frames')
+  walk_unwinds from i pairs row frames next row' frames' back u = record {
+    recorded = u.recorded;
+    offers = u.offers;
+    depth_first = u.depth_first;
+    seen = u.seen;
+    met = u.met;
+    frames_hold = frames_unwound i row frames u.offers next row' frames' back u.frames_hold;
+  }
+
+  module _ (from i : ℕ) (pairs : Pairs) (row : Row) (q p at : ℕ) (frames : List Frame)
+      (inside : q < length table) (low : first ≤ p) (is_offset : IsOffset haystack p at)
+      (u : IsWalking from i pairs row (explore q at ∷ frames)) where
+    -- what is offered first
+    abbrev Top : ℕ → Type 0
+    Top j =
+        (w : List ℕ) × (rest : List (Offer Node)) × IsDepthFirst from u.recorded (((q, j), w) ∷ rest)
+        × WayHolds table haystack s i row (q, j) w × FramesHold i row frames rest
+
+    top : Top p
+    top = at_offset u.frames_hold
+      where
+        at_offset : FramesHold i row (explore q at ∷ frames) u.offers → Top p
+        at_offset (j, w, rest, (within, is_at), e, holds, waits) =
+            subst Top (same_position haystack j p within is_offset.0 (sym is_at ∙ is_offset.1))
+            (w, rest, subst (IsDepthFirst from u.recorded) e u.depth_first, holds, waits)
+
+    -- what was entered before is passed over
+    pub walk_passed : was_entered pairs q at ≡ true → IsWalking from i pairs row frames
+    walk_passed was =
+        pass top (u.met q p inside low is_offset.0
+        (ap (was_entered pairs q) (sym is_offset.1) ∙ was))
+      where
+        pass : Top p → (v : List ℕ) × (u.recorded (q, p) ≡ Some v)
+            → IsWalking from i pairs row frames
+        pass (w, rest, offered, holds, waits) (v, r) = record {
+          recorded = u.recorded;
+          offers = rest;
+          depth_first = depth_first_passed Node (numbered_step table haystack) (λ k. (s, k))
+              (is_end table haystack) first (length haystack) from u.recorded (q, p) w v rest r
+              offered;
+          seen = u.seen;
+          met = u.met;
+          frames_hold = waits;
+        }
+
+    module _ (new : was_entered pairs q at ≡ false) where
+      fresh : u.recorded (q, p) ≡ None
+      fresh = none_or (u.recorded (q, p)) (λ v e. not_both (was_entered pairs q at) new
+          (ap (was_entered pairs q) is_offset.1 ∙ u.seen q p v e))
+
+      -- a match is complete there
+      pub walk_complete : IsTrue (is_end table haystack (q, p))
+          → IsNumberedOutcome table haystack s first (Some (i, at, row))
+      walk_complete ends = complete top
+        where
+          complete : Top p → IsNumberedOutcome table haystack s first (Some (i, at, row))
+          complete (w, rest, offered, holds, waits) =
+              subst (λ z. IsNumberedOutcome table haystack s first (Some (i, z, row)))
+              (sym is_offset.1)
+              (numbered_complete table haystack s first from u.recorded q p w fresh rest offered i
+              row ends holds)
+
+      -- what the search keeps of an entered place
+      module _ (all : pairs.places ≡ length table) (begins : pairs.first ≡ offset haystack first)
+          (short : pair_number pairs.places pairs.first q at < length pairs.entered) where
+        abbrev number : ℕ → ℕ → ℕ
+        number r to = pair_number pairs.places pairs.first r to
+
+        abbrev pub pairs_now : Pairs
+        pairs_now = record pairs {
+          entered = slice_set pairs.entered (pair_number pairs.places pairs.first q at) true;
+        }
+
+        abbrev recorded_now : List ℕ → Node → Option (List ℕ)
+        recorded_now w = records.extended Node same_node u.recorded (q, p) w
+
+        entered_here : (r to : ℕ) → number r to ≡ number q at → was_entered pairs_now r to ≡ true
+        entered_here r to e =
+            ap (λ z. slice_index_or pairs_now.entered z false) e
+            ∙ get_or-set_same pairs.entered (number q at) true false short
+
+        entered_other : (r to : ℕ) → (number r to ≡ number q at → ⊥)
+            → was_entered pairs_now r to ≡ was_entered pairs r to
+        entered_other r to apart =
+            get_or-set_other pairs.entered (number q at) (number r to) true false apart
+
+        -- what was entered stays so
+        entered_still : (r to : ℕ) → was_entered pairs r to ≡ true
+            → was_entered pairs_now r to ≡ true
+        entered_still r to was = by_number (cases_eq (number r to) (number q at))
+          where
+            by_number : (number r to ≡ number q at) ⊎ (number r to ≡ number q at → ⊥)
+                → was_entered pairs_now r to ≡ true
+            by_number (inl e) = entered_here r to e
+            by_number (inr apart) = entered_other r to apart ∙ was
+
+        seen_now : (w : List ℕ) (r j : ℕ) (v : List ℕ) → recorded_now w (r, j) ≡ Some v
+            → was_entered pairs_now r (offset haystack j) ≡ true
+        seen_now w r j v e = by_record (records.back Node same_node u.recorded (q, p) w (r, j) v e)
+          where
+            by_record : ((◌≡◌ {A = Node} (r, j) (q, p)) × (v ≡ w)) ⊎ (u.recorded (r, j) ≡ Some v)
+                → was_entered pairs_now r (offset haystack j) ≡ true
+            by_record (inr old) = entered_still r (offset haystack j) (u.seen r j v old)
+            by_record (inl (same, last)) =
+                entered_here r (offset haystack j)
+                (ap (λ (z : Node). number z.0 (offset haystack z.1)) same
+                ∙ ap (number q) (sym is_offset.1))
+
+        met_now : (w : List ℕ) (r j : ℕ) → r < length table → first ≤ j → IsPosition haystack j
+            → was_entered pairs_now r (offset haystack j) ≡ true
+            → (v : List ℕ) × (recorded_now w (r, j) ≡ Some v)
+        met_now w r j r_inside j_low within was =
+            by_number (cases_eq (number r (offset haystack j)) (number q at))
+          where
+            low_offset : (k : ℕ) → first ≤ k → IsPosition haystack k
+                → pairs.first ≤ offset haystack k
+            low_offset k k_low k_within =
+                let grows = offset_grows haystack first k k_low k_within in
+                omega (arith, grows, begins)
+
+            same : number r (offset haystack j) ≡ number q at → ◌≡◌ {A = Node} (r, j) (q, p)
+            same e =
+                let places_first : pairs.first ≤ at = subst (λ z. pairs.first ≤ z) (sym is_offset.1)
+                (low_offset p low is_offset.0) in
+                let pair = same_pair pairs.places pairs.first r (offset haystack j) q at
+                (omega (arith, r_inside, all)) (omega (arith, inside, all))
+                (low_offset j j_low within) places_first e in
+                let place : r ≡ q = pair.0 in
+                let position : j ≡ p = same_position haystack j p within is_offset.0
+                (pair.1 ∙ is_offset.1) in
+                cc
+
+            by_number : (number r (offset haystack j) ≡ number q at)
+                ⊎ (number r (offset haystack j) ≡ number q at → ⊥)
+                → (v : List ℕ) × (recorded_now w (r, j) ≡ Some v)
+            by_number (inl e) = (
+              w,
+              ap (recorded_now w) (same e)
+                  ∙ records.extended_here Node same_node u.recorded (q, p) w,
+            )
+            by_number (inr apart) =
+                let old = u.met r j r_inside j_low within
+                (sym (entered_other r (offset haystack j) apart) ∙ was) in
+                (old.0, records.kept Node same_node u.recorded (q, p) w fresh (r, j) old.0 old.1)
+
+        -- what the place offers comes first of what is left
+        pub walk_entered : (row' : Row) (frames' : List Frame)
+            → (IsTrue (is_end table haystack (q, p)) → ⊥)
+            → ((w : List ℕ) (rest : List (Offer Node)) → WayHolds table haystack s i row (q, p) w
+            → FramesHold i row frames rest
+            → FramesHold i row' frames'
+            (offered_by table haystack (place_with table q) p w (wide table haystack (q, p)) 0
+            ++ rest))
+            → IsWalking from i pairs_now row' frames'
+        walk_entered row' frames' no_match hold' = enter top
+          where
+            enter : Top p → IsWalking from i pairs_now row' frames'
+            enter (w, rest, offered, holds, waits) = record {
+              recorded = recorded_now w;
+              offers = offered_by table haystack (place_with table q) p w
+                  (wide table haystack (q, p)) 0 ++ rest;
+              depth_first = numbered_entered table haystack s first from u.recorded q p w fresh rest
+                  offered no_match;
+              seen = seen_now w;
+              met = met_now w;
+              frames_hold = hold' w rest holds waits;
+            }

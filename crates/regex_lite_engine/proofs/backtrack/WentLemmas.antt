@@ -1,0 +1,152 @@
+-- A frame was taken off: the memory still suffices, and the counts stay within what is left.
+use Rattle.std.proofs.Common.{◌≡◌, ℕ, ◌+◌, ◌≤◌, Bool, true, false, List, ◌∷◌, length, set, slice_get, slice_set, Some, refl, sym, ap, ◌∙◌, arith, length-set}
+use Rattle.std.specs.Prelude.{IsUtf8, chars}
+use Rattle.std.proofs.lemmas.List.{set-get_or}
+use Rattle.regex_lite_engine.specs.declared.backtrack.walk.Walk.{Walk}
+use Rattle.regex_lite_engine.specs.declared.nfa.place.Place as code
+use Rattle.regex_lite_engine.specs.Backtrack.Entering.{Enters}
+use Rattle.regex_lite_engine.specs.Backtrack.Machine.{Frame, explore, Pairs, Held, pair_number, was_entered}
+use Rattle.regex_lite_engine.specs.Backtrack.Room.{Goes, HasRoom, WalksTo, left_of}
+use Rattle.regex_lite_engine.specs.Graph.Places.{Place, kept_back}
+use Rattle.regex_lite_engine.specs.Graph.Renumbered.{arrow_count}
+use Rattle.regex_lite_engine.specs.Graph.Stored.{LeadsBelow, place_of}
+use Rattle.regex_lite_engine.specs.Search.Bounds.{StepCounts}
+use Rattle.regex_lite_engine.specs.Search.Offsets.{position_at}
+use Rattle.regex_lite_engine.specs.Walk.Room.{lone, weight}
+use Rattle.regex_lite_engine.proofs.backtrack.LeftLemmas.{left_enter, left_room}
+use Rattle.regex_lite_engine.proofs.backtrack.RoomLemmas.{enters_few, enters_within}
+
+-- with the pair entered
+abbrev pub entered_at : Pairs → (q at : ℕ) → Pairs
+entered_at pairs q at = record pairs {
+  entered = slice_set pairs.entered (pair_number pairs.places pairs.first q at) true;
+}
+
+-- an old pair stays as it is
+pub entered_again : (pairs : Pairs) (q at : ℕ) → was_entered pairs q at ≡ true
+    → entered_at pairs q at ≡ pairs
+entered_again pairs q at was =
+    let pair = pair_number pairs.places pairs.first q at in
+    ap (λ cells. record pairs { entered = cells })
+    (ap (set pairs.entered pair) (sym was) ∙ set-get_or pairs.entered pair false)
+
+module _ (table : List (Place ℕ)) (haystack : List ℕ) (walk : Walk) (q at : ℕ) (frames : List Frame)
+    (fit : HasRoom table haystack walk (explore q at ∷ frames)) where
+  -- the pair was entered before
+  pub goes_passed : WalksTo table haystack walk.visited walk.stack.row (explore q at ∷ frames) walk.visited
+      walk.stack.row frames at false
+      → Goes table haystack walk (explore q at ∷ frames)
+      (record { visited = walk.visited; stack = walk.stack; steps = record walk.steps { tried = walk.steps.tried + 1 } })
+      frames at false
+  goes_passed walks =
+      let room = fit.stack_room in
+      let few = fit.few_tries in
+      let entered = fit.entered_tried in
+      record {
+        fit = λ e. record {
+          all = fit.all;
+          below = fit.below.3;
+          stack_room = omega (arith, room);
+          few_tries = omega (arith, few);
+          few_entries = fit.few_entries;
+          entered_tried = omega (arith, entered);
+          looked_entered = fit.looked_entered;
+        };
+        walks = walks;
+        less = λ e. omega arith;
+        kept = record { places = refl; first = refl; row = refl; room = refl };
+        spent = omega arith;
+        spent_entries = omega arith;
+        entered_tried = omega (arith, entered);
+        looked_entered = fit.looked_entered;
+      }
+
+  module _ (utf8 : IsUtf8 haystack) (new : was_entered walk.visited q at ≡ false) (x : code.Place)
+      (got : slice_get table q ≡ Some (place_of x)) where
+    -- what is left after it, by what it counts
+    less_left : (f : Place ℕ → ℕ)
+        → left_of table haystack f (entered_at walk.visited q at) + f (place_of x) ≡ left_of table haystack f walk.visited
+    less_left f =
+        left_enter table haystack utf8 walk.visited fit.all f q (place_of x) got at fit.below.2 fit.below.1 new
+
+    -- there is room for what entering the place keeps back
+    pub enter_room : length frames + kept_back (place_of x) ≤ walk.stack.room
+    enter_room =
+        let left = left_room table haystack utf8 walk.visited fit.all kept_back q (place_of x) got at fit.below.2 fit.below.1 new in
+        let room = fit.stack_room in
+        omega (arith, left, room)
+
+    -- the pair is new
+    pub goes_entered : (held' : Held) (frames' : List Frame) (done : Bool)
+        → LeadsBelow (length table) (place_of x)
+        → Enters (chars haystack) (position_at haystack at) at x walk.stack.row frames held'.row frames' done
+        → held'.room ≡ walk.stack.room
+        → WalksTo table haystack walk.visited walk.stack.row (explore q at ∷ frames)
+        (entered_at walk.visited q at) held'.row frames' at done
+        → Goes table haystack walk (explore q at ∷ frames)
+        (record {
+          visited = entered_at walk.visited q at;
+          stack = held';
+          steps = record {
+            tried = walk.steps.tried + 1;
+            entered = walk.steps.entered + 1;
+            looked = walk.steps.looked + 1;
+          };
+        })
+        frames' at done
+    goes_entered held' frames' done inside enters same walks =
+        let few = enters_few (chars haystack) (position_at haystack at) at walk.stack.row held'.row frames frames' done x enters in
+        let within = enters_within table haystack utf8 walk.visited.first at fit.below.1 fit.below.2 walk.stack.row
+        held'.row frames frames' done fit.below.3 x inside enters in
+        let arrows = few.0 in
+        let longer = few.1 in
+        let keeps = few.2 in
+        let arrows_left = less_left arrow_count in
+        let kept_left = less_left kept_back in
+        let lone_left : left_of table haystack lone (entered_at walk.visited q at) + 1 ≡ left_of table haystack lone walk.visited
+        = less_left lone in
+        let work_left : left_of table haystack weight (entered_at walk.visited q at) + (arrow_count (place_of x) + 1)
+        ≡ left_of table haystack weight walk.visited
+        = less_left weight in
+        let stack_room = fit.stack_room in
+        let few_tries = fit.few_tries in
+        let few_entries = fit.few_entries in
+        let entered_tried = fit.entered_tried in
+        let looked_entered = fit.looked_entered in
+        let pair = pair_number walk.visited.places walk.visited.first q at in
+        record {
+          fit = λ e. record {
+            all = record {
+              places = fit.all.places;
+              boundary = fit.all.boundary;
+              all = length-set walk.visited.entered pair true ∙ fit.all.all;
+            };
+            below = within;
+            stack_room = omega (arith, kept_left, stack_room, keeps, same);
+            few_tries = omega (arith, arrows_left, arrows, few_tries);
+            few_entries = omega (arith, lone_left, few_entries);
+            entered_tried = omega (arith, entered_tried);
+            looked_entered = omega (arith, looked_entered);
+          };
+          walks = walks;
+          less = λ e. omega (arith, work_left, longer);
+          kept = record { places = refl; first = refl; row = few.3; room = same };
+          spent = omega (arith, arrows_left, arrows);
+          spent_entries = omega (arith, lone_left);
+          entered_tried = omega (arith, entered_tried);
+          looked_entered = omega (arith, looked_entered);
+        }
+
+-- a walk by its parts
+pub same_walk : (pairs pairs' : Pairs) (held : Held) (steps steps' : StepCounts) → pairs ≡ pairs'
+    → steps ≡ steps'
+    → ◌≡◌ {A = Walk} (record { visited = pairs; stack = held; steps = steps })
+    (record { visited = pairs'; stack = held; steps = steps' })
+same_walk pairs pairs' held steps steps' of_pairs of_steps =
+    ap (λ (z : Pairs). record { visited = z; stack = held; steps = steps }) of_pairs
+    ∙ ap (λ (z : StepCounts). record { visited = pairs'; stack = held; steps = z }) of_steps
+
+-- a pair that is not new was entered
+pub was_old : (was fresh : Bool) → fresh ≡ false → (was ≡ false → fresh ≡ true) → was ≡ true
+was_old true fresh e told = refl
+was_old false fresh e told = let t : fresh ≡ true = told refl in cc

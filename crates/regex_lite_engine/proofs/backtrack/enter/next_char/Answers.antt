@@ -1,0 +1,18 @@
+use Rattle.std.proofs.Common.{◌+◌, ap, sym, ◌∙◌}
+use Rattle.regex_lite_engine.specs.Search.Offsets.{position_at}
+use Rattle.regex_lite_engine.proofs.pikevm.here.OffsetLemmas.{after_at, position_is}
+use Rattle.regex_lite_engine.proofs.backtrack.enter.next_char.Goals as goal
+
+pub returns-in-None : goal.returns-in-None
+returns-in-None c =
+    let a = c.args in let h = a.haystack.now in
+    sym (after_at h (position_at h a.at) a.at c.utf8.haystack (position_is h a.at c.utf8.haystack c.requires))
+    ∙ sym c.first_char.ensures ∙ c.in-None.is
+
+pub returns-in-Some : goal.returns-in-Some
+returns-in-Some c =
+    let a = c.args in let h = a.haystack.now in (
+      sym (after_at h (position_at h a.at) a.at c.utf8.haystack (position_is h a.at c.utf8.haystack c.requires))
+          ∙ sym c.first_char.ensures ∙ c.in-Some.is,
+      ap (λ z. a.at + z) c.len_utf8.ensures.value,
+    )

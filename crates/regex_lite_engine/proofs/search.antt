@@ -1,0 +1,2 @@
+pub mod FewPairsLemmas
+pub mod CharacterLemmas

@@ -1,0 +1,8 @@
+-- What a search that goes depth first promises.
+pub mod Bits
+pub mod DepthFirst
+pub mod Machine
+pub mod Entering
+pub mod Walking
+pub mod Room
+pub mod Searching

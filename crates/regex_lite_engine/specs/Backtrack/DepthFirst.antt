@@ -1,0 +1,35 @@
+-- A depth-first walk over a graph: what it has recorded, and the ways that it has still to follow.
+-- A start tells its position in front of each way from it, and the starts are offered in order, one
+-- when nothing is left of those before it.
+use Rattle.std.specs.Prelude.{◌≡◌, ◌<◌, ◌≤◌, ◌⊎◌, ℕ, Bool, IsTrue, List, [], ◌∷◌, ◌++◌, Option, Some, None}
+use Rattle.regex_lite_engine.specs.Walk.Explored.{NotAfter, StartsAt, IsAnswered, IsGrown, IsDead}
+use Rattle.regex_lite_engine.specs.Walk.InStep.{Offer, In, Ordered, StartsBelow}
+
+module _ (N : Type 0) (step : N → ℕ → Option N) (start : ℕ → N) (is_end : N → Bool)
+    (first last : ℕ) where
+  -- No match is complete yet. What is offered are the ways of `offers`, the next first. The starts
+  -- below `from` were offered, or lead to no end
+  pub record IsDepthFirst (from : ℕ) (recorded : N → Option (List ℕ)) (offers : List (Offer N))
+      : Type 0 where
+    -- each way is a start alone, or a recorded way and one arrow
+    pub grown : (n : N) (w : List ℕ) → recorded n ≡ Some w
+        → IsGrown N step is_end (StartsAt start first last) recorded None n w
+    pub offers_grown : (n : N) (w : List ℕ) → In N n w offers
+        → IsGrown N step is_end (StartsAt start first last) recorded None n w
+    -- nothing is forgotten
+    pub starts : (i : ℕ) → first ≤ i → i ≤ last → i < from
+        → (IsAnswered N step is_end (StartsAt start first last) recorded None (start i) (i ∷ [])
+        ⊎ In N (start i) (i ∷ []) offers)
+        ⊎ IsDead N step is_end (start i)
+    pub arrows : (n : N) (w : List ℕ) (k : ℕ) (m : N) → recorded n ≡ Some w → step n k ≡ Some m
+        → IsAnswered N step is_end (StartsAt start first last) recorded None m (w ++ k ∷ [])
+        ⊎ In N m (w ++ k ∷ []) offers
+    -- the walk stops at the first end
+    pub no_end : (n : N) (w : List ℕ) → IsTrue (is_end n) → recorded n ≡ Some w → ⊥
+    -- ways are followed in the order of preference
+    pub ordered : Ordered N offers
+    pub ahead : (n : N) (w : List ℕ) (m : N) (v : List ℕ) → In N n w offers → recorded m ≡ Some v
+        → NotAfter v w
+    -- where ways start
+    pub offers_below : (n : N) (w : List ℕ) → In N n w offers → StartsBelow from w
+    pub recorded_below : (m : N) (v : List ℕ) → recorded m ≡ Some v → StartsBelow from v

@@ -1,0 +1,53 @@
+-- What a search that goes depth first keeps.
+use Rattle.std.specs.Prelude.{◌+◌, ◌-◌, ◌*◌, ℕ, Bool, true, false, List, ◌∷◌, Option, Some, None, slice_index_or}
+use Rattle.regex_lite_engine.specs.declared.backtrack.frame.Frame as code
+use Rattle.regex_lite_engine.specs.declared.backtrack.frame.Frame.TheVariants as stored
+use Rattle.regex_lite_engine.specs.declared.backtrack.enter.Next.{Next}
+use Rattle.regex_lite_engine.specs.declared.backtrack.enter.Next.TheVariants.{Match, On, Back}
+use Rattle.regex_lite_engine.specs.Walk.Machine.{Row}
+
+-- What is left to do: to explore a place at an offset, or to let a slot hold again what it held
+pub data Frame : Type 0 where
+  explore : (place at : ℕ) → Frame
+  restore : (slot : ℕ) → (old : Option ℕ) → Frame
+
+abbrev pub frame_of : code.Frame → Frame
+frame_of (stored.Explore place at) = explore place at
+frame_of (stored.Clear slot) = restore slot None
+frame_of (stored.Restore slot at) = restore slot (Some at)
+
+-- what is left to do, with the place that comes next
+abbrev pub ahead : Next → List Frame → List Frame
+ahead (On place at) frames = explore place at ∷ frames
+ahead Back frames = frames
+ahead Match frames = frames
+
+abbrev pub is_match : Next → Bool
+is_match (On place at) = false
+is_match Back = false
+is_match Match = true
+
+-- the pairs of a place and an offset, of so many places, from the first offset on
+pub record Pairs : Type 0 where
+  -- whether each was entered
+  pub entered : List Bool
+  pub places : ℕ
+  pub first : ℕ
+
+-- the number of a pair
+abbrev pub pair_number : (places first : ℕ) → (place at : ℕ) → ℕ
+pair_number places first place at = (at - first) * places + place
+
+-- the place was entered at the offset
+abbrev pub was_entered : Pairs → (place at : ℕ) → Bool
+was_entered pairs place at =
+    slice_index_or pairs.entered (pair_number pairs.places pairs.first place at) false
+
+-- the way that is followed, and the others
+pub record Held : Type 0 where
+  -- what is left to do, in that order
+  pub frames : List Frame
+  -- what the slots hold along the way
+  pub row : Row
+  -- how many frames there may be
+  pub room : ℕ

@@ -1,0 +1,82 @@
+-- A search that goes depth first, start by start.
+use Rattle.std.specs.Prelude.{◌≡◌, ◌+◌, ◌-◌, ◌*◌, ◌≤◌, ◌<◌, ℕ, false, List, [], ◌∷◌, length, chars, replicate, slice_set, Option, Some, None, is_some, unwrap_or}
+use Rattle.regex_lite_engine.specs.declared.backtrack.walk.Walk.{Walk}
+use Rattle.regex_lite_engine.specs.Backtrack.Machine.{Frame, explore, restore}
+use Rattle.regex_lite_engine.specs.Backtrack.Room.{AreAll, HasRoom, Keeps, WalksTo, due_entries, due_tries}
+use Rattle.regex_lite_engine.specs.Backtrack.Walking.{IsWalking}
+use Rattle.regex_lite_engine.specs.Graph.Places.{Place, kept_back_of}
+use Rattle.regex_lite_engine.specs.Graph.Renumbered.{arrows_of}
+use Rattle.regex_lite_engine.specs.Search.Bounds.{characters_left}
+use Rattle.regex_lite_engine.specs.Search.Offsets.{position_at}
+use Rattle.regex_lite_engine.specs.Walk.Machine.{Row}
+use Rattle.regex_lite_engine.specs.Walk.Turns.{IsBlank}
+
+-- each slot that a frame restores lies in a row of this width
+abbrev pub SlotsBelow : (width : ℕ) → List Frame → Type 0
+SlotsBelow width [] = Unit {0}
+SlotsBelow width (explore q at ∷ frames) = SlotsBelow width frames
+SlotsBelow width (restore slot old ∷ frames) = (slot < width) × SlotsBelow width frames
+
+-- the frames come off up to the first that has a place to explore
+abbrev pub Unwinds : Row → List Frame → (next : Option (ℕ × ℕ)) → Row → List Frame → Type 0
+Unwinds row [] next row' frames' = (next ≡ None) × (row' ≡ row) × (frames' ≡ [])
+Unwinds row (explore q at ∷ frames) next row' frames' =
+    (next ≡ Some (q, at)) × (row' ≡ row) × (frames' ≡ frames)
+Unwinds row (restore slot old ∷ frames) next row' frames' =
+    Unwinds (slice_set row slot old) frames next row' frames'
+
+-- what is left to do with the place that is taken up
+abbrev pub taken_up : Option (ℕ × ℕ) → List Frame → List Frame
+taken_up None frames = frames
+taken_up (Some next) frames = explore next.0 next.1 ∷ frames
+
+module _ (table : List (Place ℕ)) (haystack : List ℕ) where
+  -- all ways from the start at this offset were followed, or a match ends at `end`
+  pub record Explores (s start : ℕ) (walk walk' : Walk) (end : Option ℕ) : Type 0 where
+    pub walks : WalksTo table haystack walk.visited walk.stack.row (explore s start ∷ [])
+        walk'.visited walk'.stack.row [] (unwrap_or end 0) (is_some end)
+    pub fit : end ≡ None → HasRoom table haystack walk' []
+    pub empty : end ≡ None → walk'.stack.frames ≡ []
+    pub kept : Keeps table haystack walk.visited walk'.visited walk.stack walk'.stack
+    pub spent :
+        due_tries table haystack walk'.visited [] walk'.steps.tried
+        ≤ due_tries table haystack walk.visited (explore s start ∷ []) walk.steps.tried
+    pub spent_entries :
+        due_entries table haystack walk'.visited walk'.steps.entered
+        ≤ due_entries table haystack walk.visited walk.steps.entered
+    pub entered_tried : walk'.steps.entered ≤ walk'.steps.tried
+    pub looked_entered : walk'.steps.looked ≤ walk'.steps.entered
+
+  module _ (start : ℕ) where
+    -- a search from this offset on has not begun
+    pub record IsFresh (walk : Walk) : Type 0 where
+      pub all : AreAll table haystack walk.visited
+      pub first : walk.visited.first ≡ start
+      pub none : walk.visited.entered
+          ≡ replicate (length table * (length haystack - start + 1)) false
+      pub frames : walk.stack.frames ≡ []
+      pub blank : IsBlank walk.stack.row
+      pub room : length table * (length haystack - start + 1) ≤ walk.stack.room
+      pub few_kept_back : kept_back_of table < length table
+      pub tried : walk.steps.tried ≡ 0
+      pub entered : walk.steps.entered ≡ 0
+      pub looked : walk.steps.looked ≡ 0
+
+    -- all ways from the starts below position p were followed. Those that are left are counted with
+    -- what is due
+    pub record IsUnderWay (s p : ℕ) (walk : Walk) : Type 0 where
+      pub low : position_at haystack start ≤ p
+      pub first : walk.visited.first ≡ start
+      pub fit : HasRoom table haystack walk []
+      pub room : kept_back_of table * (length haystack - start + 1) ≤ walk.stack.room
+      pub empty : walk.stack.frames ≡ []
+      pub walking : IsWalking table (chars haystack) s (position_at haystack start) p 0
+          walk.visited walk.stack.row []
+      pub tries :
+          due_tries table haystack walk.visited [] walk.steps.tried
+          + (length (chars haystack) + 1 - p)
+          ≤ (arrows_of table + 1) * (characters_left (chars haystack) (position_at haystack start)
+          + 1)
+      pub entries :
+          due_entries table haystack walk.visited walk.steps.entered
+          ≤ length table * (characters_left (chars haystack) (position_at haystack start) + 1)

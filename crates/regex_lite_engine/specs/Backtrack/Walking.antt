@@ -1,0 +1,41 @@
+-- What a search that goes depth first keeps true of the ways that it follows.
+use Rattle.std.specs.Prelude.{◌≡◌, ◌≤◌, ◌<◌, ℕ, true, List, [], ◌∷◌, length, slice_set, Option, Some}
+use Rattle.regex_lite_syntax.specs.Text.{Text}
+use Rattle.regex_lite_syntax.specs.Tree.Matches.{IsPosition}
+use Rattle.regex_lite_engine.specs.Backtrack.DepthFirst.{IsDepthFirst}
+use Rattle.regex_lite_engine.specs.Backtrack.Machine.{Frame, explore, restore, Pairs, was_entered}
+use Rattle.regex_lite_engine.specs.Graph.Places.{Place}
+use Rattle.regex_lite_engine.specs.Search.Offsets.{offset, IsOffset}
+use Rattle.regex_lite_engine.specs.Walk.InStep.{Offer}
+use Rattle.regex_lite_engine.specs.Walk.Machine.{Row}
+use Rattle.regex_lite_engine.specs.Walk.NumberedAnswer.{numbered_step, is_end}
+use Rattle.regex_lite_engine.specs.Walk.Turns.{IsBlank}
+use Rattle.regex_lite_engine.specs.Walk.Walking.{Node, WayHolds}
+
+module _ (table : List (Place ℕ)) (haystack : Text) (s : ℕ) where
+  -- The frames hold the offers, the first on top. The row of each is that which stands when its
+  -- frame comes off, and when all have come off no slot is marked
+  abbrev pub FramesHold : (i : ℕ) → Row → List Frame → List (Offer Node) → Type 0
+  FramesHold i row [] offers = (offers ≡ []) × IsBlank row
+  FramesHold i row (explore q at ∷ frames) offers =
+      (p : ℕ) × (w : List ℕ) × (rest : List (Offer Node)) × IsOffset haystack p at
+      × (offers ≡ ((q, p), w) ∷ rest) × WayHolds table haystack s i row (q, p) w
+      × FramesHold i row frames rest
+  FramesHold i row (restore slot old ∷ frames) offers =
+      FramesHold i (slice_set row slot old) frames offers
+
+  -- In a search from position `first` on. The frames are those of the start at the offset i, and
+  -- the starts below position `from` were offered
+  pub record IsWalking (first from i : ℕ) (pairs : Pairs) (row : Row) (frames : List Frame)
+      : Type 0 where
+    pub recorded : Node → Option (List ℕ)
+    pub offers : List (Offer Node)
+    pub depth_first : IsDepthFirst Node (numbered_step table haystack) (λ p. (s, p))
+        (is_end table haystack) first (length haystack) from recorded offers
+    -- just the pairs with a record were entered
+    pub seen : (q p : ℕ) (way : List ℕ) → recorded (q, p) ≡ Some way
+        → was_entered pairs q (offset haystack p) ≡ true
+    pub met : (q p : ℕ) → q < length table → first ≤ p → IsPosition haystack p
+        → was_entered pairs q (offset haystack p) ≡ true
+        → (way : List ℕ) × (recorded (q, p) ≡ Some way)
+    pub frames_hold : FramesHold i row frames offers

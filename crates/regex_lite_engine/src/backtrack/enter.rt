@@ -1,0 +1,124 @@
+//! One place entered: where the way goes on, and what is left for later.
+ghost use Rattle.std.specs.Prelude.{◌≡◌, ◌+◌, ◌-◌, ◌≤◌, ◌++◌, None, Some, false, IsCharBoundary, MatchOption, chars, length, map};
+ghost use Rattle.std.specs.Char.{len_utf8};
+ghost use Rattle.regex_lite_syntax.specs.Ranges.{in_ranges};
+ghost use Rattle.regex_lite_syntax.specs.Sets.{just};
+ghost use Rattle.regex_lite_syntax.specs.Text.{after};
+ghost use Rattle.regex_lite_engine.specs.Backtrack.Entering.{Enters, IsReadOn};
+ghost use Rattle.regex_lite_engine.specs.Backtrack.Machine.{ahead, explore, is_match};
+ghost use Rattle.regex_lite_engine.specs.Graph.Places.{kept_back};
+ghost use Rattle.regex_lite_engine.specs.Graph.Stored.{place_of};
+ghost use Rattle.regex_lite_engine.specs.Search.Offsets.{position_at};
+
+use crate::backtrack::frame::Frame;
+use crate::backtrack::stack::Stack;
+use crate::nfa::class::MappedClass;
+use crate::nfa::place::Place;
+use crate::pikevm::here::{Here, first_char};
+
+/// What comes after a place.
+#[derive(Clone, Copy)]
+pub enum Next {
+    /// The way goes on to this place at this offset.
+    On { place: u32, at: usize },
+    /// It leads no further.
+    Back,
+    /// A match is complete.
+    Match,
+}
+
+/// Goes on by the first arrow of the place that fits at this offset, and leaves the others for
+/// later.
+pub fn enter(place: &Place, haystack: &str, at: usize, stack: &mut Stack) -> Next
+    requires boundary { IsCharBoundary haystack.now at }
+    requires room { length stack.old.frames + kept_back (place_of place.now) ≤ stack.old.room }
+    ensures entered { Enters (chars haystack.now) (position_at haystack.now at) at place.now
+        stack.old.row stack.old.frames stack.new.row (ahead result stack.new.frames)
+        (is_match result) }
+    ensures room { stack.new.room ≡ stack.old.room }
+{
+    match place {
+        Place::Empty { to } => Next::On { place: *to, at },
+        Place::Char { c, to } => read_char(*c, *to, haystack, at),
+        Place::Class { to, set } => read_class(set, *to, haystack, at),
+        Place::Look { look, to } => {
+            let here = Here::at(haystack, at);
+            if look.holds(here.before, here.after) {
+                Next::On { place: *to, at }
+            } else {
+                Next::Back
+            }
+        }
+        Place::Slot { slot, to } => {
+            stack.mark(*slot, at);
+            Next::On { place: *to, at }
+        }
+        Place::Choice { first, second } => {
+            stack.push(Frame::Explore { place: *second, at });
+            Next::On { place: *first, at }
+        }
+        Place::Branches(entries) => branch(entries, at, stack),
+        Place::Match => Next::Match,
+    }
+}
+
+/// Goes on behind the next character where it is this one.
+fn read_char(c: char, to: u32, haystack: &str, at: usize) -> Next
+    requires { IsCharBoundary haystack.now at }
+    ensures { IsReadOn at (just c)
+        (after (chars haystack.now) (position_at haystack.now at)) to result }
+{
+    match next_char(haystack, at) {
+        Some((next, behind)) if next == c => Next::On {
+            place: to,
+            at: behind,
+        },
+        _ => Next::Back,
+    }
+}
+
+/// Goes on behind the next character where it is one of the set.
+fn read_class(set: &MappedClass, to: u32, haystack: &str, at: usize) -> Next
+    requires { IsCharBoundary haystack.now at }
+    ensures { IsReadOn at (in_ranges set.now)
+        (after (chars haystack.now) (position_at haystack.now at)) to result }
+{
+    match next_char(haystack, at) {
+        Some((next, behind)) if set.contains(next) => Next::On {
+            place: to,
+            at: behind,
+        },
+        _ => Next::Back,
+    }
+}
+
+/// The next character, and the offset behind it.
+fn next_char(haystack: &str, at: usize) -> Option<(char, usize)>
+    requires { IsCharBoundary haystack.now at }
+    ensures { MatchOption result
+        (after (chars haystack.now) (position_at haystack.now at) ≡ None)
+        (λ told. (after (chars haystack.now) (position_at haystack.now at) ≡ Some told.0)
+        × (told.1 ≡ at + len_utf8 told.0)) }
+{
+    match first_char(haystack, at) {
+        None => None,
+        Some(c) => Some((c, at + c.len_utf8())),
+    }
+}
+
+/// Goes on by the first of these, and leaves the others for later.
+fn branch(entries: &[u32], at: usize, stack: &mut Stack) -> Next
+    requires { length stack.old.frames + (length entries.now - 1) ≤ stack.old.room }
+    ensures ahead { ahead result stack.new.frames
+        ≡ map (λ q. explore q at) entries.now ++ stack.old.frames }
+    ensures open { is_match result ≡ false }
+    ensures same { stack.new ≡ record stack.old { frames = stack.new.frames } }
+{
+    match entries.split_first() {
+        None => Next::Back,
+        Some((first, others)) => {
+            stack.push_all(others, at);
+            Next::On { place: *first, at }
+        }
+    }
+}

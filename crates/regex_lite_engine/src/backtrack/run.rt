@@ -1,0 +1,41 @@
+//! A whole search, start by start.
+ghost use Rattle.std.specs.Prelude.{◌≡◌, IsCharBoundary, chars, length};
+ghost use Rattle.regex_lite_engine.specs.Backtrack.Searching.{IsFresh};
+ghost use Rattle.regex_lite_engine.specs.Graph.Renumbered.{arrows_of};
+ghost use Rattle.regex_lite_engine.specs.Graph.Stored.{table_of};
+ghost use Rattle.regex_lite_engine.specs.Search.Bounds.{IsBounded, characters_left};
+ghost use Rattle.regex_lite_engine.specs.Search.Offsets.{position_at};
+ghost use Rattle.regex_lite_engine.specs.Walk.Outcomes.{IsNumberedOutcome, CanCount};
+ghost use Rattle.regex_lite_engine.specs.Walk.Turns.{best_at};
+
+use crate::Graph;
+use crate::backtrack::walk::Walk;
+use crate::pikevm::here::Here;
+use crate::pikevm::skip::pass_over;
+
+/// Goes from start to start, up to the first from which a way leads to a match. Answers where the
+/// match starts and where it ends; its slots are those of the walk.
+pub fn run(walk: &mut Walk, graph: &Graph, haystack: &str, start: usize) -> Option<(usize, usize)>
+    requires boundary { IsCharBoundary haystack.now start }
+    requires fresh { IsFresh (table_of graph.now) haystack.now start walk.old }
+    requires counts { CanCount (table_of graph.now)
+        (characters_left (chars haystack.now) (position_at haystack.now start)) }
+    ensures found { IsNumberedOutcome (table_of graph.now) (chars haystack.now) graph.now.start
+        (position_at haystack.now start) (best_at result walk.new.stack.row) }
+    ensures bounded { IsBounded (length (table_of graph.now)) (arrows_of (table_of graph.now))
+        (chars haystack.now) (position_at haystack.now start) walk.new.steps.tried
+        walk.new.steps.entered walk.new.steps.looked }
+    ensures width { length walk.new.stack.row ≡ length walk.old.stack.row }
+{
+    let mut here = Here::at(haystack, start);
+    'starts: loop {
+        here = pass_over(graph.starts(), haystack, here);
+        if let Some(end) = walk.explore(graph, haystack, here.at) {
+            return Some((here.at, end));
+        }
+        if here.after.is_none() {
+            return None;
+        }
+        here = here.next(haystack);
+    }
+}

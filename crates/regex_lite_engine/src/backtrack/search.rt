@@ -1,0 +1,83 @@
+//! A search that goes depth first, from its working memory to what it tells.
+ghost use Rattle.std.specs.Prelude.{◌≡◌, ◌≤◌, IfOk, IfSome, IsCharBoundary, length};
+ghost use Rattle.regex_lite_syntax.specs.Tree.{Tree};
+ghost use Rattle.regex_lite_syntax.specs.Tree.Regular.{IsRegular};
+ghost use Rattle.regex_lite_engine.specs.Backtrack.Searching.{IsFresh};
+ghost use Rattle.regex_lite_engine.specs.Graph.Renumbered.{IsGraphOf};
+ghost use Rattle.regex_lite_engine.specs.Graph.Stored.{table_of};
+ghost use Rattle.regex_lite_engine.specs.Search.Outcomes.{IsOutcome, HasCost};
+ghost use Rattle.regex_lite_engine.specs.Walk.Outcomes.{IsCountable, match_told};
+ghost use Rattle.regex_lite_engine.specs.Walk.Turns.{best_at};
+
+use crate::Graph;
+use crate::backtrack::run::run;
+use crate::backtrack::stack::Stack;
+use crate::backtrack::visited::Visited;
+use crate::backtrack::walk::Walk;
+use crate::pikevm::search::Outcome;
+use crate::pikevm::steps::Steps;
+use std::alloc::{AllocError, Global};
+
+impl Graph {
+    /// What [`Graph::search`] answers, found depth first.
+    pub(crate) fn search_depth_first(
+        &self,
+        alloc: Global,
+        haystack: &str,
+        start: usize,
+        slots: usize,
+    ) -> Result<(Option<Outcome>, Steps), AllocError>
+        requires { IsCharBoundary haystack.now start }
+        ensures found { IfOk result (λ told. (tree : Tree) → IsRegular tree
+            → IsGraphOf tree self.now → IsOutcome tree haystack.now start told.0) }
+        ensures slots { IfOk result (λ told. IfSome told.0
+            (λ outcome. length outcome.slots.items ≡ slots)) }
+        ensures cost { IfOk result (λ told. (tree : Tree) → IsGraphOf tree self.now
+            → HasCost tree haystack.now start told.1) }
+    {
+        let mut walk = self.walk_for(alloc, haystack, start, slots)?;
+        let found = run(&mut walk, self, haystack, start);
+        let Walk { stack, steps, .. } = walk;
+        Ok((outcome_of(found, stack), steps))
+    }
+
+    /// All the memory of a search from this offset that keeps so many slots, asked for before its
+    /// first step.
+    fn walk_for(
+        &self,
+        alloc: Global,
+        haystack: &str,
+        start: usize,
+        slots: usize,
+    ) -> Result<Walk, AllocError>
+        requires { IsCharBoundary haystack.now start }
+        ensures fresh { IfOk result (λ walk. IsFresh (table_of self.now) haystack.now start walk) }
+        ensures width { IfOk result (λ walk. length walk.stack.row ≡ slots) }
+        ensures countable { IfOk result (λ _. IsCountable (table_of self.now)) }
+    {
+        let visited = Visited::none(alloc, self.places(), start, haystack.len())?;
+        // Each pair leaves less than one frame for later, all in all.
+        let stack = Stack::blank(alloc, visited.pairs(), slots)?;
+        Ok(Walk {
+            visited,
+            stack,
+            steps: Steps::none(),
+        })
+    }
+}
+
+/// The match from and to these offsets, with the slots of the way that led there.
+fn outcome_of(found: Option<(usize, usize)>, stack: Stack) -> Option<Outcome>
+    ensures told { match_told result ≡ best_at found stack.row }
+    ensures slots { IfSome result
+        (λ outcome. length outcome.slots.items ≡ length stack.row) }
+{
+    match found {
+        None => None,
+        Some((start, end)) => Some(Outcome {
+            start,
+            end,
+            slots: stack.into_row(),
+        }),
+    }
+}

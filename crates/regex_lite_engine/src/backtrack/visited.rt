@@ -1,0 +1,143 @@
+//! The pairs of a place and an offset that a search has entered.
+ghost use Rattle.std.specs.Prelude.{◌≡◌, ◌+◌, ◌-◌, ◌*◌, ◌≤◌, ◌<◌, ◌↔◌, ◌++◌, ℕ, IfOk, IsTrue, false, true, length, replicate, slice_index_or, slice_set, vec_capacity};
+ghost use Rattle.regex_lite_engine.specs.Backtrack.Bits.{bits_of, room_of, words_of};
+ghost use Rattle.regex_lite_engine.specs.Backtrack.Machine.{pair_number, was_entered};
+
+use std::alloc::{AllocError, Global};
+use std::marker::Model;
+
+/// Where so many words are enough, the value holds them itself, and no memory is asked for.
+const FEW: usize = 64;
+
+/// A bit for each pair, in words of 64.
+#[derive(Drop)]
+enum Words {
+    Few([u64; FEW]),
+    /// As many as a search has come to. There is room for all, and those behind the last are 0.
+    Many(Vec<u64>),
+}
+
+/// Whether each pair was entered. It is never emptied: a pair that a search has left is of no use
+/// to what comes later.
+#[derive(Drop)]
+pub struct Visited {
+    words: Words,
+    /// How many pairs there are.
+    count: usize,
+    places: usize,
+    /// The offset of the first pairs.
+    first: usize,
+}
+
+impl Model for Visited {
+    ghost use Rattle.std.specs.Prelude.{◌*◌, ◌≤◌};
+    ghost use Rattle.regex_lite_engine.specs.Backtrack.Bits.{bits_of, room_of, words_of};
+    ghost use Rattle.regex_lite_engine.specs.Backtrack.Machine.{Pairs};
+
+    ghost Value = { Pairs };
+
+    ghost view = { λ visited. record {
+      entered = bits_of (words_of visited.words) visited.count;
+      places = visited.places;
+      first = visited.first;
+    } };
+
+    ghost invariant = { λ visited. visited.count ≤ 64 * room_of visited.words };
+}
+
+impl Visited {
+    /// None yet of the pairs of so many places, from the first offset to the last.
+    pub fn none(
+        alloc: Global,
+        places: usize,
+        first: usize,
+        last: usize,
+    ) -> Result<Visited, AllocError>
+        requires { first ≤ last }
+        ensures none { IfOk result (λ visited. visited.entered
+            ≡ replicate (places * (last - first + 1)) false) }
+        ensures places { IfOk result (λ visited. visited.places ≡ places) }
+        ensures first { IfOk result (λ visited. visited.first ≡ first) }
+    {
+        let columns = (last - first).checked_add(1).ok_or(AllocError)?;
+        let count = places.checked_mul(columns).ok_or(AllocError)?;
+        // They are made in this place, since a function that gave them back would copy them.
+        let words = if count <= 64 * FEW {
+            Words::Few([0; FEW])
+        } else {
+            Words::Many(Vec::with_capacity(alloc, count.div_ceil(64))?)
+        };
+        Ok(Visited {
+            words,
+            count,
+            places,
+            first,
+        })
+    }
+
+    /// How many pairs there are.
+    pub fn pairs(&self) -> usize
+        ensures { result ≡ length self.now.entered }
+    {
+        self.count
+    }
+
+    /// Adds the pair, and tells whether it is new.
+    pub fn insert(&mut self, place: u32, at: usize) -> bool
+        requires first { self.old.first ≤ at }
+        requires inside { pair_number self.old.places self.old.first place at
+            < length self.old.entered }
+        ensures fresh { IsTrue result ↔ (was_entered self.old place at ≡ false) }
+        ensures added { self.new ≡ record self.old {
+          entered = slice_set self.old.entered
+              (pair_number self.old.places self.old.first place at) true;
+        } }
+    {
+        let pair = (at - self.first) * self.places + place as usize;
+        match &mut self.words {
+            Words::Few(words) => set_bit(words, pair),
+            Words::Many(words) => set_bit_behind(words, pair),
+        }
+    }
+}
+
+/// Sets bit `k`, and tells whether it was not set before.
+fn set_bit(words: &mut [u64], k: usize) -> bool
+    requires { k < 64 * length words.old }
+    ensures fresh { (count : ℕ) → k < count
+        → (IsTrue result ↔ (slice_index_or (bits_of words.old count) k false ≡ false)) }
+    ensures set { (count : ℕ) → k < count
+        → bits_of words.new count ≡ slice_set (bits_of words.old count) k true }
+{
+    let word = &mut words[k / 64];
+    let bit = 1 << (k % 64);
+    let fresh = *word & bit == 0;
+    *word |= bit;
+    fresh
+}
+
+/// The same where the words may end before it: those behind the last are 0.
+fn set_bit_behind(words: &mut Vec<u64>, k: usize) -> bool
+    requires { k < 64 * vec_capacity words.old }
+    ensures fresh { (count : ℕ) → k < count
+        → (IsTrue result ↔ (slice_index_or (bits_of words.old.items count) k false ≡ false)) }
+    ensures set { (count : ℕ) → k < count
+        → bits_of words.new.items count
+        ≡ slice_set (bits_of words.old.items count) k true }
+    ensures capacity { vec_capacity words.old ≤ vec_capacity words.new }
+{
+    fill_to(words, k / 64 + 1);
+    set_bit(words, k)
+}
+
+/// Lets so many words be there, if there are fewer. There is room for them.
+fn fill_to(words: &mut Vec<u64>, end: usize)
+    requires { end ≤ vec_capacity words.old }
+    ensures items { words.new.items
+        ≡ words.old.items ++ replicate (end - length words.old.items) 0 }
+    ensures capacity { vec_capacity words.old ≤ vec_capacity words.new }
+{
+    if words.len() < end {
+        let _ = words.resize(end, 0);
+    }
+}

@@ -1,0 +1,82 @@
+//! The walk from one start: a way as far as it leads, and then the last that was left for later.
+ghost use Rattle.std.specs.Prelude.{◌≡◌, [], ◌∷◌, length};
+ghost use Rattle.regex_lite_engine.specs.Backtrack.Machine.{ahead, explore, is_match};
+ghost use Rattle.regex_lite_engine.specs.Backtrack.Room.{Goes, HasRoom};
+ghost use Rattle.regex_lite_engine.specs.Graph.Stored.{table_of};
+
+use crate::Graph;
+use crate::backtrack::enter::{Next, enter};
+use crate::backtrack::frame::Frame;
+use crate::backtrack::stack::Stack;
+use crate::backtrack::visited::Visited;
+use crate::pikevm::steps::Steps;
+
+/// What a search works in, and what it has counted.
+#[derive(Drop)]
+pub struct Walk {
+    pub visited: Visited,
+    pub stack: Stack,
+    pub steps: Steps,
+}
+
+impl Walk {
+    ghost use Rattle.regex_lite_engine.specs.Backtrack.Searching.{Explores, SlotsBelow, Unwinds};
+
+    /// Follows the ways from the start at this offset, the most preferred first. Answers where the
+    /// first of them that is a match ends.
+    pub fn explore(&mut self, graph: &Graph, haystack: &str, start: usize) -> Option<usize>
+        requires room { HasRoom (table_of graph.now) haystack.now self.old
+            (explore graph.now.start start ∷ []) }
+        requires empty { self.old.stack.frames ≡ [] }
+        ensures explored { Explores (table_of graph.now) haystack.now graph.now.start start
+            self.old self.new result }
+    {
+        let (mut place, mut at) = (graph.start(), start);
+        'ways: loop {
+            match self.come_to(graph, haystack, place, at) {
+                Next::On {
+                    place: to,
+                    at: behind,
+                } => (place, at) = (to, behind),
+                Next::Match => return Some(at),
+                Next::Back => (place, at) = self.go_back()?,
+            }
+        }
+    }
+
+    /// Comes to a place, and enters it if it is new at this offset.
+    fn come_to(&mut self, graph: &Graph, haystack: &str, place: u32, at: usize) -> Next
+        requires { HasRoom (table_of graph.now) haystack.now self.old
+            (explore place at ∷ self.old.stack.frames) }
+        ensures { Goes (table_of graph.now) haystack.now self.old
+            (explore place at ∷ self.old.stack.frames) self.new
+            (ahead result self.new.stack.frames) at (is_match result) }
+    {
+        self.steps.count_try();
+        if !self.visited.insert(place, at) {
+            return Next::Back;
+        }
+        self.steps.count_entry();
+        let found = graph.look(place, &mut self.steps);
+        enter(found, haystack, at, &mut self.stack)
+    }
+
+    /// Leaves the way that is followed, and takes up the last that was left for later.
+    fn go_back(&mut self) -> Option<(u32, usize)>
+        requires { SlotsBelow (length self.old.stack.row) self.old.stack.frames }
+        ensures back { Unwinds self.old.stack.row self.old.stack.frames result
+            self.new.stack.row self.new.stack.frames }
+        ensures same { self.new ≡ record self.old { stack = self.new.stack } }
+        ensures row { length self.new.stack.row ≡ length self.old.stack.row }
+        ensures room { self.new.stack.room ≡ self.old.stack.room }
+    {
+        'frames: while let Some(frame) = self.stack.pop() {
+            match frame {
+                Frame::Explore { place, at } => return Some((place, at)),
+                Frame::Clear { slot } => self.stack.put(slot, None),
+                Frame::Restore { slot, at } => self.stack.put(slot, Some(at)),
+            }
+        }
+        None
+    }
+}

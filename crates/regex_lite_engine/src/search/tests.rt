@@ -1,0 +1,221 @@
+//! Which walk a search takes, that both walks tell the same, and what they cost.
+mod cases;
+
+use crate::Graph;
+use crate::pikevm::search::Outcome;
+use crate::pikevm::steps::Steps;
+use crate::tests::graph_of;
+use std::process::Abort;
+use std::test::Fail;
+
+/// A character, how often it stands before an `a`, and whether the haystack has few pairs of a
+/// place and a position. The graph of `a` has four places.
+const SIZES: [(&str, usize, bool); 7] = [
+    ("b", 65_534, true),
+    ("b", 65_535, false),
+    ("é", 65_534, true),
+    ("é", 65_535, false),
+    ("💩", 65_534, true),
+    ("💩", 65_535, false),
+    ("💩", 65_536, false),
+];
+
+/// A search goes depth first where there are few pairs. Either walk finds the `a`.
+#[test]
+fn pairs(rt: HostRuntime) -> Result<(), Fail> {
+    let graph = graph_of(rt.alloc(), "a")?;
+    assert_eq!(rt; graph.places(), 4);
+    for (unit, times, are_few) in SIZES {
+        let mut haystack = unit.repeat(rt.alloc(), times)?;
+        let start = haystack.len();
+        haystack.push('a')?;
+        let told = search_whole(&rt, &graph, haystack.as_str())?;
+        let wanted = (are_few, Some((start, haystack.len())));
+        assert!(rt; told == wanted, "{times} times {unit}");
+    }
+    Ok(())
+}
+
+/// Whether a search of the whole haystack has few pairs, and the match that it finds.
+fn search_whole<H: AllocGlobal>(
+    rt: &H,
+    graph: &Graph,
+    haystack: &str,
+) -> Result<(bool, Option<(usize, usize)>), Fail> {
+    let (found, _) = graph.search(rt.alloc(), haystack, 0, 2)?;
+    let are_few = graph.has_few_pairs(haystack, 0);
+    Ok((are_few, found.map(|found| (found.start, found.end))))
+}
+
+/// Behind the haystack's end nothing is tried.
+#[test]
+fn above_the_length(rt: HostRuntime) -> Result<(), Fail> {
+    let graph = graph_of(rt.alloc(), "a|")?;
+    let (found, steps) = graph.search(rt.alloc(), "ab", 3, 2)?;
+    assert!(rt; found.is_none());
+    assert_eq!(rt; steps, Steps::none());
+    Ok(())
+}
+
+/// Patterns and haystacks with matches that were worked out one by one.
+const WORKED: [(&str, &str); 51] = [
+    ("samwise|sam", "samwise"),
+    ("sam|samwise", "samwise"),
+    ("(?x)a{5,9} ?", "aaaaaaaaa"),
+    ("(?x)a* ?", "aa"),
+    ("a{1,3}", "aaa"),
+    ("a{1,3}?", "aaa"),
+    ("(?U)a{1,3}", "aaa"),
+    ("(?U)a{1,3}?", "aaa"),
+    ("(?:(?:c|)a*?)*", "ca"),
+    ("(?i)a+(?-i)b+", "AaAaAbbBBBb"),
+    ("abcd|c", "abcd"),
+    ("a+", "aaaaa"),
+    ("[^\\s\\S]", "a b"),
+    ("x", "frodo"),
+    ("(?mR)^foo$", "\r\nfoo\r\n"),
+    ("(?m)^line \\d+", "line one\nline 2\n"),
+    ("(?R).", "\r\na"),
+    ("\\b{5}", "a"),
+    ("^$", ""),
+    ("(a*?)*b", "aab"),
+    ("(a*)*", "aab"),
+    ("(|a)*", "aaa"),
+    ("(a|ab)(bc|c)?", "abc"),
+    ("(?:a|ab)(?:c|bcd)(d*)", "abcd"),
+    ("(a*)+", "b"),
+    ("(?:(a)|b)*", "ab"),
+    ("(a|b|ab)*", "ab"),
+    ("(?:(a)|(b)){2}", "ab"),
+    ("(?<x>a){0}(b)", "b"),
+    ("Homer (.)\\. Simpson", "Homer J. Simpson"),
+    ("ab", "aab"),
+    ("", "💩a"),
+    ("", "ab"),
+    ("^a", "aa"),
+    ("a*", "b"),
+    ("💩", "a💩"),
+    ("", "💩"),
+    ("", ""),
+    ("a*", "aab"),
+    ("a*", "baaac"),
+    ("(?m)^", "test\n"),
+    ("|a", "a"),
+    ("a|", "ba"),
+    ("(?m)^a", "a\na"),
+    ("\\bb", "abb b"),
+    ("aba", "ababa"),
+    ("([a-z])([0-9])?", "a1 b"),
+    ("(a*)", "ba"),
+    ("(|a)", "a"),
+    ("(?:(a)|b)", "ab"),
+    ("(x)", "frodo"),
+];
+
+#[test]
+fn worked(rt: HostRuntime) -> Result<(), Fail> {
+    for (pattern, haystack) in WORKED {
+        let graph = graph_of(rt.alloc(), pattern)?;
+        expect_alike(&rt, pattern, &graph, haystack)?;
+    }
+    Ok(())
+}
+
+#[test]
+fn listed(rt: HostRuntime) -> Result<(), Fail> {
+    for line in cases::CASES.split('%') {
+        let mut fields = line.split(';');
+        if let Some(pattern) = fields.next() {
+            let graph = graph_of(rt.alloc(), pattern)?;
+            for haystack in fields {
+                expect_alike(&rt, pattern, &graph, haystack)?;
+            }
+        }
+    }
+    Ok(())
+}
+
+/// From each start both walks tell the same, and cost no more than they may.
+fn expect_alike<H: Abort + AllocGlobal>(
+    rt: &H,
+    pattern: &str,
+    graph: &Graph,
+    haystack: &str,
+) -> Result<(), Fail> {
+    let slots = graph.capture_names().len().saturating_mul(2);
+    for start in 0..=haystack.len() {
+        if haystack.is_char_boundary(start) {
+            let (first, depth) = graph.search_depth_first(rt.alloc(), haystack, start, slots)?;
+            let (second, step) = graph.search_in_step(rt.alloc(), haystack, start, slots)?;
+            assert!(rt;
+                are_alike(&first, &second),
+                "{pattern:?} in {haystack:?} from {start}"
+            );
+            let left = haystack[start..].chars().count();
+            for steps in [depth, step] {
+                let bounded = are_bounded(graph, left, steps);
+                assert!(rt;
+                    bounded,
+                    "{pattern:?} in {haystack:?} from {start}: {steps:?}"
+                );
+            }
+        }
+    }
+    Ok(())
+}
+
+/// Whether both tell the same match with the same slots, or none.
+fn are_alike(first: &Option<Outcome>, second: &Option<Outcome>) -> bool {
+    match (first, second) {
+        (None, None) => true,
+        (Some(first), Some(second)) => {
+            first.start == second.start
+                && first.end == second.end
+                && first.slots.as_slice() == second.slots.as_slice()
+        }
+        _ => false,
+    }
+}
+
+/// Whether a search with so many characters left did no more than it may.
+fn are_bounded(graph: &Graph, left: usize, steps: Steps) -> bool {
+    let columns = (left as u128).saturating_add(1);
+    let arrows = (graph.arrows() as u128).saturating_add(1);
+    steps.tried() <= arrows.saturating_mul(columns)
+        && steps.entered() <= steps.tried()
+        && steps.entered() <= (graph.places() as u128).saturating_mul(columns)
+        && steps.looked() <= steps.entered().saturating_mul(2)
+}
+
+/// A pattern, of how many `a` the haystack is, and how often at most a search that finds nothing
+/// tries and enters a place.
+const COSTS: [(&str, usize, u128, u128); 3] = [
+    ("(?:a?){30}a{30}", 29, 4590, 3690),
+    ("(?:a|aa)+b", 1000, 12_012, 10_010),
+    ("(?:a|aa)+b", 30_000, 360_012, 300_010),
+];
+
+#[test]
+fn costs(rt: HostRuntime) -> Result<(), Fail> {
+    for (pattern, len, tried, entered) in COSTS {
+        let graph = graph_of(rt.alloc(), pattern)?;
+        let haystack = "a".repeat(rt.alloc(), len)?;
+        for steps in costs_of_none(&rt, &graph, haystack.as_str())? {
+            assert!(rt; steps.tried() <= tried, "{pattern} in {len}: {steps:?}");
+            assert!(rt; steps.entered() <= entered, "{pattern} in {len}: {steps:?}");
+        }
+    }
+    Ok(())
+}
+
+/// What each walk costs that finds nothing.
+fn costs_of_none<H: Abort + AllocGlobal>(
+    rt: &H,
+    graph: &Graph,
+    haystack: &str,
+) -> Result<[Steps; 2], Fail> {
+    let (first, depth) = graph.search_depth_first(rt.alloc(), haystack, 0, 2)?;
+    let (second, step) = graph.search_in_step(rt.alloc(), haystack, 0, 2)?;
+    assert!(rt; first.is_none() && second.is_none());
+    Ok([depth, step])
+}
