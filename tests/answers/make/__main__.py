@@ -1,4 +1,5 @@
-"""make JUDGE: rewrites the lists of answers, and the sizes in the tests of regex_lite.
+"""make JUDGE: rewrites the lists of answers, the sizes in the tests of regex_lite, and the cases in
+those of regex_lite_engine.
 
 Each list has what was picked by hand, from the files in picked/, and then generated cases by the
 quotas in choice.py, or in searches.py and lists.py for the lists that these two make. The list of
@@ -30,6 +31,7 @@ import plain
 import runs
 import searches
 import sizes
+import walks
 import whole
 from choice import PATTERNS, STRUCTURE, chosen_rows, kept_lines, quotas_of
 from data import ANSWERS, cases_of, faults_of, line_of
@@ -46,7 +48,9 @@ LISTS = {
     'whole-grammar': (whole, ('whole-grammar', 'whole-grammar-faults', 'whole-grammar-rows')),
 }
 
-SIZES = ANSWERS / '../../crates/regex_lite/src/tests/sizes/rows.rt'
+CRATES = ANSWERS / '../../crates'
+SIZES = CRATES / 'regex_lite/src/tests/sizes/rows.rt'
+WALKS = CRATES / 'regex_lite_engine/src/search/tests/cases.rt'
 
 
 def picked_cases(files):
@@ -95,7 +99,7 @@ def fresh_lines(judge, seed, count):
 
 def main():
     """Writes the lists, or fresh cases."""
-    parser = argparse.ArgumentParser(prog='make', description='Writes the lists and the sizes.')
+    parser = argparse.ArgumentParser(prog='make', description='Writes the lists and data of tests.')
     parser.add_argument('judge', help='a program over the Rust crate, as the head comment says')
     parser.add_argument(
         '--fresh', nargs=2, type=int, metavar=('SEED', 'NUMBER'),
@@ -122,7 +126,8 @@ def main():
         sys.stdout.buffer.write(''.join(fresh).encode())
         return
     written = {ANSWERS / f'{name}.tsv': lines_of(judge, name) for name in LISTS}
-    written[ANSWERS / 'searches.tsv'] = searches.lines(judge)
+    written[ANSWERS / 'searches.tsv'] = searched = searches.lines(judge)
+    written[WALKS] = walks.lines(searched)
     written[ANSWERS / 'lists.tsv'] = lists.lines(judge)
     written[ANSWERS / 'escapes.tsv'] = escapes.lines(judge)
     written[ANSWERS / 'runs.tsv'] = runs.lines(judge)

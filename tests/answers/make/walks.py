@@ -1,0 +1,43 @@
+"""Patterns with haystacks, on which a test of the engine compares its two walks with one another.
+They are of the list of searches. The test needs no answers."""
+
+PATTERNS = 560  # about 2,000 cases of the list have one of so many patterns
+WIDEST = 100  # characters of a line of the test
+
+HEAD = """\
+//! Patterns with haystacks. `tests/answers/make` writes this file.
+
+/// In each line a pattern, after a `%`, and its haystacks, each after a `;`.
+#[rattlefmt::skip]
+pub(super) const CASES: &str = "\\
+"""
+END = '";\n'
+
+
+def lines(searches):
+    """The lines of a constant with patterns of the list, chosen evenly, and all their haystacks."""
+    fit = [line_of(*row) for row in rows_of(searches) if is_fit(*row)]
+    return [HEAD, *(fit[at * len(fit) // PATTERNS] for at in range(PATTERNS)), END]
+
+
+def rows_of(searches):
+    """Each pattern for which no flags are turned on, and its haystacks, as the list writes them."""
+    rows = {}
+    for line in searches:
+        flags, pattern, haystack, *_ = line.split('\t')
+        if flags == '-':
+            rows.setdefault(pattern, {})[haystack] = None
+    return rows.items()
+
+
+def line_of(pattern, haystacks):
+    """The line of a pattern. The escapes of the list are those of a literal too."""
+    text = ';'.join((pattern, *haystacks)).replace('"', '\\"')
+    return f'%{text}\\\n'
+
+
+def is_fit(pattern, haystacks):
+    """Whether the line is short, and the marks of its parts stand nowhere else."""
+    line = line_of(pattern, haystacks)
+    are_marks = line.count('%') == 1 and line.count(';') == len(haystacks)
+    return are_marks and len(line) <= WIDEST
