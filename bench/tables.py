@@ -1,12 +1,27 @@
-"""Tables of numbers of ours beside upstream's."""
+"""Tables of numbers of ours beside those of others."""
 
 from typing import NamedTuple
 
+RATIOS = ['ratio', 'ratio to regex']
 
-class Pair(NamedTuple):
-    """A number of ours and the same of upstream's."""
+
+class Numbers(NamedTuple):
+    """A number of ours, the same of upstream's, and that of the crate `regex` if it takes part."""
     ours: float
     upstream: float
+    regex: float = None
+
+    def ratios(self):
+        """Ours divided by each other one, as text."""
+        return [ratio(self.ours, other) for other in self[1:] if other is not None]
+
+    def fields(self):
+        """Ours, upstream's, and the ratios, as text."""
+        return [f'{self.ours:,.0f}', f'{self.upstream:,.0f}', *self.ratios()]
+
+    def head(self):
+        """What stands above these fields."""
+        return ['ours', "upstream's", *RATIOS[:len(self.ratios())]]
 
 
 def ratio(one, other):
@@ -26,13 +41,14 @@ def table(head, lines):
 
 
 def growth_table(families):
-    """Prints a table of families, each of which is its members' names and pairs, smallest first."""
+    """Prints a table of families, each its members' names and numbers, smallest first."""
     lines = []
     for members in families:
         before = None
-        for name, pair in members:
-            growth = [ratio(*sizes) for sizes in zip(pair, before)] if before else ['', '']
-            lines.append([name, f'{pair.ours:,.0f}', growth[0], f'{pair.upstream:,.0f}', growth[1],
-                          ratio(*pair)])
-            before = pair
-    table(['family, size', 'ours', 'growth', "upstream's", 'growth', 'ratio'], lines)
+        for name, numbers in members:
+            growth = [ratio(*sizes) for sizes in zip(numbers[:2], before)] if before else ['', '']
+            ours, upstream, *ratios = numbers.fields()
+            lines.append([name, ours, growth[0], upstream, growth[1], *ratios])
+            before = numbers
+    ours, upstream, *ratios = before.head()
+    table(['family, size', ours, 'growth', upstream, 'growth', *ratios], lines)

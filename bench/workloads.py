@@ -76,15 +76,36 @@ MESSAGES = [
     lambda dice: f'timeout while waiting for {address(dice)}',
     lambda dice: f'{word(dice)} was refused by {word(dice)}',
 ]
+PLACES = ['net', 'store', 'http', 'auth']
+
+
+def date(dice):
+    """A day of one of five years."""
+    return f'{2020 + dice.roll(5)}-{1 + dice.roll(12):02}-{1 + dice.roll(28):02}'
 
 
 def log_line(dice):
     """A line of a log: when, how bad, where, what."""
-    when = [2020 + dice.roll(5), 1 + dice.roll(12), 1 + dice.roll(28), dice.roll(24), dice.roll(60)]
+    stamp = f'{date(dice)}T{dice.roll(24):02}:{dice.roll(60):02}'
     level = dice.one_of(['INFO'] * 12 + ['DEBUG'] * 5 + ['WARN'] * 2 + ['ERROR'])
-    place = dice.one_of(['net', 'store', 'http', 'auth'])
-    stamp = '{}-{:02}-{:02}T{:02}:{:02}'.format(*when)
+    place = dice.one_of(PLACES)
     return f'{stamp} {level} [{place}] {dice.one_of(MESSAGES)(dice)}\n'
+
+
+def record(dice):
+    """A line of 20 to 100 bytes with five fields; about each eighth is a remark instead."""
+    size = SHORT + dice.roll(81)
+    last = ' '.join(word(dice) for _ in range(size // 2))
+    first = f'{word(dice)[:4]} {dice.roll(100)}.{dice.roll(10)} [{dice.one_of(PLACES)}] '
+    return ((first if dice.roll(8) else '# ') + last)[:size] + '\n'
+
+
+def dated_line(dice):
+    """A line of some words; in about three of four, one of them is a date."""
+    words = [word(dice) for _ in range(5 + dice.roll(10))]
+    if dice.roll(4):
+        words[dice.roll(len(words))] = date(dice)
+    return ' '.join(words) + '\n'
 
 
 def short_line(dice):
@@ -113,6 +134,8 @@ LOG = of_parts(log_line, 3)
 SHORT_TEXTS = of_parts(short_line, 4)
 LETTERS = of_parts(word, 5)
 ONLY_A = of_parts(lambda dice: 'a', 6)
+RECORDS = of_parts(record, 7)
+DATED = of_parts(dated_line, 8)
 
 FILTERS = [
     'ERROR',
@@ -141,22 +164,25 @@ class Workload(NamedTuple):
 
 
 WORKLOADS = [
-    Workload('literal that is not there', .05, 'find', 'text', ['zyxwvut'], PROSE),
-    Workload('rare literal', .05, 'find', 'text', [RARE], PROSE),
-    Workload('eight words', .20, 'find', 'text', ['|'.join(EIGHT)], PROSE),
-    Workload('12 patterns on log lines', .20, 'find', 'lines', FILTERS, LOG),
-    Workload('date, 5 groups', .50, 'captures', 'text',
+    Workload('literal that is not there', .03, 'find', 'text', ['zyxwvut'], PROSE),
+    Workload('rare literal', .03, 'find', 'text', [RARE], PROSE),
+    Workload('eight words', .12, 'find', 'text', ['|'.join(EIGHT)], PROSE),
+    Workload('12 patterns on log lines', .12, 'find', 'lines', FILTERS, LOG),
+    Workload('date, 5 groups', .42, 'captures', 'text',
              [r'(\d{4})-(\d\d)-(\d\d)T(\d\d):(\d\d)'], LOG),
-    Workload('anchored line, 5 groups', .70, 'captures', 'lines',
+    Workload('date in a line', .42, 'captures', 'lines', [r'(\d{4})-(\d\d)-(\d\d)'], DATED),
+    Workload('anchored line, 5 groups', .20, 'captures', 'lines',
              [r'^(\S+)T(\S+) ([A-Z]+) \[(\w+)\] (.*)$'], LOG),
-    Workload('whole words', .70, 'find', 'text', [r'\b\w+\b'], PROSE),
-    Workload('words with one ending', .70, 'find', 'text', ['[a-z]+shing'], PROSE),
-    Workload('lines with two words', .70, 'find', 'text', ['(?m)^.*ERROR.*timeout.*$'], LOG),
-    Workload('8 to 13 letters', .70, 'find', 'text', ['[a-zA-Z]{8,13}'], PROSE),
-    Workload('loop of a or aa, then b', .70, 'find', 'text', ['(?:a|aa)+b'], ONLY_A),
-    Workload('30 times a?, 30 times a', .70, 'find', 'text', ['(?:a?){30}a{30}'], ONLY_A),
-    Workload('Cyrillic words', .70, 'find', 'text', ['[а-яё]{4,}'], CYRILLIC_PROSE),
-    Workload('short texts', .50, 'find', 'lines', [r'[a-z]+-\d+'], SHORT_TEXTS),
+    Workload('short lines, 5 groups', .20, 'captures', 'lines',
+             [r'^([a-z]+) (\d+)\.(\d) \[(\w+)\] (.*)$'], RECORDS),
+    Workload('whole words', .50, 'find', 'text', [r'\b\w+\b'], PROSE),
+    Workload('words with one ending', .50, 'find', 'text', ['[a-z]+shing'], PROSE),
+    Workload('lines with two words', .50, 'find', 'text', ['(?m)^.*ERROR.*timeout.*$'], LOG),
+    Workload('8 to 13 letters', .50, 'find', 'text', ['[a-zA-Z]{8,13}'], PROSE),
+    Workload('loop of a or aa, then b', .50, 'find', 'text', ['(?:a|aa)+b'], ONLY_A),
+    Workload('30 times a?, 30 times a', .50, 'find', 'text', ['(?:a?){30}a{30}'], ONLY_A),
+    Workload('Cyrillic words', .50, 'find', 'text', ['[а-яё]{4,}'], CYRILLIC_PROSE),
+    Workload('short texts', .40, 'find', 'lines', [r'[a-z]+-\d+'], SHORT_TEXTS),
 ]
 
 

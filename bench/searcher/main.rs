@@ -72,7 +72,7 @@ impl Tally {
                 break;
             };
             at = found.end();
-            if found.is_empty() {
+            if found.range().is_empty() {
                 at += 1;
             }
         }
@@ -82,24 +82,25 @@ impl Tally {
     fn add_match<'h>(&mut self, regex: &Regex, haystack: &'h str, at: usize) -> Option<Match<'h>> {
         let found = regex.find_at(haystack, at)?;
         self.matches += 1;
-        self.add_span(found);
+        self.add_span(found.start(), found.end());
         Some(found)
     }
 
     /// The same with the spans of all groups.
     fn add_groups<'h>(&mut self, regex: &Regex, haystack: &'h str, at: usize) -> Option<Match<'h>> {
-        let groups = regex.captures_at(haystack, at)?;
+        let mut groups = regex.capture_locations();
+        let found = regex.captures_read_at(&mut groups, haystack, at)?;
         self.matches += 1;
         for i in 0..groups.len() {
-            if let Some(group) = groups.get(i) {
-                self.add_span(group);
+            if let Some((start, end)) = groups.get(i) {
+                self.add_span(start, end);
             }
         }
-        groups.get(0)
+        Some(found)
     }
 
-    fn add_span(&mut self, found: Match<'_>) {
-        for offset in [found.start(), found.end()] {
+    fn add_span(&mut self, start: usize, end: usize) {
+        for offset in [start, end] {
             self.spans = self.spans.wrapping_mul(31).wrapping_add(offset as u64);
         }
     }
