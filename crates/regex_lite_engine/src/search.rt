@@ -15,8 +15,8 @@ use crate::pikevm::search::Outcome;
 use crate::pikevm::steps::Steps;
 use std::alloc::{AllocError, Global};
 
-/// A search of at most so many pairs of a place and a position goes depth first: what it keeps of
-/// each pair takes a byte.
+/// A search of at most so many pairs of a place and a position goes depth first. It keeps a bit of
+/// each, and has room for a frame.
 const MOST_PAIRS: usize = 262_144;
 
 /// Characters are counted in parts of so many bytes. The count of a part fits in a byte, so that a
