@@ -1,5 +1,5 @@
 //! What a walk still has to do at a position, last put first out.
-ghost use Rattle.std.specs.Prelude.{◌≡◌, ◌+◌, ◌≤◌, ◌<◌, ◌++◌, [], ◌∷◌, ℕ, IsTrue, MatchOption, length, map};
+ghost use Rattle.std.specs.Prelude.{◌≡◌, ◌↔◌, ◌+◌, ◌≤◌, ◌<◌, ◌++◌, [], ◌∷◌, ℕ, IsTrue, MatchOption, length, map};
 ghost use Rattle.regex_lite_engine.specs.Walk.Cells.{frame_of};
 ghost use Rattle.regex_lite_engine.specs.Walk.Machine.{explore, unwound};
 ghost use Rattle.regex_lite_engine.specs.Walk.Room.{FramesBelow};
@@ -67,7 +67,7 @@ impl Memory {
 
     /// Whether nothing is left to do.
     pub fn is_done(&self) -> bool
-        ensures { IsTrue result → self.now.frames ≡ [] }
+        ensures { IsTrue result ↔ (self.now.frames ≡ []) }
     {
         self.top == self.cells.len()
     }
