@@ -58,7 +58,7 @@ module _ (table : List (Place ℕ)) (haystack : List ℕ) where
   abbrev pub work : Pairs → List Frame → ℕ
   work pairs frames = length frames + left_of weight pairs
 
-  -- there is a cell for each pair
+  -- each pair of the search has a bit
   pub record AreAll (pairs : Pairs) : Type 0 where
     pub places : pairs.places ≡ length table
     pub boundary : IsCharBoundary haystack pairs.first
