@@ -7,8 +7,8 @@ use Rattle.regex_lite_syntax.specs.Text.{Text, before, after}
 use Rattle.regex_lite_syntax.specs.Tree.Looks.{holds_between}
 use Rattle.regex_lite_engine.specs.declared.nfa.place.Place.{Place}
 use Rattle.regex_lite_engine.specs.declared.nfa.place.Place.TheVariants as stored
-use Rattle.regex_lite_engine.specs.declared.backtrack.enter.Next.{Next}
-use Rattle.regex_lite_engine.specs.Backtrack.Machine.{Frame, explore, restore, ahead, is_match}
+use Rattle.regex_lite_engine.specs.declared.backtrack.enter.Onward.{Onward}
+use Rattle.regex_lite_engine.specs.Backtrack.Machine.{Frame, explore, restore, onto, completes}
 use Rattle.regex_lite_engine.specs.Walk.Machine.{Row}
 
 module _ (at : ℕ) where
@@ -19,10 +19,10 @@ module _ (at : ℕ) where
       if set c then explore to (at + len_utf8 c) ∷ frames else frames
 
   -- what comes next says so
-  abbrev pub IsReadOn : Set → (next : Option ℕ) → (to : ℕ) → Next → Type 0
+  abbrev pub IsReadOn : Set → (next : Option ℕ) → (to : ℕ) → Onward → Type 0
   IsReadOn set next to told =
-      ((frames : List Frame) → ahead told frames ≡ read_on set next to frames)
-      × (is_match told ≡ false)
+      ((frames : List Frame) → onto told frames ≡ read_on set next to frames)
+      × (completes told ≡ false)
 
   -- the slot holds the offset, until the way is left. A slot behind the row is not kept
   abbrev pub Marks : (slot to : ℕ) → Row → List Frame → Row → List Frame → Type 0

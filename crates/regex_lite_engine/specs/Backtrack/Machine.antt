@@ -2,8 +2,8 @@
 use Rattle.std.specs.Prelude.{◌+◌, ◌-◌, ◌*◌, ℕ, Bool, true, false, List, ◌∷◌, Option, Some, None, slice_index_or}
 use Rattle.regex_lite_engine.specs.declared.backtrack.frame.Frame as code
 use Rattle.regex_lite_engine.specs.declared.backtrack.frame.Frame.TheVariants as stored
-use Rattle.regex_lite_engine.specs.declared.backtrack.enter.Next.{Next}
-use Rattle.regex_lite_engine.specs.declared.backtrack.enter.Next.TheVariants.{Match, On, Back}
+use Rattle.regex_lite_engine.specs.declared.backtrack.enter.Onward.{Onward}
+use Rattle.regex_lite_engine.specs.declared.backtrack.enter.Onward.TheVariants.{To, Back, Complete}
 use Rattle.regex_lite_engine.specs.Walk.Machine.{Row}
 
 -- What is left to do: to explore a place at an offset, or to let a slot hold again what it held
@@ -16,16 +16,17 @@ frame_of (stored.Explore place at) = explore place at
 frame_of (stored.Clear slot) = restore slot None
 frame_of (stored.Restore slot at) = restore slot (Some at)
 
--- what is left to do, with the place that comes next
-abbrev pub ahead : Next → List Frame → List Frame
-ahead (On place at) frames = explore place at ∷ frames
-ahead Back frames = frames
-ahead Match frames = frames
+-- what is left to do, the place that comes next as the first
+abbrev pub onto : Onward → List Frame → List Frame
+onto (To place at) frames = explore place at ∷ frames
+onto Back frames = frames
+onto Complete frames = frames
 
-abbrev pub is_match : Next → Bool
-is_match (On place at) = false
-is_match Back = false
-is_match Match = true
+-- a match is complete
+abbrev pub completes : Onward → Bool
+completes (To place at) = false
+completes Back = false
+completes Complete = true
 
 -- the pairs of a place and an offset, of so many places, from the first offset on
 pub record Pairs : Type 0 where

@@ -5,7 +5,7 @@ ghost use Rattle.regex_lite_syntax.specs.Ranges.{in_ranges};
 ghost use Rattle.regex_lite_syntax.specs.Sets.{just};
 ghost use Rattle.regex_lite_syntax.specs.Text.{after};
 ghost use Rattle.regex_lite_engine.specs.Backtrack.Entering.{Enters, IsReadOn};
-ghost use Rattle.regex_lite_engine.specs.Backtrack.Machine.{ahead, explore, is_match};
+ghost use Rattle.regex_lite_engine.specs.Backtrack.Machine.{completes, explore, onto};
 ghost use Rattle.regex_lite_engine.specs.Graph.Places.{kept_back};
 ghost use Rattle.regex_lite_engine.specs.Graph.Stored.{place_of};
 ghost use Rattle.regex_lite_engine.specs.Search.Offsets.{position_at};
@@ -16,79 +16,79 @@ use crate::nfa::class::MappedClass;
 use crate::nfa::place::Place;
 use crate::pikevm::here::{Here, first_char};
 
-/// What comes after a place.
+/// How a way goes on from a place.
 #[derive(Clone, Copy)]
-pub enum Next {
-    /// The way goes on to this place at this offset.
-    On { place: u32, at: usize },
-    /// It leads no further.
+pub enum Onward {
+    /// To this place at this offset.
+    To { place: u32, at: usize },
+    /// To what is left on the stack.
     Back,
-    /// A match is complete.
-    Match,
+    /// Not at all: a match is complete.
+    Complete,
 }
 
 /// Goes on by the first arrow of the place that fits at this offset, and leaves the others for
 /// later.
-pub fn enter(place: &Place, haystack: &str, at: usize, stack: &mut Stack) -> Next
+pub fn enter(place: &Place, haystack: &str, at: usize, stack: &mut Stack) -> Onward
     requires boundary { IsCharBoundary haystack.now at }
     requires room { length stack.old.frames + kept_back (place_of place.now) ≤ stack.old.room }
     ensures entered { Enters (chars haystack.now) (position_at haystack.now at) at place.now
-        stack.old.row stack.old.frames stack.new.row (ahead result stack.new.frames)
-        (is_match result) }
+        stack.old.row stack.old.frames stack.new.row (onto result stack.new.frames)
+        (completes result) }
     ensures room { stack.new.room ≡ stack.old.room }
 {
     match place {
-        Place::Empty { to } => Next::On { place: *to, at },
+        Place::Empty { to } => Onward::To { place: *to, at },
         Place::Char { c, to } => read_char(*c, *to, haystack, at),
         Place::Class { to, set } => read_class(set, *to, haystack, at),
         Place::Look { look, to } => {
             let here = Here::at(haystack, at);
             if look.holds(here.before, here.after) {
-                Next::On { place: *to, at }
+                Onward::To { place: *to, at }
             } else {
-                Next::Back
+                Onward::Back
             }
         }
         Place::Slot { slot, to } => {
             stack.mark(*slot, at);
-            Next::On { place: *to, at }
+            Onward::To { place: *to, at }
         }
         Place::Choice { first, second } => {
             stack.push(Frame::Explore { place: *second, at });
-            Next::On { place: *first, at }
+            Onward::To { place: *first, at }
         }
         Place::Branches(entries) => branch(entries, at, stack),
-        Place::Match => Next::Match,
+        Place::Match => Onward::Complete,
     }
 }
 
 /// Goes on behind the next character where it is this one.
-fn read_char(c: char, to: u32, haystack: &str, at: usize) -> Next
+fn read_char(c: char, to: u32, haystack: &str, at: usize) -> Onward
     requires { IsCharBoundary haystack.now at }
     ensures { IsReadOn at (just c)
         (after (chars haystack.now) (position_at haystack.now at)) to result }
 {
     match next_char(haystack, at) {
-        Some((next, behind)) if next == c => Next::On {
+        Some((next, behind)) if next == c => Onward::To {
             place: to,
             at: behind,
         },
-        _ => Next::Back,
+        _ => Onward::Back,
     }
 }
 
 /// Goes on behind the next character where it is one of the set.
-fn read_class(set: &MappedClass, to: u32, haystack: &str, at: usize) -> Next
+fn read_class(set: &MappedClass, to: u32, haystack: &str, at: usize) -> Onward
     requires { IsCharBoundary haystack.now at }
     ensures { IsReadOn at (in_ranges set.now)
         (after (chars haystack.now) (position_at haystack.now at)) to result }
 {
     match next_char(haystack, at) {
-        Some((next, behind)) if set.contains(next) => Next::On {
+        Some((next, behind)) if set.contains(next) => Onward::To {
             place: to,
             at: behind,
         },
-        _ => Next::Back,
+        _ => Onward::Back,
     }
 }
 
@@ -107,18 +107,18 @@ fn next_char(haystack: &str, at: usize) -> Option<(char, usize)>
 }
 
 /// Goes on by the first of these, and leaves the others for later.
-fn branch(entries: &[u32], at: usize, stack: &mut Stack) -> Next
+fn branch(entries: &[u32], at: usize, stack: &mut Stack) -> Onward
     requires { length stack.old.frames + (length entries.now - 1) ≤ stack.old.room }
-    ensures ahead { ahead result stack.new.frames
+    ensures onto { onto result stack.new.frames
         ≡ map (λ q. explore q at) entries.now ++ stack.old.frames }
-    ensures open { is_match result ≡ false }
+    ensures open { completes result ≡ false }
     ensures same { stack.new ≡ record stack.old { frames = stack.new.frames } }
 {
     match entries.split_first() {
-        None => Next::Back,
+        None => Onward::Back,
         Some((first, others)) => {
             stack.push_all(others, at);
-            Next::On { place: *first, at }
+            Onward::To { place: *first, at }
         }
     }
 }

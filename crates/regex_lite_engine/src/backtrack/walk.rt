@@ -1,11 +1,11 @@
 //! The walk from one start: a way as far as it leads, and then the last that was left for later.
 ghost use Rattle.std.specs.Prelude.{◌≡◌, [], ◌∷◌, length};
-ghost use Rattle.regex_lite_engine.specs.Backtrack.Machine.{ahead, explore, is_match};
+ghost use Rattle.regex_lite_engine.specs.Backtrack.Machine.{completes, explore, onto};
 ghost use Rattle.regex_lite_engine.specs.Backtrack.Room.{Goes, HasRoom};
 ghost use Rattle.regex_lite_engine.specs.Graph.Stored.{table_of};
 
 use crate::Graph;
-use crate::backtrack::enter::{Next, enter};
+use crate::backtrack::enter::{Onward, enter};
 use crate::backtrack::frame::Frame;
 use crate::backtrack::stack::Stack;
 use crate::backtrack::visited::Visited;
@@ -34,27 +34,27 @@ impl Walk {
         let (mut place, mut at) = (graph.start(), start);
         'ways: loop {
             match self.come_to(graph, haystack, place, at) {
-                Next::On {
+                Onward::To {
                     place: to,
                     at: behind,
                 } => (place, at) = (to, behind),
-                Next::Match => return Some(at),
-                Next::Back => (place, at) = self.go_back()?,
+                Onward::Complete => return Some(at),
+                Onward::Back => (place, at) = self.go_back()?,
             }
         }
     }
 
     /// Comes to a place, and enters it if it is new at this offset.
-    fn come_to(&mut self, graph: &Graph, haystack: &str, place: u32, at: usize) -> Next
+    fn come_to(&mut self, graph: &Graph, haystack: &str, place: u32, at: usize) -> Onward
         requires { HasRoom (table_of graph.now) haystack.now self.old
             (explore place at ∷ self.old.stack.frames) }
         ensures { Goes (table_of graph.now) haystack.now self.old
             (explore place at ∷ self.old.stack.frames) self.new
-            (ahead result self.new.stack.frames) at (is_match result) }
+            (onto result self.new.stack.frames) at (completes result) }
     {
         self.steps.count_try();
         if !self.visited.insert(place, at) {
-            return Next::Back;
+            return Onward::Back;
         }
         self.steps.count_entry();
         let found = graph.look(place, &mut self.steps);

@@ -1,7 +1,7 @@
 use Rattle.std.proofs.Common.{◌+◌, [], ◌∷◌, false, refl, unwrap_or, sym, ap, subst, ◌∙◌}
 use Rattle.std.proofs.lemmas.List.{length-map}
 use Rattle.regex_lite_engine.specs.declared.backtrack.walk.Walk.{Walk}
-use Rattle.regex_lite_engine.specs.Backtrack.Machine.{ahead, explore, is_match, was_entered}
+use Rattle.regex_lite_engine.specs.Backtrack.Machine.{completes, explore, onto, was_entered}
 use Rattle.regex_lite_engine.specs.Backtrack.Room.{Goes}
 use Rattle.regex_lite_engine.specs.Graph.Stored.{LeadsBelow, place_of, table_of}
 use Rattle.regex_lite_engine.specs.Search.Bounds.{StepCounts}
@@ -48,8 +48,8 @@ returns c =
     let bytes = a.haystack.now in
     let place = c.look-found.result.now in
     let held = c.enter.new.stack in
-    let frames = ahead c.enter.result held.frames in
-    let done = is_match c.enter.result in
+    let frames = onto c.enter.result held.frames in
+    let done = completes c.enter.result in
     let new = c.insert.ensures.fresh.0 c.if-not-insert.false in
     let got = got_place a.graph.now.places a.place place c.look-found.ensures.found in
     let inside = subst (λ z. LeadsBelow z (place_of place)) (sym (length-map a.graph.now.places place_of))

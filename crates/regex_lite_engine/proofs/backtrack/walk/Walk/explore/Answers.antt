@@ -1,5 +1,5 @@
 use Rattle.std.proofs.Common.{[], ◌∷◌, length, Some, refl, subst, sym, arith}
-use Rattle.regex_lite_engine.specs.Backtrack.Machine.{ahead, explore, is_match}
+use Rattle.regex_lite_engine.specs.Backtrack.Machine.{completes, explore, onto}
 use Rattle.regex_lite_engine.specs.Backtrack.Room.{Goes}
 use Rattle.regex_lite_engine.specs.Backtrack.Searching.{Explores, Unwinds}
 use Rattle.regex_lite_engine.specs.Graph.Stored.{table_of}
@@ -7,27 +7,27 @@ use Rattle.regex_lite_engine.proofs.backtrack.ExploreLemmas.{ended_back, found, 
 use Rattle.regex_lite_engine.proofs.backtrack.UnwindLemmas.{slots_below}
 use Rattle.regex_lite_engine.proofs.backtrack.walk.Walk.explore.Goals as goal
 
-pub returns-in-Match : goal.returns-in-Match
-returns-in-Match c =
+pub returns-in-Complete : goal.returns-in-Complete
+returns-in-Complete c =
     let a = c.args in let t = table_of a.graph.now in let w = c.ways.self in let v = c.come_to.new.self in
     let next = explore c.ways.place c.ways.at ∷ w.stack.frames in
     record {
       explored = found t a.haystack.now a.self.now (explore a.graph.now.start a.start ∷ []) w next c.ways.invariant.gone v v.stack.frames a.graph.now.start a.start c.ways.at refl
-          (subst (λ n. Goes t a.haystack.now w next v (ahead n v.stack.frames) c.ways.at (is_match n)) c.in-Match.is c.come_to.ensures);
+          (subst (λ n. Goes t a.haystack.now w next v (onto n v.stack.frames) c.ways.at (completes n)) c.in-Complete.is c.come_to.ensures);
     }
 
 pub go_back-requires : goal.go_back-requires
 go_back-requires c =
     let a = c.args in let t = table_of a.graph.now in let w = c.ways.self in let v = c.come_to.new.self in
     let next = explore c.ways.place c.ways.at ∷ w.stack.frames in
-    let goes = subst (λ n. Goes t a.haystack.now w next v (ahead n v.stack.frames) c.ways.at (is_match n)) c.in-Back.is c.come_to.ensures in
+    let goes = subst (λ n. Goes t a.haystack.now w next v (onto n v.stack.frames) c.ways.at (completes n)) c.in-Back.is c.come_to.ensures in
     slots_below t a.haystack.now v.visited.first (length v.stack.row) v.stack.frames (goes.fit refl).below
 
 pub returns-in_err-place-in-Back : goal.returns-in_err-place-in-Back
 returns-in_err-place-in-Back c =
     let a = c.args in let t = table_of a.graph.now in let h = a.haystack.now in let w = c.ways.self in let v = c.come_to.new.self in
     let next = explore c.ways.place c.ways.at ∷ w.stack.frames in let first = explore a.graph.now.start a.start ∷ [] in
-    let goes = subst (λ n. Goes t h w next v (ahead n v.stack.frames) c.ways.at (is_match n)) c.in-Back.is c.come_to.ensures in
+    let goes = subst (λ n. Goes t h w next v (onto n v.stack.frames) c.ways.at (completes n)) c.in-Back.is c.come_to.ensures in
     let gone = gone_on t h a.self.now first w next c.ways.invariant.gone v v.stack.frames c.ways.at goes in
     let u = c.go_back.new.self in let e = c.go_back.ensures in
     record {
@@ -40,7 +40,7 @@ pub ways-smaller : goal.ways-smaller
 ways-smaller c =
     let a = c.args in let t = table_of a.graph.now in let h = a.haystack.now in let w = c.ways.self in let v = c.come_to.new.self in
     let next = explore c.ways.place c.ways.at ∷ w.stack.frames in let first = explore a.graph.now.start a.start ∷ [] in
-    let goes = subst (λ n. Goes t h w next v (ahead n v.stack.frames) c.ways.at (is_match n)) c.in-Back.is c.come_to.ensures in
+    let goes = subst (λ n. Goes t h w next v (onto n v.stack.frames) c.ways.at (completes n)) c.in-Back.is c.come_to.ensures in
     let gone = gone_on t h a.self.now first w next c.ways.invariant.gone v v.stack.frames c.ways.at goes in
     let u = c.go_back.new.self in let e = c.go_back.ensures in let left = c.in_ok-place-in-Back in
     let less = goes.less refl in
@@ -52,7 +52,7 @@ pub ways-preserved : goal.ways-preserved
 ways-preserved c =
     let a = c.args in let t = table_of a.graph.now in let h = a.haystack.now in let w = c.ways.self in let v = c.come_to.new.self in
     let next = explore c.ways.place c.ways.at ∷ w.stack.frames in let first = explore a.graph.now.start a.start ∷ [] in
-    let goes = subst (λ n. Goes t h w next v (ahead n v.stack.frames) c.ways.at (is_match n)) c.in-Back.is c.come_to.ensures in
+    let goes = subst (λ n. Goes t h w next v (onto n v.stack.frames) c.ways.at (completes n)) c.in-Back.is c.come_to.ensures in
     let gone = gone_on t h a.self.now first w next c.ways.invariant.gone v v.stack.frames c.ways.at goes in
     let u = c.go_back.new.self in let e = c.go_back.ensures in let left = c.in_ok-place-in-Back in
     let back = subst (λ n. Unwinds v.stack.row v.stack.frames n u.stack.row u.stack.frames) left.was e.back in
