@@ -20,7 +20,7 @@ const SIZES: [(&str, usize, bool); 7] = [
     ("💩", 65_536, false),
 ];
 
-/// A search goes depth first where there are few pairs. Either walk finds the `a`.
+/// Where there are few pairs, and where there are more. A search finds the `a` in each.
 #[test]
 fn pairs(rt: HostRuntime) -> Result<(), Fail> {
     let graph = graph_of(rt.alloc(), "a")?;
@@ -45,6 +45,31 @@ fn search_whole<H: AllocGlobal>(
     let (found, _) = graph.search(rt.alloc(), haystack, 0, 2)?;
     let are_few = graph.has_few_pairs(haystack, 0);
     Ok((are_few, found.map(|found| (found.start, found.end))))
+}
+
+/// How often `ab` stands in a haystack, and whether a search for `ab|ac` goes depth first there.
+const TAKEN: [(usize, bool); 2] = [(1, true), (100_000, false)];
+
+/// The walks differ in what they cost, and a search costs what the one does that it should take.
+#[test]
+fn taken(rt: HostRuntime) -> Result<(), Fail> {
+    let graph = graph_of(rt.alloc(), "ab|ac")?;
+    for (times, is_depth_first) in TAKEN {
+        let haystack = "ab".repeat(rt.alloc(), times)?;
+        let [search, depth, step] = steps_of(&rt, &graph, haystack.as_str())?;
+        assert!(rt; depth != step, "{times} times: {depth:?}");
+        let wanted = if is_depth_first { depth } else { step };
+        assert_eq!(rt; search, wanted);
+    }
+    Ok(())
+}
+
+/// What a search costs, and what each walk does, the one that goes depth first before the other.
+fn steps_of<H: AllocGlobal>(rt: &H, graph: &Graph, haystack: &str) -> Result<[Steps; 3], Fail> {
+    let (_, search) = graph.search(rt.alloc(), haystack, 0, 2)?;
+    let (_, depth) = graph.search_depth_first(rt.alloc(), haystack, 0, 2)?;
+    let (_, step) = graph.search_in_step(rt.alloc(), haystack, 0, 2)?;
+    Ok([search, depth, step])
 }
 
 /// Behind the haystack's end nothing is tried.
