@@ -1,9 +1,9 @@
 -- Bits in words of 64.
-use Rattle.std.proofs.Common.{◌≡◌, ◌==◌, ℕ, ◌++◌, refl, ◌*◌, ◌-◌, ◌/◌, ◌%◌, ◌^◌, ◌<◌, ◌↔◌, inl, inr, Bool, IsTrue, true, false, List, length, replicate, slice_index, slice_index_or, slice_set, bit_and, bit_or, ap, sym, subst, ◌∙◌, arith, length-set, w64}
+use Rattle.std.proofs.Common.{◌≡◌, ◌==◌, ℕ, ◌++◌, refl, ◌*◌, ◌-◌, ◌/◌, ◌%◌, ◌^◌, ◌<◌, ◌↔◌, inl, inr, Bool, IsTrue, true, false, List, length, replicate, slice_index, slice_index_or, slice_set, set, bit_and, bit_or, ap, sym, subst, ◌∙◌, arith, length-set, w64}
 use Rattle.std.specs.Int.{bit_at}
 use Rattle.std.proofs.lemmas.Bool.{cases_lt, cases_eq}
 use Rattle.std.proofs.lemmas.Bool.Decides.{nat_tests}
-use Rattle.std.proofs.lemmas.List.{get_or-replicate, get_or_append_left, get_or-append_right, get_or_past, get_or-set_same, get_or-set_other, length-replicate}
+use Rattle.std.proofs.lemmas.List.{get_or-replicate, get_or_append_left, get_or-append_right, get_or_past, get_or-set_same, get_or-set_other, set-get_or, length-replicate}
 use Rattle.std.proofs.lemmas.List.FromFn.{fill_by_all, get_or-map-range_with_len, length-map-range_with_len}
 use Rattle.std.proofs.lemmas.Nat.{one_shl, pow_pos}
 use Rattle.std.proofs.lemmas.Nat.Bits.{and_pow, bit_at-lt, bit_at-zero, bit_at_set_same, bit_at_set_other}
@@ -67,7 +67,7 @@ bits_before_zeros words n count =
 
 -- what `1 << k % 64` finds in a word
 pub found_by_mask : (words : List ℕ) (count k : ℕ) → k < count
-    → IsTrue (bit_and (slice_index words (k / 64)) (1 * 2 ^ (k % 64) % 2 ^ 64) == 0)
+    → (bit_and (slice_index words (k / 64)) (1 * 2 ^ (k % 64) % 2 ^ 64) ≡ 0)
     ↔ (slice_index_or (bits_of words count) k false ≡ false)
 found_by_mask words count k lt =
     let word = slice_index words (k / 64) in
@@ -83,6 +83,26 @@ found_by_mask words count k lt =
           let is : bit_at word j ≡ 1 = omega arith in
           rw is (grind (arith, nat_tests))
     ])
+
+pub told_no : (P : Type 0) → (P → ⊥) → IsTrue false ↔ P
+told_no P never = (λ t. cc, λ p. absurd (never p))
+
+-- a bit that is set stays so where its word does
+pub set_again : (words : List ℕ) (count k : ℕ) → k < count
+    → (bit_and (slice_index words (k / 64)) (1 * 2 ^ (k % 64) % 2 ^ 64) ≡ 0 → ⊥)
+    → bits_of (slice_set words (k / 64) (slice_index words (k / 64))) count
+    ≡ slice_set (bits_of words count) k true
+set_again words count k lt found =
+    ap (λ z. bits_of z count) (set-get_or words (k / 64) 0)
+    ∙ sym (ap (set bits k) (sym (not_clear (slice_index_or bits k false)
+    (λ e. found ((found_by_mask words count k lt).1 e)))) ∙ set-get_or bits k false)
+  where
+    bits : List Bool
+    bits = bits_of words count
+
+    not_clear : (bit : Bool) → (bit ≡ false → ⊥) → bit ≡ true
+    not_clear true apart = refl
+    not_clear false apart = absurd (apart refl)
 
 -- what `1 << k % 64` sets in a word
 pub set_by_mask : (words : List ℕ) (count k : ℕ) → k < 64 * length words → k < count

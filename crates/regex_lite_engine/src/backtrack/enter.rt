@@ -14,7 +14,7 @@ use crate::backtrack::frame::Frame;
 use crate::backtrack::stack::Stack;
 use crate::nfa::class::MappedClass;
 use crate::nfa::place::Place;
-use crate::pikevm::here::{Here, first_char};
+use crate::pikevm::here::{Here, byte_len, first_char};
 
 /// How a way goes on from a place.
 #[derive(Clone, Copy)]
@@ -102,7 +102,7 @@ fn next_char(haystack: &str, at: usize) -> Option<(char, usize)>
 {
     match first_char(haystack, at) {
         None => None,
-        Some(c) => Some((c, at + c.len_utf8())),
+        Some(c) => Some((c, at + byte_len(c))),
     }
 }
 

@@ -111,9 +111,11 @@ fn set_bit(words: &mut [u64], k: usize) -> bool
 {
     let word = &mut words[k / 64];
     let bit = 1 << (k % 64);
-    let fresh = *word & bit == 0;
-    *word |= bit;
-    fresh
+    if *word & bit == 0 {
+        *word |= bit;
+        return true;
+    }
+    false
 }
 
 /// The same where the words may end before it: those behind the last are 0.

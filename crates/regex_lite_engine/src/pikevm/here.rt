@@ -52,7 +52,7 @@ impl Here {
 }
 
 /// How many bytes the character has.
-fn byte_len(c: char) -> usize
+pub fn byte_len(c: char) -> usize
     ensures { result ≡ len_utf8 c }
 {
     if c.is_ascii() { 1 } else { wide_len(c) }

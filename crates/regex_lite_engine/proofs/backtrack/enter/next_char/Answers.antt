@@ -14,5 +14,5 @@ returns-in-Some c =
     let a = c.args in let h = a.haystack.now in (
       sym (after_at h (position_at h a.at) a.at c.utf8.haystack (position_is h a.at c.utf8.haystack c.requires))
           ∙ sym c.first_char.ensures ∙ c.in-Some.is,
-      ap (λ z. a.at + z) c.len_utf8.ensures.value,
+      ap (λ z. a.at + z) c.byte_len.ensures,
     )
