@@ -5,8 +5,7 @@ use Rattle.std.proofs.lemmas.Bool.{cases_lt, cases_eq}
 use Rattle.std.proofs.lemmas.Bool.Decides.{nat_tests}
 use Rattle.std.proofs.lemmas.List.{get_or-replicate, get_or_append_left, get_or-append_right, get_or_past, get_or-set_same, get_or-set_other, set-get_or, length-replicate}
 use Rattle.std.proofs.lemmas.List.FromFn.{fill_by_all, get_or-map-range_with_len, length-map-range_with_len}
-use Rattle.std.proofs.lemmas.Nat.{one_shl, pow_pos}
-use Rattle.std.proofs.lemmas.Nat.Bits.{and_pow, bit_at-lt, bit_at-zero, bit_at_set_same, bit_at_set_other}
+use Rattle.std.proofs.lemmas.Nat.Bits.{bit_at-zero, shr_and_one, bit_at_set_same, bit_at_set_other}
 use Rattle.regex_lite_syntax.specs.AsciiMaps.{bit_of_words}
 use Rattle.regex_lite_engine.specs.declared.backtrack.visited.Visited.TheInside.{Inside}
 use Rattle.regex_lite_engine.specs.Backtrack.Bits.{bits_of, words_of}
@@ -65,44 +64,33 @@ bits_before_zeros words n count =
         bit_of_bits words count k lt
         ∙ sym (ap (λ word. bit_at word (k % 64) == 1) (same_word (k / 64)))
 
--- what `1 << k % 64` finds in a word
-pub found_by_mask : (words : List ℕ) (count k : ℕ) → k < count
-    → (bit_and (slice_index words (k / 64)) (1 * 2 ^ (k % 64) % 2 ^ 64) ≡ 0)
-    ↔ (slice_index_or (bits_of words count) k false ≡ false)
-found_by_mask words count k lt =
-    let word = slice_index words (k / 64) in
-    let j = k % 64 in
-    let within : j < 64 = omega arith in
-    let mask : 1 * 2 ^ j % 2 ^ 64 ≡ 2 ^ j = one_shl j 64 within in
-    let bit : bit_at word j < 2 = bit_at-lt word j in
-    let some : 0 < 2 ^ j = pow_pos j in
-    rw (bit_of_bits words count k lt, mask, and_pow)
-    (elim (cases_eq (bit_at word j) 0) [
-      | inl none ↦ rw none (grind (arith, nat_tests))
-      | inr one ↦
-          let is : bit_at word j ≡ 1 = omega arith in
-          rw is (grind (arith, nat_tests))
-    ])
+-- what is found in a word by a shift
+pub found_by_shift : (words : List ℕ) (count k : ℕ) → k < count
+    → (bit_and (slice_index words (k / 64) / 2 ^ (k % 64)) 1 ≡ 1)
+    ↔ (slice_index_or (bits_of words count) k false ≡ true)
+found_by_shift words count k lt =
+    rw (bit_of_bits words count k lt, shr_and_one) (grind (arith, nat_tests))
 
-pub told_no : (P : Type 0) → (P → ⊥) → IsTrue false ↔ P
-told_no P never = (λ t. cc, λ p. absurd (never p))
+-- a bit is new where it is not set, and only there
+pub is_new : (bit : Bool) → (bit ≡ true → ⊥) → IsTrue true ↔ (bit ≡ false)
+is_new true clear = absurd (clear refl)
+is_new false clear = (λ t. refl, λ e. refl)
+
+pub is_old : (bit : Bool) → bit ≡ true → IsTrue false ↔ (bit ≡ false)
+is_old true set = (λ t. cc, λ e. cc)
+is_old false set = (λ t. refl, λ e. cc)
 
 -- a bit that is set stays so where its word does
 pub set_again : (words : List ℕ) (count k : ℕ) → k < count
-    → (bit_and (slice_index words (k / 64)) (1 * 2 ^ (k % 64) % 2 ^ 64) ≡ 0 → ⊥)
+    → bit_and (slice_index words (k / 64) / 2 ^ (k % 64)) 1 ≡ 1
     → bits_of (slice_set words (k / 64) (slice_index words (k / 64))) count
     ≡ slice_set (bits_of words count) k true
 set_again words count k lt found =
     ap (λ z. bits_of z count) (set-get_or words (k / 64) 0)
-    ∙ sym (ap (set bits k) (sym (not_clear (slice_index_or bits k false)
-    (λ e. found ((found_by_mask words count k lt).1 e)))) ∙ set-get_or bits k false)
+    ∙ sym (ap (set bits k) (sym ((found_by_shift words count k lt).0 found)) ∙ set-get_or bits k false)
   where
     bits : List Bool
     bits = bits_of words count
-
-    not_clear : (bit : Bool) → (bit ≡ false → ⊥) → bit ≡ true
-    not_clear true apart = refl
-    not_clear false apart = absurd (apart refl)
 
 -- what `1 << k % 64` sets in a word
 pub set_by_mask : (words : List ℕ) (count k : ℕ) → k < 64 * length words → k < count

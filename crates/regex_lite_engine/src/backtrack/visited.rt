@@ -9,6 +9,9 @@ use std::marker::Model;
 /// Where so many words are enough, the value holds them itself, and no memory is asked for.
 const FEW: usize = 64;
 
+/// Where a search comes behind the last word, so many are added.
+const BLOCK: usize = 16;
+
 /// A bit for each pair, in words of 64.
 #[derive(Drop)]
 enum Words {
@@ -110,12 +113,11 @@ fn set_bit(words: &mut [u64], k: usize) -> bool
         → bits_of words.new count ≡ slice_set (bits_of words.old count) k true }
 {
     let word = &mut words[k / 64];
-    let bit = 1 << (k % 64);
-    if *word & bit == 0 {
-        *word |= bit;
-        return true;
+    if (*word >> (k % 64)) & 1 == 1 {
+        return false;
     }
-    false
+    *word |= 1 << (k % 64);
+    true
 }
 
 /// The same where the words may end before it: those behind the last are 0.
@@ -128,7 +130,9 @@ fn set_bit_behind(words: &mut Vec<u64>, k: usize) -> bool
         ≡ slice_set (bits_of words.old.items count) k true }
     ensures capacity { vec_capacity words.old ≤ vec_capacity words.new }
 {
-    fill_to(words, k / 64 + 1);
+    if words.len() <= k / 64 {
+        fill_to(words, (k / 64 + BLOCK).min(words.capacity()));
+    }
     set_bit(words, k)
 }
 
