@@ -1,6 +1,6 @@
 //! The characters with which a match of a pattern can begin: one walk over the tree, which takes no
 //! memory, and leaves out what lies behind a part that reads.
-ghost use Rattle.std.specs.Prelude.{◌≡◌, ℕ, true, map};
+ghost use Rattle.std.specs.Prelude.{◌≡◌, ◌<◌, ℕ, IsTrue, false, true, map, slice_index};
 ghost use Rattle.regex_lite_syntax.specs.Ranges.{in_ranges};
 ghost use Rattle.regex_lite_syntax.specs.Sets.{just, span};
 ghost use Rattle.regex_lite_syntax.specs.Tree.{look, class, repetition, concat, alternation, trees};
@@ -207,5 +207,19 @@ impl Starts {
             return self.ascii[byte as usize];
         }
         byte >= 0xC0 && self.others
+    }
+
+    /// Whether all four bytes are ASCII, and a match can begin with none of them.
+    pub(crate) fn passes(&self, four: [u8; 4]) -> bool
+        ensures { IsTrue result → (k : ℕ) → k < 4
+            → stops_at self.now (slice_index four k) ≡ false }
+    {
+        let [a, b, c, d] = four;
+        // Without a branch for each byte.
+        if !(a.is_ascii() & b.is_ascii() & c.is_ascii() & d.is_ascii()) {
+            return false;
+        }
+        let ascii = &self.ascii;
+        !(ascii[a as usize] | ascii[b as usize] | ascii[c as usize] | ascii[d as usize])
     }
 }

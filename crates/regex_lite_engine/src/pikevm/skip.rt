@@ -73,9 +73,12 @@ fn next_offset(starts: &Starts, bytes: &[u8], from: usize) -> usize
     }
     let mut at = from;
     'fours: while bytes.len() - at >= 4 {
-        for k in 0..4 {
-            if starts.stops_at(bytes[at + k]) {
-                return at + k;
+        let four = [bytes[at], bytes[at + 1], bytes[at + 2], bytes[at + 3]];
+        if !starts.passes(four) {
+            for k in 0..4 {
+                if starts.stops_at(four[k]) {
+                    return at + k;
+                }
             }
         }
         at += 4;
