@@ -1,6 +1,6 @@
 //! The characters with which a match of a pattern can begin: one walk over the tree, which takes no
 //! memory, and leaves out what lies behind a part that reads.
-ghost use Rattle.std.specs.Prelude.{◌≡◌, ◌<◌, ℕ, IsTrue, false, true, map, slice_index};
+ghost use Rattle.std.specs.Prelude.{◌≡◌, ◌<◌, [], ◌∷◌, ℕ, IsTrue, false, true, map, slice_index};
 ghost use Rattle.regex_lite_syntax.specs.Ranges.{in_ranges};
 ghost use Rattle.regex_lite_syntax.specs.Sets.{just, span};
 ghost use Rattle.regex_lite_syntax.specs.Tree.{look, class, repetition, concat, alternation, trees};
@@ -209,12 +209,11 @@ impl Starts {
         byte >= 0xC0 && self.others
     }
 
-    /// Whether all four bytes are ASCII, and a match can begin with none of them.
-    pub(crate) fn passes(&self, four: [u8; 4]) -> bool
+    /// Whether all of these bytes are ASCII, and a match can begin with none of them.
+    pub(crate) fn passes(&self, a: u8, b: u8, c: u8, d: u8) -> bool
         ensures { IsTrue result → (k : ℕ) → k < 4
-            → stops_at self.now (slice_index four k) ≡ false }
+            → stops_at self.now (slice_index (a ∷ (b ∷ (c ∷ (d ∷ [])))) k) ≡ false }
     {
-        let [a, b, c, d] = four;
         // Without a branch for each byte.
         if !(a.is_ascii() & b.is_ascii() & c.is_ascii() & d.is_ascii()) {
             return false;

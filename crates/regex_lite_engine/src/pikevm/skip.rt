@@ -73,10 +73,9 @@ fn next_offset(starts: &Starts, bytes: &[u8], from: usize) -> usize
     }
     let mut at = from;
     'fours: while bytes.len() - at >= 4 {
-        let four = [bytes[at], bytes[at + 1], bytes[at + 2], bytes[at + 3]];
-        if !starts.passes(four) {
+        if !starts.passes(bytes[at], bytes[at + 1], bytes[at + 2], bytes[at + 3]) {
             for k in 0..4 {
-                if starts.stops_at(four[k]) {
+                if starts.stops_at(bytes[at + k]) {
                     return at + k;
                 }
             }
