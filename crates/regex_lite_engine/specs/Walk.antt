@@ -2,6 +2,7 @@
 pub mod Explored
 pub mod NumberedAnswer
 pub mod Standing
+pub mod Beginnings
 pub mod Machine
 pub mod Slots
 pub mod Cells

@@ -4,6 +4,7 @@ ghost use Rattle.std.specs.Prelude.{◌≡◌, IfOk, length};
 ghost use Rattle.regex_lite_engine.specs.Graph.Stored.{table_of};
 ghost use Rattle.regex_lite_engine.specs.Walk.Outcomes.{IsFresh, IsCountable};
 
+pub(crate) mod beginning;
 mod best;
 pub(crate) mod cell;
 mod enter;
@@ -27,6 +28,7 @@ mod turn;
 mod walk;
 
 use crate::Graph;
+use beginning::Beginning;
 use best::Best;
 use memory::Memory;
 use std::alloc::{AllocError, Global};
@@ -35,9 +37,13 @@ use turn::Cache;
 use walk::Walk;
 
 /// All the memory of a search that keeps so many slots, asked for before its first step.
-pub(crate) fn cache_for(alloc: Global, graph: &Graph, slots: usize) -> Result<Cache, AllocError>
+pub(crate) fn cache_for<S: Beginning>(
+    alloc: Global,
+    graph: &Graph,
+    slots: usize,
+) -> Result<Cache<S>, AllocError>
     ensures fresh { IfOk result (λ cache. IsFresh (table_of graph.now) cache) }
-    ensures width { IfOk result (λ cache. length cache.best.row.items ≡ slots) }
+    ensures width { IfOk result (λ cache. length cache.best.row ≡ slots) }
     ensures countable { IfOk result (λ _. IsCountable (table_of graph.now)) }
 {
     let places = graph.places();

@@ -138,7 +138,7 @@ module _ (table : List (Place ℕ)) (haystack : Text) (s first from i : ℕ) (pa
             listed w (length qs) (suc k) ++ rest,
             is_offset,
             refl,
-            holds_on table haystack s i row row (q, p) w k (l, p) holds here
+            holds_on table haystack s (Some i) row row (q, p) w k (l, p) holds here
                 (unmarked k (ap (λ x. mark_of x k) e ∙ free_marks to k)),
             each qs (suc k) w rest
                 (λ t o got. subst (λ z. numbered_step table haystack (q, p) z ≡ Some (o, p))
@@ -171,7 +171,7 @@ module _ (table : List (Place ℕ)) (haystack : Text) (s first from i : ℕ) (pa
         rest,
         is_last,
         refl,
-        holds_on table haystack s i row row' (q, p) w 0 (to, j) holds here marking,
+        holds_on table haystack s (Some i) row row' (q, p) w 0 (to, j) holds here marking,
         waits' rest waits,
       ))
 

@@ -56,7 +56,7 @@ module _ (table : List (Place ℕ)) (haystack : Text) (s first : ℕ) where
         → WayHolds table haystack s i row (q, p) w
         → IsNumberedOutcome table haystack s first (Some (i, offset haystack p, row))
     numbered_complete i row ends holds =
-        answered table haystack s first (Some (i, offset haystack p, row)) recorded_now (Some w)
+        answered table haystack s first (Some (Some i, offset haystack p, row)) recorded_now (Some w)
         (w, refl, (q, p, refl, ends, holds))
         (depth_first_complete Node (numbered_step table haystack) start (is_end table haystack)
         first (length haystack) same_node from recorded (q, p) w fresh rest u ends

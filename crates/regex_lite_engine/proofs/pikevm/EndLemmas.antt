@@ -15,7 +15,7 @@ use Rattle.regex_lite_engine.specs.Walk.Explored.{StartsAt, IsGrown}
 use Rattle.regex_lite_engine.specs.Walk.NumberedAnswer.{place_with, numbered_step, is_end, IsOver}
 use Rattle.regex_lite_engine.specs.Walk.InStep.{Offer}
 use Rattle.regex_lite_engine.specs.Walk.Standing.{IsHere}
-use Rattle.regex_lite_engine.specs.Walk.Outcomes.{IsNumberedOutcome}
+use Rattle.regex_lite_engine.specs.Walk.Outcomes.{IsBestOutcome}
 use Rattle.regex_lite_engine.specs.Walk.Turns.{IsComing, FromIs}
 use Rattle.regex_lite_engine.specs.Walk.Machine.{Thread}
 use Rattle.regex_lite_engine.specs.Walk.Walking.{Node, Best, BestHolds, InStep}
@@ -72,7 +72,7 @@ module _ (table : List (Place ℕ)) (h : Text) (s first : ℕ) where
       deep.in_step_over Node (numbered_step table h) (λ j. (s, j)) (is_end table h) first (length h) (λ x. x.1) q from recorded way enough u
 
   -- a search that is over tells the answer
-  pub answered : (best : Best) (recorded : Node → Option (List ℕ)) (way : Option (List ℕ)) → BestHolds table h s best way → IsOver table h s first recorded way → IsNumberedOutcome table h s first best
+  pub answered : (best : Best) (recorded : Node → Option (List ℕ)) (way : Option (List ℕ)) → BestHolds table h s best way → IsOver table h s first recorded way → IsBestOutcome table h s first best
   answered None recorded way e over =
       answer_when_over table h s first recorded None None (subst (λ z. IsOver table h s first recorded z) e over) refl
   answered (Some b) recorded way (w, e, (q, end, at_end, ends, (j, ks, at, parts, along, has))) over =
@@ -85,10 +85,10 @@ module _ (table : List (Place ℕ)) (h : Text) (s first : ℕ) where
       )
 
   pub ended : (p : ℕ) (cur : List Thread) (best : Best) → first ≤ p → p ≤ length h →
-      ((p ≡ length h) ⊎ ((best ≡ None → ⊥) × (length cur ≡ 0))) → IsComing table h s first (length h) (p + 1) cur best → IsNumberedOutcome table h s first best
+      ((p ≡ length h) ⊎ ((best ≡ None → ⊥) × (length cur ≡ 0))) → IsComing table h s first (length h) (p + 1) cur best → IsBestOutcome table h s first best
   ended p cur best low high over u = go over
     where
-      with_none : u.coming ≡ [] → ((length h < u.from) ⊎ ((b : List ℕ) × (u.way ≡ Some b))) → IsNumberedOutcome table h s first best
+      with_none : u.coming ≡ [] → ((length h < u.from) ⊎ ((b : List ℕ) × (u.way ≡ Some b))) → IsBestOutcome table h s first best
       with_none e enough = answered best u.recorded u.way u.best_holds (explored (p + 1) u.from u.recorded u.way enough
           (subst (λ z. InStep table h s first (length h) (p + 1) u.from u.recorded z [] u.way) e u.in_step))
 
@@ -100,7 +100,7 @@ module _ (table : List (Place ℕ)) (h : Text) (s first : ℕ) where
       at_end None e is same = inl (omega (arith, is, same))
       at_end (Some x) (w, e, held) is same = inr (w, e)
 
-      go : (p ≡ length h) ⊎ ((best ≡ None → ⊥) × (length cur ≡ 0)) → IsNumberedOutcome table h s first best
+      go : (p ≡ length h) ⊎ ((best ≡ None → ⊥) × (length cur ≡ 0)) → IsBestOutcome table h s first best
       go (inl same) = with_none (nothing_beyond (p + 1) u.from u.recorded u.coming u.way (omega (arith, same)) u.in_step u.before (omega (arith, same))) (at_end best u.best_holds u.from_is same)
       go (inr (some, empty)) = let all = u.all in with_none (nil_from_length u.coming (omega (arith, all, empty))) (inr (way_of best u.best_holds some))
 

@@ -19,7 +19,7 @@ use Rattle.regex_lite_engine.specs.Walk.Machine.{Row, Frame, explore, restore, T
 use Rattle.regex_lite_engine.specs.Walk.NumberedAnswer.{place_with, is_complete, numbered_step, is_end}
 use Rattle.regex_lite_engine.specs.Walk.Standing.{IsHere}
 use Rattle.regex_lite_engine.specs.Search.Offsets.{HasSlots}
-use Rattle.regex_lite_engine.specs.Walk.Walking.{Node, Best, WayHolds, FramesHold, ThreadsHold, IsWalking}
+use Rattle.regex_lite_engine.specs.Walk.Walking.{Node, Best, WayTold, FramesHold, ThreadsHold, IsWalking}
 use Rattle.regex_lite_engine.proofs.pikevm.MarkLemmas.{slots_set, slots_past}
 use Rattle.regex_lite_engine.proofs.pikevm.ThreadLemmas.{same_len, same_at, pushed_len, pushed_last, pushed_kept}
 use Rattle.regex_lite_engine.proofs.pikevm.OptionLemmas.{not_there, same_some}
@@ -45,7 +45,7 @@ pub reads_none : (o : Option ℕ) → reads (in_ranges []) o ≡ false
 reads_none None = refl
 reads_none (Some c) = refl
 
-module _ (table : List (Place ℕ)) (h : Text) (s first last p from now i : ℕ) (f : ℕ → Thread) (k n : ℕ) (best : Best)
+module _ (table : List (Place ℕ)) (h : Text) (s first last p from now : ℕ) (i : Option ℕ) (f : ℕ → Thread) (k n : ℕ) (best : Best)
     (rounds : List ℕ) (row : Row) (q : ℕ) (frames : List Frame) (short : q < length rounds) (new : slice_index rounds q ≡ now → ⊥) where
   module _ (g : ℕ → Thread) (m : ℕ) where
     abbrev State : List ℕ → Row → List Frame → Type 0
@@ -86,7 +86,7 @@ module _ (table : List (Place ℕ)) (h : Text) (s first last p from now i : ℕ)
           hops t l at = ap (λ x. step_from h x p (0 + t)) e ∙ ap (λ y. arrow_taken h p (slice_get (map go to) y)) (omega arith) ∙ ap (arrow_taken h p) (got_map to t l at)
 
           listed : (qs : List ℕ) (j : ℕ) (w : List ℕ) (rest : List (Offer Node)) → ((t l : ℕ) → slice_get qs t ≡ Some l → numbered_step table h (q, p) (j + t) ≡ Some (l, p)) →
-              WayHolds table h s i row (q, p) w → FramesHold table h s p i row frames rest →
+              WayTold table h s i row (q, p) w → FramesHold table h s p i row frames rest →
               FramesHold table h s p i row (map (λ l. explore l) qs ++ frames) (offered_by table h (place_with table q) p w (length qs) j ++ rest)
           listed [] j w rest hops held waits = waits
           listed (l ∷ qs) j w rest hops held waits =
@@ -135,16 +135,16 @@ module _ (table : List (Place ℕ)) (h : Text) (s first last p from now i : ℕ)
           moves (suc b) l hops = let lone : wide table h (q, p) ≡ 1 = ap arrow_count e in
               absurd (not_there (sym (no_more table h (q, p) (suc b) (omega (arith, lone))) ∙ hops))
 
-          with_one : (w : List ℕ) (coming : List (Offer Node)) → WayHolds table h s i row (q, p) w → ThreadsHold table h s (suc p) g 0 coming → length coming ≡ m → Held g' m' w coming 1
+          with_one : (w : List ℕ) (coming : List (Offer Node)) → WayTold table h s i row (q, p) w → ThreadsHold table h s (suc p) g 0 coming → length coming ≡ m → Held g' m' w coming 1
           with_one w coming held all_held all =
               let end : g' (0 + length coming) ≡ (to, i, row) = ap g' (omega (arith, all)) ∙ added in
-              let held' : WayHolds table h s i row (to, suc p) (w ++ 0 ∷ []) = holds_on table h s i row row (q, p) w 0 (to, suc p) held here
+              let held' : WayTold table h s i row (to, suc p) (w ++ 0 ∷ []) = holds_on table h s i row row (q, p) w 0 (to, suc p) held here
               (λ ms has. subst (λ z. HasSlots h row (over (marked z p) ms)) (sym unmarked) has) in
               subst (λ o. ThreadsHold table h s (suc p) g' 0 (coming ++ (one table h o (w ++ 0 ∷ []) ++ []))
               × (length (coming ++ (one table h o (w ++ 0 ∷ []) ++ [])) ≡ m')) (sym here) (
                 held_more table h s (suc p) g' 0 coming ((to, suc p), w ++ 0 ∷ [])
                     (held_same table h s (suc p) g g' 0 coming (λ j lt. kept j (omega (arith, lt, all))) all_held)
-                    (ap (λ (t : Thread). node_of t) (sym end)) (subst (λ (t : Thread). WayHolds table h s t.1 t.2 (to, suc p) (w ++ 0 ∷ [])) (sym end) held'),
+                    (ap (λ (t : Thread). node_of t) (sym end)) (subst (λ (t : Thread). WayTold table h s t.1 t.2 (to, suc p) (w ++ 0 ∷ [])) (sym end) held'),
                 omega (arith, more, all, length-append coming (((to, suc p), w ++ 0 ∷ []) ∷ [])),
               )
             where

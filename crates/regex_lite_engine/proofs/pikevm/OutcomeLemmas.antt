@@ -1,15 +1,17 @@
 -- What a search tells: where it starts, that its counts fit, and the tree's answer by offsets.
-use Rattle.std.proofs.Common.{◌≡◌, ℕ, ◌+◌, ◌*◌, ◌^◌, ◌<◌, ◌≤◌, List, [], length, Option, Some, None, sym, subst, arith}
+use Rattle.std.proofs.Common.{◌≡◌, ℕ, ◌+◌, ◌*◌, ◌^◌, ◌<◌, ◌≤◌, List, [], length, Option, Some, None, sym, subst, ◌∙◌, arith}
 use Rattle.std.specs.Prelude.{IsUtf8, chars, option_map}
+use Rattle.std.proofs.lemmas.List.{length-map}
 use Rattle.std.proofs.lemmas.Str.{encodes-chars, length-le-encodes}
 use Rattle.std.proofs.Math.Nat.{mul-le-mul_left, mul-le-mul_right}
 use Rattle.regex_lite_syntax.specs.Tree.{Tree}
 use Rattle.regex_lite_syntax.specs.Tree.Regular.{IsRegular}
 use Rattle.regex_lite_engine.specs.declared.pikevm.search.Outcome.{Outcome}
+use Rattle.regex_lite_engine.specs.Graph.PlaceCounts.{whole_places, whole_arrows}
 use Rattle.regex_lite_engine.specs.Graph.Places.{Place}
 use Rattle.regex_lite_engine.specs.Graph.Renumbered.{IsGraphOf, arrows_of}
-use Rattle.regex_lite_engine.specs.Graph.Stored.{StoredGraph, table_of}
-use Rattle.regex_lite_engine.specs.Search.Bounds.{characters_left}
+use Rattle.regex_lite_engine.specs.Graph.Stored.{StoredGraph, place_of, table_of}
+use Rattle.regex_lite_engine.specs.Search.Bounds.{IsBounded, characters_left}
 use Rattle.regex_lite_engine.specs.Search.Answer.{IsAnswer, IsShortest}
 use Rattle.regex_lite_engine.specs.Search.Offsets.{position_at, search_start}
 use Rattle.regex_lite_engine.specs.Search.Outcomes.{IsSpanOutcome, IsOutcome, IsEndOutcome}
@@ -48,6 +50,21 @@ can_count table bytes s utf8 short countable =
 start_inside : (bytes : List ℕ) (start : ℕ) → start ≤ length bytes
     → search_start bytes start ≡ position_at bytes start
 start_inside bytes start inside = omega (arith, inside)
+
+-- what is allowed of the graph is allowed of the tree
+pub cost_told : (tree : Tree) (graph : StoredGraph) → IsGraphOf tree graph
+    → (haystack : List ℕ) (start : ℕ) → start ≤ length haystack → (tried entered looked : ℕ)
+    → IsBounded (length (table_of graph)) (arrows_of (table_of graph)) (chars haystack)
+    (position_at haystack start) tried entered looked
+    → IsBounded (whole_places tree) (whole_arrows tree) (chars haystack)
+    (search_start haystack start) tried entered looked
+cost_told tree graph is haystack start inside tried entered looked bounded =
+    subst (λ z. IsBounded (whole_places tree) (whole_arrows tree) (chars haystack) z tried entered looked)
+    (sym (start_inside haystack start inside))
+    (subst (λ z. IsBounded (whole_places tree) z (chars haystack) (position_at haystack start) tried entered looked)
+    is.each_arrow
+    (subst (λ z. IsBounded z (arrows_of (table_of graph)) (chars haystack) (position_at haystack start) tried entered looked)
+    (length-map graph.places place_of ∙ is.places) bounded))
 
 module _ (tree : Tree) (regular : IsRegular tree) (graph : StoredGraph)
     (is : IsGraphOf tree graph) (haystack : List ℕ) (start : ℕ)

@@ -15,7 +15,7 @@ use Rattle.regex_lite_engine.proofs.pikevm.TurnLemmas.{none_coming}
 
 module _ (table : List (Place ℕ)) (haystack : Text) (start s : ℕ) where
   -- a search that has not begun
-  pub begun : (cache : Cache) → IsFresh table cache → IsUnderWay table haystack start s s cache
+  pub begun : {S : Type 0} (cache : Cache S) → IsFresh table cache → IsUnderWay table haystack start s s cache
   begun cache fresh =
       let none = fresh.no_threads in
       let tried = fresh.no_tries in
@@ -38,7 +38,7 @@ module _ (table : List (Place ℕ)) (haystack : Text) (start s : ℕ) where
       bound_more a b q s m (omega (arith, low, later)) (bound_later a p q s m later bound) more
 
   -- a search that has gone over a position of the haystack did no more than is allowed
-  pub bounded : (q : ℕ) (cache : Cache) → s ≤ q → q ≤ length haystack
+  pub bounded : {S : Type 0} (q : ℕ) (cache : Cache S) → s ≤ q → q ≤ length haystack
       → IsUnderWay table haystack start s (q + 1) cache
       → IsBounded (length table) (arrows_of table) haystack s cache.walk.steps.tried
       cache.walk.steps.entered cache.walk.steps.looked

@@ -142,7 +142,7 @@ module _ (table : List (Place ℕ)) (haystack : Text) where
         m.from m.inside u.from_is m.leads.is_way.0 m.leads.ends
 
     -- the best match is one
-    best_matches : (p : ℕ) (threads : List Thread) (b : ℕ × ℕ × Row) → Coming p threads (Some b)
+    best_matches : (p : ℕ) (threads : List Thread) (b : Option ℕ × ℕ × Row) → Coming p threads (Some b)
         → (i : ℕ) × (q : ℕ) × (j : ℕ) × (way : List ℕ) × (b.1 ≡ offset haystack j)
         × IsNumberedMatch table haystack start s i way q j
     best_matches p threads b u = by_way u.best_holds
@@ -234,7 +234,7 @@ module _ (table : List (Place ℕ)) (haystack : Text) where
             ends_here : EndsAt at best best' → b.1 ≡ at
             ends_here (inl same) = absurd (not_there (sym none ∙ sym same ∙ e))
             ends_here (inr (i, row, f)) =
-                ap (λ (z : ℕ × ℕ × Row). z.1) (same_some (sym e ∙ f))
+                ap (λ (z : Option ℕ × ℕ × Row). z.1) (same_some (sym e ∙ f))
 
 pub not_true : (r : Bool) → r ≡ false → IsTrue r → ⊥
 not_true r e t = cc

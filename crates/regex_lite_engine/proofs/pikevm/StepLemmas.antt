@@ -1,5 +1,5 @@
 -- From thread to thread of a position.
-use Rattle.std.proofs.Common.{◌≡◌, ℕ, suc, ◌+◌, ◌^◌, ◌<◌, ◌≤◌, Bool, List, [], ◌∷◌, ◌++◌, length, if◌then◌else◌, Some, refl, sym, ap, subst, ◌∙◌, arith}
+use Rattle.std.proofs.Common.{◌≡◌, ℕ, suc, ◌+◌, ◌^◌, ◌<◌, ◌≤◌, Bool, List, [], ◌∷◌, ◌++◌, length, if◌then◌else◌, Option, Some, None, refl, sym, ap, subst, ◌∙◌, arith}
 use Rattle.regex_lite_syntax.specs.Text.{Text}
 use Rattle.regex_lite_engine.specs.declared.pikevm.here.Here.{Here}
 use Rattle.regex_lite_engine.specs.Search.Bounds.{StepCounts}
@@ -9,12 +9,12 @@ use Rattle.regex_lite_engine.specs.Walk.InStep.{Offer}
 use Rattle.regex_lite_engine.specs.Walk.Machine.{Row, Frame, explore, Thread, thread_at, State}
 use Rattle.regex_lite_engine.specs.Walk.Room.{IsFit, HasRoom, Explores, WalksTo, due_tries, due_entries}
 use Rattle.regex_lite_engine.specs.Walk.Turns.{Between, StepsTo}
-use Rattle.regex_lite_engine.specs.Walk.Walking.{Node, Best, WayHolds, ThreadsHold, InStep, IsWalking}
+use Rattle.regex_lite_engine.specs.Walk.Walking.{Node, Best, WayTold, ThreadsHold, InStep, IsWalking}
 use Rattle.regex_lite_engine.proofs.pikevm.RoomLemmas.{left_most}
 
 module _ (table : List (Place ℕ)) (h : Text) (s first last p from : ℕ) (rounds : List ℕ) (now : ℕ) (f : ℕ → Thread) (n : ℕ) (g : ℕ → Thread) (m : ℕ) (best : Best) where
   -- the thread that is at work does not matter once its frames are done
-  pub thread_over : (i i' : ℕ) (row row' : Row) (k : ℕ) → IsWalking table h s first last p from rounds now i row [] f k n g m best → IsWalking table h s first last p from rounds now i' row' [] f k n g m best
+  pub thread_over : (i i' : Option ℕ) (row row' : Row) (k : ℕ) → IsWalking table h s first last p from rounds now i row [] f k n g m best → IsWalking table h s first last p from rounds now i' row' [] f k n g m best
   thread_over i i' row row' k u = record {
     recorded = u.recorded;
     under = u.under;
@@ -32,7 +32,7 @@ module _ (table : List (Place ℕ)) (h : Text) (s first last p from : ℕ) (roun
     best_holds = u.best_holds;
   }
 
-  pub thread_taken : (k q i : ℕ) (row : Row) → k < n → f k ≡ (q, i, row) → IsWalking table h s first last p from rounds now 0 [] [] f k n g m best →
+  pub thread_taken : (k q : ℕ) (i : Option ℕ) (row : Row) → k < n → f k ≡ (q, i, row) → IsWalking table h s first last p from rounds now None [] [] f k n g m best →
       IsWalking table h s first last p from rounds now i row (explore q ∷ []) f (suc k) n g m best
   thread_taken k q i row below e u = go u.later u.later_hold u.later_all (subst (λ z. In_step (z ++ u.later)) u.frames_hold u.in_step)
     where
@@ -44,7 +44,7 @@ module _ (table : List (Place ℕ)) (h : Text) (s first last p from : ℕ) (roun
       go [] held all in_step = absurd (omega (arith, all, below))
       go (o ∷ later) (at, holds, more) all in_step =
           let at' : o.0 ≡ (q, p) = at ∙ ap (λ (t : Thread). node_of t) e in
-          let holds' : WayHolds table h s i row (q, p) o.1 = subst (λ z. WayHolds table h s i row z o.1) at' (subst (λ (t : Thread). WayHolds table h s t.1 t.2 o.0 o.1) e holds) in
+          let holds' : WayTold table h s i row (q, p) o.1 = subst (λ z. WayTold table h s i row z o.1) at' (subst (λ (t : Thread). WayTold table h s t.1 t.2 o.0 o.1) e holds) in
           record {
             recorded = u.recorded;
             under = o ∷ [];
@@ -66,13 +66,13 @@ module _ (table : List (Place ℕ)) (h : Text) (s first last p from : ℕ) (roun
           node_of t = (t.0, p)
 
 pub stepped : (table : List (Place ℕ)) (here : Here) (now : ℕ) (f : ℕ → Thread) (n : ℕ) (r0 : List ℕ) (t0 : List Thread) (b0 : Best) (k : ℕ) (rounds rounds' : List ℕ) (t t' : List Thread)
-    (q i : ℕ) (row row' : Row) (fs : List Frame) (done : Bool) → k < n → f k ≡ (q, i, row) → fs ≡ explore q ∷ [] →
+    (q : ℕ) (i : Option ℕ) (row row' : Row) (fs : List Frame) (done : Bool) → k < n → f k ≡ (q, i, row) → fs ≡ explore q ∷ [] →
     StepsTo table here now f n r0 t0 b0 k rounds t b0 → WalksTo table here i now rounds row fs t rounds' row' [] t' done →
     StepsTo table here now f n r0 t0 b0 (if done then n else k + 1) rounds' t' (if done then Some (i, here.at, row') else b0)
 stepped table here now f n r0 t0 b0 k rounds rounds' t t' q i row row' fs done below e ef w v = λ h p is s first last from x.
     let next : suc k ≡ k + 1 = omega arith in
     subst (λ z. Between table h s first last p from rounds' now f (if done then n else z) n t' (if done then Some (i, here.at, row') else b0)) next
-    (thread_over table h s first last p from rounds' now f n (thread_at t') (length t') (if done then Some (i, here.at, row') else b0) i 0 row' [] (if done then n else suc k)
+    (thread_over table h s first last p from rounds' now f n (thread_at t') (length t') (if done then Some (i, here.at, row') else b0) i None row' [] (if done then n else suc k)
     (subst (λ z. WalksTo table here i now rounds row z t rounds' row' [] t' done) ef v h p is s first last from f (suc k) n b0
     (thread_taken table h s first last p from rounds now f n (thread_at t) (length t) b0 k q i row below e (w h p is s first last from x))))
 
@@ -109,7 +109,7 @@ entries_more table now now' r r' entered entered' due en less so_far =
     omega (arith, less', so_far)
 
 -- a thread was taken up: w1 is w but for the frames and the row
-module _ (table : List (Place ℕ)) (w w1 : Walk) (q : ℕ) (em : w1.memory ≡ record w.memory { row = w1.memory.row; frames = [] }) (et : w1.steps ≡ w.steps) where
+module _ (table : List (Place ℕ)) {S : Type 0} (w w1 : Walk S) (q : ℕ) (em : w1.memory ≡ record w.memory { row = w1.memory.row; frames = [] }) (et : w1.steps ≡ w.steps) where
   same_rounds : w1.memory.rounds ≡ w.memory.rounds
   same_rounds = ap (λ (m : State). m.rounds) em
 
@@ -137,7 +137,7 @@ module _ (table : List (Place ℕ)) (w w1 : Walk) (q : ℕ) (em : w1.memory ≡ 
       (fit_pushed table w.memory.rounds w.memory.now w.memory.row w1.memory.row q (explore q ∷ w1.memory.frames) w.memory.room w.memory.next w.steps.tried w.steps.entered w.steps.looked
       inside kept few same_frames fit))
 
-  module _ (here : Here) (now : ℕ) (round : w.memory.now ≡ now) (w2 : Walk) (i : ℕ) (done : Bool) (explored : Explores table here i w1 w2 (explore q ∷ w1.memory.frames) done) where
+  module _ (here : Here) (now : ℕ) (round : w.memory.now ≡ now) (w2 : Walk S) (i : Option ℕ) (done : Bool) (explored : Explores table here i w1 w2 (explore q ∷ w1.memory.frames) done) where
     round_now : w1.memory.now ≡ now
     round_now = same_now ∙ round
 

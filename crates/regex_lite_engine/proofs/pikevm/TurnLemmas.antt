@@ -3,19 +3,19 @@ use Rattle.std.proofs.Common.{◌≡◌, ℕ, zero, suc, ◌+◌, ◌^◌, ◌<�
 use Rattle.std.proofs.lemmas.List.Sums.{sum_by-cons}
 use Rattle.std.proofs.lemmas.List.{nil_from_length}
 use Rattle.regex_lite_syntax.specs.Text.{Text}
-use Rattle.regex_lite_engine.specs.declared.pikevm.best.Best as code
 use Rattle.regex_lite_engine.specs.declared.pikevm.here.Here.{Here}
 use Rattle.regex_lite_engine.specs.Graph.Places.{Place, kept_back, reading_count}
 use Rattle.regex_lite_engine.specs.Graph.Renumbered.{arrow_count, arrows_of}
 use Rattle.regex_lite_engine.specs.Walk.Entering.{Pushed}
 use Rattle.regex_lite_engine.specs.Walk.InStep.{Offer}
-use Rattle.regex_lite_engine.specs.Walk.Machine.{Row, Thread, thread_at, State}
+use Rattle.regex_lite_engine.specs.Walk.Machine.{Stored, Row, Thread, thread_at, State}
 use Rattle.regex_lite_engine.specs.Walk.NumberedAnswer.{numbered_step, is_end}
 use Rattle.regex_lite_engine.specs.Search.Offsets.{offset}
+use Rattle.regex_lite_engine.specs.Walk.Beginnings.{Tells}
 use Rattle.regex_lite_engine.specs.Walk.Standing.{IsHere}
 use Rattle.regex_lite_engine.specs.Walk.Room.{IsFit, ThreadsBelow, lone}
 use Rattle.regex_lite_engine.specs.Walk.Turns.{with_start, Between, StepsTo, IsComing, IsDeadAt, Begun, FromIs, IsBlank, IsReady}
-use Rattle.regex_lite_engine.specs.Walk.Walking.{Node, Best, WayHolds, InStep}
+use Rattle.regex_lite_engine.specs.Walk.Walking.{Node, Best, WayTold, InStep}
 use Rattle.regex_lite_engine.proofs.pikevm.OptionLemmas.{not_there, same_some}
 use Rattle.regex_lite_engine.proofs.pikevm.PositionLemmas as deep
 use Rattle.regex_lite_engine.proofs.pikevm.RoomLemmas.{left_most, threads_pushed}
@@ -26,7 +26,7 @@ pub sum_lone : (table : List (Place ℕ)) → sum_by lone table ≡ length table
 sum_lone [] = refl
 sum_lone (x ∷ table) = let more = sum_lone table in omega (arith, more, sum_by-cons lone x table)
 
-pub fit_first : (table : List (Place ℕ)) (memory memory' : State) (best : code.Best) (tried entered looked : ℕ) →
+pub fit_first : (table : List (Place ℕ)) (memory memory' : State) (best : Stored) (tried entered looked : ℕ) →
     IsReady table memory best tried entered looked → memory' ≡ record memory { now = memory.now + 1 } →
     tried + arrows_of table < 2 ^ 127 → entered + length table < 2 ^ 127 → IsFit table memory'.rounds memory'.now memory'.row [] memory'.room memory'.next tried entered looked
 fit_first table memory memory' best tried entered looked ready em few fewe =
@@ -95,7 +95,7 @@ module _ (table : List (Place ℕ)) (h : Text) (s first last : ℕ) where
     not_met : (q : ℕ) → slice_index rounds' q ≡ now' → ⊥
     not_met q e = let le = old q in let same : slice_index rounds' q ≡ slice_index rounds q = ap (λ x. slice_index x q) er in omega (arith, le, same, en, e)
 
-    start_held : (i at : ℕ) (blank : Row) → IsBlank blank → at ≡ offset h i → WayHolds table h s at blank (s, i) (i ∷ [])
+    start_held : (i : ℕ) (at : Option ℕ) (blank : Row) → IsBlank blank → Tells at (offset h i) → WayTold table h s at blank (s, i) (i ∷ [])
     start_held i at blank blanks e = (i, [], e, refl, refl, blanks)
 
     -- without an own start
@@ -120,7 +120,7 @@ module _ (table : List (Place ℕ)) (h : Text) (s first last : ℕ) where
         })
 
     -- with it
-    begun_own : (p at : ℕ) (blank : Row) → IsBlank blank → at ≡ offset h p → first ≤ p → p ≤ last → Pushed cur cur' (s, at, blank) → IsComing table h s first last p cur None →
+    begun_own : (p : ℕ) (at : Option ℕ) (blank : Row) → IsBlank blank → Tells at (offset h p) → first ≤ p → p ≤ last → Pushed cur cur' (s, at, blank) → IsComing table h s first last p cur None →
         Between table h s first last p (suc p) rounds' now' (thread_at cur') 0 (length cur') next None
     begun_own p at blank blanks is_at low high pushed u =
         let all = u.all in let more = pushed_len cur cur' _ pushed in let at_end = pushed_last cur cur' _ pushed in let kept = pushed_kept cur cur' _ pushed in
@@ -139,8 +139,8 @@ module _ (table : List (Place ℕ)) (h : Text) (s first last : ℕ) where
           later_hold = held_more table h s p (thread_at cur') 0 u.coming ((s, p), p ∷ [])
               (held_same table h s p (thread_at cur) (thread_at cur') 0 u.coming (λ j lt. kept j (omega (arith, lt, same))) u.hold)
               (subst (λ z. ◌≡◌ {A = Node} (s, p) ((thread_at cur' z).0, p)) (sym same) (ap (λ (t : Thread). node_of t) (sym at_end)))
-              (subst (λ z. WayHolds table h s (thread_at cur' z).1 (thread_at cur' z).2 (s, p) (p ∷ [])) (sym same)
-              (subst (λ (t : Thread). WayHolds table h s t.1 t.2 (s, p) (p ∷ [])) (sym at_end) (start_held p at blank blanks is_at)));
+              (subst (λ z. WayTold table h s (thread_at cur' z).1 (thread_at cur' z).2 (s, p) (p ∷ [])) (sym same)
+              (subst (λ (t : Thread). WayTold table h s t.1 t.2 (s, p) (p ∷ [])) (sym at_end) (start_held p at blank blanks is_at)));
           later_all = omega (arith, all, more, length-append u.coming (((s, p), p ∷ []) ∷ []));
           coming_hold = tt;
           coming_all = sym (ap length empty);
@@ -179,10 +179,10 @@ module _ (table : List (Place ℕ)) (h : Text) (s first last : ℕ) where
     from_kept p from None None f kept = f
     from_kept p from (Some b) None f kept = let e : ◌≡◌ {A = Best} (Some b) None = kept refl in absurd (not_there (sym e))
 
-    pub turned : (here : Here) (p : ℕ) → IsHere h p here → (may : Bool) (best best' : Best) (rounds2 : List ℕ) (next2 : List Thread) → first ≤ p → p ≤ last → (may ≡ false → IsDeadAt table h s p) → Begun s here.at may best cur cur' →
+    pub turned : (here : Here) (at : Option ℕ) → Tells at here.at → (p : ℕ) → IsHere h p here → (may : Bool) (best best' : Best) (rounds2 : List ℕ) (next2 : List Thread) → first ≤ p → p ≤ last → (may ≡ false → IsDeadAt table h s p) → Begun s at may best cur cur' →
         StepsTo table here now' (thread_at cur') (length cur') rounds' next best (length cur') rounds2 next2 best' → (best' ≡ None → best ≡ None) →
         IsComing table h s first last p cur best → IsComing table h s first last (p + 1) next2 best'
-    turned here p is may best best' rounds2 next2 low high dead begun steps kept u = go best begun refl u
+    turned here at told p is may best best' rounds2 next2 low high dead begun steps kept u = go best begun refl u
       where
         Goal : Type 0
         Goal = IsComing table h s first last (p + 1) next2 best'
@@ -193,8 +193,8 @@ module _ (table : List (Place ℕ)) (h : Text) (s first last : ℕ) where
         on_none : (from : ℕ) → from ≡ suc p → best ≡ None → Between table h s first last p from rounds' now' (thread_at cur') 0 (length cur') next None → Goal
         on_none from e none w = on from (subst (λ z. FromIs (p + 1) from z) (sym none) (omega (arith, e))) (subst (λ z. Between table h s first last p from rounds' now' (thread_at cur') 0 (length cur') next z) (sym none) w)
 
-        go : (b : Best) → Begun s here.at may b cur cur' → best ≡ b → IsComing table h s first last p cur b → Goal
-        go None (inl (none, (blank, blanks, pushed))) e u = on_none (suc p) refl e (begun_own p here.at blank blanks is.bytes low high pushed u)
+        go : (b : Best) → Begun s at may b cur cur' → best ≡ b → IsComing table h s first last p cur b → Goal
+        go None (inl (none, (blank, blanks, pushed))) e u = on_none (suc p) refl e (begun_own p at blank blanks (subst (Tells at) is.bytes told) low high pushed u)
         go None (inr (inl some, same)) e u = absurd (some refl)
         go None (inr (inr off, same)) e u = on_none (suc p) refl e (begun_alone p (suc p) None u
             (deep.in_step_skip Node (numbered_step table h) (λ j. (s, j)) (is_end table h) first last (λ x. x.1) p p (suc p) u.recorded u.coming [] u.way (omega arith)
@@ -204,11 +204,11 @@ module _ (table : List (Place ℕ)) (h : Text) (s first last : ℕ) where
         go (Some b) (inr (why, same)) e u = on u.from (subst (λ z. FromIs (p + 1) u.from z) (sym e) tt)
             (subst (λ z. Between table h s first last p u.from rounds' now' (thread_at cur') 0 (length cur') next z) (sym e) (begun_alone p u.from (Some b) u u.in_step same))
 
-pub begun_len : (best : Best) (s at : ℕ) (may : Bool) (cur cur' : List Thread) → Begun s at may best cur cur' → (length cur') ≤ length cur + 1
+pub begun_len : (best : Best) (s : ℕ) (at : Option ℕ) (may : Bool) (cur cur' : List Thread) → Begun s at may best cur cur' → (length cur') ≤ length cur + 1
 begun_len best s at may cur cur' (inl (none, (blank, blanks, pushed))) = let e = (pushed_len cur cur' _ pushed) in omega (arith, e)
 begun_len best s at may cur cur' (inr (some, same)) = let e : (length cur') ≡ length cur = ap (λ (t : List Thread). length t) same in omega (arith, e)
 
-pub begun_below : (c : ℕ) (best : Best) (s at : ℕ) (may : Bool) (cur cur' : List Thread) → s < c → ThreadsBelow c cur → Begun s at may best cur cur' → ThreadsBelow c cur'
+pub begun_below : (c : ℕ) (best : Best) (s : ℕ) (at : Option ℕ) (may : Bool) (cur cur' : List Thread) → s < c → ThreadsBelow c cur → Begun s at may best cur cur' → ThreadsBelow c cur'
 begun_below c best s at may cur cur' inside below (inl (none, (blank, blanks, pushed))) = threads_pushed c s at blank cur cur' inside pushed below
 begun_below c best s at may cur cur' inside below (inr (some, same)) = subst (λ (t : List Thread). ThreadsBelow c t) (sym same) below
 
@@ -217,17 +217,17 @@ blank_row zero k slot e = absurd (not_there e)
 blank_row (suc w) zero slot e = sym (same_some e)
 blank_row (suc w) (suc k) slot e = blank_row w k slot e
 
-pub start_begun : (s at w : ℕ) (may : Bool) (best : Best) (ts : List Thread) → Begun s at may best ts (with_start s at may best w ts)
+pub start_begun : (s : ℕ) (at : Option ℕ) (w : ℕ) (may : Bool) (best : Best) (ts : List Thread) → Begun s at may best ts (with_start s at may best w ts)
 start_begun s at w true None ts = inl (refl, (replicate w None, blank_row w, refl))
 start_begun s at w false None ts = inr (inr refl, refl)
 start_begun s at w true (Some b) ts = inr (inl (λ e. not_there (sym e)), refl)
 start_begun s at w false (Some b) ts = inr (inl (λ e. not_there (sym e)), refl)
 
 -- a thread, or the own start behind them
-abbrev IsTakenUp : (s at w : ℕ) (ts ways : List Thread) (k : ℕ) → Type 0
+abbrev IsTakenUp : (s : ℕ) (at : Option ℕ) (w : ℕ) (ts ways : List Thread) (k : ℕ) → Type 0
 IsTakenUp s at w ts ways k = (k ≤ length ts) × (thread_at ways k ≡ thread_at (ts ++ (s, at, replicate w None) ∷ []) k)
 
-pub start_taken : (s at w : ℕ) (may : Bool) (best : Best) (ts : List Thread) (k : ℕ) → k < length (with_start s at may best w ts) → IsTakenUp s at w ts (with_start s at may best w ts) k
+pub start_taken : (s : ℕ) (at : Option ℕ) (w : ℕ) (may : Bool) (best : Best) (ts : List Thread) (k : ℕ) → k < length (with_start s at may best w ts) → IsTakenUp s at w ts (with_start s at may best w ts) k
 start_taken s at w true None ts k lt = let e = pushed_len ts (ts ++ (s, at, replicate w None) ∷ []) _ refl in (omega (arith, lt, e), refl)
 start_taken s at w false None ts k lt = (omega (arith, lt), sym (pushed_kept ts (ts ++ (s, at, replicate w None) ∷ []) _ refl k lt))
 start_taken s at w true (Some b) ts k lt = (omega (arith, lt), sym (pushed_kept ts (ts ++ (s, at, replicate w None) ∷ []) _ refl k lt))

@@ -11,7 +11,7 @@ use Rattle.regex_lite_engine.specs.Walk.InStep.{Offer}
 use Rattle.regex_lite_engine.specs.Walk.Machine.{Row, Frame, explore, restore, Thread}
 use Rattle.regex_lite_engine.specs.Walk.NumberedAnswer.{place_with, is_complete, numbered_step, is_end}
 use Rattle.regex_lite_engine.specs.Search.Offsets.{offset, HasSlots}
-use Rattle.regex_lite_engine.specs.Walk.Walking.{Node, WayHolds, FramesHold, ThreadsHold, InStep, Best, IsWalking}
+use Rattle.regex_lite_engine.specs.Walk.Walking.{Node, WayTold, FramesHold, ThreadsHold, InStep, Best, IsWalking}
 use Rattle.regex_lite_engine.proofs.laws.LeadsLemmas.{leads_append}
 use Rattle.regex_lite_engine.proofs.pikevm.InStepLemmas as deep
 use Rattle.regex_lite_engine.proofs.pikevm.InStepMatchLemmas as at_match
@@ -72,8 +72,8 @@ module _ (table : List (Place ℕ)) (h : Text) where
       by_first (Some m) e = ap (λ z. (m, w ++ j ∷ []) ∷ z) e
 
   module _ (s : ℕ) where
-    pub holds_on : (i : ℕ) (row row' : Row) (n : Node) (w : List ℕ) (a : ℕ) (l : Node) → WayHolds table h s i row n w → numbered_step table h n a ≡ Some l →
-        ((ms : Marks) → HasSlots h row ms → HasSlots h row' (over (marked (mark_of (place_with table n.0) a) n.1) ms)) → WayHolds table h s i row' l (w ++ a ∷ [])
+    pub holds_on : (i : Option ℕ) (row row' : Row) (n : Node) (w : List ℕ) (a : ℕ) (l : Node) → WayTold table h s i row n w → numbered_step table h n a ≡ Some l →
+        ((ms : Marks) → HasSlots h row ms → HasSlots h row' (over (marked (mark_of (place_with table n.0) a) n.1) ms)) → WayTold table h s i row' l (w ++ a ∷ [])
     holds_on i row row' n w a l (j, ks, eb, e, path, has) hops f = (
       j,
       ks ++ a ∷ [],
@@ -93,7 +93,7 @@ module _ (table : List (Place ℕ)) (h : Text) where
     held_same p f g k (o ∷ os) e (at, holds, rest) =
         let same : g k ≡ f k = e k (omega arith) in (
           at ∙ ap (λ (t : Thread). node_of t) (sym same),
-          subst (λ (t : Thread). WayHolds table h s t.1 t.2 o.0 o.1) (sym same) holds,
+          subst (λ (t : Thread). WayTold table h s t.1 t.2 o.0 o.1) (sym same) holds,
           held_same p f g (suc k) os (λ j lt. e j (omega (arith, lt))) rest,
         )
       where
@@ -102,15 +102,15 @@ module _ (table : List (Place ℕ)) (h : Text) where
 
     -- one more behind
     pub held_more : (p : ℕ) (f : ℕ → Thread) (k : ℕ) (os : List (Offer Node)) (o : Offer Node) → ThreadsHold table h s p f k os →
-        o.0 ≡ ((f (k + length os)).0, p) → WayHolds table h s (f (k + length os)).1 (f (k + length os)).2 o.0 o.1 → ThreadsHold table h s p f k (os ++ o ∷ [])
+        o.0 ≡ ((f (k + length os)).0, p) → WayTold table h s (f (k + length os)).1 (f (k + length os)).2 o.0 o.1 → ThreadsHold table h s p f k (os ++ o ∷ [])
     held_more p f k [] o a at holds =
         let same : k + 0 ≡ k = omega arith in
-        (subst (λ z. o.0 ≡ ((f z).0, p)) same at, subst (λ z. WayHolds table h s (f z).1 (f z).2 o.0 o.1) same holds, tt)
+        (subst (λ z. o.0 ≡ ((f z).0, p)) same at, subst (λ z. WayTold table h s (f z).1 (f z).2 o.0 o.1) same holds, tt)
     held_more p f k (x ∷ os) o (first, first_holds, rest) at holds =
         let same : k + suc (length os) ≡ suc k + length os = omega arith in
-        (first, first_holds, held_more p f (suc k) os o rest (subst (λ z. o.0 ≡ ((f z).0, p)) same at) (subst (λ z. WayHolds table h s (f z).1 (f z).2 o.0 o.1) same holds))
+        (first, first_holds, held_more p f (suc k) os o rest (subst (λ z. o.0 ≡ ((f z).0, p)) same at) (subst (λ z. WayTold table h s (f z).1 (f z).2 o.0 o.1) same holds))
 
-    module _ (first last p from now i : ℕ) (f : ℕ → Thread) (k n : ℕ) (g : ℕ → Thread) (m : ℕ) (best : Best) where
+    module _ (first last p from now : ℕ) (i : Option ℕ) (f : ℕ → Thread) (k n : ℕ) (g : ℕ → Thread) (m : ℕ) (best : Best) where
       abbrev State : List ℕ → Row → List Frame → Type 0
       State rounds row frames = IsWalking table h s first last p from rounds now i row frames f k n g m best
 
@@ -140,7 +140,7 @@ module _ (table : List (Place ℕ)) (h : Text) where
           State rounds row (explore q ∷ frames) → State rounds row frames
       walk_seen rounds row q frames short was u = go u.frames_hold (u.met q short was)
         where
-          go : (w : List ℕ) × (rest : List (Offer Node)) × (u.under ≡ ((q, p), w) ∷ rest) × WayHolds table h s i row (q, p) w × FramesHold table h s p i row frames rest →
+          go : (w : List ℕ) × (rest : List (Offer Node)) × (u.under ≡ ((q, p), w) ∷ rest) × WayTold table h s i row (q, p) w × FramesHold table h s p i row frames rest →
               (v : List ℕ) × (u.recorded (q, p) ≡ Some v) → State rounds row frames
           go (w, rest, e, holds, waits) (v, r) = record {
             recorded = u.recorded;
@@ -196,12 +196,12 @@ module _ (table : List (Place ℕ)) (h : Text) where
         -- all its arrows stay at the position
         pub walk_entered : (row' : Row) (frames' : List Frame) → (IsTrue (is_end table h (q, p)) → ⊥) →
             ((a : ℕ) (l : Node) → numbered_step table h (q, p) a ≡ Some l → l.1 ≡ p) →
-            ((w : List ℕ) (rest : List (Offer Node)) → WayHolds table h s i row (q, p) w → FramesHold table h s p i row frames rest →
+            ((w : List ℕ) (rest : List (Offer Node)) → WayTold table h s i row (q, p) w → FramesHold table h s p i row frames rest →
             FramesHold table h s p i row' frames' (offered_by (place_with table q) p w (wide (q, p)) 0 ++ rest)) →
             State (slice_set rounds q now) row' frames'
         walk_entered row' frames' open_still stays f' = go u.frames_hold
           where
-            go : (w : List ℕ) × (rest : List (Offer Node)) × (u.under ≡ ((q, p), w) ∷ rest) × WayHolds table h s i row (q, p) w × FramesHold table h s p i row frames rest →
+            go : (w : List ℕ) × (rest : List (Offer Node)) × (u.under ≡ ((q, p), w) ∷ rest) × WayTold table h s i row (q, p) w × FramesHold table h s p i row frames rest →
                 State (slice_set rounds q now) row' frames'
             go (w, rest, e, holds, waits) =
                 let listed = offered_by (place_with table q) p w (wide (q, p)) 0 in
@@ -229,13 +229,13 @@ module _ (table : List (Place ℕ)) (h : Text) where
         -- its arrows lead to the next position
         pub walk_read : (g' : ℕ → Thread) (m' : ℕ) → (IsTrue (is_end table h (q, p)) → ⊥) →
             ((a : ℕ) (l : Node) → numbered_step table h (q, p) a ≡ Some l → l.1 ≡ suc p) →
-            ((w : List ℕ) (coming : List (Offer Node)) → WayHolds table h s i row (q, p) w → ThreadsHold table h s (suc p) g 0 coming → length coming ≡ m →
+            ((w : List ℕ) (coming : List (Offer Node)) → WayTold table h s i row (q, p) w → ThreadsHold table h s (suc p) g 0 coming → length coming ≡ m →
             ThreadsHold table h s (suc p) g' 0 (coming ++ offered_by (place_with table q) p w (wide (q, p)) 0)
             × (length (coming ++ offered_by (place_with table q) p w (wide (q, p)) 0) ≡ m')) →
             IsWalking table h s first last p from (slice_set rounds q now) now i row frames f k n g' m' best
         walk_read g' m' open_still moves f' = go u.frames_hold
           where
-            go : (w : List ℕ) × (rest : List (Offer Node)) × (u.under ≡ ((q, p), w) ∷ rest) × WayHolds table h s i row (q, p) w × FramesHold table h s p i row frames rest →
+            go : (w : List ℕ) × (rest : List (Offer Node)) × (u.under ≡ ((q, p), w) ∷ rest) × WayTold table h s i row (q, p) w × FramesHold table h s p i row frames rest →
                 IsWalking table h s first last p from (slice_set rounds q now) now i row frames f k n g' m' best
             go (w, rest, e, holds, waits) =
                 let listed = offered_by (place_with table q) p w (wide (q, p)) 0 in
@@ -264,7 +264,7 @@ module _ (table : List (Place ℕ)) (h : Text) where
         pub walk_complete : IsTrue (is_end table h (q, p)) → IsWalking table h s first last p from (slice_set rounds q now) now i row [] f n n g m (Some (i, offset h p, row))
         walk_complete ends = go u.frames_hold
           where
-            go : (w : List ℕ) × (rest : List (Offer Node)) × (u.under ≡ ((q, p), w) ∷ rest) × WayHolds table h s i row (q, p) w × FramesHold table h s p i row frames rest →
+            go : (w : List ℕ) × (rest : List (Offer Node)) × (u.under ≡ ((q, p), w) ∷ rest) × WayTold table h s i row (q, p) w × FramesHold table h s p i row frames rest →
                 IsWalking table h s first last p from (slice_set rounds q now) now i row [] f n n g m (Some (i, offset h p, row))
             go (w, rest, e, holds, waits) = record {
               recorded = recorded_now w;

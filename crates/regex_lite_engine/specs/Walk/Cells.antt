@@ -1,5 +1,5 @@
 -- How the working memory of a search lies in its cells and rows.
-use Rattle.std.specs.Prelude.{◌≡◌, ◌+◌, ◌-◌, ◌*◌, ◌≤◌, ◌<◌, ℕ, List, [], ◌++◌, take, drop, replicate, length, map, None, slice_index, slice_index_or}
+use Rattle.std.specs.Prelude.{◌≡◌, ◌+◌, ◌-◌, ◌*◌, ◌≤◌, ◌<◌, ℕ, List, [], ◌++◌, take, drop, replicate, length, map, Option, None, slice_index, slice_index_or}
 use Rattle.std.specs.List.{range_with_len}
 use Rattle.regex_lite_engine.specs.declared.pikevm.cell.Cell.{Cell}
 use Rattle.regex_lite_engine.specs.declared.pikevm.cell.Frame as code
@@ -34,14 +34,14 @@ abbrev pub frame_of : code.Frame → Frame
 frame_of (stored.Explore place) = explore place
 frame_of (stored.Restore slot old) = restore slot old
 
-abbrev pub frame_in : Cell → Frame
+abbrev pub frame_in : {S : Type 0} → Cell S → Frame
 frame_in cell = frame_of cell.frame
 
-abbrev pub round_in : Cell → ℕ
+abbrev pub round_in : {S : Type 0} → Cell S → ℕ
 round_in cell = cell.entered
 
 -- the next frame lies at `top`
-abbrev pub frames_in : List Cell → (top : ℕ) → List Frame
+abbrev pub frames_in : {S : Type 0} → List (Cell S) → (top : ℕ) → List Frame
 frames_in cells top = drop top (map frame_in cells)
 
 abbrev pub other : Side → Side
@@ -49,15 +49,15 @@ other First = Second
 other Second = First
 
 -- the thread of the one list or the other
-abbrev pub place_on : Side → Cell → ℕ
+abbrev pub place_on : {S : Type 0} → Side → Cell S → ℕ
 place_on First cell = cell.first_place
 place_on Second cell = cell.second_place
 
-abbrev pub start_on : Side → Cell → ℕ
+abbrev pub start_on : {S : Type 0} → Side → Cell S → S
 start_on First cell = cell.first_start
 start_on Second cell = cell.second_start
 
-abbrev pub with_thread : Side → (place start : ℕ) → Cell → Cell
+abbrev pub with_thread : {S : Type 0} → Side → (place : ℕ) → (start : S) → Cell S → Cell S
 with_thread First place start cell =
     record cell { first_place = place; first_start = start }
 with_thread Second place start cell =
@@ -69,11 +69,16 @@ abbrev pub row_on : Side → (k : ℕ) → ℕ
 row_on First k = 2 * k + 1
 row_on Second k = 2 * k + 2
 
-module _ (side : Side) (cells : List Cell) (rows : List Row) (room : ℕ) where
+-- what the thread tells of where its way began
+abbrev pub start_told : {S : Type 0} → (S → Option ℕ) → Side → Cell S → Option ℕ
+start_told told side cell = told (start_on side cell)
+
+module _ {S : Type 0} (told : S → Option ℕ) (side : Side) (cells : List (Cell S)) (rows : List Row)
+    (room : ℕ) where
   abbrev pub thread_on : ℕ → Thread
   thread_on k = (
     slice_index (map (place_on side) cells) k,
-    slice_index (map (start_on side) cells) k,
+    slice_index_or (map (start_told told side) cells) k None,
     nth_row rows (row_on side k),
   )
 
@@ -82,7 +87,7 @@ module _ (side : Side) (cells : List Cell) (rows : List Row) (room : ℕ) where
   threads_on n = map thread_on (range_with_len 0 n)
 
 -- there is room for what is kept
-pub record HoldTogether (cells : List Cell) (rows : List Row) (room top len next_len : ℕ)
+pub record HoldTogether {S : Type 0} (cells : List (Cell S)) (rows : List Row) (room top len next_len : ℕ)
     : Type 0 where
   pub frames_fit : top ≤ length cells
   pub threads_fit : len ≤ room

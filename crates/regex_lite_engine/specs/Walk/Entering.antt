@@ -49,8 +49,8 @@ SlotMarked at slot to row frames row' frames' =
     ⊎ ((frames ≡ []) × (frames' ≡ explore to ∷ frames))))
     ⊎ ((length row ≤ slot) × (row' ≡ row) × (frames' ≡ explore to ∷ frames))
 
-module _ (here : Here) (i : ℕ) where
-  -- the way to the place started at the offset i; `done` tells that a match is complete there
+module _ (here : Here) (i : Option ℕ) where
+  -- i is told of where the way to the place began; `done` tells that a match is complete there
   abbrev pub Enters : Place → Row → List Frame → List Thread → Row → List Frame → List Thread
       → (done : Bool) → Type 0
   Enters (stored.Empty to) row frames next row' frames' next' done =

@@ -1,5 +1,5 @@
 -- What a search keeps while it goes over one position.
-use Rattle.std.specs.Prelude.{ℕ, List, [], ◌∷◌, Option, slice_index_or, slice_set}
+use Rattle.std.specs.Prelude.{ℕ, List, [], ◌∷◌, Option, None, slice_index_or, slice_set}
 
 -- the offset that each slot holds
 abbrev pub Row : Type 0
@@ -17,13 +17,13 @@ unwound row [] = (row, [])
 unwound row (explore place ∷ frames) = (row, explore place ∷ frames)
 unwound row (restore slot old ∷ frames) = unwound (slice_set row slot old) frames
 
--- a place, the offset where its way began, and a row
+-- a place, what is told of the offset where its way began, and a row
 abbrev pub Thread : Type 0
-Thread = ℕ × ℕ × Row
+Thread = ℕ × Option ℕ × Row
 
 -- the thread with this number
 abbrev pub thread_at : List Thread → ℕ → Thread
-thread_at threads k = slice_index_or threads k (0, 0, [])
+thread_at threads k = slice_index_or threads k (0, None, [])
 
 -- what the working memory of a search stands for
 pub record State : Type 0 where
@@ -39,3 +39,9 @@ pub record State : Type 0 where
   pub next : List Thread
   -- how many threads there may be in each list
   pub room : ℕ
+
+-- what is stored of the best match: what is told of the offset of its start, and that of its end; its
+-- row, or that of an earlier match
+pub record Stored : Type 0 where
+  pub found : Option (Option ℕ × ℕ)
+  pub row : Row

@@ -6,6 +6,8 @@ use Rattle.regex_lite_engine.specs.declared.pikevm.turn.Cache.{Cache}
 use Rattle.regex_lite_engine.specs.Graph.Places.{Place}
 use Rattle.regex_lite_engine.specs.Graph.Renumbered.{arrows_of}
 use Rattle.regex_lite_engine.specs.Search.Answer.{Found}
+use Rattle.regex_lite_engine.specs.Walk.Beginnings.{Tells}
+use Rattle.regex_lite_engine.specs.Walk.Machine.{Row}
 use Rattle.regex_lite_engine.specs.Walk.NumberedAnswer.{IsNumberedAnswer, IsNumberedShortest}
 use Rattle.regex_lite_engine.specs.Search.Offsets.{offset, HasSlots}
 use Rattle.regex_lite_engine.specs.Walk.Walking.{Best}
@@ -13,17 +15,28 @@ use Rattle.regex_lite_engine.specs.Walk.Turns.{best_of}
 use Rattle.regex_lite_engine.specs.Walk.Searching.{IsBetween}
 
 -- the match that is told
-abbrev pub match_told : Option Outcome → Best
+abbrev pub match_told : Option Outcome → Option (ℕ × ℕ × Row)
 match_told None = None
 match_told (Some outcome) = Some (outcome.start, outcome.end, outcome.slots.items)
 
--- the outcome has the offsets of the answer
-abbrev pub IsNumberedOutcome : List (Place ℕ) → Text → (start s : ℕ) → Best → Type 0
-IsNumberedOutcome table haystack start s None = IsNumberedAnswer table haystack start s None
-IsNumberedOutcome table haystack start s (Some best) =
+-- the match of which the start is kept
+abbrev pub with_start_kept : Option (ℕ × ℕ × Row) → Best
+with_start_kept None = None
+with_start_kept (Some found) = Some (Some found.0, found.1, found.2)
+
+-- the best match has the offsets of the answer, its start as far as it is told
+abbrev pub IsBestOutcome : List (Place ℕ) → Text → (start s : ℕ) → Best → Type 0
+IsBestOutcome table haystack start s None = IsNumberedAnswer table haystack start s None
+IsBestOutcome table haystack start s (Some best) =
     (found : Found) × IsNumberedAnswer table haystack start s (Some found)
-    × (best.0 ≡ offset haystack found.start) × (best.1 ≡ offset haystack found.end)
+    × Tells best.0 (offset haystack found.start) × (best.1 ≡ offset haystack found.end)
     × HasSlots haystack best.2 found.marks
+
+-- the match has all of them
+abbrev pub IsNumberedOutcome : List (Place ℕ) → Text → (start s : ℕ) → Option (ℕ × ℕ × Row)
+    → Type 0
+IsNumberedOutcome table haystack start s found =
+    IsBestOutcome table haystack start s (with_start_kept found)
 
 -- so has that of a search for the shortest match, which is where it ends
 abbrev pub IsNumberedEnd : List (Place ℕ) → Text → (start s : ℕ) → Best → Type 0
@@ -33,7 +46,7 @@ IsNumberedEnd table haystack start s (Some best) =
     × (best.1 ≡ offset haystack end)
 
 -- a search from position s on has not begun. There may have been rounds of others
-pub record IsFresh (table : List (Place ℕ)) (cache : Cache) : Type 0 where
+pub record IsFresh {S : Type 0} (table : List (Place ℕ)) (cache : Cache S) : Type 0 where
   pub between : IsBetween table cache
   pub none : best_of cache.best ≡ None
   pub no_threads : cache.walk.memory.threads ≡ []

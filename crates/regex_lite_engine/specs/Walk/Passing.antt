@@ -11,7 +11,7 @@ use Rattle.regex_lite_engine.specs.Walk.Turns.{best_of, IsComing, EndsAt}
 
 module _ (table : List (Place ℕ)) (haystack : Text) (start s : ℕ) where
   -- a search from position s on has come to position p
-  pub record IsUnderWay (p : ℕ) (cache : Cache) : Type 0 where
+  pub record IsUnderWay {S : Type 0} (p : ℕ) (cache : Cache S) : Type 0 where
     pub low : s ≤ p
     pub ready : IsBetween table cache
     pub coming : IsComing table haystack start s (length haystack) p cache.walk.memory.threads
@@ -23,7 +23,7 @@ module _ (table : List (Place ℕ)) (haystack : Text) (start s : ℕ) where
     pub rounds : cache.walk.memory.now < 2 ^ 63 + (p - s)
 
   -- it has gone over a position that is not before p
-  pub record Passes (p : ℕ) (cache cache' : Cache) (here : Here) : Type 0 where
+  pub record Passes {S : Type 0} (p : ℕ) (cache cache' : Cache S) (here : Here) : Type 0 where
     pub q : ℕ
     pub later : p ≤ q
     pub is : IsHere haystack q here

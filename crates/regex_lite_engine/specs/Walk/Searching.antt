@@ -1,5 +1,5 @@
 -- What a search works in, as one value.
-use Rattle.std.specs.Prelude.{◌≡◌, ◌+◌, ◌^◌, ◌≤◌, ◌<◌, ℕ, Bool, List, [], length}
+use Rattle.std.specs.Prelude.{◌≡◌, ◌+◌, ◌^◌, ◌≤◌, ◌<◌, ℕ, Bool, List, [], Option, length}
 use Rattle.regex_lite_engine.specs.declared.pikevm.here.Here.{Here}
 use Rattle.regex_lite_engine.specs.declared.pikevm.turn.Cache.{Cache}
 use Rattle.regex_lite_engine.specs.Graph.Places.{Place, kept_back_of}
@@ -8,30 +8,31 @@ use Rattle.regex_lite_engine.specs.Walk.Room.{KeepsPosition, ThreadsBelow, due_t
 use Rattle.regex_lite_engine.specs.Walk.Turns.{best_of, with_start, StepsTo, IsReady}
 
 -- the ways that are followed at a position: its threads, and its own start
-abbrev pub ways_at : (s at : ℕ) → (may_start : Bool) → Cache → List Thread
+abbrev pub ways_at : {S : Type 0} → (s : ℕ) → (at : Option ℕ) → (may_start : Bool) → Cache S
+    → List Thread
 ways_at s at may_start cache =
     with_start s at may_start (best_of cache.best) (length cache.walk.memory.row)
     cache.walk.memory.threads
 
 module _ (table : List (Place ℕ)) where
   -- between two positions
-  abbrev pub IsBetween : Cache → Type 0
+  abbrev pub IsBetween : {S : Type 0} → Cache S → Type 0
   IsBetween cache =
       IsReady table cache.walk.memory cache.best cache.walk.steps.tried cache.walk.steps.entered
       cache.walk.steps.looked
 
   -- before these ways are followed
-  pub record IsPlaced (ways : List Thread) (cache : Cache) : Type 0 where
+  pub record IsPlaced {S : Type 0} (ways : List Thread) (cache : Cache S) : Type 0 where
     pub stack_empty : cache.walk.memory.frames ≡ []
     pub stack_room : kept_back_of table < length table
     pub below : ThreadsBelow (length table) cache.walk.memory.threads
-    pub best_width : length cache.best.row.items ≡ length cache.walk.memory.row
+    pub best_width : length cache.best.row ≡ length cache.walk.memory.row
     pub budget :
         due_tries table cache.walk.memory.rounds cache.walk.memory.now [] cache.walk.memory.next
         cache.walk.steps.tried + length ways < 2 ^ 127
 
   -- these ways were followed
-  pub record Follows (here : Here) (ways : List Thread) (cache cache' : Cache) : Type 0 where
+  pub record Follows {S : Type 0} (here : Here) (ways : List Thread) (cache cache' : Cache S) : Type 0 where
     pub steps : StepsTo table here cache.walk.memory.now (thread_at ways) (length ways)
         cache.walk.memory.rounds cache.walk.memory.next (best_of cache.best) (length ways)
         cache'.walk.memory.rounds cache'.walk.memory.next (best_of cache'.best)
@@ -47,4 +48,4 @@ module _ (table : List (Place ℕ)) where
         cache.walk.steps.entered
     pub stack_empty : cache'.walk.memory.frames ≡ []
     pub kept : KeepsPosition cache.walk.memory cache'.walk.memory
-    pub best_width : length cache'.best.row.items ≡ length cache.best.row.items
+    pub best_width : length cache'.best.row ≡ length cache.best.row

@@ -1,25 +1,24 @@
 -- The threads of one position, and from one position to the next.
 use Rattle.std.specs.Prelude.{◌≡◌, ◌≤◌, ◌<◌, ◌⊎◌, ℕ, Bool, true, false, List, [], ◌∷◌, ◌++◌, length, replicate, slice_get, slice_index, Option, Some, None}
 use Rattle.regex_lite_syntax.specs.Text.{Text}
-use Rattle.regex_lite_engine.specs.declared.pikevm.best.Best as code
 use Rattle.regex_lite_engine.specs.declared.pikevm.here.Here.{Here}
 use Rattle.regex_lite_engine.specs.Graph.Places.{Place, kept_back_of, reading_of}
 use Rattle.regex_lite_engine.specs.Walk.Explored.{IsDead}
 use Rattle.regex_lite_engine.specs.Walk.NumberedAnswer.{numbered_step, is_end}
 use Rattle.regex_lite_engine.specs.Walk.InStep.{Offer}
-use Rattle.regex_lite_engine.specs.Walk.Machine.{Row, Thread, thread_at, State}
+use Rattle.regex_lite_engine.specs.Walk.Machine.{Row, Thread, thread_at, State, Stored}
 use Rattle.regex_lite_engine.specs.Walk.Standing.{IsHere}
 use Rattle.regex_lite_engine.specs.Walk.Walking.{Node, Best, ThreadsHold, BestHolds, InStep, IsWalking}
 use Rattle.regex_lite_engine.specs.Walk.Entering.{Pushed}
 use Rattle.regex_lite_engine.specs.Walk.Room.{ThreadsBelow}
 
-abbrev pub best_at : Option (ℕ × ℕ) → Row → Best
+abbrev pub best_at : {X : Type 0} → Option (X × ℕ) → Row → Option (X × ℕ × Row)
 best_at None row = None
 best_at (Some found) row = Some (found.0, found.1, row)
 
 -- the match that is stored
-abbrev pub best_of : code.Best → Best
-best_of best = best_at best.found best.row.items
+abbrev pub best_of : Stored → Best
+best_of best = best_at best.found best.row
 
 -- no slot of the row is marked
 abbrev pub IsBlank : Row → Type 0
@@ -33,7 +32,7 @@ FromIs p from (Some best) = Unit {0}
 -- the best match afterwards is that of before, or ends at the offset
 abbrev pub EndsAt : (at : ℕ) → (before after : Best) → Type 0
 EndsAt at before after =
-    (after ≡ before) ⊎ ((i : ℕ) × (row : Row) × (after ≡ Some (i, at, row)))
+    (after ≡ before) ⊎ ((i : Option ℕ) × (row : Row) × (after ≡ Some (i, at, row)))
 
 module _ (table : List (Place ℕ)) where
   -- no match can start at the position
@@ -45,7 +44,7 @@ module _ (table : List (Place ℕ)) where
   abbrev pub Between : Text → (s first last p from : ℕ) → (rounds : List ℕ) → (now : ℕ)
       → (ℕ → Thread) → (k n : ℕ) → List Thread → Best → Type 0
   Between haystack s first last p from rounds now threads k n next best =
-      IsWalking table haystack s first last p from rounds now 0 [] [] threads k n (thread_at next)
+      IsWalking table haystack s first last p from rounds now None [] [] threads k n (thread_at next)
       (length next) best
 
   -- from the first of n threads to before the k-th
@@ -71,7 +70,7 @@ module _ (table : List (Place ℕ)) where
     pub from_is : FromIs p from best
 
   -- the memory of a search between two positions
-  pub record IsReady (memory : State) (best : code.Best) (tried entered looked : ℕ) : Type 0 where
+  pub record IsReady (memory : State) (best : Stored) (tried entered looked : ℕ) : Type 0 where
     pub all_seen : length memory.rounds ≡ length table
     pub old_rounds : (q : ℕ) → slice_index memory.rounds q ≤ memory.now
     pub cap : reading_of table < memory.room
@@ -80,20 +79,20 @@ module _ (table : List (Place ℕ)) where
     pub none_next : memory.next ≡ []
     pub stack_room : kept_back_of table < length table
     pub stack_empty : memory.frames ≡ []
-    pub best_width : length best.row.items ≡ length memory.row
+    pub best_width : length best.row ≡ length memory.row
     pub entered_tried : entered ≤ tried
     pub looked_entered : looked ≤ entered
 
 -- The position's own start is the last thread. It is left out where there is a match, and where no
 -- match can start
-abbrev pub Begun : (s at : ℕ) → (may_start : Bool) → Best → (before after : List Thread) → Type 0
+abbrev pub Begun : (s : ℕ) → (at : Option ℕ) → (may_start : Bool) → Best → (before after : List Thread) → Type 0
 Begun s at may_start best before after =
     ((best ≡ None) × ((blank : Row) × IsBlank blank × Pushed before after (s, at, blank)))
     ⊎ (((best ≡ None → ⊥) ⊎ (may_start ≡ false)) × (after ≡ before))
 
 -- the threads, and the position's own start behind them unless it is left out
-abbrev pub with_start : (s at : ℕ) → (may_start : Bool) → Best → (width : ℕ) → List Thread
-    → List Thread
+abbrev pub with_start : (s : ℕ) → (at : Option ℕ) → (may_start : Bool) → Best → (width : ℕ)
+    → List Thread → List Thread
 with_start s at true None width threads = threads ++ (s, at, replicate width None) ∷ []
 with_start s at false None width threads = threads
 with_start s at may_start (Some best) width threads = threads

@@ -6,6 +6,7 @@ use Rattle.regex_lite_engine.specs.Graph.Ways.{Leads}
 use Rattle.regex_lite_engine.specs.Search.Marks.{marks_along}
 use Rattle.regex_lite_engine.specs.Walk.NumberedAnswer.{place_with, numbered_step, is_end}
 use Rattle.regex_lite_engine.specs.Search.Offsets.{offset, HasSlots}
+use Rattle.regex_lite_engine.specs.Walk.Beginnings.{Tells}
 use Rattle.regex_lite_engine.specs.Walk.Machine.{Row, Frame, explore, restore, Thread}
 use Rattle.regex_lite_engine.specs.Walk.InStep.{Offer, IsInStep}
 
@@ -13,26 +14,31 @@ use Rattle.regex_lite_engine.specs.Walk.InStep.{Offer, IsInStep}
 abbrev pub Node : Type 0
 Node = ℕ × ℕ
 
--- the best match so far: the offsets of its start and its end, and its row
+-- the best match so far: what is told of the offset of its start, that of its end, and its row
 abbrev pub Best : Type 0
-Best = Option (ℕ × ℕ × Row)
+Best = Option (Option ℕ × ℕ × Row)
 
 module _ (table : List (Place ℕ)) (haystack : Text) where
   module _ (s : ℕ) where
-    -- the way w leads to n from place s at the offset i, and the row has what it marks
-    abbrev pub WayHolds : (i : ℕ) → Row → Node → (w : List ℕ) → Type 0
-    WayHolds i row n w =
-        (j : ℕ) × (ks : List ℕ) × (i ≡ offset haystack j) × (w ≡ j ∷ ks)
+    -- the way w leads to n from place s at the offset of which i is told, and the row has what it
+    -- marks
+    abbrev pub WayTold : (i : Option ℕ) → Row → Node → (w : List ℕ) → Type 0
+    WayTold i row n w =
+        (j : ℕ) × (ks : List ℕ) × Tells i (offset haystack j) × (w ≡ j ∷ ks)
         × Leads Node (numbered_step table haystack) (s, j) ks n
         × HasSlots haystack row (marks_along haystack (place_with table) (Some (s, j)) ks)
 
+    -- the same where the offset is i
+    abbrev pub WayHolds : (i : ℕ) → Row → Node → (w : List ℕ) → Type 0
+    WayHolds i = WayTold (Some i)
+
     -- the frames hold the offers at position p, the first on top. The row of each is that which
     -- stands when its frame comes off
-    abbrev pub FramesHold : (p i : ℕ) → Row → List Frame → List (Offer Node) → Type 0
+    abbrev pub FramesHold : (p : ℕ) → (i : Option ℕ) → Row → List Frame → List (Offer Node) → Type 0
     FramesHold p i row [] os = os ≡ []
     FramesHold p i row (explore q ∷ frames) os =
         (w : List ℕ) × (rest : List (Offer Node)) × (os ≡ ((q, p), w) ∷ rest)
-        × WayHolds i row (q, p) w × FramesHold p i row frames rest
+        × WayTold i row (q, p) w × FramesHold p i row frames rest
     FramesHold p i row (restore slot old ∷ frames) os =
         FramesHold p i (slice_set row slot old) frames os
 
@@ -40,7 +46,7 @@ module _ (table : List (Place ℕ)) (haystack : Text) where
     abbrev pub ThreadsHold : (p : ℕ) → (ℕ → Thread) → (k : ℕ) → List (Offer Node) → Type 0
     ThreadsHold p threads k [] = Unit {0}
     ThreadsHold p threads k (o ∷ os) =
-        (o.0 ≡ ((threads k).0, p)) × WayHolds (threads k).1 (threads k).2 o.0 o.1
+        (o.0 ≡ ((threads k).0, p)) × WayTold (threads k).1 (threads k).2 o.0 o.1
         × ThreadsHold p threads (suc k) os
 
     -- the best match is that of the way
@@ -49,7 +55,7 @@ module _ (table : List (Place ℕ)) (haystack : Text) where
     BestHolds (Some b) way =
         (w : List ℕ) × (way ≡ Some w)
         × ((q : ℕ) × (e : ℕ) × (b.1 ≡ offset haystack e) × IsTrue (is_end table haystack (q, e))
-        × WayHolds b.0 b.2 (q, e) w)
+        × WayTold b.0 b.2 (q, e) w)
 
     module _ (first last : ℕ) where
       abbrev pub InStep : (p from : ℕ) → (recorded : Node → Option (List ℕ))
@@ -58,10 +64,10 @@ module _ (table : List (Place ℕ)) (haystack : Text) where
           IsInStep Node (numbered_step table haystack) (λ i. (s, i)) (is_end table haystack) first
           last (λ n. n.1)
 
-      -- At position p. The frames belong to a thread that started at the offset i. Left are the
+      -- At position p. The frames belong to a thread of whose start i is told. Left are the
       -- frames, then the threads from the k-th to the n-th; at the next position there are so far
       -- the m threads of `next`. Starts below `from` were offered
-      pub record IsWalking (p from : ℕ) (rounds : List ℕ) (now i : ℕ) (row : Row)
+      pub record IsWalking (p from : ℕ) (rounds : List ℕ) (now : ℕ) (i : Option ℕ) (row : Row)
           (frames : List Frame) (threads : ℕ → Thread) (k n : ℕ) (next : ℕ → Thread) (m : ℕ)
           (best : Best) : Type 0 where
         pub recorded : Node → Option (List ℕ)

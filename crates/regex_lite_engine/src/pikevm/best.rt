@@ -1,25 +1,38 @@
 //! The best match that a search has found so far.
 ghost use Rattle.std.specs.Prelude.{◌≡◌, ◌↔◌, IfOk, IfSome, IsTrue, None, Some, length, option_map};
 
+use crate::pikevm::beginning::Beginning;
 use crate::pikevm::search::Outcome;
 use crate::pikevm::slot::Slot;
 use std::alloc::{AllocError, Global};
+use std::marker::Model;
 
-/// Its start and its end, and its slots in `row`.
+/// What is kept of its start, and its end, and its slots in `row`.
 #[derive(Drop)]
-pub struct Best {
-    found: Option<(usize, usize)>,
+pub struct Best<S: Beginning> {
+    found: Option<(S, usize)>,
     row: Vec<Option<usize>>,
 }
 
-impl Best {
-    ghost use Rattle.regex_lite_engine.specs.Walk.Turns.{best_at, best_of};
-    ghost use Rattle.regex_lite_engine.specs.Walk.Outcomes.{match_told};
+impl<S: Beginning> Model for Best<S> {
+    ghost use Rattle.regex_lite_engine.specs.Walk.Machine.{Stored};
+    ghost use Rattle.regex_lite_engine.specs.Walk.Beginnings.{span_told};
+
+    ghost Value = { Stored };
+
+    ghost view = { λ best. record {
+      found = span_told S.told best.found;
+      row = best.row.items;
+    } };
+}
+
+impl<S: Beginning> Best<S> {
+    ghost use Rattle.regex_lite_engine.specs.Walk.Turns.{best_of};
 
     /// None yet, with room for a row of so many slots.
-    pub fn with_width(alloc: Global, width: usize) -> Result<Best, AllocError>
+    pub fn with_width(alloc: Global, width: usize) -> Result<Best<S>, AllocError>
         ensures none { IfOk result (λ best. best_of best ≡ None) }
-        ensures width { IfOk result (λ best. length best.row.items ≡ width) }
+        ensures width { IfOk result (λ best. length best.row ≡ width) }
     {
         let row = vec![in alloc; None; width]?;
         Ok(Best { found: None, row })
@@ -33,35 +46,13 @@ impl Best {
     }
 
     /// Takes this match for the best, since the search has found it last.
-    pub fn set(&mut self, start: usize, end: usize, slots: &[Slot])
-        requires { length slots.now ≡ length self.old.row.items }
-        ensures found { best_of self.new ≡ Some (start, end, slots.now) }
-        ensures width { length self.new.row.items ≡ length self.old.row.items }
+    pub fn set(&mut self, start: S, end: usize, slots: &[Slot])
+        requires { length slots.now ≡ length self.old.row }
+        ensures found { best_of self.new ≡ Some (S.told start, end, slots.now) }
+        ensures width { length self.new.row ≡ length self.old.row }
     {
         self.found = Some((start, end));
         tell(slots, &mut self.row);
-    }
-
-    /// Forgets the match. Its row stays as it is.
-    pub fn clear(&mut self)
-        ensures none { best_of self.new ≡ None }
-        ensures row { self.new.row ≡ self.old.row }
-    {
-        self.found = None;
-    }
-
-    /// Where it starts and where it ends.
-    pub fn span(&self) -> Option<(usize, usize)>
-        ensures { best_of self.now ≡ best_at result self.now.row.items }
-    {
-        self.found
-    }
-
-    /// The slots of the last match that was found.
-    pub fn row(&self) -> &[Option<usize>]
-        ensures { result.now ≡ self.now.row.items }
-    {
-        &self.row
     }
 
     /// Where it ends.
@@ -73,12 +64,38 @@ impl Best {
             Some((_, end)) => Some(end),
         }
     }
+}
+
+impl Best<usize> {
+    ghost use Rattle.regex_lite_engine.specs.Walk.Turns.{best_at, best_of};
+    ghost use Rattle.regex_lite_engine.specs.Walk.Outcomes.{match_told, with_start_kept};
+
+    /// Forgets the match. Its row stays as it is.
+    pub fn clear(&mut self)
+        ensures none { best_of self.new ≡ None }
+        ensures row { self.new.row ≡ self.old.row }
+    {
+        self.found = None;
+    }
+
+    /// Where it starts and where it ends.
+    pub fn span(&self) -> Option<(usize, usize)>
+        ensures { best_of self.now ≡ with_start_kept (best_at result self.now.row) }
+    {
+        self.found
+    }
+
+    /// The slots of the last match that was found.
+    pub fn row(&self) -> &[Option<usize>]
+        ensures { result.now ≡ self.now.row }
+    {
+        &self.row
+    }
 
     /// The match by itself, with its row.
     pub fn into_outcome(self) -> Option<Outcome>
-        ensures told { match_told result ≡ best_of self }
-        ensures width { IfSome result (λ outcome.
-            length outcome.slots.items ≡ length self.row.items) }
+        ensures told { best_of self ≡ with_start_kept (match_told result) }
+        ensures width { IfSome result (λ outcome. length outcome.slots.items ≡ length self.row) }
     {
         let Best { found, row } = self;
         match found {

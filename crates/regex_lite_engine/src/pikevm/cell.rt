@@ -2,6 +2,7 @@
 ghost use Rattle.std.specs.Prelude.{◌≡◌};
 ghost use Rattle.regex_lite_engine.specs.Walk.Cells.{other, place_on, start_on, with_thread};
 
+use crate::pikevm::beginning::{Beginning, Unkept};
 use crate::pikevm::slot::Slot;
 use std::mem::size_of;
 
@@ -24,30 +25,23 @@ pub enum Side {
 /// Parts of what is numbered alike: places, frames, and the threads of two lists. They have nothing
 /// else to do with one another, and lie together so that one request gives memory for all of them.
 #[derive(Clone, Copy)]
-pub struct Cell {
+pub struct Cell<S: Beginning> {
     /// The round in which the place with this number was entered last.
     pub entered: u64,
     /// The frame with this number.
     pub frame: Frame,
-    /// Where the ways of the threads with this number began, and where they go on.
-    first_start: usize,
-    second_start: usize,
+    /// What is kept of where the ways of the threads with this number began, and where they go on.
+    first_start: S,
+    second_start: S,
     first_place: u32,
     second_place: u32,
 }
 
 // A search has one for each place.
-const _: () = prove!(size_of::<Cell>() == 48);
+const _: () = prove!(size_of::<Cell<usize>>() == 48);
 
-/// A cell of which nothing is known yet.
-pub const BLANK: Cell = Cell {
-    entered: 0,
-    frame: Frame::Explore(0),
-    first_start: 0,
-    second_start: 0,
-    first_place: 0,
-    second_place: 0,
-};
+// One that is asked only for an end has smaller ones.
+const _: () = prove!(size_of::<Cell<Unkept>>() == 32);
 
 impl Side {
     /// The other list.
@@ -61,9 +55,23 @@ impl Side {
     }
 }
 
-impl Cell {
-    /// Where the thread of this list goes on, and where its way began.
-    pub fn thread(&self, side: Side) -> (u32, usize)
+impl<S: Beginning> Cell<S> {
+    /// A cell of which nothing is known yet.
+    pub fn blank() -> Cell<S>
+        ensures { result.entered ≡ 0 }
+    {
+        Cell {
+            entered: 0,
+            frame: Frame::Explore(0),
+            first_start: S::at(0),
+            second_start: S::at(0),
+            first_place: 0,
+            second_place: 0,
+        }
+    }
+
+    /// Where the thread of this list goes on, and what is kept of where its way began.
+    pub fn thread(&self, side: Side) -> (u32, S)
         ensures { result ≡ (place_on side self.now, start_on side self.now) }
     {
         match side {
@@ -73,7 +81,7 @@ impl Cell {
     }
 
     /// Puts a thread of this list here.
-    pub fn put_thread(&mut self, side: Side, place: u32, start: usize)
+    pub fn put_thread(&mut self, side: Side, place: u32, start: S)
         ensures { self.new ≡ with_thread side place start self.old }
     {
         match side {

@@ -9,6 +9,7 @@ ghost use Rattle.regex_lite_engine.specs.Walk.Machine.{explore};
 
 use crate::nfa::class::MappedClass;
 use crate::nfa::place::Place;
+use crate::pikevm::beginning::Beginning;
 use crate::pikevm::cell::Frame;
 use crate::pikevm::here::Here;
 use crate::pikevm::memory::Memory;
@@ -27,11 +28,11 @@ pub enum Onward {
 
 /// Tells which place is the first that this one offers at this position. The others are put on the
 /// stack, and what it offers at the next position behind the threads there.
-pub fn enter(place: &Place, here: Here, start: usize, memory: &mut Memory) -> Onward
+pub fn enter<S: Beginning>(place: &Place, here: Here, start: S, memory: &mut Memory<S>) -> Onward
     requires room { length memory.old.frames + (kept_back (place_of place.now) + 1)
         ≤ length memory.old.rounds }
     requires next_room { length memory.old.next < memory.old.room }
-    ensures entered { Enters here start place.now memory.old.row memory.old.frames memory.old.next
+    ensures entered { Enters here (S.told start) place.now memory.old.row memory.old.frames memory.old.next
         memory.new.row (onto result memory.new.frames) memory.new.next (completes result) }
     ensures same { memory.new ≡ record memory.old {
       row = memory.new.row;
@@ -85,9 +86,9 @@ fn is_in_set(set: &MappedClass, after: Option<char>) -> bool
 }
 
 /// Goes on behind the character, where it is read.
-fn read_on(reads: bool, to: u32, start: usize, memory: &mut Memory)
+fn read_on<S: Beginning>(reads: bool, to: u32, start: S, memory: &mut Memory<S>)
     requires { length memory.old.next < memory.old.room }
-    ensures reads { ReadsOn reads memory.old.next memory.new.next (to, start, memory.old.row) }
+    ensures reads { ReadsOn reads memory.old.next memory.new.next (to, S.told start, memory.old.row) }
     ensures same { memory.new ≡ record memory.old { next = memory.new.next } }
 {
     if reads {
@@ -96,7 +97,7 @@ fn read_on(reads: bool, to: u32, start: usize, memory: &mut Memory)
 }
 
 /// Marks the slot, if it is kept.
-fn mark(slot: u32, at: usize, memory: &mut Memory)
+fn mark<S: Beginning>(slot: u32, at: usize, memory: &mut Memory<S>)
     requires room { length memory.old.frames < length memory.old.rounds }
     requires small { at + 1 < 2 ^ 64 }
     ensures marked { (to : ℕ) → SlotMarked at slot to memory.old.row memory.old.frames

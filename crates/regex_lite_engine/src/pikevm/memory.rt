@@ -1,7 +1,9 @@
 //! All that a search works in.
-ghost use Rattle.std.specs.Prelude.{◌≡◌, ◌+◌, ◌*◌, ◌^◌, ◌≤◌, ◌<◌, [], ℕ, IfOk, length, slice_index, slice_set};
+ghost use Rattle.std.specs.Prelude.{◌≡◌, ◌+◌, ◌*◌, ◌^◌, ◌≤◌, ◌<◌, [], ℕ, IfOk, length, map, slice_index, slice_set};
+ghost use Rattle.regex_lite_engine.specs.Walk.Cells.{round_in};
 
-use crate::pikevm::cell::{BLANK, Cell, Side};
+use crate::pikevm::beginning::Beginning;
+use crate::pikevm::cell::{Cell, Side};
 use crate::pikevm::rows::Rows;
 use crate::pikevm::slot::Slot;
 use std::alloc::{AllocError, Global};
@@ -13,9 +15,9 @@ const MOST_ROUNDS: u64 = 1 << 63;
 
 /// The working memory of a search. It is asked for by one request, or by two where slots are kept.
 #[derive(Drop)]
-pub struct Memory {
+pub struct Memory<S: Beginning> {
     /// One for each place of the graph.
-    pub(super) cells: Vec<Cell>,
+    pub(super) cells: Vec<Cell<S>>,
     /// The row of the way that is followed, and those of the threads of both lists.
     pub(super) rows: Rows,
     /// How many threads each list has room for.
@@ -30,7 +32,7 @@ pub struct Memory {
     pub(super) next_len: usize,
 }
 
-impl Model for Memory {
+impl<S: Beginning> Model for Memory<S> {
     ghost use Rattle.std.specs.Prelude.{map};
     ghost use Rattle.regex_lite_engine.specs.Walk.Machine.{State};
     ghost use Rattle.regex_lite_engine.specs.Walk.Cells.{round_in, frames_in, nth_row, threads_on, other, HoldTogether};
@@ -42,8 +44,8 @@ impl Model for Memory {
       now = memory.round;
       frames = frames_in memory.cells.items memory.top;
       row = nth_row memory.rows 0;
-      threads = threads_on memory.side memory.cells.items memory.rows memory.room memory.len;
-      next = threads_on (other memory.side) memory.cells.items memory.rows memory.room
+      threads = threads_on S.told memory.side memory.cells.items memory.rows memory.room memory.len;
+      next = threads_on S.told (other memory.side) memory.cells.items memory.rows memory.room
           memory.next_len;
       room = memory.room;
     } };
@@ -52,14 +54,14 @@ impl Model for Memory {
         memory.top memory.len memory.next_len };
 }
 
-impl Memory {
+impl<S: Beginning> Memory<S> {
     /// Memory for so many places, and for so many threads in each list, with rows of this width.
     pub fn blank(
         alloc: Global,
         places: usize,
         room: usize,
         width: usize,
-    ) -> Result<Memory, AllocError>
+    ) -> Result<Memory<S>, AllocError>
         requires { room ≤ places }
         ensures rounds { IfOk result (λ memory. length memory.rounds ≡ places) }
         ensures now { IfOk result (λ memory. memory.now ≡ 0) }
@@ -72,7 +74,7 @@ impl Memory {
     {
         let count = room.checked_mul(2).ok_or(AllocError)?;
         let count = count.checked_add(1).ok_or(AllocError)?;
-        let cells = vec![in alloc; BLANK; places]?;
+        let cells = vec![in alloc; Cell::blank(); places]?;
         let rows = Rows::blank(alloc, count, width)?;
         Ok(Memory {
             cells,
@@ -102,14 +104,13 @@ impl Memory {
         } }
     {
         if self.round >= MOST_ROUNDS {
-            self.cells.fill(BLANK);
+            take_rounds(&mut self.cells);
             self.round = 0;
         }
         self.top = self.cells.len();
         self.len = 0;
         self.next_len = 0;
     }
-
     /// How many rows there are.
     pub fn rows(&self) -> usize
         ensures { result ≡ 2 * self.now.room + 1 }
@@ -130,5 +131,15 @@ impl Memory {
         ensures { self.new ≡ record self.old { row = slice_set self.old.row slot held } }
     {
         self.rows.put(slot, held);
+    }
+}
+
+/// Takes from each cell that its place was entered.
+fn take_rounds<S: Beginning>(cells: &mut Vec<Cell<S>>)
+    ensures rounds { (q : ℕ) → slice_index (map round_in cells.new.items) q ≤ 0 }
+    ensures length { length cells.new.items ≡ length cells.old.items }
+{
+    'cells: for k in 0..cells.len() {
+        cells[k].entered = 0;
     }
 }

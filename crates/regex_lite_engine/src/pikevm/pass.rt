@@ -7,11 +7,12 @@ ghost use Rattle.regex_lite_engine.specs.Walk.Passing.{IsUnderWay, Passes};
 ghost use Rattle.regex_lite_engine.specs.Walk.Standing.{IsHere};
 
 use crate::Graph;
+use crate::pikevm::beginning::Beginning;
 use crate::pikevm::here::Here;
 use crate::pikevm::skip::{may_start, next_start};
 use crate::pikevm::turn::Cache;
 
-impl Cache {
+impl<S: Beginning> Cache<S> {
     /// Goes on from here to the next position at which there is something to do, and over it.
     /// Answers that position.
     pub fn pass(&mut self, graph: &Graph, haystack: &str, here: Here) -> Here
@@ -22,7 +23,7 @@ impl Cache {
             → IsUnderWay (table_of graph.now) (chars haystack.now) graph.now.start s p self.old
             → Passes (table_of graph.now) (chars haystack.now) graph.now.start s p self.old self.new
             result }
-        ensures width { length self.new.best.row.items ≡ length self.old.best.row.items }
+        ensures width { length self.new.best.row ≡ length self.old.best.row }
     {
         let here = next_start(graph, haystack, here, &self.walk.memory, &self.best);
         self.turn(graph, here, may_start(graph, here));

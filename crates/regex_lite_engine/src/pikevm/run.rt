@@ -4,7 +4,7 @@ ghost use Rattle.regex_lite_engine.specs.Graph.Renumbered.{arrows_of};
 ghost use Rattle.regex_lite_engine.specs.Graph.Stored.{table_of};
 ghost use Rattle.regex_lite_engine.specs.Search.Bounds.{IsBounded, characters_left};
 ghost use Rattle.regex_lite_engine.specs.Search.Offsets.{position_at};
-ghost use Rattle.regex_lite_engine.specs.Walk.Outcomes.{IsNumberedOutcome, IsFresh, CanCount};
+ghost use Rattle.regex_lite_engine.specs.Walk.Outcomes.{IsBestOutcome, IsFresh, CanCount};
 ghost use Rattle.regex_lite_engine.specs.Walk.Searching.{IsBetween};
 ghost use Rattle.regex_lite_engine.specs.Walk.Turns.{best_of};
 
@@ -15,17 +15,17 @@ use crate::pikevm::memory::Memory;
 use crate::pikevm::turn::Cache;
 
 /// Goes from position to position, until the most preferred match is known.
-pub fn run(cache: &mut Cache, graph: &Graph, haystack: &str, start: usize)
+pub fn run(cache: &mut Cache<usize>, graph: &Graph, haystack: &str, start: usize)
     requires boundary { IsCharBoundary haystack.now start }
     requires fresh { IsFresh (table_of graph.now) cache.old }
     requires counts { CanCount (table_of graph.now)
         (characters_left (chars haystack.now) (position_at haystack.now start)) }
-    ensures found { IsNumberedOutcome (table_of graph.now) (chars haystack.now) graph.now.start
+    ensures found { IsBestOutcome (table_of graph.now) (chars haystack.now) graph.now.start
         (position_at haystack.now start) (best_of cache.new.best) }
     ensures bounded { IsBounded (length (table_of graph.now)) (arrows_of (table_of graph.now))
         (chars haystack.now) (position_at haystack.now start) cache.new.walk.steps.tried
         cache.new.walk.steps.entered cache.new.walk.steps.looked }
-    ensures width { length cache.new.best.row.items ≡ length cache.old.best.row.items }
+    ensures width { length cache.new.best.row ≡ length cache.old.best.row }
     ensures between { IsBetween (table_of graph.now) cache.new }
 {
     let mut here = Here::at(haystack, start);
@@ -39,7 +39,7 @@ pub fn run(cache: &mut Cache, graph: &Graph, haystack: &str, start: usize)
 }
 
 /// Whether nothing is left to do after the position.
-fn is_over(here: Here, memory: &Memory, best: &Best) -> bool
+fn is_over(here: Here, memory: &Memory<usize>, best: &Best<usize>) -> bool
     ensures over { IsTrue result → (here.after ≡ None)
         ⊎ (¬ (best_of best.now ≡ None) × (length memory.now.threads ≡ 0)) }
     ensures at_end { here.after ≡ None → IsTrue result }

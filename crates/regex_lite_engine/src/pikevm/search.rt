@@ -6,6 +6,7 @@ ghost use Rattle.regex_lite_engine.specs.Graph.Renumbered.{IsGraphOf};
 ghost use Rattle.regex_lite_engine.specs.Search.Outcomes.{IsOutcome, IsEndOutcome, HasCost};
 
 use crate::Graph;
+use crate::pikevm::beginning::Unkept;
 use crate::pikevm::cache_for;
 use crate::pikevm::run::run;
 use crate::pikevm::shortest::run_shortest;
@@ -39,7 +40,7 @@ impl Graph {
         ensures cost { IfOk result (λ told. (tree : Tree) → IsGraphOf tree self.now
             → HasCost tree haystack.now start told.1) }
     {
-        let mut cache = cache_for(alloc, self, slots)?;
+        let mut cache = cache_for::<usize>(alloc, self, slots)?;
         run(&mut cache, self, haystack, start);
         let Cache { walk, best, .. } = cache;
         Ok((best.into_outcome(), walk.steps))
@@ -68,7 +69,7 @@ impl Graph {
         if start > haystack.len() {
             return Ok((None, Steps::none()));
         }
-        let mut cache = cache_for(alloc, self, 0)?;
+        let mut cache = cache_for::<Unkept>(alloc, self, 0)?;
         run_shortest(&mut cache, self, haystack, start);
         let Cache { walk, best, .. } = cache;
         Ok((best.end(), walk.steps))

@@ -20,7 +20,7 @@ use std::marker::Model;
 #[derive(Drop)]
 pub struct Searcher<'g> {
     graph: &'g Graph,
-    cache: Cache,
+    cache: Cache<usize>,
 }
 
 impl<'g> Model for Searcher<'g> {
@@ -33,7 +33,7 @@ impl<'g> Model for Searcher<'g> {
 
     ghost view = { λ searcher. record {
       graph = searcher.graph.now;
-      slots = searcher.cache.best.row.items;
+      slots = searcher.cache.best.row;
     } };
 
     ghost invariant = { λ searcher. IsBetween (table_of searcher.graph.now) searcher.cache
@@ -84,9 +84,9 @@ impl<'g> Searcher<'g> {
 }
 
 /// Makes ready for another search: what the last one left is forgotten.
-fn restart(cache: &mut Cache)
+fn restart(cache: &mut Cache<usize>)
     ensures fresh { (table : List (Place ℕ)) → IsBetween table cache.old → IsFresh table cache.new }
-    ensures width { length cache.new.best.row.items ≡ length cache.old.best.row.items }
+    ensures width { length cache.new.best.row ≡ length cache.old.best.row }
 {
     cache.walk.memory.restart();
     cache.walk.steps = Steps::none();

@@ -2,9 +2,10 @@
 //! one step.
 ghost use Rattle.std.specs.Prelude.{◌≡◌, ◌+◌, ◌<◌, ◌^◌, ◌↔◌, IsTrue, length, slice_index, slice_set};
 
+use crate::pikevm::beginning::Beginning;
 use crate::pikevm::memory::Memory;
 
-impl Memory {
+impl<S: Beginning> Memory<S> {
     /// Begins a round, in which the set is empty.
     pub fn begin_round(&mut self)
         requires { self.old.now + 1 < 2 ^ 64 }

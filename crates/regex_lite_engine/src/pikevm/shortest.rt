@@ -8,12 +8,13 @@ ghost use Rattle.regex_lite_engine.specs.Walk.Outcomes.{IsNumberedEnd, IsFresh, 
 ghost use Rattle.regex_lite_engine.specs.Walk.Turns.{best_of};
 
 use crate::Graph;
+use crate::pikevm::beginning::Unkept;
 use crate::pikevm::best::Best;
 use crate::pikevm::here::Here;
 use crate::pikevm::turn::Cache;
 
 /// Goes from position to position, up to the first at which a match is complete.
-pub fn run_shortest(cache: &mut Cache, graph: &Graph, haystack: &str, start: usize)
+pub fn run_shortest(cache: &mut Cache<Unkept>, graph: &Graph, haystack: &str, start: usize)
     requires boundary { IsCharBoundary haystack.now start }
     requires fresh { IsFresh (table_of graph.now) cache.old }
     requires counts { CanCount (table_of graph.now)
@@ -35,7 +36,7 @@ pub fn run_shortest(cache: &mut Cache, graph: &Graph, haystack: &str, start: usi
 }
 
 /// Whether there is a match, or no position is left.
-fn is_known(here: Here, best: &Best) -> bool
+fn is_known(here: Here, best: &Best<Unkept>) -> bool
     ensures known { IsTrue result → (here.after ≡ None) ⊎ ¬ (best_of best.now ≡ None) }
     ensures at_end { here.after ≡ None → IsTrue result }
     ensures none_yet { ¬ IsTrue result → best_of best.now ≡ None }

@@ -9,13 +9,20 @@ ghost use Rattle.regex_lite_engine.specs.Walk.Turns.{best_of, IsDeadAt};
 
 use crate::Graph;
 use crate::nfa::starts::Starts;
+use crate::pikevm::beginning::Beginning;
 use crate::pikevm::best::Best;
 use crate::pikevm::here::Here;
 use crate::pikevm::memory::Memory;
 
 /// Where the search goes on: where it is while there is a thread or a match, and else at the next
 /// position at which a match can start, or at the haystack's end.
-pub fn next_start(graph: &Graph, haystack: &str, here: Here, memory: &Memory, best: &Best) -> Here
+pub fn next_start<S: Beginning>(
+    graph: &Graph,
+    haystack: &str,
+    here: Here,
+    memory: &Memory<S>,
+    best: &Best<S>,
+) -> Here
     requires { (p : ℕ) × IsHere (chars haystack.now) p here }
     ensures passes { (p : ℕ) → IsHere (chars haystack.now) p here
         → GoesOnAt (table_of graph.now) (chars haystack.now) graph.now.start memory.now.threads

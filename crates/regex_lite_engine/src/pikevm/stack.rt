@@ -4,10 +4,11 @@ ghost use Rattle.regex_lite_engine.specs.Walk.Cells.{frame_of};
 ghost use Rattle.regex_lite_engine.specs.Walk.Machine.{explore, unwound};
 ghost use Rattle.regex_lite_engine.specs.Walk.Room.{FramesBelow};
 
+use crate::pikevm::beginning::Beginning;
 use crate::pikevm::cell::Frame;
 use crate::pikevm::memory::Memory;
 
-impl Memory {
+impl<S: Beginning> Memory<S> {
     /// Puts the frame on top.
     pub fn push(&mut self, frame: Frame)
         requires { length self.old.frames < length self.old.rounds }

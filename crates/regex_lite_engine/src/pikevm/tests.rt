@@ -90,7 +90,7 @@ fn searches_in_turn(rt: HostRuntime) -> Result<(), Fail> {
 
 /// How many rows each list of threads has: one for each thread, and one more, which is that of the
 /// way that is followed for the one list and that of the best match for the other.
-fn rows_of_a_list(cache: &Cache) -> usize {
+fn rows_of_a_list(cache: &Cache<usize>) -> usize {
     cache.walk.memory.rows() / 2 + 1
 }
 
@@ -105,7 +105,7 @@ fn a_row_for_what_reads(rt: HostRuntime) -> Result<(), Fail> {
         ("(?:a|[b-d]|$)*", 4),
     ] {
         let graph = graph_of(rt.alloc(), pattern)?;
-        let cache = cache_for(rt.alloc(), &graph, 2)?;
+        let cache = cache_for::<usize>(rt.alloc(), &graph, 2)?;
         assert_eq!(rt; rows_of_a_list(&cache), rows, "{pattern:?}");
     }
     Ok(())

@@ -4,10 +4,11 @@ ghost use Rattle.std.specs.Prelude.{◌≡◌, ◌+◌, ◌^◌, ◌<◌, ◌++�
 ghost use Rattle.regex_lite_engine.specs.Walk.Cells.{row_on};
 ghost use Rattle.regex_lite_engine.specs.Walk.Machine.{thread_at};
 
+use crate::pikevm::beginning::Beginning;
 use crate::pikevm::cell::Side;
 use crate::pikevm::memory::Memory;
 
-impl Memory {
+impl<S: Beginning> Memory<S> {
     /// How many threads the position has.
     pub fn threads(&self) -> usize
         ensures same { result ≡ length self.now.threads }
@@ -17,10 +18,10 @@ impl Memory {
     }
 
     /// Takes up a thread of the position: its row is that which is followed. Answers its place, and
-    /// where its way began.
-    pub fn load(&mut self, k: usize) -> (u32, usize)
+    /// what is kept of where its way began.
+    pub fn load(&mut self, k: usize) -> (u32, S)
         requires { k < length self.old.threads }
-        ensures thread { thread_at self.old.threads k ≡ (result.0, result.1, self.new.row) }
+        ensures thread { thread_at self.old.threads k ≡ (result.0, S.told result.1, self.new.row) }
         ensures same { self.new ≡ record self.old { row = self.new.row } }
         ensures width { length self.new.row ≡ length self.old.row }
     {
@@ -36,11 +37,11 @@ impl Memory {
     }
 
     /// Adds a thread to the next position, with the row that is followed.
-    pub fn push_next(&mut self, place: u32, start: usize)
+    pub fn push_next(&mut self, place: u32, start: S)
         requires { length self.old.next < self.old.room }
         ensures { self.new ≡ record self.old {
           next = self.old.next
-              ++ (place, start, self.old.row) ∷ [];
+              ++ (place, S.told start, self.old.row) ∷ [];
         } }
     {
         let side = self.side.other();

@@ -1,22 +1,23 @@
 //! One position of the haystack: its threads are followed in order, and leave those of the next.
-ghost use Rattle.std.specs.Prelude.{◌≡◌, ◌+◌, ◌^◌, ◌≤◌, ◌<◌, [], ℕ, false, None, length};
+ghost use Rattle.std.specs.Prelude.{◌≡◌, ◌+◌, ◌^◌, ◌≤◌, ◌<◌, [], ℕ, Option, false, None, length};
 ghost use Rattle.regex_lite_engine.specs.Graph.Renumbered.{arrows_of};
 ghost use Rattle.regex_lite_engine.specs.Graph.Stored.{table_of};
 ghost use Rattle.regex_lite_engine.specs.Walk.Turns.{best_of};
 
 use crate::Graph;
+use crate::pikevm::beginning::Beginning;
 use crate::pikevm::best::Best;
 use crate::pikevm::here::Here;
 use crate::pikevm::walk::Walk;
 
 /// All that a search works in. Its memory is asked for before the first step.
 #[derive(Drop)]
-pub struct Cache {
-    pub walk: Walk,
-    pub best: Best,
+pub struct Cache<S: Beginning> {
+    pub walk: Walk<S>,
+    pub best: Best<S>,
 }
 
-impl Cache {
+impl<S: Beginning> Cache<S> {
     ghost use Rattle.regex_lite_syntax.specs.Text.{Text};
     ghost use Rattle.regex_lite_engine.specs.Walk.Standing.{IsHere};
     ghost use Rattle.regex_lite_engine.specs.Walk.Room.{HasRoom};
@@ -39,7 +40,7 @@ impl Cache {
             → IsComing (table_of graph.now) haystack graph.now.start first last (p + 1)
             self.new.walk.memory.threads (best_of self.new.best) }
         ensures ends { EndsAt here.at (best_of self.old.best) (best_of self.new.best) }
-        ensures width { length self.new.best.row.items ≡ length self.old.best.row.items }
+        ensures width { length self.new.best.row ≡ length self.old.best.row }
         ensures tries { self.new.walk.steps.tried + length self.new.walk.memory.threads
             ≤ self.old.walk.steps.tried + length self.old.walk.memory.threads
             + (arrows_of (table_of graph.now) + 1) }
@@ -56,10 +57,10 @@ impl Cache {
     /// that comes to a match: those behind it are less preferred.
     fn follow(&mut self, graph: &Graph, here: Here, may_start: bool)
         requires placed { IsPlaced (table_of graph.now)
-            (ways_at graph.now.start here.at may_start self.old) self.old }
+            (ways_at graph.now.start (S.told_of here.at) may_start self.old) self.old }
         requires room { HasRoom (table_of graph.now) self.old.walk [] }
         ensures followed { Follows (table_of graph.now) here
-            (ways_at graph.now.start here.at may_start self.old) self.old self.new }
+            (ways_at graph.now.start (S.told_of here.at) may_start self.old) self.old self.new }
         ensures room { HasRoom (table_of graph.now) self.new.walk [] }
         ensures ends { EndsAt here.at (best_of self.old.best) (best_of self.new.best) }
         ensures kept { best_of self.new.best ≡ None → best_of self.old.best ≡ None }
@@ -76,7 +77,7 @@ impl Cache {
     /// How many ways are followed: those of the threads and, behind them, the position's own start,
     /// if a match can start there and there is none yet.
     fn ways(&self, may_start: bool) -> usize
-        ensures { (s at : ℕ) → result ≡ length (ways_at s at may_start self.now) }
+        ensures { (s : ℕ) (at : Option ℕ) → result ≡ length (ways_at s at may_start self.now) }
     {
         let threads = self.walk.memory.threads();
         if may_start && self.best.is_none() {

@@ -6,6 +6,7 @@ ghost use Rattle.regex_lite_engine.specs.Walk.Machine.{explore, thread_at};
 ghost use Rattle.regex_lite_engine.specs.Walk.Room.{HasRoom, TakesFrame, Explores, KeepsPosition};
 
 use crate::Graph;
+use crate::pikevm::beginning::Beginning;
 use crate::pikevm::enter::{Onward, enter};
 use crate::pikevm::here::Here;
 use crate::pikevm::memory::Memory;
@@ -13,19 +14,19 @@ use crate::pikevm::steps::Steps;
 
 /// What a walk works in, and what it has counted.
 #[derive(Drop)]
-pub struct Walk {
-    pub memory: Memory,
+pub struct Walk<S: Beginning> {
+    pub memory: Memory<S>,
     pub steps: Steps,
 }
 
-impl Walk {
+impl<S: Beginning> Walk<S> {
     /// Takes up a thread of the position, or its own start behind them: the row is that which is
-    /// followed. Answers the place to explore, and where the way began.
-    pub fn take_up(&mut self, k: usize, start: u32, at: usize) -> (u32, usize)
+    /// followed. Answers the place to explore, and what is kept of where the way began.
+    pub fn take_up(&mut self, k: usize, start: u32, at: usize) -> (u32, S)
         requires { k ≤ length self.old.memory.threads }
         ensures thread { thread_at (self.old.memory.threads
-            ++ (start, at, replicate (length self.old.memory.row) None) ∷ []) k
-            ≡ (result.0, result.1, self.new.memory.row) }
+            ++ (start, S.told_of at, replicate (length self.old.memory.row) None) ∷ []) k
+            ≡ (result.0, S.told result.1, self.new.memory.row) }
         ensures memory { self.new.memory
             ≡ record self.old.memory { row = self.new.memory.row } }
         ensures row { length self.new.memory.row ≡ length self.old.memory.row }
@@ -35,17 +36,17 @@ impl Walk {
             return self.memory.load(k);
         }
         self.memory.clear_row();
-        (start, at)
+        (start, S::at(at))
     }
 
     /// Explores this place and all that is on the stack, the ways of one thread that started at
     /// `start`. Stops where a match is complete, and tells whether one is: what is left then is
     /// less preferred.
-    pub fn explore(&mut self, first: u32, graph: &Graph, here: Here, start: usize) -> bool
+    pub fn explore(&mut self, first: u32, graph: &Graph, here: Here, start: S) -> bool
         requires { HasRoom (table_of graph.now) self.old
             (explore first ∷ self.old.memory.frames) }
         ensures room { HasRoom (table_of graph.now) self.new [] }
-        ensures explored { Explores (table_of graph.now) here start self.old self.new
+        ensures explored { Explores (table_of graph.now) here (S.told start) self.old self.new
             (explore first ∷ self.old.memory.frames) result }
         ensures empty { self.new.memory.frames ≡ [] }
         ensures kept { KeepsPosition self.old.memory self.new.memory }
@@ -64,10 +65,10 @@ impl Walk {
     }
 
     /// Comes to a place, and enters it if it is new at this position.
-    fn come_to(&mut self, place: u32, graph: &Graph, here: Here, start: usize) -> Onward
+    fn come_to(&mut self, place: u32, graph: &Graph, here: Here, start: S) -> Onward
         requires { HasRoom (table_of graph.now) self.old
             (explore place ∷ self.old.memory.frames) }
-        ensures taken { TakesFrame (table_of graph.now) here start self.old
+        ensures taken { TakesFrame (table_of graph.now) here (S.told start) self.old
             (explore place ∷ self.old.memory.frames) self.new
             (onto result self.new.memory.frames) (completes result) }
         ensures kept { KeepsPosition self.old.memory self.new.memory }

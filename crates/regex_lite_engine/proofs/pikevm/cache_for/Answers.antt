@@ -4,10 +4,10 @@ use Rattle.regex_lite_engine.specs.Graph.Stored.{place_of}
 use Rattle.regex_lite_engine.proofs.pikevm.cache_for.Goals as goal
 
 pub overflow_add-room : goal.overflow_add-room
-overflow_add-room c = omega (arith, c.places-places.ensures.same, c.places-places.ensures.few, c.reading-room.ensures.few)
+overflow_add-room g c = omega (arith, c.places-places.ensures.same, c.places-places.ensures.few, c.reading-room.ensures.few)
 
 pub returns-clause-fresh : goal.returns-clause-fresh
-returns-clause-fresh c =
+returns-clause-fresh g c =
     let count : length (map place_of c.args.graph.now.places) ≡ length c.args.graph.now.places = length-map c.args.graph.now.places place_of in
     let places : c.places-places.result ≡ length c.args.graph.now.places = c.places-places.ensures.same in
     let kept = c.places-places.ensures.kept_back in
@@ -37,7 +37,7 @@ returns-clause-fresh c =
     }
 
 pub returns-clause-countable : goal.returns-clause-countable
-returns-clause-countable c =
+returns-clause-countable g c =
     let count : length (map place_of c.args.graph.now.places) ≡ length c.args.graph.now.places = length-map c.args.graph.now.places place_of in
     let places = c.places-places.ensures.same in let few = c.places-places.ensures.few in
     record { few_places = omega (arith, count, places, few); few_arrows = c.reading-room.ensures.few_arrows }

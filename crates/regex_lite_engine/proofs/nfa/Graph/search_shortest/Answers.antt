@@ -3,7 +3,7 @@ use Rattle.regex_lite_engine.specs.Graph.Stored.{table_of}
 use Rattle.regex_lite_engine.specs.Search.Offsets.{position_at}
 use Rattle.regex_lite_engine.specs.Search.Outcomes.{IsEndOutcome}
 use Rattle.regex_lite_engine.specs.Walk.Turns.{best_of}
-use Rattle.regex_lite_engine.proofs.pikevm.OutcomeLemmas.{can_count, end_told}
+use Rattle.regex_lite_engine.proofs.pikevm.OutcomeLemmas.{can_count, cost_told, end_told}
 use Rattle.regex_lite_engine.proofs.nfa.Graph.search_shortest.Goals as goal
 
 pub run_shortest-requires-clause-counts : goal.run_shortest-requires-clause-counts
@@ -16,3 +16,9 @@ returns-clause-found c = λ tree regular is. (
     let over = c.if-start-haystack.false in
     subst (λ z. IsEndOutcome tree c.args.haystack.now c.args.start z) (sym c.end.ensures)
     (end_told tree regular c.args.self.now is c.args.haystack.now c.args.start (omega (arith, over)) (best_of c.run_shortest.new.cache.best) c.run_shortest.ensures.found))
+
+pub returns-clause-cost : goal.returns-clause-cost
+returns-clause-cost c = λ tree is.
+    let over = c.if-start-haystack.false in
+    let steps = c.run_shortest.new.cache.walk.steps in
+    cost_told tree c.args.self.now is c.args.haystack.now c.args.start (omega (arith, over)) steps.tried steps.entered steps.looked c.run_shortest.ensures.bounded

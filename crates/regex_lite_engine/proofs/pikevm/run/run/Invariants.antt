@@ -12,7 +12,7 @@ invariant-positions l = record {
   is : IsHere (chars l.haystack) p l.here;
   under_way : IsUnderWay (table_of l.graph) (chars l.haystack) l.graph.start
       (position_at l.haystack l.start) p l.cache;
-  width : length l.cache.best.row.items ≡ length l.fn.cache.best.row.items;
+  width : length l.cache.best.row ≡ length l.fn.cache.best.row;
 }
 
 abbrev pub decreases-positions : goal.decreases-positions

@@ -8,7 +8,7 @@ use Rattle.regex_lite_engine.proofs.pikevm.SkipLemmas.{passes_as}
 use Rattle.regex_lite_engine.proofs.pikevm.skip.next_start.Goals as goal
 
 pub returns-clause-passes : goal.returns-clause-passes
-returns-clause-passes c = λ p is.
+returns-clause-passes g c = λ p is.
     let haystack = chars c.args.haystack.now in
     let none = c.is_none.ensures.0 (subst IsTrue (sym c.if-not-is_none.false) refl) in
     let no_threads = c.if-threads-gt0.false in

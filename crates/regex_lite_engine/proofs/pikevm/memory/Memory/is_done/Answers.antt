@@ -6,7 +6,7 @@ use Rattle.regex_lite_engine.proofs.pikevm.memory.CellLemmas.{frames_long}
 use Rattle.regex_lite_engine.proofs.pikevm.memory.Memory.is_done.Goals as goal
 
 pub returns : goal.returns
-returns c =
+returns g c =
     let i = c.self.inside in
     let long = frames_long i.cells.items i.top c.self.invariant.frames_fit in
     let held = ap (λ (z : State). length z.frames) c.self.view_is in (

@@ -4,7 +4,7 @@ use Rattle.regex_lite_engine.specs.Walk.Room.{FramesBelow}
 use Rattle.regex_lite_engine.proofs.pikevm.memory.Memory.next_place.Given as goal
 
 abbrev pub invariant-frames : goal.invariant-frames
-invariant-frames l = record {
+invariant-frames g l = record {
   places : ℕ;
   below : FramesBelow places (length l.self.row) l.self.frames;
   unwound : unwound l.initial.self.row l.initial.self.frames ≡ unwound l.self.row l.self.frames;
@@ -13,4 +13,4 @@ invariant-frames l = record {
 }
 
 abbrev pub decreases-frames : goal.decreases-frames
-decreases-frames l = length l.self.frames
+decreases-frames g l = length l.self.frames

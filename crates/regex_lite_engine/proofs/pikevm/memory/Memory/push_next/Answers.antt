@@ -6,22 +6,22 @@ use Rattle.regex_lite_engine.proofs.pikevm.memory.ListLemmas.{threads_long, roun
 use Rattle.regex_lite_engine.proofs.pikevm.memory.Memory.push_next.Goals as goal
 
 pub copy-requires-clause-to : goal.copy-requires-clause-to
-copy-requires-clause-to c =
+copy-requires-clause-to g c =
     let i = c.self.inside in let m = c.args.self.now in let v = c.self.view_is in let fit = c.self.invariant in
-    let lt : i.next_len < i.room = omega (arith, c.requires, threads_long (other i.side) i.cells.items i.rows i.room i.next_len, ap (λ (z : State). length z.next) v, ap (λ (z : State). z.room) v) in
+    let lt : i.next_len < i.room = omega (arith, c.requires, threads_long g.S.Beginning.told (other i.side) i.cells.items i.rows i.room i.next_len, ap (λ (z : State). length z.next) v, ap (λ (z : State). z.room) v) in
     omega (arith, row_fits c.other-side.result i.room i.next_len lt, fit.rows_fit, c.row_of.ensures)
 
 pub index_mut-requires : goal.index_mut-requires
-index_mut-requires c =
+index_mut-requires g c =
     let i = c.self.inside in let m = c.args.self.now in let v = c.self.view_is in let fit = c.self.invariant in
-    let lt : i.next_len < i.room = omega (arith, c.requires, threads_long (other i.side) i.cells.items i.rows i.room i.next_len, ap (λ (z : State). length z.next) v, ap (λ (z : State). z.room) v) in
+    let lt : i.next_len < i.room = omega (arith, c.requires, threads_long g.S.Beginning.told (other i.side) i.cells.items i.rows i.room i.next_len, ap (λ (z : State). length z.next) v, ap (λ (z : State). z.room) v) in
     omega (arith, lt, fit.cells_fit, i.cells.ok.0)
 
 pub invariant_of-self : goal.invariant_of-self
-invariant_of-self c =
+invariant_of-self g c =
     let i = c.self.inside in let m = c.args.self.now in let v = c.self.view_is in let fit = c.self.invariant in
     let x = c.index_mut.result.now in let is = c.index_mut.ensures.value in let row : Row = nth_row i.rows 0 in
-    let lt : i.next_len < i.room = omega (arith, c.requires, threads_long (other i.side) i.cells.items i.rows i.room i.next_len, ap (λ (z : State). length z.next) v, ap (λ (z : State). z.room) v) in
+    let lt : i.next_len < i.room = omega (arith, c.requires, threads_long g.S.Beginning.told (other i.side) i.cells.items i.rows i.room i.next_len, ap (λ (z : State). length z.next) v, ap (λ (z : State). z.room) v) in
     let copied = c.copy.ensures.copied ∙ ap (λ k. set i.rows k row) c.row_of.ensures in
     let cells = length-set i.cells.items i.next_len c.put_thread.new.self in
     record {
@@ -33,13 +33,13 @@ invariant_of-self c =
     }
 
 pub returns : goal.returns
-returns c =
+returns g c =
     let i = c.self.inside in let m = c.args.self.now in let v = c.self.view_is in let fit = c.self.invariant in
     let x = c.index_mut.result.now in let is = c.index_mut.ensures.value in let row : Row = nth_row i.rows 0 in
-    let lt : i.next_len < i.room = omega (arith, c.requires, threads_long (other i.side) i.cells.items i.rows i.room i.next_len, ap (λ (z : State). length z.next) v, ap (λ (z : State). z.room) v) in
+    let lt : i.next_len < i.room = omega (arith, c.requires, threads_long g.S.Beginning.told (other i.side) i.cells.items i.rows i.room i.next_len, ap (λ (z : State). length z.next) v, ap (λ (z : State). z.room) v) in
     let copied = c.copy.ensures.copied ∙ ap (λ k. set i.rows k row) c.row_of.ensures in
-    let frames = ap (λ fs. drop i.top fs) (frames_stay c.other-side.result i.side (back i.side ∙ ap other (sym c.other-side.ensures)) i.cells.items i.rows c.copy.new.self i.room i.next_len i.len c.args.place c.args.start x c.put_thread.new.self row is c.put_thread.ensures copied lt fit.threads_fit fit.cells_fit fit.rows_fit) ∙ (ap (λ (z : State). z.frames) v) in
-    let next = ap (λ t. threads_on t (set i.cells.items i.next_len c.put_thread.new.self) c.copy.new.self i.room (i.next_len + 1)) (sym c.other-side.ensures) ∙ own_list c.other-side.result i.side (back i.side ∙ ap other (sym c.other-side.ensures)) i.cells.items i.rows c.copy.new.self i.room i.next_len i.len c.args.place c.args.start x c.put_thread.new.self row is c.put_thread.ensures copied lt fit.threads_fit fit.cells_fit fit.rows_fit ∙ ap (λ ts. ts ++ (c.args.place, c.args.start, row) ∷ []) (ap (λ t. threads_on t i.cells.items i.rows i.room i.next_len) c.other-side.ensures ∙ (ap (λ (z : State). z.next) v))
-    ∙ ap (λ (r : Row). m.next ++ (c.args.place, c.args.start, r) ∷ []) (ap (λ (z : State). z.row) v) in
-    let threads = other_list c.other-side.result i.side (back i.side ∙ ap other (sym c.other-side.ensures)) i.cells.items i.rows c.copy.new.self i.room i.next_len i.len c.args.place c.args.start x c.put_thread.new.self row is c.put_thread.ensures copied lt fit.threads_fit fit.cells_fit fit.rows_fit ∙ (ap (λ (z : State). z.threads) v) in
-    state_is _ _ (rounds_stay c.other-side.result i.side (back i.side ∙ ap other (sym c.other-side.ensures)) i.cells.items i.rows c.copy.new.self i.room i.next_len i.len c.args.place c.args.start x c.put_thread.new.self row is c.put_thread.ensures copied lt fit.threads_fit fit.cells_fit fit.rows_fit ∙ (ap (λ (z : State). z.rounds) v)) (ap (λ (z : State). z.now) v) frames (row_stays c.other-side.result i.side (back i.side ∙ ap other (sym c.other-side.ensures)) i.cells.items i.rows c.copy.new.self i.room i.next_len i.len c.args.place c.args.start x c.put_thread.new.self row is c.put_thread.ensures copied lt fit.threads_fit fit.cells_fit fit.rows_fit ∙ (ap (λ (z : State). z.row) v)) threads next (ap (λ (z : State). z.room) v)
+    let frames = ap (λ fs. drop i.top fs) (frames_stay g.S.Beginning.told c.other-side.result i.side (back i.side ∙ ap other (sym c.other-side.ensures)) i.cells.items i.rows c.copy.new.self i.room i.next_len i.len c.args.place c.args.start x c.put_thread.new.self row is c.put_thread.ensures copied lt fit.threads_fit fit.cells_fit fit.rows_fit) ∙ (ap (λ (z : State). z.frames) v) in
+    let next = ap (λ t. threads_on g.S.Beginning.told t (set i.cells.items i.next_len c.put_thread.new.self) c.copy.new.self i.room (i.next_len + 1)) (sym c.other-side.ensures) ∙ own_list g.S.Beginning.told c.other-side.result i.side (back i.side ∙ ap other (sym c.other-side.ensures)) i.cells.items i.rows c.copy.new.self i.room i.next_len i.len c.args.place c.args.start x c.put_thread.new.self row is c.put_thread.ensures copied lt fit.threads_fit fit.cells_fit fit.rows_fit ∙ ap (λ ts. ts ++ (c.args.place, g.S.Beginning.told c.args.start, row) ∷ []) (ap (λ t. threads_on g.S.Beginning.told t i.cells.items i.rows i.room i.next_len) c.other-side.ensures ∙ (ap (λ (z : State). z.next) v))
+    ∙ ap (λ (r : Row). m.next ++ (c.args.place, g.S.Beginning.told c.args.start, r) ∷ []) (ap (λ (z : State). z.row) v) in
+    let threads = other_list g.S.Beginning.told c.other-side.result i.side (back i.side ∙ ap other (sym c.other-side.ensures)) i.cells.items i.rows c.copy.new.self i.room i.next_len i.len c.args.place c.args.start x c.put_thread.new.self row is c.put_thread.ensures copied lt fit.threads_fit fit.cells_fit fit.rows_fit ∙ (ap (λ (z : State). z.threads) v) in
+    state_is _ _ (rounds_stay g.S.Beginning.told c.other-side.result i.side (back i.side ∙ ap other (sym c.other-side.ensures)) i.cells.items i.rows c.copy.new.self i.room i.next_len i.len c.args.place c.args.start x c.put_thread.new.self row is c.put_thread.ensures copied lt fit.threads_fit fit.cells_fit fit.rows_fit ∙ (ap (λ (z : State). z.rounds) v)) (ap (λ (z : State). z.now) v) frames (row_stays g.S.Beginning.told c.other-side.result i.side (back i.side ∙ ap other (sym c.other-side.ensures)) i.cells.items i.rows c.copy.new.self i.room i.next_len i.len c.args.place c.args.start x c.put_thread.new.self row is c.put_thread.ensures copied lt fit.threads_fit fit.cells_fit fit.rows_fit ∙ (ap (λ (z : State). z.row) v)) threads next (ap (λ (z : State). z.room) v)

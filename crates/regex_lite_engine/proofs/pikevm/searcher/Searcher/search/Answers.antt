@@ -4,7 +4,7 @@ use Rattle.regex_lite_engine.specs.Graph.Renumbered.{IsGraphOf}
 use Rattle.regex_lite_engine.specs.Graph.Stored.{table_of}
 use Rattle.regex_lite_engine.specs.Search.Offsets.{position_at}
 use Rattle.regex_lite_engine.specs.Search.Searching.{Searching}
-use Rattle.regex_lite_engine.specs.Walk.Outcomes.{IsNumberedOutcome}
+use Rattle.regex_lite_engine.specs.Walk.Outcomes.{IsBestOutcome}
 use Rattle.regex_lite_engine.proofs.pikevm.OutcomeLemmas.{can_count, span_told}
 use Rattle.regex_lite_engine.proofs.pikevm.searcher.Searcher.search.Goals as goal
 
@@ -21,6 +21,6 @@ returns-clause-found c = λ tree regular is.
     let haystack = c.args.haystack.now in
     let of_graph = subst (λ (z : Searching). IsGraphOf tree z.graph) (sym c.self.view_is) is in
     span_told tree regular graph of_graph haystack c.args.start c.if-start-haystack.false
-    c.span.result c.run.new.cache.best.row.items
-    (subst (λ z. IsNumberedOutcome (table_of graph) (chars haystack) graph.start
+    c.span.result c.run.new.cache.best.row
+    (subst (λ z. IsBestOutcome (table_of graph) (chars haystack) graph.start
     (position_at haystack c.args.start) z) c.span.ensures c.run.ensures.found)

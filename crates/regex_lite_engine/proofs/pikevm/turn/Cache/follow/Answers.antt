@@ -1,9 +1,8 @@
-use Rattle.std.proofs.Common.{◌≡◌, ℕ, ◌+◌, ◌^◌, ◌<◌, List, length, replicate, [], ◌++◌, ◌∷◌, None, if◌then◌else◌, Some, sym, ap, subst, ◌∙◌, arith}
+use Rattle.std.proofs.Common.{◌≡◌, ℕ, ◌+◌, ◌^◌, ◌<◌, List, length, replicate, [], ◌++◌, ◌∷◌, None, if◌then◌else◌, Option, Some, sym, ap, subst, ◌∙◌, arith}
 use Rattle.std.proofs.lemmas.List.{length-map}
-use Rattle.regex_lite_engine.specs.declared.pikevm.best.Best as code
 use Rattle.regex_lite_engine.specs.declared.pikevm.walk.Walk.{Walk}
 use Rattle.regex_lite_engine.specs.Graph.Stored.{table_of, place_of}
-use Rattle.regex_lite_engine.specs.Walk.Machine.{Row, State, Thread, thread_at}
+use Rattle.regex_lite_engine.specs.Walk.Machine.{Row, State, Stored, Thread, thread_at}
 use Rattle.regex_lite_engine.specs.Walk.Room.{due_tries, KeepsPosition}
 use Rattle.regex_lite_engine.specs.Walk.Searching.{ways_at}
 use Rattle.regex_lite_engine.specs.Walk.Turns.{best_of, StepsTo}
@@ -12,32 +11,32 @@ use Rattle.regex_lite_engine.proofs.pikevm.StepLemmas.{room_pushed, stepped_walk
 use Rattle.regex_lite_engine.proofs.pikevm.TurnLemmas.{begun_below, start_begun, start_taken}
 use Rattle.regex_lite_engine.proofs.pikevm.turn.Cache.follow.Goals as goal
 
-abbrev as_best : ℕ → ℕ → Row → Best
+abbrev as_best : Option ℕ → ℕ → Row → Best
 as_best i at row = Some (i, at, row)
 
 pub take_up-place-requires : goal.take_up-place-requires
-take_up-place-requires c =
+take_up-place-requires g c =
     let a = c.args in let i = a.self.now.walk.memory in let v = c.ways.invariant in
-    let lt : c.ways.k < length (ways_at a.graph.now.start a.here.at a.may_start a.self.now) = (let t = c.ways-test.true in let e = c.ways-k-end.ensures a.graph.now.start a.here.at in omega (arith, t, e)) in
-    let taken = start_taken a.graph.now.start a.here.at (length i.row) a.may_start (best_of a.self.now.best) i.threads c.ways.k lt in
+    let lt : c.ways.k < length (ways_at a.graph.now.start (g.S.Beginning.told_of a.here.at) a.may_start a.self.now) = (let t = c.ways-test.true in let e = c.ways-k-end.ensures a.graph.now.start (g.S.Beginning.told_of a.here.at) in omega (arith, t, e)) in
+    let taken = start_taken a.graph.now.start (g.S.Beginning.told_of a.here.at) (length i.row) a.may_start (best_of a.self.now.best) i.threads c.ways.k lt in
     let few = taken.0 in let same = ap (λ (ts : List Thread). length ts) v.kept.threads in
     omega (arith, few, same)
 
 pub explore-requires : goal.explore-requires
-explore-requires c =
+explore-requires g c =
     let a = c.args in let i = a.self.now.walk.memory in let w = c.ways.self.walk in let v = c.ways.invariant in let up = c.take_up-place.ensures in
-    let q : ℕ = c.take_up-place.result.0 in let start : ℕ = c.take_up-place.result.1 in let w1 : Walk = record { memory = c.take_up-place.new.self.memory; steps = c.take_up-place.new.self.steps } in
-    let ws = ways_at a.graph.now.start a.here.at a.may_start a.self.now in
-    let lt : c.ways.k < length ws = (let t = c.ways-test.true in let e = c.ways-k-end.ensures a.graph.now.start a.here.at in omega (arith, t, e)) in
+    let q : ℕ = c.take_up-place.result.0 in let start : Option ℕ = g.S.Beginning.told c.take_up-place.result.1 in let w1 : Walk g.row.S.Denot = record { memory = c.take_up-place.new.self.memory; steps = c.take_up-place.new.self.steps } in
+    let ws = ways_at a.graph.now.start (g.S.Beginning.told_of a.here.at) a.may_start a.self.now in
+    let lt : c.ways.k < length ws = (let t = c.ways-test.true in let e = c.ways-k-end.ensures a.graph.now.start (g.S.Beginning.told_of a.here.at) in omega (arith, t, e)) in
     let em = up.memory ∙ ap (λ fs. record w.memory { row = w1.memory.row; frames = fs }) v.empty in
-    let taken = start_taken a.graph.now.start a.here.at (length i.row) a.may_start (best_of a.self.now.best) i.threads c.ways.k lt in
+    let taken = start_taken a.graph.now.start (g.S.Beginning.told_of a.here.at) (length i.row) a.may_start (best_of a.self.now.best) i.threads c.ways.k lt in
     let at : thread_at ws c.ways.k ≡ (q, start, w1.memory.row) =
-    taken.1 ∙ ap (λ ts. thread_at (ts ++ (a.graph.now.start, a.here.at, replicate (length i.row) None) ∷ []) c.ways.k) (sym v.kept.threads)
-    ∙ ap (λ n. thread_at (w.memory.threads ++ (a.graph.now.start, a.here.at, replicate n None) ∷ []) c.ways.k) (sym v.kept.row)
-    ∙ ap (λ z. thread_at (w.memory.threads ++ (z, a.here.at, replicate (length w.memory.row) None) ∷ []) c.ways.k) (sym c.start.ensures.same) ∙ up.thread in
+    taken.1 ∙ ap (λ ts. thread_at (ts ++ (a.graph.now.start, g.S.Beginning.told_of a.here.at, replicate (length i.row) None) ∷ []) c.ways.k) (sym v.kept.threads)
+    ∙ ap (λ n. thread_at (w.memory.threads ++ (a.graph.now.start, g.S.Beginning.told_of a.here.at, replicate n None) ∷ []) c.ways.k) (sym v.kept.row)
+    ∙ ap (λ z. thread_at (w.memory.threads ++ (z, g.S.Beginning.told_of a.here.at, replicate (length w.memory.row) None) ∷ []) c.ways.k) (sym c.start.ensures.same) ∙ up.thread in
     let inside = c.start.ensures.inside in let all = length-map a.graph.now.places place_of in
-    let below = begun_below (length (table_of a.graph.now)) (best_of a.self.now.best) a.graph.now.start a.here.at a.may_start i.threads ws (omega (arith, inside, all, c.start.ensures.same)) c.requires.placed.below
-    (start_begun a.graph.now.start a.here.at (length i.row) a.may_start (best_of a.self.now.best) i.threads) in
+    let below = begun_below (length (table_of a.graph.now)) (best_of a.self.now.best) a.graph.now.start (g.S.Beginning.told_of a.here.at) a.may_start i.threads ws (omega (arith, inside, all, c.start.ensures.same)) c.requires.placed.below
+    (start_begun a.graph.now.start (g.S.Beginning.told_of a.here.at) (length i.row) a.may_start (best_of a.self.now.best) i.threads) in
     let budget = c.requires.placed.budget in let spent = v.spent in
     room_pushed (table_of a.graph.now) w w1 q em up.steps
     (subst (λ (t : Thread). t.0 < length (table_of a.graph.now)) at (below c.ways.k lt))
@@ -46,18 +45,18 @@ explore-requires c =
     v.room
 
 pub ways-preserved : goal.ways-preserved
-ways-preserved c =
+ways-preserved g c =
     let a = c.args in let i = a.self.now.walk.memory in let w = c.ways.self.walk in let v = c.ways.invariant in let up = c.take_up-place.ensures in
-    let q : ℕ = c.take_up-place.result.0 in let start : ℕ = c.take_up-place.result.1 in let w1 : Walk = record { memory = c.take_up-place.new.self.memory; steps = c.take_up-place.new.self.steps } in
-    let ws = ways_at a.graph.now.start a.here.at a.may_start a.self.now in
-    let lt : c.ways.k < length ws = (let t = c.ways-test.true in let e = c.ways-k-end.ensures a.graph.now.start a.here.at in omega (arith, t, e)) in
+    let q : ℕ = c.take_up-place.result.0 in let start : Option ℕ = g.S.Beginning.told c.take_up-place.result.1 in let w1 : Walk g.row.S.Denot = record { memory = c.take_up-place.new.self.memory; steps = c.take_up-place.new.self.steps } in
+    let ws = ways_at a.graph.now.start (g.S.Beginning.told_of a.here.at) a.may_start a.self.now in
+    let lt : c.ways.k < length ws = (let t = c.ways-test.true in let e = c.ways-k-end.ensures a.graph.now.start (g.S.Beginning.told_of a.here.at) in omega (arith, t, e)) in
     let em = up.memory ∙ ap (λ fs. record w.memory { row = w1.memory.row; frames = fs }) v.empty in
     let more = c.explore.ensures in
-    let taken = start_taken a.graph.now.start a.here.at (length i.row) a.may_start (best_of a.self.now.best) i.threads c.ways.k lt in
+    let taken = start_taken a.graph.now.start (g.S.Beginning.told_of a.here.at) (length i.row) a.may_start (best_of a.self.now.best) i.threads c.ways.k lt in
     let at : thread_at ws c.ways.k ≡ (q, start, w1.memory.row) =
-    taken.1 ∙ ap (λ ts. thread_at (ts ++ (a.graph.now.start, a.here.at, replicate (length i.row) None) ∷ []) c.ways.k) (sym v.kept.threads)
-    ∙ ap (λ n. thread_at (w.memory.threads ++ (a.graph.now.start, a.here.at, replicate n None) ∷ []) c.ways.k) (sym v.kept.row)
-    ∙ ap (λ z. thread_at (w.memory.threads ++ (z, a.here.at, replicate (length w.memory.row) None) ∷ []) c.ways.k) (sym c.start.ensures.same) ∙ up.thread in
+    taken.1 ∙ ap (λ ts. thread_at (ts ++ (a.graph.now.start, g.S.Beginning.told_of a.here.at, replicate (length i.row) None) ∷ []) c.ways.k) (sym v.kept.threads)
+    ∙ ap (λ n. thread_at (w.memory.threads ++ (a.graph.now.start, g.S.Beginning.told_of a.here.at, replicate n None) ∷ []) c.ways.k) (sym v.kept.row)
+    ∙ ap (λ z. thread_at (w.memory.threads ++ (z, g.S.Beginning.told_of a.here.at, replicate (length w.memory.row) None) ∷ []) c.ways.k) (sym c.start.ensures.same) ∙ up.thread in
     let due = due_tries (table_of a.graph.now) i.rounds i.now [] i.next a.self.now.walk.steps.tried in
     let kept : KeepsPosition i c.explore.new.self.memory = record {
       round = more.kept.round ∙ ap (λ (m : State). m.now) em ∙ v.kept.round;
@@ -78,18 +77,18 @@ ways-preserved c =
     }
 
 pub returns-then-explore-clause-followed : goal.returns-then-explore-clause-followed
-returns-then-explore-clause-followed c =
+returns-then-explore-clause-followed g c =
     let a = c.args in let i = a.self.now.walk.memory in let w = c.ways.self.walk in let v = c.ways.invariant in let up = c.take_up-place.ensures in
-    let q : ℕ = c.take_up-place.result.0 in let start : ℕ = c.take_up-place.result.1 in let w1 : Walk = record { memory = c.take_up-place.new.self.memory; steps = c.take_up-place.new.self.steps } in
-    let ws = ways_at a.graph.now.start a.here.at a.may_start a.self.now in
-    let lt : c.ways.k < length ws = (let t = c.ways-test.true in let e = c.ways-k-end.ensures a.graph.now.start a.here.at in omega (arith, t, e)) in
+    let q : ℕ = c.take_up-place.result.0 in let start : Option ℕ = g.S.Beginning.told c.take_up-place.result.1 in let w1 : Walk g.row.S.Denot = record { memory = c.take_up-place.new.self.memory; steps = c.take_up-place.new.self.steps } in
+    let ws = ways_at a.graph.now.start (g.S.Beginning.told_of a.here.at) a.may_start a.self.now in
+    let lt : c.ways.k < length ws = (let t = c.ways-test.true in let e = c.ways-k-end.ensures a.graph.now.start (g.S.Beginning.told_of a.here.at) in omega (arith, t, e)) in
     let em = up.memory ∙ ap (λ fs. record w.memory { row = w1.memory.row; frames = fs }) v.empty in
     let more = c.explore.ensures in
-    let taken = start_taken a.graph.now.start a.here.at (length i.row) a.may_start (best_of a.self.now.best) i.threads c.ways.k lt in
+    let taken = start_taken a.graph.now.start (g.S.Beginning.told_of a.here.at) (length i.row) a.may_start (best_of a.self.now.best) i.threads c.ways.k lt in
     let at : thread_at ws c.ways.k ≡ (q, start, w1.memory.row) =
-    taken.1 ∙ ap (λ ts. thread_at (ts ++ (a.graph.now.start, a.here.at, replicate (length i.row) None) ∷ []) c.ways.k) (sym v.kept.threads)
-    ∙ ap (λ n. thread_at (w.memory.threads ++ (a.graph.now.start, a.here.at, replicate n None) ∷ []) c.ways.k) (sym v.kept.row)
-    ∙ ap (λ z. thread_at (w.memory.threads ++ (z, a.here.at, replicate (length w.memory.row) None) ∷ []) c.ways.k) (sym c.start.ensures.same) ∙ up.thread in
+    taken.1 ∙ ap (λ ts. thread_at (ts ++ (a.graph.now.start, g.S.Beginning.told_of a.here.at, replicate (length i.row) None) ∷ []) c.ways.k) (sym v.kept.threads)
+    ∙ ap (λ n. thread_at (w.memory.threads ++ (a.graph.now.start, g.S.Beginning.told_of a.here.at, replicate n None) ∷ []) c.ways.k) (sym v.kept.row)
+    ∙ ap (λ z. thread_at (w.memory.threads ++ (z, g.S.Beginning.told_of a.here.at, replicate (length w.memory.row) None) ∷ []) c.ways.k) (sym c.start.ensures.same) ∙ up.thread in
     let due = due_tries (table_of a.graph.now) i.rounds i.now [] i.next a.self.now.walk.steps.tried in
     let kept : KeepsPosition i c.explore.new.self.memory = record {
       round = more.kept.round ∙ ap (λ (m : State). m.now) em ∙ v.kept.round;
@@ -110,5 +109,5 @@ returns-then-explore-clause-followed c =
       spent_entries = entries_walk (table_of a.graph.now) w w1 q em up.steps a.here i.now v.kept.round c.explore.new.self start c.explore.result more.explored _ v.spent_entries;
       stack_empty = more.empty;
       kept = kept;
-      best_width = c.set.ensures.width ∙ ap (λ (b : code.Best). length b.row.items) v.best;
+      best_width = c.set.ensures.width ∙ ap (λ (b : Stored). length b.row) v.best;
     }

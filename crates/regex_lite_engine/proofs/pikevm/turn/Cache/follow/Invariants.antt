@@ -7,9 +7,9 @@ use Rattle.regex_lite_engine.specs.Walk.Turns.{best_of, StepsTo}
 use Rattle.regex_lite_engine.proofs.pikevm.turn.Cache.follow.Given as goal
 
 abbrev pub invariant-ways : goal.invariant-ways
-invariant-ways l = record {
+invariant-ways g l = record {
   room : HasRoom (table_of l.graph) l.self.walk [];
-  steps : StepsTo (table_of l.graph) l.here l.initial.self.walk.memory.now (thread_at (ways_at l.graph.start l.here.at l.may_start l.initial.self)) (length (ways_at l.graph.start l.here.at l.may_start l.initial.self)) l.initial.self.walk.memory.rounds
+  steps : StepsTo (table_of l.graph) l.here l.initial.self.walk.memory.now (thread_at (ways_at l.graph.start (g.S.Beginning.told_of l.here.at) l.may_start l.initial.self)) (length (ways_at l.graph.start (g.S.Beginning.told_of l.here.at) l.may_start l.initial.self)) l.initial.self.walk.memory.rounds
       l.initial.self.walk.memory.next (best_of l.initial.self.best) l.k l.self.walk.memory.rounds l.self.walk.memory.next (best_of l.initial.self.best);
   best : l.self.best ≡ l.initial.self.best;
   kept : KeepsPosition l.initial.self.walk.memory l.self.walk.memory;

@@ -8,7 +8,7 @@ use Rattle.regex_lite_engine.proofs.pikevm.SkipLemmas.{onward}
 use Rattle.regex_lite_engine.proofs.pikevm.turn.Cache.pass.Goals as goal
 
 pub returns-clause-passes : goal.returns-clause-passes
-returns-clause-passes c s p is on =
+returns-clause-passes g c s p is on =
     let a = c.args in
     let table = table_of a.graph.now in
     let haystack = chars a.haystack.now in

@@ -6,13 +6,13 @@ use Rattle.regex_lite_engine.proofs.pikevm.WentLemmas.{IsUnder}
 use Rattle.regex_lite_engine.proofs.pikevm.walk.Walk.explore.Given as goal
 
 abbrev pub invariant-places : goal.invariant-places
-invariant-places l = record {
+invariant-places g l = record {
   room : HasRoom (table_of l.graph) l.self (explore l.place ∷ l.self.memory.frames);
-  under : IsUnder (table_of l.graph) l.here l.start l.initial.self.memory.now l.initial.self.memory.rounds l.initial.self.memory.row (explore l.first ∷ l.initial.self.memory.frames) l.initial.self.memory.next
+  under : IsUnder (table_of l.graph) l.here (g.S.Beginning.told l.start) l.initial.self.memory.now l.initial.self.memory.rounds l.initial.self.memory.row (explore l.first ∷ l.initial.self.memory.frames) l.initial.self.memory.next
       l.initial.self.steps.tried l.initial.self.steps.entered
       l.self.memory.rounds l.self.memory.row (explore l.place ∷ l.self.memory.frames) l.self.memory.next l.self.steps.tried l.self.steps.entered;
   kept : KeepsPosition l.initial.self.memory l.self.memory;
 }
 
 abbrev pub decreases-places : goal.decreases-places
-decreases-places l = work (table_of l.graph) l.self.memory.rounds l.self.memory.now (explore l.place ∷ l.self.memory.frames)
+decreases-places g l = work (table_of l.graph) l.self.memory.rounds l.self.memory.now (explore l.place ∷ l.self.memory.frames)
