@@ -8,7 +8,7 @@ use Rattle.regex_lite_engine.specs.Graph.Places.{Place, kept_back, reading_count
 use Rattle.regex_lite_engine.specs.Graph.Renumbered.{arrow_count, arrows_of}
 use Rattle.regex_lite_engine.specs.Walk.Entering.{Pushed}
 use Rattle.regex_lite_engine.specs.Walk.InStep.{Offer}
-use Rattle.regex_lite_engine.specs.Walk.Machine.{Stored, Row, Thread, thread_at, State}
+use Rattle.regex_lite_engine.specs.Walk.Machine.{BestState, Row, Thread, thread_at, State}
 use Rattle.regex_lite_engine.specs.Walk.NumberedAnswer.{numbered_step, is_end}
 use Rattle.regex_lite_engine.specs.Search.Offsets.{offset}
 use Rattle.regex_lite_engine.specs.Walk.Beginnings.{Tells}
@@ -26,7 +26,7 @@ pub sum_lone : (table : List (Place ℕ)) → sum_by lone table ≡ length table
 sum_lone [] = refl
 sum_lone (x ∷ table) = let more = sum_lone table in omega (arith, more, sum_by-cons lone x table)
 
-pub fit_first : (table : List (Place ℕ)) (memory memory' : State) (best : Stored) (tried entered looked : ℕ) →
+pub fit_first : (table : List (Place ℕ)) (memory memory' : State) (best : BestState) (tried entered looked : ℕ) →
     IsReady table memory best tried entered looked → memory' ≡ record memory { now = memory.now + 1 } →
     tried + arrows_of table < 2 ^ 127 → entered + length table < 2 ^ 127 → IsFit table memory'.rounds memory'.now memory'.row [] memory'.room memory'.next tried entered looked
 fit_first table memory memory' best tried entered looked ready em few fewe =

@@ -87,8 +87,8 @@ module _ {S : Type 0} (told : S → Option ℕ) (side : Side) (cells : List (Cel
   threads_on n = map thread_on (range_with_len 0 n)
 
 -- there is room for what is kept
-pub record HoldTogether {S : Type 0} (cells : List (Cell S)) (rows : List Row) (room top len next_len : ℕ)
-    : Type 0 where
+pub record HoldTogether {S : Type 0} (cells : List (Cell S)) (rows : List Row)
+    (room top len next_len : ℕ) : Type 0 where
   pub frames_fit : top ≤ length cells
   pub threads_fit : len ≤ room
   pub next_fit : next_len ≤ room

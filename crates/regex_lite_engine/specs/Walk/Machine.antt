@@ -40,8 +40,8 @@ pub record State : Type 0 where
   -- how many threads there may be in each list
   pub room : ℕ
 
--- what is stored of the best match: what is told of the offset of its start, and that of its end; its
--- row, or that of an earlier match
-pub record Stored : Type 0 where
+-- what the store of the best match stands for: what is told of the offset of its start, and that of
+-- its end; its row, or that of an earlier match
+pub record BestState : Type 0 where
   pub found : Option (Option ℕ × ℕ)
   pub row : Row

@@ -66,8 +66,8 @@ module _ (table : List (Place ℕ)) where
     pub looked_entered : looked ≤ entered
 
   -- from one state of a walk to a later one, in whatever haystack it stands there
-  abbrev pub WalksTo : Here → (i : Option ℕ) → (now : ℕ) → (rounds : List ℕ) → Row → List Frame → List Thread
-      → (rounds' : List ℕ) → Row → List Frame → List Thread → (done : Bool) → Type 0
+  abbrev pub WalksTo : Here → (i : Option ℕ) → (now : ℕ) → (rounds : List ℕ) → Row → List Frame
+      → List Thread → (rounds' : List ℕ) → Row → List Frame → List Thread → (done : Bool) → Type 0
   WalksTo here i now rounds row frames next rounds' row' frames' next' done =
       (haystack : Text) (p : ℕ) → IsHere haystack p here
       → (s first last from : ℕ) (threads : ℕ → Thread) (k n : ℕ) (best : Best)
@@ -107,8 +107,8 @@ module _ (table : List (Place ℕ)) where
       walk'.steps.looked done
 
   -- all frames were taken off
-  pub record Explores {S : Type 0} (here : Here) (i : Option ℕ) (walk walk' : Walk S) (frames : List Frame)
-      (done : Bool) : Type 0 where
+  pub record Explores {S : Type 0} (here : Here) (i : Option ℕ) (walk walk' : Walk S)
+      (frames : List Frame) (done : Bool) : Type 0 where
     pub walks : WalksTo here i walk.memory.now walk.memory.rounds walk.memory.row frames
         walk.memory.next walk'.memory.rounds walk'.memory.row [] walk'.memory.next done
     pub spent :

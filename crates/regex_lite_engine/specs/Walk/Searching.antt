@@ -32,7 +32,8 @@ module _ (table : List (Place ℕ)) where
         cache.walk.steps.tried + length ways < 2 ^ 127
 
   -- these ways were followed
-  pub record Follows {S : Type 0} (here : Here) (ways : List Thread) (cache cache' : Cache S) : Type 0 where
+  pub record Follows {S : Type 0} (here : Here) (ways : List Thread) (cache cache' : Cache S)
+      : Type 0 where
     pub steps : StepsTo table here cache.walk.memory.now (thread_at ways) (length ways)
         cache.walk.memory.rounds cache.walk.memory.next (best_of cache.best) (length ways)
         cache'.walk.memory.rounds cache'.walk.memory.next (best_of cache'.best)

@@ -6,7 +6,7 @@ use Rattle.regex_lite_engine.specs.Graph.Places.{Place, kept_back_of, reading_of
 use Rattle.regex_lite_engine.specs.Walk.Explored.{IsDead}
 use Rattle.regex_lite_engine.specs.Walk.NumberedAnswer.{numbered_step, is_end}
 use Rattle.regex_lite_engine.specs.Walk.InStep.{Offer}
-use Rattle.regex_lite_engine.specs.Walk.Machine.{Row, Thread, thread_at, State, Stored}
+use Rattle.regex_lite_engine.specs.Walk.Machine.{Row, Thread, thread_at, State, BestState}
 use Rattle.regex_lite_engine.specs.Walk.Standing.{IsHere}
 use Rattle.regex_lite_engine.specs.Walk.Walking.{Node, Best, ThreadsHold, BestHolds, InStep, IsWalking}
 use Rattle.regex_lite_engine.specs.Walk.Entering.{Pushed}
@@ -17,7 +17,7 @@ best_at None row = None
 best_at (Some found) row = Some (found.0, found.1, row)
 
 -- the match that is stored
-abbrev pub best_of : Stored → Best
+abbrev pub best_of : BestState → Best
 best_of best = best_at best.found best.row
 
 -- no slot of the row is marked
@@ -44,8 +44,8 @@ module _ (table : List (Place ℕ)) where
   abbrev pub Between : Text → (s first last p from : ℕ) → (rounds : List ℕ) → (now : ℕ)
       → (ℕ → Thread) → (k n : ℕ) → List Thread → Best → Type 0
   Between haystack s first last p from rounds now threads k n next best =
-      IsWalking table haystack s first last p from rounds now None [] [] threads k n (thread_at next)
-      (length next) best
+      IsWalking table haystack s first last p from rounds now None [] [] threads k n
+      (thread_at next) (length next) best
 
   -- from the first of n threads to before the k-th
   abbrev pub StepsTo : Here → (now : ℕ) → (ℕ → Thread) → (n : ℕ) → (rounds : List ℕ) → List Thread
@@ -70,7 +70,7 @@ module _ (table : List (Place ℕ)) where
     pub from_is : FromIs p from best
 
   -- the memory of a search between two positions
-  pub record IsReady (memory : State) (best : Stored) (tried entered looked : ℕ) : Type 0 where
+  pub record IsReady (memory : State) (best : BestState) (tried entered looked : ℕ) : Type 0 where
     pub all_seen : length memory.rounds ≡ length table
     pub old_rounds : (q : ℕ) → slice_index memory.rounds q ≤ memory.now
     pub cap : reading_of table < memory.room
@@ -85,7 +85,8 @@ module _ (table : List (Place ℕ)) where
 
 -- The position's own start is the last thread. It is left out where there is a match, and where no
 -- match can start
-abbrev pub Begun : (s : ℕ) → (at : Option ℕ) → (may_start : Bool) → Best → (before after : List Thread) → Type 0
+abbrev pub Begun : (s : ℕ) → (at : Option ℕ) → (may_start : Bool) → Best
+    → (before after : List Thread) → Type 0
 Begun s at may_start best before after =
     ((best ≡ None) × ((blank : Row) × IsBlank blank × Pushed before after (s, at, blank)))
     ⊎ (((best ≡ None → ⊥) ⊎ (may_start ≡ false)) × (after ≡ before))

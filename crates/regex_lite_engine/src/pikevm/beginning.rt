@@ -15,10 +15,11 @@ pub trait Beginning: Copy {
     fn at(at: usize) -> Self
         ensures { told result ≡ told_of at };
 
+    /// No other offset is told of it.
     ghost tells: { (at : ℕ) → Tells (told_of at) at };
 }
 
-/// The offset is kept.
+// The offset itself is kept.
 impl Beginning for usize {
     ghost use Rattle.std.specs.Prelude.{refl};
 

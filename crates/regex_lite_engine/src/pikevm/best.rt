@@ -15,13 +15,13 @@ pub struct Best<S: Beginning> {
 }
 
 impl<S: Beginning> Model for Best<S> {
-    ghost use Rattle.regex_lite_engine.specs.Walk.Machine.{Stored};
-    ghost use Rattle.regex_lite_engine.specs.Walk.Beginnings.{span_told};
+    ghost use Rattle.regex_lite_engine.specs.Walk.Machine.{BestState};
+    ghost use Rattle.regex_lite_engine.specs.Walk.Beginnings.{found_told};
 
-    ghost Value = { Stored };
+    ghost Value = { BestState };
 
     ghost view = { λ best. record {
-      found = span_told S.told best.found;
+      found = found_told S.told best.found;
       row = best.row.items;
     } };
 }

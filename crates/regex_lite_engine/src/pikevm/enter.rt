@@ -32,8 +32,9 @@ pub fn enter<S: Beginning>(place: &Place, here: Here, start: S, memory: &mut Mem
     requires room { length memory.old.frames + (kept_back (place_of place.now) + 1)
         ≤ length memory.old.rounds }
     requires next_room { length memory.old.next < memory.old.room }
-    ensures entered { Enters here (S.told start) place.now memory.old.row memory.old.frames memory.old.next
-        memory.new.row (onto result memory.new.frames) memory.new.next (completes result) }
+    ensures entered { Enters here (S.told start) place.now memory.old.row memory.old.frames
+        memory.old.next memory.new.row (onto result memory.new.frames) memory.new.next
+        (completes result) }
     ensures same { memory.new ≡ record memory.old {
       row = memory.new.row;
       frames = memory.new.frames;
@@ -88,7 +89,8 @@ fn is_in_set(set: &MappedClass, after: Option<char>) -> bool
 /// Goes on behind the character, where it is read.
 fn read_on<S: Beginning>(reads: bool, to: u32, start: S, memory: &mut Memory<S>)
     requires { length memory.old.next < memory.old.room }
-    ensures reads { ReadsOn reads memory.old.next memory.new.next (to, S.told start, memory.old.row) }
+    ensures reads { ReadsOn reads memory.old.next memory.new.next
+        (to, S.told start, memory.old.row) }
     ensures same { memory.new ≡ record memory.old { next = memory.new.next } }
 {
     if reads {

@@ -104,13 +104,14 @@ impl<S: Beginning> Memory<S> {
         } }
     {
         if self.round >= MOST_ROUNDS {
-            take_rounds(&mut self.cells);
+            clear_rounds(&mut self.cells);
             self.round = 0;
         }
         self.top = self.cells.len();
         self.len = 0;
         self.next_len = 0;
     }
+
     /// How many rows there are.
     pub fn rows(&self) -> usize
         ensures { result ≡ 2 * self.now.room + 1 }
@@ -134,8 +135,8 @@ impl<S: Beginning> Memory<S> {
     }
 }
 
-/// Takes from each cell that its place was entered.
-fn take_rounds<S: Beginning>(cells: &mut Vec<Cell<S>>)
+/// Forgets in which rounds the places were entered.
+fn clear_rounds<S: Beginning>(cells: &mut Vec<Cell<S>>)
     ensures rounds { (q : ℕ) → slice_index (map round_in cells.new.items) q ≤ 0 }
     ensures length { length cells.new.items ≡ length cells.old.items }
 {

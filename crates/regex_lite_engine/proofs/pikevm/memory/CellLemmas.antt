@@ -129,10 +129,10 @@ clones_blank More x e (y ∷ cells) (inr (round, more), all) zero = omega (arith
 clones_blank More x e (y ∷ cells) (first, all) (suc q) = clones_blank More x e cells all q
 
 -- one more cell whose place was not entered
-pub taken_more : {S : Type 0} (cells : List (Cell S)) (k : ℕ) (x : Cell S) → x.entered ≡ 0 → ((q : ℕ) → q < k → slice_index (map round_in cells) q ≤ 0) →
+pub cleared_more : {S : Type 0} (cells : List (Cell S)) (k : ℕ) (x : Cell S) → x.entered ≡ 0 → ((q : ℕ) → q < k → slice_index (map round_in cells) q ≤ 0) →
     (q : ℕ) → q < k + 1 → slice_index (map round_in (set cells k x)) q ≤ 0
-taken_more [] k x e taken q lt = omega arith
-taken_more (y ∷ cells) zero x e taken zero lt = omega (arith, e)
-taken_more (y ∷ cells) zero x e taken (suc q) lt = absurd (omega (arith, lt))
-taken_more (y ∷ cells) (suc k) x e taken zero lt = taken zero (omega arith)
-taken_more (y ∷ cells) (suc k) x e taken (suc q) lt = taken_more cells k x e (λ r low. taken (suc r) (omega (arith, low))) q (omega (arith, lt))
+cleared_more [] k x e cleared q lt = omega arith
+cleared_more (y ∷ cells) zero x e cleared zero lt = omega (arith, e)
+cleared_more (y ∷ cells) zero x e cleared (suc q) lt = absurd (omega (arith, lt))
+cleared_more (y ∷ cells) (suc k) x e cleared zero lt = cleared zero (omega arith)
+cleared_more (y ∷ cells) (suc k) x e cleared (suc q) lt = cleared_more cells k x e (λ r low. cleared (suc r) (omega (arith, low))) q (omega (arith, lt))

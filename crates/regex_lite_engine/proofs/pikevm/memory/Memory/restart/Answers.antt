@@ -9,7 +9,7 @@ pub returns-clause-old : goal.returns-clause-old
 returns-clause-old g c = λ low q.
     elim c.if-self-ge-MOST_ROUNDS.branch [
       | then-self-ge-MOST_ROUNDS w ↦
-          subst (λ (z : Inside _). slice_index (map round_in z.cells.items) q ≤ z.round) (sym w.self-inside-is) (w.take_rounds.ensures.rounds q)
+          subst (λ (z : Inside _). slice_index (map round_in z.cells.items) q ≤ z.round) (sym w.self-inside-is) (w.clear_rounds.ensures.rounds q)
       | else-self-ge-MOST_ROUNDS w ↦
           subst (λ (z : Inside _). slice_index (map round_in z.cells.items) q ≤ z.round) (sym w.self-inside-is)
           (subst (λ (z : State). slice_index z.rounds q ≤ z.now) (sym c.self.view_is) (low q))

@@ -2,7 +2,7 @@ use Rattle.std.proofs.Common.{◌≡◌, ℕ, ◌+◌, ◌^◌, ◌<◌, List, l
 use Rattle.std.proofs.lemmas.List.{length-map}
 use Rattle.regex_lite_engine.specs.declared.pikevm.walk.Walk.{Walk}
 use Rattle.regex_lite_engine.specs.Graph.Stored.{table_of, place_of}
-use Rattle.regex_lite_engine.specs.Walk.Machine.{Row, State, Stored, Thread, thread_at}
+use Rattle.regex_lite_engine.specs.Walk.Machine.{Row, State, BestState, Thread, thread_at}
 use Rattle.regex_lite_engine.specs.Walk.Room.{due_tries, KeepsPosition}
 use Rattle.regex_lite_engine.specs.Walk.Searching.{ways_at}
 use Rattle.regex_lite_engine.specs.Walk.Turns.{best_of, StepsTo}
@@ -109,5 +109,5 @@ returns-then-explore-clause-followed g c =
       spent_entries = entries_walk (table_of a.graph.now) w w1 q em up.steps a.here i.now v.kept.round c.explore.new.self start c.explore.result more.explored _ v.spent_entries;
       stack_empty = more.empty;
       kept = kept;
-      best_width = c.set.ensures.width ∙ ap (λ (b : Stored). length b.row) v.best;
+      best_width = c.set.ensures.width ∙ ap (λ (b : BestState). length b.row) v.best;
     }

@@ -1,9 +1,9 @@
 use Rattle.std.proofs.Common.{◌≡◌, ℕ, ◌<◌, ◌≤◌, length, map, slice_index}
 use Rattle.regex_lite_engine.specs.Walk.Cells.{round_in}
-use Rattle.regex_lite_engine.proofs.pikevm.memory.take_rounds.Given as goal
+use Rattle.regex_lite_engine.proofs.pikevm.memory.clear_rounds.Given as goal
 
 abbrev pub invariant-cells : goal.invariant-cells
 invariant-cells g l = record {
-  taken : (q : ℕ) → q < l.k → slice_index (map round_in l.cells.items) q ≤ 0;
+  cleared : (q : ℕ) → q < l.k → slice_index (map round_in l.cells.items) q ≤ 0;
   same : length l.cells.items ≡ length l.fn.cells.items;
 }
