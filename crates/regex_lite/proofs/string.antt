@@ -14,5 +14,6 @@ pub mod NextLemmas
 pub mod OneTreeLemmas
 pub mod PieceLemmas
 pub mod ReplacementLemmas
+pub mod ScanLemmas
 pub mod SlotLemmas
 pub mod ToldLemmas

@@ -6,13 +6,13 @@ use Rattle.regex_lite_syntax.specs.Errors.{out_of_memory}
 use Rattle.regex_lite_engine.specs.Search.Answer.{Found}
 use Rattle.regex_lite_engine.specs.Search.Offsets.{position_at}
 use Rattle.regex_lite.specs.declared.string.matches.Match.{Match}
-use Rattle.regex_lite.specs.declared.string.cursor.Cursor.{Cursor}
 use Rattle.regex_lite.specs.declared.string.find_iter.Matches.{Matches}
 use Rattle.regex_lite.specs.declared.string.captures_iter.CaptureMatches.{CaptureMatches}
 use Rattle.regex_lite.specs.Expression.{Expression, OfTree}
 use Rattle.regex_lite.specs.Groups.{Groups, whole_span}
 use Rattle.regex_lite.specs.MatchList.{IsNext, AreWithin, AreSomeWithin, one_less}
 use Rattle.regex_lite.specs.MatchViews.{span_of_match}
+use Rattle.regex_lite.specs.Scanning.{IsMatchWithSlots, Scanning}
 use Rattle.regex_lite.specs.Searches.{IsMatchOf, AreGroupsOf}
 
 -- the matches of a haystack, which is given as its bytes, behind one that ended at this position,
@@ -74,40 +74,47 @@ most_left (Some zero) bytes ended = 0
 most_left limit bytes None = bytes + 2
 most_left limit bytes (Some e) = (bytes + 1) - e
 
--- What a cursor, and what iterators have ahead
+-- What one that goes over a haystack, and what iterators have ahead
 
-abbrev pub ahead : Expression → Cursor → Ahead
-ahead re cursor = record {
-  regex = re;
-  haystack = cursor.haystack.now;
-  limit = cursor.limit;
-  ended = option_map (position_at cursor.haystack.now) cursor.ended;
+abbrev pub ahead : Scanning → Ahead
+ahead scan = record {
+  regex = scan.regex;
+  haystack = scan.haystack;
+  limit = scan.limit;
+  ended = option_map (position_at scan.haystack) scan.ended;
 }
 
-abbrev pub most_ahead : Cursor → Count
-most_ahead cursor =
-    at_most (most_left cursor.limit (length cursor.haystack.now) cursor.ended)
+abbrev pub most_ahead : Scanning → ℕ
+most_ahead scan = most_left scan.limit (length scan.haystack) scan.ended
 
 abbrev pub ahead_of : Matches → Ahead
-ahead_of it = ahead it.searcher it.cursor
+ahead_of it = ahead it.scan
 
 abbrev pub groups_ahead_of : CaptureMatches → Ahead
-groups_ahead_of it = ahead it.searcher it.cursor
+groups_ahead_of it = ahead it.scan
 
 abbrev pub most_matches : Matches → Count
-most_matches it = most_ahead it.cursor
+most_matches it = at_most (most_ahead it.scan)
 
 abbrev pub most_groups : CaptureMatches → Count
-most_groups it = most_ahead it.cursor
+most_groups it = at_most (most_ahead it.scan)
 
 -- the next match came; or there was none, and none comes from then on
 abbrev pub GivesMatch : Matches → Option Match → Matches → Type 0
 GivesMatch old item new =
     MatchOption item (Ends (ahead_of old) (ahead_of new))
-    (λ m. (found : Found) × IsMatchOf old.cursor.haystack.now found m
-    × IsOnward old.cursor.ended (span_of_match m)
-    × (new.cursor.ended ≡ Some (span_of_match m).1)
+    (λ m. (found : Found) × IsMatchOf old.scan.haystack found m
+    × IsOnward old.scan.ended (span_of_match m)
+    × (new.scan.ended ≡ Some (span_of_match m).1)
     × Passes (ahead_of old) found (ahead_of new))
+
+-- so it came, and its slots are kept
+abbrev pub GivesMatchWithSlots : Scanning → Option Match → Scanning → Type 0
+GivesMatchWithSlots old item new =
+    MatchOption item (Ends (ahead old) (ahead new))
+    (λ m. (found : Found) × IsMatchWithSlots old.haystack new.slots found m
+    × IsOnward old.ended (span_of_match m) × (new.ended ≡ Some (span_of_match m).1)
+    × Passes (ahead old) found (ahead new))
 
 -- the groups are those of what was found
 abbrev pub AreGroupsFound : Expression → (haystack : List ℕ) → Found → Groups → Type 0
@@ -116,14 +123,14 @@ AreGroupsFound re haystack found groups =
 
 -- the groups of the next match came; or a growth was refused, or there was none, and none comes
 -- from then on
-abbrev pub GivesGroups : CaptureMatches → Option (Result Groups Error) → CaptureMatches → Type 0
-GivesGroups old item new =
-    MatchOption item (Ends (groups_ahead_of old) (groups_ahead_of new))
+abbrev pub GivesGroupsOf : Scanning → Option (Result Groups Error) → Scanning → Type 0
+GivesGroupsOf old item new =
+    MatchOption item (Ends (ahead old) (ahead new))
     (λ answer. MatchResult answer
-    (λ groups. (found : Found)
-    × AreGroupsFound (groups_ahead_of old).regex old.cursor.haystack.now found groups
-    × IsOnward old.cursor.ended (whole_span groups)
-    × (new.cursor.ended ≡ Some (whole_span groups).1)
-    × Passes (groups_ahead_of old) found (groups_ahead_of new))
-    (λ error. (error ≡ out_of_memory)
-    × (groups_ahead_of new ≡ at_end (groups_ahead_of old))))
+    (λ groups. (found : Found) × AreGroupsFound old.regex old.haystack found groups
+    × IsOnward old.ended (whole_span groups) × (new.ended ≡ Some (whole_span groups).1)
+    × Passes (ahead old) found (ahead new))
+    (λ error. (error ≡ out_of_memory) × (ahead new ≡ at_end (ahead old))))
+
+abbrev pub GivesGroups : CaptureMatches → Option (Result Groups Error) → CaptureMatches → Type 0
+GivesGroups old item new = GivesGroupsOf old.scan item new.scan

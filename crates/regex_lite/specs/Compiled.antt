@@ -1,9 +1,8 @@
 -- What the parts of a regex, and of a searcher, have to do with one another.
-use Rattle.std.specs.Prelude.{◌≡◌, ◌*◌, ℕ, List, Option, chars, length, map, option_map, string_bytes}
+use Rattle.std.specs.Prelude.{ℕ, List, Option, chars, map, option_map, string_bytes}
 use Rattle.std.specs.Rc.{rc_str_bytes}
 use Rattle.regex_lite_syntax.specs.Tree.{Tree}
 use Rattle.regex_lite_syntax.specs.Grammar.{IsTree}
-use Rattle.regex_lite_syntax.specs.Tree.Properties.{captures_len}
 use Rattle.regex_lite_syntax.specs.Tree.Regular.{IsRegular}
 use Rattle.regex_lite_engine.specs.Graph.Renumbered.{IsGraphOf, HasGroupsOf}
 use Rattle.regex_lite_engine.specs.Graph.Size.{Fits}
@@ -26,11 +25,6 @@ pub record IsBuilt (compiled : Compiled) : Type 0 where
 -- what is searched is the graph of the pattern's tree
 abbrev pub SearchesFor : Expression → Searching → Type 0
 SearchesFor re searcher = OfTree re (λ tree. IsRegular tree × IsGraphOf tree searcher.graph)
-
--- and there are two slots for each group
-abbrev pub SearchesForGroups : Expression → Searching → Type 0
-SearchesForGroups re searcher =
-    SearchesFor re searcher × OfTree re (λ tree. length searcher.slots ≡ 2 * captures_len tree)
 
 -- the groups of a match of the regex in this haystack, of which these are the slots
 abbrev pub groups_of : (haystack : List ℕ) → (slots : List (Option ℕ)) → Compiled → Groups

@@ -29,4 +29,5 @@ pub use Rattle.regex_lite_engine.specs.Graph.Size
 pub use Rattle.regex_lite_engine.specs.Search
 -- What every regex keeps, and what is told behind a match.
 pub mod Compiled
+pub mod Scanning
 pub mod NextMatch

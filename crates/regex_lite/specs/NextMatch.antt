@@ -4,11 +4,10 @@ use Rattle.regex_lite_engine.specs.Search.Answer.{Found}
 use Rattle.regex_lite_engine.specs.Search.Offsets.{position_at}
 use Rattle.regex_lite.specs.declared.string.matches.Match.{Match}
 use Rattle.regex_lite.specs.Expression.{Expression}
-use Rattle.regex_lite.specs.Groups.{Groups, whole_span}
 use Rattle.regex_lite.specs.MatchList.{IsNext}
-use Rattle.regex_lite.specs.Ahead.{AreGroupsFound, IsOnward}
+use Rattle.regex_lite.specs.Ahead.{IsOnward}
 use Rattle.regex_lite.specs.MatchViews.{span_of_match}
-use Rattle.regex_lite.specs.Searches.{IsMatchOf}
+use Rattle.regex_lite.specs.Scanning.{IsMatchWithSlots}
 
 -- what is told of the match behind one that ended at this offset, and has this span: nothing where
 -- there is none, and else what this says of it. It ends at the offset of its end, and further on
@@ -22,17 +21,11 @@ TellsNext says span re haystack ended (Some told) =
     × says found told × (position_at haystack (span told).1 ≡ found.end)
     × IsOnward ended (span told)
 
--- what is told is the match
+-- what is told is the match, and these are its slots
 abbrev pub TellsNextMatch : Expression → (haystack : List ℕ) → (ended : Option ℕ)
-    → Option Match → Type 0
-TellsNextMatch re haystack ended told =
-    TellsNext (IsMatchOf haystack) span_of_match re haystack ended told
-
--- what is told are its groups
-abbrev pub TellsNextGroups : Expression → (haystack : List ℕ) → (ended : Option ℕ)
-    → Option Groups → Type 0
-TellsNextGroups re haystack ended told =
-    TellsNext (AreGroupsFound re haystack) whole_span re haystack ended told
+    → (slots : List (Option ℕ)) → Option Match → Type 0
+TellsNextMatch re haystack ended slots told =
+    TellsNext (IsMatchWithSlots haystack slots) span_of_match re haystack ended told
 
 -- this is the offset of the next position, and at the haystack's end there is none
 abbrev pub IsNextOffset : (haystack : List ℕ) → (at : ℕ) → Option ℕ → Type 0

@@ -40,7 +40,7 @@ ArePiecesWithin (suc cuts) re haystack list = IsCut (whole re haystack (Some cut
 abbrev pub ArePiecesLeft : Split → List (List ℕ) → Type 0
 ArePiecesLeft it list =
     MatchBool it.is_done (list ≡ [])
-    (IsCut (ahead_of it.matches) (unwrap_or it.matches.cursor.ended 0) list)
+    (IsCut (ahead_of it.matches) (unwrap_or it.matches.scan.ended 0) list)
 
 abbrev pub ArePiecesLeftN : SplitN → List (List ℕ) → Type 0
 ArePiecesLeftN it list = ArePiecesLeft it.pieces list
@@ -58,8 +58,8 @@ GivesPieceN old item new = GivesPiece old.pieces item new.pieces
 -- at most so many are left
 abbrev pub most_pieces : Split → Count
 most_pieces it =
-    at_most (if it.is_done then 0 else most_left it.matches.cursor.limit
-    (length it.matches.cursor.haystack.now) it.matches.cursor.ended + 1)
+    at_most (if it.is_done then 0 else most_left it.matches.scan.limit
+    (length it.matches.scan.haystack) it.matches.scan.ended + 1)
 
 abbrev pub most_pieces_n : SplitN → Count
 most_pieces_n it = most_pieces it.pieces

@@ -1,11 +1,10 @@
 -- What is told by a search that goes on behind a match.
-use Rattle.std.proofs.Common.{◌≡◌, ◌<◌, ◌≤◌, ◌⊎◌, inl, inr, true, false, MatchBool, ℕ, suc, List, length, Option, Some, None, refl, sym, ap, subst, ◌∙◌, chars, IsUtf8, option_map, unwrap_or, arith}
+use Rattle.std.proofs.Common.{◌≡◌, ◌<◌, ◌≤◌, ◌⊎◌, inl, inr, true, false, MatchBool, Bool, ℕ, suc, List, length, Option, Some, None, refl, sym, ap, subst, ◌∙◌, chars, IsUtf8, option_map, arith}
 use Rattle.std.specs.Prelude.{IsCharBoundary}
 use Rattle.std.proofs.lemmas.Bool.{cases_order}
 use Rattle.std.proofs.lemmas.Bool.Decides.{nat_tests}
 use Rattle.regex_lite_syntax.specs.Text.{Text}
 use Rattle.regex_lite_syntax.specs.Tree.{Tree}
-use Rattle.regex_lite_syntax.specs.Tree.Properties.{captures_len}
 use Rattle.regex_lite_syntax.specs.Grammar.{IsTree}
 use Rattle.regex_lite_engine.specs.WayLaws.{IsPatternTree}
 use Rattle.regex_lite_engine.specs.Graph.WrittenOut.{place_of_pattern, start_address, end_address}
@@ -16,14 +15,14 @@ use Rattle.regex_lite_engine.proofs.PositionLemmas.{first_position, position_is,
 use Rattle.regex_lite_engine.proofs.laws.PatternTreeLemmas.{regular_tree}
 use Rattle.regex_lite_engine.proofs.laws.answer.ReachLemmas.{walk_inside}
 use Rattle.regex_lite_engine.proofs.laws.groups.SpanLemmas.{groups_inside}
-use Rattle.regex_lite.specs.Ahead.{AreGroupsFound, IsOnward}
+use Rattle.regex_lite.specs.Ahead.{IsOnward}
 use Rattle.regex_lite.specs.Expression.{Expression, OfTree}
-use Rattle.regex_lite.specs.Groups.{span_at, whole_span}
 use Rattle.regex_lite.specs.MatchList.{IsAnswerOf, IsNext, is_empty_at}
 use Rattle.regex_lite.specs.MatchViews.{span_of_match}
 use Rattle.regex_lite.specs.NextMatch.{IsNextOffset, TellsNext}
-use Rattle.regex_lite.specs.Searches.{AreGroupsOf, IsMatchOf, TellsAnswer, TellsOf, offsets}
-use Rattle.regex_lite.proofs.string.FoundLemmas.{group_0, positions_lie}
+use Rattle.regex_lite.specs.Scanning.{IsEmptyFrom, IsMatchWithSlots}
+use Rattle.regex_lite.specs.Searches.{TellsAnswer, TellsOf, offsets}
+use Rattle.regex_lite.proofs.string.FoundLemmas.{positions_lie}
 
 -- what is found lies in the haystack, at or after the start of the search
 pub record IsWithin (haystack : Text) (s : ℕ) (found : Found) : Type 0 where
@@ -170,35 +169,36 @@ module _ {A : Type 0} (says : Tree → Found → A → Type 0) (means : Found �
               (omega (arith, start, from), later),
             )
 
-    -- one that ends no later is passed over
-    passed : (told : A) (found : Option Found) → TellsAnswer says re bytes at (Some told)
-        → (span told).1 ≤ at
-        → ((tree : Tree) → IsTree re.flags (chars re.pattern) tree
-        → IsAnswerOf re (chars bytes) (suc p) found)
-        → Next (Some at) found
-    passed told found tells early behind = each (at_start at (Some told) edge tells)
+    -- one that ends no later is empty there
+    pub empty_told : (told : A) → TellsAnswer says re bytes at (Some told) → (span told).1 ≤ at
+        → IsEmptyFrom re bytes at
+    empty_told told tells early = each (at_start at (Some told) edge tells)
       where
-        each : Told p (Some told) → Next (Some at) found
+        each : Told p (Some told) → IsEmptyFrom re bytes at
         each (tree, given, (own, is, of)) =
             let (_, same) = meant tree p own told given is of in
             let within = found_within tree (chars bytes) p own (re.flags, _, given) is in
             let end = ap (λ (own : ℕ × ℕ). own.1) same in
-            let empty = ends_there own within (omega (arith, end, early)) in (
-              Some own,
-              (tree, given, is),
-              subst (λ e. MatchBool e (IsAnswerOf re (chars bytes) (suc p) found) (found ≡ Some own))
-                  (sym empty) (behind tree given),
-            )
+            (own, (tree, given, is), ends_there own within (omega (arith, end, early)))
+
+    -- and passed over
+    passed : (found : Option Found) → IsEmptyFrom re bytes at
+        → IsAnswerOf re (chars bytes) (suc p) found → Next (Some at) found
+    passed found (own, there, empty) behind = (
+      Some own,
+      there,
+      subst (λ e. MatchBool e (IsAnswerOf re (chars bytes) (suc p) found) (found ≡ Some own))
+          (sym empty) behind,
+    )
 
     -- then the search goes on from the next position
-    pub behind_told : (told : A) (next : ℕ) (further : Option A)
-        → TellsAnswer says re bytes at (Some told) → (span told).1 ≤ at
+    pub behind_told : (next : ℕ) (further : Option A) → IsEmptyFrom re bytes at
         → IsNextOffset bytes at (Some next) → TellsAnswer says re bytes next further
         → TellsNext means span re bytes (Some at) further
-    behind_told told next further tells early (edge_too, next_is, less) tells_further =
+    behind_told next further empty (edge_too, next_is, less) tells_further =
         told_next (suc p) (Some at) further
         (subst (λ s. Told s further) next_is (at_start next further edge_too tells_further))
-        (λ found is. passed told found tells early (λ tree given. is))
+        (λ found is. passed found empty is)
         onward
       where
         onward : (found : Found) → IsWithin (chars bytes) (suc p) found
@@ -214,23 +214,27 @@ module _ {A : Type 0} (says : Tree → Found → A → Type 0) (means : Found �
             (omega (arith, own, same, from, less), omega (arith, own, same, from, to, less))
 
     -- and finds nothing behind the end
-    pub over_told : (told : A) → TellsAnswer says re bytes at (Some told) → (span told).1 ≤ at
-        → IsNextOffset bytes at None → TellsNext means span re bytes (Some at) None
-    over_told told tells early last =
-        passed told None tells early
-        (λ tree given. (tree, given, none_behind tree (chars bytes) (suc p) (omega (arith, last))))
+    pub over_told : IsEmptyFrom re bytes at → IsNextOffset bytes at None
+        → TellsNext means span re bytes (Some at) None
+    over_told empty last =
+        let (tree, given, _) = empty.1 in
+        passed None empty
+        (tree, given, none_behind tree (chars bytes) (suc p) (omega (arith, last)))
 
 -- a match has the span of what is found
-pub match_meant : (re : Expression) (bytes : List ℕ)
-    → Means (λ tree. IsMatchOf bytes) (IsMatchOf bytes) span_of_match re bytes
-match_meant re bytes tree s found told given is of = (of, of.span)
+pub match_meant : (re : Expression) (bytes : List ℕ) (slots : List (Option ℕ))
+    → Means (λ tree. IsMatchWithSlots bytes slots) (IsMatchWithSlots bytes slots) span_of_match re bytes
+match_meant re bytes slots tree s found told given is of = (of, of.is_match.span)
 
--- and so have groups
-pub groups_meant : (re : Expression) (bytes : List ℕ)
-    → Means (λ tree. AreGroupsOf tree bytes) (AreGroupsFound re bytes) whole_span re bytes
-groups_meant re bytes tree s found told given is of = (
-  (tree, given, of),
-  ap (λ spans. unwrap_or (span_at spans 0) (0, 0)) of.spans
-      ∙ ap (λ own. unwrap_or own (0, 0))
-      (group_0 (chars bytes) tree s found (captures_len tree) (re.flags, _, given) is (omega arith)),
-)
+-- what comes next is the answer of a search
+pub next_answer : (re : Expression) (haystack : Text) (ended : Option ℕ) (found : Found)
+    → IsNext re haystack ended (Some found) → (s : ℕ) × IsAnswerOf re haystack s (Some found)
+next_answer re haystack None found is = (0, is)
+next_answer re haystack (Some e) found (from_end, there, next) =
+    each (is_empty_at e from_end) next
+  where
+    each : (empty : Bool)
+        → MatchBool empty (IsAnswerOf re haystack (suc e) (Some found)) (Some found ≡ from_end)
+        → (s : ℕ) × IsAnswerOf re haystack s (Some found)
+    each true next = (suc e, next)
+    each false next = (e, subst (IsAnswerOf re haystack e) (sym next) there)

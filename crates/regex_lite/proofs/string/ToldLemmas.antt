@@ -13,10 +13,11 @@ use Rattle.regex_lite_engine.specs.Search.Outcomes.{IsSpanOutcome, IsOutcome}
 use Rattle.regex_lite_engine.specs.Search.Searching.{Searching}
 use Rattle.regex_lite.specs.declared.string.compiled.Compiled.{Compiled}
 use Rattle.regex_lite.specs.declared.string.matches.Match.{Match}
-use Rattle.regex_lite.specs.Compiled.{IsBuilt, SearchesFor, SearchesForGroups, groups_of}
+use Rattle.regex_lite.specs.Compiled.{IsBuilt, SearchesFor, groups_of}
 use Rattle.regex_lite.specs.Expression.{Expression, OfTree}
 use Rattle.regex_lite.specs.Groups.{Groups, AreGroups, LiesIn, group_span, span_at}
 use Rattle.regex_lite.specs.MatchViews.{haystack_of_match, span_of_match}
+use Rattle.regex_lite.specs.Scanning.{TellsMatchWithSlots}
 use Rattle.regex_lite.specs.Searches.{AreGroupsOf, TellsMatch, TellsGroups, TellsLocations, offsets, spans_from}
 use Rattle.regex_lite.proofs.string.CapturedLemmas.{captured, captured_of}
 use Rattle.regex_lite.proofs.string.FoundLemmas.{first_told, found_lies, group_0, length_spans}
@@ -58,32 +59,6 @@ pub span_of : (re : Expression) (searcher : Searching) (bytes : List ℕ) (start
 span_of re searcher bytes start slots told (tree, given, (regular, is_graph)) tells =
     (tree, given, tells tree regular is_graph)
 
--- a searcher for groups, and a copy of the slots after a search
-module _ (re : Expression) (old new : Searching) (for_groups : SearchesForGroups re old)
-    (slots : List (Option ℕ)) (copied : slots ≡ new.slots) where
-  pub copy_of : (bytes : List ℕ) (start : ℕ) (told : Option (ℕ × ℕ)) (span : ℕ × ℕ)
-      → TellsSpan old.graph bytes start new.slots told → told ≡ Some span
-      → OfTree re (λ tree. IsSpanOutcome tree bytes start slots (Some span))
-  copy_of bytes start told span tells is =
-      subst (λ held. OfTree re (λ tree. IsSpanOutcome tree bytes start held (Some span))) (sym copied)
-      (subst (λ t. OfTree re (λ tree. IsSpanOutcome tree bytes start new.slots t)) is
-      (span_of re old bytes start new.slots told for_groups.0 tells))
-
-  pub copy_len : (tree : Tree) → IsTree re.flags (chars re.pattern) tree
-      → length new.slots ≡ length old.slots → length slots ≡ 2 * captures_len tree
-  copy_len tree given len =
-      let own = for_groups.1 in
-      ap length copied ∙ len ∙ own.2
-      ∙ ap (λ t. 2 * captures_len t) (one_tree re.flags (chars re.pattern) own.0 tree own.1 given)
-
--- a searcher goes on searching for the groups
-pub still_for_groups : (re : Expression) (old new : Searching) → new.graph ≡ old.graph
-    → length new.slots ≡ length old.slots → SearchesForGroups re old → SearchesForGroups re new
-still_for_groups re old new graph len ((tree, given, (regular, is_graph)), (own, given_too, all)) = (
-  (tree, given, (regular, subst (λ g. IsGraphOf tree g) (sym graph) is_graph)),
-  (own, given_too, len ∙ all),
-)
-
 module _ (bytes : List ℕ) (utf8 : IsUtf8 bytes) (start : ℕ) (re : Expression) (span : ℕ × ℕ)
     (slots : List (Option ℕ))
     (own : OfTree re (λ tree. IsSpanOutcome tree bytes start slots (Some span))) where
@@ -111,6 +86,22 @@ module _ (bytes : List ℕ) (utf8 : IsUtf8 bytes) (start : ℕ) (re : Expression
       record {
         haystack = haystack;
         span = is ∙ sym span_is;
+      },
+    ),
+  )
+
+  -- with its slots
+  pub match_with_slots_told : (m : Match) → haystack_of_match m ≡ bytes → span_of_match m ≡ span
+      → TellsMatchWithSlots re bytes start slots (Some m)
+  match_with_slots_told m haystack is = (
+    own.0,
+    own.1,
+    (
+      found,
+      own.2.1,
+      record {
+        is_match = record { haystack = haystack; span = is ∙ sym span_is };
+        has_slots = own.2.2.slots;
       },
     ),
   )

@@ -4,10 +4,8 @@ ghost use Rattle.regex_lite_syntax.specs.Errors.{out_of_memory};
 ghost use Rattle.regex_lite.specs.Ahead.{groups_ahead_of, whole};
 
 use crate::string::captures::Captures;
-use crate::string::cursor::Cursor;
-use crate::string::next_search::next_groups;
+use crate::string::group_scan::GroupScan;
 use crate::string::regex::Regex;
-use crate::string::searcher::GroupSearcher;
 use regex_lite_syntax::Error;
 use std::iter::FusedIterator;
 
@@ -32,7 +30,7 @@ impl Regex {
         haystack: &'h str,
     ) -> Result<CaptureMatches<'r, 'h>, Error>
         ensures ahead { IfOk result (λ it. groups_ahead_of it ≡ whole self.now haystack.now None) }
-        ensures begins { IfOk result (λ it. it.cursor.ended ≡ None) }
+        ensures begins { IfOk result (λ it. it.scan.ended ≡ None) }
         ensures refused { IfErr result (λ error. error ≡ out_of_memory) }
     {
         CaptureMatches::new(self, haystack, None)
@@ -46,8 +44,7 @@ impl Regex {
 /// borrow the haystack alone, and outlive the iterator and the regex.
 #[derive(Debug, Drop)]
 pub struct CaptureMatches<'r, 'h> {
-    searcher: GroupSearcher<'r>,
-    pub(super) cursor: Cursor<'h>,
+    pub(super) scan: GroupScan<'r, 'h>,
 }
 
 impl<'r, 'h> CaptureMatches<'r, 'h> {
@@ -59,12 +56,11 @@ impl<'r, 'h> CaptureMatches<'r, 'h> {
     ) -> Result<CaptureMatches<'r, 'h>, Error>
         ensures ahead { IfOk result
             (λ it. groups_ahead_of it ≡ whole regex.now haystack.now limit) }
-        ensures begins { IfOk result (λ it. it.cursor.ended ≡ None) }
+        ensures begins { IfOk result (λ it. it.scan.ended ≡ None) }
         ensures refused { IfErr result (λ error. error ≡ out_of_memory) }
     {
         Ok(CaptureMatches {
-            searcher: GroupSearcher::new(regex)?,
-            cursor: Cursor::start(haystack, limit),
+            scan: GroupScan::new(regex, haystack, limit)?,
         })
     }
 }
@@ -79,23 +75,7 @@ impl<'r, 'h> Iterator for CaptureMatches<'r, 'h> {
     ghost remaining = { most_groups };
 
     fn next(&mut self) -> Option<Result<Captures<'h>, Error>> {
-        if self.cursor.is_over() {
-            return None;
-        }
-        match next_groups(&mut self.searcher, self.cursor.haystack, self.cursor.ended) {
-            Ok(Some(caps)) => {
-                self.cursor = self.cursor.behind(caps.whole_span().1);
-                Some(Ok(caps))
-            }
-            Ok(None) => {
-                self.cursor = self.cursor.at_end();
-                None
-            }
-            Err(error) => {
-                self.cursor = self.cursor.at_end();
-                Some(Err(error))
-            }
-        }
+        self.scan.next()
     }
 }
 

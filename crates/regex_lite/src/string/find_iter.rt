@@ -3,11 +3,9 @@ ghost use Rattle.std.specs.Prelude.{◌≡◌, None, IfOk, IfErr};
 ghost use Rattle.regex_lite_syntax.specs.Errors.{out_of_memory};
 ghost use Rattle.regex_lite.specs.Ahead.{ahead_of, whole};
 
-use crate::string::cursor::Cursor;
 use crate::string::matches::Match;
-use crate::string::next_search::next_match;
 use crate::string::regex::Regex;
-use crate::string::searcher::Searcher;
+use crate::string::scan::Scan;
 use regex_lite_syntax::Error;
 use std::iter::FusedIterator;
 
@@ -32,7 +30,7 @@ impl Regex {
     /// `Memory` where a growth is refused. The items take no memory, and are never refused.
     pub fn find_iter<'r, 'h>(&'r self, haystack: &'h str) -> Result<Matches<'r, 'h>, Error>
         ensures ahead { IfOk result (λ it. ahead_of it ≡ whole self.now haystack.now None) }
-        ensures begins { IfOk result (λ it. it.cursor.ended ≡ None) }
+        ensures begins { IfOk result (λ it. it.scan.ended ≡ None) }
         ensures refused { IfErr result (λ error. error ≡ out_of_memory) }
     {
         Matches::new(self, haystack, None)
@@ -45,8 +43,7 @@ impl Regex {
 /// alone, and outlive the iterator and the regex.
 #[derive(Debug, Drop)]
 pub struct Matches<'r, 'h> {
-    searcher: Searcher<'r>,
-    pub(super) cursor: Cursor<'h>,
+    pub(super) scan: Scan<'r, 'h>,
 }
 
 impl<'r, 'h> Matches<'r, 'h> {
@@ -57,12 +54,11 @@ impl<'r, 'h> Matches<'r, 'h> {
         limit: Option<usize>,
     ) -> Result<Matches<'r, 'h>, Error>
         ensures ahead { IfOk result (λ it. ahead_of it ≡ whole regex.now haystack.now limit) }
-        ensures begins { IfOk result (λ it. it.cursor.ended ≡ None) }
+        ensures begins { IfOk result (λ it. it.scan.ended ≡ None) }
         ensures refused { IfErr result (λ error. error ≡ out_of_memory) }
     {
         Ok(Matches {
-            searcher: Searcher::new(regex)?,
-            cursor: Cursor::start(haystack, limit),
+            scan: Scan::new(regex, haystack, limit, 0)?,
         })
     }
 }
@@ -77,19 +73,7 @@ impl<'r, 'h> Iterator for Matches<'r, 'h> {
     ghost remaining = { most_matches };
 
     fn next(&mut self) -> Option<Match<'h>> {
-        if self.cursor.is_over() {
-            return None;
-        }
-        match next_match(&mut self.searcher, self.cursor.haystack, self.cursor.ended) {
-            Some(found) => {
-                self.cursor = self.cursor.behind(found.end());
-                Some(found)
-            }
-            None => {
-                self.cursor = self.cursor.at_end();
-                None
-            }
-        }
+        self.scan.next()
     }
 }
 

@@ -94,7 +94,7 @@ impl<'r, 'h> Iterator for Split<'r, 'h> {
         if self.is_done {
             return None;
         }
-        let cursor = self.matches.cursor;
+        let cursor = self.matches.scan.cursor();
         let from = cursor.ended.unwrap_or(0);
         match self.matches.next() {
             Some(found) => Some(&cursor.haystack[from..found.start()]),

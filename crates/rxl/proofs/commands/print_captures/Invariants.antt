@@ -12,5 +12,5 @@ invariant-loop-item g l = record {
   puts : Puts l.fn.output (g.W.Write.contents l.fn.out) l.output (g.W.Write.contents l.out) printed;
   so_far : GroupsLeadOn (whole l.regex l.haystack None) (groups_ahead_of l.item-iterator) l.has_match printed;
   regex : (groups_ahead_of l.item-iterator).regex ≡ l.regex;
-  haystack : l.item-iterator.cursor.haystack.now ≡ l.haystack;
+  haystack : l.item-iterator.scan.haystack ≡ l.haystack;
 }

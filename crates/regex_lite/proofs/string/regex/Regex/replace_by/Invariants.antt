@@ -11,7 +11,7 @@ invariant-loop-found l = record {
   finite : (goal.iterator-loop-found).is_finite l.found-iterator;
   so_far : Continues l.text (whole l.self l.haystack l.fn.limit) (ahead_of l.found-iterator) l.from (string_bytes l.new);
   begun : IsBegun (whole l.self l.haystack l.fn.limit) (ahead_of l.found-iterator) l.from (string_bytes l.new) l.is_replaced;
-  haystack : l.found-iterator.cursor.haystack.now ≡ l.haystack;
-  from : l.from ≡ unwrap_or l.found-iterator.cursor.ended 0;
+  haystack : l.found-iterator.scan.haystack ≡ l.haystack;
+  from : l.from ≡ unwrap_or l.found-iterator.scan.ended 0;
   boundary : IsCharBoundary l.haystack l.from;
 }

@@ -19,7 +19,7 @@ returns-in_err-replace_append-clause-refused g c =
     let step = rw c.in_ok-caps.was at c.in-Some.ensures.steps in
     let asked = rw c.in_err-replace_append.was at c.replace_append.ensures.appended in
     let start = whole c.args.self.now c.args.haystack.now c.args.limit in
-    let are = found_there (groups_ahead_of c.loop-item.item-iterator).regex c.args.self.now c.loop-item.item-iterator.cursor.haystack.now c.args.haystack.now step.0 c.in_ok-caps.caps
+    let are = found_there (groups_ahead_of c.loop-item.item-iterator).regex c.args.self.now c.loop-item.item-iterator.scan.haystack c.args.haystack.now step.0 c.in_ok-caps.caps
     inv.regex inv.haystack step.1 in
     let refused = in_turn_refused g.R.Replacer.fixed g.R.Replacer.appends c.args.rep start
     (groups_ahead_of c.loop-item.item-iterator) (groups_ahead_of c.next.new.self) c.loop-item.rep

@@ -13,7 +13,7 @@ invariant-loop-item g l = record {
   so_far : ContinuesInTurn g.R.Replacer.fixed g.R.Replacer.appends l.initial.rep (whole l.self l.haystack l.fn.limit) (groups_ahead_of l.item-iterator) l.rep l.from (string_bytes l.new);
   begun : IsBegun (whole l.self l.haystack l.fn.limit) (groups_ahead_of l.item-iterator) l.from (string_bytes l.new) l.is_replaced;
   regex : (groups_ahead_of l.item-iterator).regex ≡ l.self;
-  haystack : l.item-iterator.cursor.haystack.now ≡ l.haystack;
-  from : l.from ≡ unwrap_or l.item-iterator.cursor.ended 0;
+  haystack : l.item-iterator.scan.haystack ≡ l.haystack;
+  from : l.from ≡ unwrap_or l.item-iterator.scan.ended 0;
   boundary : IsCharBoundary l.haystack l.from;
 }

@@ -3,7 +3,7 @@ use Rattle.std.specs.Char.{len_utf8}
 use lib.Utf8.{encode}
 use Rattle.regex_lite.specs.NextMatch.{IsNextOffset}
 use Rattle.regex_lite_engine.proofs.PositionLemmas.{last_position, next_position}
-use Rattle.regex_lite.proofs.string.next_search.next_offset.Goals as goal
+use Rattle.regex_lite.proofs.string.scan.next_offset.Goals as goal
 
 pub returns-in_err-c : goal.returns-in_err-c
 returns-in_err-c c =

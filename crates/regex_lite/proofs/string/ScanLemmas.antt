@@ -1,0 +1,101 @@
+-- The slots that a searcher keeps hold the groups of the last match.
+use Rattle.std.proofs.Common.{◌≡◌, ◌*◌, ◌∙◌, ℕ, List, length, Option, Some, chars, IsUtf8, unwrap_or, sym, ap, subst, arith}
+use Rattle.regex_lite_syntax.specs.Tree.Properties.{captures_len}
+use Rattle.regex_lite_syntax.specs.Grammar.{IsTree}
+use Rattle.regex_lite_engine.specs.Search.Answer.{Found, IsFound}
+use Rattle.regex_lite.specs.declared.string.compiled.Compiled.{Compiled}
+use Rattle.regex_lite.specs.declared.string.matches.Match.{Match}
+use Rattle.regex_lite.specs.Ahead.{Ahead, AreGroupsFound, IsOnward, Passes, ahead}
+use Rattle.regex_lite.specs.Compiled.{IsBuilt, groups_of}
+use Rattle.regex_lite.specs.Expression.{Expression}
+use Rattle.regex_lite.specs.Groups.{Groups, AreGroups, span_at, whole_span}
+use Rattle.regex_lite.specs.MatchList.{IsAnswerOf}
+use Rattle.regex_lite.specs.MatchViews.{span_of_match}
+use Rattle.regex_lite.specs.Scanning.{AreSlotsOf, HasSlotsForGroups, IsMatchWithSlots, Scanning}
+use Rattle.regex_lite.specs.Searches.{offsets}
+use Rattle.regex_lite.proofs.string.CapturedLemmas.{captured, captured_of}
+use Rattle.regex_lite.proofs.string.FoundLemmas.{group_0}
+use Rattle.regex_lite.proofs.string.NextLemmas.{next_answer}
+use Rattle.regex_lite.proofs.string.OneTreeLemmas.{one_tree}
+
+module _ (bytes : List ℕ) (utf8 : IsUtf8 bytes) (re : Expression) (compiled : Compiled)
+    (built : IsBuilt compiled) (given : IsTree re.flags (chars re.pattern) built.tree)
+    (held slots : List (Option ℕ)) (copied : slots ≡ held) (room : HasSlotsForGroups re held)
+    (shared : Compiled) (same : shared ≡ compiled) where
+  len : length slots ≡ 2 * captures_len built.tree
+  len =
+      ap length copied ∙ room.2
+      ∙ ap (λ tree. 2 * captures_len tree)
+      (one_tree re.flags (chars re.pattern) room.0 built.tree room.1 given)
+
+  module _ (found : Found) (are : AreSlotsOf re bytes held found) where
+    is_found : IsFound built.tree (chars bytes) are.0 found
+    is_found =
+        subst (λ tree. IsFound tree (chars bytes) are.0 found)
+        (one_tree re.flags (chars re.pattern) are.1.0 built.tree are.1.1 given) are.1.2
+
+    -- a copy of the slots holds groups
+    pub groups_held : AreGroups (groups_of bytes slots shared)
+    groups_held =
+        subst (λ c. AreGroups (groups_of bytes slots c)) (sym same)
+        (captured bytes utf8 compiled built slots are.0 found is_found
+        (rw (copied) are.2) len)
+
+    -- which are those of what was found
+    pub groups_kept : (groups : Groups) → groups ≡ groups_of bytes slots shared
+        → AreGroupsFound re bytes found groups
+    groups_kept groups is = (
+      built.tree,
+      given,
+      rw (is, same)
+          (captured_of bytes utf8 compiled built slots are.0 found is_found
+          (rw (copied) are.2) len),
+    )
+
+-- the groups of what was found have its span
+pub whole_of_groups : (re : Expression) (bytes : List ℕ) (s : ℕ) (found : Found) (groups : Groups)
+    → IsAnswerOf re (chars bytes) s (Some found) → AreGroupsFound re bytes found groups
+    → whole_span groups ≡ offsets (chars bytes) (found.start, found.end)
+whole_of_groups re bytes s found groups (tree, given, is) (own, given_too, are) =
+    ap (λ spans. unwrap_or (span_at spans 0) (0, 0)) are.spans
+    ∙ ap (λ span. unwrap_or span (0, 0))
+    (group_0 (chars bytes) own s found (captures_len own) (re.flags, _, given_too)
+    (subst (λ t. IsFound t (chars bytes) s found)
+    (one_tree re.flags (chars re.pattern) tree own given given_too) is) (omega arith))
+
+-- a match came, and its slots are kept
+abbrev pub Came : (old : Scanning) → Match → (new : Scanning) → Type 0
+Came old m new =
+    (found : Found) × IsMatchWithSlots old.haystack new.slots found m
+    × IsOnward old.ended (span_of_match m) × (new.ended ≡ Some (span_of_match m).1)
+    × Passes (ahead old) found (ahead new)
+
+-- the slots are those of the last match
+pub kept_slots : (old new : Scanning) (m : Match) (came : Came old m new)
+    → AreSlotsOf new.regex new.haystack new.slots came.0
+kept_slots old new m (found, is, onward, ended, passes) =
+    let answer = next_answer old.regex (chars old.haystack) (ahead old).ended found passes.comes in
+    let regex : new.regex ≡ old.regex = ap (λ (a : Ahead). a.regex) passes.passed in
+    let haystack : new.haystack ≡ old.haystack = ap (λ (a : Ahead). a.haystack) passes.passed in
+    rw (regex, haystack) (answer.0, answer.1, is.has_slots)
+
+-- and so are their groups
+pub groups_came : (old new : Scanning) (m : Match) (came : Came old m new) (groups : Groups)
+    → AreGroupsFound new.regex new.haystack came.0 groups
+    → (found : Found) × AreGroupsFound old.regex old.haystack found groups
+    × IsOnward old.ended (whole_span groups) × (new.ended ≡ Some (whole_span groups).1)
+    × Passes (ahead old) found (ahead new)
+groups_came old new m (found, is, onward, ended, passes) groups are =
+    let passed = passes.passed in
+    let answer = next_answer old.regex (chars old.haystack) (ahead old).ended found passes.comes in
+    let there : AreGroupsFound old.regex old.haystack found groups =
+    subst (λ re. AreGroupsFound re old.haystack found groups) (ap (λ (a : Ahead). a.regex) passed)
+    (subst (λ bytes. AreGroupsFound new.regex bytes found groups) (ap (λ (a : Ahead). a.haystack) passed) are) in
+    let span : span_of_match m ≡ whole_span groups =
+    is.is_match.span ∙ sym (whole_of_groups old.regex old.haystack answer.0 found groups answer.1 there) in (
+      found,
+      there,
+      subst (IsOnward old.ended) span onward,
+      ended ∙ ap (λ (own : ℕ × ℕ). Some own.1) span,
+      passes,
+    )

@@ -1,0 +1,51 @@
+-- A regex that is searched for again and again, and a haystack that is gone over match by match.
+use Rattle.std.specs.Prelude.{◌≡◌, ◌*◌, ℕ, List, Option, Some, true, chars, length}
+use Rattle.regex_lite_syntax.specs.Tree.Properties.{captures_len}
+use Rattle.regex_lite_engine.specs.Search.Answer.{Found}
+use Rattle.regex_lite_engine.specs.Search.Offsets.{HasSlots, position_at}
+use Rattle.regex_lite.specs.declared.string.matches.Match.{Match}
+use Rattle.regex_lite.specs.Expression.{Expression, OfTree}
+use Rattle.regex_lite.specs.MatchList.{IsAnswerOf, is_empty_at}
+use Rattle.regex_lite.specs.Searches.{IsMatchOf, TellsAnswer}
+
+-- a regex, and the slots of the last match that was found
+pub record RegexSearching : Type 0 where
+  pub regex : Expression
+  pub slots : List (Option ℕ)
+
+-- beside them the haystack, as its bytes, how many matches may still come, where that is limited,
+-- and the offset at which the last one ended
+pub record Scanning : Type 0 where
+  pub regex : Expression
+  pub slots : List (Option ℕ)
+  pub haystack : List ℕ
+  pub limit : Option ℕ
+  pub ended : Option ℕ
+
+-- what is told is the match that was found, and these are its slots
+pub record IsMatchWithSlots (haystack : List ℕ) (slots : List (Option ℕ)) (found : Found) (m : Match)
+    : Type 0 where
+  pub is_match : IsMatchOf haystack found m
+  pub has_slots : HasSlots (chars haystack) slots found.marks
+
+-- so of a search for the pattern from this offset on
+abbrev pub TellsMatchWithSlots : Expression → (haystack : List ℕ) → (start : ℕ)
+    → (slots : List (Option ℕ)) → Option Match → Type 0
+TellsMatchWithSlots re haystack start slots told =
+    TellsAnswer (λ tree. IsMatchWithSlots haystack slots) re haystack start told
+
+-- the slots are those of this answer of some search of the haystack
+abbrev pub AreSlotsOf : Expression → (haystack : List ℕ) → (slots : List (Option ℕ)) → Found → Type 0
+AreSlotsOf re haystack slots found =
+    (s : ℕ) × IsAnswerOf re (chars haystack) s (Some found)
+    × HasSlots (chars haystack) slots found.marks
+
+-- the answer from this offset on is empty there
+abbrev pub IsEmptyFrom : Expression → (haystack : List ℕ) → (at : ℕ) → Type 0
+IsEmptyFrom re haystack at =
+    (found : Found) × IsAnswerOf re (chars haystack) (position_at haystack at) (Some found)
+    × (is_empty_at (position_at haystack at) (Some found) ≡ true)
+
+-- there are two slots for each group
+abbrev pub HasSlotsForGroups : Expression → (slots : List (Option ℕ)) → Type 0
+HasSlotsForGroups re slots = OfTree re (λ tree. length slots ≡ 2 * captures_len tree)

@@ -1,0 +1,58 @@
+//! Goes over a haystack from match to match, with the groups of each.
+ghost use Rattle.std.specs.Prelude.{◌≡◌, ◌<◌, None, IfOk, IfErr, IfSome};
+ghost use Rattle.regex_lite_syntax.specs.Errors.{out_of_memory};
+ghost use Rattle.regex_lite.specs.Ahead.{GivesGroupsOf, ahead, most_ahead, whole};
+
+use crate::string::captures::Captures;
+use crate::string::regex::Regex;
+use crate::string::scan::Scan;
+use regex_lite_syntax::Error;
+use std::marker::Model;
+
+/// A scan whose matches have two slots for each group.
+#[derive(Debug, Drop)]
+pub(super) struct GroupScan<'r, 'h> {
+    scan: Scan<'r, 'h>,
+}
+
+impl<'r, 'h> Model for GroupScan<'r, 'h> {
+    ghost use Rattle.regex_lite.specs.Scanning.{HasSlotsForGroups, Scanning};
+
+    ghost Value = { Scanning };
+
+    ghost view = { λ groups. groups.scan };
+
+    ghost invariant = { λ groups. HasSlotsForGroups groups.scan.regex groups.scan.slots };
+}
+
+impl<'r, 'h> GroupScan<'r, 'h> {
+    /// At the start of the haystack, with as many matches to come as the limit says.
+    pub fn new(
+        regex: &'r Regex,
+        haystack: &'h str,
+        limit: Option<usize>,
+    ) -> Result<GroupScan<'r, 'h>, Error>
+        ensures ahead { IfOk result (λ scan. ahead scan ≡ whole regex.now haystack.now limit) }
+        ensures begins { IfOk result (λ scan. scan.ended ≡ None) }
+        ensures refused { IfErr result (λ error. error ≡ out_of_memory) }
+    {
+        let scan = Scan::new(regex, haystack, limit, regex.slots())?;
+        Ok(GroupScan { scan })
+    }
+
+    /// The groups of the next match, if one may come. Behind a refusal none comes.
+    pub fn next(&mut self) -> Option<Result<Captures<'h>, Error>>
+        ensures steps { GivesGroupsOf self.old result self.new }
+        ensures fewer { IfSome result (λ _. most_ahead self.new < most_ahead self.old) }
+    {
+        let cursor = self.scan.cursor();
+        let _ = self.scan.next()?;
+        match self.scan.captures() {
+            Ok(caps) => Some(Ok(caps)),
+            Err(error) => {
+                self.scan.stop_at(cursor);
+                Some(Err(error))
+            }
+        }
+    }
+}

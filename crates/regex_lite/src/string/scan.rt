@@ -1,0 +1,142 @@
+//! Goes over a haystack from match to match.
+ghost use Rattle.std.specs.Prelude.{◌≡◌, ◌<◌, Some, None, IfOk, IfErr, IfSome, IsCharBoundary, length, unwrap_or};
+ghost use Rattle.regex_lite_syntax.specs.Errors.{out_of_memory};
+ghost use Rattle.regex_lite_engine.specs.Search.Answer.{Found};
+ghost use Rattle.regex_lite.specs.Ahead.{AreGroupsFound, GivesMatchWithSlots, ahead, most_ahead, whole};
+ghost use Rattle.regex_lite.specs.NextMatch.{IsNextOffset, TellsNextMatch};
+ghost use Rattle.regex_lite.specs.Scanning.{AreSlotsOf, HasSlotsForGroups};
+
+use crate::string::captures::Captures;
+use crate::string::cursor::Cursor;
+use crate::string::matches::Match;
+use crate::string::regex::Regex;
+use crate::string::searcher::Searcher;
+use regex_lite_syntax::Error;
+use std::marker::Model;
+
+/// A searcher, and where it stands in the haystack that it goes over.
+#[derive(Debug, Drop)]
+pub(super) struct Scan<'r, 'h> {
+    searcher: Searcher<'r>,
+    cursor: Cursor<'h>,
+}
+
+impl<'r, 'h> Model for Scan<'r, 'h> {
+    ghost use Rattle.regex_lite.specs.Scanning.{Scanning};
+
+    ghost Value = { Scanning };
+
+    ghost view = { λ scan. record {
+      regex = scan.searcher.regex;
+      slots = scan.searcher.slots;
+      haystack = scan.cursor.haystack.now;
+      limit = scan.cursor.limit;
+      ended = scan.cursor.ended;
+    } };
+}
+
+impl<'r, 'h> Scan<'r, 'h> {
+    /// At the start of the haystack, with so many slots for a match. All matches are still to come,
+    /// or as many of them as the limit says.
+    pub fn new(
+        regex: &'r Regex,
+        haystack: &'h str,
+        limit: Option<usize>,
+        slots: usize,
+    ) -> Result<Scan<'r, 'h>, Error>
+        ensures ahead { IfOk result (λ scan. ahead scan ≡ whole regex.now haystack.now limit) }
+        ensures begins { IfOk result (λ scan. scan.ended ≡ None) }
+        ensures slots { IfOk result (λ scan. length scan.slots ≡ slots) }
+        ensures refused { IfErr result (λ error. error ≡ out_of_memory) }
+    {
+        Ok(Scan {
+            searcher: Searcher::new(regex, slots)?,
+            cursor: Cursor::start(haystack, limit),
+        })
+    }
+
+    /// Where it stands.
+    pub fn cursor(&self) -> Cursor<'h>
+        ensures haystack { result.haystack.now ≡ self.now.haystack }
+        ensures ended { result.ended ≡ self.now.ended }
+    {
+        self.cursor
+    }
+
+    /// The next match, if one may come. Its slots are kept.
+    pub fn next(&mut self) -> Option<Match<'h>>
+        ensures steps { GivesMatchWithSlots self.old result self.new }
+        ensures fewer { IfSome result (λ _. most_ahead self.new < most_ahead self.old) }
+        ensures slots { length self.new.slots ≡ length self.old.slots }
+    {
+        if self.cursor.is_over() {
+            return None;
+        }
+        match next_match(&mut self.searcher, self.cursor.haystack, self.cursor.ended) {
+            Some(found) => {
+                self.cursor = self.cursor.behind(found.end());
+                Some(found)
+            }
+            None => {
+                self.cursor = self.cursor.at_end();
+                None
+            }
+        }
+    }
+
+    /// The groups of the last match.
+    pub fn captures(&self) -> Result<Captures<'h>, Error>
+        requires room { HasSlotsForGroups self.now.regex self.now.slots }
+        requires found { (found : Found) × AreSlotsOf self.now.regex self.now.haystack self.now.slots found }
+        ensures groups { IfOk result (λ groups. (found : Found)
+            → AreSlotsOf self.now.regex self.now.haystack self.now.slots found
+            → AreGroupsFound self.now.regex self.now.haystack found groups) }
+        ensures refused { IfErr result (λ error. error ≡ out_of_memory) }
+    {
+        self.searcher.captures(self.cursor.haystack)
+    }
+
+    /// Back to where it stood before, with nothing to come.
+    pub fn stop_at(&mut self, cursor: Cursor<'h>)
+        requires { cursor.haystack.now ≡ self.old.haystack }
+        ensures regex { self.new.regex ≡ self.old.regex }
+        ensures slots { self.new.slots ≡ self.old.slots }
+        ensures haystack { self.new.haystack ≡ self.old.haystack }
+        ensures ended { self.new.ended ≡ cursor.entry.ended }
+        ensures limit { self.new.limit ≡ Some 0 }
+    {
+        self.cursor = cursor.at_end();
+    }
+}
+
+/// The match behind one that ended at this offset, or the first.
+fn next_match<'h>(
+    searcher: &mut Searcher<'_>,
+    haystack: &'h str,
+    ended: Option<usize>,
+) -> Option<Match<'h>>
+    requires { IsCharBoundary haystack.now (unwrap_or ended 0) }
+    ensures next { TellsNextMatch searcher.old.regex haystack.now ended searcher.new.slots result }
+    ensures regex { searcher.new.regex ≡ searcher.old.regex }
+    ensures slots { length searcher.new.slots ≡ length searcher.old.slots }
+{
+    let Some(end) = ended else {
+        return searcher.find_at(haystack, 0);
+    };
+    let found = searcher.find_at(haystack, end)?;
+    // A match from here on that ends no later is the empty one that stands here.
+    if found.end() > end {
+        return Some(found);
+    }
+    let next = next_offset(haystack, end)?;
+    searcher.find_at(haystack, next)
+}
+
+/// Where the character ends that stands at this offset. None stands at the haystack's end.
+fn next_offset(haystack: &str, at: usize) -> Option<usize>
+    requires { IsCharBoundary haystack.now at }
+    ensures { IsNextOffset haystack.now at result }
+{
+    let c = haystack[at..].chars().next()?;
+    Some(at + c.len_utf8())
+}
