@@ -1,11 +1,13 @@
 -- A regex that is searched for again and again, and a haystack that is gone over match by match.
-use Rattle.std.specs.Prelude.{◌≡◌, ◌*◌, ℕ, List, Option, Some, true, chars, length}
+use Rattle.std.specs.Prelude.{◌≡◌, ◌*◌, ℕ, List, Option, Some, IfSome, IsTrue, true, chars, length}
 use Rattle.regex_lite_syntax.specs.Tree.Properties.{captures_len}
 use Rattle.regex_lite_engine.specs.Search.Answer.{Found}
 use Rattle.regex_lite_engine.specs.Search.Offsets.{HasSlots, position_at}
+use Rattle.regex_lite.specs.declared.string.cursor.Cursor.{Cursor}
 use Rattle.regex_lite.specs.declared.string.matches.Match.{Match}
 use Rattle.regex_lite.specs.Expression.{Expression, OfTree}
 use Rattle.regex_lite.specs.MatchList.{IsAnswerOf, is_empty_at}
+use Rattle.regex_lite.specs.MatchViews.{span_of_match}
 use Rattle.regex_lite.specs.Searches.{IsMatchOf, TellsAnswer}
 
 -- a regex, and the slots of the last match that was found
@@ -45,6 +47,17 @@ abbrev pub IsEmptyFrom : Expression → (haystack : List ℕ) → (at : ℕ) →
 IsEmptyFrom re haystack at =
     (found : Found) × IsAnswerOf re (chars haystack) (position_at haystack at) (Some found)
     × (is_empty_at (position_at haystack at) (Some found) ≡ true)
+
+-- a match that is empty is the answer from its end
+abbrev pub IsAnswerIfEmpty : Expression → (haystack : List ℕ) → Option Match → Type 0
+IsAnswerIfEmpty re haystack told =
+    IfSome told (λ m. (span_of_match m).0 ≡ (span_of_match m).1
+    → IsEmptyFrom re haystack (span_of_match m).1)
+
+-- where the last match was empty, the answer from its end is empty there
+abbrev pub IsBehindAnswer : Expression → Cursor → Type 0
+IsBehindAnswer re cursor =
+    IsTrue cursor.was_empty → IfSome cursor.ended (IsEmptyFrom re cursor.haystack.now)
 
 -- there are two slots for each group
 abbrev pub HasSlotsForGroups : Expression → (slots : List (Option ℕ)) → Type 0

@@ -1,10 +1,11 @@
 -- Steps of what is ahead.
-use Rattle.std.proofs.Common.{◌≡◌, ◌≢◌, ◌⊎◌, inl, inr, ℕ, zero, suc, List, [], ◌∷◌, Option, Some, None, refl, subst, arith, chars}
+use Rattle.std.proofs.Common.{◌≡◌, ◌≢◌, ◌⊎◌, ◌<◌, ◌≤◌, ◌+◌, ◌-◌, length, inl, inr, ℕ, zero, suc, List, [], ◌∷◌, Option, Some, None, refl, subst, arith, chars}
 use Rattle.regex_lite_syntax.specs.Text.{Text}
 use Rattle.regex_lite_engine.specs.Search.Answer.{Found}
-use Rattle.regex_lite.specs.Ahead.{Ahead, AreAhead, AreFirstAhead, IsOver, Passes}
+use Rattle.regex_lite.specs.Ahead.{Ahead, AreAhead, AreFirstAhead, IsOnward, IsOver, Passes, most_ahead, most_left}
 use Rattle.regex_lite.specs.Expression.{Expression}
 use Rattle.regex_lite.specs.MatchList.{AreFirst, AreWithin, IsNext, one_less}
+use Rattle.regex_lite.specs.Scanning.{Scanning}
 
 module _ (re : Expression) (haystack : Text) where
   within_cons : (limit ended : Option ℕ) (found : Found) (list : List Found) → limit ≢ Some 0
@@ -40,3 +41,33 @@ first_cons old new found list passes are =
 -- at the end none is ahead
 pub ahead_nil : (a : Ahead) → IsOver a → AreAhead a []
 ahead_nil a over = within_nil a.regex (chars a.haystack) a.limit a.ended over
+
+at_most_left : (limit : Option ℕ) (bytes e : ℕ) → most_left limit bytes (Some e) ≤ (bytes + 1) - e
+at_most_left None bytes e = omega arith
+at_most_left (Some zero) bytes e = omega arith
+at_most_left (Some (suc k)) bytes e = omega arith
+
+all_left : (limit ended : Option ℕ) (bytes : ℕ) → limit ≢ Some 0
+    → most_left limit bytes ended ≡ most_left None bytes ended
+all_left None ended bytes may = refl
+all_left (Some zero) ended bytes may = absurd (may refl)
+all_left (Some (suc k)) None bytes may = refl
+all_left (Some (suc k)) (Some e) bytes may = refl
+
+fewer_left : (ended : Option ℕ) (bytes : ℕ) (span : ℕ × ℕ) → IsOnward ended span → span.1 ≤ bytes
+    → (bytes + 1) - span.1 < most_left None bytes ended
+fewer_left None bytes span onward inside = omega (arith, inside)
+fewer_left (Some e) bytes span onward inside =
+    let later = onward.1 in
+    omega (arith, inside, later)
+
+-- behind a match fewer are ahead
+pub fewer_ahead : (old new : Scanning) (span : ℕ × ℕ) → old.limit ≢ Some 0
+    → new.haystack ≡ old.haystack → new.ended ≡ Some span.1 → IsOnward old.ended span
+    → span.1 ≤ length old.haystack → most_ahead new < most_ahead old
+fewer_ahead old new span may same ended onward inside =
+    rw (same, ended)
+    (let most = at_most_left new.limit (length old.haystack) span.1 in
+    let all = all_left old.limit old.ended (length old.haystack) may in
+    let fewer = fewer_left old.ended (length old.haystack) span onward inside in
+    omega (arith, most, all, fewer))

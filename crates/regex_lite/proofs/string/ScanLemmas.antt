@@ -1,8 +1,15 @@
 -- The slots that a searcher keeps hold the groups of the last match.
-use Rattle.std.proofs.Common.{◌≡◌, ◌*◌, ◌∙◌, ℕ, List, length, Option, Some, chars, IsUtf8, unwrap_or, sym, ap, subst, arith}
+use Rattle.std.proofs.Common.{◌≡◌, ◌<◌, ◌≤◌, ◌⊎◌, inl, inr, refl, ◌*◌, ◌∙◌, ℕ, List, length, Option, Some, chars, IsUtf8, unwrap_or, sym, ap, subst, arith}
+use Rattle.std.proofs.lemmas.Bool.{cases_order}
+use Rattle.std.proofs.lemmas.Bool.Decides.{nat_tests}
+use Rattle.regex_lite_syntax.specs.Text.{Text}
+use Rattle.regex_lite_syntax.specs.Tree.{Tree}
 use Rattle.regex_lite_syntax.specs.Tree.Properties.{captures_len}
 use Rattle.regex_lite_syntax.specs.Grammar.{IsTree}
 use Rattle.regex_lite_engine.specs.Search.Answer.{Found, IsFound}
+use Rattle.regex_lite_engine.specs.Search.Offsets.{offset, position_at, search_start}
+use Rattle.regex_lite_engine.proofs.OffsetLemmas.{offset_less}
+use Rattle.regex_lite_engine.proofs.PositionLemmas.{position_of}
 use Rattle.regex_lite.specs.declared.string.compiled.Compiled.{Compiled}
 use Rattle.regex_lite.specs.declared.string.matches.Match.{Match}
 use Rattle.regex_lite.specs.Ahead.{Ahead, AreGroupsFound, IsOnward, Passes, ahead}
@@ -11,11 +18,11 @@ use Rattle.regex_lite.specs.Expression.{Expression}
 use Rattle.regex_lite.specs.Groups.{Groups, AreGroups, span_at, whole_span}
 use Rattle.regex_lite.specs.MatchList.{IsAnswerOf}
 use Rattle.regex_lite.specs.MatchViews.{span_of_match}
-use Rattle.regex_lite.specs.Scanning.{AreSlotsOf, HasSlotsForGroups, IsMatchWithSlots, Scanning}
-use Rattle.regex_lite.specs.Searches.{offsets}
+use Rattle.regex_lite.specs.Scanning.{AreSlotsOf, HasSlotsForGroups, IsAnswerIfEmpty, IsEmptyFrom, IsMatchWithSlots, Scanning, TellsMatchWithSlots}
+use Rattle.regex_lite.specs.Searches.{IsMatchOf, offsets}
 use Rattle.regex_lite.proofs.string.CapturedLemmas.{captured, captured_of}
 use Rattle.regex_lite.proofs.string.FoundLemmas.{group_0}
-use Rattle.regex_lite.proofs.string.NextLemmas.{next_answer}
+use Rattle.regex_lite.proofs.string.NextLemmas.{IsWithin, found_within, next_answer}
 use Rattle.regex_lite.proofs.string.OneTreeLemmas.{one_tree}
 
 module _ (bytes : List ℕ) (utf8 : IsUtf8 bytes) (re : Expression) (compiled : Compiled)
@@ -99,3 +106,64 @@ groups_came old new m (found, is, onward, ended, passes) groups are =
       ended ∙ ap (λ (own : ℕ × ℕ). Some own.1) span,
       passes,
     )
+
+-- an answer from s is also the answer from any position up to its start
+pub answer_from : (tree : Tree) (haystack : Text) (s p : ℕ) (found : Found) → s ≤ p
+    → p ≤ found.start → IsFound tree haystack s found → IsFound tree haystack p found
+answer_from tree haystack s p found further before is = record {
+  from = before;
+  inside = is.inside;
+  least = λ i j m. is.least i j (record {
+    from = omega (arith, further, m.from);
+    inside = m.inside;
+    matches = m.matches;
+  });
+  way = is.way;
+  most_preferred = is.most_preferred;
+  marks = is.marks;
+}
+
+-- so an empty match is the answer from its end
+empty_from : (re : Expression) (bytes : List ℕ) (utf8 : IsUtf8 bytes) (s : ℕ) (found : Found)
+    (m : Match) → IsAnswerOf re (chars bytes) s (Some found) → IsMatchOf bytes found m
+    → (span_of_match m).0 ≡ (span_of_match m).1 → IsEmptyFrom re bytes (span_of_match m).1
+empty_from re bytes utf8 s found m (tree, given, is) of empty = (
+  found,
+  subst (λ p. IsAnswerOf re (chars bytes) p (Some found)) (sym at) (
+    tree,
+    given,
+    answer_from tree (chars bytes) s found.end found
+        (omega (arith, within.from, within.ordered)) (omega (arith, same)) is,
+  ),
+  grind (arith, nat_tests, at, same),
+)
+  where
+    within : IsWithin (chars bytes) s found
+    within = found_within tree (chars bytes) s found (re.flags, _, given) is
+
+    start : m.start ≡ offset (chars bytes) found.start
+    start = ap (λ (own : ℕ × ℕ). own.0) of.span
+
+    end : m.end ≡ offset (chars bytes) found.end
+    end = ap (λ (own : ℕ × ℕ). own.1) of.span
+
+    at : position_at bytes m.end ≡ found.end
+    at = ap (position_at bytes) end
+        ∙ position_of bytes utf8 found.end (offset (chars bytes) found.end) (within.inside, refl)
+
+    same : found.start ≡ found.end
+    same = each (cases_order found.start found.end)
+      where
+        each : (found.start ≡ found.end)
+            ⊎ ((found.start < found.end) ⊎ (found.end < found.start)) → found.start ≡ found.end
+        each (inl e) = e
+        each (inr (inl less)) =
+            let below = offset_less (chars bytes) found.start found.end less within.inside in
+            absurd (omega (arith, start, end, below, empty))
+        each (inr (inr more)) = absurd (omega (arith, within.ordered, more))
+
+pub answer_if_empty : (re : Expression) (bytes : List ℕ) (utf8 : IsUtf8 bytes) (start : ℕ)
+    (slots : List (Option ℕ)) (m : Match) → TellsMatchWithSlots re bytes start slots (Some m)
+    → IsAnswerIfEmpty re bytes (Some m)
+answer_if_empty re bytes utf8 start slots m (tree, given, (found, is, of)) = λ empty.
+    empty_from re bytes utf8 (search_start bytes start) found m (tree, given, is) of.is_match empty

@@ -1,27 +1,34 @@
 //! Where an iterator stands in a haystack.
-ghost use Rattle.std.specs.Prelude.{◌≡◌, ◌↔◌, IsTrue, Some, None, IsCharBoundary, unwrap_or};
+ghost use Rattle.std.specs.Prelude.{◌≡◌, ◌↔◌, IsTrue, Some, None, IsCharBoundary, false, unwrap_or};
 
-/// A haystack, where the last match of it ended, and how many may still come.
+use crate::string::matches::Match;
+
+/// A haystack, where the last match of it ended, whether that was empty, and how many may still
+/// come.
 #[derive(Clone, Copy, Debug)]
 pub(super) struct Cursor<'h> {
     pub haystack: &'h str,
     pub ended: Option<usize>,
+    pub was_empty: bool,
     pub limit: Option<usize>,
     pub ghost stands: { IsCharBoundary haystack.now (unwrap_or ended 0) },
 }
 
 impl<'h> Cursor<'h> {
     ghost use Rattle.regex_lite.specs.MatchList.{one_less};
+    ghost use Rattle.regex_lite.specs.MatchViews.{haystack_of_match, span_of_match};
 
     /// Where all matches are still to come, or as many of them as the limit says.
     pub fn start(haystack: &'h str, limit: Option<usize>) -> Cursor<'h>
         ensures haystack { result.haystack.now ≡ haystack.now }
         ensures ended { result.ended ≡ None }
+        ensures was_empty { result.was_empty ≡ false }
         ensures limit { result.limit ≡ limit }
     {
         Cursor {
             haystack,
             ended: None,
+            was_empty: false,
             limit,
         }
     }
@@ -33,16 +40,19 @@ impl<'h> Cursor<'h> {
         self.limit == Some(0)
     }
 
-    /// Behind a match that ends at this offset.
-    pub fn behind(self, end: usize) -> Cursor<'h>
-        requires { IsCharBoundary self.haystack.now end }
+    /// Behind this match.
+    pub fn behind(self, found: &Match<'h>) -> Cursor<'h>
+        requires { haystack_of_match found.now ≡ self.haystack.now }
         ensures haystack { result.haystack.now ≡ self.entry.haystack.now }
-        ensures ended { result.ended ≡ Some end }
+        ensures ended { result.ended ≡ Some (span_of_match found.now).1 }
+        ensures was_empty { IsTrue result.was_empty
+            ↔ ((span_of_match found.now).0 ≡ (span_of_match found.now).1) }
         ensures limit { result.limit ≡ one_less self.entry.limit }
     {
         Cursor {
             haystack: self.haystack,
-            ended: Some(end),
+            ended: Some(found.end()),
+            was_empty: found.is_empty(),
             limit: self.limit.map(|n| n.saturating_sub(1)),
         }
     }
@@ -56,6 +66,7 @@ impl<'h> Cursor<'h> {
         Cursor {
             haystack: self.haystack,
             ended: self.ended,
+            was_empty: self.was_empty,
             limit: Some(0),
         }
     }

@@ -1,10 +1,10 @@
 //! Goes over a haystack from match to match.
-ghost use Rattle.std.specs.Prelude.{◌≡◌, ◌<◌, Some, None, IfOk, IfErr, IfSome, IsCharBoundary, length, unwrap_or};
+ghost use Rattle.std.specs.Prelude.{◌≡◌, ◌<◌, Some, None, IfOk, IfErr, IfSome, IsCharBoundary, length};
 ghost use Rattle.regex_lite_syntax.specs.Errors.{out_of_memory};
 ghost use Rattle.regex_lite_engine.specs.Search.Answer.{Found};
 ghost use Rattle.regex_lite.specs.Ahead.{AreGroupsFound, GivesMatchWithSlots, ahead, most_ahead, whole};
 ghost use Rattle.regex_lite.specs.NextMatch.{IsNextOffset, TellsNextMatch};
-ghost use Rattle.regex_lite.specs.Scanning.{AreSlotsOf, HasSlotsForGroups};
+ghost use Rattle.regex_lite.specs.Scanning.{AreSlotsOf, HasSlotsForGroups, IsAnswerIfEmpty, IsBehindAnswer, IsEmptyFrom};
 
 use crate::string::captures::Captures;
 use crate::string::cursor::Cursor;
@@ -22,7 +22,8 @@ pub(super) struct Scan<'r, 'h> {
 }
 
 impl<'r, 'h> Model for Scan<'r, 'h> {
-    ghost use Rattle.regex_lite.specs.Scanning.{Scanning};
+    ghost use Rattle.std.specs.Prelude.{◌≢◌, Some};
+    ghost use Rattle.regex_lite.specs.Scanning.{IsBehindAnswer, Scanning};
 
     ghost Value = { Scanning };
 
@@ -33,6 +34,10 @@ impl<'r, 'h> Model for Scan<'r, 'h> {
       limit = scan.cursor.limit;
       ended = scan.cursor.ended;
     } };
+
+    // Where no more may come, nothing rests on it.
+    ghost invariant = { λ scan. scan.cursor.limit ≢ Some 0
+        → IsBehindAnswer scan.searcher.regex scan.cursor };
 }
 
 impl<'r, 'h> Scan<'r, 'h> {
@@ -72,9 +77,9 @@ impl<'r, 'h> Scan<'r, 'h> {
         if self.cursor.is_over() {
             return None;
         }
-        match next_match(&mut self.searcher, self.cursor.haystack, self.cursor.ended) {
+        match next_match(&mut self.searcher, self.cursor) {
             Some(found) => {
-                self.cursor = self.cursor.behind(found.end());
+                self.cursor = self.cursor.behind(&found);
                 Some(found)
             }
             None => {
@@ -109,26 +114,66 @@ impl<'r, 'h> Scan<'r, 'h> {
     }
 }
 
-/// The match behind one that ended at this offset, or the first.
-fn next_match<'h>(
-    searcher: &mut Searcher<'_>,
-    haystack: &'h str,
-    ended: Option<usize>,
-) -> Option<Match<'h>>
-    requires { IsCharBoundary haystack.now (unwrap_or ended 0) }
-    ensures next { TellsNextMatch searcher.old.regex haystack.now ended searcher.new.slots result }
+/// The match behind the last one, or the first.
+fn next_match<'h>(searcher: &mut Searcher<'_>, cursor: Cursor<'h>) -> Option<Match<'h>>
+    requires { IsBehindAnswer searcher.old.regex cursor }
+    ensures next { TellsNextMatch searcher.old.regex cursor.entry.haystack.now cursor.entry.ended
+        searcher.new.slots result }
+    ensures empty { IsAnswerIfEmpty searcher.old.regex cursor.entry.haystack.now result }
     ensures regex { searcher.new.regex ≡ searcher.old.regex }
     ensures slots { length searcher.new.slots ≡ length searcher.old.slots }
 {
-    let Some(end) = ended else {
-        return searcher.find_at(haystack, 0);
+    let Some(end) = cursor.ended else {
+        return first_match(searcher, cursor.haystack);
     };
+    // From the end of an empty match on, that match would be found again.
+    if cursor.was_empty {
+        match_behind_empty(searcher, cursor.haystack, end)
+    } else {
+        match_behind(searcher, cursor.haystack, end)
+    }
+}
+
+/// The first match.
+fn first_match<'h>(searcher: &mut Searcher<'_>, haystack: &'h str) -> Option<Match<'h>>
+    ensures next { TellsNextMatch searcher.old.regex haystack.now None searcher.new.slots result }
+    ensures empty { IsAnswerIfEmpty searcher.old.regex haystack.now result }
+    ensures regex { searcher.new.regex ≡ searcher.old.regex }
+    ensures slots { length searcher.new.slots ≡ length searcher.old.slots }
+{
+    searcher.find_at(haystack, 0)
+}
+
+/// The match behind one that ended at this offset.
+fn match_behind<'h>(searcher: &mut Searcher<'_>, haystack: &'h str, end: usize) -> Option<Match<'h>>
+    requires { IsCharBoundary haystack.now end }
+    ensures next { TellsNextMatch searcher.old.regex haystack.now (Some end) searcher.new.slots result }
+    ensures empty { IsAnswerIfEmpty searcher.old.regex haystack.now result }
+    ensures regex { searcher.new.regex ≡ searcher.old.regex }
+    ensures slots { length searcher.new.slots ≡ length searcher.old.slots }
+{
     let found = searcher.find_at(haystack, end)?;
     // A match from here on that ends no later is the empty one that stands here.
     if found.end() > end {
         return Some(found);
     }
-    let next = next_offset(haystack, end)?;
+    match_behind_empty(searcher, haystack, end)
+}
+
+/// The match behind the empty one at this offset, which is the first from the next character on.
+fn match_behind_empty<'h>(
+    searcher: &mut Searcher<'_>,
+    haystack: &'h str,
+    at: usize,
+) -> Option<Match<'h>>
+    requires boundary { IsCharBoundary haystack.now at }
+    requires empty { IsEmptyFrom searcher.old.regex haystack.now at }
+    ensures next { TellsNextMatch searcher.old.regex haystack.now (Some at) searcher.new.slots result }
+    ensures empty { IsAnswerIfEmpty searcher.old.regex haystack.now result }
+    ensures regex { searcher.new.regex ≡ searcher.old.regex }
+    ensures slots { length searcher.new.slots ≡ length searcher.old.slots }
+{
+    let next = next_offset(haystack, at)?;
     searcher.find_at(haystack, next)
 }
 

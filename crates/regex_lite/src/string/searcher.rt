@@ -3,7 +3,7 @@ ghost use Rattle.std.specs.Prelude.{◌≡◌, IfOk, IfErr, length};
 ghost use Rattle.regex_lite_syntax.specs.Errors.{out_of_memory};
 ghost use Rattle.regex_lite_engine.specs.Search.Answer.{Found};
 ghost use Rattle.regex_lite.specs.Ahead.{AreGroupsFound};
-ghost use Rattle.regex_lite.specs.Scanning.{AreSlotsOf, HasSlotsForGroups, TellsMatchWithSlots};
+ghost use Rattle.regex_lite.specs.Scanning.{AreSlotsOf, HasSlotsForGroups, IsAnswerIfEmpty, TellsMatchWithSlots};
 ghost use Rattle.regex_lite.specs.Searches.{CanStartAt};
 
 use crate::string::captures::Captures;
@@ -50,6 +50,7 @@ impl<'r> Searcher<'r> {
     pub fn find_at<'h>(&mut self, haystack: &'h str, start: usize) -> Option<Match<'h>>
         requires { CanStartAt haystack.now start }
         ensures found { TellsMatchWithSlots self.old.regex haystack.now start self.new.slots result }
+        ensures empty { IsAnswerIfEmpty self.old.regex haystack.now result }
         ensures regex { self.new.regex ≡ self.old.regex }
         ensures slots { length self.new.slots ≡ length self.old.slots }
     {

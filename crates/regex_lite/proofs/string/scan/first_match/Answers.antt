@@ -1,0 +1,17 @@
+use Rattle.std.proofs.Common.{inr}
+use Rattle.std.proofs.lemmas.Str.{IsCharBoundary-start}
+use Rattle.regex_lite.specs.MatchViews.{span_of_match}
+use Rattle.regex_lite.specs.Scanning.{IsMatchWithSlots}
+use Rattle.regex_lite.proofs.string.NextLemmas.{first_told, match_meant}
+use Rattle.regex_lite.proofs.string.scan.first_match.Goals as goal
+
+pub find_at-requires : goal.find_at-requires
+find_at-requires c = inr (IsCharBoundary-start _ c.utf8.haystack)
+
+pub returns-clause-next : goal.returns-clause-next
+returns-clause-next c =
+    let re = c.args.searcher.now.regex in
+    let bytes = c.args.haystack.now in
+    let slots = c.find_at.new.self.slots in
+    first_told (λ tree. IsMatchWithSlots bytes slots) (IsMatchWithSlots bytes slots) span_of_match re bytes
+    c.utf8.haystack (match_meant re bytes slots) c.find_at.result (IsCharBoundary-start _ c.utf8.haystack) c.find_at.ensures.found
