@@ -7,6 +7,7 @@ use crate::string::captures::Captures;
 use crate::string::group_scan::GroupScan;
 use crate::string::regex::Regex;
 use regex_lite_syntax::Error;
+use std::fmt;
 use std::iter::FusedIterator;
 
 impl Regex {
@@ -42,7 +43,7 @@ impl Regex {
 ///
 /// After the last match, and after an error, it gives `None`, and goes on giving it. The groups
 /// borrow the haystack alone, and outlive the iterator and the regex.
-#[derive(Debug, Drop)]
+#[derive(Drop)]
 pub struct CaptureMatches<'r, 'h> {
     pub(super) scan: GroupScan<'r, 'h>,
 }
@@ -80,3 +81,10 @@ impl<'r, 'h> Iterator for CaptureMatches<'r, 'h> {
 }
 
 impl<'r, 'h> FusedIterator for CaptureMatches<'r, 'h> {}
+
+/// Writes the regex, and where the iterator stands.
+impl<'r, 'h> fmt::Debug for CaptureMatches<'r, 'h> {
+    fn fmt<W: fmt::Write>(&self, f: &mut fmt::Formatter<W>) -> fmt::Result {
+        self.scan.fmt_as("CaptureMatches", f)
+    }
+}

@@ -2,10 +2,11 @@
 ghost use Rattle.std.specs.Prelude.{◌≡◌, ◌↔◌, IsTrue, Some, None, IsCharBoundary, false, unwrap_or};
 
 use crate::string::matches::Match;
+use std::fmt;
 
 /// A haystack, where the last match of it ended, whether that was empty, and how many may still
 /// come.
-#[derive(Clone, Copy, Debug)]
+#[derive(Clone, Copy)]
 pub(super) struct Cursor<'h> {
     pub haystack: &'h str,
     pub ended: Option<usize>,
@@ -69,5 +70,16 @@ impl<'h> Cursor<'h> {
             was_empty: self.was_empty,
             limit: Some(0),
         }
+    }
+}
+
+/// Writes the haystack, where the last match ended and how many may still come.
+impl<'h> fmt::Debug for Cursor<'h> {
+    fn fmt<W: fmt::Write>(&self, f: &mut fmt::Formatter<W>) -> fmt::Result {
+        f.debug_struct("Cursor")
+            .field("haystack", &self.haystack)
+            .field("ended", &self.ended)
+            .field("limit", &self.limit)
+            .finish()
     }
 }

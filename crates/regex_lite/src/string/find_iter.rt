@@ -7,6 +7,7 @@ use crate::string::matches::Match;
 use crate::string::regex::Regex;
 use crate::string::scan::Scan;
 use regex_lite_syntax::Error;
+use std::fmt;
 use std::iter::FusedIterator;
 
 impl Regex {
@@ -41,7 +42,7 @@ impl Regex {
 ///
 /// After the last match it gives `None`, and goes on giving it. The matches borrow the haystack
 /// alone, and outlive the iterator and the regex.
-#[derive(Debug, Drop)]
+#[derive(Drop)]
 pub struct Matches<'r, 'h> {
     pub(super) scan: Scan<'r, 'h>,
 }
@@ -78,3 +79,10 @@ impl<'r, 'h> Iterator for Matches<'r, 'h> {
 }
 
 impl<'r, 'h> FusedIterator for Matches<'r, 'h> {}
+
+/// Writes the regex, and where the iterator stands.
+impl<'r, 'h> fmt::Debug for Matches<'r, 'h> {
+    fn fmt<W: fmt::Write>(&self, f: &mut fmt::Formatter<W>) -> fmt::Result {
+        self.scan.fmt_as("Matches", f)
+    }
+}

@@ -7,10 +7,11 @@ use crate::string::captures::Captures;
 use crate::string::regex::Regex;
 use crate::string::scan::Scan;
 use regex_lite_syntax::Error;
+use std::fmt;
 use std::marker::Model;
 
 /// A scan whose matches have two slots for each group.
-#[derive(Debug, Drop)]
+#[derive(Drop)]
 pub(super) struct GroupScan<'r, 'h> {
     scan: Scan<'r, 'h>,
 }
@@ -54,5 +55,10 @@ impl<'r, 'h> GroupScan<'r, 'h> {
                 Some(Err(error))
             }
         }
+    }
+
+    /// Writes its parts as those of an iterator with this name.
+    pub fn fmt_as<W: fmt::Write>(&self, name: &str, f: &mut fmt::Formatter<W>) -> fmt::Result {
+        self.scan.fmt_as(name, f)
     }
 }

@@ -12,10 +12,11 @@ use crate::string::matches::Match;
 use crate::string::regex::Regex;
 use crate::string::searcher::Searcher;
 use regex_lite_syntax::Error;
+use std::fmt;
 use std::marker::Model;
 
 /// A searcher, and where it stands in the haystack that it goes over.
-#[derive(Debug, Drop)]
+#[derive(Drop)]
 pub(super) struct Scan<'r, 'h> {
     searcher: Searcher<'r>,
     cursor: Cursor<'h>,
@@ -111,6 +112,14 @@ impl<'r, 'h> Scan<'r, 'h> {
         ensures limit { self.new.limit ≡ Some 0 }
     {
         self.cursor = cursor.at_end();
+    }
+
+    /// Writes its parts as those of an iterator with this name.
+    pub fn fmt_as<W: fmt::Write>(&self, name: &str, f: &mut fmt::Formatter<W>) -> fmt::Result {
+        f.debug_struct(name)
+            .field("searcher", &self.searcher)
+            .field("cursor", &self.cursor)
+            .finish()
     }
 }
 
