@@ -31,3 +31,5 @@ pub use Rattle.regex_lite_engine.specs.Search
 pub mod Compiled
 pub mod Scanning
 pub mod NextMatch
+-- What those have that share what was built. No public contract rests on it.
+pub mod Owner

@@ -25,8 +25,8 @@ pub record Scanning : Type 0 where
   pub ended : Option ℕ
 
 -- what is told is the match that was found, and these are its slots
-pub record IsMatchWithSlots (haystack : List ℕ) (slots : List (Option ℕ)) (found : Found) (m : Match)
-    : Type 0 where
+pub record IsMatchWithSlots (haystack : List ℕ) (slots : List (Option ℕ)) (found : Found)
+    (m : Match) : Type 0 where
   pub is_match : IsMatchOf haystack found m
   pub has_slots : HasSlots (chars haystack) slots found.marks
 
@@ -37,7 +37,8 @@ TellsMatchWithSlots re haystack start slots told =
     TellsAnswer (λ tree. IsMatchWithSlots haystack slots) re haystack start told
 
 -- the slots are those of this answer of some search of the haystack
-abbrev pub AreSlotsOf : Expression → (haystack : List ℕ) → (slots : List (Option ℕ)) → Found → Type 0
+abbrev pub AreSlotsOf : Expression → (haystack : List ℕ) → (slots : List (Option ℕ)) → Found
+    → Type 0
 AreSlotsOf re haystack slots found =
     (s : ℕ) × IsAnswerOf re (chars haystack) s (Some found)
     × HasSlots (chars haystack) slots found.marks

@@ -22,10 +22,12 @@
 //!
 //! A [`RegexBuilder`] has the pattern read and written out by the two crates below; what it builds
 //! is shared by the clones of a [`Regex`] and by the [`Captures`] that it finds. `string` holds
-//! these types and the searches; `laws` holds what is true of the definitions alone.
+//! these types and the searches, and `owner` what they share by; `laws` holds what is true of the
+//! definitions alone.
 #![tactic(auto)]
 
 pub mod laws;
+mod owner;
 mod string;
 
 pub use regex_lite_engine::Steps;

@@ -13,6 +13,7 @@ mod hostile;
 mod limits;
 mod looks;
 mod matching;
+mod owners;
 mod pieces;
 mod refusals;
 mod replacements;

@@ -4,13 +4,13 @@ ghost use Rattle.regex_lite_syntax.specs.Errors.{out_of_memory};
 ghost use Rattle.regex_lite.specs.Settings.{default_settings};
 ghost use Rattle.regex_lite.specs.Expression.{Builds};
 
+use crate::owner::Shared;
 use crate::string::compiled::Compiled;
 use crate::string::regex::Regex;
 use regex_lite_engine::Graph;
 use regex_lite_syntax::{Config, Error, Flags, Hir};
 use std::alloc::Global;
 use std::marker::Model;
-use std::rc::Rc;
 
 /// A pattern with the settings under which it is to be built.
 ///
@@ -244,7 +244,7 @@ impl RegexBuilder {
             flags: config.flags,
             graph,
         };
-        let compiled = Rc::new(alloc, compiled)?;
+        let compiled = Shared::new(alloc, compiled)?;
         Ok(Regex { alloc, compiled })
     }
 }

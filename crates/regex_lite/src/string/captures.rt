@@ -3,6 +3,7 @@ ghost use Rattle.std.specs.Prelude.{◌≡◌, ◌≤◌, Some, IsSome, IfSome, 
 ghost use Rattle.regex_lite.specs.Groups.{AreGroups, group_span, group_text, named_span, named_text};
 ghost use Rattle.regex_lite.specs.Compiled.{groups_of};
 
+use crate::owner::Shared;
 use crate::string::captures_in::CapturesIn;
 use crate::string::compiled::Compiled;
 use crate::string::locations::CaptureLocations;
@@ -11,7 +12,6 @@ use crate::string::sub_captures::SubCaptureMatches;
 use std::fmt;
 use std::marker::Model;
 use std::ops::Deref;
-use std::rc::Rc;
 
 /// The groups of a match: where each matched last, if it took part.
 ///
@@ -60,10 +60,10 @@ impl<'h> Captures<'h> {
     pub(super) fn new(
         haystack: &'h str,
         slots: Vec<Option<usize>>,
-        compiled: Rc<Compiled>,
+        compiled: Shared<Compiled>,
     ) -> Captures<'h>
-        requires { AreGroups (groups_of haystack.now slots.items compiled.value) }
-        ensures { result ≡ groups_of haystack.now slots.items compiled.value }
+        requires { AreGroups (groups_of haystack.now slots.items compiled) }
+        ensures { result ≡ groups_of haystack.now slots.items compiled }
     {
         Captures {
             inner: CapturesIn::new(haystack, slots, compiled),

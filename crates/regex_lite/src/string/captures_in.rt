@@ -4,10 +4,11 @@ ghost use Rattle.std.specs.Rc.{rc_str_bytes};
 ghost use Rattle.regex_lite.specs.Groups.{AreGroups, LiesIn, group_span, group_text, index_of, is_named, texts_from, whole_span};
 ghost use Rattle.regex_lite.specs.Compiled.{groups_of};
 
+use crate::owner::Shared;
 use crate::string::compiled::Compiled;
 use crate::string::locations::{CaptureLocations, span_in};
 use std::marker::Model;
-use std::rc::{Rc, RcStr};
+use std::rc::RcStr;
 
 /// A text that parts can be taken of: what [`CapturesIn`] asks of a haystack.
 pub trait Text: Copy {
@@ -38,7 +39,7 @@ pub struct CapturesIn<T: Text> {
     pub(super) haystack: T,
     /// Slots 2k and 2k + 1 are the start and the end of group k.
     slots: Vec<Option<usize>>,
-    compiled: Rc<Compiled>,
+    compiled: Shared<Compiled>,
 }
 
 impl<T: Text> Model for CapturesIn<T> {
@@ -48,17 +49,17 @@ impl<T: Text> Model for CapturesIn<T> {
     ghost Value = { Groups };
 
     ghost view = { λ caps.
-        groups_of (T.bytes caps.haystack) caps.slots.items caps.compiled.value };
+        groups_of (T.bytes caps.haystack) caps.slots.items caps.compiled };
 
     ghost invariant = { λ caps. AreGroups
-        (groups_of (T.bytes caps.haystack) caps.slots.items caps.compiled.value) };
+        (groups_of (T.bytes caps.haystack) caps.slots.items caps.compiled) };
 }
 
 impl<T: Text> CapturesIn<T> {
     /// The groups that these slots hold, of the regex that shares what was built.
-    pub(super) fn new(haystack: T, slots: Vec<Option<usize>>, compiled: Rc<Compiled>) -> Self
-        requires { AreGroups (groups_of (T.bytes haystack) slots.items compiled.value) }
-        ensures { result ≡ groups_of (T.bytes haystack) slots.items compiled.value }
+    pub(super) fn new(haystack: T, slots: Vec<Option<usize>>, compiled: Shared<Compiled>) -> Self
+        requires { AreGroups (groups_of (T.bytes haystack) slots.items compiled) }
+        ensures { result ≡ groups_of (T.bytes haystack) slots.items compiled }
     {
         CapturesIn {
             haystack,

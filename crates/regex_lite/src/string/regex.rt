@@ -1,23 +1,23 @@
 //! A regex: how one is made, cloned and printed.
-ghost use Rattle.std.specs.Prelude.{◌≡◌, Some, string_bytes};
+ghost use Rattle.std.specs.Prelude.{◌≡◌, Some, string_bytes, ⊤};
 ghost use Rattle.regex_lite.specs.Settings.{default_settings};
 ghost use Rattle.regex_lite.specs.Expression.{Builds};
 
+use crate::owner::Shared;
 use crate::string::builder::RegexBuilder;
 use crate::string::compiled::Compiled;
 use regex_lite_syntax::Error;
 use std::alloc::{AllocError, Global};
 use std::fmt;
 use std::marker::Model;
-use std::rc::Rc;
 
 /// A pattern that is ready to be searched for.
 ///
-/// Clones share what was built, so a clone costs little.
+/// Clones share what was built, so a clone costs little. It always succeeds.
 #[derive(Drop)]
 pub struct Regex {
     pub(super) alloc: Global,
-    pub(super) compiled: Rc<Compiled>,
+    pub(super) compiled: Shared<Compiled>,
 }
 
 impl Model for Regex {
@@ -29,11 +29,11 @@ impl Model for Regex {
     ghost use Rattle.regex_lite.specs.Compiled.{IsBuilt};
 
     ghost view = { λ regex. record {
-      pattern = string_bytes regex.compiled.value.pattern;
-      flags = regex.compiled.value.flags;
+      pattern = string_bytes regex.compiled.pattern;
+      flags = regex.compiled.flags;
     } };
 
-    ghost invariant = { λ regex. IsBuilt regex.compiled.value };
+    ghost invariant = { λ regex. IsBuilt regex.compiled };
 }
 
 impl Regex {
@@ -113,11 +113,9 @@ impl Regex {
 impl Clone for Regex {
     ghost is_clone = { λ old new. new ≡ old };
 
-    /// An equal regex. It takes no memory.
-    ///
-    /// # Errors
-    ///
-    /// Only where the regex has so many clones that no more can be counted.
+    ghost is_infallible = { λ _. ⊤ };
+
+    /// An equal regex. It takes no memory, and is never refused.
     fn clone(&self) -> Result<Regex, AllocError> {
         Ok(Regex {
             alloc: self.alloc,

@@ -93,7 +93,8 @@ impl<'r, 'h> Scan<'r, 'h> {
     /// The groups of the last match.
     pub fn captures(&self) -> Result<Captures<'h>, Error>
         requires room { HasSlotsForGroups self.now.regex self.now.slots }
-        requires found { (found : Found) × AreSlotsOf self.now.regex self.now.haystack self.now.slots found }
+        requires found { (found : Found)
+            × AreSlotsOf self.now.regex self.now.haystack self.now.slots found }
         ensures groups { IfOk result (λ groups. (found : Found)
             → AreSlotsOf self.now.regex self.now.haystack self.now.slots found
             → AreGroupsFound self.now.regex self.now.haystack found groups) }
@@ -156,7 +157,8 @@ fn first_match<'h>(searcher: &mut Searcher<'_>, haystack: &'h str) -> Option<Mat
 /// The match behind one that ended at this offset.
 fn match_behind<'h>(searcher: &mut Searcher<'_>, haystack: &'h str, end: usize) -> Option<Match<'h>>
     requires { IsCharBoundary haystack.now end }
-    ensures next { TellsNextMatch searcher.old.regex haystack.now (Some end) searcher.new.slots result }
+    ensures next { TellsNextMatch searcher.old.regex haystack.now (Some end) searcher.new.slots
+        result }
     ensures empty { IsAnswerIfEmpty searcher.old.regex haystack.now result }
     ensures regex { searcher.new.regex ≡ searcher.old.regex }
     ensures slots { length searcher.new.slots ≡ length searcher.old.slots }
@@ -177,7 +179,8 @@ fn match_behind_empty<'h>(
 ) -> Option<Match<'h>>
     requires boundary { IsCharBoundary haystack.now at }
     requires empty { IsEmptyFrom searcher.old.regex haystack.now at }
-    ensures next { TellsNextMatch searcher.old.regex haystack.now (Some at) searcher.new.slots result }
+    ensures next { TellsNextMatch searcher.old.regex haystack.now (Some at) searcher.new.slots
+        result }
     ensures empty { IsAnswerIfEmpty searcher.old.regex haystack.now result }
     ensures regex { searcher.new.regex ≡ searcher.old.regex }
     ensures slots { length searcher.new.slots ≡ length searcher.old.slots }

@@ -49,7 +49,8 @@ impl<'r> Searcher<'r> {
     /// [`Regex::find_at`], which is never refused here. The slots of the match are kept.
     pub fn find_at<'h>(&mut self, haystack: &'h str, start: usize) -> Option<Match<'h>>
         requires { CanStartAt haystack.now start }
-        ensures found { TellsMatchWithSlots self.old.regex haystack.now start self.new.slots result }
+        ensures found { TellsMatchWithSlots self.old.regex haystack.now start self.new.slots
+            result }
         ensures empty { IsAnswerIfEmpty self.old.regex haystack.now result }
         ensures regex { self.new.regex ≡ self.old.regex }
         ensures slots { length self.new.slots ≡ length self.old.slots }
@@ -61,7 +62,8 @@ impl<'r> Searcher<'r> {
     /// The groups of the last match, which was found in this haystack.
     pub fn captures<'h>(&self, haystack: &'h str) -> Result<Captures<'h>, Error>
         requires room { HasSlotsForGroups self.now.regex self.now.slots }
-        requires found { (found : Found) × AreSlotsOf self.now.regex haystack.now self.now.slots found }
+        requires found { (found : Found)
+            × AreSlotsOf self.now.regex haystack.now self.now.slots found }
         ensures groups { IfOk result (λ groups. (found : Found)
             → AreSlotsOf self.now.regex haystack.now self.now.slots found
             → AreGroupsFound self.now.regex haystack.now found groups) }

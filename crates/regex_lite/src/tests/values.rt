@@ -1,5 +1,5 @@
 //! What a regex and a builder print, and clones.
-use crate::{Regex, RegexBuilder};
+use crate::{Error, Match, NoExpand, Regex, RegexBuilder, SubCaptureMatches};
 use std::test::Fail;
 
 #[test]
@@ -15,15 +15,33 @@ fn printed(rt: HostRuntime) -> Result<(), Fail> {
     Ok(())
 }
 
+/// The clone of a value that promises one.
+fn clone_of<T: Clone>(value: &T) -> T
+    requires { T.is_infallible value.now }
+{
+    match value.clone() {
+        Ok(clone) => clone,
+        Err(_) => unreachable!(),
+    }
+}
+
 #[test]
 fn cloned(rt: HostRuntime) -> Result<(), Fail> {
-    let regex = Regex::new(rt.alloc(), "ab|c")?;
-    let copy = regex.clone()?;
-    assert!(rt; regex.is_match("xc")?);
-    drop(regex);
-    assert_eq!(rt; copy.as_str(), "ab|c");
-    assert!(rt; copy.is_match("xc")?);
-    assert!(rt; !copy.is_match("ba")?);
+    let regex = clone_of(&Regex::new(rt.alloc(), "(a)b|c")?);
+    assert_eq!(rt; regex.as_str(), "(a)b|c");
+    let names = clone_of(&regex.capture_names());
+    assert_eq!(rt; names.len(), 2);
+    let (found, steps) = regex.captures_counted_at("xab", 0)?;
+    assert!(rt; clone_of(&steps) == steps);
+    if let Some(caps) = found {
+        let groups: SubCaptureMatches<'_, '_> = clone_of(&caps.iter());
+        assert_eq!(rt; groups.len(), 2);
+        let whole: Option<Match<'_>> = caps.get(0);
+        assert!(rt; whole.map(|m| clone_of(&m)) == whole);
+    }
+    let error = clone_of(&Error::replace());
+    assert!(rt; clone_of(&error.kind()) == error.kind());
+    assert_eq!(rt; clone_of(&NoExpand("$")).0, "$");
     Ok(())
 }
 

@@ -15,11 +15,11 @@ new-caps-requires c =
     outcome.slots.items (
       c.self.invariant.tree,
       given,
-      outcome_of c.self.inside.compiled.value c.self.invariant c.deref.result.now.graph
+      outcome_of c.self.inside.compiled c.self.invariant c.deref.result.now.graph
           a.haystack.now a.start c.in_ok-outcome.outcome outcome
           (ap (λ compiled. compiled.graph) c.deref.ensures) c.in_ok-outcome.ensures.found
           c.in-Some.is,
-    ) c.self.inside.compiled.value c.self.invariant given len c.in_ok-compiled.compiled.value
+    ) c.self.inside.compiled c.self.invariant given len c.in_ok-compiled.compiled
     c.in_ok-compiled.ensures.cases
 
 pub returns-clause-found : goal.returns-clause-found
@@ -34,9 +34,9 @@ returns-clause-found c =
     outcome.slots.items (
       c.self.invariant.tree,
       given,
-      outcome_of c.self.inside.compiled.value c.self.invariant c.deref.result.now.graph
+      outcome_of c.self.inside.compiled c.self.invariant c.deref.result.now.graph
           a.haystack.now a.start c.in_ok-outcome.outcome outcome
           (ap (λ compiled. compiled.graph) c.deref.ensures) c.in_ok-outcome.ensures.found
           c.in-Some.is,
-    ) c.self.inside.compiled.value c.self.invariant given len c.in_ok-compiled.compiled.value
+    ) c.self.inside.compiled c.self.invariant given len c.in_ok-compiled.compiled
     c.in_ok-compiled.ensures.cases c.new-caps.result c.new-caps.ensures

@@ -13,7 +13,7 @@ new-found-requires c =
     outcome.slots.items (
       c.self.invariant.tree,
       given,
-      outcome_of c.self.inside.compiled.value c.self.invariant c.deref.result.now.graph
+      outcome_of c.self.inside.compiled c.self.invariant c.deref.result.now.graph
           a.haystack.now a.start c.in_ok-outcome.outcome outcome
           (ap (λ compiled. compiled.graph) c.deref.ensures) c.in_ok-outcome.ensures.found
           c.in-Some.is,
@@ -29,7 +29,7 @@ returns-clause-found c =
     outcome.slots.items (
       c.self.invariant.tree,
       given,
-      outcome_of c.self.inside.compiled.value c.self.invariant c.deref.result.now.graph
+      outcome_of c.self.inside.compiled c.self.invariant c.deref.result.now.graph
           a.haystack.now a.start c.in_ok-outcome.outcome outcome
           (ap (λ compiled. compiled.graph) c.deref.ensures) c.in_ok-outcome.ensures.found
           c.in-Some.is,

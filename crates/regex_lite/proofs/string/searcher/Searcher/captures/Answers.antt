@@ -16,8 +16,8 @@ new-requires c =
     let copied : slots ≡ held = c.copy_from_slice.ensures.items ∙ c.slots-found.ensures in
     let room = subst (λ (own : RegexSearching). HasSlotsForGroups own.regex own.slots) (sym c.self.view_is) c.requires.room in
     let is = subst (λ (own : RegexSearching). AreSlotsOf own.regex a.haystack.now own.slots c.requires.found.0) (sym c.self.view_is) c.requires.found.1 in
-    groups_held a.haystack.now c.utf8.haystack re c.regex.inside.compiled.value c.regex.invariant given held slots copied room
-    c.in_ok-compiled.compiled.value c.in_ok-compiled.ensures.cases c.requires.found.0 is
+    groups_held a.haystack.now c.utf8.haystack re c.regex.inside.compiled c.regex.invariant given held slots copied room
+    c.in_ok-compiled.compiled c.in_ok-compiled.ensures.cases c.requires.found.0 is
 
 pub returns-clause-groups : goal.returns-clause-groups
 returns-clause-groups c = λ found are.
@@ -31,5 +31,5 @@ returns-clause-groups c = λ found are.
     let room = subst (λ (own : RegexSearching). HasSlotsForGroups own.regex own.slots) (sym c.self.view_is) c.requires.room in
     let is = subst (λ (own : RegexSearching). AreSlotsOf own.regex a.haystack.now own.slots found) (sym c.self.view_is) are in
     subst (λ (own : RegexSearching). AreGroupsFound own.regex a.haystack.now found c.new.result) c.self.view_is
-    (groups_kept a.haystack.now c.utf8.haystack re c.regex.inside.compiled.value c.regex.invariant given held slots copied room
-    c.in_ok-compiled.compiled.value c.in_ok-compiled.ensures.cases found is c.new.result c.new.ensures)
+    (groups_kept a.haystack.now c.utf8.haystack re c.regex.inside.compiled c.regex.invariant given held slots copied room
+    c.in_ok-compiled.compiled c.in_ok-compiled.ensures.cases found is c.new.result c.new.ensures)

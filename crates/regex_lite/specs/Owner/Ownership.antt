@@ -1,0 +1,84 @@
+-- What a counted owner has. The owners of a block and their count go by the library's protocol for
+-- `Rc`, which lets its user say what a count is in memory. Here a count below the top is the word
+-- that is stored. A word at the top says nothing of the count, and the value is lent for ever.
+use Rattle.std.specs.Prelude.{ℕ, ◌^◌, ◌-◌, ◌<◌, ◌≡◌, Bool, true, false, []}
+use base.Fraction.{full_share}
+use base.Fml.{Lft, Fml, ftrue, fsep, fex, fwand}
+use mir.Raw.{raw}
+use mir.Syntax.{Ty}
+use denote.RattleType.{RattleType}
+use denote.Memory.{lone}
+use denote.RawPtr.{Ptr, block_of, count_of, lies_at, ◌+ₚ◌}
+use denote.Struct.Lending.{lent_at}
+use denote.RcWeak.{rc_cell_owns, rc_lends}
+use prog.Memory.{align, up}
+use Rattle.std.specs.Rc.Ownership.{counter_at}
+use Rattle.std.specs.contracts.impls.GlobalAllocator.TheImpl.{ghosts}
+use Rattle.regex_lite.specs.contracts.owner.counted.Block.{the_row}
+
+-- the right to free a place with this layout, which is that of every `Global`
+abbrev pub frees : Ty → Ptr → Fml
+frees = ghosts.dealloc_token (record { memory = record { seal = tt } })
+
+-- what a `&'static` to a value holds
+abbrev pub lent_for_ever : (R : RattleType) → (place : Ptr) → R.Denot → Fml
+lent_for_ever R place x = lent_at R place x []
+
+-- where a count stays
+abbrev pub top : ℕ
+top = 2 ^ 64 - 1
+
+-- what a stored word says where there are n owners: their number, below the top, or, at the top,
+-- that the value is lent for ever
+abbrev pub stands_for : (for_ever : Fml) → (n word : ℕ) → (below : Bool) → Fml
+stands_for for_ever n word true = fex ((word ≡ n) × (n < top)) (λ _. ftrue)
+stands_for for_ever n word false = fex (word ≡ top) (λ _. for_ever)
+
+abbrev pub is_stored : (for_ever : Fml) → (n word : ℕ) → Fml
+is_stored for_ever n word = fex Bool (stands_for for_ever n word)
+
+-- the count of n owners in memory
+abbrev pub count_at : Ptr → (for_ever : Fml) → (n : ℕ) → Fml
+count_at place for_ever n =
+    fex ℕ (λ word. fsep (counter_at place 0 word) (is_stored for_ever n word))
+
+-- no owner is a weak one: all of them are counted together as one
+abbrev pub only_one : ℕ → Fml
+only_one weak = fex (weak ≡ 1) (λ _. ftrue)
+
+module _ (R : RattleType) (place : Ptr) (x : R.Denot) where
+  abbrev pub Whole : RattleType
+  Whole = the_row R
+
+  -- the block with its first owner
+  abbrev pub whole : Whole.Denot
+  whole = record { count = 1; value = x }
+
+  abbrev pub value_place : Ptr
+  value_place = place +ₚ up (align (lone R.mir)) 8
+
+  -- what each owner has for a time: the value, borrowed
+  abbrev pub lends : Lft → Fml
+  lends = lent_at R value_place x
+
+  -- what the last owner has beside the value: the right to free the block, and that the count of
+  -- one and the value make the block again
+  abbrev pub block_back : Fml
+  block_back =
+      fsep (frees (raw (lone Whole.mir)) place)
+      (fwand (fsep (counter_at place 0 1) (lies_at R full_share value_place x))
+      (lies_at Whole full_share place whole))
+
+  abbrev pub owned : Fml
+  owned = fsep (lies_at R full_share value_place x) block_back
+
+  -- of an owner by value, and behind a `&`
+  abbrev pub owner_owns : Fml
+  owner_owns =
+      rc_cell_owns 64 (block_of place, count_of place) (count_at place (lends [])) only_one
+      owned ftrue ftrue lends
+
+  abbrev pub owner_shares : Lft → Fml
+  owner_shares =
+      rc_lends 64 (block_of place, count_of place) (count_at place (lends [])) only_one
+      owned ftrue ftrue lends

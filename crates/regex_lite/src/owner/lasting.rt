@@ -1,0 +1,38 @@
+//! The owners that no count holds.
+ghost use Rattle.std.specs.Prelude.{◌≡◌};
+ghost use Rattle.regex_lite.specs.Owner.Ownership.{lent_for_ever};
+
+use std::marker::Model;
+
+/// Where a value stands that stays for ever.
+///
+/// It is a `&'static` to the value, as a pointer: the borrow checker has no cover for what hands on
+/// a value with a `'static` in it together with other lifetimes.
+#[derive(Drop)]
+pub(super) struct Lasting<T> {
+    ptr: *const T,
+    pub ghost value: { T },
+}
+
+impl<T> Model for Lasting<T> {
+    ghost also_owns = { λ lasting. lent_for_ever T.row lasting.ptr lasting.value };
+
+    ghost also_shares = { λ lasting _ _. lent_for_ever T.row lasting.ptr lasting.value };
+}
+
+impl<T: 'static> Lasting<T> {
+    /// The value that is borrowed for ever.
+    pub(super) fn of(value: &'static T) -> Lasting<T>
+        ensures { result.value ≡ value.now }
+    {
+        let ptr = &raw const *value;
+        Lasting { ptr }
+    }
+
+    /// The value.
+    pub(super) fn value(&self) -> &'static T
+        ensures { result.now ≡ self.now.value }
+    {
+        unsafe { &*self.ptr }
+    }
+}

@@ -1,0 +1,37 @@
+//! A value on the heap whose box was taken apart.
+ghost use Rattle.std.specs.Prelude.{◌≡◌};
+ghost use Rattle.std.specs.Box.Ownership.{box_owns};
+
+use std::alloc::Allocator;
+use std::marker::Model;
+
+/// The place of a value on the heap, and the right to free it. It stands for the value's box while
+/// there is none.
+pub(super) struct Unboxed<T, A: Allocator> {
+    pub(super) ptr: *mut T,
+    pub(super) alloc: A,
+    pub(super) ghost value: { T },
+}
+
+impl<T, A: Allocator> Model for Unboxed<T, A> {
+    ghost also_owns = { λ unboxed.
+        box_owns (A.dealloc_token unboxed.alloc) T.row unboxed.ptr unboxed.value };
+}
+
+impl<T: Drop, A: Allocator> Unboxed<T, A> {
+    /// The value of this box.
+    pub(super) fn of(boxed: Box<T, A>) -> Unboxed<T, A>
+        ensures { result.value ≡ boxed.value }
+    {
+        let (ptr, alloc) = Box::into_raw_with_allocator(boxed);
+        Unboxed { ptr, alloc }
+    }
+
+    /// The box again.
+    pub(super) fn into_box(self) -> Box<T, A>
+        ensures { result.value ≡ self.value }
+    {
+        let Unboxed { ptr, alloc } = self;
+        unsafe { Box::from_raw(alloc, ptr) }
+    }
+}
