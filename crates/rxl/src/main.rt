@@ -14,18 +14,20 @@ mod tests;
 
 use fault::Fault;
 use program::run;
+use regex_lite::Error;
 use std::env::Env;
 use std::io::Eprint;
 use std::process::ExitCode;
 use std::{env, io};
 
 fn main(rt: HostRuntime) -> ExitCode {
-    let Ok(words) = arguments(&rt) else {
-        return misused(&rt);
+    let words = match arguments(&rt) {
+        Ok(words) => words,
+        Err(error) => return report(&rt, fault_of(error)),
     };
     let texts: Result<Vec<&str>, _> = words.iter().map(|word| word.as_str()).collect(rt.alloc());
     let Ok(args) = texts else {
-        return misused(&rt);
+        return report(&rt, Fault::Refused(Error::memory()));
     };
     let mut input = rt.reader();
     let mut out = io::writer(&rt);
@@ -43,8 +45,16 @@ fn arguments<R: Env + AllocGlobal>(rt: &R) -> io::Result<Vec<String>> {
     Ok(words)
 }
 
-/// Reports that there are no arguments that could be used.
-fn misused(rt: &impl Eprint) -> ExitCode {
-    let _ = eprintln!(rt; "{}", Fault::Usage);
+/// Why there are no arguments: memory is wanting, or one is no text, so that it is no command's.
+fn fault_of(error: io::Error) -> Fault {
+    match error.kind() {
+        io::ErrorKind::OutOfMemory => Fault::Refused(Error::memory()),
+        _ => Fault::Usage,
+    }
+}
+
+/// Reports the fault of a run that could not begin.
+fn report(rt: &impl Eprint, fault: Fault) -> ExitCode {
+    let _ = eprintln!(rt; "{fault}");
     ExitCode::from(2)
 }
