@@ -2,6 +2,7 @@
 //! meant. The wanted answers are those of the Rust crate `regex-lite`, unless a table says
 //! otherwise.
 mod capture_names;
+mod careless;
 mod classes;
 mod conversions;
 mod counts;

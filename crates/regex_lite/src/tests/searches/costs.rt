@@ -23,28 +23,43 @@ fn many_options(rt: HostRuntime) -> Result<(), Fail> {
     let (found, steps) = regex.find_counted_at(haystack.as_str(), 0)?;
     assert_eq!(rt; found.map(|m| m.range()), Some(0..30));
     expect_at_most(&rt, steps, 4743, 3813);
-    Ok(())
+    expect_none(&rt, &regex, 29, 4590, 3690)
 }
 
-/// No search of a pattern with two ways to go on at each character costs more than its bound.
+/// No search of a pattern with two ways to go on at each character costs more than its bound. A
+/// search of the shorter haystack may go depth first, one of the longer not.
 #[test]
 fn two_ways_at_each_character(rt: HostRuntime) -> Result<(), Fail> {
-    expect_linear(&rt, 1000, 12012, 10010)?;
-    expect_linear(&rt, 30000, 360_012, 300_010)
+    let regex = Regex::new(rt.alloc(), "(?:a|aa)+b")?;
+    expect_none(&rt, &regex, 1000, 12012, 10010)?;
+    expect_none(&rt, &regex, 30000, 360_012, 300_010)
 }
 
-/// Each search in so many a finds nothing, at this cost.
-fn expect_linear<H: Abort + AllocGlobal>(
+/// Nothing is found in so many a, by any call, and each search that is counted has this cost.
+fn expect_none<H: Abort + AllocGlobal>(
     rt: &H,
+    regex: &Regex,
     len: usize,
     tried: u128,
     entered: u128,
 ) -> Result<(), Fail> {
-    let regex = Regex::new(rt.alloc(), "(?:a|aa)+b")?;
     let haystack = "a".repeat(rt.alloc(), len)?;
-    for steps in costs_of_none(rt, &regex, haystack.as_str())? {
+    let haystack = haystack.as_str();
+    for steps in costs_of_none(rt, regex, haystack)? {
         expect_at_most(rt, steps, tried, entered);
     }
+    assert!(rt; !regex.is_match(haystack)?);
+    assert!(rt; regex.find(haystack)?.is_none() && regex.captures(haystack)?.is_none());
+    assert!(rt; regex.shortest_match(haystack)?.is_none());
+    let mut locations = regex.capture_locations()?;
+    assert!(rt; regex.captures_read(&mut locations, haystack)?.is_none());
+    assert!(rt; regex.find_iter(haystack)?.next().is_none());
+    assert!(rt; regex.captures_iter(haystack)?.next().is_none());
+    assert_eq!(rt; regex.split(haystack)?.next(), Some(haystack));
+    assert_eq!(rt; regex.splitn(haystack, 2)?.next(), Some(haystack));
+    assert_eq!(rt; regex.replace(haystack, "$0")?.as_str(), haystack);
+    assert_eq!(rt; regex.replace_all(haystack, "b")?.as_str(), haystack);
+    assert_eq!(rt; regex.replacen(haystack, 2, "b")?.as_str(), haystack);
     Ok(())
 }
 

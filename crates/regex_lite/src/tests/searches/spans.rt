@@ -43,9 +43,10 @@ fn beside_looks(rt: HostRuntime) -> Result<(), Fail> {
 }
 
 /// Groups, some of which take part more than once.
-const GROUPS: [GroupRow; 11] = [
+const GROUPS: [GroupRow; 12] = [
     ("(a*?)*b", "aab", "0..3 0..2"),
     ("(a*)*", "aab", "0..2 0..2"),
+    ("((((a*)*)*)*)*", "aab", "0..2 0..2 0..2 0..2 0..2"),
     ("(|a)*", "aaa", "0..0 0..0"),
     ("(a|ab)(bc|c)?", "abc", "0..3 0..1 1..3"),
     ("(?:a|ab)(?:c|bcd)(d*)", "abcd", "0..4 4..4"),
