@@ -11,7 +11,7 @@ TOP = Path(__file__).resolve().parent.parent
 LIBRARIES = ('regex_lite_syntax', 'regex_lite_engine', 'regex_lite')
 PARTS = ('src', 'specs', 'proofs')
 CALLER = 'caller'
-ENDING = '.txt'  # the gate refuses files that end in .rt outside the crates
+ENDING = '.txt'  # the gate refuses files of the language outside the crates
 
 
 def program_files(program):
@@ -20,9 +20,13 @@ def program_files(program):
     crates = [line for line in (TOP / 'crates.txt').read_text(encoding='utf-8').splitlines()
               if line.partition(':')[0] in LIBRARIES]
     found = {'crates.txt': '\n'.join([*crates, f'{program}: regex_lite', ''])}
-    for file in (TOP / 'tests' / program).glob(f'*.rt{ENDING}'):
+    folder = TOP / 'tests' / program
+    for file in folder.glob(f'*.rt{ENDING}'):
         name = file.name[:-len(ENDING)]
         found[f'crates/{program}/src/{name}'] = file.read_text(encoding='utf-8')
+    for file in folder.glob(f'proofs/**/*.antt{ENDING}'):
+        name = str(file.relative_to(folder))[:-len(ENDING)]
+        found[f'crates/{program}/{name}'] = file.read_text(encoding='utf-8')
     return found
 
 
