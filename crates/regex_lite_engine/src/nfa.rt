@@ -1,24 +1,26 @@
 //! The graph of a pattern: numbered places with ordered arrows.
-ghost use Rattle.std.specs.Prelude.{◌≡◌, ◌+◌, ◌^◌, ◌<◌, ℕ, length, map, option_map, slice_get, slice_index_or, Some, None, IfOk, IfErr};
+ghost use Rattle.std.specs.Prelude.{◌≡◌, ◌+◌, ◌^◌, ◌<◌, ℕ, length, map, option_map, slice_get, slice_index_or, sum_by, Some, None, IfOk, IfErr};
 ghost use Rattle.regex_lite_syntax.specs.Errors.{kind_of};
 ghost use Rattle.regex_lite_syntax.specs.Tree.Regular.{IsRegular};
 ghost use Rattle.regex_lite_syntax.specs.Tree.Properties.{captures_len, group_name};
 ghost use Rattle.regex_lite_syntax.specs.Tree.Views.{text_of_name, tree_of};
 ghost use Rattle.regex_lite_engine.specs.Graph.Renumbered.{arrows_of, IsGraphOf, HasGroupsOf};
 ghost use Rattle.regex_lite_engine.specs.Graph.Size.{Fits, IsDueToTree};
-ghost use Rattle.regex_lite_engine.specs.Graph.Places.{kept_back_of, reading_of};
+ghost use Rattle.regex_lite_engine.specs.Graph.Places.{kept_back_of, kept_back_with, reading_of};
 ghost use Rattle.regex_lite_engine.specs.Graph.Stored.{LeadsBelow, place_of, table_of};
 ghost use Rattle.regex_lite_engine.specs.Nfa.Saturation.{AreCountsOf};
 ghost use Rattle.regex_lite_engine.specs.Walk.Starts.{AreStartsOf};
 
 pub(crate) mod class;
 mod count;
+pub(crate) mod kept_back;
 pub(crate) mod place;
 pub(crate) mod starts;
 mod write;
 
 use crate::pikevm::steps::Steps;
 use count::Counts;
+use kept_back::KeptBack;
 use place::Place;
 use regex_lite_syntax::{Error, Hir};
 use starts::Starts;
@@ -37,6 +39,8 @@ pub struct Graph {
     arrows: usize,
     /// How many of its places read a character.
     reading: usize,
+    /// How much a search keeps back that enters each of them once.
+    kept_back: KeptBack,
     /// The names of the groups by index, shared with the tree.
     capture_names: Vec<Option<RcStr>>,
     static_captures_len: Option<usize>,
@@ -47,7 +51,7 @@ pub struct Graph {
 impl Model for Graph {
     ghost use Rattle.std.specs.Prelude.{◌≡◌, map};
     ghost use Rattle.regex_lite_engine.specs.Graph.Renumbered.{arrows_of};
-    ghost use Rattle.regex_lite_engine.specs.Graph.Stored.{StoredGraph, IsClosed, place_of};
+    ghost use Rattle.regex_lite_engine.specs.Graph.Stored.{StoredGraph, IsClosed, IsKeptBackOf, place_of};
     ghost use Rattle.regex_lite_engine.specs.Walk.Starts.{AreStartsOf};
 
     ghost Value = { StoredGraph };
@@ -65,7 +69,8 @@ impl Model for Graph {
     ghost invariant = { λ graph.
         IsClosed graph.places.items graph.start graph.arrows graph.reading
         × (arrows_of (map place_of graph.places.items) ≡ graph.arrows)
-        × AreStartsOf (map place_of graph.places.items) graph.start graph.starts };
+        × AreStartsOf (map place_of graph.places.items) graph.start graph.starts
+        × IsKeptBackOf (map place_of graph.places.items) graph.kept_back };
 }
 
 impl Graph {
@@ -93,12 +98,14 @@ impl Graph {
         let count = counts.within(size_limit)?;
         let capture_names = capture_names(alloc, hir, &counts)?;
         let (places, start) = write_out(alloc, hir, count)?;
+        let kept_back = KeptBack::of(&places);
         let starts = Starts::of(hir);
         Ok(Graph {
             places,
             start,
             arrows: counts.arrows(),
             reading: counts.reading(),
+            kept_back,
             capture_names,
             static_captures_len: counts.static_captures_len(),
             starts,
@@ -161,6 +168,17 @@ impl Graph {
         ensures few_arrows { arrows_of (table_of self.now) < 2 ^ 34 }
     {
         self.reading
+    }
+
+    /// How much a search with so many slots keeps back that enters each place once.
+    pub(crate) fn kept_back(&self, slots: usize) -> usize
+        ensures { result ≡ sum_by (kept_back_with slots) (table_of self.now) }
+    {
+        if slots == 0 {
+            self.kept_back.without_slots
+        } else {
+            self.kept_back.with_slots
+        }
     }
 
     /// The names of the groups by index, group 0 first.

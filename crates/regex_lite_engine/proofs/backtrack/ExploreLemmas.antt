@@ -1,11 +1,11 @@
 -- From one start to the end of its ways.
-use Rattle.std.proofs.Common.{◌≡◌, ℕ, ◌≤◌, Bool, true, false, List, [], ◌∷◌, length, chars, Option, Some, None, refl, sym, ap, subst, ◌∙◌, arith}
+use Rattle.std.proofs.Common.{◌≡◌, ℕ, ◌+◌, ◌≤◌, Bool, true, false, List, [], ◌∷◌, length, chars, Option, Some, None, refl, sym, ap, subst, ◌∙◌, arith}
 use Rattle.regex_lite_engine.specs.declared.backtrack.walk.Walk.{Walk}
 use Rattle.regex_lite_engine.specs.Backtrack.Machine.{Frame, Pairs, explore}
-use Rattle.regex_lite_engine.specs.Backtrack.Room.{explores, due_entries, due_tries, work, FramesBelow, Goes, IsFit, HasRoom, Keeps, Leads, WalksTo}
+use Rattle.regex_lite_engine.specs.Backtrack.Room.{explores, due_entries, due_tries, work, left_of, FramesBelow, Goes, IsFit, HasRoom, Keeps, Leads, WalksTo}
 use Rattle.regex_lite_engine.specs.Backtrack.Searching.{Explores, Unwinds, taken_up}
 use Rattle.regex_lite_engine.specs.Backtrack.Walking.{IsWalking}
-use Rattle.regex_lite_engine.specs.Graph.Places.{Place}
+use Rattle.regex_lite_engine.specs.Graph.Places.{Place, kept_back_with}
 use Rattle.regex_lite_engine.specs.Search.Bounds.{StepCounts}
 use Rattle.regex_lite_engine.specs.Search.Offsets.{position_at}
 use Rattle.regex_lite_engine.proofs.backtrack.UnwindLemmas.{none_left, unwinds_below, unwinds_explores, unwinds_fewer}
@@ -109,7 +109,8 @@ module _ (table : List (Place ℕ)) (haystack : List ℕ) where
             all = fit.all;
             below = subst (λ width. FramesBelow table haystack walk'.visited.first width (taken_up next walk''.stack.frames)) (sym row)
                 (unwinds_below next walk''.stack.row walk''.stack.frames table haystack walk'.visited.first (length walk'.stack.row) walk'.stack.row frames' unwinds fit.below);
-            stack_room = (let a = fit.stack_room in let b = fewer in omega (arith, a, b, room));
+            stack_room = subst (λ width. length (taken_up next walk''.stack.frames) + left_of table haystack (kept_back_with width) walk'.visited ≤ walk''.stack.room + 1)
+                (sym row) (let a = fit.stack_room in let b = fewer in omega (arith, a, b, room));
             few_tries = (let a = fit.few_tries in let b = explored in omega (arith, a, b));
             few_entries = fit.few_entries;
             entered_tried = fit.entered_tried;

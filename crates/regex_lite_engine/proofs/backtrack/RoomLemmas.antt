@@ -1,5 +1,5 @@
 -- What entering a place adds to what is left to do.
-use Rattle.std.proofs.Common.{◌≡◌, ℕ, suc, ◌+◌, ◌<◌, ◌≤◌, inl, inr, Bool, true, false, List, [], ◌∷◌, ◌++◌, length, map, if◌then◌else◌, Option, Some, None, refl, sym, ap, subst, ◌∙◌, arith, length-append, length-set}
+use Rattle.std.proofs.Common.{◌≡◌, ℕ, zero, suc, ◌+◌, ◌<◌, ◌≤◌, inl, inr, Bool, true, false, List, [], ◌∷◌, ◌++◌, length, map, slice_set, slice_index_or, if◌then◌else◌, Option, Some, None, refl, sym, ap, subst, ◌∙◌, arith, length-append, length-set}
 use Rattle.std.specs.Prelude.{IsUtf8, IsCharBoundary, chars}
 use Rattle.std.specs.Char.{len_utf8}
 use Rattle.std.proofs.lemmas.List.{length-map}
@@ -12,15 +12,14 @@ use Rattle.regex_lite_syntax.specs.Tree.Looks.{holds_between}
 use Rattle.regex_lite_engine.specs.declared.nfa.place.Place as code
 use Rattle.regex_lite_engine.specs.declared.nfa.place.Place.TheVariants as stored
 use Rattle.regex_lite_engine.specs.Backtrack.Entering.{Enters, read_on}
-use Rattle.regex_lite_engine.specs.Backtrack.Machine.{Frame, explore}
+use Rattle.regex_lite_engine.specs.Backtrack.Machine.{Frame, explore, restore}
 use Rattle.regex_lite_engine.specs.Backtrack.Room.{explores, FramesBelow}
-use Rattle.regex_lite_engine.specs.Graph.Places.{Place, go, one_of, kept_back}
+use Rattle.regex_lite_engine.specs.Graph.Places.{Place, with_arrows, go, go_marking, one_of, kept_back_with}
 use Rattle.regex_lite_engine.specs.Graph.Renumbered.{arrow_count}
 use Rattle.regex_lite_engine.specs.Graph.Stored.{LeadBelow, LeadsBelow, place_of}
 use Rattle.regex_lite_engine.specs.Search.Offsets.{position_at}
 use Rattle.regex_lite_engine.specs.Walk.Machine.{Row}
 use Rattle.regex_lite_engine.proofs.OffsetLemmas.{boundary_at, offset_next}
-use Rattle.regex_lite_engine.proofs.pikevm.RoomLemmas.{entries_kept}
 use Rattle.regex_lite_engine.proofs.pikevm.here.OffsetLemmas.{position_is}
 
 explores_map : (qs : List ℕ) (at : ℕ) (frames : List Frame)
@@ -33,6 +32,11 @@ length_pushed : (qs : List ℕ) (at : ℕ) (frames : List Frame)
 length_pushed qs at frames =
     length-append (map (λ q. explore q at) qs) frames
     ∙ ap (λ n. n + length frames) (length-map qs (λ q. explore q at))
+
+-- arrows that mark nothing leave all but one behind
+entries_left : (slots : ℕ) (qs : List ℕ) → length qs ≤ kept_back_with slots (with_arrows (map (λ q. go q) qs)) + 1
+entries_left slots [] = omega arith
+entries_left slots (q ∷ qs) = let size = length-map qs (λ (q : ℕ). go q) in omega (arith, size)
 
 module _ (haystack : Text) (p at : ℕ) (row row' : Row) (frames frames' : List Frame) (done : Bool) where
   -- so many arrows, and so much that is kept back
@@ -62,14 +66,23 @@ module _ (haystack : Text) (p at : ℕ) (row row' : Row) (frames frames' : List 
 
   few_class : (ranges : List ClassRange) (next : Option ℕ) (to : ℕ)
       → frames' ≡ read_on at (in_ranges ranges) next to frames → row' ≡ row
-      → IsFew (arrow_count (one_of ranges to)) (kept_back (one_of ranges to))
+      → IsFew (arrow_count (one_of ranges to)) (kept_back_with (length row) (one_of ranges to))
   few_class [] None to is same = few_pushed [] 0 0 is same (omega arith) (omega arith)
   few_class [] (Some c) to is same = few_pushed [] 0 0 is same (omega arith) (omega arith)
   few_class (range ∷ ranges) next to is same = few_read (in_ranges (range ∷ ranges)) next to is same
 
-  -- it adds no more frames than the place has arrows, or keeps back
+  -- the first of them marks a slot, where so many are kept
+  few_marked : (width slot to : ℕ) → slot < width → frames' ≡ explore to at ∷ (restore slot (slice_index_or row slot None) ∷ frames)
+      → row' ≡ slice_set row slot (Some at) → IsFew 1 (kept_back_with width (with_arrows (go_marking slot to ∷ [])))
+  few_marked zero slot to lt is marked = absurd (omega (arith, lt))
+  few_marked (suc width) slot to lt is marked =
+      let found : explores frames' ≡ explores frames + 1 = ap explores is in
+      let size : length frames' ≡ length frames + 2 = ap length is ∙ omega arith in
+      (omega (arith, found), omega (arith, size), omega (arith, size), ap length marked ∙ length-set row slot (Some at))
+
+  -- it adds no more frames than the place has arrows, or leaves behind
   pub enters_few : (x : code.Place) → Enters haystack p at x row frames row' frames' done
-      → IsFew (arrow_count (place_of x)) (kept_back (place_of x))
+      → IsFew (arrow_count (place_of x)) (kept_back_with (length row) (place_of x))
   enters_few (stored.Empty to) (same, is, going) = few_pushed (to ∷ []) 1 0 is same (omega arith) (omega arith)
   enters_few (stored.Char c to) (same, is, going) = few_read (just c) (after haystack p) to is same
   enters_few (stored.Class to set) (same, is, going) = few_class set (after haystack p) to is same
@@ -78,16 +91,14 @@ module _ (haystack : Text) (p at : ℕ) (row row' : Row) (frames frames' : List 
       by_test : (b : Bool) → frames' ≡ (if b then explore to at ∷ frames else frames) → IsFew 1 0
       by_test true e = few_pushed (to ∷ []) 1 0 e same (omega arith) (omega arith)
       by_test false e = few_pushed [] 1 0 e same (omega arith) (omega arith)
-  enters_few (stored.Slot slot to) (inl (within, marked, is), going) =
-      let found : explores frames' ≡ explores frames + 1 = ap explores is in
-      let size : length frames' ≡ length frames + 2 = ap length is ∙ omega arith in
-      (omega (arith, found), omega (arith, size), omega (arith, size), ap length marked ∙ length-set row slot (Some at))
-  enters_few (stored.Slot slot to) (inr (past, same, is), going) = few_pushed (to ∷ []) 1 1 is same (omega arith) (omega arith)
+  enters_few (stored.Slot slot to) (inl (within, marked, is), going) = few_marked (length row) slot to within is marked
+  enters_few (stored.Slot slot to) (inr (past, same, is), going) =
+      few_pushed (to ∷ []) 1 (kept_back_with (length row) (place_of (stored.Slot slot to))) is same (omega arith) (omega arith)
   enters_few (stored.Choice first second) (same, is, going) =
       few_pushed (first ∷ (second ∷ [])) 2 1 is same (omega arith) (omega arith)
   enters_few (stored.Branches entries) (same, is, going) =
-      few_pushed entries.items (length (map (λ q. go q) entries.items)) (kept_back (place_of (stored.Branches entries))) is same
-      (let size = length-map entries.items (λ (q : ℕ). go q) in omega (arith, size)) (entries_kept entries.items)
+      few_pushed entries.items (length (map (λ q. go q) entries.items)) (kept_back_with (length row) (place_of (stored.Branches entries))) is same
+      (let size = length-map entries.items (λ (q : ℕ). go q) in omega (arith, size)) (entries_left (length row) entries.items)
   enters_few stored.Match (same, is, ends) = few_pushed [] 0 0 is same (omega arith) (omega arith)
 
 module _ (table : List (Place ℕ)) (haystack : List ℕ) (utf8 : IsUtf8 haystack) (first at : ℕ)

@@ -1,9 +1,9 @@
 -- What holds of a depth-first search between two starts, from the first to the last.
-use Rattle.std.proofs.Common.{◌≡◌, ℕ, ◌+◌, ◌-◌, ◌*◌, ◌<◌, ◌≤◌, ◌⊎◌, inl, inr, false, List, [], ◌∷◌, length, drop, sum_by, chars, Option, None, Some, refl, ap, subst, ◌∙◌, arith}
+use Rattle.std.proofs.Common.{◌≡◌, ℕ, ◌+◌, ◌-◌, ◌*◌, ◌<◌, ◌≤◌, ◌⊎◌, inl, inr, false, List, [], ◌∷◌, length, drop, sum_by, chars, Option, None, Some, refl, sym, ap, subst, ◌∙◌, arith}
 use Rattle.std.specs.Prelude.{IsUtf8, IsCharBoundary, is_some}
 use Rattle.std.proofs.lemmas.List.{length-drop}
 use Rattle.std.proofs.lemmas.Str.{IsUtf8-drop}
-use Rattle.std.proofs.Math.Nat.{mul-le-mul_left, mul-le-mul_right, suc-mul}
+use Rattle.std.proofs.Math.Nat.{mul-le-mul_left, suc-mul}
 use Rattle.regex_lite_syntax.specs.Text.{Text}
 use Rattle.regex_lite_engine.specs.declared.backtrack.walk.Walk.{Walk}
 use Rattle.regex_lite_engine.specs.declared.pikevm.here.Here.{Here}
@@ -11,7 +11,7 @@ use Rattle.regex_lite_engine.specs.Backtrack.Machine.{explore}
 use Rattle.regex_lite_engine.specs.Backtrack.Room.{HasRoom, left_of}
 use Rattle.regex_lite_engine.specs.Backtrack.Searching.{Explores, IsFresh, IsUnderWay}
 use Rattle.regex_lite_engine.specs.Backtrack.Walking.{IsWalking}
-use Rattle.regex_lite_engine.specs.Graph.Places.{Place, kept_back, kept_back_of}
+use Rattle.regex_lite_engine.specs.Graph.Places.{Place, kept_back_with}
 use Rattle.regex_lite_engine.specs.Graph.Renumbered.{arrow_count, arrows_of}
 use Rattle.regex_lite_engine.specs.Search.Bounds.{characters_left}
 use Rattle.regex_lite_engine.specs.Search.Offsets.{position_at, IsOffset}
@@ -69,8 +69,8 @@ module _ (table : List (Place ℕ)) (haystack : List ℕ) (utf8 : IsUtf8 haystac
       left_blank table haystack f walk.visited (length table * (bytes_left + 1)) fresh.none
       ∙ ap (λ z. sum_by f table * (characters_left (chars haystack) (position_at haystack z) + 1)) fresh.first
 
-  kept_fits : kept_back_of table * (left + 1) ≤ kept_back_of table * (bytes_left + 1)
-  kept_fits = let few = few_left in mul-le-mul_left (kept_back_of table) (omega (arith, few))
+  kept_fits : (kept : ℕ) → kept * (left + 1) ≤ kept * (bytes_left + 1)
+  kept_fits kept = let few = few_left in mul-le-mul_left kept (omega (arith, few))
 
   -- a search that has not begun
   pub begun : (walk : Walk) → CanCount table left → IsFresh table haystack start walk
@@ -82,31 +82,29 @@ module _ (table : List (Place ℕ)) (haystack : List ℕ) (utf8 : IsUtf8 haystac
       let looked = fresh.looked in
       let arrows : left_of table haystack arrow_count walk.visited ≡ arrows_of table * (left + 1)
       = all_left walk fresh arrow_count in
-      let kept : left_of table haystack kept_back walk.visited ≡ kept_back_of table * (left + 1)
-      = all_left walk fresh kept_back in
+      let keeps : Place ℕ → ℕ = kept_back_with (length walk.stack.row) in
+      let kept : left_of table haystack keeps walk.visited ≡ sum_by keeps table * (left + 1)
+      = all_left walk fresh keeps in
       let each : left_of table haystack lone walk.visited ≡ length table * (left + 1)
       = all_left walk fresh lone ∙ ap (λ z. z * (left + 1)) (lone_all table) in
       let one_more = suc-mul (arrows_of table) (left + 1) in
       let few_tries = counts.tries in
       let few_entries = counts.entries in
-      let few_kept = fresh.few_kept_back in
-      let most : kept_back_of table * (bytes_left + 1) ≤ length table * (bytes_left + 1)
-      = mul-le-mul_right (bytes_left + 1) (omega (arith, few_kept)) in
       let room = fresh.room in
-      let fits = kept_fits in
+      let fits = kept_fits (sum_by keeps table) in
       record {
         low = omega arith;
         first = fresh.first;
         fit = record {
           all = fresh.all;
           below = tt;
-          stack_room = omega (arith, kept, fits, most, room);
+          stack_room = omega (arith, kept, fits, room);
           few_tries = omega (arith, tried, arrows, one_more, few_tries);
           few_entries = omega (arith, entered, each, few_entries);
           entered_tried = omega (arith, entered);
           looked_entered = omega (arith, looked);
         };
-        room = omega (arith, most, room);
+        room = room;
         empty = fresh.frames;
         walking = walk_begun table (chars haystack) s first (length table * (bytes_left + 1)) 0 walk.visited
             walk.stack.row fresh.none fresh.blank;
@@ -129,11 +127,12 @@ module _ (table : List (Place ℕ)) (haystack : List ℕ) (utf8 : IsUtf8 haystac
         let there = is.1 in
         let begins = on.first in
         let inside = is.0 in
-        let most : left_of table haystack kept_back walk.visited ≤ kept_back_of table * (left + 1)
-        = subst (λ z. left_of table haystack kept_back walk.visited
-        ≤ kept_back_of table * (characters_left (chars haystack) (position_at haystack z) + 1))
-        on.first (left_most table haystack kept_back walk.visited) in
-        let fits = kept_fits in
+        let keeps : Place ℕ → ℕ = kept_back_with (length walk.stack.row) in
+        let most : left_of table haystack keeps walk.visited ≤ sum_by keeps table * (left + 1)
+        = subst (λ z. left_of table haystack keeps walk.visited
+        ≤ sum_by keeps table * (characters_left (chars haystack) (position_at haystack z) + 1))
+        on.first (left_most table haystack keeps walk.visited) in
+        let fits = kept_fits (sum_by keeps table) in
         let room = on.room in
         let tries = on.tries in
         let few = counts.tries in
@@ -165,7 +164,8 @@ module _ (table : List (Place ℕ)) (haystack : List ℕ) (utf8 : IsUtf8 haystac
           low = omega (arith, from);
           first = explores.kept.first ∙ on.first;
           fit = explores.fit refl;
-          room = omega (arith, room, same_room);
+          room = subst (λ width. sum_by (kept_back_with width) table * (bytes_left + 1) ≤ walk'.stack.room)
+              (sym explores.kept.row) (omega (arith, room, same_room));
           empty = explores.empty refl;
           walking = subst (λ z. IsWalking table (chars haystack) s first z 0 walk'.visited walk'.stack.row [])
               (omega arith)

@@ -1,5 +1,5 @@
 -- A frame was taken off: the memory still suffices, and the counts stay within what is left.
-use Rattle.std.proofs.Common.{◌≡◌, ℕ, ◌+◌, ◌≤◌, Bool, true, false, List, ◌∷◌, length, set, slice_get, slice_set, Some, refl, sym, ap, ◌∙◌, arith, length-set}
+use Rattle.std.proofs.Common.{◌≡◌, ℕ, ◌+◌, ◌≤◌, Bool, true, false, List, ◌∷◌, length, set, slice_get, slice_set, Some, refl, sym, ap, subst, ◌∙◌, arith, length-set}
 use Rattle.std.specs.Prelude.{IsUtf8, chars}
 use Rattle.std.proofs.lemmas.List.{set-get_or}
 use Rattle.regex_lite_engine.specs.declared.backtrack.walk.Walk.{Walk}
@@ -7,7 +7,7 @@ use Rattle.regex_lite_engine.specs.declared.nfa.place.Place as code
 use Rattle.regex_lite_engine.specs.Backtrack.Entering.{Enters}
 use Rattle.regex_lite_engine.specs.Backtrack.Machine.{Frame, explore, Pairs, Held, pair_number, was_entered}
 use Rattle.regex_lite_engine.specs.Backtrack.Room.{Goes, HasRoom, WalksTo, left_of}
-use Rattle.regex_lite_engine.specs.Graph.Places.{Place, kept_back}
+use Rattle.regex_lite_engine.specs.Graph.Places.{Place, kept_back_with}
 use Rattle.regex_lite_engine.specs.Graph.Renumbered.{arrow_count}
 use Rattle.regex_lite_engine.specs.Graph.Stored.{LeadsBelow, place_of}
 use Rattle.regex_lite_engine.specs.Search.Bounds.{StepCounts}
@@ -70,9 +70,9 @@ module _ (table : List (Place ℕ)) (haystack : List ℕ) (walk : Walk) (q at : 
         left_enter table haystack utf8 walk.visited fit.all f q (place_of x) got at fit.below.2 fit.below.1 new
 
     -- there is room for what entering the place keeps back
-    pub enter_room : length frames + kept_back (place_of x) ≤ walk.stack.room
+    pub enter_room : length frames + kept_back_with (length walk.stack.row) (place_of x) ≤ walk.stack.room
     enter_room =
-        let left = left_room table haystack utf8 walk.visited fit.all kept_back q (place_of x) got at fit.below.2 fit.below.1 new in
+        let left = left_room table haystack utf8 walk.visited fit.all (kept_back_with (length walk.stack.row)) q (place_of x) got at fit.below.2 fit.below.1 new in
         let room = fit.stack_room in
         omega (arith, left, room)
 
@@ -102,7 +102,7 @@ module _ (table : List (Place ℕ)) (haystack : List ℕ) (walk : Walk) (q at : 
         let longer = few.1 in
         let keeps = few.2 in
         let arrows_left = less_left arrow_count in
-        let kept_left = less_left kept_back in
+        let kept_left = less_left (kept_back_with (length walk.stack.row)) in
         let lone_left : left_of table haystack lone (entered_at walk.visited q at) + 1 ≡ left_of table haystack lone walk.visited
         = less_left lone in
         let work_left : left_of table haystack weight (entered_at walk.visited q at) + (arrow_count (place_of x) + 1)
@@ -122,7 +122,8 @@ module _ (table : List (Place ℕ)) (haystack : List ℕ) (walk : Walk) (q at : 
               all = length-set walk.visited.entered pair true ∙ fit.all.all;
             };
             below = within;
-            stack_room = omega (arith, kept_left, stack_room, keeps, same);
+            stack_room = subst (λ width. length frames' + left_of table haystack (kept_back_with width) (entered_at walk.visited q at) ≤ held'.room + 1)
+                (sym few.3) (omega (arith, kept_left, stack_room, keeps, same));
             few_tries = omega (arith, arrows_left, arrows, few_tries);
             few_entries = omega (arith, lone_left, few_entries);
             entered_tried = omega (arith, entered_tried);

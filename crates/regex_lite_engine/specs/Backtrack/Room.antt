@@ -3,7 +3,7 @@ use Rattle.std.specs.Prelude.{◌≡◌, ◌+◌, ◌-◌, ◌*◌, ◌^◌, ◌
 use Rattle.regex_lite_engine.specs.declared.backtrack.walk.Walk.{Walk}
 use Rattle.regex_lite_engine.specs.Backtrack.Machine.{Frame, explore, restore, Pairs, Held, pair_number}
 use Rattle.regex_lite_engine.specs.Backtrack.Walking.{IsWalking}
-use Rattle.regex_lite_engine.specs.Graph.Places.{Place, kept_back}
+use Rattle.regex_lite_engine.specs.Graph.Places.{Place, kept_back_with}
 use Rattle.regex_lite_engine.specs.Graph.Renumbered.{arrow_count}
 use Rattle.regex_lite_engine.specs.Search.Bounds.{characters_left}
 use Rattle.regex_lite_engine.specs.Search.Offsets.{offset, position_at}
@@ -69,7 +69,8 @@ module _ (table : List (Place ℕ)) (haystack : List ℕ) where
       (tried entered looked : ℕ) : Type 0 where
     pub all : AreAll pairs
     pub below : FramesBelow pairs.first (length held.row) frames
-    pub stack_room : length frames + left_of kept_back pairs ≤ held.room + 1
+    pub stack_room :
+        length frames + left_of (kept_back_with (length held.row)) pairs ≤ held.room + 1
     pub few_tries : due_tries pairs frames tried < 2 ^ 127
     pub few_entries : due_entries pairs entered < 2 ^ 127
     pub entered_tried : entered ≤ tried

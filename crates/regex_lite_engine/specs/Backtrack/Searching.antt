@@ -1,10 +1,10 @@
 -- A search that goes depth first, start by start.
-use Rattle.std.specs.Prelude.{◌≡◌, ◌+◌, ◌-◌, ◌*◌, ◌≤◌, ◌<◌, ℕ, false, List, [], ◌∷◌, length, chars, replicate, slice_set, Option, Some, None, is_some, unwrap_or}
+use Rattle.std.specs.Prelude.{◌≡◌, ◌+◌, ◌-◌, ◌*◌, ◌≤◌, ◌<◌, ℕ, false, List, [], ◌∷◌, length, chars, replicate, slice_set, Option, Some, None, is_some, sum_by, unwrap_or}
 use Rattle.regex_lite_engine.specs.declared.backtrack.walk.Walk.{Walk}
 use Rattle.regex_lite_engine.specs.Backtrack.Machine.{Frame, explore, restore}
 use Rattle.regex_lite_engine.specs.Backtrack.Room.{AreAll, HasRoom, Keeps, WalksTo, due_entries, due_tries}
 use Rattle.regex_lite_engine.specs.Backtrack.Walking.{IsWalking}
-use Rattle.regex_lite_engine.specs.Graph.Places.{Place, kept_back_of}
+use Rattle.regex_lite_engine.specs.Graph.Places.{Place, kept_back_with}
 use Rattle.regex_lite_engine.specs.Graph.Renumbered.{arrows_of}
 use Rattle.regex_lite_engine.specs.Search.Bounds.{characters_left}
 use Rattle.regex_lite_engine.specs.Search.Offsets.{position_at}
@@ -48,6 +48,12 @@ module _ (table : List (Place ℕ)) (haystack : List ℕ) where
     pub looked_entered : walk'.steps.looked ≤ walk'.steps.entered
 
   module _ (start : ℕ) where
+    -- there is room for what all pairs leave behind
+    abbrev pub HasRoomForAll : Walk → Type 0
+    HasRoomForAll walk =
+        sum_by (kept_back_with (length walk.stack.row)) table * (length haystack - start + 1)
+        ≤ walk.stack.room
+
     -- a search from this offset on has not begun
     pub record IsFresh (walk : Walk) : Type 0 where
       pub all : AreAll table haystack walk.visited
@@ -56,8 +62,7 @@ module _ (table : List (Place ℕ)) (haystack : List ℕ) where
           ≡ replicate (length table * (length haystack - start + 1)) false
       pub frames : walk.stack.frames ≡ []
       pub blank : IsBlank walk.stack.row
-      pub room : length table * (length haystack - start + 1) ≤ walk.stack.room
-      pub few_kept_back : kept_back_of table < length table
+      pub room : HasRoomForAll walk
       pub tried : walk.steps.tried ≡ 0
       pub entered : walk.steps.entered ≡ 0
       pub looked : walk.steps.looked ≡ 0
@@ -68,7 +73,7 @@ module _ (table : List (Place ℕ)) (haystack : List ℕ) where
       pub low : position_at haystack start ≤ p
       pub first : walk.visited.first ≡ start
       pub fit : HasRoom table haystack walk []
-      pub room : kept_back_of table * (length haystack - start + 1) ≤ walk.stack.room
+      pub room : HasRoomForAll walk
       pub empty : walk.stack.frames ≡ []
       pub walking : IsWalking table (chars haystack) s (position_at haystack start) p 0
           walk.visited walk.stack.row []

@@ -1,5 +1,5 @@
 -- Places with ordered arrows, and the steps that they allow on a haystack.
-use Rattle.std.specs.Prelude.{ℕ, suc, ◌+◌, Bool, List, [], ◌∷◌, Option, Some, None, if◌then◌else◌, length, slice_get, sum_by}
+use Rattle.std.specs.Prelude.{ℕ, zero, suc, ◌+◌, Bool, List, [], ◌∷◌, Option, Some, None, if◌then◌else◌, length, slice_get, sum_by}
 use Rattle.regex_lite_syntax.specs.declared.class.ClassRange.{ClassRange}
 use Rattle.regex_lite_syntax.specs.declared.hir.look.Look.{Look}
 use Rattle.regex_lite_syntax.specs.Text.{Text, before, after}
@@ -25,6 +25,12 @@ condition_reads (reading set) = 1
 abbrev pub mark_count : (slot : Option ℕ) → ℕ
 mark_count None = 0
 mark_count (Some slot) = 1
+
+-- the same where so many slots are kept
+abbrev pub kept_marks : (slot : Option ℕ) → (slots : ℕ) → ℕ
+kept_marks None slots = 0
+kept_marks (Some slot) zero = 0
+kept_marks (Some slot) (suc slots) = 1
 
 -- an arrow to the place with this address
 pub record Arrow (A : Type 0) : Type 0 where
@@ -97,6 +103,12 @@ module _ {A : Type 0} where
   kept_back complete = 0
   kept_back (with_arrows []) = 0
   kept_back (with_arrows (arrow ∷ arrows)) = length arrows + mark_count arrow.mark
+
+  -- the same of a search that keeps so many slots: with none, the other arrows alone
+  abbrev pub kept_back_with : (slots : ℕ) → Place A → ℕ
+  kept_back_with slots complete = 0
+  kept_back_with slots (with_arrows []) = 0
+  kept_back_with slots (with_arrows (arrow ∷ arrows)) = length arrows + kept_marks arrow.mark slots
 
   abbrev pub kept_back_of : List (Place A) → ℕ
   kept_back_of places = sum_by kept_back places

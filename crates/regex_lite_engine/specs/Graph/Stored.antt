@@ -1,10 +1,11 @@
 -- Graphs as they are stored: a table of numbered places, and what is known of it.
-use Rattle.std.specs.Prelude.{◌≡◌, ℕ, ◌^◌, ◌<◌, List, [], ◌∷◌, map, length, slice_get, Option, Some}
+use Rattle.std.specs.Prelude.{◌≡◌, ℕ, ◌^◌, ◌<◌, List, [], ◌∷◌, map, length, slice_get, sum_by, Option, Some}
 use Rattle.std.specs.declared.alloc.Global.{Global}
 use Rattle.std.specs.declared.rc.RcStr.{RcStr}
-use Rattle.regex_lite_engine.specs.Graph.Places.{Arrow, Place, complete, with_arrows, go, go_marking, go_holding, one_char, one_of, reading_of, kept_back_of}
+use Rattle.regex_lite_engine.specs.Graph.Places.{Arrow, Place, complete, with_arrows, go, go_marking, go_holding, one_char, one_of, reading_of, kept_back_of, kept_back_with}
 use Rattle.regex_lite_engine.specs.declared.nfa.place.Place as code
 use Rattle.regex_lite_engine.specs.declared.nfa.place.Place.TheVariants as stored
+use Rattle.regex_lite_engine.specs.declared.nfa.kept_back.KeptBack.{KeptBack}
 use Rattle.regex_lite_engine.specs.declared.nfa.starts.Starts.{Starts}
 
 -- a graph as callers see it
@@ -46,6 +47,11 @@ LeadBelow n (arrow ∷ arrows) = (arrow.to < n) × LeadBelow n arrows
 abbrev pub LeadsBelow : ℕ → Place ℕ → Type 0
 LeadsBelow n complete = Unit {0}
 LeadsBelow n (with_arrows arrows) = LeadBelow n arrows
+
+-- what a search keeps back that enters each of these places once, without slots and with them
+pub record IsKeptBackOf (table : List (Place ℕ)) (kept : KeptBack) : Type 0 where
+  pub without_slots : kept.without_slots ≡ sum_by (kept_back_with 0) table
+  pub with_slots : kept.with_slots ≡ kept_back_of table
 
 -- a search starts at a place and is led to places, and neither places nor arrows are more than can
 -- be numbered. So many of the places read a character, and a search keeps back less than there are

@@ -6,7 +6,7 @@ ghost use Rattle.regex_lite_syntax.specs.Sets.{just};
 ghost use Rattle.regex_lite_syntax.specs.Text.{after};
 ghost use Rattle.regex_lite_engine.specs.Backtrack.Entering.{Enters, IsReadOn};
 ghost use Rattle.regex_lite_engine.specs.Backtrack.Machine.{completes, explore, onto};
-ghost use Rattle.regex_lite_engine.specs.Graph.Places.{kept_back};
+ghost use Rattle.regex_lite_engine.specs.Graph.Places.{kept_back_with};
 ghost use Rattle.regex_lite_engine.specs.Graph.Stored.{place_of};
 ghost use Rattle.regex_lite_engine.specs.Search.Offsets.{position_at};
 
@@ -31,7 +31,8 @@ pub enum Onward {
 /// later.
 pub fn enter(place: &Place, haystack: &str, at: usize, stack: &mut Stack) -> Onward
     requires boundary { IsCharBoundary haystack.now at }
-    requires room { length stack.old.frames + kept_back (place_of place.now) ≤ stack.old.room }
+    requires room { length stack.old.frames
+        + kept_back_with (length stack.old.row) (place_of place.now) ≤ stack.old.room }
     ensures entered { Enters (chars haystack.now) (position_at haystack.now at) at place.now
         stack.old.row stack.old.frames stack.new.row (onto result stack.new.frames)
         (completes result) }

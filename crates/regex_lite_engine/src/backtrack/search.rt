@@ -56,8 +56,10 @@ impl Graph {
         ensures countable { IfOk result (λ _. IsCountable (table_of self.now)) }
     {
         let visited = Visited::none(alloc, self.places(), start, haystack.len())?;
-        // Each pair leaves less than one frame for later, all in all.
-        let stack = Stack::blank(alloc, visited.pairs(), slots)?;
+        let offsets = (haystack.len() - start).checked_add(1).ok_or(AllocError)?;
+        let kept_back = self.kept_back(slots);
+        let room = kept_back.checked_mul(offsets).ok_or(AllocError)?;
+        let stack = Stack::blank(alloc, room, slots)?;
         Ok(Walk {
             visited,
             stack,

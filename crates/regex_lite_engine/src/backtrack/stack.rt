@@ -65,7 +65,7 @@ impl Stack {
 
     /// Lets a slot that is kept hold this offset, until what lies below the frame comes off.
     pub fn mark(&mut self, slot: u32, at: usize)
-        requires { length self.old.frames < self.old.room }
+        requires { slot < length self.old.row → length self.old.frames < self.old.room }
         ensures kept { slot < length self.old.row → self.new ≡ record self.old {
           frames = restore slot (slice_index_or self.old.row slot None) ∷ self.old.frames;
           row = slice_set self.old.row slot (Some at);

@@ -78,13 +78,6 @@ impl Visited {
         })
     }
 
-    /// How many pairs there are.
-    pub fn pairs(&self) -> usize
-        ensures { result ≡ length self.now.entered }
-    {
-        self.count
-    }
-
     /// Adds the pair, and tells whether it is new.
     pub fn insert(&mut self, place: u32, at: usize) -> bool
         requires first { self.old.first ≤ at }

@@ -1,4 +1,8 @@
 //! The places of a graph.
+ghost use Rattle.std.specs.Prelude.{◌≡◌};
+ghost use Rattle.regex_lite_engine.specs.Graph.Places.{kept_back, kept_back_with};
+ghost use Rattle.regex_lite_engine.specs.Graph.Stored.{place_of};
+
 use crate::nfa::class::MappedClass;
 use regex_lite_syntax::Look;
 use std::mem::size_of;
@@ -26,3 +30,27 @@ pub(crate) enum Place {
 
 // As small as it can be with the map of a set inside: a search reads many of them.
 const _: () = prove!(size_of::<Place>() == 32);
+
+impl Place {
+    /// How many arrows it has behind the first.
+    pub(crate) fn other_arrows(&self) -> usize
+        ensures { result ≡ kept_back_with 0 (place_of self.now) }
+    {
+        match self {
+            Place::Choice { .. } => 1,
+            Place::Branches(entries) => entries.len().saturating_sub(1),
+            _ => 0,
+        }
+    }
+
+    /// How much a search keeps back here that keeps slots.
+    pub(crate) fn kept_back(&self) -> usize
+        ensures { result ≡ kept_back (place_of self.now) }
+    {
+        match self {
+            Place::Slot { .. } | Place::Choice { .. } => 1,
+            Place::Branches(entries) => entries.len().saturating_sub(1),
+            _ => 0,
+        }
+    }
+}

@@ -1,8 +1,8 @@
-use Rattle.std.proofs.Common.{arith, ◌≡◌, ◌∙◌, ap, sym, subst, ℕ, List, map}
+use Rattle.std.proofs.Common.{arith, ◌≡◌, ◌<◌, ◌^◌, ◌∙◌, ap, sym, subst, ℕ, List, map}
 use Rattle.regex_lite_syntax.specs.Tree.Views.{tree_of}
-use Rattle.regex_lite_engine.specs.Graph.Places.{Place}
+use Rattle.regex_lite_engine.specs.Graph.Places.{Place, kept_back_of}
 use Rattle.regex_lite_engine.specs.Graph.Addresses.{Address}
-use Rattle.regex_lite_engine.specs.Graph.Stored.{place_of}
+use Rattle.regex_lite_engine.specs.Graph.Stored.{IsKeptBackOf, place_of}
 use Rattle.regex_lite_engine.specs.Graph.Renumbered.{IsRenumbered, IsNumberOf, arrows_of}
 use Rattle.regex_lite_engine.specs.Graph.WrittenOut.{written_out, start_address}
 use Rattle.regex_lite_engine.specs.Nfa.Layout.{whole_layout, whole_table}
@@ -34,6 +34,16 @@ returns-clause-ok c =
       each_arrow = ap arrows_of table_is ∙ arrows_whole tree;
     }
 
+-- what the places keep back fits, as it is less than there are places
+pub of-kept_back-requires : goal.of-kept_back-requires
+of-kept_back-requires c =
+    let tree = tree_of c.args.hir.now in
+    let fits = (c.in_ok-count.ensures.ok tree c.of-counts.ensures).1 in
+    let table_is = c.in_ok-places.ensures.written.1 in
+    let few : kept_back_of (map place_of c.in_ok-places.places.items) < 2 ^ 64
+    = omega (arith, ap kept_back_of table_is, kept_back_whole tree c.requires, fits.places_fit) in
+    subst (λ z. kept_back_of (map place_of z) < 2 ^ 64) (sym c.deref.ensures.value) few
+
 pub invariant_of-result : goal.invariant_of-result
 invariant_of-result c =
     let tree = tree_of c.args.hir.now in
@@ -52,4 +62,6 @@ invariant_of-result c =
       written_starts tree c.requires (map place_of c.in_ok-places.places.items)
           c.in_ok-places.start places.written.1 places.written.0 c.of-starts.result
           c.of-starts.ensures,
+      subst (λ z. IsKeptBackOf (map place_of z) c.of-kept_back.result) c.deref.ensures.value
+          c.of-kept_back.ensures,
     )

@@ -1,0 +1,17 @@
+use Rattle.std.proofs.Common.{◌≡◌, map, ap, ◌∙◌, get_or, arith}
+use Rattle.regex_lite_engine.specs.Graph.Places.{kept_back_with}
+use Rattle.regex_lite_engine.specs.Graph.Stored.{place_of}
+use Rattle.regex_lite_engine.proofs.nfa.kept_back.SumLemmas.{few_without_slots, next_left}
+use Rattle.regex_lite_engine.proofs.nfa.kept_back.KeptBack.of.Goals as goal
+
+pub overflow_add-kept : goal.overflow_add-kept
+overflow_add-kept c =
+    let places = c.args.places.now in
+    let next = next_left (kept_back_with 0) places c.loop-place.place-index c.place-item.result
+    c.loop-place-test.true in
+    let own : c.other_arrows.result
+    ≡ kept_back_with 0 (place_of (get_or places c.loop-place.place-index c.place-item.result))
+    = c.other_arrows.ensures ∙ ap (λ z. kept_back_with 0 (place_of z)) c.place-item.is in
+    let so_far = c.loop-place.invariant.0 in
+    let few = few_without_slots (map place_of places) in
+    omega (arith, next, own, so_far, few, c.requires)
