@@ -29,6 +29,7 @@ pub use Rattle.regex_lite_engine.specs.Graph.Size
 pub use Rattle.regex_lite_engine.specs.Search
 -- What every regex keeps, and what is told behind a match.
 pub mod Compiled
+pub mod Slots
 pub mod Scanning
 pub mod NextMatch
 -- What those have that share what was built. No public contract rests on it.

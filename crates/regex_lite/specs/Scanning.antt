@@ -1,5 +1,5 @@
 -- A regex that is searched for again and again, and a haystack that is gone over match by match.
-use Rattle.std.specs.Prelude.{◌≡◌, ◌*◌, ℕ, List, Option, Some, IfSome, IsTrue, true, chars, length}
+use Rattle.std.specs.Prelude.{◌≡◌, ℕ, List, Option, Some, IfSome, IsTrue, true, chars, length}
 use Rattle.regex_lite_syntax.specs.Tree.Properties.{captures_len}
 use Rattle.regex_lite_engine.specs.Search.Answer.{Found}
 use Rattle.regex_lite_engine.specs.Search.Offsets.{HasSlots, position_at}
@@ -9,6 +9,7 @@ use Rattle.regex_lite.specs.Expression.{Expression, OfTree}
 use Rattle.regex_lite.specs.MatchList.{IsAnswerOf, is_empty_at}
 use Rattle.regex_lite.specs.MatchViews.{span_of_match}
 use Rattle.regex_lite.specs.Searches.{IsMatchOf, TellsAnswer}
+use Rattle.regex_lite.specs.Slots.{kept_slots}
 
 -- a regex, and the slots of the last match that was found
 pub record RegexSearching : Type 0 where
@@ -36,12 +37,12 @@ abbrev pub TellsMatchWithSlots : Expression → (haystack : List ℕ) → (start
 TellsMatchWithSlots re haystack start slots told =
     TellsAnswer (λ tree. IsMatchWithSlots haystack slots) re haystack start told
 
--- the slots are those of this answer of some search of the haystack
-abbrev pub AreSlotsOf : Expression → (haystack : List ℕ) → (slots : List (Option ℕ)) → Found
-    → Type 0
-AreSlotsOf re haystack slots found =
+-- the match is this answer of some search of the haystack, and these are its slots
+abbrev pub IsMatchOfSearch : Expression → (haystack : List ℕ) → (slots : List (Option ℕ)) → Found
+    → Match → Type 0
+IsMatchOfSearch re haystack slots found m =
     (s : ℕ) × IsAnswerOf re (chars haystack) s (Some found)
-    × HasSlots (chars haystack) slots found.marks
+    × IsMatchWithSlots haystack slots found m
 
 -- the answer from this offset on is empty there
 abbrev pub IsEmptyFrom : Expression → (haystack : List ℕ) → (at : ℕ) → Type 0
@@ -60,6 +61,6 @@ abbrev pub IsBehindAnswer : Expression → Cursor → Type 0
 IsBehindAnswer re cursor =
     IsTrue cursor.was_empty → IfSome cursor.ended (IsEmptyFrom re cursor.haystack.now)
 
--- there are two slots for each group
+-- there are as many slots as are kept for the groups
 abbrev pub HasSlotsForGroups : Expression → (slots : List (Option ℕ)) → Type 0
-HasSlotsForGroups re slots = OfTree re (λ tree. length slots ≡ 2 * captures_len tree)
+HasSlotsForGroups re slots = OfTree re (λ tree. length slots ≡ kept_slots (captures_len tree))

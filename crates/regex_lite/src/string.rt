@@ -21,6 +21,7 @@ mod replacer;
 mod scan;
 mod search;
 mod searcher;
+mod slots;
 mod split;
 mod sub_captures;
 mod text_replacers;

@@ -1,18 +1,77 @@
--- The slots of an outcome hold the groups of what was found.
-use Rattle.std.proofs.Common.{◌≡◌, ◌≤◌, refl, sym, ap, subst, ◌∙◌, ℕ, ◌*◌, List, length, Option, Some, None, IfSome, IsSome, option_map, chars, IsUtf8, arith}
+-- The slots of an outcome, or its span, tell the groups of what was found.
+use Rattle.std.proofs.Common.{◌≡◌, ◌≤◌, refl, sym, ap, subst, ◌∙◌, ℕ, zero, suc, ◌*◌, List, [], ◌∷◌, length, Option, Some, None, IfSome, IsSome, option_map, chars, IsUtf8, arith}
 use Rattle.std.proofs.lemmas.List.{length-map}
 use Rattle.std.specs.List.{filter_map}
+use Rattle.std.specs.Option.{option_zip}
 use Rattle.std.specs.Rc.{rc_str_bytes}
+use Rattle.regex_lite_syntax.specs.Text.{Text}
+use Rattle.regex_lite_syntax.specs.Tree.{Tree}
 use Rattle.regex_lite_syntax.specs.Tree.Properties.{captures_len, static_captures_len}
 use Rattle.regex_lite_engine.specs.WayLaws.{IsPatternTree}
 use Rattle.regex_lite_engine.specs.Search.Answer.{Found, IsFound}
 use Rattle.regex_lite_engine.specs.Search.Offsets.{HasSlots, offset}
+use Rattle.regex_lite_engine.proofs.laws.PatternTreeLemmas.{regular_tree}
+use Rattle.regex_lite_engine.proofs.laws.groups.SpanLemmas.{groups_inside}
 use Rattle.regex_lite.specs.declared.string.compiled.Compiled.{Compiled}
 use Rattle.regex_lite.specs.Compiled.{IsBuilt, groups_of}
 use Rattle.regex_lite.specs.Groups.{AreGroups, LiesIn, span_at, spans_of, text_at, texts_from, group_span}
-use Rattle.regex_lite.specs.Searches.{AreGroupsOf, spans_from}
+use Rattle.regex_lite.specs.Searches.{AreGroupsOf, offsets, spans_from}
+use Rattle.regex_lite.specs.Slots.{all_slots, kept_slots}
+use Rattle.regex_lite.proofs.string.SlotLemmas.{none_kept, some_kept}
 use Rattle.regex_lite.proofs.string.FoundLemmas.{slots_told, length_spans, groups_lie, group_0, enough_texts}
 use Rattle.regex_lite.proofs.string.GroupNameLemmas.{are_names}
+
+same_some : {A : Type 0} {x y : A} → ◌≡◌ {A = Option A} (Some x) (Some y) → x ≡ y
+same_some e = cc
+
+-- both offsets of a span are there
+both_there : (a b : Option ℕ) (i j : ℕ) → option_zip a b ≡ Some (i, j) → (a ≡ Some i) × (b ≡ Some j)
+both_there None b i j e = absurd cc
+both_there (Some a) None i j e = absurd cc
+both_there (Some a) (Some b) i j e = (
+  ap (option_map (λ (own : ℕ × ℕ). own.0)) e,
+  ap (option_map (λ (own : ℕ × ℕ). own.1)) e,
+)
+
+-- the slots are those of what was found, two for each group
+abbrev pub AreAllSlots : Text → Tree → Found → (slots : List (Option ℕ)) → Type 0
+AreAllSlots haystack tree found slots =
+    HasSlots haystack slots found.marks × (length slots ≡ 2 * captures_len tree)
+
+module _ (haystack : Text) (tree : Tree) (s : ℕ) (found : Found) (given : IsPatternTree tree)
+    (is : IsFound tree haystack s found) where
+  -- the slots of group 0 are the match's start and end
+  whole_slots : (span : ℕ × ℕ) → span ≡ offsets haystack (found.start, found.end)
+      → HasSlots haystack (all_slots [] span) found.marks
+  whole_slots span same = each
+    where
+      marked : (found.marks 0 ≡ Some found.start) × (found.marks 1 ≡ Some found.end)
+      marked = both_there (found.marks 0) (found.marks 1) found.start found.end
+          (groups_inside tree haystack s found (regular_tree tree given) is).whole
+
+      each : HasSlots haystack (all_slots [] span) found.marks
+      each zero slot at =
+          sym (same_some at) ∙ ap (λ (own : ℕ × ℕ). Some own.0) same
+          ∙ ap (option_map (offset haystack)) (sym marked.0)
+      each (suc zero) slot at =
+          sym (same_some at) ∙ ap (λ (own : ℕ × ℕ). Some own.1) same
+          ∙ ap (option_map (offset haystack)) (sym marked.1)
+      each (suc (suc k)) slot at = absurd cc
+
+  -- these are all slots of the match, where as many were kept as its groups need
+  each_told : (kept : List (Option ℕ)) (span : ℕ × ℕ) → length kept ≡ kept_slots (captures_len tree)
+      → HasSlots haystack kept found.marks → span ≡ offsets haystack (found.start, found.end)
+      → AreAllSlots haystack tree found (all_slots kept span)
+  each_told [] span len held same =
+      (whole_slots span same, none_kept (captures_len tree) len (omega arith))
+  each_told (slot ∷ kept) span len held same =
+      (held, some_kept (captures_len tree) (length kept) len)
+
+  pub all_told : (kept slots : List (Option ℕ)) (span : ℕ × ℕ) → slots ≡ all_slots kept span
+      → length kept ≡ kept_slots (captures_len tree) → HasSlots haystack kept found.marks
+      → span ≡ offsets haystack (found.start, found.end) → AreAllSlots haystack tree found slots
+  all_told kept slots span filled enough held same =
+      subst (AreAllSlots haystack tree found) (sym filled) (each_told kept span enough held same)
 
 module _ (bytes : List ℕ) (utf8 : IsUtf8 bytes) (compiled : Compiled) (built : IsBuilt compiled)
     (slots : List (Option ℕ)) (s : ℕ) (found : Found)

@@ -1,6 +1,6 @@
--- The slots that a searcher keeps hold the groups of the last match, and behind an empty match
--- that is the answer.
-use Rattle.std.proofs.Common.{◌≡◌, ◌<◌, ◌≤◌, ◌⊎◌, inl, inr, refl, ◌*◌, ◌∙◌, ℕ, List, length, Option, Some, chars, IsUtf8, unwrap_or, sym, ap, subst, arith}
+-- The slots that a searcher keeps tell the groups of the last match, and behind an empty match that
+-- is the answer.
+use Rattle.std.proofs.Common.{◌≡◌, ◌<◌, ◌≤◌, ◌⊎◌, inl, inr, refl, ◌∙◌, ℕ, List, length, Option, Some, chars, IsUtf8, unwrap_or, sym, ap, subst, arith}
 use Rattle.std.proofs.lemmas.Bool.{cases_order}
 use Rattle.std.proofs.lemmas.Bool.Decides.{nat_tests}
 use Rattle.regex_lite_syntax.specs.Text.{Text}
@@ -19,35 +19,40 @@ use Rattle.regex_lite.specs.Expression.{Expression}
 use Rattle.regex_lite.specs.Groups.{Groups, AreGroups, span_at, whole_span}
 use Rattle.regex_lite.specs.MatchList.{IsAnswerOf}
 use Rattle.regex_lite.specs.MatchViews.{span_of_match}
-use Rattle.regex_lite.specs.Scanning.{AreSlotsOf, HasSlotsForGroups, IsAnswerIfEmpty, IsEmptyFrom, IsMatchWithSlots, Scanning, TellsMatchWithSlots}
+use Rattle.regex_lite.specs.Scanning.{HasSlotsForGroups, IsAnswerIfEmpty, IsEmptyFrom, IsMatchOfSearch, IsMatchWithSlots, Scanning, TellsMatchWithSlots}
 use Rattle.regex_lite.specs.Searches.{IsMatchOf, offsets}
-use Rattle.regex_lite.proofs.string.CapturedLemmas.{captured, captured_of}
+use Rattle.regex_lite.specs.Slots.{all_slots, kept_slots}
+use Rattle.regex_lite.proofs.string.CapturedLemmas.{AreAllSlots, all_told, captured, captured_of}
 use Rattle.regex_lite.proofs.string.FoundLemmas.{group_0}
 use Rattle.regex_lite.proofs.string.NextLemmas.{IsWithin, found_within, next_answer}
 use Rattle.regex_lite.proofs.string.OneTreeLemmas.{one_tree}
 
 module _ (bytes : List ℕ) (utf8 : IsUtf8 bytes) (re : Expression) (compiled : Compiled)
     (built : IsBuilt compiled) (given : IsTree re.flags (chars re.pattern) built.tree)
-    (held slots : List (Option ℕ)) (copied : slots ≡ held) (room : HasSlotsForGroups re held)
-    (shared : Compiled) (same : shared ≡ compiled) where
-  len : length slots ≡ 2 * captures_len built.tree
-  len =
-      ap length copied ∙ room.2
-      ∙ ap (λ tree. 2 * captures_len tree)
-      (one_tree re.flags (chars re.pattern) room.0 built.tree room.1 given)
+    (kept slots : List (Option ℕ)) (room : HasSlotsForGroups re kept) (shared : Compiled)
+    (same : shared ≡ compiled) where
+  enough : length kept ≡ kept_slots (captures_len built.tree)
+  enough =
+      subst (λ tree. length kept ≡ kept_slots (captures_len tree))
+      (one_tree re.flags (chars re.pattern) room.0 built.tree room.1 given) room.2
 
-  module _ (found : Found) (are : AreSlotsOf re bytes held found) where
-    is_found : IsFound built.tree (chars bytes) are.0 found
+  module _ (found : Found) (m : Match) (filled : slots ≡ all_slots kept (span_of_match m))
+      (last : IsMatchOfSearch re bytes kept found m) where
+    is_found : IsFound built.tree (chars bytes) last.0 found
     is_found =
-        subst (λ tree. IsFound tree (chars bytes) are.0 found)
-        (one_tree re.flags (chars re.pattern) are.1.0 built.tree are.1.1 given) are.1.2
+        subst (λ tree. IsFound tree (chars bytes) last.0 found)
+        (one_tree re.flags (chars re.pattern) last.1.0 built.tree last.1.1 given) last.1.2
 
-    -- a copy of the slots holds groups
+    all_held : AreAllSlots (chars bytes) built.tree found slots
+    all_held =
+        all_told (chars bytes) built.tree last.0 found (compiled.flags, _, built.given) is_found
+        kept slots (span_of_match m) filled enough last.2.has_slots last.2.is_match.span
+
+    -- all slots hold groups
     pub groups_held : AreGroups (groups_of bytes slots shared)
     groups_held =
         subst (λ c. AreGroups (groups_of bytes slots c)) (sym same)
-        (captured bytes utf8 compiled built slots are.0 found is_found
-        (rw (copied) are.2) len)
+        (captured bytes utf8 compiled built slots last.0 found is_found all_held.0 all_held.1)
 
     -- which are those of what was found
     pub groups_kept : (groups : Groups) → groups ≡ groups_of bytes slots shared
@@ -56,8 +61,7 @@ module _ (bytes : List ℕ) (utf8 : IsUtf8 bytes) (re : Expression) (compiled : 
       built.tree,
       given,
       rw (is, same)
-          (captured_of bytes utf8 compiled built slots are.0 found is_found
-          (rw (copied) are.2) len),
+          (captured_of bytes utf8 compiled built slots last.0 found is_found all_held.0 all_held.1),
     )
 
 -- the groups of what was found have its span
@@ -78,16 +82,16 @@ Came old m new =
     × IsOnward old.ended (span_of_match m) × (new.ended ≡ Some (span_of_match m).1)
     × Passes (ahead old) found (ahead new)
 
--- the slots are those of the last match
-pub kept_slots : (old new : Scanning) (m : Match) (came : Came old m new)
-    → AreSlotsOf new.regex new.haystack new.slots came.0
-kept_slots old new m (found, is, onward, ended, passes) =
+-- it is the last match, with these slots
+pub last_match : (old new : Scanning) (m : Match) (came : Came old m new)
+    → IsMatchOfSearch new.regex new.haystack new.slots came.0 m
+last_match old new m (found, is, onward, ended, passes) =
     let answer = next_answer old.regex (chars old.haystack) (ahead old).ended found passes.comes in
     let regex : new.regex ≡ old.regex = ap (λ (a : Ahead). a.regex) passes.passed in
     let haystack : new.haystack ≡ old.haystack = ap (λ (a : Ahead). a.haystack) passes.passed in
-    rw (regex, haystack) (answer.0, answer.1, is.has_slots)
+    rw (regex, haystack) (answer.0, answer.1, is)
 
--- and so are their groups
+-- and its groups came with it
 pub groups_came : (old new : Scanning) (m : Match) (came : Came old m new) (groups : Groups)
     → AreGroupsFound new.regex new.haystack came.0 groups
     → (found : Found) × AreGroupsFound old.regex old.haystack found groups

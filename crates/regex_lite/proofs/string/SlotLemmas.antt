@@ -1,8 +1,9 @@
 -- Slots, and the spans that they hold.
-use Rattle.std.proofs.Common.{◌≡◌, refl, sym, ap, ℕ, zero, suc, ◌+◌, ◌*◌, ◌≤◌, ◌/◌, List, [], ◌∷◌, length, take, replicate, get_or, Option, Some, None, arith}
+use Rattle.std.proofs.Common.{◌≡◌, refl, sym, ap, ℕ, zero, suc, ◌+◌, ◌*◌, ◌≤◌, ◌<◌, ◌/◌, List, [], ◌∷◌, length, take, replicate, get_or, Option, Some, None, arith}
 use Rattle.std.specs.Option.{option_zip, option_flatten}
 use Rattle.std.proofs.lemmas.Option.{slice_get_past}
 use Rattle.regex_lite.specs.Groups.{span_at, spans_of}
+use Rattle.regex_lite.specs.Slots.{kept_slots}
 
 none_behind : (start : Option ℕ) → None ≡ option_zip {U = ℕ} start None
 none_behind None = refl
@@ -68,3 +69,27 @@ enough_slots old slots n len few =
     let own = half old in
     let all = half slots in
     (omega (arith, own, len), omega (arith, own, all, few, len))
+
+-- none are kept for the whole match alone
+pub none_kept : (groups : ℕ) → 0 ≡ kept_slots groups → 0 < groups → 2 ≡ 2 * groups
+none_kept zero none some = absurd (omega (arith, some))
+none_kept (suc zero) none some = refl
+none_kept (suc (suc n)) none some = absurd (omega (arith, none))
+
+-- where some are kept, they are two for each group
+pub some_kept : (groups more : ℕ) → suc more ≡ kept_slots groups → suc more ≡ 2 * groups
+some_kept zero more some = some
+some_kept (suc zero) more some = absurd (omega (arith, some))
+some_kept (suc (suc n)) more some = some
+
+-- of two for each group none are kept where there are two, and else all
+pub kept_of_two : (groups slots : ℕ) → slots ≡ 2 * groups → slots ≡ 2 → 0 ≡ kept_slots groups
+kept_of_two zero slots all two = refl
+kept_of_two (suc zero) slots all two = refl
+kept_of_two (suc (suc n)) slots all two = absurd (omega (arith, all, two))
+
+pub kept_of_more : (groups slots : ℕ) → slots ≡ 2 * groups → (slots ≡ 2 → ⊥)
+    → slots ≡ kept_slots groups
+kept_of_more zero slots all more = all
+kept_of_more (suc zero) slots all more = absurd (more all)
+kept_of_more (suc (suc n)) slots all more = all

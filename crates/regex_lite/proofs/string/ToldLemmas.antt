@@ -1,5 +1,5 @@
 -- From the outcome of a search of the graph to what the search for the pattern tells.
-use Rattle.std.proofs.Common.{◌≡◌, ◌≤◌, refl, sym, ap, subst, ◌∙◌, ℕ, ◌*◌, List, length, take, Option, Some, None, IfSome, option_map, chars, IsUtf8, arith}
+use Rattle.std.proofs.Common.{◌≡◌, ◌≤◌, refl, sym, ap, subst, ◌∙◌, ℕ, List, length, take, Option, Some, None, IfSome, option_map, chars, IsUtf8, arith}
 use Rattle.regex_lite_syntax.specs.Tree.{Tree}
 use Rattle.regex_lite_syntax.specs.Tree.Properties.{captures_len}
 use Rattle.regex_lite_syntax.specs.Tree.Regular.{IsRegular}
@@ -19,7 +19,8 @@ use Rattle.regex_lite.specs.Groups.{Groups, AreGroups, LiesIn, group_span, span_
 use Rattle.regex_lite.specs.MatchViews.{haystack_of_match, span_of_match}
 use Rattle.regex_lite.specs.Scanning.{TellsMatchWithSlots}
 use Rattle.regex_lite.specs.Searches.{AreGroupsOf, TellsMatch, TellsGroups, TellsLocations, offsets, spans_from}
-use Rattle.regex_lite.proofs.string.CapturedLemmas.{captured, captured_of}
+use Rattle.regex_lite.specs.Slots.{all_slots, kept_slots}
+use Rattle.regex_lite.proofs.string.CapturedLemmas.{AreAllSlots, all_told, captured, captured_of}
 use Rattle.regex_lite.proofs.string.FoundLemmas.{first_told, found_lies, group_0, length_spans}
 use Rattle.regex_lite.proofs.string.OneTreeLemmas.{one_tree}
 
@@ -108,28 +109,34 @@ module _ (bytes : List ℕ) (utf8 : IsUtf8 bytes) (start : ℕ) (re : Expression
 
   module _ (compiled : Compiled) (built : IsBuilt compiled)
       (given : IsTree re.flags (chars re.pattern) built.tree)
-      (len : length slots ≡ 2 * captures_len built.tree) (shared : Compiled)
-      (same : shared ≡ compiled) where
+      (enough : length slots ≡ kept_slots (captures_len built.tree)) (all : List (Option ℕ))
+      (filled : all ≡ all_slots slots span) (shared : Compiled) (same : shared ≡ compiled) where
     of_built : IsSpanOutcome built.tree bytes start slots (Some span)
     of_built =
         subst (λ tree. IsSpanOutcome tree bytes start slots (Some span))
         (one_tree re.flags (chars re.pattern) own.0 built.tree own.1 given) own.2
 
-    -- the slots hold groups
-    pub groups_are : AreGroups (groups_of bytes slots shared)
+    all_held : AreAllSlots (chars bytes) built.tree of_built.0 all
+    all_held =
+        all_told (chars bytes) built.tree (search_start bytes start) of_built.0
+        (compiled.flags, _, built.given) of_built.1 slots all span filled enough of_built.2.slots
+        (same_pair of_built.2.start of_built.2.end)
+
+    -- all slots hold groups
+    pub groups_are : AreGroups (groups_of bytes all shared)
     groups_are =
-        subst (λ c. AreGroups (groups_of bytes slots c)) (sym same)
-        (captured bytes utf8 compiled built slots (search_start bytes start) of_built.0
-        of_built.1 of_built.2.slots len)
+        subst (λ c. AreGroups (groups_of bytes all c)) (sym same)
+        (captured bytes utf8 compiled built all (search_start bytes start) of_built.0
+        of_built.1 all_held.0 all_held.1)
 
     -- which are what is told
-    pub groups_told : (groups : Groups) → groups ≡ groups_of bytes slots shared
+    pub groups_told : (groups : Groups) → groups ≡ groups_of bytes all shared
         → TellsGroups re bytes start (Some groups)
     groups_told groups are =
-        let all = captured_of bytes utf8 compiled built slots (search_start bytes start)
-        of_built.0 of_built.1 of_built.2.slots len in
-        let as_shared = subst (λ c. AreGroupsOf built.tree bytes of_built.0 (groups_of bytes slots c))
-        (sym same) all in (
+        let own = captured_of bytes utf8 compiled built all (search_start bytes start)
+        of_built.0 of_built.1 all_held.0 all_held.1 in
+        let as_shared = subst (λ c. AreGroupsOf built.tree bytes of_built.0 (groups_of bytes all c))
+        (sym same) own in (
           built.tree,
           given,
           (
@@ -139,15 +146,15 @@ module _ (bytes : List ℕ) (utf8 : IsUtf8 bytes) (start : ℕ) (re : Expression
           ),
         )
 
--- a search for all groups has two slots for each
+-- a search for the groups has as many slots as are kept for them
 pub slots_are : (re : Expression) (tree : Tree) (told : Option Outcome) (outcome : Outcome) (n : ℕ)
-    → IsTree re.flags (chars re.pattern) tree → OfTree re (λ own. n ≡ 2 * captures_len own)
+    → IsTree re.flags (chars re.pattern) tree → OfTree re (λ own. n ≡ kept_slots (captures_len own))
     → IfSome told (λ o. length o.slots.items ≡ n) → told ≡ Some outcome
-    → length outcome.slots.items ≡ 2 * captures_len tree
-slots_are re tree None outcome n given all len is = absurd (not_there is)
-slots_are re tree (Some o) outcome n given (own, given_too, each) len is =
-    ap (λ (own : Outcome). length own.slots.items) (sym (same_some is)) ∙ len ∙ each
-    ∙ ap (λ t. 2 * captures_len t) (one_tree re.flags (chars re.pattern) own tree given_too given)
+    → length outcome.slots.items ≡ kept_slots (captures_len tree)
+slots_are re tree None outcome n given enough len is = absurd (not_there is)
+slots_are re tree (Some o) outcome n given (own, given_too, enough) len is =
+    ap (λ (own : Outcome). length own.slots.items) (sym (same_some is)) ∙ len ∙ enough
+    ∙ ap (λ t. kept_slots (captures_len t)) (one_tree re.flags (chars re.pattern) own tree given_too given)
 
 -- the regex has as many groups as it tells of
 pub room_told : (re : Expression) (bytes : List ℕ) (start n : ℕ) (told : Option Groups)

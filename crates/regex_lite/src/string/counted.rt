@@ -1,13 +1,12 @@
 //! Searches that tell what they cost.
-ghost use Rattle.std.specs.Prelude.{◌≡◌, ◌↔◌, ◌*◌, ◌+◌, IfOk, IfErr, IsTrue};
+ghost use Rattle.std.specs.Prelude.{◌≡◌, ◌↔◌, IfOk, IfErr, IsTrue};
 ghost use Rattle.regex_lite_syntax.specs.Errors.{out_of_memory};
-ghost use Rattle.regex_lite_syntax.specs.Tree.Properties.{captures_len};
-ghost use Rattle.regex_lite.specs.Expression.{OfTree};
 ghost use Rattle.regex_lite.specs.Searches.{CanStartAt, IsWithinCost, MatchesFrom, TellsEnd, TellsGroups, TellsMatch};
 
 use crate::string::captures::Captures;
 use crate::string::matches::Match;
 use crate::string::regex::Regex;
+use crate::string::slots::all_slots;
 use regex_lite_engine::{Outcome, Steps};
 use regex_lite_syntax::Error;
 
@@ -77,12 +76,13 @@ impl Regex {
         ensures cost { IfOk result (λ told. IsWithinCost self.now haystack.now start told.1) }
         ensures refused { IfErr result (λ error. error ≡ out_of_memory) }
     {
-        let slots = self.slots();
+        let count = self.kept_slots();
         let graph = &self.compiled.graph;
-        let (outcome, steps) = graph.search(self.alloc, haystack, start, slots)?;
-        let Some(Outcome { slots, .. }) = outcome else {
+        let (outcome, steps) = graph.search(self.alloc, haystack, start, count)?;
+        let Some(Outcome { start, end, slots }) = outcome else {
             return Ok((None, steps));
         };
+        let slots = all_slots(slots, (start, end))?;
         let compiled = self.compiled.clone()?;
         let caps = Captures::new(haystack, slots, compiled);
         Ok((Some(caps), steps))
@@ -108,12 +108,5 @@ impl Regex {
         let graph = &self.compiled.graph;
         let told = graph.search_shortest(self.alloc, haystack, start)?;
         Ok(told)
-    }
-
-    /// How many slots the groups have: two each.
-    pub(super) fn slots(&self) -> usize
-        ensures { OfTree self.now (λ tree. result ≡ 2 * captures_len tree) }
-    {
-        2 * self.compiled.graph.capture_names().len()
     }
 }

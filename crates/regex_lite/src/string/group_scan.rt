@@ -10,7 +10,7 @@ use regex_lite_syntax::Error;
 use std::fmt;
 use std::marker::Model;
 
-/// A scan whose matches have two slots for each group.
+/// A scan whose slots tell all groups of its matches.
 #[derive(Drop)]
 pub(super) struct GroupScan<'r, 'h> {
     scan: Scan<'r, 'h>,
@@ -37,7 +37,7 @@ impl<'r, 'h> GroupScan<'r, 'h> {
         ensures begins { IfOk result (λ scan. scan.ended ≡ None) }
         ensures refused { IfErr result (λ error. error ≡ out_of_memory) }
     {
-        let scan = Scan::new(regex, haystack, limit, regex.slots())?;
+        let scan = Scan::new(regex, haystack, limit, regex.kept_slots())?;
         Ok(GroupScan { scan })
     }
 
@@ -47,8 +47,8 @@ impl<'r, 'h> GroupScan<'r, 'h> {
         ensures fewer { IfSome result (λ _. most_ahead self.new < most_ahead self.old) }
     {
         let cursor = self.scan.cursor();
-        let _ = self.scan.next()?;
-        match self.scan.captures() {
+        let found = self.scan.next()?;
+        match self.scan.captures(&found) {
             Ok(caps) => Some(Ok(caps)),
             Err(error) => {
                 self.scan.stop_at(cursor);

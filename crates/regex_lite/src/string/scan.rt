@@ -4,7 +4,7 @@ ghost use Rattle.regex_lite_syntax.specs.Errors.{out_of_memory};
 ghost use Rattle.regex_lite_engine.specs.Search.Answer.{Found};
 ghost use Rattle.regex_lite.specs.Ahead.{AreGroupsFound, GivesMatchWithSlots, ahead, most_ahead, whole};
 ghost use Rattle.regex_lite.specs.NextMatch.{IsNextOffset, TellsNextMatch};
-ghost use Rattle.regex_lite.specs.Scanning.{AreSlotsOf, HasSlotsForGroups, IsAnswerIfEmpty, IsBehindAnswer, IsEmptyFrom};
+ghost use Rattle.regex_lite.specs.Scanning.{HasSlotsForGroups, IsAnswerIfEmpty, IsBehindAnswer, IsEmptyFrom, IsMatchOfSearch};
 
 use crate::string::captures::Captures;
 use crate::string::cursor::Cursor;
@@ -91,16 +91,16 @@ impl<'r, 'h> Scan<'r, 'h> {
     }
 
     /// The groups of the last match.
-    pub fn captures(&self) -> Result<Captures<'h>, Error>
+    pub fn captures(&self, last: &Match<'h>) -> Result<Captures<'h>, Error>
         requires room { HasSlotsForGroups self.now.regex self.now.slots }
-        requires found { (found : Found)
-            × AreSlotsOf self.now.regex self.now.haystack self.now.slots found }
+        requires last { (found : Found)
+            × IsMatchOfSearch self.now.regex self.now.haystack self.now.slots found last.now }
         ensures groups { IfOk result (λ groups. (found : Found)
-            → AreSlotsOf self.now.regex self.now.haystack self.now.slots found
+            → IsMatchOfSearch self.now.regex self.now.haystack self.now.slots found last.now
             → AreGroupsFound self.now.regex self.now.haystack found groups) }
         ensures refused { IfErr result (λ error. error ≡ out_of_memory) }
     {
-        self.searcher.captures(self.cursor.haystack)
+        self.searcher.captures(self.cursor.haystack, last)
     }
 
     /// Back to where it stood before, with nothing to come.

@@ -3,12 +3,13 @@ ghost use Rattle.std.specs.Prelude.{◌≡◌, IfOk, IfErr, length};
 ghost use Rattle.regex_lite_syntax.specs.Errors.{out_of_memory};
 ghost use Rattle.regex_lite_engine.specs.Search.Answer.{Found};
 ghost use Rattle.regex_lite.specs.Ahead.{AreGroupsFound};
-ghost use Rattle.regex_lite.specs.Scanning.{AreSlotsOf, HasSlotsForGroups, IsAnswerIfEmpty, TellsMatchWithSlots};
+ghost use Rattle.regex_lite.specs.Scanning.{HasSlotsForGroups, IsAnswerIfEmpty, IsMatchOfSearch, TellsMatchWithSlots};
 ghost use Rattle.regex_lite.specs.Searches.{CanStartAt};
 
 use crate::string::captures::Captures;
 use crate::string::matches::Match;
 use crate::string::regex::Regex;
+use crate::string::slots::all_slots;
 use regex_lite_syntax::Error;
 use std::fmt;
 use std::marker::Model;
@@ -60,19 +61,20 @@ impl<'r> Searcher<'r> {
     }
 
     /// The groups of the last match, which was found in this haystack.
-    pub fn captures<'h>(&self, haystack: &'h str) -> Result<Captures<'h>, Error>
+    pub fn captures<'h>(&self, haystack: &'h str, last: &Match<'h>) -> Result<Captures<'h>, Error>
         requires room { HasSlotsForGroups self.now.regex self.now.slots }
-        requires found { (found : Found)
-            × AreSlotsOf self.now.regex haystack.now self.now.slots found }
+        requires last { (found : Found)
+            × IsMatchOfSearch self.now.regex haystack.now self.now.slots found last.now }
         ensures groups { IfOk result (λ groups. (found : Found)
-            → AreSlotsOf self.now.regex haystack.now self.now.slots found
+            → IsMatchOfSearch self.now.regex haystack.now self.now.slots found last.now
             → AreGroupsFound self.now.regex haystack.now found groups) }
         ensures refused { IfErr result (λ error. error ≡ out_of_memory) }
     {
         let regex = self.regex;
-        let found = self.inner.slots();
-        let mut slots = vec![in regex.alloc; None; found.len()]?;
-        slots.copy_from_slice(found);
+        let kept = self.inner.slots();
+        let mut slots = vec![in regex.alloc; None; kept.len()]?;
+        slots.copy_from_slice(kept);
+        let slots = all_slots(slots, (last.start(), last.end()))?;
         let compiled = regex.compiled.clone()?;
         Ok(Captures::new(haystack, slots, compiled))
     }

@@ -1,15 +1,15 @@
-use Rattle.regex_lite.proofs.string.ScanLemmas.{groups_came, kept_slots}
+use Rattle.regex_lite.proofs.string.ScanLemmas.{groups_came, last_match}
 use Rattle.regex_lite.proofs.string.group_scan.GroupScan.next.Goals as goal
 
-pub captures-requires-clause-found : goal.captures-requires-clause-found
-captures-requires-clause-found c =
-    let steps = c.in_ok-next.ensures.steps in
-    (steps.0, kept_slots c.self.inside.scan c.next.new.self c.in_ok-next.field-0 steps)
+pub captures-requires-clause-last : goal.captures-requires-clause-last
+captures-requires-clause-last c =
+    let steps = c.in_ok-found.ensures.steps in
+    (steps.0, last_match c.self.inside.scan c.next.new.self c.in_ok-found.found steps)
 
 pub returns-in-Ok-clause-steps : goal.returns-in-Ok-clause-steps
 returns-in-Ok-clause-steps c =
-    let steps = c.in_ok-next.ensures.steps in
+    let steps = c.in_ok-found.ensures.steps in
     let found = c.in-Ok.ensures.groups steps.0
-    (kept_slots c.self.inside.scan c.next.new.self c.in_ok-next.field-0 steps) in
+    (last_match c.self.inside.scan c.next.new.self c.in_ok-found.found steps) in
     rw (← c.self.view_is)
-    (groups_came c.self.inside.scan c.next.new.self c.in_ok-next.field-0 steps c.in-Ok.caps found)
+    (groups_came c.self.inside.scan c.next.new.self c.in_ok-found.found steps c.in-Ok.caps found)

@@ -9,8 +9,8 @@ new-caps-requires c =
     let outcome = c.in-Some.field-0 in
     let given : IsTree a.self.now.flags (chars a.self.now.pattern) c.self.invariant.tree =
     rw (← c.self.view_is) c.self.invariant.given in
-    let len = slots_are a.self.now c.self.invariant.tree c.in_ok-outcome.outcome outcome
-    c.slots-slots.result given c.slots-slots.ensures c.in_ok-outcome.ensures.slots c.in-Some.is in
+    let enough = slots_are a.self.now c.self.invariant.tree c.in_ok-outcome.outcome outcome
+    c.kept_slots-count.result given c.kept_slots-count.ensures c.in_ok-outcome.ensures.slots c.in-Some.is in
     groups_are a.haystack.now c.utf8.haystack a.start a.self.now (outcome.start, outcome.end)
     outcome.slots.items (
       c.self.invariant.tree,
@@ -19,7 +19,8 @@ new-caps-requires c =
           a.haystack.now a.start c.in_ok-outcome.outcome outcome
           (ap (λ compiled. compiled.graph) c.deref.ensures) c.in_ok-outcome.ensures.found
           c.in-Some.is,
-    ) c.self.inside.compiled c.self.invariant given len c.in_ok-compiled.compiled
+    ) c.self.inside.compiled c.self.invariant given enough c.in_ok-slots.slots.items
+    c.in_ok-slots.ensures c.in_ok-compiled.compiled
     c.in_ok-compiled.ensures.cases
 
 pub returns-clause-found : goal.returns-clause-found
@@ -28,8 +29,8 @@ returns-clause-found c =
     let outcome = c.in-Some.field-0 in
     let given : IsTree a.self.now.flags (chars a.self.now.pattern) c.self.invariant.tree =
     rw (← c.self.view_is) c.self.invariant.given in
-    let len = slots_are a.self.now c.self.invariant.tree c.in_ok-outcome.outcome outcome
-    c.slots-slots.result given c.slots-slots.ensures c.in_ok-outcome.ensures.slots c.in-Some.is in
+    let enough = slots_are a.self.now c.self.invariant.tree c.in_ok-outcome.outcome outcome
+    c.kept_slots-count.result given c.kept_slots-count.ensures c.in_ok-outcome.ensures.slots c.in-Some.is in
     groups_told a.haystack.now c.utf8.haystack a.start a.self.now (outcome.start, outcome.end)
     outcome.slots.items (
       c.self.invariant.tree,
@@ -38,5 +39,6 @@ returns-clause-found c =
           a.haystack.now a.start c.in_ok-outcome.outcome outcome
           (ap (λ compiled. compiled.graph) c.deref.ensures) c.in_ok-outcome.ensures.found
           c.in-Some.is,
-    ) c.self.inside.compiled c.self.invariant given len c.in_ok-compiled.compiled
+    ) c.self.inside.compiled c.self.invariant given enough c.in_ok-slots.slots.items
+    c.in_ok-slots.ensures c.in_ok-compiled.compiled
     c.in_ok-compiled.ensures.cases c.new-caps.result c.new-caps.ensures

@@ -1,0 +1,40 @@
+//! The slots of a match: how many a search keeps for its groups, and all of them.
+ghost use Rattle.std.specs.Prelude.{◌≡◌, ◌*◌, IfOk};
+ghost use Rattle.regex_lite_syntax.specs.Tree.Properties.{captures_len};
+ghost use Rattle.regex_lite.specs.Expression.{OfTree};
+ghost use Rattle.regex_lite.specs.Slots.{all_slots, kept_slots};
+
+use crate::string::regex::Regex;
+use std::alloc::AllocError;
+
+impl Regex {
+    /// How many slots the groups have: two each.
+    pub(super) fn slots(&self) -> usize
+        ensures { OfTree self.now (λ tree. result ≡ 2 * captures_len tree) }
+    {
+        2 * self.compiled.graph.capture_names().len()
+    }
+
+    /// How many slots a search for the groups keeps. Where the whole match is the only group, its
+    /// span tells them: then the search keeps none, and takes no longer than one for the match.
+    pub(super) fn kept_slots(&self) -> usize
+        ensures { OfTree self.now (λ tree. result ≡ kept_slots (captures_len tree)) }
+    {
+        let slots = self.slots();
+        if slots == 2 { 0 } else { slots }
+    }
+}
+
+/// The slots of all groups of a match with this span, of which a search kept these.
+pub(super) fn all_slots(
+    mut kept: Vec<Option<usize>>,
+    span: (usize, usize),
+) -> Result<Vec<Option<usize>>, AllocError>
+    ensures { IfOk result (λ slots. slots.items ≡ all_slots kept.items span) }
+{
+    if kept.is_empty() {
+        kept.reserve_exact(2)?;
+        kept.extend_from_slice(&[Some(span.0), Some(span.1)])?;
+    }
+    Ok(kept)
+}
