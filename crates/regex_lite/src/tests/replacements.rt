@@ -3,39 +3,6 @@ use crate::{Captures, Error, ErrorKind, NoExpand, Regex, ReplaceBy, Replacer};
 use std::borrow::CowStr;
 use std::test::Fail;
 
-/// A pattern, a haystack, a template, and the haystack with all matches replaced.
-type Row = (&'static str, &'static str, &'static str, &'static str);
-
-const DATES: &str = r"(?<y>\d{4})-(?<m>\d{2})-(?<d>\d{2})";
-
-const ROWS: [Row; 10] = [
-    (
-        DATES,
-        "1973-01-05, 1975-08-25 and 1980-10-18",
-        "$m/$d/$y",
-        "01/05/1973, 08/25/1975 and 10/18/1980",
-    ),
-    ("(a)", "a", "$1_", ""),
-    ("(a)", "a", "${1}_", "a_"),
-    ("(a)", "a", "$$1", "$1"),
-    ("(a)", "a", "${+1}", ""),
-    ("(a)", "a", "${1", "${1"),
-    ("(a)", "a", "$", "$"),
-    ("a*", "baaac", "x", "xbxcx"),
-    ("a*", "baaac", "${0}_", "_baaa_c_"),
-    ("", "aé", "-", "-a-é-"),
-];
-
-#[test]
-fn rows(rt: HostRuntime) -> Result<(), Fail> {
-    for (pattern, haystack, template, wanted) in ROWS {
-        let regex = Regex::new(rt.alloc(), pattern)?;
-        let text = regex.replace_all(haystack, template)?;
-        assert_eq!(rt; text.as_str(), wanted, "{pattern:?} by {template:?}");
-    }
-    Ok(())
-}
-
 #[test]
 fn limited(rt: HostRuntime) -> Result<(), Fail> {
     let regex = Regex::new(rt.alloc(), "a")?;
@@ -180,15 +147,26 @@ impl Replacer for Counted {
 
 #[test]
 fn by_reference(rt: HostRuntime) -> Result<(), Fail> {
-    let alloc = rt.alloc();
-    let regex = Regex::new(alloc, "a")?;
+    let regex = Regex::new(rt.alloc(), "a")?;
     let mut counted = Counted { matches: 0 };
     assert_eq!(rt; regex.replace_all("a-a", counted.by_ref())?.as_str(), "x-x");
     assert_eq!(rt; counted.matches, 2);
     assert_eq!(rt; regex.replace("aa", counted.by_ref())?.as_str(), "xa");
     assert_eq!(rt; counted.matches, 3);
-    let shown = format!(in alloc; "{:?}", counted.by_ref())?;
-    assert_eq!(rt; shown.as_str(), "ReplacerRef(Counted { matches: 3 })");
+    Ok(())
+}
+
+#[test]
+fn no_template_by_reference(rt: HostRuntime) -> Result<(), Fail> {
+    let regex = Regex::new(rt.alloc(), "a")?;
     assert_eq!(rt; regex.replace("a", NoExpand("$1").by_ref())?.as_str(), "$1");
+    Ok(())
+}
+
+#[test]
+fn reference_shown(rt: HostRuntime) -> Result<(), Fail> {
+    let mut counted = Counted { matches: 3 };
+    let shown = format!(in rt.alloc(); "{:?}", counted.by_ref())?;
+    assert_eq!(rt; shown.as_str(), "ReplacerRef(Counted { matches: 3 })");
     Ok(())
 }

@@ -1,4 +1,5 @@
-//! Where a pattern matches, with which groups, and where the shortest match ends.
+//! What searches cost, and what lists of single searches leave open: starts, groups, locations and
+//! iterators that are kept.
 ghost use Rattle.std.specs.Prelude.{◌≡◌, true};
 ghost use Rattle.regex_lite.specs.Searches.{CanStartAt};
 
@@ -8,39 +9,11 @@ mod lists;
 mod reads;
 mod spans;
 
-use crate::{Captures, Match, Regex};
+use crate::{Captures, Match};
 use std::process::Abort;
 use std::test::Fail;
 
-/// A pattern, a haystack, and what is found: the span of each group as `START..END`, or `-` for one
-/// that took no part. Nothing where there is no match.
-type GroupRow = (&'static str, &'static str, &'static str);
-
-/// Each search finds what its row says, and the searches agree.
-fn expect_groups<H: Abort + AllocGlobal>(rt: &H, rows: &[GroupRow]) -> Result<(), Fail> {
-    for (pattern, haystack, wanted) in rows {
-        let regex = Regex::new(rt.alloc(), pattern)?;
-        let found = regex.captures(haystack)?;
-        let whole = match &found {
-            Some(caps) => caps.get(0),
-            None => None,
-        };
-        let text = groups_text(rt, found.as_ref())?;
-        assert_eq!(rt; text.as_str(), *wanted, "{pattern:?} in {haystack:?}");
-        assert_eq!(rt; regex.find(haystack)?, whole, "{pattern:?} in {haystack:?}");
-        let matches = regex.is_match(haystack)?;
-        assert_eq!(rt; matches, whole.is_some(), "{pattern:?} in {haystack:?}");
-        let end = regex.shortest_match(haystack)?;
-        assert_eq!(rt;
-            end.is_some(),
-            whole.is_some(),
-            "{pattern:?} in {haystack:?}"
-        );
-    }
-    Ok(())
-}
-
-/// The groups as a row has them.
+/// The groups as their spans.
 fn groups_text<H: Abort + AllocGlobal>(
     rt: &H,
     found: Option<&Captures<'_>>,
@@ -57,7 +30,7 @@ fn groups_text<H: Abort + AllocGlobal>(
     Ok(text)
 }
 
-/// The span as a row has it.
+/// The span as `START..END`, or `-`.
 fn span_text<H: Abort + AllocGlobal>(rt: &H, found: Option<Match<'_>>) -> Result<String, Fail> {
     let text = match found {
         Some(found) => format!(in rt.alloc(); "{}..{}", found.start(), found.end())?,

@@ -40,8 +40,7 @@ fn fewer_groups(rt: HostRuntime) -> Result<(), Fail> {
     let found = read(&regex, &mut locations, "xab")?;
     assert_eq!(rt; found.map(|m| m.range()), Some(1..3));
     assert_eq!(rt; locations.len(), 1);
-    assert_eq!(rt; locations.get(0), Some((1, 3)));
-    assert_eq!(rt; locations.get(1), None);
+    assert!(rt; locations.get(0) == Some((1, 3)) && locations.get(1).is_none());
     Ok(())
 }
 
@@ -50,14 +49,12 @@ fn fewer_groups(rt: HostRuntime) -> Result<(), Fail> {
 fn copied(rt: HostRuntime) -> Result<(), Fail> {
     let regex = Regex::new(rt.alloc(), "a(b)?")?;
     let mut locations = regex.capture_locations()?;
-    let first = regex.captures_read(&mut locations, "ab")?;
-    assert!(rt; first.is_some());
+    let first = read(&regex, &mut locations, "ab")?;
     let copy = locations.try_clone()?;
-    let second = regex.captures_read(&mut locations, "xa")?;
-    assert!(rt; second.is_some());
+    let second = read(&regex, &mut locations, "xa")?;
+    assert!(rt; first.is_some() && second.is_some());
     assert_eq!(rt; copy.get(1), Some((1, 2)));
-    assert_eq!(rt; locations.get(1), None);
-    assert_eq!(rt; locations.get(0), Some((1, 2)));
+    assert!(rt; locations.get(0) == Some((1, 2)) && locations.get(1).is_none());
     Ok(())
 }
 
