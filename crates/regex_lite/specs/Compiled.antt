@@ -1,13 +1,14 @@
 -- What the parts of a regex, and of a searcher, have to do with one another.
-use Rattle.std.specs.Prelude.{ℕ, List, Option, chars, map, option_map, string_bytes}
+use Rattle.std.specs.Prelude.{◌≡◌, ℕ, List, Option, chars, map, option_map, string_bytes}
 use Rattle.std.specs.Rc.{rc_str_bytes}
 use Rattle.regex_lite_syntax.specs.Tree.{Tree}
 use Rattle.regex_lite_syntax.specs.Grammar.{IsTree}
+use Rattle.regex_lite_syntax.specs.Tree.Properties.{static_captures_len}
 use Rattle.regex_lite_syntax.specs.Tree.Regular.{IsRegular}
 use Rattle.regex_lite_engine.specs.Graph.Renumbered.{IsGraphOf, HasGroupsOf}
 use Rattle.regex_lite_engine.specs.Graph.Size.{Fits}
 use Rattle.regex_lite_engine.specs.Search.Searching.{Searching}
-use Rattle.regex_lite.specs.Expression.{Expression, OfTree}
+use Rattle.regex_lite.specs.Expression.{AreNames, Expression, OfTree}
 use Rattle.regex_lite.specs.Groups.{Groups, spans_of}
 use Rattle.regex_lite.specs.declared.string.compiled.Compiled.{Compiled}
 
@@ -26,11 +27,30 @@ pub record IsBuilt (compiled : Compiled) : Type 0 where
 abbrev pub SearchesFor : Expression → Searching → Type 0
 SearchesFor re searcher = OfTree re (λ tree. IsRegular tree × IsGraphOf tree searcher.graph)
 
+-- the names of its groups, as their bytes
+abbrev pub names_of : Compiled → List (Option (List ℕ))
+names_of compiled = map (option_map rc_str_bytes) compiled.graph.capture_names
+
+-- what a regex tells of its groups without a match: their names, and how many at least take part
+pub record NamesGroups (tree : Tree) (names : List (Option (List ℕ))) (static : Option ℕ)
+    : Type 0 where
+  pub names_are : AreNames names tree
+  pub static_is : static ≡ static_captures_len tree
+
+abbrev pub SharesGroups : Expression → Compiled → Type 0
+SharesGroups re compiled =
+    OfTree re (λ tree. NamesGroups tree (names_of compiled) compiled.graph.static_captures_len)
+
+-- the groups are those of some match of the regex
+abbrev pub AreOfRegex : Expression → Groups → Type 0
+AreOfRegex re groups =
+    OfTree re (λ tree. NamesGroups tree groups.names groups.static_captures_len)
+
 -- the groups of a match of the regex in this haystack, of which these are the slots
 abbrev pub groups_of : (haystack : List ℕ) → (slots : List (Option ℕ)) → Compiled → Groups
 groups_of haystack slots compiled = record {
   haystack = haystack;
   spans = spans_of slots;
-  names = map (option_map rc_str_bytes) compiled.graph.capture_names;
+  names = names_of compiled;
   static_captures_len = compiled.graph.static_captures_len;
 }

@@ -1,9 +1,7 @@
 -- The slots of an outcome, or its span, tell the groups of what was found.
 use Rattle.std.proofs.Common.{◌≡◌, ◌≤◌, refl, sym, ap, subst, ◌∙◌, ℕ, zero, suc, ◌*◌, List, [], ◌∷◌, length, Option, Some, None, IfSome, IsSome, option_map, chars, IsUtf8, arith}
-use Rattle.std.proofs.lemmas.List.{length-map}
 use Rattle.std.specs.List.{filter_map}
 use Rattle.std.specs.Option.{option_zip}
-use Rattle.std.specs.Rc.{rc_str_bytes}
 use Rattle.regex_lite_syntax.specs.Text.{Text}
 use Rattle.regex_lite_syntax.specs.Tree.{Tree}
 use Rattle.regex_lite_syntax.specs.Tree.Properties.{captures_len, static_captures_len}
@@ -13,7 +11,7 @@ use Rattle.regex_lite_engine.specs.Search.Offsets.{HasSlots, offset}
 use Rattle.regex_lite_engine.proofs.laws.PatternTreeLemmas.{regular_tree}
 use Rattle.regex_lite_engine.proofs.laws.groups.SpanLemmas.{groups_inside}
 use Rattle.regex_lite.specs.declared.string.compiled.Compiled.{Compiled}
-use Rattle.regex_lite.specs.Compiled.{IsBuilt, groups_of}
+use Rattle.regex_lite.specs.Compiled.{IsBuilt, NamesGroups, groups_of, names_of}
 use Rattle.regex_lite.specs.Groups.{AreGroups, LiesIn, span_at, spans_of, text_at, texts_from, group_span}
 use Rattle.regex_lite.specs.Searches.{AreGroupsOf, offsets, spans_from}
 use Rattle.regex_lite.specs.Slots.{all_slots, kept_slots}
@@ -73,51 +71,55 @@ module _ (haystack : Text) (tree : Tree) (s : ℕ) (found : Found) (given : IsPa
   all_told kept slots span filled enough held same =
       subst (AreAllSlots haystack tree found) (sym filled) (each_told kept span enough held same)
 
-module _ (bytes : List ℕ) (utf8 : IsUtf8 bytes) (compiled : Compiled) (built : IsBuilt compiled)
-    (slots : List (Option ℕ)) (s : ℕ) (found : Found)
-    (is : IsFound built.tree (chars bytes) s found)
-    (told : HasSlots (chars bytes) slots found.marks)
-    (len : length slots ≡ 2 * captures_len built.tree) where
-  given : IsPatternTree built.tree
-  given = (compiled.flags, _, built.given)
+-- a regex shares what tells of the groups of its tree
+pub built_shares : (compiled : Compiled) (built : IsBuilt compiled)
+    → NamesGroups built.tree (names_of compiled) compiled.graph.static_captures_len
+built_shares compiled built = record {
+  names_are = are_names _ compiled.graph.capture_names built.tree refl built.regular
+      built.groups.captures built.groups.names;
+  static_is = built.groups.static_captures;
+}
 
+module _ (bytes : List ℕ) (utf8 : IsUtf8 bytes) (tree : Tree) (given : IsPatternTree tree) (s : ℕ)
+    (found : Found) (is : IsFound tree (chars bytes) s found) (slots : List (Option ℕ))
+    (all : AreAllSlots (chars bytes) tree found slots) (shared : Compiled)
+    (shares : NamesGroups tree (names_of shared) shared.graph.static_captures_len) where
   abbrev spans : List (Option (ℕ × ℕ))
-  spans = spans_from (chars bytes) found.marks 0 (captures_len built.tree)
+  spans = spans_from (chars bytes) found.marks 0 (captures_len tree)
 
   spans_are : spans_of slots ≡ spans
   spans_are =
-      slots_told (chars bytes) found.marks slots 0 (captures_len built.tree) 0 refl len
-      (λ k slot at. told k slot at
+      slots_told (chars bytes) found.marks slots 0 (captures_len tree) 0 refl all.1
+      (λ k slot at. all.0 k slot at
       ∙ ap (λ n. option_map (offset (chars bytes)) (found.marks n)) (omega arith))
 
-  some_group_0 : IsSome (group_span (groups_of bytes slots compiled) 0)
+  some_group_0 : IsSome (group_span (groups_of bytes slots shared) 0)
   some_group_0 =
       subst IsSome (sym (ap (λ all. span_at all 0) spans_are
-      ∙ group_0 (chars bytes) built.tree s found (captures_len built.tree) given is (omega arith))) refl
+      ∙ group_0 (chars bytes) tree s found (captures_len tree) given is (omega arith))) refl
 
-  pub captured_of : AreGroupsOf built.tree bytes found (groups_of bytes slots compiled)
+  pub captured_of : AreGroupsOf tree bytes found (groups_of bytes slots shared)
   captured_of = record {
     haystack = refl;
     spans = spans_are;
-    names = are_names _ compiled.graph.capture_names built.tree refl built.regular
-        built.groups.captures built.groups.names;
-    static_captures = built.groups.static_captures;
+    names = shares.names_are;
+    static_captures = shares.static_is;
     whole = some_group_0;
   }
 
-  pub captured : AreGroups (groups_of bytes slots compiled)
+  pub captured : AreGroups (groups_of bytes slots shared)
   captured = record {
     inside = λ k. subst (λ all. IfSome (span_at all k) (LiesIn bytes)) (sym spans_are)
-        (groups_lie bytes utf8 built.tree given s found is (captures_len built.tree) k);
-    each = ap length spans_are ∙ length_spans (chars bytes) found.marks 0 (captures_len built.tree)
-        ∙ sym built.groups.captures ∙ sym (length-map compiled.graph.capture_names (option_map rc_str_bytes));
+        (groups_lie bytes utf8 tree given s found is (captures_len tree) k);
+    each = ap length spans_are ∙ length_spans (chars bytes) found.marks 0 (captures_len tree)
+        ∙ sym shares.names_are.each_group;
     whole = some_group_0;
-    enough = each compiled.graph.static_captures_len built.groups.static_captures;
+    enough = each shared.graph.static_captures_len shares.static_is;
   }
     where
-      each : (known : Option ℕ) → known ≡ static_captures_len built.tree
-          → IfSome known (λ n. n ≤ length (texts_from (groups_of bytes slots compiled) 0))
+      each : (known : Option ℕ) → known ≡ static_captures_len tree
+          → IfSome known (λ n. n ≤ length (texts_from (groups_of bytes slots shared) 0))
       each None e = tt
       each (Some n) e =
           subst (λ all. n ≤ length (filter_map (option_map (text_at bytes)) all)) (sym spans_are)
-          (enough_texts bytes utf8 built.tree given s found is n (sym e))
+          (enough_texts bytes utf8 tree given s found is n (sym e))

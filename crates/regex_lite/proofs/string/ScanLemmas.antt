@@ -6,7 +6,6 @@ use Rattle.std.proofs.lemmas.Bool.Decides.{nat_tests}
 use Rattle.regex_lite_syntax.specs.Text.{Text}
 use Rattle.regex_lite_syntax.specs.Tree.{Tree}
 use Rattle.regex_lite_syntax.specs.Tree.Properties.{captures_len}
-use Rattle.regex_lite_syntax.specs.Grammar.{IsTree}
 use Rattle.regex_lite_engine.specs.Search.Answer.{Found, IsFound}
 use Rattle.regex_lite_engine.specs.Search.Offsets.{offset, position_at, search_start}
 use Rattle.regex_lite_engine.proofs.OffsetLemmas.{offset_less}
@@ -14,7 +13,7 @@ use Rattle.regex_lite_engine.proofs.PositionLemmas.{position_of}
 use Rattle.regex_lite.specs.declared.string.compiled.Compiled.{Compiled}
 use Rattle.regex_lite.specs.declared.string.matches.Match.{Match}
 use Rattle.regex_lite.specs.Ahead.{Ahead, AreGroupsFound, IsOnward, Passes, ahead}
-use Rattle.regex_lite.specs.Compiled.{IsBuilt, groups_of}
+use Rattle.regex_lite.specs.Compiled.{AreOfRegex, SharesGroups, groups_of}
 use Rattle.regex_lite.specs.Expression.{Expression}
 use Rattle.regex_lite.specs.Groups.{Groups, AreGroups, span_at, whole_span}
 use Rattle.regex_lite.specs.MatchList.{IsAnswerOf}
@@ -27,42 +26,48 @@ use Rattle.regex_lite.proofs.string.FoundLemmas.{group_0}
 use Rattle.regex_lite.proofs.string.NextLemmas.{IsWithin, found_within, next_answer}
 use Rattle.regex_lite.proofs.string.OneTreeLemmas.{one_tree}
 
-module _ (bytes : List ℕ) (utf8 : IsUtf8 bytes) (re : Expression) (compiled : Compiled)
-    (built : IsBuilt compiled) (given : IsTree re.flags (chars re.pattern) built.tree)
-    (kept slots : List (Option ℕ)) (room : HasSlotsForGroups re kept) (shared : Compiled)
-    (same : shared ≡ compiled) where
-  enough : length kept ≡ kept_slots (captures_len built.tree)
+module _ (bytes : List ℕ) (utf8 : IsUtf8 bytes) (re : Expression) (kept slots : List (Option ℕ))
+    (room : HasSlotsForGroups re kept) (shared : Compiled) (shares : SharesGroups re shared)
+    (found : Found) (m : Match) (filled : slots ≡ all_slots kept (span_of_match m))
+    (last : IsMatchOfSearch re bytes kept found m) where
+  abbrev tree : Tree
+  tree = shares.0
+
+  enough : length kept ≡ kept_slots (captures_len tree)
   enough =
-      subst (λ tree. length kept ≡ kept_slots (captures_len tree))
-      (one_tree re.flags (chars re.pattern) room.0 built.tree room.1 given) room.2
+      subst (λ own. length kept ≡ kept_slots (captures_len own))
+      (one_tree re.flags (chars re.pattern) room.0 tree room.1 shares.1) room.2
 
-  module _ (found : Found) (m : Match) (filled : slots ≡ all_slots kept (span_of_match m))
-      (last : IsMatchOfSearch re bytes kept found m) where
-    is_found : IsFound built.tree (chars bytes) last.0 found
-    is_found =
-        subst (λ tree. IsFound tree (chars bytes) last.0 found)
-        (one_tree re.flags (chars re.pattern) last.1.0 built.tree last.1.1 given) last.1.2
+  is_found : IsFound tree (chars bytes) last.0 found
+  is_found =
+      subst (λ own. IsFound own (chars bytes) last.0 found)
+      (one_tree re.flags (chars re.pattern) last.1.0 tree last.1.1 shares.1) last.1.2
 
-    all_held : AreAllSlots (chars bytes) built.tree found slots
-    all_held =
-        all_told (chars bytes) built.tree last.0 found (compiled.flags, _, built.given) is_found
-        kept slots (span_of_match m) filled enough last.2.has_slots last.2.is_match.span
+  all_held : AreAllSlots (chars bytes) tree found slots
+  all_held =
+      all_told (chars bytes) tree last.0 found (re.flags, _, shares.1) is_found kept slots
+      (span_of_match m) filled enough last.2.has_slots last.2.is_match.span
 
-    -- all slots hold groups
-    pub groups_held : AreGroups (groups_of bytes slots shared)
-    groups_held =
-        subst (λ c. AreGroups (groups_of bytes slots c)) (sym same)
-        (captured bytes utf8 compiled built slots last.0 found is_found all_held.0 all_held.1)
+  -- all slots hold groups
+  pub groups_held : AreGroups (groups_of bytes slots shared)
+  groups_held =
+      captured bytes utf8 tree (re.flags, _, shares.1) last.0 found is_found slots all_held shared
+      shares.2
 
-    -- which are those of what was found
-    pub groups_kept : (groups : Groups) → groups ≡ groups_of bytes slots shared
-        → AreGroupsFound re bytes found groups
-    groups_kept groups is = (
-      built.tree,
-      given,
-      rw (is, same)
-          (captured_of bytes utf8 compiled built slots last.0 found is_found all_held.0 all_held.1),
-    )
+  -- which are those of what was found
+  pub groups_kept : AreGroupsFound re bytes found (groups_of bytes slots shared)
+  groups_kept = (
+    tree,
+    shares.1,
+    captured_of bytes utf8 tree (re.flags, _, shares.1) last.0 found is_found slots all_held shared
+        shares.2,
+  )
+
+-- groups that were found are those of the regex
+pub of_regex : (re : Expression) (bytes : List ℕ) (found : Found) (groups : Groups)
+    → AreGroupsFound re bytes found groups → AreOfRegex re groups
+of_regex re bytes found groups (tree, given, are) =
+    (tree, given, record { names_are = are.names; static_is = are.static_captures })
 
 -- the groups of what was found have its span
 pub whole_of_groups : (re : Expression) (bytes : List ℕ) (s : ℕ) (found : Found) (groups : Groups)

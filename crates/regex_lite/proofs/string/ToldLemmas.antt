@@ -20,7 +20,7 @@ use Rattle.regex_lite.specs.MatchViews.{haystack_of_match, span_of_match}
 use Rattle.regex_lite.specs.Scanning.{TellsMatchWithSlots}
 use Rattle.regex_lite.specs.Searches.{AreGroupsOf, TellsMatch, TellsGroups, TellsLocations, offsets, spans_from}
 use Rattle.regex_lite.specs.Slots.{all_slots, kept_slots}
-use Rattle.regex_lite.proofs.string.CapturedLemmas.{AreAllSlots, all_told, captured, captured_of}
+use Rattle.regex_lite.proofs.string.CapturedLemmas.{AreAllSlots, all_told, built_shares, captured, captured_of}
 use Rattle.regex_lite.proofs.string.FoundLemmas.{first_told, found_lies, group_0, length_spans}
 use Rattle.regex_lite.proofs.string.OneTreeLemmas.{one_tree}
 
@@ -126,15 +126,16 @@ module _ (bytes : List ℕ) (utf8 : IsUtf8 bytes) (start : ℕ) (re : Expression
     pub groups_are : AreGroups (groups_of bytes all shared)
     groups_are =
         subst (λ c. AreGroups (groups_of bytes all c)) (sym same)
-        (captured bytes utf8 compiled built all (search_start bytes start) of_built.0
-        of_built.1 all_held.0 all_held.1)
+        (captured bytes utf8 built.tree (compiled.flags, _, built.given) (search_start bytes start)
+        of_built.0 of_built.1 all all_held compiled (built_shares compiled built))
 
     -- which are what is told
     pub groups_told : (groups : Groups) → groups ≡ groups_of bytes all shared
         → TellsGroups re bytes start (Some groups)
     groups_told groups are =
-        let own = captured_of bytes utf8 compiled built all (search_start bytes start)
-        of_built.0 of_built.1 all_held.0 all_held.1 in
+        let own = captured_of bytes utf8 built.tree (compiled.flags, _, built.given)
+        (search_start bytes start) of_built.0 of_built.1 all all_held compiled
+        (built_shares compiled built) in
         let as_shared = subst (λ c. AreGroupsOf built.tree bytes of_built.0 (groups_of bytes all c))
         (sym same) own in (
           built.tree,

@@ -1,7 +1,7 @@
 //! The groups of a match.
 ghost use Rattle.std.specs.Prelude.{◌≡◌, ◌≤◌, Some, IsSome, IfSome, length, option_map, take};
 ghost use Rattle.regex_lite.specs.Groups.{AreGroups, group_span, group_text, named_span, named_text};
-ghost use Rattle.regex_lite.specs.Compiled.{groups_of};
+ghost use Rattle.regex_lite.specs.Compiled.{groups_of, names_of};
 
 use crate::owner::Shared;
 use crate::string::captures_in::CapturesIn;
@@ -68,6 +68,15 @@ impl<'h> Captures<'h> {
         Captures {
             inner: CapturesIn::new(haystack, slots, compiled),
         }
+    }
+
+    /// The slots, and what is shared with the regex.
+    pub(super) fn into_parts(self) -> (Vec<Option<usize>>, Shared<Compiled>)
+        ensures names { names_of result.1 ≡ self.entry.names }
+        ensures static_captures { result.1.graph.static_captures_len
+            ≡ self.entry.static_captures_len }
+    {
+        self.inner.into_parts()
     }
 
     /// What the group with this index matched last: `None` where it isn't there or took no part.

@@ -2,7 +2,7 @@
 ghost use Rattle.std.specs.Prelude.{◌≡◌, ◌+◌, ◌<◌, ◌≤◌, ◌∷◌, ℕ, List, Some, IfSome, length, map, option_map, slice_range, take};
 ghost use Rattle.std.specs.Rc.{rc_str_bytes};
 ghost use Rattle.regex_lite.specs.Groups.{AreGroups, LiesIn, group_span, group_text, index_of, is_named, texts_from, whole_span};
-ghost use Rattle.regex_lite.specs.Compiled.{groups_of};
+ghost use Rattle.regex_lite.specs.Compiled.{groups_of, names_of};
 
 use crate::owner::Shared;
 use crate::string::compiled::Compiled;
@@ -66,6 +66,19 @@ impl<T: Text> CapturesIn<T> {
             slots,
             compiled,
         }
+    }
+
+    /// The slots, and what is shared with the regex.
+    pub(super) fn into_parts(self) -> (Vec<Option<usize>>, Shared<Compiled>)
+        ensures names { names_of result.1 ≡ self.names }
+        ensures static_captures { result.1.graph.static_captures_len ≡ self.static_captures_len }
+    {
+        let CapturesIn {
+            slots,
+            compiled,
+            ..
+        } = self;
+        (slots, compiled)
     }
 
     /// The text of the whole match, and those of the first N other groups that took part, by index.

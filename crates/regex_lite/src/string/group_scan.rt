@@ -1,6 +1,7 @@
 //! Goes over a haystack from match to match, with the groups of each.
 ghost use Rattle.std.specs.Prelude.{◌≡◌, ◌<◌, None, IfOk, IfErr, IfSome};
 ghost use Rattle.regex_lite_syntax.specs.Errors.{out_of_memory};
+ghost use Rattle.regex_lite.specs.Compiled.{AreOfRegex};
 ghost use Rattle.regex_lite.specs.Ahead.{GivesGroupsOf, ahead, most_ahead, whole};
 
 use crate::string::captures::Captures;
@@ -10,20 +11,24 @@ use regex_lite_syntax::Error;
 use std::fmt;
 use std::marker::Model;
 
-/// A scan whose slots tell all groups of its matches.
+/// A scan whose slots tell all groups of its matches, and groups that were given back to it.
 #[derive(Drop)]
 pub(super) struct GroupScan<'r, 'h> {
     scan: Scan<'r, 'h>,
+    spare: Option<Captures<'h>>,
 }
 
 impl<'r, 'h> Model for GroupScan<'r, 'h> {
+    ghost use Rattle.std.specs.Prelude.{IfSome};
+    ghost use Rattle.regex_lite.specs.Compiled.{AreOfRegex};
     ghost use Rattle.regex_lite.specs.Scanning.{HasSlotsForGroups, Scanning};
 
     ghost Value = { Scanning };
 
     ghost view = { λ groups. groups.scan };
 
-    ghost invariant = { λ groups. HasSlotsForGroups groups.scan.regex groups.scan.slots };
+    ghost invariant = { λ groups. HasSlotsForGroups groups.scan.regex groups.scan.slots
+        × IfSome groups.spare (AreOfRegex groups.scan.regex) };
 }
 
 impl<'r, 'h> GroupScan<'r, 'h> {
@@ -38,7 +43,7 @@ impl<'r, 'h> GroupScan<'r, 'h> {
         ensures refused { IfErr result (λ error. error ≡ out_of_memory) }
     {
         let scan = Scan::new(regex, haystack, limit, regex.kept_slots())?;
-        Ok(GroupScan { scan })
+        Ok(GroupScan { scan, spare: None })
     }
 
     /// The groups of the next match, if one may come. Behind a refusal none comes.
@@ -47,14 +52,23 @@ impl<'r, 'h> GroupScan<'r, 'h> {
         ensures fewer { IfSome result (λ _. most_ahead self.new < most_ahead self.old) }
     {
         let cursor = self.scan.cursor();
+        let spare = self.spare.take();
         let found = self.scan.next()?;
-        match self.scan.captures(&found) {
+        match self.scan.captures(&found, spare) {
             Ok(caps) => Some(Ok(caps)),
             Err(error) => {
                 self.scan.stop_at(cursor);
                 Some(Err(error))
             }
         }
+    }
+
+    /// Takes groups back that it gave, so that the next ones take their memory.
+    pub fn take_back(&mut self, caps: Captures<'h>)
+        requires { AreOfRegex self.old.regex caps }
+        ensures { self.new ≡ self.old }
+    {
+        self.spare = Some(caps);
     }
 
     /// Writes its parts as those of an iterator with this name.

@@ -7,8 +7,8 @@ ghost use Rattle.regex_lite.specs.MatchList.{IsAnswerOf};
 ghost use Rattle.regex_lite.specs.Searches.{MatchesFrom};
 ghost use Rattle.regex_lite.specs.Replacements.{IsHandedOn, IsRefused, IsReplacedBy, IsReplacedInTurn, IsReplacement, limit_of};
 
-use crate::string::captures_iter::CaptureMatches;
 use crate::string::find_iter::Matches;
+use crate::string::group_scan::GroupScan;
 use crate::string::regex::Regex;
 use crate::string::replacer::Replacer;
 use regex_lite_syntax::Error;
@@ -164,12 +164,14 @@ impl Regex {
         let mut new = String::new(self.alloc);
         let mut from = 0;
         let mut is_replaced = false;
-        for item in CaptureMatches::new(self, haystack, limit)? {
+        let mut scan = GroupScan::new(self, haystack, limit)?;
+        'items: while let Some(item) = scan.next() {
             let caps = item?;
             let (start, end) = caps.whole_span();
             new.reserve(haystack.len() - from)?;
             new.push_str(&haystack[from..start])?;
             rep.replace_append(&caps, &mut new)?;
+            scan.take_back(caps);
             from = end;
             is_replaced = true;
         }

@@ -3,6 +3,7 @@ ghost use Rattle.std.specs.Prelude.{◌≡◌, ◌<◌, Some, None, IfOk, IfErr,
 ghost use Rattle.regex_lite_syntax.specs.Errors.{out_of_memory};
 ghost use Rattle.regex_lite_engine.specs.Search.Answer.{Found};
 ghost use Rattle.regex_lite.specs.Ahead.{AreGroupsFound, GivesMatchWithSlots, ahead, most_ahead, whole};
+ghost use Rattle.regex_lite.specs.Compiled.{AreOfRegex};
 ghost use Rattle.regex_lite.specs.NextMatch.{IsNextOffset, TellsNextMatch};
 ghost use Rattle.regex_lite.specs.Scanning.{HasSlotsForGroups, IsAnswerIfEmpty, IsBehindAnswer, IsEmptyFrom, IsMatchOfSearch};
 
@@ -90,8 +91,13 @@ impl<'r, 'h> Scan<'r, 'h> {
         }
     }
 
-    /// The groups of the last match.
-    pub fn captures(&self, last: &Match<'h>) -> Result<Captures<'h>, Error>
+    /// The groups of the last match. They take the memory of the spare ones where there are some.
+    pub fn captures(
+        &self,
+        last: &Match<'h>,
+        spare: Option<Captures<'h>>,
+    ) -> Result<Captures<'h>, Error>
+        requires spare { IfSome spare (AreOfRegex self.now.regex) }
         requires room { HasSlotsForGroups self.now.regex self.now.slots }
         requires last { (found : Found)
             × IsMatchOfSearch self.now.regex self.now.haystack self.now.slots found last.now }
@@ -100,7 +106,7 @@ impl<'r, 'h> Scan<'r, 'h> {
             → AreGroupsFound self.now.regex self.now.haystack found groups) }
         ensures refused { IfErr result (λ error. error ≡ out_of_memory) }
     {
-        self.searcher.captures(self.cursor.haystack, last)
+        self.searcher.captures(self.cursor.haystack, last, spare)
     }
 
     /// Back to where it stood before, with nothing to come.

@@ -1,12 +1,15 @@
 //! Searches, one after another, in the same memory.
-ghost use Rattle.std.specs.Prelude.{◌≡◌, IfOk, IfErr, length};
+ghost use Rattle.std.specs.Prelude.{◌≡◌, IfOk, IfErr, IfSome, length};
 ghost use Rattle.regex_lite_syntax.specs.Errors.{out_of_memory};
 ghost use Rattle.regex_lite_engine.specs.Search.Answer.{Found};
 ghost use Rattle.regex_lite.specs.Ahead.{AreGroupsFound};
+ghost use Rattle.regex_lite.specs.Compiled.{AreOfRegex, SharesGroups};
 ghost use Rattle.regex_lite.specs.Scanning.{HasSlotsForGroups, IsAnswerIfEmpty, IsMatchOfSearch, TellsMatchWithSlots};
 ghost use Rattle.regex_lite.specs.Searches.{CanStartAt};
 
+use crate::owner::Shared;
 use crate::string::captures::Captures;
+use crate::string::compiled::Compiled;
 use crate::string::matches::Match;
 use crate::string::regex::Regex;
 use crate::string::slots::all_slots;
@@ -60,8 +63,15 @@ impl<'r> Searcher<'r> {
         Some(Match::new(haystack, from, to))
     }
 
-    /// The groups of the last match, which was found in this haystack.
-    pub fn captures<'h>(&self, haystack: &'h str, last: &Match<'h>) -> Result<Captures<'h>, Error>
+    /// The groups of the last match, which was found in this haystack. They take the memory of the
+    /// spare ones where there are some.
+    pub fn captures<'h>(
+        &self,
+        haystack: &'h str,
+        last: &Match<'h>,
+        spare: Option<Captures<'h>>,
+    ) -> Result<Captures<'h>, Error>
+        requires spare { IfSome spare (AreOfRegex self.now.regex) }
         requires room { HasSlotsForGroups self.now.regex self.now.slots }
         requires last { (found : Found)
             × IsMatchOfSearch self.now.regex haystack.now self.now.slots found last.now }
@@ -70,13 +80,29 @@ impl<'r> Searcher<'r> {
             → AreGroupsFound self.now.regex haystack.now found groups) }
         ensures refused { IfErr result (λ error. error ≡ out_of_memory) }
     {
-        let regex = self.regex;
-        let kept = self.inner.slots();
-        let mut slots = vec![in regex.alloc; None; kept.len()]?;
-        slots.copy_from_slice(kept);
+        let (mut slots, compiled) = self.parts(spare)?;
+        slots.clear();
+        slots.extend_from_slice(self.inner.slots())?;
         let slots = all_slots(slots, (last.start(), last.end()))?;
-        let compiled = regex.compiled.clone()?;
         Ok(Captures::new(haystack, slots, compiled))
+    }
+
+    /// Those of the spare groups, or new ones with room for the slots that are kept.
+    fn parts<'h>(
+        &self,
+        spare: Option<Captures<'h>>,
+    ) -> Result<(Vec<Option<usize>>, Shared<Compiled>), Error>
+        requires { IfSome spare (AreOfRegex self.now.regex) }
+        ensures ok { IfOk result (λ parts. SharesGroups self.now.regex parts.1) }
+        ensures refused { IfErr result (λ error. error ≡ out_of_memory) }
+    {
+        if let Some(caps) = spare {
+            return Ok(caps.into_parts());
+        }
+        let regex = self.regex;
+        let slots = Vec::with_capacity(regex.alloc, self.inner.slots().len())?;
+        let compiled = regex.compiled.clone()?;
+        Ok((slots, compiled))
     }
 }
 

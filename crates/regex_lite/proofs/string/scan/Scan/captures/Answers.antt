@@ -1,8 +1,14 @@
-use Rattle.std.proofs.Common.{IfOk, sym, subst}
+use Rattle.std.proofs.Common.{IfOk, IfSome, sym, subst}
 use Rattle.regex_lite_engine.specs.Search.Answer.{Found}
 use Rattle.regex_lite.specs.Ahead.{AreGroupsFound}
+use Rattle.regex_lite.specs.Compiled.{AreOfRegex}
 use Rattle.regex_lite.specs.Scanning.{IsMatchOfSearch, Scanning}
 use Rattle.regex_lite.proofs.string.scan.Scan.captures.Goals as goal
+
+pub captures-requires-clause-spare : goal.captures-requires-clause-spare
+captures-requires-clause-spare c =
+    subst (λ (own : Scanning). IfSome c.args.spare (AreOfRegex own.regex)) (sym c.self.view_is)
+    c.requires.spare
 
 pub captures-requires-clause-last : goal.captures-requires-clause-last
 captures-requires-clause-last c =
