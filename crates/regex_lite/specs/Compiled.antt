@@ -37,11 +37,12 @@ pub record NamesGroups (tree : Tree) (names : List (Option (List ℕ))) (static 
   pub names_are : AreNames names tree
   pub static_is : static ≡ static_captures_len tree
 
+-- what was built tells the regex's names and number
 abbrev pub SharesGroups : Expression → Compiled → Type 0
 SharesGroups re compiled =
     OfTree re (λ tree. NamesGroups tree (names_of compiled) compiled.graph.static_captures_len)
 
--- the groups are those of some match of the regex
+-- these groups tell them too, whatever they matched
 abbrev pub AreOfRegex : Expression → Groups → Type 0
 AreOfRegex re groups =
     OfTree re (λ tree. NamesGroups tree groups.names groups.static_captures_len)
