@@ -2,3 +2,4 @@
 pub mod Saturation
 pub mod Layout
 pub mod Starts
+pub mod Heads

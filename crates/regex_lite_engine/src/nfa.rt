@@ -9,10 +9,11 @@ ghost use Rattle.regex_lite_engine.specs.Graph.Size.{Fits, IsDueToTree};
 ghost use Rattle.regex_lite_engine.specs.Graph.Places.{kept_back_of, kept_back_with, reading_of};
 ghost use Rattle.regex_lite_engine.specs.Graph.Stored.{LeadsBelow, place_of, table_of};
 ghost use Rattle.regex_lite_engine.specs.Nfa.Saturation.{AreCountsOf};
-ghost use Rattle.regex_lite_engine.specs.Walk.Starts.{AreStartsOf};
+ghost use Rattle.regex_lite_engine.specs.Walk.Starts.{AreHeadsOf};
 
 pub(crate) mod class;
 mod count;
+pub(crate) mod heads;
 pub(crate) mod kept_back;
 pub(crate) mod place;
 pub(crate) mod starts;
@@ -20,10 +21,10 @@ mod write;
 
 use crate::pikevm::steps::Steps;
 use count::Counts;
+use heads::Heads;
 use kept_back::KeptBack;
 use place::Place;
 use regex_lite_syntax::{Error, Hir};
-use starts::Starts;
 use std::alloc::{AllocError, Global};
 use std::marker::Model;
 use std::rc::RcStr;
@@ -45,14 +46,14 @@ pub struct Graph {
     capture_names: Vec<Option<RcStr>>,
     static_captures_len: Option<usize>,
     /// Where a match can begin.
-    starts: Starts,
+    heads: Heads,
 }
 
 impl Model for Graph {
     ghost use Rattle.std.specs.Prelude.{◌≡◌, map};
     ghost use Rattle.regex_lite_engine.specs.Graph.Renumbered.{arrows_of};
     ghost use Rattle.regex_lite_engine.specs.Graph.Stored.{StoredGraph, IsClosed, IsKeptBackOf, place_of};
-    ghost use Rattle.regex_lite_engine.specs.Walk.Starts.{AreStartsOf};
+    ghost use Rattle.regex_lite_engine.specs.Walk.Starts.{AreHeadsOf};
 
     ghost Value = { StoredGraph };
 
@@ -63,13 +64,13 @@ impl Model for Graph {
       reading = graph.reading;
       capture_names = graph.capture_names.items;
       static_captures_len = graph.static_captures_len;
-      starts = graph.starts;
+      heads = graph.heads;
     } };
 
     ghost invariant = { λ graph.
         IsClosed graph.places.items graph.start graph.arrows graph.reading
         × (arrows_of (map place_of graph.places.items) ≡ graph.arrows)
-        × AreStartsOf (map place_of graph.places.items) graph.start graph.starts
+        × AreHeadsOf (map place_of graph.places.items) graph.start graph.heads
         × IsKeptBackOf (map place_of graph.places.items) graph.kept_back };
 }
 
@@ -99,7 +100,7 @@ impl Graph {
         let capture_names = capture_names(alloc, hir, &counts)?;
         let (places, start) = write_out(alloc, hir, count)?;
         let kept_back = KeptBack::of(&places);
-        let starts = Starts::of(hir);
+        let heads = Heads::of(hir);
         Ok(Graph {
             places,
             start,
@@ -108,7 +109,7 @@ impl Graph {
             kept_back,
             capture_names,
             static_captures_len: counts.static_captures_len(),
-            starts,
+            heads,
         })
     }
 
@@ -133,12 +134,12 @@ impl Graph {
     }
 
     /// Where a match can begin.
-    pub(crate) fn starts(&self) -> &Starts
-        ensures same { result.now ≡ self.now.starts }
-        ensures all { AreStartsOf (table_of self.now) self.now.start result.now }
+    pub(crate) fn heads(&self) -> &Heads
+        ensures same { result.now ≡ self.now.heads }
+        ensures all { AreHeadsOf (table_of self.now) self.now.start result.now }
         ensures inside { self.now.start < length self.now.places }
     {
-        &self.starts
+        &self.heads
     }
 
     /// How many places there are.

@@ -1,16 +1,20 @@
 -- Positions at which no match can begin, and the bytes of their characters.
-use Rattle.std.proofs.Common.{◌≡◌, ℕ, zero, suc, ◌*◌, ◌-◌, ◌<◌, ◌≤◌, ◌⊎◌, inl, inr, Bool, true, false, IsTrue, List, [], ◌∷◌, ◌++◌, length, drop, slice_get, slice_index, slice_index_or, nat_lt, if◌then◌else◌, ◌&&◌, ◌||◌, Option, Some, None, refl, sym, ap, subst, ◌∙◌, arith, length-drop}
-use Rattle.std.specs.Prelude.{IsUtf8, IsCharBoundary, chars, is_none}
+use Rattle.std.proofs.Common.{◌≡◌, ℕ, zero, suc, ◌+◌, ◌*◌, ◌-◌, ◌<◌, ◌≤◌, ◌⊎◌, inl, inr, Bool, true, false, IsTrue, List, [], ◌∷◌, ◌++◌, length, take, drop, sum_by, slice_get, slice_index, slice_index_or, nat_lt, if◌then◌else◌, ◌&&◌, ◌||◌, Option, Some, None, refl, sym, ap, subst, ◌∙◌, arith, length-drop}
+use Rattle.std.specs.Prelude.{IsUtf8, IsCharBoundary, MatchOption, chars, is_none}
+use Rattle.std.specs.Char.{len_utf8}
 use lib.Utf8.{encode, encodes}
 use Rattle.std.proofs.Math.Nat.{mul-le-mul_left}
 use Rattle.std.proofs.lemmas.Bool.{cases_lt, cases_eq}
 use Rattle.std.proofs.lemmas.Bool.Decides.{nat_tests}
+use Rattle.std.proofs.lemmas.List.{take_all}
 use Rattle.std.proofs.lemmas.Option.{slice_get_within}
 use Rattle.std.proofs.lemmas.Str.{encodes-chars, char_from_byte, byte_from_char}
 use Rattle.regex_lite_syntax.specs.Text.{Text, after}
 use Rattle.regex_lite_engine.specs.declared.nfa.starts.Starts.{Starts}
 use Rattle.regex_lite_engine.specs.declared.pikevm.here.Here.{Here}
 use Rattle.regex_lite_engine.specs.Graph.Places.{Place}
+use Rattle.regex_lite_engine.specs.declared.nfa.heads.Heads.{Heads}
+use Rattle.regex_lite_engine.specs.Nfa.Heads.{IsCutOff, IsPassed, NeverBegins}
 use Rattle.regex_lite_engine.specs.Nfa.Starts.{begins_with, stops_at, may_begin, MayBegin}
 use Rattle.regex_lite_engine.specs.Search.Offsets.{offset}
 use Rattle.regex_lite_engine.specs.Walk.Machine.{Thread}
@@ -20,7 +24,7 @@ use Rattle.regex_lite_engine.specs.Walk.Turns.{IsComing}
 use Rattle.regex_lite_engine.specs.Walk.Walking.{Best}
 use Rattle.regex_lite_engine.proofs.pikevm.OptionLemmas.{not_there, same_some}
 use Rattle.regex_lite_engine.proofs.pikevm.TurnLemmas.{jumped}
-use Rattle.regex_lite_engine.proofs.pikevm.here.OffsetLemmas.{offset_less, offset_most, rest_at, boundary_at}
+use Rattle.regex_lite_engine.proofs.pikevm.here.OffsetLemmas.{length_encodes, offset_next, offset_less, offset_most, rest_at, boundary_at}
 
 never_both : (a : Bool) → (a && false) ≡ true → ⊥
 never_both true e = cc
@@ -163,10 +167,100 @@ begins_later s h i (d, behind) (c, ahead, off) may =
     neither true t = cc
     neither false t = cc
 
-module _ (s : Starts) (bs : List ℕ) (p q : ℕ) (x y : Here) (u : IsUtf8 bs)
+whole : (bs : List ℕ) → IsUtf8 bs → offset (chars bs) (length (chars bs)) ≡ length bs
+whole bs u =
+    let all : take (length (chars bs)) (chars bs) ≡ chars bs =
+    take_all (length (chars bs)) (chars bs) (omega arith) in
+    ap (sum_by len_utf8) all ∙ sym (length_encodes (chars bs)) ∙ ap length (encodes-chars bs u)
+
+-- behind an ASCII character the next one begins at the next byte
+module _ (bs : List ℕ) (i : ℕ) (u : IsUtf8 bs) (within : i < length (chars bs))
+    (short : offset (chars bs) i + 1 < length bs)
+    (ascii : slice_index bs (offset (chars bs) i) < 128) where
+  abbrev pub at : ℕ
+  at = offset (chars bs) i
+
+  abbrev here : (c : ℕ) × (slice_get (chars bs) i ≡ Some c)
+  here = there (chars bs) i within
+
+  rest : drop at bs ≡ encode here.0 ++ encodes (drop (suc i) (chars bs))
+  rest = ap (drop at) (sym (encodes-chars bs u)) ∙ rest_at (chars bs) i
+      ∙ ap encodes (first_of i (chars bs) here.0 here.1)
+
+  low : here.0 < 128
+  low =
+      let head = get_drop at bs in
+      let some : 0 < length (drop at bs) = omega (arith, short, length-drop at bs) in
+      let same = char_from_byte (drop at bs) (encodes (drop (suc i) (chars bs))) here.0 rest
+      (omega (arith, ascii, head)) some in
+      omega (arith, same, head, ascii)
+
+  next_at : offset (chars bs) (suc i) ≡ at + 1
+  next_at =
+      let test : nat_lt here.0 128 ≡ true = grind (arith, nat_tests, low) in
+      let one : len_utf8 here.0 ≡ 1 = rw test refl in
+      omega (arith, offset_next (chars bs) i here.0 here.1, one)
+
+  inside : suc i < length (chars bs)
+  inside = elim (cases_lt (suc i) (length (chars bs))) [
+    | inl lt ↦ lt
+    | inr le ↦
+        let last : suc i ≡ length (chars bs) = omega (arith, le, within) in
+        let end = ap (offset (chars bs)) last ∙ whole bs u in
+        absurd (omega (arith, end, next_at, short))
+  ]
+
+  pub second_off : (second : Starts) → stops_at second (slice_index bs (at + 1)) ≡ false
+      → MayBegin second (chars bs) (suc i) → ⊥
+  second_off second off =
+      let next = there (chars bs) (suc i) inside in
+      begins_later second (chars bs) i here (
+        next.0,
+        next.1,
+        first_byte second bs (suc i) next.0 u next.1 inside (omega (arith, next_at, short))
+            ∙ ap (λ z. stops_at second (slice_index bs z)) next_at ∙ off,
+      )
+
+-- none begins where the bytes tell that no second character does
+pub cut_off_never : (heads : Heads) (bs : List ℕ) (i : ℕ) → IsUtf8 bs → i < length (chars bs)
+    → IsCutOff heads bs (offset (chars bs) i) → NeverBegins heads (chars bs) i
+cut_off_never heads bs i u within cut = inr (by_second heads.second cut)
+  where
+    at : ℕ
+    at = offset (chars bs) i
+
+    by_second : (o : Option Starts)
+        → MatchOption o ⊥ (λ second. (at + 1 < length bs) × (slice_index bs at < 128)
+        × (stops_at second (slice_index bs (at + 1)) ≡ false))
+        → MatchOption o ⊥ (λ second. ¬ (MayBegin second (chars bs) (suc i)))
+    by_second None never = never
+    by_second (Some second) (short, ascii, off) = second_off bs i u within short ascii second off
+
+-- a search stands before a character where they do
+pub cut_off_here : (heads : Heads) (bs : List ℕ) (p : ℕ) (x : Here) → IsUtf8 bs
+    → IsHere (chars bs) p x → IsCutOff heads bs x.at → NeverBegins heads (chars bs) p
+cut_off_here heads bs p x u is cut =
+    cut_off_never heads bs p u (before_end (cases_lt p (length (chars bs))))
+    (subst (IsCutOff heads bs) is.bytes cut)
+  where
+    short : (o : Option Starts)
+        → MatchOption o ⊥ (λ second. (x.at + 1 < length bs) × (slice_index bs x.at < 128)
+        × (stops_at second (slice_index bs (x.at + 1)) ≡ false)) → x.at < length bs
+    short None never = absurd never
+    short (Some second) (lt, ascii, off) = omega (arith, lt)
+
+    before_end : (p < length (chars bs)) ⊎ (length (chars bs) ≤ p) → p < length (chars bs)
+    before_end (inl lt) = lt
+    before_end (inr le) =
+        let inside = is.inside in
+        let last : p ≡ length (chars bs) = omega (arith, le, inside) in
+        let end = is.bytes ∙ ap (offset (chars bs)) last ∙ whole bs u in
+        absurd (omega (arith, end, short heads.second cut))
+
+module _ (heads : Heads) (bs : List ℕ) (p q : ℕ) (x y : Here) (u : IsUtf8 bs)
     (is : IsHere (chars bs) p x) (js : IsHere (chars bs) q y)
-    (not_here : may_begin s x.before x.after ≡ false) (le : x.at ≤ y.at) (most : y.at ≤ length bs)
-    (pass : (k : ℕ) → x.at ≤ k → k < y.at → stops_at s (slice_index bs k) ≡ false) where
+    (not_here : NeverBegins heads (chars bs) p) (le : x.at ≤ y.at) (most : y.at ≤ length bs)
+    (pass : (k : ℕ) → x.at ≤ k → k < y.at → IsPassed heads bs k) where
   a : x.at ≡ offset (chars bs) p
   a = is.bytes
 
@@ -184,19 +278,23 @@ module _ (s : Starts) (bs : List ℕ) (p q : ℕ) (x y : Here) (u : IsUtf8 bs)
       go (inl lt) =
           let less = offset_less (chars bs) q p lt is.inside in absurd (omega (arith, less, a, b, le))
 
-  never_later : (i : ℕ) → p < i → i < q → MayBegin s (chars bs) i → ⊥
+  never_later : (i : ℕ) → p < i → i < q → NeverBegins heads (chars bs) i
   never_later zero low high = absurd (omega (arith, low))
   never_later (suc i) low high =
       let next = there (chars bs) (suc i) (omega (arith, high, within)) in
       let less = offset_less (chars bs) (suc i) q high within in
       let more = offset_less (chars bs) p (suc i) low (omega (arith, high, within)) in
-      let off = first_byte s bs (suc i) next.0 u next.1 (omega (arith, high, within))
-      (omega (arith, less, b, most))
-      ∙ pass (offset (chars bs) (suc i)) (omega (arith, a, more)) (omega (arith, b, less)) in
-      begins_later s (chars bs) i (there (chars bs) i (omega (arith, high, within)))
-      (next.0, next.1, off)
+      elim (pass (offset (chars bs) (suc i)) (omega (arith, a, more)) (omega (arith, b, less))) [
+        | inl off ↦
+            let none = first_byte heads.first bs (suc i) next.0 u next.1 (omega (arith, high, within))
+            (omega (arith, less, b, most))
+            ∙ off in
+            inl (begins_later heads.first (chars bs) i
+            (there (chars bs) i (omega (arith, high, within))) (next.0, next.1, none))
+        | inr cut ↦ cut_off_never heads bs (suc i) u (omega (arith, high, within)) cut
+      ]
 
-  pub passes_between : PassesTo (λ i. MayBegin s (chars bs) i → ⊥) (chars bs) p y
+  pub passes_between : PassesTo (NeverBegins heads (chars bs)) (chars bs) p y
   passes_between = record {
     q = q;
     later = later;
@@ -204,10 +302,8 @@ module _ (s : Starts) (bs : List ℕ) (p q : ℕ) (x y : Here) (u : IsUtf8 bs)
     passed = λ i low high. by_order i low high (cases_eq i p);
   }
     where
-      by_order : (i : ℕ) → p ≤ i → i < q → (i ≡ p) ⊎ (i ≡ p → ⊥) → MayBegin s (chars bs) i → ⊥
-      by_order i low high (inl same) =
-          subst (λ z. MayBegin s (chars bs) z → ⊥) (sym same)
-          (never_at s (chars bs) p x is not_here)
+      by_order : (i : ℕ) → p ≤ i → i < q → (i ≡ p) ⊎ (i ≡ p → ⊥) → NeverBegins heads (chars bs) i
+      by_order i low high (inl same) = subst (NeverBegins heads (chars bs)) (sym same) not_here
       by_order i low high (inr apart) = never_later i (above i low apart) high
         where
           above : (i : ℕ) → p ≤ i → (i ≡ p → ⊥) → p < i

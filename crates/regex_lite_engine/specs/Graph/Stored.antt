@@ -6,7 +6,7 @@ use Rattle.regex_lite_engine.specs.Graph.Places.{Arrow, Place, complete, with_ar
 use Rattle.regex_lite_engine.specs.declared.nfa.place.Place as code
 use Rattle.regex_lite_engine.specs.declared.nfa.place.Place.TheVariants as stored
 use Rattle.regex_lite_engine.specs.declared.nfa.kept_back.KeptBack.{KeptBack}
-use Rattle.regex_lite_engine.specs.declared.nfa.starts.Starts.{Starts}
+use Rattle.regex_lite_engine.specs.declared.nfa.heads.Heads.{Heads}
 
 -- a graph as callers see it
 pub record StoredGraph : Type 0 where
@@ -21,7 +21,7 @@ pub record StoredGraph : Type 0 where
   pub capture_names : List (Option (RcStr Global))
   pub static_captures_len : Option ℕ
   -- where a match can begin
-  pub starts : Starts
+  pub heads : Heads
 
 -- the place that is stored
 abbrev pub place_of : code.Place → Place ℕ

@@ -1,20 +1,19 @@
 -- Where a match can begin in a graph, and the positions that a search passes over.
 use Rattle.std.specs.Prelude.{◌≡◌, ◌≤◌, ◌<◌, ◌⊎◌, ℕ, List, [], None}
 use Rattle.regex_lite_syntax.specs.Text.{Text}
-use Rattle.regex_lite_engine.specs.declared.nfa.starts.Starts.{Starts}
+use Rattle.regex_lite_engine.specs.declared.nfa.heads.Heads.{Heads}
 use Rattle.regex_lite_engine.specs.declared.pikevm.here.Here.{Here}
 use Rattle.regex_lite_engine.specs.Graph.Places.{Place}
-use Rattle.regex_lite_engine.specs.Nfa.Starts.{MayBegin}
+use Rattle.regex_lite_engine.specs.Nfa.Heads.{NeverBegins}
 use Rattle.regex_lite_engine.specs.Walk.Machine.{Thread}
 use Rattle.regex_lite_engine.specs.Walk.Standing.{IsHere}
 use Rattle.regex_lite_engine.specs.Walk.Turns.{IsDeadAt}
 use Rattle.regex_lite_engine.specs.Walk.Walking.{Best}
 
--- no way from the start leads to a complete match at any other position
-abbrev pub AreStartsOf : List (Place ℕ) → (start : ℕ) → Starts → Type 0
-AreStartsOf table start starts =
-    (haystack : Text) (i : ℕ) → ¬ (MayBegin starts haystack i)
-    → IsDeadAt table haystack start i
+-- no way from the start leads to a complete match where none can begin
+abbrev pub AreHeadsOf : List (Place ℕ) → (start : ℕ) → Heads → Type 0
+AreHeadsOf table start heads =
+    (haystack : Text) (i : ℕ) → NeverBegins heads haystack i → IsDeadAt table haystack start i
 
 -- `here` is at position p or a later one, and each position between is one of these
 pub record PassesTo (Passed : ℕ → Type 0) (haystack : Text) (p : ℕ) (here : Here) : Type 0 where

@@ -1,6 +1,6 @@
 //! The characters with which a match of a pattern can begin: one walk over the tree, which takes no
 //! memory, and leaves out what lies behind a part that reads.
-ghost use Rattle.std.specs.Prelude.{◌≡◌, ◌<◌, [], ◌∷◌, ℕ, IsTrue, false, true, map, slice_index};
+ghost use Rattle.std.specs.Prelude.{◌≡◌, ◌≤◌, ◌<◌, [], ◌∷◌, ℕ, IsTrue, false, true, map, slice_index};
 ghost use Rattle.regex_lite_syntax.specs.Ranges.{in_ranges};
 ghost use Rattle.regex_lite_syntax.specs.Sets.{just, span};
 ghost use Rattle.regex_lite_syntax.specs.Tree.{look, class, repetition, concat, alternation, trees};
@@ -28,16 +28,23 @@ impl Starts {
     pub(crate) fn of(hir: &Hir) -> Starts
         ensures { AreStartsOfTree (tree_of hir.now) result }
     {
-        let mut starts = Starts {
-            any: false,
-            ascii: [false; 128],
-            others: false,
-            at_start: false,
-        };
+        let mut starts = Starts::nowhere();
         if starts.add(hir) {
             return Starts::everywhere();
         }
         starts
+    }
+
+    /// A match can begin nowhere.
+    pub(crate) fn nowhere() -> Starts
+        ensures { (c : ℕ) → begins_with result c ≡ false }
+    {
+        Starts {
+            any: false,
+            ascii: [false; 128],
+            others: false,
+            at_start: false,
+        }
     }
 
     /// A match can begin anywhere.
@@ -55,7 +62,7 @@ impl Starts {
     /// Adds the characters with which a match of the tree can begin. Tells whether it may read
     /// nothing, so that what follows it can begin there too.
     #[cycle(add)]
-    fn add(&mut self, hir: &Hir) -> bool
+    pub(crate) fn add(&mut self, hir: &Hir) -> bool
         ensures grown { IsGrown self.old self.new }
         ensures begins { BeginsOrPasses (tree_of hir.now) self.new result }
     {
@@ -187,6 +194,18 @@ impl Starts {
         } else {
             self.others
         }
+    }
+
+    /// With how many ASCII characters a match can begin.
+    pub(crate) fn len(&self) -> u8
+        ensures { result ≤ 128 }
+    {
+        // As a sum of bytes, which is made of sixteen at a time.
+        let mut len = 0;
+        for k in 0..128 {
+            len += u8::from(self.ascii[k]);
+        }
+        len
     }
 
     /// Whether there is such a character.

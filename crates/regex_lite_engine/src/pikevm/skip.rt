@@ -1,13 +1,15 @@
 //! The positions at which no match can start, which a search passes over.
-ghost use Rattle.std.specs.Prelude.{◌≡◌, ◌≤◌, ◌<◌, ℕ, [], None, false, true, chars, length, slice_index};
+ghost use Rattle.std.specs.Prelude.{◌≡◌, ◌≤◌, ◌<◌, ◌⊎◌, ℕ, [], IsTrue, None, false, true, chars, length, slice_index};
 ghost use Rattle.regex_lite_syntax.specs.Text.{Text};
 ghost use Rattle.regex_lite_engine.specs.Graph.Stored.{table_of};
-ghost use Rattle.regex_lite_engine.specs.Nfa.Starts.{may_begin, stops_at, MayBegin};
+ghost use Rattle.regex_lite_engine.specs.Nfa.Heads.{IsCutOff, IsPassed, NeverBegins};
+ghost use Rattle.regex_lite_engine.specs.Nfa.Starts.{may_begin, stops_at};
 ghost use Rattle.regex_lite_engine.specs.Walk.Standing.{IsHere};
 ghost use Rattle.regex_lite_engine.specs.Walk.Starts.{GoesOnAt, PassesTo};
 ghost use Rattle.regex_lite_engine.specs.Walk.Turns.{best_of, IsDeadAt};
 
 use crate::Graph;
+use crate::nfa::heads::Heads;
 use crate::nfa::starts::Starts;
 use crate::pikevm::beginning::Beginning;
 use crate::pikevm::best::Best;
@@ -28,7 +30,7 @@ pub fn next_start<S: Beginning>(
         → GoesOnAt (table_of graph.now) (chars haystack.now) graph.now.start memory.now.threads
         (best_of best.now) p result }
     ensures stops { memory.now.threads ≡ [] → best_of best.now ≡ None
-        → may_begin graph.now.starts result.before result.after ≡ true }
+        → may_begin graph.now.heads.first result.before result.after ≡ true }
 {
     if memory.threads() > 0 {
         return here;
@@ -36,37 +38,78 @@ pub fn next_start<S: Beginning>(
     if !best.is_none() {
         return here;
     }
-    pass_over(graph.starts(), haystack, here)
+    pass_over(graph.heads(), haystack, here)
 }
 
 /// Whether a match can start here.
 pub fn may_start(graph: &Graph, here: Here) -> bool
     ensures dead { (haystack : Text) (p : ℕ) → IsHere haystack p here → result ≡ false
         → IsDeadAt (table_of graph.now) haystack graph.now.start p }
-    ensures tells { result ≡ may_begin graph.now.starts here.before here.after }
+    ensures tells { result ≡ may_begin graph.now.heads.first here.before here.after }
 {
-    graph.starts().may_begin(here.before, here.after)
+    graph.heads().first.may_begin(here.before, here.after)
 }
 
 /// The next position from here on at which a match can begin, or the haystack's end.
-pub fn pass_over(starts: &Starts, haystack: &str, here: Here) -> Here
+pub fn pass_over(heads: &Heads, haystack: &str, here: Here) -> Here
     requires { (p : ℕ) × IsHere (chars haystack.now) p here }
     ensures passes { (p : ℕ) → IsHere (chars haystack.now) p here
-        → PassesTo (λ i. ¬ (MayBegin starts.now (chars haystack.now) i)) (chars haystack.now) p
-        result }
-    ensures stops { may_begin starts.now result.before result.after ≡ true }
+        → PassesTo (NeverBegins heads.now (chars haystack.now)) (chars haystack.now) p result }
+    ensures stops { may_begin heads.now.first result.before result.after ≡ true }
 {
-    if starts.may_begin(here.before, here.after) {
+    let bytes = haystack.as_bytes();
+    if can_begin(heads, bytes, here) {
         return here;
     }
-    let at = next_offset(starts, haystack.as_bytes(), here.at);
+    let at = next_offset(heads, bytes, here.at);
     Here::at(haystack, at)
 }
 
-/// The first offset from this one on of a byte with which such a character may begin, or the end.
+/// Whether a match can begin here, with the byte behind the next character.
+fn can_begin(heads: &Heads, bytes: &[u8], here: Here) -> bool
+    requires { here.at ≤ length bytes.now }
+    ensures first { IsTrue result → may_begin heads.now.first here.before here.after ≡ true }
+    ensures never { result ≡ false
+        → (may_begin heads.now.first here.before here.after ≡ false)
+        ⊎ IsCutOff heads.now bytes.now here.at }
+{
+    heads.first.may_begin(here.before, here.after)
+        && (heads.second.is_none() || may_go_on(heads, bytes, here.at))
+}
+
+/// [`Heads::may_go_on`].
+// Not inlined, so that a search which knows no second character has no more than the test for it.
+#[inline(never)]
+fn may_go_on(heads: &Heads, bytes: &[u8], at: usize) -> bool
+    requires { at ≤ length bytes.now }
+    ensures { result ≡ false → IsCutOff heads.now bytes.now at }
+{
+    heads.may_go_on(bytes, at)
+}
+
+/// The first offset from this one on of a byte that tells of no passing, or the end.
 // Not inlined, since the loop of a search is so large that this one would lose its registers.
 #[inline(never)]
-fn next_offset(starts: &Starts, bytes: &[u8], from: usize) -> usize
+fn next_offset(heads: &Heads, bytes: &[u8], from: usize) -> usize
+    requires { from ≤ length bytes.now }
+    ensures low { from ≤ result }
+    ensures high { result ≤ length bytes.now }
+    ensures passed { (k : ℕ) → from ≤ k → k < result → IsPassed heads.now bytes.now k }
+    ensures stops { result < length bytes.now
+        → stops_at heads.now.first (slice_index bytes.now result) ≡ true }
+{
+    let mut at = from;
+    'stops: loop {
+        at = next_first(&heads.first, bytes, at);
+        if at == bytes.len() || heads.may_go_on(bytes, at) {
+            return at;
+        }
+        at += 1;
+    }
+}
+
+/// The first offset from this one on of a byte with which such a character may begin, or the end.
+fn next_first(starts: &Starts, bytes: &[u8], from: usize) -> usize
     requires { from ≤ length bytes.now }
     ensures low { from ≤ result }
     ensures high { result ≤ length bytes.now }

@@ -214,7 +214,9 @@ fn are_bounded(graph: &Graph, left: usize, steps: Steps) -> bool {
 
 /// A pattern, of how many `a` the haystack is, and how often at most a search that finds nothing
 /// tries and enters a place.
-const COSTS: [(&str, usize, u128, u128); 3] = [
+const COSTS: [(&str, usize, u128, u128); 4] = [
+    // Nearly all starts are passed over, since no second character fits.
+    ("ab|ac", 1000, 16, 16),
     ("(?:a?){30}a{30}", 29, 4590, 3690),
     ("(?:a|aa)+b", 1000, 12_012, 10_010),
     ("(?:a|aa)+b", 30_000, 360_012, 300_010),

@@ -205,7 +205,7 @@ may_everywhere s h i all = by_next (after h i) refl
     by_next (Some c) e = may_with s h i c e (all c)
 
 -- each pass begins where one can, or reads nothing
-passes_begin : (body : Tree) (s : Starts) (passable : Bool) → BeginsOrPasses body s passable
+pub passes_begin : (body : Tree) (s : Starts) (passable : Bool) → BeginsOrPasses body s passable
     → (h : Text) (n i j : ℕ) → Passes (Matches h body) n i j → MayBegin s h i ⊎ (i ≡ j)
 passes_begin body s passable each h zero i j e = inr e
 passes_begin body s passable each h (suc n) i j (k, first, rest) = elim (each h i k first) [

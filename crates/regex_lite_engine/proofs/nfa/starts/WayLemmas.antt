@@ -1,5 +1,6 @@
 -- Where the tree of a graph does not match, no arrows of the graph lead to a complete match.
-use Rattle.std.proofs.Common.{◌≡◌, ◌≢◌, ◌⊎◌, inl, inr, sym, ap, subst, ℕ, List}
+use Rattle.std.proofs.Common.{◌≡◌, ◌≢◌, ◌⊎◌, inl, inr, sym, ap, subst, ℕ, suc, List, Option, Some, None}
+use Rattle.std.specs.Prelude.{IfSome, MatchOption}
 use Rattle.std.proofs.lemmas.Bool.{cases_eq}
 use Rattle.regex_lite_syntax.specs.Text.{Text}
 use Rattle.regex_lite_syntax.specs.Tree.{Tree}
@@ -11,9 +12,11 @@ use Rattle.regex_lite_engine.specs.Graph.WrittenOut.{start_address, written_out}
 use Rattle.regex_lite_engine.specs.Graph.Renumbered.{IsRenumbered, IsNumberOf}
 use Rattle.regex_lite_engine.specs.Walk.NumberedAnswer.{numbered_step}
 use Rattle.regex_lite_engine.specs.Walk.Turns.{IsDeadAt}
-use Rattle.regex_lite_engine.specs.Walk.Starts.{AreStartsOf}
+use Rattle.regex_lite_engine.specs.Walk.Starts.{AreHeadsOf}
 use Rattle.regex_lite_engine.specs.Nfa.Layout.{whole_layout, whole_table}
-use Rattle.regex_lite_engine.specs.Nfa.Starts.{AreStartsOfTree}
+use Rattle.regex_lite_engine.specs.Nfa.Heads.{AreHeadsOfTree, AreSecondOfTree, NeverBegins}
+use Rattle.regex_lite_engine.specs.Nfa.Starts.{MayBegin}
+use Rattle.regex_lite_engine.specs.declared.nfa.heads.Heads.{Heads}
 use Rattle.regex_lite_engine.specs.declared.nfa.starts.Starts.{Starts}
 use Rattle.regex_lite_engine.proofs.nfa.write.RenumberingLemmas.{whole_names, renumbered, starts as starts_there}
 use Rattle.regex_lite_engine.proofs.laws.LoopLemmas.{without_loops}
@@ -39,16 +42,25 @@ dead_without_match tree haystack table start name r first regular i none arrows 
     (record { is_way = way.1; ends = ends }) in
     none end.1 (walk_match tree haystack i end.1 way.0 regular through.0)
 
--- the starts of a tree are those of its written-out places
-pub written_starts : (tree : Tree) → IsRegular tree → (table : List (Place ℕ)) (start : ℕ)
-    → table ≡ whole_table tree → start ≡ (whole_layout tree).1 → (starts : Starts)
-    → AreStartsOfTree tree starts → AreStartsOf table start starts
-written_starts tree regular table start table_is start_is starts of_tree haystack i never =
+-- the heads of a tree are those of its written-out places
+pub written_heads : (tree : Tree) → IsRegular tree → (table : List (Place ℕ)) (start : ℕ)
+    → table ≡ whole_table tree → start ≡ (whole_layout tree).1 → (heads : Heads)
+    → AreHeadsOfTree tree heads → AreHeadsOf table start heads
+written_heads tree regular table start table_is start_is heads of_tree haystack i never =
     let name = whole_names tree regular in
     let written = subst (λ t. IsRenumbered (written_out tree) name t) (sym table_is)
     (renumbered tree regular) in
     let first = subst (λ s. IsNumberOf name table start_address s) (sym start_is)
     (subst (λ t. IsNumberOf name t start_address (whole_layout tree).1) (sym table_is)
     (starts_there tree regular)) in
-    dead_without_match tree haystack table start name written first regular i
-    (λ j m. never (of_tree haystack i j m))
+    dead_without_match tree haystack table start name written first regular i (none never)
+  where
+    by_second : (o : Option Starts) → IfSome o (AreSecondOfTree tree)
+        → MatchOption o ⊥ (λ second. ¬ (MayBegin second haystack (suc i)))
+        → (j : ℕ) → Matches haystack tree i j → ⊥
+    by_second None told off j m = off
+    by_second (Some second) told off j m = off (told haystack i j m)
+
+    none : NeverBegins heads haystack i → (j : ℕ) → Matches haystack tree i j → ⊥
+    none (inl off) j m = off (of_tree.first haystack i j m)
+    none (inr off) j m = by_second heads.second of_tree.second off j m

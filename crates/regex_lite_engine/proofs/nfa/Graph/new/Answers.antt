@@ -10,7 +10,7 @@ use Rattle.regex_lite_engine.proofs.nfa.write.RenumberingLemmas.{whole_names, re
 use Rattle.regex_lite_engine.proofs.nfa.count.ArrowCountLemmas.{arrows_whole}
 use Rattle.regex_lite_engine.proofs.nfa.count.ReadingCountLemmas.{reading_whole, reading_few}
 use Rattle.regex_lite_engine.proofs.nfa.count.KeptBackLemmas.{kept_back_whole}
-use Rattle.regex_lite_engine.proofs.nfa.starts.WayLemmas.{written_starts}
+use Rattle.regex_lite_engine.proofs.nfa.starts.WayLemmas.{written_heads}
 use Rattle.regex_lite_engine.proofs.ArrowBoundLemmas.{arrows_few}
 use Rattle.regex_lite_engine.proofs.nfa.Graph.new.Goals as goal
 
@@ -59,9 +59,9 @@ invariant_of-result c =
           (reading_whole tree ∙ sym reads)
           (omega (arith, kept_back_whole tree c.requires, places.length)),
       ap arrows_of places.written.1 ∙ arrows_whole tree ∙ sym counted,
-      written_starts tree c.requires (map place_of c.in_ok-places.places.items)
-          c.in_ok-places.start places.written.1 places.written.0 c.of-starts.result
-          c.of-starts.ensures,
+      written_heads tree c.requires (map place_of c.in_ok-places.places.items)
+          c.in_ok-places.start places.written.1 places.written.0 c.of-heads.result
+          c.of-heads.ensures,
       subst (λ z. IsKeptBackOf (map place_of z) c.of-kept_back.result) c.deref.ensures.value
           c.of-kept_back.ensures,
     )

@@ -2,7 +2,7 @@ use Rattle.std.proofs.Common.{inr, refl, sym, subst, IsTrue, arith}
 use Rattle.std.specs.Prelude.{chars}
 use Rattle.std.proofs.lemmas.List.{nil_from_length}
 use Rattle.regex_lite_engine.specs.Graph.Stored.{table_of}
-use Rattle.regex_lite_engine.specs.Nfa.Starts.{MayBegin}
+use Rattle.regex_lite_engine.specs.Nfa.Heads.{NeverBegins}
 use Rattle.regex_lite_engine.specs.Walk.Turns.{IsDeadAt}
 use Rattle.regex_lite_engine.proofs.pikevm.SkipLemmas.{passes_as}
 use Rattle.regex_lite_engine.proofs.pikevm.skip.next_start.Goals as goal
@@ -16,7 +16,7 @@ returns-clause-passes g c = λ p is.
     inr (
       nil_from_length c.args.memory.now.threads (omega (arith, no_threads, counted)),
       none,
-      passes_as (λ i. ¬ (MayBegin c.starts.result.now haystack i))
+      passes_as (NeverBegins c.heads.result.now haystack)
           (IsDeadAt (table_of c.args.graph.now) haystack c.args.graph.now.start) haystack p
-          c.pass_over.result (c.starts.ensures.all haystack) (c.pass_over.ensures.passes p is),
+          c.pass_over.result (c.heads.ensures.all haystack) (c.pass_over.ensures.passes p is),
     )

@@ -1,0 +1,171 @@
+//! The two characters with which a match of a pattern can begin.
+ghost use Rattle.std.specs.Prelude.{◌≡◌, ◌<◌, ◌≤◌, ℕ, Bool, Option, IfSome, false, map, length};
+ghost use Rattle.regex_lite_syntax.specs.Text.{Text};
+ghost use Rattle.regex_lite_syntax.specs.Tree.{repetition, concat, alternation, trees};
+ghost use Rattle.regex_lite_syntax.specs.Tree.Matches.{Matches};
+ghost use Rattle.regex_lite_syntax.specs.Tree.Views.{tree_of};
+ghost use Rattle.regex_lite_engine.specs.declared.nfa.heads.Head.TheVariants.{One};
+ghost use Rattle.regex_lite_engine.specs.Nfa.Heads.{AreHeadsOfTree, AreSecondOfTree, IsCutOff, Reads, ReadsEach};
+ghost use Rattle.regex_lite_engine.specs.Nfa.Starts.{IsGrown};
+
+use crate::nfa::starts::Starts;
+use regex_lite_syntax::Hir;
+
+/// Where a match can begin, by the two characters that come next there. No match begins elsewhere.
+#[derive(Drop)]
+pub(crate) struct Heads {
+    pub(crate) first: Starts,
+    /// Those that come behind the first. There is none where a match may be shorter, and where one
+    /// walk over the tree doesn't tell.
+    pub(crate) second: Option<Starts>,
+}
+
+/// How many ASCII characters are looked for behind the first. Of more, one would mostly be there.
+const MOST: u8 = 16;
+
+/// What a part of a pattern reads at its beginning.
+#[derive(Clone, Copy)]
+pub(crate) enum Head {
+    /// Nothing at all.
+    Nothing,
+    /// One character, or more of which the second is known.
+    One,
+    /// More, and the second is known.
+    More,
+}
+
+impl Heads {
+    /// Where a match of the tree can begin.
+    pub(crate) fn of(hir: &Hir) -> Heads
+        ensures { AreHeadsOfTree (tree_of hir.now) result }
+    {
+        Heads {
+            first: Starts::of(hir),
+            second: Starts::second_of(hir),
+        }
+    }
+
+    /// Whether a match that begins with the character at this offset can go on, as far as the byte
+    /// behind it tells.
+    pub(crate) fn may_go_on(&self, bytes: &[u8], at: usize) -> bool
+        requires { at ≤ length bytes.now }
+        ensures { result ≡ false → IsCutOff self.now bytes.now at }
+    {
+        let Some(second) = &self.second else {
+            return true;
+        };
+        // Behind an ASCII character the next one begins at once.
+        if bytes.len() - at < 2 || !bytes[at].is_ascii() {
+            return true;
+        }
+        second.stops_at(bytes[at + 1])
+    }
+}
+
+impl Starts {
+    /// The characters that come second in the matches of the tree, where each match has two and
+    /// they are few.
+    fn second_of(hir: &Hir) -> Option<Starts>
+        ensures { IfSome result (AreSecondOfTree (tree_of hir.now)) }
+    {
+        let mut second = Starts::nowhere();
+        match second.add_second(hir)? {
+            Head::More if second.len() <= MOST => Some(second),
+            _ => None,
+        }
+    }
+
+    /// Adds the characters that come second in a match of the tree, and tells what it reads. Where
+    /// its matches differ too much for that, nothing is told.
+    #[cycle(add_second)]
+    fn add_second(&mut self, hir: &Hir) -> Option<Head>
+        ensures grown { IsGrown self.old self.new }
+        ensures reads { IfSome result (ReadsEach (tree_of hir.now) self.new) }
+    {
+        match hir {
+            Hir::Empty | Hir::Look(_) => Some(Head::Nothing),
+            Hir::Char(_) | Hir::Class(_) => Some(Head::One),
+            Hir::Repetition { least, body, .. } => {
+                if *least == 0 {
+                    return None;
+                }
+                let head = self.add_second(body)?;
+                self.add_passes(head, body)
+            }
+            Hir::Capture { body, .. } => self.add_second(body),
+            Hir::Concat(parts) => self.add_second_of_parts(parts),
+            Hir::Alternation(branches) => self.add_second_of_branches(branches),
+        }
+    }
+
+    /// Adds those with which a pass of this body behind the first one begins, and tells what all
+    /// passes read together.
+    fn add_passes(&mut self, head: Head, body: &Hir) -> Option<Head>
+        ensures grown { IsGrown self.old self.new }
+        ensures reads { (least : ℕ) (most : Option ℕ) (greedy : Bool) → 0 < least
+            → ReadsEach (tree_of body.now) self.old head
+            → IfSome result (ReadsEach (repetition least most greedy (tree_of body.now)) self.new) }
+    {
+        match head {
+            Head::Nothing => None,
+            Head::One => {
+                // A longer body isn't walked again: loops in loops would be, at each of them.
+                let (Hir::Char(_) | Hir::Class(_)) = body else {
+                    return None;
+                };
+                self.add(body);
+                Some(Head::One)
+            }
+            Head::More => Some(Head::More),
+        }
+    }
+
+    /// Adds those of these parts, one after another, up to the first that has a second character.
+    #[cycle(add_second)]
+    fn add_second_of_parts(&mut self, parts: &[Hir]) -> Option<Head>
+        ensures grown { IsGrown self.old self.new }
+        ensures reads { IfSome result
+            (ReadsEach (concat (trees (map tree_of parts.now))) self.new) }
+    {
+        let mut head = Head::Nothing;
+        for part in parts {
+            head = match head {
+                Head::Nothing => self.add_second(part)?,
+                Head::One => self.add_behind_one(part),
+                Head::More => return Some(head),
+            };
+        }
+        Some(head)
+    }
+
+    /// Adds those of a part that comes behind one character, and tells what both read together.
+    fn add_behind_one(&mut self, part: &Hir) -> Head
+        ensures grown { IsGrown self.old self.new }
+        ensures reads { (haystack : Text) (i k j : ℕ) → Reads self.old haystack i k One
+            → Matches haystack (tree_of part.now) k j → Reads self.new haystack i j result }
+    {
+        if self.add(part) {
+            Head::One
+        } else {
+            Head::More
+        }
+    }
+
+    /// Adds those of these branches.
+    #[cycle(add_second)]
+    fn add_second_of_branches(&mut self, branches: &[Hir]) -> Option<Head>
+        ensures grown { IsGrown self.old self.new }
+        ensures reads { IfSome result
+            (ReadsEach (alternation (trees (map tree_of branches.now))) self.new) }
+    {
+        let mut head = Head::More;
+        for branch in branches {
+            match self.add_second(branch)? {
+                Head::Nothing => return None,
+                Head::One => head = Head::One,
+                Head::More => {}
+            }
+        }
+        Some(head)
+    }
+}
