@@ -68,6 +68,12 @@ impl Starts {
     fn second_of(hir: &Hir) -> Option<Starts>
         ensures { IfSome result (AreSecondOfTree (tree_of hir.now)) }
     {
+        if let Hir::Repetition { body, .. } = hir {
+            // Its passes may be one, so a walk would tell nothing.
+            if let Hir::Char(_) | Hir::Class(_) = **body {
+                return None;
+            }
+        }
         let mut second = Starts::nowhere();
         match second.add_second(hir)? {
             Head::More if second.len() <= MOST => Some(second),
