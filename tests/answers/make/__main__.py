@@ -1,5 +1,4 @@
-"""make JUDGE: rewrites the lists of answers, the sizes in the tests of regex_lite, and the cases in
-those of regex_lite_engine.
+"""make JUDGE: rewrites the lists of answers, and the cases in the tests of regex_lite_engine.
 
 Each list has what was picked by hand, from the files in picked/, and then generated cases by the
 quotas in choice.py, or in searches.py and lists.py for the lists that these two make. The list of
@@ -12,9 +11,9 @@ started as `JUDGE batch`. For each line of standard input it writes one line. A 
 fields with a tab between: the word `is-match`, a `-` for default settings, the pattern, the
 haystack. In a field a backslash begins one of the escapes \\t, \\n, \\r, \\\\ and \\u{H}, where
 H is a character's number in hexadecimal. The answer is `ok:true`, `ok:false`, or `err:` and the
-text with which the pattern is refused. Another question has three fields: `limit:` and a size
-limit, flags, the pattern; its answer is `ok:`, or `err:` and a text as before. The questions about
-searches have flags, a pattern and a haystack after a word, and those about lists a template too;
+text with which the pattern is refused. Another question has three fields: `build`, `limit:` and a
+size limit, or `nest:` and a nest limit; flags; the pattern. Its answer is `ok:`, or `err:` and a
+text as before. The questions about searches have flags, a pattern and a haystack after a word, and those about lists a template too;
 README.md tells their words and answers. For the list of runs JUDGE is started with the arguments of
 each run.
 """
@@ -30,7 +29,7 @@ import lists
 import plain
 import runs
 import searches
-import sizes
+import settings
 import walks
 import whole
 from choice import PATTERNS, STRUCTURE, chosen_rows, kept_lines, quotas_of
@@ -49,7 +48,6 @@ LISTS = {
 }
 
 CRATES = ANSWERS / '../../crates'
-SIZES = CRATES / 'regex_lite/src/tests/sizes/rows.rt'
 WALKS = CRATES / 'regex_lite_engine/src/search/tests/cases.rt'
 
 
@@ -131,7 +129,7 @@ def main():
     written[ANSWERS / 'lists.tsv'] = lists.lines(judge)
     written[ANSWERS / 'escapes.tsv'] = escapes.lines(judge)
     written[ANSWERS / 'runs.tsv'] = runs.lines(judge)
-    written[SIZES] = sizes.lines(judge)
+    written[ANSWERS / 'settings.tsv'] = settings.lines(judge)
     for path, lines in written.items():
         with open(path, 'w', encoding='utf-8', newline='\n') as out:
             out.writelines(lines)

@@ -1,5 +1,5 @@
 """The list of calls that answer by all matches: with the groups of each, with the pieces between
-them, and with replaced texts."""
+them, and with replaced texts; and of templates, expanded by the groups of the first match."""
 
 import itertools
 import re
@@ -15,7 +15,8 @@ SEED = 4  # another than those of the other lists
 
 PATTERNS = 14_000  # how many generated patterns the judge is asked about
 TEXT = 60  # characters of a haystack
-LIMITS = {'splitn': range(5), 'replacen': range(4)}
+LIMITS = {'splitn': range(5), 'replacen': range(4)}  # of generated cases
+PICKED_LIMITS = {'splitn': (*range(5), 2**64 - 1), 'replacen': (*range(4), 9)}
 
 # How many cases of generated patterns are kept: of each call where there is no match, one match,
 # more, where all are empty, and where empty ones stand beside others. `splitn, cut` and `replacen,
@@ -142,11 +143,13 @@ def kept_lines(judge, rows, picked):
 
 
 def picked_cases():
-    """The cases picked by hand: the calls on each haystack, with all limits and the template."""
+    """The cases picked by hand: the calls on each haystack, with all limits and the template, which
+    is expanded too."""
     return list(dict.fromkeys(
         case for flags, pattern, replacement, *haystacks in rows_of('lists')
         for haystack in haystacks
-        for case in asked(flags, pattern, haystack, LIMITS, replacement)
+        for case in (*asked(flags, pattern, haystack, PICKED_LIMITS, replacement),
+                     Case('expand', None, flags, pattern, haystack, replacement))
     ))
 
 

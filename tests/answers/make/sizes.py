@@ -1,4 +1,4 @@
-"""The sizes of patterns, which the tests of regex_lite have as rows."""
+"""Patterns with their sizes."""
 
 import re
 
@@ -12,10 +12,7 @@ SEED = 2  # another than that of the lists of answers, so that the patterns are 
 
 LIMIT = 10_485_760  # the default size limit; no pattern of the list is above it
 LONGEST = 72  # characters of a generated pattern as it is written in the list
-WIDEST = 100  # characters of a line of the tests
-ROWS_OF_CONSTANT = 50  # a check of the tests takes no constant of all rows
 
-HEAD = '//! Patterns with their sizes in upstream. `tests/answers/make` writes this file.\n'
 REFUSED = 'err:compiled regex exceeded size limit'
 
 # How many generated patterns of each family are in the list. The remaining families of the two
@@ -94,25 +91,7 @@ def sizes_of(judge, pairs):
     return most
 
 
-def lines(judge):
-    """The lines of constants with all rows, in which the pattern itself sets the flags."""
+def rows(judge):
+    """Flags, a pattern and its size, for each pattern."""
     pairs = chosen()
-    rows = [(*pair, size) for pair, size in zip(pairs, sizes_of(judge, pairs))]
-    found = [HEAD, 'use super::Row;\n']
-    for number, start in enumerate(range(0, len(rows), ROWS_OF_CONSTANT), 1):
-        part = rows[start:start + ROWS_OF_CONSTANT]
-        found += ['\n', '#[rattlefmt::skip]\n']
-        found.append(f'pub(super) const ROWS_{number}: [Row; {len(part)}] = [\n')
-        found += [row_of(*row) for row in part]
-        found.append('];\n')
-    return found
-
-
-def row_of(flags, pattern, size):
-    """The line of a row in a constant."""
-    directive = '' if flags == '-' else f'(?{flags})'
-    literal = escaped(directive + pattern).replace('"', '\\"')
-    row = f'    ("{literal}", {size}),\n'
-    if len(row) > WIDEST:
-        raise SystemExit(f'too long for a row: {pattern!r}')
-    return row
+    return [(*pair, size) for pair, size in zip(pairs, sizes_of(judge, pairs))]

@@ -1,6 +1,7 @@
 //! Replacers that count how often they are asked, and refuse; iterators that are dropped early, or
-//! asked again behind their end.
-use crate::{Captures, Error, ErrorKind, Regex, Replacer};
+//! asked in turn.
+use crate::{CaptureMatches, Captures, Error, ErrorKind, Matches, Regex, Replacer};
+use std::alloc::Global;
 use std::borrow::CowStr;
 use std::test::Fail;
 
@@ -64,36 +65,58 @@ fn fixed_text_wins(rt: HostRuntime) -> Result<(), Fail> {
     Ok(())
 }
 
+/// Why "aaa" isn't replaced within a limit by one that refuses at its second call, and how often it
+/// was called and asked.
+fn refused_within(alloc: Global, limit: usize) -> Result<(Option<ErrorKind>, usize, usize), Error> {
+    let regex = Regex::new(alloc, "a")?;
+    let mut replacer = refusing(2, Error::replace());
+    let refused = regex.replacen("aaa", limit, replacer.by_ref()).err();
+    Ok((refused.map(|e| e.kind()), replacer.called, replacer.asked))
+}
+
 /// What it refuses at its second call refuses a replacement that comes so far.
 #[test]
 fn refused_at_second_call(rt: HostRuntime) -> Result<(), Fail> {
-    let regex = Regex::new(rt.alloc(), "a")?;
-    for (limit, called, is_refused) in [(0, 2, true), (1, 1, false), (2, 2, true), (3, 2, true)] {
-        let mut replacer = refusing(2, Error::replace());
-        match regex.replacen("aaa", limit, replacer.by_ref()) {
-            Ok(text) => {
-                assert!(rt; !is_refused, "within {limit}");
-                assert_eq!(rt; text.as_str(), "yaa");
-            }
-            Err(error) => {
-                assert!(rt; is_refused, "within {limit}");
-                assert_eq!(rt; error.kind(), ErrorKind::Replace);
-            }
-        }
-        assert_eq!(rt; replacer.called, called, "within {limit}");
-        assert_eq!(rt; replacer.asked, 1, "within {limit}");
+    let refused = Some(ErrorKind::Replace);
+    for (limit, kind, called) in [
+        (0, refused, 2),
+        (1, None, 1),
+        (2, refused, 2),
+        (3, refused, 2),
+    ] {
+        let told = refused_within(rt.alloc(), limit)?;
+        assert!(rt; told == (kind, called, 1), "within {limit}");
     }
     Ok(())
 }
 
-/// `replace_all` and `replace` take what it refuses as `replacen` does.
+/// Where it doesn't come so far, the first match is replaced.
+#[test]
+fn first_match_alone(rt: HostRuntime) -> Result<(), Fail> {
+    let regex = Regex::new(rt.alloc(), "a")?;
+    let mut replacer = refusing(2, Error::replace());
+    assert_eq!(rt;
+        regex.replacen("aaa", 1, replacer.by_ref())?.as_str(),
+        "yaa"
+    );
+    Ok(())
+}
+
+/// `replace_all` takes what it refuses as `replacen` does.
 #[test]
 fn refused_without_limit(rt: HostRuntime) -> Result<(), Fail> {
     let regex = Regex::new(rt.alloc(), "a")?;
     let mut all = refusing(2, Error::replace());
-    let refused = regex.replace_all("aaa", all.by_ref());
-    assert_eq!(rt; refused.err().map(|e| e.kind()), Some(ErrorKind::Replace));
+    let refused = regex.replace_all("aaa", all.by_ref()).err();
+    assert_eq!(rt; refused.map(|e| e.kind()), Some(ErrorKind::Replace));
     assert_eq!(rt; all.called, 2);
+    Ok(())
+}
+
+/// `replace` doesn't come so far.
+#[test]
+fn replaced_once(rt: HostRuntime) -> Result<(), Fail> {
+    let regex = Regex::new(rt.alloc(), "a")?;
     let mut first = refusing(2, Error::replace());
     assert_eq!(rt; regex.replace("aaa", first.by_ref())?.as_str(), "yaa");
     assert_eq!(rt; first.called, 1);
@@ -127,71 +150,76 @@ fn never_called(rt: HostRuntime) -> Result<(), Fail> {
     Ok(())
 }
 
+/// Where the first match starts, of an iterator that is dropped then.
+fn first_start(regex: &Regex, haystack: &str) -> Result<Option<usize>, Error> {
+    let mut matches = regex.find_iter(haystack)?;
+    Ok(matches.next().map(|m| m.start()))
+}
+
 /// An iterator that was dropped leaves nothing behind.
 #[test]
 fn dropped_early(rt: HostRuntime) -> Result<(), Fail> {
     let regex = Regex::new(rt.alloc(), "a")?;
-    let mut dropped = regex.find_iter("aaa")?;
-    assert_eq!(rt; dropped.next().map(|m| m.range()), Some(0..1));
-    drop(dropped);
+    assert_eq!(rt; first_start(&regex, "aaa")?, Some(0));
     let mut again = regex.find_iter("aaa")?;
-    for start in 0..3 {
-        assert_eq!(rt; again.next().map(|m| m.start()), Some(start));
+    for start in [Some(0), Some(1), Some(2), None] {
+        assert_eq!(rt; again.next().map(|m| m.start()), start);
     }
-    assert_eq!(rt; again.next(), None);
     Ok(())
 }
+
+/// Where a match is, if there is one.
+type Span = Option<(usize, usize)>;
 
 /// Two iterators of one regex don't disturb each other.
 #[test]
 fn asked_in_turn(rt: HostRuntime) -> Result<(), Fail> {
     let regex = Regex::new(rt.alloc(), "[ab]")?;
-    let mut left = regex.find_iter("a-b")?;
-    let mut right = regex.captures_iter("-ab-")?;
-    let mut pieces = regex.split("1a2b3")?;
-    for (found, start, piece) in [(0..1, 1, "1"), (2..3, 2, "2")] {
-        assert_eq!(rt; left.next().map(|m| m.range()), Some(found));
-        let caps = right.next().transpose()?;
-        let whole = caps.as_ref().and_then(|caps| caps.get(0));
-        assert_eq!(rt; whole.map(|m| m.start()), Some(start));
-        assert_eq!(rt; pieces.next(), Some(piece));
-    }
-    assert_eq!(rt; left.next(), None);
-    assert!(rt; right.next().is_none());
-    assert_eq!(rt; pieces.next(), Some("3"));
+    let (matches, groups) = spans_in_turn(&regex, "a-b", "-ab-")?;
+    assert!(rt; matches == [Some((0, 1)), Some((2, 3)), None]);
+    assert!(rt; groups == [Some((1, 2)), Some((2, 3)), None]);
     Ok(())
 }
 
-/// Behind its end no iterator gives anything, however often it is asked.
+/// What the two iterators give that are asked in turn.
+fn spans_in_turn(regex: &Regex, left: &str, right: &str) -> Result<([Span; 3], [Span; 3]), Error> {
+    let mut matches = regex.find_iter(left)?;
+    let mut groups = regex.captures_iter(right)?;
+    let first = (next_span(&mut matches), next_whole_span(&mut groups));
+    let second = (next_span(&mut matches), next_whole_span(&mut groups));
+    let third = (next_span(&mut matches), next_whole_span(&mut groups));
+    Ok(([first.0, second.0, third.0], [first.1, second.1, third.1]))
+}
+
+fn next_span(matches: &mut Matches<'_, '_>) -> Span {
+    matches.next().map(|m| (m.start(), m.end()))
+}
+
+fn next_whole_span(groups: &mut CaptureMatches<'_, '_>) -> Span {
+    let caps = groups.next()?.ok()?;
+    caps.get(0).map(|m| (m.start(), m.end()))
+}
+
+/// Nor do pieces disturb the matches.
 #[test]
-fn asked_behind_the_end(rt: HostRuntime) -> Result<(), Fail> {
-    let regex = Regex::new(rt.alloc(), "(?<x>a)|$")?;
-    let mut matches = regex.find_iter("aa")?;
-    let mut groups = regex.captures_iter("aa")?;
-    let mut pieces = regex.split("aa")?;
-    let mut limited = regex.splitn("aa", 2)?;
-    let mut names = regex.capture_names();
-    for _ in 0..2 {
-        assert!(rt; matches.next().is_some() && groups.next().is_some());
-        assert!(rt; pieces.next().is_some() && limited.next().is_some());
-        assert!(rt; names.next().is_some());
-    }
-    assert_eq!(rt; pieces.next(), Some(""));
-    for _ in 0..3 {
-        assert_eq!(rt; matches.next(), None);
-        assert!(rt; groups.next().is_none());
-        assert_eq!(rt; pieces.next(), None);
-        assert_eq!(rt; limited.next(), None);
-        assert_eq!(rt; names.next(), None);
-    }
-    let found = regex.captures("aa")?;
-    assert!(rt; found.is_some());
-    if let Some(caps) = found {
-        let mut spans = caps.iter();
-        assert!(rt; spans.next().is_some() && spans.next().is_some());
-        for _ in 0..3 {
-            assert_eq!(rt; spans.next(), None);
-        }
-    }
+fn cut_in_turn(rt: HostRuntime) -> Result<(), Fail> {
+    let regex = Regex::new(rt.alloc(), "[ab]")?;
+    let (matches, pieces) = pieces_in_turn(&regex, "a-b", "1a2b3")?;
+    assert!(rt; matches == [Some((0, 1)), Some((2, 3)), None]);
+    assert!(rt; pieces == [Some("1"), Some("2"), Some("3")]);
     Ok(())
+}
+
+/// What the iterators over matches and over pieces give that are asked in turn.
+fn pieces_in_turn<'h>(
+    regex: &Regex,
+    left: &str,
+    right: &'h str,
+) -> Result<([Span; 3], [Option<&'h str>; 3]), Error> {
+    let mut matches = regex.find_iter(left)?;
+    let mut pieces = regex.split(right)?;
+    let first = (next_span(&mut matches), pieces.next());
+    let second = (next_span(&mut matches), pieces.next());
+    let third = (next_span(&mut matches), pieces.next());
+    Ok(([first.0, second.0, third.0], [first.1, second.1, third.1]))
 }

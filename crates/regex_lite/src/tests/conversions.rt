@@ -1,21 +1,32 @@
 //! The other ways to a regex with the default settings.
-use crate::tests::expect_refusal;
-use crate::{ErrorKind, Regex};
+use crate::{Error, ErrorKind, Regex};
+use std::process::Abort;
 use std::test::Fail;
+
+/// It has the pattern, which is that of one letter.
+fn expect_letter<H: Abort>(rt: &H, regex: &Regex) -> Result<(), Fail> {
+    assert_eq!(rt; regex.as_str(), "(a)");
+    assert!(rt; regex.is_match("ba")? && !regex.is_match("A")?);
+    Ok(())
+}
 
 #[test]
 fn accepted(rt: HostRuntime) -> Result<(), Fail> {
     let alloc = rt.alloc();
+    expect_letter(&rt, &Regex::from_str(alloc, "(a)")?)?;
+    expect_letter(&rt, &Regex::try_from(alloc, "(a)")?)?;
     let owned = String::from_str(alloc, "(a)")?;
-    let regexes = [
-        Regex::from_str(alloc, "(a)")?,
-        Regex::try_from(alloc, "(a)")?,
-        Regex::try_from_string(alloc, owned)?,
-    ];
-    for regex in &regexes {
-        assert_eq!(rt; regex.as_str(), "(a)");
-        assert!(rt; regex.is_match("ba")?);
-        assert!(rt; !regex.is_match("A")?);
+    expect_letter(&rt, &Regex::try_from_string(alloc, owned)?)
+}
+
+/// It is refused for the parenthesis that closes nothing.
+fn expect_refusal<H: Abort + AllocGlobal>(rt: &H, built: Result<Regex, Error>) -> Result<(), Fail> {
+    let refused = built.err();
+    assert!(rt; refused.is_some());
+    if let Some(error) = refused {
+        assert_eq!(rt; error.kind(), ErrorKind::Syntax);
+        let text = format!(in rt.alloc(); "{error}")?;
+        assert_eq!(rt; text.as_str(), "found closing ')' without matching '('");
     }
     Ok(())
 }
@@ -23,15 +34,8 @@ fn accepted(rt: HostRuntime) -> Result<(), Fail> {
 #[test]
 fn refused(rt: HostRuntime) -> Result<(), Fail> {
     let alloc = rt.alloc();
+    expect_refusal(&rt, Regex::from_str(alloc, "a)"))?;
+    expect_refusal(&rt, Regex::try_from(alloc, "a)"))?;
     let owned = String::from_str(alloc, "a)")?;
-    let results = [
-        ("from_str", Regex::from_str(alloc, "a)")),
-        ("try_from", Regex::try_from(alloc, "a)")),
-        ("try_from_string", Regex::try_from_string(alloc, owned)),
-    ];
-    let text = "found closing ')' without matching '('";
-    for (name, result) in results {
-        expect_refusal(&rt, name, result, ErrorKind::Syntax, text)?;
-    }
-    Ok(())
+    expect_refusal(&rt, Regex::try_from_string(alloc, owned))
 }

@@ -12,19 +12,28 @@ fn refused_with_value(value: u8) -> Result<(), Error> {
 }
 
 #[test]
-fn made(rt: HostRuntime) -> Result<(), Fail> {
-    let alloc = rt.alloc();
+fn made(rt: HostRuntime) {
+    assert_eq!(rt; Error::memory().kind(), ErrorKind::Memory);
+    assert_eq!(rt; Error::replace().kind(), ErrorKind::Replace);
+}
+
+#[test]
+fn told(rt: HostRuntime) -> Result<(), Fail> {
+    for (error, text) in [
+        (Error::memory(), "out of memory"),
+        (Error::replace(), "replacement refused"),
+    ] {
+        let told = format!(in rt.alloc(); "{error}")?;
+        assert_eq!(rt; told.as_str(), text);
+    }
+    Ok(())
+}
+
+#[test]
+fn compared(rt: HostRuntime) -> Result<(), Fail> {
     let memory = Error::memory();
-    let replace = Error::replace();
-    assert_eq!(rt; memory.kind(), ErrorKind::Memory);
-    assert_eq!(rt; replace.kind(), ErrorKind::Replace);
-    assert_eq!(rt; format!(in alloc; "{memory}")?.as_str(), "out of memory");
-    assert_eq!(rt;
-        format!(in alloc; "{replace}")?.as_str(),
-        "replacement refused"
-    );
     assert_eq!(rt; memory.clone()?, memory);
-    assert_ne!(rt; memory, replace);
+    assert_ne!(rt; memory, Error::replace());
     Ok(())
 }
 

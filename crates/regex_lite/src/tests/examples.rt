@@ -1,7 +1,8 @@
 //! The examples of the documentation.
 mod replacing;
 
-use crate::{Regex, RegexBuilder, escape};
+use crate::{Captures, Regex, RegexBuilder, escape};
+use std::alloc::AllocError;
 use std::test::Fail;
 
 /// At the head of the crate.
@@ -164,11 +165,14 @@ fn captured(rt: HostRuntime) -> Result<(), Fail> {
     let found = regex.captures("#width=72")?;
     assert!(rt; found.is_some());
     if let Some(caps) = found {
-        assert_eq!(rt; caps.get(0).map(|m| m.as_str()), Some("width=72"));
-        assert_eq!(rt; caps.get(1).map(|m| m.as_str()), Some("width"));
-        assert_eq!(rt; caps.get(2).map(|m| m.as_str()), Some("72"));
+        let texts = first_texts(&caps);
+        assert_eq!(rt; texts, [Some("width=72"), Some("width"), Some("72")]);
     }
     Ok(())
+}
+
+fn first_texts<'h>(caps: &Captures<'h>) -> [Option<&'h str>; 3] {
+    [caps.get(0), caps.get(1), caps.get(2)].map(|group| group.map(|m| m.as_str()))
 }
 
 /// At `Captures`.
@@ -271,9 +275,9 @@ fn read_groups(rt: HostRuntime) -> Result<(), Fail> {
 fn all_matches(rt: HostRuntime) -> Result<(), Fail> {
     let regex = Regex::new(rt.alloc(), "a*")?;
     let mut matches = regex.find_iter("aab")?;
-    assert_eq!(rt; matches.next().map(|m| m.range()), Some(0..2));
-    assert_eq!(rt; matches.next().map(|m| m.range()), Some(3..3));
-    assert_eq!(rt; matches.next(), None);
+    for span in [Some(0..2), Some(3..3), None] {
+        assert_eq!(rt; matches.next().map(|m| m.range()), span);
+    }
     Ok(())
 }
 
@@ -283,12 +287,16 @@ fn all_groups(rt: HostRuntime) -> Result<(), Fail> {
     let regex = Regex::new(rt.alloc(), "([a-z])([0-9])")?;
     let mut digits = String::new(rt.alloc());
     for caps in regex.captures_iter("a1 b2")? {
-        let caps = caps?;
-        if caps.get(2).is_some() {
-            digits.push_str(caps.at(2))?;
-        }
+        push_digit(&mut digits, &caps?)?;
     }
     assert_eq!(rt; digits.as_str(), "12");
+    Ok(())
+}
+
+fn push_digit(digits: &mut String, caps: &Captures<'_>) -> Result<(), AllocError> {
+    if caps.get(2).is_some() {
+        digits.push_str(caps.at(2))?;
+    }
     Ok(())
 }
 
@@ -318,9 +326,9 @@ fn first_group<'h>(
 fn pieces(rt: HostRuntime) -> Result<(), Fail> {
     let regex = Regex::new(rt.alloc(), " *, *")?;
     let mut fields = regex.split("name , age")?;
-    assert_eq!(rt; fields.next(), Some("name"));
-    assert_eq!(rt; fields.next(), Some("age"));
-    assert_eq!(rt; fields.next(), None);
+    for field in [Some("name"), Some("age"), None] {
+        assert_eq!(rt; fields.next(), field);
+    }
     Ok(())
 }
 
@@ -329,8 +337,8 @@ fn pieces(rt: HostRuntime) -> Result<(), Fail> {
 fn first_pieces(rt: HostRuntime) -> Result<(), Fail> {
     let regex = Regex::new(rt.alloc(), " ")?;
     let mut words = regex.splitn("a b c", 2)?;
-    assert_eq!(rt; words.next(), Some("a"));
-    assert_eq!(rt; words.next(), Some("b c"));
-    assert_eq!(rt; words.next(), None);
+    for word in [Some("a"), Some("b c"), None] {
+        assert_eq!(rt; words.next(), word);
+    }
     Ok(())
 }

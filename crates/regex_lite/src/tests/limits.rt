@@ -1,125 +1,89 @@
-//! The limits on nesting and on what is written out.
-use crate::tests::{TOO_LARGE, expect_refusal};
+//! Patterns of a great size are refused, and nothing overflows. The fixed lists in tests/answers have
+//! the limits on smaller ones.
 use crate::{Error, ErrorKind, Regex, RegexBuilder};
-use std::alloc::Global;
+use std::alloc::{AllocError, Global};
 use std::test::Fail;
 
-const TOO_DEEP: &str = "pattern has too much nesting";
+const MILLION: usize = 1_000_000;
 
-const TOO_MANY_PLACES: &str = "exhausted state IDs, too many states";
-
-/// A pattern in so many capturing groups.
-fn within_groups(alloc: Global, count: usize, pattern: &str) -> Result<String, Fail> {
-    let mut nested = "(".repeat(alloc, count)?;
-    nested.push_str(pattern)?;
-    nested.push_str(")".repeat(alloc, count)?.as_str())?;
-    Ok(nested)
-}
-
-/// Without a call of the setter the limit is 50.
-#[test]
-fn by_default(rt: HostRuntime) -> Result<(), Fail> {
-    let alloc = rt.alloc();
-    let nested = within_groups(alloc, 50, "a")?;
-    let regex = Regex::new(alloc, nested.as_str())?;
-    assert!(rt; regex.is_match("ba")?);
-    assert!(rt; !regex.is_match("b")?);
-    for (count, pattern) in [(51, "a"), (50, "ab")] {
-        let nested = within_groups(alloc, count, pattern)?;
-        let built = Regex::new(alloc, nested.as_str());
-        expect_refusal(&rt, nested.as_str(), built, ErrorKind::Nesting, TOO_DEEP)?;
-    }
-    Ok(())
-}
-
-/// The regex of a pattern under a nest limit.
-fn build_within(alloc: Global, pattern: &str, limit: u32) -> Result<Regex, Error> {
-    RegexBuilder::new(alloc, pattern)?.nest_limit(limit).build()
-}
-
-/// Each pattern with the least limit under which it is accepted.
-const ROWS: [(&str, u32); 12] = [
-    ("", 0),
-    ("a", 0),
-    ("[a-z]", 0),
-    ("^", 0),
-    ("ab", 1),
-    ("a|b", 1),
-    ("a*", 1),
-    ("(a)", 1),
-    ("(?:a)", 1),
-    ("a{1}", 0),
-    ("(?:ab)+", 2),
-    ("(?:(?:a))(?:b)", 2),
+/// An item, and what stands before it and behind it a million times.
+const NESTED: [(&str, &str, &str); 7] = [
+    ("a", "", "+"),
+    ("a", "", "*"),
+    ("", "(", ""),
+    ("", "(?:", ""),
+    ("", "(?i:", ""),
+    ("", "(", ")"),
+    ("", "(?:", ")"),
 ];
 
+fn nested(alloc: Global, (item, before, behind): (&str, &str, &str)) -> Result<String, AllocError> {
+    let mut pattern = before.repeat(alloc, MILLION)?;
+    pattern.push_str(item)?;
+    pattern.push_str(behind.repeat(alloc, MILLION)?.as_str())?;
+    Ok(pattern)
+}
+
+/// Why the pattern is refused under the default settings.
+fn kind(alloc: Global, pattern: &str) -> Option<ErrorKind> {
+    Regex::new(alloc, pattern).err().map(|e| e.kind())
+}
+
 #[test]
-fn rows(rt: HostRuntime) -> Result<(), Fail> {
-    let alloc = rt.alloc();
-    for (pattern, least) in ROWS {
-        for limit in 0..4 {
-            let built = build_within(alloc, pattern, limit);
-            if limit < least {
-                expect_refusal(&rt, pattern, built, ErrorKind::Nesting, TOO_DEEP)?;
-            } else {
-                assert_eq!(rt; built?.as_str(), pattern);
-            }
-        }
+fn too_much_nesting(rt: HostRuntime) -> Result<(), Fail> {
+    for row in NESTED {
+        let pattern = nested(rt.alloc(), row)?;
+        let refused = kind(rt.alloc(), pattern.as_str());
+        assert_eq!(rt; refused, Some(ErrorKind::Nesting), "{row:?}");
     }
     Ok(())
 }
 
+/// As many empty branches as the default size limit admits, and one more.
 #[test]
-fn greatest(rt: HostRuntime) -> Result<(), Fail> {
-    let alloc = rt.alloc();
-    assert!(rt; build_within(alloc, "a", u32::MAX)?.is_match("a")?);
-    let nested = within_groups(alloc, 100, "a")?;
-    assert!(rt; build_within(alloc, nested.as_str(), u32::MAX)?.is_match("a")?);
+fn too_large(rt: HostRuntime) -> Result<(), Fail> {
+    for (bars, refused) in [(291_265, None), (291_266, Some(ErrorKind::Size))] {
+        let pattern = "|".repeat(rt.alloc(), bars)?;
+        assert_eq!(rt; kind(rt.alloc(), pattern.as_str()), refused, "{bars}");
+    }
     Ok(())
 }
 
-/// Without a call of the setter the size limit is 10485760.
-#[test]
-fn size_by_default(rt: HostRuntime) -> Result<(), Fail> {
-    let alloc = rt.alloc();
-    let pattern = "|".repeat(alloc, 291_265)?;
-    assert!(rt; Regex::new(alloc, pattern.as_str()).is_ok());
-    let pattern = "|".repeat(alloc, 291_266)?;
-    let built = Regex::new(alloc, pattern.as_str());
-    expect_refusal(&rt, "bars", built, ErrorKind::Size, TOO_LARGE)?;
-    assert!(rt; Regex::new(alloc, "a{327676}").is_ok());
-    let built = Regex::new(alloc, "a{327677}");
-    expect_refusal(&rt, "a{327677}", built, ErrorKind::Size, TOO_LARGE)
-}
-
-/// Patterns of billions of places.
+/// Each would have too many places, whatever the size limit.
 const BILLIONS: [&str; 4] = [
-    "a{4294967295}",
-    "(?:a|){4294967295}",
-    "a{0,4294967295}",
-    "(?:){4294967295}{4294967295}",
-];
-
-/// Under no limit on the size.
-const TOO_MANY: [&str; 4] = [
     "a{4294967293}",
     "a{4294967295}",
     "(?:a|){4294967295}",
     "a{0,4294967295}",
 ];
 
-/// What is too large is refused at once, and takes no memory.
+/// The refusal of a pattern without a limit on its size.
+fn refusal(alloc: Global, pattern: &str) -> Result<Option<Error>, Error> {
+    let mut builder = RegexBuilder::new(alloc, pattern)?;
+    Ok(builder.size_limit(usize::MAX).build().err())
+}
+
+/// They are refused at once, and take no memory.
 #[test]
-fn billions(rt: HostRuntime) -> Result<(), Fail> {
-    let alloc = rt.alloc();
+fn too_many_places(rt: HostRuntime) -> Result<(), Fail> {
     for pattern in BILLIONS {
-        let built = Regex::new(alloc, pattern);
-        expect_refusal(&rt, pattern, built, ErrorKind::Size, TOO_LARGE)?;
+        let refused = refusal(rt.alloc(), pattern)?;
+        assert_eq!(rt;
+            refused.map(|e| e.kind()),
+            Some(ErrorKind::Places),
+            "{pattern:?}"
+        );
     }
-    for pattern in TOO_MANY {
-        let mut builder = RegexBuilder::new(alloc, pattern)?;
-        let built = builder.size_limit(usize::MAX).build();
-        expect_refusal(&rt, pattern, built, ErrorKind::Places, TOO_MANY_PLACES)?;
+    Ok(())
+}
+
+#[test]
+fn told(rt: HostRuntime) -> Result<(), Fail> {
+    let refused = refusal(rt.alloc(), "a{4294967295}")?;
+    assert!(rt; refused.is_some());
+    if let Some(error) = refused {
+        let text = format!(in rt.alloc(); "{error}")?;
+        assert_eq!(rt; text.as_str(), "exhausted state IDs, too many states");
     }
     Ok(())
 }

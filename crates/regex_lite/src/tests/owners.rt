@@ -41,11 +41,17 @@ fn dropped_with_the_last(rt: HostRuntime) -> Result<(), AllocError> {
 fn outlives_the_first(rt: HostRuntime) -> Result<(), Fail> {
     let regex = Regex::new(rt.alloc(), "(?<letter>[a-c])")?;
     let copy = regex.clone()?;
-    let groups = regex.captures("xb")?;
     drop(regex);
     assert_eq!(rt; copy.as_str(), "(?<letter>[a-c])");
     assert!(rt; copy.is_match("xc")?);
-    drop(copy);
+    Ok(())
+}
+
+#[test]
+fn groups_outlive_their_regex(rt: HostRuntime) -> Result<(), Fail> {
+    let regex = Regex::new(rt.alloc(), "(?<letter>[a-c])")?;
+    let groups = regex.captures("xb")?;
+    drop(regex);
     let letter = groups.and_then(|caps| caps.name("letter"));
     assert_eq!(rt; letter.map(|m| m.as_str()), Some("b"));
     Ok(())

@@ -1,30 +1,23 @@
 //! Haystacks with their matches replaced, by each kind of replacer.
 use crate::{Captures, Error, ErrorKind, NoExpand, Regex, ReplaceBy, Replacer};
+use std::alloc::Global;
 use std::borrow::CowStr;
+use std::process::Abort;
 use std::test::Fail;
 
-#[test]
-fn limited(rt: HostRuntime) -> Result<(), Fail> {
-    let regex = Regex::new(rt.alloc(), "a")?;
-    for (limit, wanted) in [(0, "bbb"), (1, "baa"), (2, "bba"), (3, "bbb"), (9, "bbb")] {
-        assert_eq!(rt;
-            regex.replacen("aaa", limit, "b")?.as_str(),
-            wanted,
-            "within {limit}"
-        );
-        let in_turn = regex.replacen("aaa", limit, "${x}b")?;
-        assert_eq!(rt; in_turn.as_str(), wanted, "in turn within {limit}");
-    }
-    assert_eq!(rt; regex.replace("aaa", "b")?.as_str(), "baa");
-    Ok(())
-}
-
-/// Only a haystack without a match is answered as it is.
+/// A haystack without a match is answered as it is.
 #[test]
 fn lent(rt: HostRuntime) -> Result<(), Fail> {
     let regex = Regex::new(rt.alloc(), "x")?;
     assert!(rt; is_lent(&regex.replace_all("abc", "y")?, "abc"));
     assert!(rt; is_lent(&regex.replace_all("abc", "$0")?, "abc"));
+    Ok(())
+}
+
+/// One with a match is copied, even where the copy is the same.
+#[test]
+fn copied(rt: HostRuntime) -> Result<(), Fail> {
+    let regex = Regex::new(rt.alloc(), "x")?;
     assert!(rt; !is_lent(&regex.replace_all("axc", "x")?, "axc"));
     assert!(rt; !is_lent(&regex.replace_all("axc", "$0")?, "axc"));
     Ok(())
@@ -38,43 +31,69 @@ fn is_lent(answer: &CowStr<'_>, text: &str) -> bool {
     }
 }
 
+/// What the replacer makes of "ab", where the letter a is replaced, is this.
+fn expect_text<H: Abort + AllocGlobal, R: Replacer>(
+    rt: &H,
+    rep: R,
+    wanted: &str,
+) -> Result<(), Fail>
+    requires { R.can_append rep }
+{
+    let regex = Regex::new(rt.alloc(), "(a)")?;
+    let text = regex.replace("ab", rep)?;
+    assert_eq!(rt; text.as_str(), wanted);
+    Ok(())
+}
+
+/// Templates, each with what it makes of "ab".
+const TEMPLATES: [(&str, &str); 2] = [("-", "-b"), ("[$1]", "[a]b")];
+
 #[test]
-fn texts(rt: HostRuntime) -> Result<(), Fail> {
-    let alloc = rt.alloc();
-    let regex = Regex::new(alloc, "(a)")?;
-    for (template, wanted) in [("-", "-b"), ("[$1]", "[a]b")] {
-        let text = String::from_str(alloc, template)?;
+fn borrowed_texts(rt: HostRuntime) -> Result<(), Fail> {
+    for (template, wanted) in TEMPLATES {
         let cow = CowStr::Borrowed(template);
-        assert_eq!(rt; regex.replace("ab", template)?.as_str(), wanted);
-        assert_eq!(rt; regex.replace("ab", &text)?.as_str(), wanted);
-        assert_eq!(rt; regex.replace("ab", &cow)?.as_str(), wanted);
-        assert_eq!(rt; regex.replace("ab", cow)?.as_str(), wanted);
-        assert_eq!(rt;
-            regex.replace("ab", CowStr::Owned(text.clone()?))?.as_str(),
-            wanted
-        );
-        assert_eq!(rt; regex.replace("ab", text)?.as_str(), wanted);
+        expect_text(&rt, template, wanted)?;
+        expect_text(&rt, &cow, wanted)?;
+        expect_text(&rt, cow, wanted)?;
+    }
+    Ok(())
+}
+
+#[test]
+fn owned_texts(rt: HostRuntime) -> Result<(), Fail> {
+    for (template, wanted) in TEMPLATES {
+        let text = String::from_str(rt.alloc(), template)?;
+        expect_text(&rt, &text, wanted)?;
+        expect_text(&rt, CowStr::Owned(text.clone()?), wanted)?;
+        expect_text(&rt, text, wanted)?;
     }
     Ok(())
 }
 
 #[test]
 fn no_template(rt: HostRuntime) -> Result<(), Fail> {
-    let alloc = rt.alloc();
-    let regex = Regex::new(alloc, "(a)")?;
-    let mut plain = NoExpand("$1").clone()?;
-    assert_eq!(rt; regex.replace("a", plain)?.as_str(), "$1");
+    let plain = NoExpand("$1").clone()?;
+    expect_text(&rt, plain, "$1b")?;
+    let text = format!(in rt.alloc(); "{plain:?}")?;
+    assert_eq!(rt; text.as_str(), "NoExpand(\"$1\")");
+    Ok(())
+}
+
+/// What the text is appended to, where it is none of a template.
+fn appended(alloc: Global, caps: &Captures<'_>) -> Result<String, Error> {
+    let mut text = String::from_str(alloc, "x")?;
+    NoExpand("$1").replace_append(caps, &mut text)?;
+    Ok(text)
+}
+
+#[test]
+fn no_template_appended(rt: HostRuntime) -> Result<(), Fail> {
+    let regex = Regex::new(rt.alloc(), "(a)")?;
     let found = regex.captures("a")?;
     assert!(rt; found.is_some());
     if let Some(caps) = found {
-        let mut text = String::from_str(alloc, "x")?;
-        plain.replace_append(&caps, &mut text)?;
-        assert_eq!(rt; text.as_str(), "x$1");
+        assert_eq!(rt; appended(rt.alloc(), &caps)?.as_str(), "x$1");
     }
-    assert_eq!(rt;
-        format!(in alloc; "{plain:?}")?.as_str(),
-        "NoExpand(\"$1\")"
-    );
     Ok(())
 }
 
@@ -94,30 +113,27 @@ fn closures(rt: HostRuntime) -> Result<(), Fail> {
     Ok(())
 }
 
+/// "aa" with the letter b in the place of the first match. Another match is refused.
+fn first_replaced(alloc: Global, limit: usize) -> Result<String, Error> {
+    let regex = Regex::new(alloc, "a")?;
+    let mut is_first = true;
+    let first_alone = ReplaceBy(|_caps: &Captures<'_>| -> Result<String, Error> {
+        if !is_first {
+            return Err(Error::replace());
+        }
+        is_first = false;
+        Ok(String::from_str(alloc, "b")?)
+    });
+    Ok(regex.replacen("aa", limit, first_alone)?.into_owned(alloc)?)
+}
+
 /// Only the matches within the limit are asked for.
 #[test]
 fn refused(rt: HostRuntime) -> Result<(), Fail> {
-    let alloc = rt.alloc();
-    let regex = Regex::new(alloc, "a")?;
-    for limit in [1, 2, 0] {
-        let mut is_first = true;
-        let first_alone = ReplaceBy(|_caps: &Captures<'_>| -> Result<String, Error> {
-            if !is_first {
-                return Err(Error::replace());
-            }
-            is_first = false;
-            Ok(String::from_str(alloc, "b")?)
-        });
-        match regex.replacen("aa", limit, first_alone) {
-            Ok(text) => {
-                assert_eq!(rt; limit, 1);
-                assert_eq!(rt; text.as_str(), "ba");
-            }
-            Err(error) => {
-                assert_ne!(rt; limit, 1);
-                assert_eq!(rt; error.kind(), ErrorKind::Replace);
-            }
-        }
+    assert_eq!(rt; first_replaced(rt.alloc(), 1)?.as_str(), "ba");
+    for limit in [2, 0] {
+        let refused = first_replaced(rt.alloc(), limit).err();
+        assert_eq!(rt; refused.map(|e| e.kind()), Some(ErrorKind::Replace));
     }
     Ok(())
 }
@@ -151,16 +167,21 @@ fn by_reference(rt: HostRuntime) -> Result<(), Fail> {
     let mut counted = Counted { matches: 0 };
     assert_eq!(rt; regex.replace_all("a-a", counted.by_ref())?.as_str(), "x-x");
     assert_eq!(rt; counted.matches, 2);
-    assert_eq!(rt; regex.replace("aa", counted.by_ref())?.as_str(), "xa");
+    Ok(())
+}
+
+/// One that is lent goes on where it was.
+#[test]
+fn lent_again(rt: HostRuntime) -> Result<(), Fail> {
+    let mut counted = Counted { matches: 2 };
+    expect_text(&rt, counted.by_ref(), "xb")?;
     assert_eq!(rt; counted.matches, 3);
     Ok(())
 }
 
 #[test]
 fn no_template_by_reference(rt: HostRuntime) -> Result<(), Fail> {
-    let regex = Regex::new(rt.alloc(), "a")?;
-    assert_eq!(rt; regex.replace("a", NoExpand("$1").by_ref())?.as_str(), "$1");
-    Ok(())
+    expect_text(&rt, NoExpand("$1").by_ref(), "$1b")
 }
 
 #[test]

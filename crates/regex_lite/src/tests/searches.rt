@@ -1,13 +1,9 @@
-//! What searches cost, and what lists of single searches leave open: starts, groups, locations and
+//! What searches cost, and what lists of single searches leave open: groups, locations and
 //! iterators that are kept.
-ghost use Rattle.std.specs.Prelude.{◌≡◌, true};
-ghost use Rattle.regex_lite.specs.Searches.{CanStartAt};
-
 mod costs;
 mod groups;
 mod lists;
 mod reads;
-mod spans;
 
 use crate::{Captures, Match};
 use std::process::Abort;
@@ -37,14 +33,4 @@ fn span_text<H: Abort + AllocGlobal>(rt: &H, found: Option<Match<'_>>) -> Result
         None => String::from_str(rt.alloc(), "-")?,
     };
     Ok(text)
-}
-
-/// Whether a search may start there.
-fn can_start(haystack: &str, start: usize) -> bool
-    ensures { result ≡ true → CanStartAt haystack.now start }
-{
-    if start > haystack.len() {
-        return true;
-    }
-    haystack.is_char_boundary(start)
 }

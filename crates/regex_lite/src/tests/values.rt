@@ -1,17 +1,13 @@
 //! What a regex and a builder print, and clones.
-use crate::{Error, Match, NoExpand, Regex, RegexBuilder, SubCaptureMatches};
+use crate::{Error, NoExpand, Regex, RegexBuilder};
 use std::test::Fail;
 
 #[test]
 fn printed(rt: HostRuntime) -> Result<(), Fail> {
-    let alloc = rt.alloc();
-    let regex = Regex::new(alloc, "]\"")?;
+    let regex = Regex::new(rt.alloc(), "]\"")?;
     assert_eq!(rt; regex.as_str(), "]\"");
-    assert_eq!(rt; format!(in alloc; "{regex}")?.as_str(), "]\"");
-    assert_eq!(rt;
-        format!(in alloc; "{regex:?}")?.as_str(),
-        "Regex(\"]\\\"\")"
-    );
+    let text = format!(in rt.alloc(); "{regex} {regex:?}")?;
+    assert_eq!(rt; text.as_str(), "]\" Regex(\"]\\\"\")");
     Ok(())
 }
 
@@ -26,23 +22,35 @@ fn clone_of<T: Clone>(value: &T) -> T
 }
 
 #[test]
-fn cloned(rt: HostRuntime) -> Result<(), Fail> {
+fn regexes_cloned(rt: HostRuntime) -> Result<(), Fail> {
     let regex = clone_of(&Regex::new(rt.alloc(), "(a)b|c")?);
     assert_eq!(rt; regex.as_str(), "(a)b|c");
-    let names = clone_of(&regex.capture_names());
-    assert_eq!(rt; names.len(), 2);
-    let (found, steps) = regex.captures_counted_at("xab", 0)?;
+    assert_eq!(rt; clone_of(&regex.capture_names()).len(), 2);
+    Ok(())
+}
+
+#[test]
+fn groups_cloned(rt: HostRuntime) -> Result<(), Fail> {
+    let regex = Regex::new(rt.alloc(), "(a)b|c")?;
+    let found = regex.captures("xab")?;
+    assert_eq!(rt; found.map(|caps| clone_of(&caps.iter()).len()), Some(2));
+    Ok(())
+}
+
+#[test]
+fn matches_cloned(rt: HostRuntime) -> Result<(), Fail> {
+    let regex = Regex::new(rt.alloc(), "(a)b|c")?;
+    let (found, steps) = regex.find_counted_at("xab", 0)?;
     assert!(rt; clone_of(&steps) == steps);
-    if let Some(caps) = found {
-        let groups: SubCaptureMatches<'_, '_> = clone_of(&caps.iter());
-        assert_eq!(rt; groups.len(), 2);
-        let whole: Option<Match<'_>> = caps.get(0);
-        assert!(rt; whole.map(|m| clone_of(&m)) == whole);
-    }
+    assert!(rt; found.is_some() && found.map(|m| clone_of(&m)) == found);
+    Ok(())
+}
+
+#[test]
+fn small_values_cloned(rt: HostRuntime) {
     let error = clone_of(&Error::replace());
     assert!(rt; clone_of(&error.kind()) == error.kind());
     assert_eq!(rt; clone_of(&NoExpand("$")).0, "$");
-    Ok(())
 }
 
 /// With its settings, as a derived `Debug` writes them.

@@ -1,5 +1,5 @@
 //! What searches cost.
-use crate::{Regex, Steps};
+use crate::{Error, Regex, Steps};
 use std::process::Abort;
 use std::test::Fail;
 
@@ -48,19 +48,43 @@ fn expect_none<H: Abort + AllocGlobal>(
     for steps in costs_of_none(rt, regex, haystack)? {
         expect_at_most(rt, steps, tried, entered);
     }
-    assert!(rt; !regex.is_match(haystack)?);
-    assert!(rt; regex.find(haystack)?.is_none() && regex.captures(haystack)?.is_none());
-    assert!(rt; regex.shortest_match(haystack)?.is_none());
-    let mut locations = regex.capture_locations()?;
-    assert!(rt; regex.captures_read(&mut locations, haystack)?.is_none());
-    assert!(rt; regex.find_iter(haystack)?.next().is_none());
-    assert!(rt; regex.captures_iter(haystack)?.next().is_none());
-    assert_eq!(rt; regex.split(haystack)?.next(), Some(haystack));
-    assert_eq!(rt; regex.splitn(haystack, 2)?.next(), Some(haystack));
-    assert_eq!(rt; regex.replace(haystack, "$0")?.as_str(), haystack);
-    assert_eq!(rt; regex.replace_all(haystack, "b")?.as_str(), haystack);
-    assert_eq!(rt; regex.replacen(haystack, 2, "b")?.as_str(), haystack);
+    expect_no_answer(rt, regex, haystack)
+}
+
+/// No call finds anything.
+fn expect_no_answer<H: Abort>(rt: &H, regex: &Regex, haystack: &str) -> Result<(), Fail> {
+    assert!(rt; !is_found(regex, haystack)?);
+    assert!(rt; !has_items(regex, haystack)?);
+    assert!(rt; is_whole(regex, haystack)? && is_kept(regex, haystack)?);
     Ok(())
+}
+
+/// Whether a search from the beginning finds something.
+fn is_found(regex: &Regex, haystack: &str) -> Result<bool, Error> {
+    let is_match = regex.is_match(haystack)?;
+    let is_found = regex.find(haystack)?.is_some() || regex.shortest_match(haystack)?.is_some();
+    let mut locations = regex.capture_locations()?;
+    let is_read = regex.captures_read(&mut locations, haystack)?.is_some();
+    Ok(is_match || is_found || is_read || regex.captures(haystack)?.is_some())
+}
+
+/// Whether there is a first match, or there are its groups.
+fn has_items(regex: &Regex, haystack: &str) -> Result<bool, Error> {
+    let has_match = regex.find_iter(haystack)?.next().is_some();
+    Ok(has_match || regex.captures_iter(haystack)?.next().is_some())
+}
+
+/// Whether the first piece is the haystack.
+fn is_whole(regex: &Regex, haystack: &str) -> Result<bool, Error> {
+    let is_whole = regex.split(haystack)?.next() == Some(haystack);
+    Ok(is_whole && regex.splitn(haystack, 2)?.next() == Some(haystack))
+}
+
+/// Whether replacing leaves the haystack as it is.
+fn is_kept(regex: &Regex, haystack: &str) -> Result<bool, Error> {
+    let is_kept = regex.replace(haystack, "$0")?.as_str() == haystack
+        && regex.replace_all(haystack, "b")?.as_str() == haystack;
+    Ok(is_kept && regex.replacen(haystack, 2, "b")?.as_str() == haystack)
 }
 
 /// What each search costs that finds nothing.
