@@ -26,6 +26,7 @@ sys.dont_write_bytecode = True  # nothing but the lists is written here
 import escapes
 import flags
 import lists
+import long
 import plain
 import runs
 import searches
@@ -130,6 +131,7 @@ def main():
     written[ANSWERS / 'escapes.tsv'] = escapes.lines(judge)
     written[ANSWERS / 'runs.tsv'] = runs.lines(judge)
     written[ANSWERS / 'settings.tsv'] = settings.lines(judge)
+    written[ANSWERS / 'long.tsv'] = long.lines(judge)
     for path, lines in written.items():
         with open(path, 'w', encoding='utf-8', newline='\n') as out:
             out.writelines(lines)

@@ -8,6 +8,7 @@ ANSWERS = Path(__file__).resolve().parent.parent
 PICKED = ANSWERS / 'picked'
 
 ESCAPE = re.compile(r'\\(?:([tnr\\])|u\{([0-9a-fA-F]{1,6})\})')
+RUN = re.compile(r'([^\\0-9])\1{63,}')
 NAMED = {'t': '\t', 'n': '\n', 'r': '\r', '\\': '\\'}
 
 
@@ -28,6 +29,16 @@ def escaped(text):
         else:
             out.append(character)
     return ''.join(out)
+
+
+def packed(line):
+    """The line with `«c×N»` in the place of each long run of a character c."""
+    return RUN.sub(lambda run: f'«{run[1]}×{len(run[0])}»', line)
+
+
+def expanded(text):
+    """The text with each quoted part of it as often as it says."""
+    return re.sub('«([^«»]*)×([0-9]+)»', lambda part: part[1] * int(part[2]), text)
 
 
 def bytes_of(text):

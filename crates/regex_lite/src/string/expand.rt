@@ -12,7 +12,8 @@ use regex_lite_syntax::Error;
 impl<'h> Captures<'h> {
     /// Appends the template with the groups' texts in the place of its references: `$name` and
     /// `${name}` refer to the group with this name, or with this index where it is digits alone.
-    /// Without braces a name is as long as it can be. `$$` gives a `$`.
+    /// Without braces a name is as long as it can be. `$$` gives a `$`. The section on templates in
+    /// docs/SYNTAX.md says more.
     ///
     /// A reference to no group, or to one that took no part, gives nothing.
     ///

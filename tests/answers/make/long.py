@@ -1,0 +1,35 @@
+"""The list of long haystacks, many groups and many matches. Its lines are those of searches and of
+lists, with runs of one character written by their length."""
+
+import lists
+import searches
+from data import expanded, packed, rows_of
+from judge import found, told
+
+LIMITS = {'splitn': (2, 5, 9), 'replacen': (0, 4, 9)}
+NEAR = (1, 9)  # how far before its end a haystack is searched from
+
+
+def picked():
+    """Flags, a pattern, a template and a haystack of each row."""
+    return [(flags, pattern, template, expanded(haystack))
+            for flags, pattern, template, *haystacks in rows_of('long') for haystack in haystacks]
+
+
+def starts(haystack):
+    """Where a haystack is searched from: its start, near its end, and behind offset 4,096."""
+    length = len(haystack.encode())
+    return sorted({0, *(length - back for back in NEAR if back <= length), min(4097, length)})
+
+
+def lines(judge):
+    """The lines of the list."""
+    rows = picked()
+    asked = [(flags, pattern, haystack, start) for flags, pattern, _, haystack in rows
+             for start in starts(haystack)]
+    made = [searches.line_of(case, answer) for case, answer in zip(asked, found(judge, asked))]
+    cases = [case for flags, pattern, template, haystack in rows for case in (
+        *lists.asked(flags, pattern, haystack, LIMITS, template),
+        lists.Case('expand', None, flags, pattern, haystack, template))]
+    made += [lists.line_of(case, answer) for case, answer in zip(cases, told(judge, cases))]
+    return [packed(line) for line in made]
