@@ -32,5 +32,6 @@ pub mod Compiled
 pub mod Slots
 pub mod Scanning
 pub mod NextMatch
+pub mod Rewriting
 -- What those have that share what was built. No public contract rests on it.
 pub mod Owner

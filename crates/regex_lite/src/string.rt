@@ -18,6 +18,7 @@ mod properties;
 mod regex;
 mod replace;
 mod replacer;
+mod rewrite;
 mod scan;
 mod search;
 mod searcher;

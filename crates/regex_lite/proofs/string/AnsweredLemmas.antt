@@ -1,5 +1,8 @@
 -- Whether anything is ahead of a whole haystack.
-use Rattle.std.proofs.Common.{◌≡◌, ◌≢◌, ◌++◌, inl, inr, ℕ, suc, zero, Bool, true, false, List, [], Option, Some, None, Result, Ok, Err, IfOk, MatchBool, sym, ap, ◌∙◌, subst, drop, chars, length, arith}
+use Rattle.std.proofs.Common.{◌≡◌, ◌≢◌, ◌++◌, inl, inr, ℕ, suc, zero, List, [], Option, Some, None, Result, Ok, Err, IfOk, MatchOption, sym, ap, ◌∙◌, subst, drop, chars, length, unwrap_or, arith}
+use Rattle.std.specs.Cow.{IsOwnedStr, cow_str_bytes}
+use Rattle.std.specs.declared.borrow.CowStr.{CowStr}
+use Rattle.std.proofs.lemmas.Result.{IfOk-weaker}
 use Rattle.std.proofs.lemmas.Str.{chars-nil}
 use Rattle.regex_lite_engine.specs.Search.Answer.{Found, HasMatchFrom, IsAnswer}
 use Rattle.regex_lite_engine.specs.Search.Offsets.{search_start}
@@ -7,8 +10,8 @@ use Rattle.regex_lite_engine.proofs.laws.PatternTreeLemmas.{regular_tree}
 use Rattle.regex_lite_engine.proofs.laws.answer.AnswerLemmas.{one_answer}
 use Rattle.regex_lite_syntax.specs.Text.{Text}
 use Rattle.regex_lite.specs.Expression.{Expression}
-use Rattle.regex_lite.specs.Ahead.{Ahead, IsOver, Passes, whole}
-use Rattle.regex_lite.specs.MatchList.{IsAnswerOf}
+use Rattle.regex_lite.specs.Ahead.{Ahead, ComesNext, IsOver, Passes, whole}
+use Rattle.regex_lite.specs.MatchList.{IsAnswerOf, IsNext}
 use Rattle.regex_lite.specs.Replacements.{limit_of}
 use Rattle.regex_lite.specs.Searches.{MatchesFrom}
 use Rattle.regex_lite.proofs.string.OneTreeLemmas.{one_tree}
@@ -25,43 +28,79 @@ not_both re haystack s found (tree, given, none) (other, given_too, is) =
     cc
 
 -- a haystack of which a match was passed first wasn't over
-pub not_over : (re : Expression) (haystack : List ℕ) (limit : Option ℕ) (found : Found) (new : Ahead)
-    → Passes (whole re haystack limit) found new → IsOver (whole re haystack limit) → ⊥
-not_over re haystack limit found new passes (inl none_left) = passes.may_come none_left
-not_over re haystack limit found new passes (inr none) =
-    not_both re (chars haystack) 0 found none passes.comes
+not_over : (start : Ahead) (found : Found) (new : Ahead) → start.ended ≡ None
+    → Passes start found new → IsOver start → ⊥
+not_over start found new begins passes (inl none_left) = passes.may_come none_left
+not_over start found new begins passes (inr none) =
+    let first : (told : Option Found) → ComesNext start told → IsAnswerOf start.regex (chars start.haystack) 0 told =
+    λ told. subst (λ at. IsNext start.regex (chars start.haystack) at told) begins in
+    not_both start.regex (chars start.haystack) 0 found (first None none) (first (Some found) passes.comes)
 
--- a replacement either was begun, or nothing was made and all is still ahead
-abbrev pub IsBegun : (start a : Ahead) → (from : ℕ) → (made : List ℕ) → (is_replaced : Bool) → Type 0
-IsBegun start a from made is_replaced =
-    MatchBool is_replaced (IsOver start → ⊥) ((a ≡ start) × (from ≡ 0) × (made ≡ []))
+-- a replacement either passed a match, or nothing was made and all is still ahead
+abbrev pub IsBegun : (start a : Ahead) → (made : List ℕ) → (ended : Option ℕ) → Type 0
+IsBegun start a made ended =
+    MatchOption ended ((a ≡ start) × (made ≡ [])) (λ _. IsOver start → ⊥)
 
-pub begun_on : (re : Expression) (haystack : List ℕ) (limit : Option ℕ) (old new : Ahead) (from : ℕ)
-    (made : List ℕ) (is_replaced : Bool) (found : Found)
-    → IsBegun (whole re haystack limit) old from made is_replaced → Passes old found new
-    → IsOver (whole re haystack limit) → ⊥
-begun_on re haystack limit old new from made true found begun passes = begun
-begun_on re haystack limit old new from made false found begun passes =
-    not_over re haystack limit found new (subst (λ a. Passes a found new) begun.0 passes)
+pub begun_on : (start old new : Ahead) (made more : List ℕ) (ended now : Option ℕ) (end : ℕ)
+    (found : Found) → start.ended ≡ None → IsBegun start old made ended → Passes old found new
+    → now ≡ Some end → IsBegun start new more now
+begun_on start old new made more (Some e) now end found begins begun passes is =
+    subst (IsBegun start new more) (sym is) begun
+begun_on start old new made more None now end found begins begun passes is =
+    subst (IsBegun start new more) (sym is)
+    (not_over start found new begins (subst (λ a. Passes a found new) begun.0 passes))
 
--- where nothing was made, the haystack itself follows
-pub nothing_made : (start a : Ahead) (from : ℕ) (made : List ℕ) (is_replaced : Bool)
-    → IsBegun start a from made is_replaced → is_replaced ≡ false
-    → made ++ drop from start.haystack ≡ start.haystack
-nothing_made start a from made true begun not = absurd cc
-nothing_made start a from made false begun not =
-    ap (λ text. text ++ drop from start.haystack) begun.2 ∙ ap (λ n. drop n start.haystack) begun.1
+-- the new text: the haystack itself where nothing was passed, and else the text that was made with
+-- the rest of the haystack
+abbrev pub IsFinished : {Z : Type 0} → (same : CowStr Z) → (made : List ℕ) → (ended : Option ℕ)
+    → (new : CowStr Z) → Type 0
+IsFinished same made ended new =
+    MatchOption ended (new ≡ same)
+    (λ from. IsOwnedStr new × (cow_str_bytes new ≡ made ++ drop from (cow_str_bytes same)))
 
--- and none is ahead of the whole haystack
-pub nothing_ahead : (start a : Ahead) (from : ℕ) (made : List ℕ) (is_replaced : Bool)
-    → IsBegun start a from made is_replaced → is_replaced ≡ false → IsOver a → IsOver start
-nothing_ahead start a from made true begun not over = absurd cc
-nothing_ahead start a from made false begun not over = subst IsOver begun.0 over
+module _ {Z : Type 0} (start a : Ahead) (same : CowStr Z) (made : List ℕ) where
+  text_finished : (ended : Option ℕ) → cow_str_bytes same ≡ start.haystack
+      → IsBegun start a made ended → (new : CowStr Z) → IsFinished same made ended new
+      → cow_str_bytes new ≡ made ++ drop (unwrap_or ended 0) start.haystack
+  text_finished None is begun new finished =
+      ap cow_str_bytes finished ∙ is ∙ ap (λ text. text ++ start.haystack) (sym begun.1)
+  text_finished (Some from) is begun new finished =
+      finished.1 ∙ ap (λ bytes. made ++ drop from bytes) is
 
-pub something_ahead : (start a : Ahead) (from : ℕ) (made : List ℕ) (is_replaced : Bool)
-    → IsBegun start a from made is_replaced → is_replaced ≡ true → IsOver start → ⊥
-something_ahead start a from made true begun is = begun
-something_ahead start a from made false begun is = absurd cc
+  borrowed_finished : (ended : Option ℕ) → IsBegun start a made ended → (new : CowStr Z)
+      → IsFinished same made ended new → IsOver start → new ≡ same
+  borrowed_finished None begun new finished over = finished
+  borrowed_finished (Some from) begun new finished over = absurd (begun over)
+
+  owned_finished : (ended : Option ℕ) → IsBegun start a made ended → IsOver a → (new : CowStr Z)
+      → IsFinished same made ended new → (IsOver start → ⊥) → IsOwnedStr new
+  owned_finished None begun over new finished some = absurd (some (subst IsOver begun.0 over))
+  owned_finished (Some from) begun over new finished some = finished.0
+
+  -- so what holds of what was made with the rest of the haystack holds of the new text
+  pub so_finished : {E : Type 0} (ended : Option ℕ) (result : Result (CowStr Z) E) (P : List ℕ → Type 0)
+      → IfOk result (IsFinished same made ended) → cow_str_bytes same ≡ start.haystack
+      → IsBegun start a made ended → P (made ++ drop (unwrap_or ended 0) start.haystack)
+      → IfOk result (λ new. P (cow_str_bytes new))
+  so_finished ended result P finished is begun holds =
+      IfOk-weaker result (IsFinished same made ended) (λ new. P (cow_str_bytes new))
+      (λ new h. subst P (sym (text_finished ended is begun new h)) holds) finished
+
+  -- where none was ahead it is the haystack itself
+  pub borrowed_where_over : {E : Type 0} (ended : Option ℕ) (result : Result (CowStr Z) E)
+      (other : CowStr Z) → IfOk result (IsFinished same made ended) → same ≡ other
+      → IsBegun start a made ended → IfOk result (λ new. IsOver start → new ≡ other)
+  borrowed_where_over ended result other finished is begun =
+      IfOk-weaker result (IsFinished same made ended) (λ new. IsOver start → new ≡ other)
+      (λ new h over. borrowed_finished ended begun new h over ∙ is) finished
+
+  -- and else one of its own
+  pub owned_where_some : {E : Type 0} (ended : Option ℕ) (result : Result (CowStr Z) E)
+      → IfOk result (IsFinished same made ended) → IsBegun start a made ended → IsOver a
+      → IfOk result (λ new. (IsOver start → ⊥) → IsOwnedStr new)
+  owned_where_some ended result finished begun over =
+      IfOk-weaker result (IsFinished same made ended) (λ new. (IsOver start → ⊥) → IsOwnedStr new)
+      (λ new h. owned_finished ended begun over new h) finished
 
 from_start : (haystack : List ℕ) → search_start haystack 0 ≡ 0
 from_start haystack =

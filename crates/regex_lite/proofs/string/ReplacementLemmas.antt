@@ -71,14 +71,14 @@ module _ {R : Type 0} (Fixed : R → Option (List ℕ) → R → Type 0)
   }
 
   pub in_turn_passed : (first : R) (start old new : Ahead) (rep after : R) (found : Found)
-      (groups : Groups) (from : ℕ) (span : ℕ × ℕ) (made text written : List ℕ)
+      (groups : Groups) (from to : ℕ) (made text written : List ℕ)
       → ContinuesInTurn first start old rep from made → Passes old found new
       → AreGroupsFound start.regex start.haystack found groups → Appends rep groups text (Ok tt) after
-      → span ≡ whole_span groups
+      → to ≡ (whole_span groups).1
       → written ≡ (made ++ slice_range start.haystack from (whole_span groups).0) ++ text
-      → ContinuesInTurn first start new after span.1 written
-  in_turn_passed first start old new rep after found groups from span made text written so_far passes are asked is more =
-      subst (λ (own : ℕ × ℕ). ContinuesInTurn first start new after own.1 written) (sym is)
+      → ContinuesInTurn first start new after to written
+  in_turn_passed first start old new rep after found groups from to made text written so_far passes are asked is more =
+      subst (λ own. ContinuesInTurn first start new after own written) (sym is)
       (subst (ContinuesInTurn first start new after (whole_span groups).1) (sym more)
       (record {
         on = λ list others rest ahead each chain.

@@ -2,7 +2,7 @@
 ghost use Rattle.std.specs.Prelude.{◌≡◌, ◌⊎◌, None, IfOk, IfErr, chars};
 ghost use Rattle.std.specs.Cow.{IsOwnedStr, cow_str_bytes};
 ghost use Rattle.regex_lite_syntax.specs.Errors.{out_of_memory};
-ghost use Rattle.regex_lite.specs.Ahead.{IsOver, whole};
+ghost use Rattle.regex_lite.specs.Ahead.{IsOver, ahead, whole};
 ghost use Rattle.regex_lite.specs.MatchList.{IsAnswerOf};
 ghost use Rattle.regex_lite.specs.Searches.{MatchesFrom};
 ghost use Rattle.regex_lite.specs.Replacements.{IsHandedOn, IsRefused, IsReplacedBy, IsReplacedInTurn, IsReplacement, limit_of};
@@ -11,6 +11,7 @@ use crate::string::find_iter::Matches;
 use crate::string::group_scan::GroupScan;
 use crate::string::regex::Regex;
 use crate::string::replacer::Replacer;
+use crate::string::rewrite::Rewrite;
 use regex_lite_syntax::Error;
 use std::borrow::CowStr;
 
@@ -126,22 +127,11 @@ impl Regex {
             → IsOwnedStr new) }
         ensures refused { IfErr result (λ error. error ≡ out_of_memory) }
     {
-        let mut new = String::new(self.alloc);
-        let mut from = 0;
-        let mut is_replaced = false;
+        let mut rewrite = Rewrite::start(self.alloc, haystack);
         for found in Matches::new(self, haystack, limit)? {
-            // At the first match this is room for the whole haystack.
-            new.reserve(haystack.len() - from)?;
-            new.push_str(&haystack[from..found.start()])?;
-            new.push_str(text)?;
-            from = found.end();
-            is_replaced = true;
+            rewrite.replace(&found, text)?;
         }
-        if !is_replaced {
-            return Ok(CowStr::Borrowed(haystack));
-        }
-        new.push_str(&haystack[from..])?;
-        Ok(CowStr::Owned(new))
+        rewrite.finish()
     }
 
     /// Replaces each match by what the replacer appends for it.
@@ -149,7 +139,7 @@ impl Regex {
         &self,
         haystack: &'h str,
         limit: Option<usize>,
-        mut rep: R,
+        rep: R,
     ) -> Result<CowStr<'h>, Error>
         requires { R.can_append rep }
         ensures replaced { IfOk result (λ new. IsReplacedInTurn R.fixed R.appends rep
@@ -161,25 +151,35 @@ impl Regex {
         ensures refused { IfErr result (λ error. (error ≡ out_of_memory)
             ⊎ IsRefused R.fixed R.appends rep (whole self.now haystack.now limit) error) }
     {
-        let mut new = String::new(self.alloc);
-        let mut from = 0;
-        let mut is_replaced = false;
         let mut scan = GroupScan::new(self, haystack, limit)?;
+        self.replace_each(haystack, &mut scan, rep)
+    }
+
+    /// Replaces each match that the scan gives, from the start of the haystack.
+    fn replace_each<'h, R: Replacer>(
+        &self,
+        haystack: &'h str,
+        scan: &mut GroupScan<'_, 'h>,
+        mut rep: R,
+    ) -> Result<CowStr<'h>, Error>
+        requires can_append { R.can_append rep }
+        requires haystack { scan.old.haystack ≡ haystack.now }
+        requires begins { scan.old.ended ≡ None }
+        ensures replaced { IfOk result (λ new. IsReplacedInTurn R.fixed R.appends rep
+            (ahead scan.old) (cow_str_bytes new)) }
+        ensures borrowed { IfOk result (λ new. IsOver (ahead scan.old)
+            → new ≡ CowStr.Borrowed haystack.entry) }
+        ensures owned { IfOk result (λ new. ¬ (IsOver (ahead scan.old)) → IsOwnedStr new) }
+        ensures refused { IfErr result (λ error. (error ≡ out_of_memory)
+            ⊎ IsRefused R.fixed R.appends rep (ahead scan.old) error) }
+    {
+        let mut rewrite = Rewrite::start(self.alloc, haystack);
         'items: while let Some(item) = scan.next() {
             let caps = item?;
-            let (start, end) = caps.whole_span();
-            new.reserve(haystack.len() - from)?;
-            new.push_str(&haystack[from..start])?;
-            rep.replace_append(&caps, &mut new)?;
+            rewrite.replace_with(&caps, &mut rep)?;
             scan.take_back(caps);
-            from = end;
-            is_replaced = true;
         }
-        if !is_replaced {
-            return Ok(CowStr::Borrowed(haystack));
-        }
-        new.push_str(&haystack[from..])?;
-        Ok(CowStr::Owned(new))
+        rewrite.finish()
     }
 }
 

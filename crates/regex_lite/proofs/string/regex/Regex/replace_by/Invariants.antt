@@ -1,5 +1,4 @@
-use Rattle.std.proofs.Common.{◌≡◌, unwrap_or, string_bytes}
-use Rattle.std.specs.Str.{IsCharBoundary}
+use Rattle.std.proofs.Common.{◌≡◌, string_bytes, unwrap_or}
 use Rattle.regex_lite.specs.Ahead.{ahead_of, whole}
 use Rattle.regex_lite.proofs.string.AnsweredLemmas.{IsBegun}
 use Rattle.regex_lite.proofs.string.ReplacementLemmas.{Continues}
@@ -9,9 +8,9 @@ abbrev pub invariant-loop-found : goal.invariant-loop-found
 invariant-loop-found l = record {
   can : (goal.iterator-loop-found).can_next l.found-iterator;
   finite : (goal.iterator-loop-found).is_finite l.found-iterator;
-  so_far : Continues l.text (whole l.self l.haystack l.fn.limit) (ahead_of l.found-iterator) l.from (string_bytes l.new);
-  begun : IsBegun (whole l.self l.haystack l.fn.limit) (ahead_of l.found-iterator) l.from (string_bytes l.new) l.is_replaced;
+  so_far : Continues l.text (whole l.self l.haystack l.fn.limit) (ahead_of l.found-iterator) (unwrap_or l.rewrite.ended 0) (string_bytes l.rewrite.text);
+  begun : IsBegun (whole l.self l.haystack l.fn.limit) (ahead_of l.found-iterator) (string_bytes l.rewrite.text) l.rewrite.ended;
   haystack : l.found-iterator.scan.haystack ≡ l.haystack;
-  from : l.from ≡ unwrap_or l.found-iterator.scan.ended 0;
-  boundary : IsCharBoundary l.haystack l.from;
+  ended : l.rewrite.ended ≡ l.found-iterator.scan.ended;
+  same : l.rewrite.haystack ≡ l.initial.rewrite.haystack;
 }

@@ -1,0 +1,111 @@
+//! The new text for a haystack whose matches are replaced.
+ghost use Rattle.std.specs.Prelude.{◌≡◌, ◌++◌, ◌⊎◌, ℕ, List, [], Some, None, Ok, Err, IfOk, IfErr, MatchOption, IsCharBoundary, drop, string_bytes, unwrap_or};
+ghost use Rattle.std.specs.Cow.{IsOwnedStr, cow_str_bytes};
+ghost use Rattle.regex_lite_syntax.specs.Errors.{out_of_memory};
+ghost use Rattle.regex_lite.specs.Ahead.{IsOnward};
+ghost use Rattle.regex_lite.specs.Groups.{LiesIn, whole_span};
+
+use crate::string::captures::Captures;
+use crate::string::matches::Match;
+use crate::string::replacer::Replacer;
+use regex_lite_syntax::Error;
+use std::alloc::Global;
+use std::borrow::CowStr;
+
+/// A haystack, and the new text for what stands before the end of the last match.
+#[derive(Drop)]
+pub(super) struct Rewrite<'h> {
+    haystack: &'h str,
+    text: String,
+    ended: Option<usize>,
+    ghost stands: { IsCharBoundary haystack.now (unwrap_or ended 0) },
+}
+
+impl<'h> Rewrite<'h> {
+    ghost use Rattle.regex_lite.specs.MatchViews.{haystack_of_match, span_of_match};
+    ghost use Rattle.regex_lite.specs.Rewriting.{text_up_to};
+
+    /// Where all matches are still to come.
+    pub fn start(alloc: Global, haystack: &'h str) -> Rewrite<'h>
+        ensures haystack { result.haystack ≡ haystack.entry }
+        ensures text { string_bytes result.text ≡ [] }
+        ensures ended { result.ended ≡ None }
+    {
+        Rewrite {
+            haystack,
+            text: String::new(alloc),
+            ended: None,
+        }
+    }
+
+    /// Puts this text in the place of the next match.
+    pub fn replace(&mut self, found: &Match<'h>, text: &str) -> Result<(), Error>
+        requires haystack { haystack_of_match found.now ≡ self.old.haystack.now }
+        requires onward { IsOnward self.old.ended (span_of_match found.now) }
+        ensures text { IfOk result (λ _. string_bytes self.new.text
+            ≡ text_up_to self.old (span_of_match found.now).0 ++ text.now) }
+        ensures haystack { self.new.haystack ≡ self.old.haystack }
+        ensures ended { IfOk result (λ _. self.new.ended ≡ Some (span_of_match found.now).1) }
+        ensures refused { IfErr result (λ error. error ≡ out_of_memory) }
+    {
+        self.pass(found.start(), found.end())?;
+        self.text.push_str(text)?;
+        Ok(())
+    }
+
+    /// Puts what the replacer appends in the place of the next match, which has these groups.
+    pub fn replace_with<R: Replacer>(
+        &mut self,
+        caps: &Captures<'h>,
+        rep: &mut R,
+    ) -> Result<(), Error>
+        requires can_append { R.can_append rep.old }
+        requires haystack { caps.now.haystack ≡ self.old.haystack.now }
+        requires onward { IsOnward self.old.ended (whole_span caps.now) }
+        ensures text { IfOk result (λ _. (text : List ℕ)
+            × R.appends rep.old caps.now text (Ok tt) rep.new
+            × (string_bytes self.new.text ≡ text_up_to self.old (whole_span caps.now).0 ++ text)) }
+        ensures haystack { self.new.haystack ≡ self.old.haystack }
+        ensures ended { IfOk result (λ _. self.new.ended ≡ Some (whole_span caps.now).1) }
+        ensures again { R.can_append rep.new }
+        ensures refused { IfErr result (λ error. (error ≡ out_of_memory)
+            ⊎ ((text : List ℕ) × R.appends rep.old caps.now text (Err error) rep.new)) }
+    {
+        let (start, end) = caps.whole_span();
+        self.pass(start, end)?;
+        rep.replace_append(caps, &mut self.text)
+    }
+
+    /// The new text with the rest of the haystack, or the haystack where nothing was replaced.
+    pub fn finish(mut self) -> Result<CowStr<'h>, Error>
+        ensures ok { IfOk result (λ new. MatchOption self.entry.ended
+            (new ≡ CowStr.Borrowed self.entry.haystack)
+            (λ from. IsOwnedStr new × (cow_str_bytes new
+            ≡ string_bytes self.entry.text ++ drop from self.entry.haystack.now))) }
+        ensures refused { IfErr result (λ error. error ≡ out_of_memory) }
+    {
+        let Some(from) = self.ended else {
+            return Ok(CowStr::Borrowed(self.haystack));
+        };
+        let rest = &self.haystack[from..];
+        self.text.push_str(rest)?;
+        Ok(CowStr::Owned(self.text))
+    }
+
+    /// Appends what stands before the next match, and goes on behind it.
+    fn pass(&mut self, start: usize, end: usize) -> Result<(), Error>
+        requires lies_in { LiesIn self.old.haystack.now (start, end) }
+        requires onward { IsOnward self.old.ended (start, end) }
+        ensures text { IfOk result (λ _. string_bytes self.new.text ≡ text_up_to self.old start) }
+        ensures haystack { self.new.haystack ≡ self.old.haystack }
+        ensures ended { IfOk result (λ _. self.new.ended ≡ Some end) }
+        ensures refused { IfErr result (λ error. error ≡ out_of_memory) }
+    {
+        let from = self.ended.unwrap_or(0);
+        // At the first match this is room for the whole haystack.
+        self.text.reserve(self.haystack.len() - from)?;
+        self.text.push_str(&self.haystack[from..start])?;
+        self.ended = Some(end);
+        Ok(())
+    }
+}
