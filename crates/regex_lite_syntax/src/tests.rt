@@ -5,7 +5,7 @@ mod sizes;
 mod trees;
 mod verbose_mode;
 
-use crate::{ClassRange, Config, Flags, Hir};
+use crate::{Class, ClassRange, Config, Flags, Hir};
 use std::alloc::Global;
 use std::process::Abort;
 use std::test::Fail;
@@ -92,16 +92,14 @@ fn tree_text(alloc: Global, config: Config, pattern: &str) -> Result<String, Fai
     Ok(out)
 }
 
-/// Each row is a pattern and its tree, or the text of its refusal.
-fn expect_rows(
-    rt: &impl Abort,
-    alloc: Global,
-    flags: Flags,
-    rows: &[(&str, &str)],
-) -> Result<(), Fail> {
-    for (pattern, want) in rows {
-        let text = tree_text(alloc, within(flags, 50), pattern)?;
-        assert_eq!(rt; text.as_str(), *want, "at {pattern}");
+/// A pattern and its tree, or the text of its refusal.
+type Row = (&'static str, &'static str);
+
+/// Each pattern gives what its row says.
+fn expect_rows<H: Abort + AllocGlobal>(rt: &H, flags: Flags, rows: &[Row]) -> Result<(), Fail> {
+    for (pattern, wanted) in rows {
+        let text = tree_text(rt.alloc(), within(flags, 50), pattern)?;
+        assert!(rt; text.as_str() == *wanted, "{pattern}: {text}");
     }
     Ok(())
 }
@@ -111,19 +109,24 @@ fn within(flags: Flags, nest_limit: u32) -> Config {
     Config { flags, nest_limit }
 }
 
-/// A pattern of so many times the primitive.
-fn many(alloc: Global, primitive: &str, n: usize) -> Result<String, Fail> {
-    let mut pattern = String::new(alloc);
-    for _ in 0..n {
-        pattern.push_str(primitive)?;
-    }
-    Ok(pattern)
-}
-
 /// The flags of verbose mode alone.
 fn verbose() -> Flags {
     Flags {
         ignore_whitespace: true,
         ..Flags::default()
     }
+}
+
+/// Whether the class has these ranges.
+pub(crate) fn has_ranges(class: &Class, bounds: &[(char, char)]) -> bool {
+    let ranges = class.ranges();
+    if ranges.len() != bounds.len() {
+        return false;
+    }
+    for (range, (start, end)) in ranges.iter().zip(bounds) {
+        if range.start != *start || range.end != *end {
+            return false;
+        }
+    }
+    true
 }

@@ -4,7 +4,7 @@ use super::{Piece, next_piece};
 use std::test::Fail;
 
 /// A template that begins with a reference, the reference, and its length in bytes.
-const REFERENCES: [(&'static str, Piece<'static>, usize); 17] = [
+static REFERENCES: [(&'static str, Piece<'static>, usize); 17] = [
     ("$foo", Piece::Name("foo"), 4),
     ("${foo}", Piece::Name("foo"), 6),
     ("$0", Piece::Number(0), 2),
@@ -34,19 +34,23 @@ const REFERENCES: [(&'static str, Piece<'static>, usize); 17] = [
 
 #[test]
 fn references(rt: HostRuntime) -> Result<(), Fail> {
-    for (template, wanted, len) in REFERENCES {
-        let Some((piece, rest)) = next_piece(template) else {
-            panic!(rt; "no piece of {template:?}")
-        };
-        assert_eq!(rt; piece, wanted, "at {template:?}");
-        assert_eq!(rt; template.len() - rest.len(), len, "at {template:?}");
+    for (template, wanted, len) in &REFERENCES {
+        assert!(rt; begins_with(template, wanted, *len), "at {template:?}");
     }
     Ok(())
 }
 
+/// Whether the template begins with this piece, and that is so long.
+fn begins_with(template: &str, wanted: &Piece<'_>, len: usize) -> bool {
+    match next_piece(template) {
+        Some((piece, rest)) => piece == *wanted && template.len() - rest.len() == len,
+        None => false,
+    }
+}
+
 #[test]
 fn no_references(rt: HostRuntime) -> Result<(), Fail> {
-    for template in ["${42", " $0 ", "$", "", "$$foo", "${", "$-", "$é"] {
+    for template in &["${42", " $0 ", "$", "", "$$foo", "${", "$-", "$é"] {
         let is_reference = match next_piece(template) {
             Some((Piece::Text(_text), _rest)) => false,
             Some((_piece, _rest)) => true,
@@ -57,26 +61,33 @@ fn no_references(rt: HostRuntime) -> Result<(), Fail> {
     Ok(())
 }
 
+/// What a template is made of, piece after piece.
+static PIECES: [Piece<'static>; 9] = [
+    Piece::Text("é "),
+    Piece::Number(1),
+    Piece::Text(", "),
+    Piece::Text("$"),
+    Piece::Text("1 "),
+    Piece::Name("a b"),
+    Piece::Text("$"),
+    Piece::Text("{x"),
+    Piece::Text("$"),
+];
+
 #[test]
 fn pieces(rt: HostRuntime) -> Result<(), Fail> {
-    let mut rest = "é $1, $$1 ${a b}$${x$";
-    for wanted in [
-        Piece::Text("é "),
-        Piece::Number(1),
-        Piece::Text(", "),
-        Piece::Text("$"),
-        Piece::Text("1 "),
-        Piece::Name("a b"),
-        Piece::Text("$"),
-        Piece::Text("{x"),
-        Piece::Text("$"),
-    ] {
-        let Some((piece, after)) = next_piece(rest) else {
-            panic!(rt; "no piece of {rest:?}")
-        };
-        assert_eq!(rt; piece, wanted, "at {rest:?}");
-        rest = after;
-    }
-    assert_eq!(rt; next_piece(rest), None);
+    assert!(rt; is_made_of("é $1, $$1 ${a b}$${x$", &PIECES));
     Ok(())
+}
+
+/// Whether these are all pieces of the template, one after another.
+fn is_made_of(template: &str, pieces: &[Piece<'_>]) -> bool {
+    let mut rest = template;
+    for wanted in pieces {
+        match next_piece(rest) {
+            Some((piece, after)) if piece == *wanted => rest = after,
+            _ => return false,
+        }
+    }
+    next_piece(rest).is_none()
 }

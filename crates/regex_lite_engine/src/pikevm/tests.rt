@@ -1,9 +1,12 @@
 //! Searches from a pattern on: that they run, alone and in one searcher, that what they tell is
 //! what was meant, and how many rows of slots they have.
+ghost use Rattle.std.specs.Prelude.{◌≡◌, ◌<◌, ◌⊎◌, IsCharBoundary, length, true};
+
 use super::cache_for;
 use crate::Searcher;
-use crate::pikevm::turn::Cache;
 use crate::tests::graph_of;
+use std::alloc::Global;
+use std::process::Abort;
 use std::test::Fail;
 
 /// Where a match starts and ends, and what slots 2 and 3 hold.
@@ -44,18 +47,44 @@ const ROWS: [Row; 9] = [
 
 #[test]
 fn rows(rt: HostRuntime) -> Result<(), Fail> {
-    for (pattern, haystack, start, wanted, end) in ROWS {
-        let graph = graph_of(rt.alloc(), pattern)?;
-        let (found, _) = graph.search(rt.alloc(), haystack, start, 4)?;
-        let told = match found {
-            None => None,
-            Some(found) => Some((found.start, found.end, found.slots[2], found.slots[3])),
-        };
-        assert!(rt; told == wanted, "{pattern:?} in {haystack:?}");
-        let (shortest, _) = graph.search_shortest(rt.alloc(), haystack, start)?;
-        assert_eq!(rt; shortest, end, "{pattern:?} in {haystack:?}");
+    for (pattern, haystack, start, wanted, end) in &ROWS {
+        let told = told_from(rt.alloc(), pattern, haystack, *start)?;
+        assert!(rt;
+            told == Some((*wanted, *end)),
+            "{pattern:?} in {haystack:?} from {start}"
+        );
     }
     Ok(())
+}
+
+/// What a search finds and the least end of a match, where a search may start there.
+fn told_from(
+    alloc: Global,
+    pattern: &str,
+    haystack: &str,
+    start: usize,
+) -> Result<Option<(Option<Found>, Option<usize>)>, Fail> {
+    if !can_start(haystack, start) {
+        return Ok(None);
+    }
+    let graph = graph_of(alloc, pattern)?;
+    let (found, _) = graph.search(alloc, haystack, start, 4)?;
+    let told = match found {
+        None => None,
+        Some(found) => Some((found.start, found.end, found.slots[2], found.slots[3])),
+    };
+    let (shortest, _) = graph.search_shortest(alloc, haystack, start)?;
+    Ok(Some((told, shortest)))
+}
+
+/// Whether a search may start there.
+fn can_start(haystack: &str, start: usize) -> bool
+    ensures { result ≡ true → (length haystack.now < start) ⊎ IsCharBoundary haystack.now start }
+{
+    if start > haystack.len() {
+        return true;
+    }
+    haystack.is_char_boundary(start)
 }
 
 /// Searches for `(?:a|ab)(c|bc)*`, one after another: the haystack, where the search starts, and
@@ -74,39 +103,56 @@ const TURNS: [(&'static str, usize, Option<Found>); 6] = [
 fn searches_in_turn(rt: HostRuntime) -> Result<(), Fail> {
     let graph = graph_of(rt.alloc(), "(?:a|ab)(c|bc)*")?;
     let mut searcher = Searcher::new(rt.alloc(), &graph, 4)?;
-    for (haystack, start, wanted) in TURNS {
-        let told = match searcher.search(haystack, start) {
-            None => None,
-            Some((from, to)) => {
-                let slots = searcher.slots();
-                assert!(rt; slots.len() == 4);
-                Some((from, to, slots[2], slots[3]))
-            }
-        };
-        assert!(rt; told == wanted, "{haystack:?} from {start}");
-    }
+    expect_turns(&rt, &mut searcher);
     Ok(())
+}
+
+/// The searcher finds in turn what it should.
+fn expect_turns(rt: &impl Abort, searcher: &mut Searcher<'_>) {
+    for (haystack, start, wanted) in &TURNS {
+        let told = search_again(searcher, haystack, *start);
+        assert!(rt; told == Some(*wanted), "{haystack:?} from {start}");
+    }
+}
+
+/// What the searcher finds, where a search may start there and has four slots.
+fn search_again(
+    searcher: &mut Searcher<'_>,
+    haystack: &str,
+    start: usize,
+) -> Option<Option<Found>> {
+    if !can_start(haystack, start) || searcher.slots().len() != 4 {
+        return None;
+    }
+    let Some((from, to)) = searcher.search(haystack, start) else {
+        return Some(None);
+    };
+    let slots = searcher.slots();
+    Some(Some((from, to, slots[2], slots[3])))
 }
 
 /// How many rows each list of threads has: one for each thread, and one more, which is that of the
 /// way that is followed for the one list and that of the best match for the other.
-fn rows_of_a_list(cache: &Cache<usize>) -> usize {
-    cache.walk.memory.rows() / 2 + 1
+fn rows_of_a_list(alloc: Global, pattern: &str) -> Result<usize, Fail> {
+    let graph = graph_of(alloc, pattern)?;
+    let cache = cache_for::<usize>(alloc, &graph, 2)?;
+    Ok(cache.walk.memory.rows() / 2 + 1)
 }
 
-/// A row for each place that reads a character, one for the match and one for new starts. The
-/// numbers are counted by hand in the patterns.
+/// Patterns, and how many rows they need: one for each place that reads a character, one for the
+/// match and one for new starts. The numbers are counted by hand in the patterns.
+const READING: [(&str, usize); 4] = [
+    ("(?:a?){30}a{30}", 62),
+    ("[^\\s\\S]", 2),
+    ("", 2),
+    ("(?:a|[b-d]|$)*", 4),
+];
+
 #[test]
 fn a_row_for_what_reads(rt: HostRuntime) -> Result<(), Fail> {
-    for (pattern, rows) in [
-        ("(?:a?){30}a{30}", 62),
-        ("[^\\s\\S]", 2),
-        ("", 2),
-        ("(?:a|[b-d]|$)*", 4),
-    ] {
-        let graph = graph_of(rt.alloc(), pattern)?;
-        let cache = cache_for::<usize>(rt.alloc(), &graph, 2)?;
-        assert_eq!(rt; rows_of_a_list(&cache), rows, "{pattern:?}");
+    for (pattern, wanted) in &READING {
+        let rows = rows_of_a_list(rt.alloc(), pattern)?;
+        assert!(rt; rows == *wanted, "{pattern:?}: {rows}");
     }
     Ok(())
 }

@@ -1,10 +1,13 @@
 //! Which walk a search takes, that both walks tell the same, and what they cost.
+ghost use Rattle.std.specs.Prelude.{IsCharBoundary};
+
 mod cases;
 
 use crate::Graph;
 use crate::pikevm::search::Outcome;
 use crate::pikevm::steps::Steps;
 use crate::tests::graph_of;
+use std::alloc::Global;
 use std::process::Abort;
 use std::test::Fail;
 
@@ -24,25 +27,36 @@ const SIZES: [(&str, usize, bool); 7] = [
 #[test]
 fn pairs(rt: HostRuntime) -> Result<(), Fail> {
     let graph = graph_of(rt.alloc(), "a")?;
-    assert_eq!(rt; graph.places(), 4);
-    for (unit, times, are_few) in SIZES {
-        let mut haystack = unit.repeat(rt.alloc(), times)?;
-        let start = haystack.len();
-        haystack.push('a')?;
-        let told = search_whole(&rt, &graph, haystack.as_str())?;
-        let wanted = (are_few, Some((start, haystack.len())));
-        assert!(rt; told == wanted, "{times} times {unit}");
+    assert!(rt; graph.places() == 4);
+    for (unit, times, are_few) in &SIZES {
+        let told = search_behind(rt.alloc(), &graph, unit, *times)?;
+        assert!(rt; told == (*are_few, true), "{times} times {unit}");
     }
     Ok(())
 }
 
+/// Whether a haystack of so many characters and an `a` has few pairs, and whether a search finds
+/// the `a`.
+fn search_behind(
+    alloc: Global,
+    graph: &Graph,
+    unit: &str,
+    times: usize,
+) -> Result<(bool, bool), Fail> {
+    let mut haystack = unit.repeat(alloc, times)?;
+    let start = haystack.len();
+    haystack.push('a')?;
+    let (are_few, span) = search_whole(alloc, graph, haystack.as_str())?;
+    Ok((are_few, span == Some((start, haystack.len()))))
+}
+
 /// Whether a search of the whole haystack has few pairs, and the match that it finds.
-fn search_whole<H: AllocGlobal>(
-    rt: &H,
+fn search_whole(
+    alloc: Global,
     graph: &Graph,
     haystack: &str,
 ) -> Result<(bool, Option<(usize, usize)>), Fail> {
-    let (found, _) = graph.search(rt.alloc(), haystack, 0, 2)?;
+    let (found, _) = graph.search(alloc, haystack, 0, 2)?;
     let are_few = graph.has_few_pairs(haystack, 0);
     Ok((are_few, found.map(|found| (found.start, found.end))))
 }
@@ -54,22 +68,21 @@ const TAKEN: [(usize, bool); 2] = [(1, true), (100_000, false)];
 #[test]
 fn taken(rt: HostRuntime) -> Result<(), Fail> {
     let graph = graph_of(rt.alloc(), "ab|ac")?;
-    for (times, is_depth_first) in TAKEN {
-        let haystack = "ab".repeat(rt.alloc(), times)?;
-        let [search, depth, step] = steps_of(&rt, &graph, haystack.as_str())?;
-        assert!(rt; depth != step, "{times} times: {depth:?}");
-        let wanted = if is_depth_first { depth } else { step };
-        assert_eq!(rt; search, wanted);
+    for (times, is_depth_first) in &TAKEN {
+        let told = walks_of(rt.alloc(), &graph, *times)?;
+        let wanted = (*is_depth_first, !*is_depth_first);
+        assert!(rt; told == wanted, "{times} times");
     }
     Ok(())
 }
 
-/// What a search costs, and what each walk does, the one that goes depth first before the other.
-fn steps_of<H: AllocGlobal>(rt: &H, graph: &Graph, haystack: &str) -> Result<[Steps; 3], Fail> {
-    let (_, search) = graph.search(rt.alloc(), haystack, 0, 2)?;
-    let (_, depth) = graph.search_depth_first(rt.alloc(), haystack, 0, 2)?;
-    let (_, step) = graph.search_in_step(rt.alloc(), haystack, 0, 2)?;
-    Ok([search, depth, step])
+/// Whether a search costs what the walk does that goes depth first, and what the other one does.
+fn walks_of(alloc: Global, graph: &Graph, times: usize) -> Result<(bool, bool), Fail> {
+    let haystack = "ab".repeat(alloc, times)?;
+    let (_, search) = graph.search(alloc, haystack.as_str(), 0, 2)?;
+    let (_, depth) = graph.search_depth_first(alloc, haystack.as_str(), 0, 2)?;
+    let (_, step) = graph.search_in_step(alloc, haystack.as_str(), 0, 2)?;
+    Ok((search == depth, search == step))
 }
 
 /// Behind the haystack's end nothing is tried.
@@ -77,8 +90,7 @@ fn steps_of<H: AllocGlobal>(rt: &H, graph: &Graph, haystack: &str) -> Result<[St
 fn above_the_length(rt: HostRuntime) -> Result<(), Fail> {
     let graph = graph_of(rt.alloc(), "a|")?;
     let (found, steps) = graph.search(rt.alloc(), "ab", 3, 2)?;
-    assert!(rt; found.is_none());
-    assert_eq!(rt; steps, Steps::none());
+    assert!(rt; found.is_none() && steps == Steps::none());
     Ok(())
 }
 
@@ -139,7 +151,7 @@ const WORKED: [(&str, &str); 51] = [
 
 #[test]
 fn worked(rt: HostRuntime) -> Result<(), Fail> {
-    for (pattern, haystack) in WORKED {
+    for (pattern, haystack) in &WORKED {
         let graph = graph_of(rt.alloc(), pattern)?;
         expect_alike(&rt, pattern, &graph, haystack)?;
     }
@@ -149,12 +161,18 @@ fn worked(rt: HostRuntime) -> Result<(), Fail> {
 #[test]
 fn listed(rt: HostRuntime) -> Result<(), Fail> {
     for line in cases::CASES.split('%') {
-        let mut fields = line.split(';');
-        if let Some(pattern) = fields.next() {
-            let graph = graph_of(rt.alloc(), pattern)?;
-            for haystack in fields {
-                expect_alike(&rt, pattern, &graph, haystack)?;
-            }
+        expect_line(&rt, line)?;
+    }
+    Ok(())
+}
+
+/// The walks are alike for the pattern of the line in each of its haystacks.
+fn expect_line<H: Abort + AllocGlobal>(rt: &H, line: &str) -> Result<(), Fail> {
+    let mut fields = line.split(';');
+    if let Some(pattern) = fields.next() {
+        let graph = graph_of(rt.alloc(), pattern)?;
+        for haystack in fields {
+            expect_alike(rt, pattern, &graph, haystack)?;
         }
     }
     Ok(())
@@ -167,26 +185,25 @@ fn expect_alike<H: Abort + AllocGlobal>(
     graph: &Graph,
     haystack: &str,
 ) -> Result<(), Fail> {
-    let slots = graph.capture_names().len().saturating_mul(2);
     for start in 0..=haystack.len() {
         if haystack.is_char_boundary(start) {
-            let (first, depth) = graph.search_depth_first(rt.alloc(), haystack, start, slots)?;
-            let (second, step) = graph.search_in_step(rt.alloc(), haystack, start, slots)?;
-            assert!(rt;
-                are_alike(&first, &second),
-                "{pattern:?} in {haystack:?} from {start}"
-            );
-            let left = haystack[start..].chars().count();
-            for steps in [depth, step] {
-                let bounded = are_bounded(graph, left, steps);
-                assert!(rt;
-                    bounded,
-                    "{pattern:?} in {haystack:?} from {start}: {steps:?}"
-                );
-            }
+            let is_so = are_alike_from(rt.alloc(), graph, haystack, start)?;
+            assert!(rt; is_so, "{pattern:?} in {haystack:?} from {start}");
         }
     }
     Ok(())
+}
+
+/// Whether both walks tell the same from this start, and cost no more than they may.
+fn are_alike_from(alloc: Global, graph: &Graph, haystack: &str, start: usize) -> Result<bool, Fail>
+    requires { IsCharBoundary haystack.now start }
+{
+    let slots = graph.capture_names().len().saturating_mul(2);
+    let (first, depth) = graph.search_depth_first(alloc, haystack, start, slots)?;
+    let (second, step) = graph.search_in_step(alloc, haystack, start, slots)?;
+    let left = haystack[start..].chars().count();
+    let are_bounded = is_bounded(graph, left, depth) && is_bounded(graph, left, step);
+    Ok(are_bounded && are_alike(&first, &second))
 }
 
 /// Whether both tell the same match with the same slots, or none.
@@ -203,7 +220,7 @@ fn are_alike(first: &Option<Outcome>, second: &Option<Outcome>) -> bool {
 }
 
 /// Whether a search with so many characters left did no more than it may.
-fn are_bounded(graph: &Graph, left: usize, steps: Steps) -> bool {
+fn is_bounded(graph: &Graph, left: usize, steps: Steps) -> bool {
     let columns = (left as u128).saturating_add(1);
     let arrows = (graph.arrows() as u128).saturating_add(1);
     steps.tried() <= arrows.saturating_mul(columns)
@@ -224,25 +241,29 @@ const COSTS: [(&str, usize, u128, u128); 4] = [
 
 #[test]
 fn costs(rt: HostRuntime) -> Result<(), Fail> {
-    for (pattern, len, tried, entered) in COSTS {
-        let graph = graph_of(rt.alloc(), pattern)?;
-        let haystack = "a".repeat(rt.alloc(), len)?;
-        for steps in costs_of_none(&rt, &graph, haystack.as_str())? {
-            assert!(rt; steps.tried() <= tried, "{pattern} in {len}: {steps:?}");
-            assert!(rt; steps.entered() <= entered, "{pattern} in {len}: {steps:?}");
-        }
+    for (pattern, len, most_tried, most_entered) in &COSTS {
+        let (finds, tried, entered) = costs_of(rt.alloc(), pattern, *len)?;
+        let are_few = tried <= *most_tried && entered <= *most_entered;
+        assert!(rt; !finds && are_few, "{pattern} in {len}: {tried}, {entered}");
     }
     Ok(())
 }
 
-/// What each walk costs that finds nothing.
-fn costs_of_none<H: Abort + AllocGlobal>(
-    rt: &H,
-    graph: &Graph,
-    haystack: &str,
-) -> Result<[Steps; 2], Fail> {
-    let (first, depth) = graph.search_depth_first(rt.alloc(), haystack, 0, 2)?;
-    let (second, step) = graph.search_in_step(rt.alloc(), haystack, 0, 2)?;
-    assert!(rt; first.is_none() && second.is_none());
-    Ok([depth, step])
+/// Whether a walk finds anything in so many `a`, and the most tries and entries of a walk.
+fn costs_of(alloc: Global, pattern: &str, len: usize) -> Result<(bool, u128, u128), Fail> {
+    let graph = graph_of(alloc, pattern)?;
+    let haystack = "a".repeat(alloc, len)?;
+    walk_both(alloc, &graph, haystack.as_str())
+}
+
+/// Whether a walk finds anything in the haystack, and the most tries and entries of a walk.
+fn walk_both(alloc: Global, graph: &Graph, haystack: &str) -> Result<(bool, u128, u128), Fail> {
+    let (first, depth) = graph.search_depth_first(alloc, haystack, 0, 2)?;
+    let (second, step) = graph.search_in_step(alloc, haystack, 0, 2)?;
+    let finds = first.is_some() || second.is_some();
+    Ok((
+        finds,
+        depth.tried().max(step.tried()),
+        depth.entered().max(step.entered()),
+    ))
 }

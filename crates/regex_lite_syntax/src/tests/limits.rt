@@ -1,8 +1,7 @@
 //! The limit on nesting.
-use super::{many, tree_text, within};
+use super::within;
 use crate::{Error, ErrorKind, Flags, Hir};
 use std::alloc::Global;
-use std::process::Abort;
 use std::test::Fail;
 
 /// What kind of refusal the pattern meets under a limit on nesting, if any.
@@ -13,60 +12,55 @@ fn refusal(alloc: Global, nest_limit: u32, pattern: &str) -> Option<ErrorKind> {
 
 /// So many groups round a pattern.
 fn groups_round(alloc: Global, n: usize, inner: &str) -> Result<String, Fail> {
-    let mut pattern = many(alloc, "(", n)?;
+    let mut pattern = "(".repeat(alloc, n)?;
     pattern.push_str(inner)?;
-    pattern.push_str(many(alloc, ")", n)?.as_str())?;
+    for _ in 0..n {
+        pattern.push(')')?;
+    }
     Ok(pattern)
 }
 
+/// How many groups stand round a pattern, and the refusal where the limit is 50.
+static GROUPS: [(usize, &str, Option<ErrorKind>); 4] = [
+    (50, "a", None),
+    (51, "a", Some(ErrorKind::Nesting)),
+    (50, "ab", Some(ErrorKind::Nesting)),
+    (49, "ab", None),
+];
+
 #[test]
 fn groups(rt: HostRuntime) -> Result<(), Fail> {
-    let alloc = rt.alloc();
-    let rows = [
-        (50, "a", None),
-        (51, "a", Some(ErrorKind::Nesting)),
-        (50, "ab", Some(ErrorKind::Nesting)),
-        (49, "ab", None),
-    ];
-    for (n, inner, wanted) in rows {
-        let pattern = groups_round(alloc, n, inner)?;
-        assert_eq!(rt;
-            refusal(alloc, 50, pattern.as_str()),
-            wanted,
-            "at {n} round {inner}"
-        );
+    for (n, inner, wanted) in &GROUPS {
+        let pattern = groups_round(rt.alloc(), *n, inner)?;
+        let told = refusal(rt.alloc(), 50, pattern.as_str());
+        assert!(rt; told == *wanted, "{n} round {inner}: {told:?}");
     }
     Ok(())
 }
 
+/// A limit, a pattern and its refusal.
+static OTHER_LIMITS: [(u32, &str, Option<ErrorKind>); 15] = [
+    (0, "a", None),
+    (0, "", None),
+    (0, "(?i)a", None),
+    (0, "ab", Some(ErrorKind::Nesting)),
+    (0, "a|b", Some(ErrorKind::Nesting)),
+    (0, "a*", Some(ErrorKind::Nesting)),
+    (0, "a{1}", None),
+    (0, "(?:a)", Some(ErrorKind::Nesting)),
+    (0, "(a)", Some(ErrorKind::Nesting)),
+    (1, "(?:(?:a))", Some(ErrorKind::Nesting)),
+    (1, "(a)(b)", Some(ErrorKind::Nesting)),
+    (2, "(a)(b)", None),
+    (1, "(a", Some(ErrorKind::Syntax)),
+    (0, "(a", Some(ErrorKind::Nesting)),
+    (4_294_967_295, "a", None),
+];
+
 #[test]
-fn other_limits(rt: HostRuntime) -> Result<(), Fail> {
-    let nesting = Some(ErrorKind::Nesting);
-    let rows = [
-        (0, "a", None),
-        (0, "", None),
-        (0, "(?i)a", None),
-        (0, "ab", nesting),
-        (0, "a|b", nesting),
-        (0, "a*", nesting),
-        (0, "a{1}", None),
-        (0, "(?:a)", nesting),
-        (0, "(a)", nesting),
-        (1, "(?:(?:a))", nesting),
-        (1, "(a)(b)", nesting),
-        (2, "(a)(b)", None),
-        (1, "(a", Some(ErrorKind::Syntax)),
-        (0, "(a", nesting),
-        (4_294_967_295, "a", None),
-    ];
-    for (nest_limit, pattern, wanted) in rows {
-        assert_eq!(rt;
-            refusal(rt.alloc(), nest_limit, pattern),
-            wanted,
-            "at {pattern}"
-        );
+fn other_limits(rt: HostRuntime) {
+    for (nest_limit, pattern, wanted) in &OTHER_LIMITS {
+        let told = refusal(rt.alloc(), *nest_limit, pattern);
+        assert!(rt; told == *wanted, "{pattern}: {told:?}");
     }
-    let text = tree_text(rt.alloc(), within(Flags::default(), 0), "(a)")?;
-    assert_eq!(rt; text.as_str(), "pattern has too much nesting");
-    Ok(())
 }

@@ -6,6 +6,10 @@ use std::test::Fail;
 
 const USAGE: &str = "usage: rxl is-match|find|captures|split|replace|escape PATTERN [TEXT]\n";
 
+const UNOPENED: &str = "found closing ')' without matching '('\n";
+
+const UNCLOSED: &str = "found open group without closing ')'\n";
+
 const UNREAD: &str = "standard input cannot be read\n";
 
 /// A reader with some bytes whose reads fail after them.
@@ -32,29 +36,32 @@ fn unreadable() -> Broken {
     }
 }
 
-/// Wrong arguments are found before all else.
+/// Arguments, and the answer where no read of the input succeeds.
+static UNREADABLE: [(&[&str], u8, &str, &str); 11] = [
+    // Wrong arguments are found before all else.
+    (&[], 2, "", USAGE),
+    (&["is-match"], 2, "", USAGE),
+    (&["match", "x"], 2, "", USAGE),
+    (&["find", "a)", "b"], 2, "", USAGE),
+    (&["replace", "a)"], 2, "", USAGE),
+    (&["escape"], 2, "", USAGE),
+    // A pattern is refused before the input is read.
+    (&["is-match", "a)"], 2, "", UNOPENED),
+    (&["find", "("], 2, "", UNCLOSED),
+    (&["split", "(?:a"], 2, "", UNCLOSED),
+    (&["is-match", ""], 2, "", UNREAD),
+    // What is escaped needs no input.
+    (&["escape", "("], 0, "\\(", ""),
+];
+
 #[test]
-fn wrong_arguments(rt: HostRuntime) {
-    let usage = (2, "", USAGE);
-    expect(&rt, &[], &mut unreadable(), usage);
-    expect(&rt, &["is-match"], &mut unreadable(), usage);
-    expect(&rt, &["match", "x"], &mut unreadable(), usage);
-    expect(&rt, &["find", "a)", "b"], &mut unreadable(), usage);
-    expect(&rt, &["replace", "a)"], &mut unreadable(), usage);
-    expect(&rt, &["escape"], &mut unreadable(), usage);
+fn unreadable_input(rt: HostRuntime) {
+    for (args, status, output, report) in &UNREADABLE {
+        expect(&rt, args, &mut unreadable(), (*status, output, report));
+    }
 }
 
-/// A pattern is refused before the input is read.
-#[test]
-fn refused_patterns(rt: HostRuntime) {
-    let report = "found closing ')' without matching '('\n";
-    expect(&rt, &["is-match", "a)"], &mut unreadable(), (2, "", report));
-    let report = "found open group without closing ')'\n";
-    expect(&rt, &["find", "("], &mut unreadable(), (2, "", report));
-    expect(&rt, &["split", "(?:a"], &mut unreadable(), (2, "", report));
-}
-
-/// So is one that nests deeper than 50.
+/// A pattern that nests deeper than 50 is refused before the input is read.
 #[test]
 fn nesting(rt: HostRuntime) -> Result<(), Fail> {
     let pattern = "(".repeat(rt.alloc(), 51)?;
@@ -66,36 +73,30 @@ fn nesting(rt: HostRuntime) -> Result<(), Fail> {
 
 #[test]
 fn input_that_is_no_text(rt: HostRuntime) {
-    for command in ["is-match", "find", "captures", "split"] {
+    for command in &["is-match", "find", "captures", "split"] {
         let mut input: &[u8] = b"\xF0\x9F\x92";
         let report = "standard input is not UTF-8\n";
-        expect(&rt, &[command, "x"], &mut input, (2, "", report));
+        expect(&rt, &[*command, "x"], &mut input, (2, "", report));
     }
 }
 
+/// Arguments, why a read fails halfway, and the report.
+static FAILS_HALFWAY: [(&[&str], io::ErrorKind, &str); 2] = [
+    (&["find", "sam"], io::ErrorKind::ConnectionReset, UNREAD),
+    (
+        &["replace", "sam", "x"],
+        io::ErrorKind::OutOfMemory,
+        "out of memory\n",
+    ),
+];
+
 #[test]
 fn input_that_fails(rt: HostRuntime) {
-    expect(&rt, &["is-match", ""], &mut unreadable(), (2, "", UNREAD));
-    let mut halfway = Broken {
-        bytes: b"samwise",
-        kind: io::ErrorKind::ConnectionReset,
-    };
-    expect(&rt, &["find", "sam"], &mut halfway, (2, "", UNREAD));
-    let mut without_room = Broken {
-        bytes: b"samwise",
-        kind: io::ErrorKind::OutOfMemory,
-    };
-    let report = "out of memory\n";
-    expect(
-        &rt,
-        &["replace", "sam", "x"],
-        &mut without_room,
-        (2, "", report),
-    );
-}
-
-/// What is escaped needs no input.
-#[test]
-fn unread_input(rt: HostRuntime) {
-    expect(&rt, &["escape", "("], &mut unreadable(), (0, "\\(", ""));
+    for (args, kind, report) in &FAILS_HALFWAY {
+        let mut input = Broken {
+            bytes: b"samwise",
+            kind: *kind,
+        };
+        expect(&rt, args, &mut input, (2, "", report));
+    }
 }

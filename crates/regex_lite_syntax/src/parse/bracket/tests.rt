@@ -3,12 +3,13 @@ use super::read_class;
 use crate::class::Class;
 use crate::error::{Error, SyntaxFault};
 use crate::parse::read::is_at;
+use crate::tests::has_ranges;
 use std::alloc::Global;
 use std::process::Abort;
 use std::test::Fail;
 
-/// Patterns and the ranges of the class that each begins with.
-type Sets<'a> = &'a [(&'a str, &'a [(char, char)])];
+/// A pattern and the ranges of the class that it begins with.
+type Set = (&'static str, &'static [(char, char)]);
 
 /// The class that the pattern begins with, and where it ends.
 fn read(
@@ -24,162 +25,148 @@ fn read(
     read_class(alloc, &chars, 0, insensitive, verbose)
 }
 
-/// Checks that the classes have these sets.
-fn check_sets(
-    rt: &impl Abort,
-    alloc: Global,
+/// The classes have these sets.
+fn expect_sets<H: Abort + AllocGlobal>(
+    rt: &H,
     insensitive: bool,
     verbose: bool,
-    sets: Sets<'_>,
+    sets: &[Set],
 ) -> Result<(), Fail> {
     for (pattern, wanted) in sets {
-        let (_, class) = read(alloc, pattern, insensitive, verbose)?;
-        check_ranges(rt, pattern, &class, wanted);
+        let (_, class) = read(rt.alloc(), pattern, insensitive, verbose)?;
+        assert!(rt; has_ranges(&class, wanted), "{pattern}: {class:?}");
     }
     Ok(())
 }
 
-/// Checks that the class has these ranges.
-fn check_ranges(rt: &impl Abort, pattern: &str, class: &Class, bounds: &[(char, char)]) {
-    assert_eq!(rt; class.ranges().len(), bounds.len(), "{pattern}: {class:?}");
-    for (range, wanted) in class.ranges().iter().zip(bounds) {
-        assert_eq!(rt; (range.start, range.end), *wanted, "{pattern}: {class:?}");
-    }
-}
+static SETS: [Set; 15] = [
+    ("[--a]", &[('-', '-'), ('a', 'a')]),
+    ("[---a]", &[('-', '-'), ('a', 'a')]),
+    ("[^-a]", &[('\0', ','), ('.', '`'), ('b', '\u{10FFFF}')]),
+    ("[a\\-z]", &[('-', '-'), ('a', 'a'), ('z', 'z')]),
+    ("[]\\[]", &[('[', '['), (']', ']')]),
+    ("[^^]", &[('\0', ']'), ('_', '\u{10FFFF}')]),
+    ("[☃-⛄]", &[('\u{2603}', '\u{26C4}')]),
+    ("[a\\wz]", &[('0', '9'), ('A', 'Z'), ('_', '_'), ('a', 'z')]),
+    ("[a-b-c]", &[('-', '-'), ('a', 'c')]),
+    ("[+-[]", &[('+', '[')]),
+    ("[a-\\x7A]", &[('a', 'z')]),
+    ("[[:digit:]x]", &[('0', '9'), ('x', 'x')]),
+    (
+        "[[:^alpha:]]",
+        &[('\0', '@'), ('[', '`'), ('{', '\u{10FFFF}')],
+    ),
+    ("[^\\s\\S]", &[]),
+    ("[a&~]", &[('&', '&'), ('a', 'a'), ('~', '~')]),
+];
+
+static SETS_IN_VERBOSE_MODE: [Set; 7] = [
+    ("[ - a]", &[('-', '-'), ('a', 'a')]),
+    ("[ ] a]", &[(']', ']'), ('a', 'a')]),
+    ("[ ^  a]", &[('\0', '`'), ('b', '\u{10FFFF}')]),
+    ("[ / - ]", &[('-', '-'), ('/', '/')]),
+    ("[a - - b]", &[('-', 'b')]),
+    ("[a - # wat\n]", &[('-', '-'), ('a', 'a')]),
+    ("[a # ]\n - \\x { 7A } ]", &[('a', 'z')]),
+];
+
+static SETS_WITHOUT_CASE: [Set; 5] = [
+    ("[k]", &[('K', 'K'), ('k', 'k')]),
+    ("[β]", &[('β', 'β')]),
+    ("[Y-b]", &[('A', 'B'), ('Y', 'b'), ('y', 'z')]),
+    ("[\\x61-z]", &[('A', 'Z'), ('a', 'z')]),
+    ("[^x]", &[('\0', 'W'), ('Y', 'w'), ('y', '\u{10FFFF}')]),
+];
 
 #[test]
 fn sets(rt: HostRuntime) -> Result<(), Fail> {
-    let sets: Sets<'_> = &[
-        ("[--a]", &[('-', '-'), ('a', 'a')]),
-        ("[---a]", &[('-', '-'), ('a', 'a')]),
-        ("[^-a]", &[('\0', ','), ('.', '`'), ('b', '\u{10FFFF}')]),
-        ("[a\\-z]", &[('-', '-'), ('a', 'a'), ('z', 'z')]),
-        ("[]\\[]", &[('[', '['), (']', ']')]),
-        ("[^^]", &[('\0', ']'), ('_', '\u{10FFFF}')]),
-        ("[☃-⛄]", &[('\u{2603}', '\u{26C4}')]),
-        ("[a\\wz]", &[('0', '9'), ('A', 'Z'), ('_', '_'), ('a', 'z')]),
-        ("[a-b-c]", &[('-', '-'), ('a', 'c')]),
-        ("[+-[]", &[('+', '[')]),
-        ("[a-\\x7A]", &[('a', 'z')]),
-        ("[[:digit:]x]", &[('0', '9'), ('x', 'x')]),
-        (
-            "[[:^alpha:]]",
-            &[('\0', '@'), ('[', '`'), ('{', '\u{10FFFF}')],
-        ),
-        ("[^\\s\\S]", &[]),
-        ("[a&~]", &[('&', '&'), ('a', 'a'), ('~', '~')]),
-    ];
-    check_sets(&rt, rt.alloc(), false, false, sets)
+    expect_sets(&rt, false, false, &SETS)?;
+    expect_sets(&rt, false, true, &SETS_IN_VERBOSE_MODE)?;
+    expect_sets(&rt, true, false, &SETS_WITHOUT_CASE)
 }
 
-#[test]
-fn sets_in_verbose_mode(rt: HostRuntime) -> Result<(), Fail> {
-    let sets: Sets<'_> = &[
-        ("[ - a]", &[('-', '-'), ('a', 'a')]),
-        ("[ ] a]", &[(']', ']'), ('a', 'a')]),
-        ("[ ^  a]", &[('\0', '`'), ('b', '\u{10FFFF}')]),
-        ("[ / - ]", &[('-', '-'), ('/', '/')]),
-        ("[a - - b]", &[('-', 'b')]),
-        ("[a - # wat\n]", &[('-', '-'), ('a', 'a')]),
-        ("[a # ]\n - \\x { 7A } ]", &[('a', 'z')]),
-    ];
-    check_sets(&rt, rt.alloc(), false, true, sets)
-}
-
-#[test]
-fn sets_without_case(rt: HostRuntime) -> Result<(), Fail> {
-    let sets: Sets<'_> = &[
-        ("[k]", &[('K', 'K'), ('k', 'k')]),
-        ("[β]", &[('β', 'β')]),
-        ("[Y-b]", &[('A', 'B'), ('Y', 'b'), ('y', 'z')]),
-        ("[\\x61-z]", &[('A', 'Z'), ('a', 'z')]),
-        ("[^x]", &[('\0', 'W'), ('Y', 'w'), ('y', '\u{10FFFF}')]),
-    ];
-    check_sets(&rt, rt.alloc(), true, false, sets)
-}
+/// Patterns, and where the class ends that each begins with.
+const ENDS: [(&str, usize); 4] = [
+    ("[-]a]", 3),
+    ("[]]a]", 3),
+    ("[a]b]", 3),
+    ("[[:word:]]]", 10),
+];
 
 #[test]
 fn ends_at_the_first_bracket_of_an_item(rt: HostRuntime) -> Result<(), Fail> {
-    let rows: [(&str, usize); 4] = [
-        ("[-]a]", 3),
-        ("[]]a]", 3),
-        ("[a]b]", 3),
-        ("[[:word:]]]", 10),
-    ];
-    for (pattern, wanted) in rows {
+    for (pattern, wanted) in &ENDS {
         let (end, _class) = read(rt.alloc(), pattern, false, false)?;
-        assert_eq!(rt; end, wanted, "{pattern}");
+        assert!(rt; end == *wanted, "{pattern}: {end}");
     }
     Ok(())
 }
+
+/// Patterns, whether they are read in verbose mode, and the faults.
+static FAULTS: [(&str, bool, SyntaxFault); 43] = [
+    ("[", false, SyntaxFault::ClassUnclosed),
+    ("[a-z", false, SyntaxFault::ClassUnclosed),
+    ("[[:word:]", false, SyntaxFault::ClassUnclosed),
+    ("[^", false, SyntaxFault::ClassUnclosedAfterNegation),
+    ("[]", false, SyntaxFault::ClassUnclosedAfterClosing),
+    ("[^]", false, SyntaxFault::ClassUnclosedAfterClosing),
+    ("[a", false, SyntaxFault::ClassUnclosedAfterItem),
+    ("[\\d", false, SyntaxFault::ClassUnclosedAfterItem),
+    ("[\\z", false, SyntaxFault::ClassUnclosedAfterItem),
+    ("[-", false, SyntaxFault::ClassUnclosedAfterDash),
+    ("[^-", false, SyntaxFault::ClassUnclosedAfterDash),
+    ("[^--", false, SyntaxFault::ClassUnclosedAfterDash),
+    ("[a-", false, SyntaxFault::ClassUnclosedAfterDash),
+    ("[\\z-", false, SyntaxFault::ClassUnclosedAfterDash),
+    ("[\\w-a]", false, SyntaxFault::ClassInvalidRangeItem),
+    ("[a-\\w]", false, SyntaxFault::ClassInvalidRangeItem),
+    ("[a-\\z]", false, SyntaxFault::ClassInvalidRangeItem),
+    ("[\\z-a]", false, SyntaxFault::ClassInvalidRangeItem),
+    ("[\\d-z", false, SyntaxFault::ClassInvalidRangeItem),
+    ("[\\b]", false, SyntaxFault::ClassInvalidItem),
+    ("[\\A]", false, SyntaxFault::ClassInvalidItem),
+    ("[\\b{start}]", false, SyntaxFault::ClassInvalidItem),
+    ("[\\z-]", false, SyntaxFault::ClassInvalidItem),
+    ("[\\z--]", false, SyntaxFault::ClassInvalidItem),
+    ("[z-a]", false, SyntaxFault::ClassInvalidRange),
+    ("[a-z[A-Z]]", false, SyntaxFault::ClassNestUnsupported),
+    ("[[:loower:]]", false, SyntaxFault::ClassNestUnsupported),
+    ("[[:alnum]]", false, SyntaxFault::ClassNestUnsupported),
+    ("[[:^:]]", false, SyntaxFault::ClassNestUnsupported),
+    ("[a&&b]", false, SyntaxFault::ClassIntersectionUnsupported),
+    ("[a--b]", false, SyntaxFault::ClassDifferenceUnsupported),
+    (
+        "[a~~b]",
+        false,
+        SyntaxFault::ClassSymmetricDifferenceUnsupported,
+    ),
+    ("[\\i]", false, SyntaxFault::EscapeUnrecognized),
+    ("[\\d-\\i]", false, SyntaxFault::EscapeUnrecognized),
+    ("[\\8]", false, SyntaxFault::BackreferenceUnsupported),
+    ("[\\", false, SyntaxFault::EscapeUnexpectedEof),
+    ("[\\xZ]", false, SyntaxFault::HexFixedInvalidDigit),
+    ("[   ", true, SyntaxFault::ClassUnclosed),
+    ("[ ^ # ]", true, SyntaxFault::ClassUnclosedAfterNegation),
+    ("[a ", true, SyntaxFault::ClassUnclosedAfterItem),
+    ("[a- ", true, SyntaxFault::ClassUnclosedAfterDash),
+    ("[-#]", true, SyntaxFault::ClassUnclosedAfterDash),
+    ("[[: word:]]", true, SyntaxFault::ClassNestUnsupported),
+];
 
 #[test]
-fn faults(rt: HostRuntime) -> Result<(), Fail> {
-    let rows: [(&str, SyntaxFault); 37] = [
-        ("[", SyntaxFault::ClassUnclosed),
-        ("[a-z", SyntaxFault::ClassUnclosed),
-        ("[[:word:]", SyntaxFault::ClassUnclosed),
-        ("[^", SyntaxFault::ClassUnclosedAfterNegation),
-        ("[]", SyntaxFault::ClassUnclosedAfterClosing),
-        ("[^]", SyntaxFault::ClassUnclosedAfterClosing),
-        ("[a", SyntaxFault::ClassUnclosedAfterItem),
-        ("[\\d", SyntaxFault::ClassUnclosedAfterItem),
-        ("[\\z", SyntaxFault::ClassUnclosedAfterItem),
-        ("[-", SyntaxFault::ClassUnclosedAfterDash),
-        ("[^-", SyntaxFault::ClassUnclosedAfterDash),
-        ("[^--", SyntaxFault::ClassUnclosedAfterDash),
-        ("[a-", SyntaxFault::ClassUnclosedAfterDash),
-        ("[\\z-", SyntaxFault::ClassUnclosedAfterDash),
-        ("[\\w-a]", SyntaxFault::ClassInvalidRangeItem),
-        ("[a-\\w]", SyntaxFault::ClassInvalidRangeItem),
-        ("[a-\\z]", SyntaxFault::ClassInvalidRangeItem),
-        ("[\\z-a]", SyntaxFault::ClassInvalidRangeItem),
-        ("[\\d-z", SyntaxFault::ClassInvalidRangeItem),
-        ("[\\b]", SyntaxFault::ClassInvalidItem),
-        ("[\\A]", SyntaxFault::ClassInvalidItem),
-        ("[\\b{start}]", SyntaxFault::ClassInvalidItem),
-        ("[\\z-]", SyntaxFault::ClassInvalidItem),
-        ("[\\z--]", SyntaxFault::ClassInvalidItem),
-        ("[z-a]", SyntaxFault::ClassInvalidRange),
-        ("[a-z[A-Z]]", SyntaxFault::ClassNestUnsupported),
-        ("[[:loower:]]", SyntaxFault::ClassNestUnsupported),
-        ("[[:alnum]]", SyntaxFault::ClassNestUnsupported),
-        ("[[:^:]]", SyntaxFault::ClassNestUnsupported),
-        ("[a&&b]", SyntaxFault::ClassIntersectionUnsupported),
-        ("[a--b]", SyntaxFault::ClassDifferenceUnsupported),
-        ("[a~~b]", SyntaxFault::ClassSymmetricDifferenceUnsupported),
-        ("[\\i]", SyntaxFault::EscapeUnrecognized),
-        ("[\\d-\\i]", SyntaxFault::EscapeUnrecognized),
-        ("[\\8]", SyntaxFault::BackreferenceUnsupported),
-        ("[\\", SyntaxFault::EscapeUnexpectedEof),
-        ("[\\xZ]", SyntaxFault::HexFixedInvalidDigit),
-    ];
-    for (pattern, fault) in rows {
-        check_fault(&rt, rt.alloc(), false, pattern, fault);
+fn faults(rt: HostRuntime) {
+    for (pattern, verbose, fault) in &FAULTS {
+        assert!(rt;
+            is_refused(rt.alloc(), *verbose, pattern, *fault),
+            "{pattern}"
+        );
     }
-    Ok(())
 }
 
-#[test]
-fn faults_in_verbose_mode(rt: HostRuntime) -> Result<(), Fail> {
-    let rows: [(&str, SyntaxFault); 6] = [
-        ("[   ", SyntaxFault::ClassUnclosed),
-        ("[ ^ # ]", SyntaxFault::ClassUnclosedAfterNegation),
-        ("[a ", SyntaxFault::ClassUnclosedAfterItem),
-        ("[a- ", SyntaxFault::ClassUnclosedAfterDash),
-        ("[-#]", SyntaxFault::ClassUnclosedAfterDash),
-        ("[[: word:]]", SyntaxFault::ClassNestUnsupported),
-    ];
-    for (pattern, fault) in rows {
-        check_fault(&rt, rt.alloc(), true, pattern, fault);
-    }
-    Ok(())
-}
-
-/// Checks that the pattern is refused with this fault.
-fn check_fault(rt: &impl Abort, alloc: Global, verbose: bool, pattern: &str, fault: SyntaxFault) {
+/// Whether the class that the pattern begins with is refused with this fault.
+fn is_refused(alloc: Global, verbose: bool, pattern: &str, fault: SyntaxFault) -> bool {
     match read(alloc, pattern, false, verbose) {
-        Ok((_, class)) => assert!(rt; false, "{pattern} has the set {class:?}"),
-        Err(error) => assert_eq!(rt; error, Error::from(fault), "{pattern}"),
+        Ok((_end, _class)) => false,
+        Err(error) => error == Error::from(fault),
     }
 }
