@@ -7,7 +7,8 @@ from data import expanded, packed, rows_of
 from judge import found, told
 
 LIMITS = {'splitn': (2, 5, 9), 'replacen': (0, 4, 9)}
-NEAR = (1, 9)  # how far before its end a haystack is searched from
+BEHIND = 4097  # which of its characters a haystack is searched from besides its first
+NEAR = (1, 9)  # and how many characters before its end
 
 
 def picked():
@@ -17,9 +18,11 @@ def picked():
 
 
 def starts(haystack):
-    """Where a haystack is searched from: its start, near its end, and behind offset 4,096."""
-    length = len(haystack.encode())
-    return sorted({0, *(length - back for back in NEAR if back <= length), min(4097, length)})
+    """Where a haystack is searched from: its start, near its end, and far from both."""
+    offsets = searches.bounds(haystack)
+    last = len(offsets) - 1
+    places = [min(BEHIND, last), *(last - back for back in NEAR if back <= last)]
+    return sorted({0, *(offsets[place] for place in places)})
 
 
 def lines(judge):
