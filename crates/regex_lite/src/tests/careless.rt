@@ -150,26 +150,28 @@ fn never_called(rt: HostRuntime) -> Result<(), Fail> {
     Ok(())
 }
 
-/// Where the first match starts, of an iterator that is dropped then.
-fn first_start(regex: &Regex, haystack: &str) -> Result<Option<usize>, Error> {
+/// Where a match is, if there is one.
+type Span = Option<(usize, usize)>;
+
+/// The first match, of an iterator that is dropped then.
+fn first_span(regex: &Regex, haystack: &str) -> Result<Span, Error> {
     let mut matches = regex.find_iter(haystack)?;
-    Ok(matches.next().map(|m| m.start()))
+    Ok(next_span(&mut matches))
+}
+
+fn first_two_spans(regex: &Regex, haystack: &str) -> Result<[Span; 2], Error> {
+    let mut matches = regex.find_iter(haystack)?;
+    Ok([next_span(&mut matches), next_span(&mut matches)])
 }
 
 /// An iterator that was dropped leaves nothing behind.
 #[test]
 fn dropped_early(rt: HostRuntime) -> Result<(), Fail> {
     let regex = Regex::new(rt.alloc(), "a")?;
-    assert_eq!(rt; first_start(&regex, "aaa")?, Some(0));
-    let mut again = regex.find_iter("aaa")?;
-    for start in [Some(0), Some(1), Some(2), None] {
-        assert_eq!(rt; again.next().map(|m| m.start()), start);
-    }
+    assert_eq!(rt; first_span(&regex, "aaa")?, Some((0, 1)));
+    assert!(rt; first_two_spans(&regex, "aaa")? == [Some((0, 1)), Some((1, 2))]);
     Ok(())
 }
-
-/// Where a match is, if there is one.
-type Span = Option<(usize, usize)>;
 
 /// Two iterators of one regex don't disturb each other.
 #[test]

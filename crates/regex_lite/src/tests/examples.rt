@@ -1,8 +1,7 @@
 //! The examples of the documentation.
 mod replacing;
 
-use crate::{Captures, Regex, RegexBuilder, escape};
-use std::alloc::AllocError;
+use crate::{Captures, Error, Regex, RegexBuilder, escape};
 use std::test::Fail;
 
 /// At the head of the crate.
@@ -285,19 +284,19 @@ fn all_matches(rt: HostRuntime) -> Result<(), Fail> {
 #[test]
 fn all_groups(rt: HostRuntime) -> Result<(), Fail> {
     let regex = Regex::new(rt.alloc(), "([a-z])([0-9])")?;
-    let mut digits = String::new(rt.alloc());
-    for caps in regex.captures_iter("a1 b2")? {
-        push_digit(&mut digits, &caps?)?;
+    let mut all = regex.captures_iter("a1 b2")?;
+    for digit in [Some("1"), Some("2"), None] {
+        assert_eq!(rt; second_text(all.next()), digit);
     }
-    assert_eq!(rt; digits.as_str(), "12");
     Ok(())
 }
 
-fn push_digit(digits: &mut String, caps: &Captures<'_>) -> Result<(), AllocError> {
+fn second_text<'h>(item: Option<Result<Captures<'h>, Error>>) -> Option<&'h str> {
+    let caps = item?.ok()?;
     if caps.get(2).is_some() {
-        digits.push_str(caps.at(2))?;
+        return Some(caps.at(2));
     }
-    Ok(())
+    None
 }
 
 /// At `CapturesIn::extract`.
