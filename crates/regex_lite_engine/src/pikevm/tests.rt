@@ -4,6 +4,7 @@ ghost use Rattle.std.specs.Prelude.{◌≡◌, ◌<◌, ◌⊎◌, IsCharBoundar
 
 use super::cache_for;
 use crate::Searcher;
+use crate::pikevm::search::Outcome;
 use crate::tests::graph_of;
 use std::alloc::Global;
 use std::process::Abort;
@@ -69,12 +70,19 @@ fn told_from(
     }
     let graph = graph_of(alloc, pattern)?;
     let (found, _) = graph.search(alloc, haystack, start, 4)?;
-    let told = match found {
-        None => None,
-        Some(found) => Some((found.start, found.end, found.slots[2], found.slots[3])),
-    };
     let (shortest, _) = graph.search_shortest(alloc, haystack, start)?;
-    Ok(Some((told, shortest)))
+    Ok(Some((found_by(&found), shortest)))
+}
+
+/// Where the match starts and ends, and what slots 2 and 3 of its four hold.
+fn found_by(outcome: &Option<Outcome>) -> Option<Found> {
+    let Some(outcome) = outcome else {
+        return None;
+    };
+    match outcome.slots.as_slice() {
+        [_, _, from, to] => Some((outcome.start, outcome.end, *from, *to)),
+        _ => None,
+    }
 }
 
 /// Whether a search may start there.

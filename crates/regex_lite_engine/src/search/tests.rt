@@ -201,8 +201,8 @@ fn are_alike_from(alloc: Global, graph: &Graph, haystack: &str, start: usize) ->
     let slots = graph.capture_names().len().saturating_mul(2);
     let (first, depth) = graph.search_depth_first(alloc, haystack, start, slots)?;
     let (second, step) = graph.search_in_step(alloc, haystack, start, slots)?;
-    let left = haystack[start..].chars().count();
-    let are_bounded = is_bounded(graph, left, depth) && is_bounded(graph, left, step);
+    let rest = &haystack[start..];
+    let are_bounded = is_bounded(graph, rest, depth) && is_bounded(graph, rest, step);
     Ok(are_bounded && are_alike(&first, &second))
 }
 
@@ -219,9 +219,9 @@ fn are_alike(first: &Option<Outcome>, second: &Option<Outcome>) -> bool {
     }
 }
 
-/// Whether a search with so many characters left did no more than it may.
-fn is_bounded(graph: &Graph, left: usize, steps: Steps) -> bool {
-    let columns = (left as u128).saturating_add(1);
+/// Whether a search in this rest of a haystack did no more than it may.
+fn is_bounded(graph: &Graph, rest: &str, steps: Steps) -> bool {
+    let columns = (rest.chars().count() as u128).saturating_add(1);
     let arrows = (graph.arrows() as u128).saturating_add(1);
     steps.tried() <= arrows.saturating_mul(columns)
         && steps.entered() <= steps.tried()

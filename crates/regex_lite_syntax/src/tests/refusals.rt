@@ -59,7 +59,7 @@ const UNCLOSED_CLASS: &str = "found unclosed character class";
 
 const NESTED_CLASS: &str = "nested character classes are not supported";
 
-const ROWS: [Row; 111] = [
+const GROUPS: [Row; 53] = [
     // Groups and operators.
     ("*", NO_OPERAND),
     ("+", NO_OPERAND),
@@ -116,6 +116,14 @@ const ROWS: [Row; 111] = [
     ("(?<foo", UNCLOSED_NAME),
     ("(?<>z)", EMPTY_NAME),
     ("(?P<>z)", EMPTY_NAME),
+];
+
+#[test]
+fn groups(rt: HostRuntime) -> Result<(), Fail> {
+    expect_rows(&rt, Flags::default(), &GROUPS)
+}
+
+const ITEMS: [Row; 58] = [
     // Counted operators.
     ("{5}", NO_COUNTED_OPERAND),
     ("({5})", NO_COUNTED_OPERAND),
@@ -222,6 +230,6 @@ const ROWS: [Row; 111] = [
 ];
 
 #[test]
-fn rows(rt: HostRuntime) -> Result<(), Fail> {
-    expect_rows(&rt, Flags::default(), &ROWS)
+fn items(rt: HostRuntime) -> Result<(), Fail> {
+    expect_rows(&rt, Flags::default(), &ITEMS)
 }

@@ -3,7 +3,7 @@ use super::{Row, expect_rows};
 use crate::Flags;
 use std::test::Fail;
 
-const ROWS: [Row; 89] = [
+const ITEMS: [Row; 56] = [
     // Items and operators.
     ("", "empty"),
     ("a", "a"),
@@ -27,25 +27,6 @@ const ROWS: [Row; 89] = [
     ("#é😃", "cat(#,é,😃)"),
     ("^$", "cat(Start,End)"),
     (".", "set(0-9,B-10FFFF)"),
-    // Flags.
-    ("(?i)", "empty"),
-    ("a(?:(?i)a)a", "cat(a,set(41,61),a)"),
-    ("a(?i:a)a", "cat(a,set(41,61),a)"),
-    ("(?i)1β", "cat(1,β)"),
-    ("(?i)a(?-i:a)a", "cat(set(41,61),a,set(41,61))"),
-    ("(?:a(?i)b|c)d", "cat(alt(cat(a,set(42,62)),set(43,63)),d)"),
-    ("a(?i)*", "rep(0,inf,greedy,a)"),
-    ("(?u)a(?-u:b)", "cat(a,b)"),
-    ("(?s).", "set(0-10FFFF)"),
-    ("(?R).", "set(0-9,B-C,E-10FFFF)"),
-    ("(?R)(?s).", "set(0-10FFFF)"),
-    ("(?sR:.)", "set(0-10FFFF)"),
-    ("(?s-i).(?i-s).", "cat(set(0-10FFFF),set(0-9,B-10FFFF))"),
-    ("(?U)a*", "rep(0,inf,lazy,a)"),
-    ("(?U)a*?", "rep(0,inf,greedy,a)"),
-    ("(?m)^$", "cat(StartLF,EndLF)"),
-    ("(?mR)^$", "cat(StartCRLF,EndCRLF)"),
-    ("(?R)^$", "cat(Start,End)"),
     // Escapes and classes.
     ("\\d\\D", "cat(set(30-39),set(0-2F,3A-10FFFF))"),
     ("\\x41", "A"),
@@ -63,6 +44,33 @@ const ROWS: [Row; 89] = [
     ("(?i)[k]", "set(4B,6B)"),
     ("(?i)[β]", "set(3B2)"),
     ("[a\\wz]", "set(30-39,41-5A,5F,61-7A)"),
+    // Counted operators.
+    ("a{5}", "rep(5,5,greedy,a)"),
+    ("a{5}?", "rep(5,5,lazy,a)"),
+    ("a{5,}", "rep(5,inf,greedy,a)"),
+    ("a{5,9}?", "rep(5,9,lazy,a)"),
+    ("^a{ 5 , 9 }$", "cat(Start,rep(5,9,greedy,a),End)"),
+    ("a{0}", "empty"),
+    ("a{0,0}?", "empty"),
+    ("a{1}", "a"),
+    ("a{1,1}?", "a"),
+    ("a{0,1}", "rep(0,1,greedy,a)"),
+    ("a{007}", "rep(7,7,greedy,a)"),
+    ("a{4294967295}", "rep(4294967295,4294967295,greedy,a)"),
+    ("a{2}{3}", "rep(3,3,greedy,rep(2,2,greedy,a))"),
+    ("a{2}??", "rep(0,1,greedy,rep(2,2,lazy,a))"),
+    ("a{2} ?", "cat(rep(2,2,greedy,a),rep(0,1,greedy, ))"),
+    ("(?U)a{2,3}", "rep(2,3,lazy,a)"),
+    ("\\b{5}", "rep(5,5,greedy,Word)"),
+    ("ab{2}", "cat(a,rep(2,2,greedy,b))"),
+];
+
+#[test]
+fn items(rt: HostRuntime) -> Result<(), Fail> {
+    expect_rows(&rt, Flags::default(), &ITEMS)
+}
+
+const GROUPS: [Row; 33] = [
     // Groups.
     ("(a)", "group(1,a)"),
     ("()", "group(1,empty)"),
@@ -89,28 +97,28 @@ const ROWS: [Row; 89] = [
         "cat(rep(4,10,greedy,group(1,alt(a,cat(a,b),c,cat(b,c,d)))),\
         group(2,rep(0,inf,greedy,d)))",
     ),
-    // Counted operators.
-    ("a{5}", "rep(5,5,greedy,a)"),
-    ("a{5}?", "rep(5,5,lazy,a)"),
-    ("a{5,}", "rep(5,inf,greedy,a)"),
-    ("a{5,9}?", "rep(5,9,lazy,a)"),
-    ("^a{ 5 , 9 }$", "cat(Start,rep(5,9,greedy,a),End)"),
-    ("a{0}", "empty"),
-    ("a{0,0}?", "empty"),
-    ("a{1}", "a"),
-    ("a{1,1}?", "a"),
-    ("a{0,1}", "rep(0,1,greedy,a)"),
-    ("a{007}", "rep(7,7,greedy,a)"),
-    ("a{4294967295}", "rep(4294967295,4294967295,greedy,a)"),
-    ("a{2}{3}", "rep(3,3,greedy,rep(2,2,greedy,a))"),
-    ("a{2}??", "rep(0,1,greedy,rep(2,2,lazy,a))"),
-    ("a{2} ?", "cat(rep(2,2,greedy,a),rep(0,1,greedy, ))"),
-    ("(?U)a{2,3}", "rep(2,3,lazy,a)"),
-    ("\\b{5}", "rep(5,5,greedy,Word)"),
-    ("ab{2}", "cat(a,rep(2,2,greedy,b))"),
+    // Flags.
+    ("(?i)", "empty"),
+    ("a(?:(?i)a)a", "cat(a,set(41,61),a)"),
+    ("a(?i:a)a", "cat(a,set(41,61),a)"),
+    ("(?i)1β", "cat(1,β)"),
+    ("(?i)a(?-i:a)a", "cat(set(41,61),a,set(41,61))"),
+    ("(?:a(?i)b|c)d", "cat(alt(cat(a,set(42,62)),set(43,63)),d)"),
+    ("a(?i)*", "rep(0,inf,greedy,a)"),
+    ("(?u)a(?-u:b)", "cat(a,b)"),
+    ("(?s).", "set(0-10FFFF)"),
+    ("(?R).", "set(0-9,B-C,E-10FFFF)"),
+    ("(?R)(?s).", "set(0-10FFFF)"),
+    ("(?sR:.)", "set(0-10FFFF)"),
+    ("(?s-i).(?i-s).", "cat(set(0-10FFFF),set(0-9,B-10FFFF))"),
+    ("(?U)a*", "rep(0,inf,lazy,a)"),
+    ("(?U)a*?", "rep(0,inf,greedy,a)"),
+    ("(?m)^$", "cat(StartLF,EndLF)"),
+    ("(?mR)^$", "cat(StartCRLF,EndCRLF)"),
+    ("(?R)^$", "cat(Start,End)"),
 ];
 
 #[test]
-fn rows(rt: HostRuntime) -> Result<(), Fail> {
-    expect_rows(&rt, Flags::default(), &ROWS)
+fn groups(rt: HostRuntime) -> Result<(), Fail> {
+    expect_rows(&rt, Flags::default(), &GROUPS)
 }
