@@ -1,5 +1,5 @@
-//! Patterns of a great size are refused, and nothing overflows. The fixed lists in tests/answers have
-//! the limits on smaller ones.
+//! Patterns of a great size are refused, and nothing overflows. The fixed lists in tests/answers
+//! have the limits on smaller ones.
 use crate::{Error, ErrorKind, Regex, RegexBuilder};
 use std::alloc::{AllocError, Global};
 use std::test::Fail;

@@ -1,5 +1,5 @@
-//! Patterns written out: their places and arrows. The fixed lists in tests/answers have their sizes,
-//! and what they say of their groups.
+//! Patterns written out: their places and arrows. The fixed lists in tests/answers have their
+//! sizes, and what they say of their groups.
 ghost use Rattle.std.specs.Prelude.{◌+◌, ◌^◌, ◌<◌};
 
 use crate::Regex;
