@@ -159,9 +159,12 @@ fn first_span(regex: &Regex, haystack: &str) -> Result<Span, Error> {
     Ok(next_span(&mut matches))
 }
 
-fn first_two_spans(regex: &Regex, haystack: &str) -> Result<[Span; 2], Error> {
+/// The first four answers of an iterator.
+fn first_four_spans(regex: &Regex, haystack: &str) -> Result<[Span; 4], Error> {
     let mut matches = regex.find_iter(haystack)?;
-    Ok([next_span(&mut matches), next_span(&mut matches)])
+    let (first, second) = (next_span(&mut matches), next_span(&mut matches));
+    let (third, fourth) = (next_span(&mut matches), next_span(&mut matches));
+    Ok([first, second, third, fourth])
 }
 
 /// An iterator that was dropped leaves nothing behind.
@@ -169,7 +172,8 @@ fn first_two_spans(regex: &Regex, haystack: &str) -> Result<[Span; 2], Error> {
 fn dropped_early(rt: HostRuntime) -> Result<(), Fail> {
     let regex = Regex::new(rt.alloc(), "a")?;
     assert_eq!(rt; first_span(&regex, "aaa")?, Some((0, 1)));
-    assert!(rt; first_two_spans(&regex, "aaa")? == [Some((0, 1)), Some((1, 2))]);
+    let again = first_four_spans(&regex, "aaa")?;
+    assert!(rt; again == [Some((0, 1)), Some((1, 2)), Some((2, 3)), None]);
     Ok(())
 }
 
