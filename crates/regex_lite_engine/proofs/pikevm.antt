@@ -1,4 +1,5 @@
 -- lemmas that several proofs here share
+pub mod CountLemmas
 pub mod EnterLemmas
 pub mod EndLemmas
 pub mod InStepLemmas

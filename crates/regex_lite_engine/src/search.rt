@@ -46,6 +46,7 @@ impl Graph {
             (λ outcome. length outcome.slots.items ≡ slots)) }
         ensures cost { IfOk result (λ told. (tree : Tree) → IsGraphOf tree self.now
             → HasCost tree haystack.now start told.1) }
+        ensures entered { IfOk result (λ told. IfSome told.0 (λ _. 0 < told.1.entered)) }
     {
         if start > haystack.len() {
             return Ok((None, Steps::none()));

@@ -1,19 +1,20 @@
 //! Searches that tell what they cost.
-ghost use Rattle.std.specs.Prelude.{◌≡◌, ◌↔◌, IfOk, IfErr, IsTrue};
+ghost use Rattle.std.specs.Prelude.{◌≡◌, ◌<◌, ◌↔◌, IfOk, IfErr, IfSome, IsTrue};
 ghost use Rattle.regex_lite_syntax.specs.Errors.{out_of_memory};
 ghost use Rattle.regex_lite.specs.Searches.{CanStartAt, IsWithinCost, MatchesFrom, TellsEnd, TellsGroups, TellsMatch};
 
 use crate::string::captures::Captures;
 use crate::string::matches::Match;
 use crate::string::regex::Regex;
-use crate::string::slots::all_slots;
+use crate::string::slots::slots_with;
 use regex_lite_engine::{Outcome, Steps};
 use regex_lite_syntax::Error;
 
 /// Each search tries places of the pattern written out at most so often: one more than its arrows,
 /// times one more than the characters from the start to the haystack's end. It enters places at
 /// most so often: the places, times one more than those characters. [`Regex::places`] and
-/// [`Regex::arrows`] tell how many there are. A search from above the length tries none.
+/// [`Regex::arrows`] tell how many there are. A search from above the length tries none, and one
+/// that finds something has entered a place.
 impl Regex {
     /// [`Regex::is_match_at`], and what the search cost.
     ///
@@ -27,6 +28,7 @@ impl Regex {
         ensures found { IfOk result
             (λ told. IsTrue told.0 ↔ MatchesFrom self.now haystack.now start) }
         ensures cost { IfOk result (λ told. IsWithinCost self.now haystack.now start told.1) }
+        ensures entered { IfOk result (λ told. IsTrue told.0 → 0 < told.1.entered) }
         ensures refused { IfErr result (λ error. error ≡ out_of_memory) }
     {
         let (end, steps) = self.shortest_match_counted_at(haystack, start)?;
@@ -48,6 +50,7 @@ impl Regex {
         requires { CanStartAt haystack.now start }
         ensures found { IfOk result (λ told. TellsMatch self.now haystack.now start told.0) }
         ensures cost { IfOk result (λ told. IsWithinCost self.now haystack.now start told.1) }
+        ensures entered { IfOk result (λ told. IfSome told.0 (λ _. 0 < told.1.entered)) }
         ensures refused { IfErr result (λ error. error ≡ out_of_memory) }
     {
         let graph = &self.compiled.graph;
@@ -74,15 +77,17 @@ impl Regex {
         requires { CanStartAt haystack.now start }
         ensures found { IfOk result (λ told. TellsGroups self.now haystack.now start told.0) }
         ensures cost { IfOk result (λ told. IsWithinCost self.now haystack.now start told.1) }
+        ensures entered { IfOk result (λ told. IfSome told.0 (λ _. 0 < told.1.entered)) }
         ensures refused { IfErr result (λ error. error ≡ out_of_memory) }
     {
         let count = self.kept_slots();
+        let whole = self.whole_slots(count)?;
         let graph = &self.compiled.graph;
         let (outcome, steps) = graph.search(self.alloc, haystack, start, count)?;
         let Some(Outcome { start, end, slots }) = outcome else {
             return Ok((None, steps));
         };
-        let slots = all_slots(slots, (start, end))?;
+        let slots = slots_with(slots, whole, (start, end));
         let compiled = self.compiled.clone()?;
         let caps = Captures::new(haystack, slots, compiled);
         Ok((Some(caps), steps))
@@ -103,6 +108,7 @@ impl Regex {
         requires { CanStartAt haystack.now start }
         ensures found { IfOk result (λ told. TellsEnd self.now haystack.now start told.0) }
         ensures cost { IfOk result (λ told. IsWithinCost self.now haystack.now start told.1) }
+        ensures entered { IfOk result (λ told. IfSome told.0 (λ _. 0 < told.1.entered)) }
         ensures refused { IfErr result (λ error. error ≡ out_of_memory) }
     {
         let graph = &self.compiled.graph;

@@ -1,5 +1,5 @@
 //! The slots of a match: how many a search keeps for its groups, and all of them.
-ghost use Rattle.std.specs.Prelude.{◌≡◌, ◌*◌, IfOk};
+ghost use Rattle.std.specs.Prelude.{◌≡◌, ◌*◌, [], IfOk, length};
 ghost use Rattle.regex_lite_syntax.specs.Tree.Properties.{captures_len};
 ghost use Rattle.regex_lite.specs.Expression.{OfTree};
 ghost use Rattle.regex_lite.specs.Slots.{all_slots, kept_slots};
@@ -23,6 +23,32 @@ impl Regex {
         let slots = self.slots();
         if slots == 2 { 0 } else { slots }
     }
+
+    /// Room for the slots of the whole match, where a search keeps none for its groups.
+    pub(super) fn whole_slots(&self, kept: usize) -> Result<Vec<Option<usize>>, AllocError>
+        ensures { IfOk result (λ whole. kept ≡ 0 → length whole.items ≡ 2) }
+    {
+        let count = if kept == 0 { 2 } else { 0 };
+        vec![in self.alloc; None; count]
+    }
+}
+
+/// The slots of all groups of a match with this span, of which a search kept these. Those of the
+/// whole match stand in the room that was made for them before the search.
+pub(super) fn slots_with(
+    kept: Vec<Option<usize>>,
+    mut whole: Vec<Option<usize>>,
+    span: (usize, usize),
+) -> Vec<Option<usize>>
+    requires { kept.items ≡ [] → length whole.items ≡ 2 }
+    ensures { result.items ≡ all_slots kept.items span }
+{
+    if !kept.is_empty() {
+        return kept;
+    }
+    whole[0] = Some(span.0);
+    whole[1] = Some(span.1);
+    whole
 }
 
 /// The slots of all groups of a match with this span, of which a search kept these.

@@ -8,6 +8,12 @@ pub record StepCounts : Type 0 where
   pub entered : ℕ
   pub looked : ℕ
 
+-- what was counted before stays counted
+pub record StaysCounted (before after : StepCounts) : Type 0 where
+  pub tried : before.tried ≤ after.tried
+  pub entered : before.entered ≤ after.entered
+  pub looked : before.looked ≤ after.looked
+
 -- from position s to the end of the haystack, none from a position beyond it
 abbrev pub characters_left : Text → (s : ℕ) → ℕ
 characters_left haystack s = length haystack - s

@@ -82,6 +82,7 @@ module _ (table : List (Place ℕ)) where
     pub best_width : length best.row ≡ length memory.row
     pub entered_tried : entered ≤ tried
     pub looked_entered : looked ≤ entered
+    pub match_entered : (best_of best ≡ None → ⊥) → 0 < entered
 
 -- The position's own start is the last thread. It is left out where there is a match, and where no
 -- match can start

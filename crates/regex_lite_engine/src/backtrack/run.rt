@@ -1,9 +1,9 @@
 //! A whole search, start by start.
-ghost use Rattle.std.specs.Prelude.{◌≡◌, IsCharBoundary, chars, length};
+ghost use Rattle.std.specs.Prelude.{◌≡◌, ◌<◌, IfSome, IsCharBoundary, chars, length};
 ghost use Rattle.regex_lite_engine.specs.Backtrack.Searching.{IsFresh};
 ghost use Rattle.regex_lite_engine.specs.Graph.Renumbered.{arrows_of};
 ghost use Rattle.regex_lite_engine.specs.Graph.Stored.{table_of};
-ghost use Rattle.regex_lite_engine.specs.Search.Bounds.{IsBounded, characters_left};
+ghost use Rattle.regex_lite_engine.specs.Search.Bounds.{IsBounded, StaysCounted, characters_left};
 ghost use Rattle.regex_lite_engine.specs.Search.Offsets.{position_at};
 ghost use Rattle.regex_lite_engine.specs.Walk.Outcomes.{IsNumberedOutcome, CanCount};
 ghost use Rattle.regex_lite_engine.specs.Walk.Turns.{best_at};
@@ -25,6 +25,8 @@ pub fn run(walk: &mut Walk, graph: &Graph, haystack: &str, start: usize) -> Opti
     ensures bounded { IsBounded (length (table_of graph.now)) (arrows_of (table_of graph.now))
         (chars haystack.now) (position_at haystack.now start) walk.new.steps.tried
         walk.new.steps.entered walk.new.steps.looked }
+    ensures counts { StaysCounted walk.old.steps walk.new.steps }
+    ensures entry { IfSome result (λ _. 0 < walk.new.steps.entered) }
     ensures width { length walk.new.stack.row ≡ length walk.old.stack.row }
 {
     let mut here = Here::at(haystack, start);

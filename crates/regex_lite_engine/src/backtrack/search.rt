@@ -1,5 +1,5 @@
 //! A search that goes depth first, from its working memory to what it tells.
-ghost use Rattle.std.specs.Prelude.{◌≡◌, ◌≤◌, IfOk, IfSome, IsCharBoundary, length};
+ghost use Rattle.std.specs.Prelude.{◌≡◌, ◌≤◌, ◌<◌, IfOk, IfSome, IsCharBoundary, length};
 ghost use Rattle.regex_lite_syntax.specs.Tree.{Tree};
 ghost use Rattle.regex_lite_syntax.specs.Tree.Regular.{IsRegular};
 ghost use Rattle.regex_lite_engine.specs.Backtrack.Searching.{IsFresh};
@@ -34,6 +34,7 @@ impl Graph {
             (λ outcome. length outcome.slots.items ≡ slots)) }
         ensures cost { IfOk result (λ told. (tree : Tree) → IsGraphOf tree self.now
             → HasCost tree haystack.now start told.1) }
+        ensures entered { IfOk result (λ told. IfSome told.0 (λ _. 0 < told.1.entered)) }
     {
         let mut walk = self.walk_for(alloc, haystack, start, slots)?;
         let found = run(&mut walk, self, haystack, start);

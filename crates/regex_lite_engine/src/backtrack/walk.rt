@@ -1,8 +1,9 @@
 //! The walk from one start: a way as far as it leads, and then the last that was left for later.
-ghost use Rattle.std.specs.Prelude.{◌≡◌, [], ◌∷◌, length};
+ghost use Rattle.std.specs.Prelude.{◌≡◌, ◌<◌, ◌+◌, [], ◌∷◌, IfSome, length, true};
 ghost use Rattle.regex_lite_engine.specs.Backtrack.Machine.{completes, explore, onto};
 ghost use Rattle.regex_lite_engine.specs.Backtrack.Room.{Goes, HasRoom};
 ghost use Rattle.regex_lite_engine.specs.Graph.Stored.{table_of};
+ghost use Rattle.regex_lite_engine.specs.Search.Bounds.{StaysCounted};
 
 use crate::Graph;
 use crate::backtrack::enter::{Onward, enter};
@@ -30,6 +31,8 @@ impl Walk {
         requires empty { self.old.stack.frames ≡ [] }
         ensures explored { Explores (table_of graph.now) haystack.now graph.now.start start
             self.old self.new result }
+        ensures counts { StaysCounted self.old.steps self.new.steps }
+        ensures entry { IfSome result (λ _. 0 < self.new.steps.entered) }
     {
         let (mut place, mut at) = (graph.start(), start);
         'ways: loop {
@@ -48,9 +51,12 @@ impl Walk {
     fn come_to(&mut self, graph: &Graph, haystack: &str, place: u32, at: usize) -> Onward
         requires { HasRoom (table_of graph.now) haystack.now self.old
             (explore place at ∷ self.old.stack.frames) }
-        ensures { Goes (table_of graph.now) haystack.now self.old
+        ensures goes { Goes (table_of graph.now) haystack.now self.old
             (explore place at ∷ self.old.stack.frames) self.new
             (onto result self.new.stack.frames) at (completes result) }
+        ensures tries { self.new.steps.tried ≡ self.old.steps.tried + 1 }
+        ensures counts { StaysCounted self.old.steps self.new.steps }
+        ensures entry { completes result ≡ true → 0 < self.new.steps.entered }
     {
         self.steps.count_try();
         if !self.visited.insert(place, at) {

@@ -1,7 +1,7 @@
 //! From position to position, past those at which no match can start.
 ghost use Rattle.std.specs.Prelude.{◌≡◌, ℕ, chars, length};
 ghost use Rattle.regex_lite_engine.specs.Graph.Stored.{table_of};
-ghost use Rattle.regex_lite_engine.specs.Search.Bounds.{characters_left};
+ghost use Rattle.regex_lite_engine.specs.Search.Bounds.{StaysCounted, characters_left};
 ghost use Rattle.regex_lite_engine.specs.Walk.Outcomes.{CanCount};
 ghost use Rattle.regex_lite_engine.specs.Walk.Passing.{IsUnderWay, Passes};
 ghost use Rattle.regex_lite_engine.specs.Walk.Standing.{IsHere};
@@ -24,6 +24,7 @@ impl<S: Beginning> Cache<S> {
             → Passes (table_of graph.now) (chars haystack.now) graph.now.start s p self.old self.new
             result }
         ensures width { length self.new.best.row ≡ length self.old.best.row }
+        ensures counts { StaysCounted self.old.walk.steps self.new.walk.steps }
     {
         let here = next_start(graph, haystack, here, &self.walk.memory, &self.best);
         self.turn(graph, here, may_start(graph, here));

@@ -2,7 +2,7 @@
 ghost use Rattle.std.specs.Prelude.{◌≡◌, ◌⊎◌, IsCharBoundary, IsTrue, None, chars, length};
 ghost use Rattle.regex_lite_engine.specs.Graph.Renumbered.{arrows_of};
 ghost use Rattle.regex_lite_engine.specs.Graph.Stored.{table_of};
-ghost use Rattle.regex_lite_engine.specs.Search.Bounds.{IsBounded, characters_left};
+ghost use Rattle.regex_lite_engine.specs.Search.Bounds.{IsBounded, StaysCounted, characters_left};
 ghost use Rattle.regex_lite_engine.specs.Search.Offsets.{position_at};
 ghost use Rattle.regex_lite_engine.specs.Walk.Outcomes.{IsBestOutcome, IsFresh, CanCount};
 ghost use Rattle.regex_lite_engine.specs.Walk.Searching.{IsBetween};
@@ -25,6 +25,7 @@ pub fn run(cache: &mut Cache<usize>, graph: &Graph, haystack: &str, start: usize
     ensures bounded { IsBounded (length (table_of graph.now)) (arrows_of (table_of graph.now))
         (chars haystack.now) (position_at haystack.now start) cache.new.walk.steps.tried
         cache.new.walk.steps.entered cache.new.walk.steps.looked }
+    ensures counts { StaysCounted cache.old.walk.steps cache.new.walk.steps }
     ensures width { length cache.new.best.row ≡ length cache.old.best.row }
     ensures between { IsBetween (table_of graph.now) cache.new }
 {

@@ -39,6 +39,7 @@ impl Graph {
             (λ outcome. length outcome.slots.items ≡ slots)) }
         ensures cost { IfOk result (λ told. (tree : Tree) → IsGraphOf tree self.now
             → HasCost tree haystack.now start told.1) }
+        ensures entered { IfOk result (λ told. IfSome told.0 (λ _. 0 < told.1.entered)) }
     {
         let mut cache = cache_for::<usize>(alloc, self, slots)?;
         run(&mut cache, self, haystack, start);
@@ -65,6 +66,7 @@ impl Graph {
             → IsGraphOf tree self.now → IsEndOutcome tree haystack.now start told.0) }
         ensures cost { IfOk result (λ told. (tree : Tree) → IsGraphOf tree self.now
             → HasCost tree haystack.now start told.1) }
+        ensures entered { IfOk result (λ told. IfSome told.0 (λ _. 0 < told.1.entered)) }
     {
         if start > haystack.len() {
             return Ok((None, Steps::none()));

@@ -1,8 +1,8 @@
 //! A search that is over once any match is known.
-ghost use Rattle.std.specs.Prelude.{◌≡◌, ◌⊎◌, IsCharBoundary, IsTrue, None, chars, length};
+ghost use Rattle.std.specs.Prelude.{◌≡◌, ◌<◌, ◌⊎◌, IsCharBoundary, IsTrue, None, chars, length};
 ghost use Rattle.regex_lite_engine.specs.Graph.Renumbered.{arrows_of};
 ghost use Rattle.regex_lite_engine.specs.Graph.Stored.{table_of};
-ghost use Rattle.regex_lite_engine.specs.Search.Bounds.{IsBounded, characters_left};
+ghost use Rattle.regex_lite_engine.specs.Search.Bounds.{IsBounded, StaysCounted, characters_left};
 ghost use Rattle.regex_lite_engine.specs.Search.Offsets.{position_at};
 ghost use Rattle.regex_lite_engine.specs.Walk.Outcomes.{IsNumberedEnd, IsFresh, CanCount};
 ghost use Rattle.regex_lite_engine.specs.Walk.Turns.{best_of};
@@ -24,6 +24,8 @@ pub fn run_shortest(cache: &mut Cache<Unkept>, graph: &Graph, haystack: &str, st
     ensures bounded { IsBounded (length (table_of graph.now)) (arrows_of (table_of graph.now))
         (chars haystack.now) (position_at haystack.now start) cache.new.walk.steps.tried
         cache.new.walk.steps.entered cache.new.walk.steps.looked }
+    ensures counts { StaysCounted cache.old.walk.steps cache.new.walk.steps }
+    ensures entry { ¬ (best_of cache.new.best ≡ None) → 0 < cache.new.walk.steps.entered }
 {
     let mut here = Here::at(haystack, start);
     'positions: loop {

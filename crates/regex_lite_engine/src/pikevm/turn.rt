@@ -1,7 +1,8 @@
 //! One position of the haystack: its threads are followed in order, and leave those of the next.
-ghost use Rattle.std.specs.Prelude.{◌≡◌, ◌+◌, ◌^◌, ◌≤◌, ◌<◌, [], ℕ, Option, false, None, length};
+ghost use Rattle.std.specs.Prelude.{◌≡◌, ◌+◌, ◌^◌, ◌≤◌, ◌<◌, ◌⊎◌, [], ℕ, Option, false, None, length};
 ghost use Rattle.regex_lite_engine.specs.Graph.Renumbered.{arrows_of};
 ghost use Rattle.regex_lite_engine.specs.Graph.Stored.{table_of};
+ghost use Rattle.regex_lite_engine.specs.Search.Bounds.{StaysCounted};
 ghost use Rattle.regex_lite_engine.specs.Walk.Turns.{best_of};
 
 use crate::Graph;
@@ -46,6 +47,7 @@ impl<S: Beginning> Cache<S> {
             + (arrows_of (table_of graph.now) + 1) }
         ensures entries { self.new.walk.steps.entered
             ≤ self.old.walk.steps.entered + length (table_of graph.now) }
+        ensures counts { StaysCounted self.old.walk.steps self.new.walk.steps }
         ensures round { self.new.walk.memory.now ≡ self.old.walk.memory.now + 1 }
     {
         self.walk.memory.begin_round();
@@ -64,6 +66,9 @@ impl<S: Beginning> Cache<S> {
         ensures room { HasRoom (table_of graph.now) self.new.walk [] }
         ensures ends { EndsAt here.at (best_of self.old.best) (best_of self.new.best) }
         ensures kept { best_of self.new.best ≡ None → best_of self.old.best ≡ None }
+        ensures counts { StaysCounted self.old.walk.steps self.new.walk.steps }
+        ensures entry { (best_of self.new.best ≡ best_of self.old.best)
+            ⊎ (0 < self.new.walk.steps.entered) }
     {
         'ways: for k in 0..self.ways(may_start) {
             let (place, start) = self.walk.take_up(k, graph.start(), here.at);

@@ -1,6 +1,7 @@
 //! The walk over one position: from a place over all that its arrows lead to without reading.
-ghost use Rattle.std.specs.Prelude.{◌≡◌, ◌≤◌, ◌++◌, [], ◌∷◌, None, length, replicate};
+ghost use Rattle.std.specs.Prelude.{◌≡◌, ◌≤◌, ◌<◌, ◌+◌, ◌++◌, [], ◌∷◌, None, length, replicate, true};
 ghost use Rattle.regex_lite_engine.specs.Graph.Stored.{table_of};
+ghost use Rattle.regex_lite_engine.specs.Search.Bounds.{StaysCounted};
 ghost use Rattle.regex_lite_engine.specs.Walk.Entering.{completes, onto};
 ghost use Rattle.regex_lite_engine.specs.Walk.Machine.{explore, thread_at};
 ghost use Rattle.regex_lite_engine.specs.Walk.Room.{HasRoom, TakesFrame, Explores, KeepsPosition};
@@ -50,6 +51,8 @@ impl<S: Beginning> Walk<S> {
             (explore first ∷ self.old.memory.frames) result }
         ensures empty { self.new.memory.frames ≡ [] }
         ensures kept { KeepsPosition self.old.memory self.new.memory }
+        ensures counts { StaysCounted self.old.steps self.new.steps }
+        ensures entry { result ≡ true → 0 < self.new.steps.entered }
     {
         let mut place = first;
         'places: loop {
@@ -72,6 +75,9 @@ impl<S: Beginning> Walk<S> {
             (explore place ∷ self.old.memory.frames) self.new
             (onto result self.new.memory.frames) (completes result) }
         ensures kept { KeepsPosition self.old.memory self.new.memory }
+        ensures tries { self.new.steps.tried ≡ self.old.steps.tried + 1 }
+        ensures counts { StaysCounted self.old.steps self.new.steps }
+        ensures entry { completes result ≡ true → 0 < self.new.steps.entered }
     {
         self.steps.count_try();
         if !self.memory.insert(place) {

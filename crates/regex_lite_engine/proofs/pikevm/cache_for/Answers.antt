@@ -28,6 +28,7 @@ returns-clause-fresh g c =
         best_width = c.in_ok-with_width.ensures.width ∙ sym blank.width;
         entered_tried = omega (arith, tried, entered);
         looked_entered = omega (arith, entered, looked);
+        match_entered = λ some. absurd (some c.in_ok-with_width.ensures.none);
       };
       none = c.in_ok-with_width.ensures.none;
       no_threads = blank.threads;

@@ -6,6 +6,7 @@ use Rattle.regex_lite_engine.specs.Search.Offsets.{position_at}
 use Rattle.regex_lite_engine.proofs.backtrack.LeadsLemmas.{start_matches}
 use Rattle.regex_lite_engine.proofs.backtrack.RunLemmas.{begun, over_here, start_fits, went_on}
 use Rattle.regex_lite_engine.proofs.backtrack.WalkLemmas.{walk_over}
+use Rattle.regex_lite_engine.proofs.pikevm.CountLemmas.{counted_at_first, still_counted}
 use Rattle.regex_lite_engine.proofs.pikevm.here.OffsetLemmas.{less_left}
 use Rattle.regex_lite_engine.proofs.backtrack.run.run.Goals as goal
 
@@ -18,6 +19,7 @@ starts-init c =
       under_way = begun (table_of a.graph.now) a.haystack.now c.utf8.haystack a.start
           c.requires.boundary a.graph.now.start a.walk.now c.requires.counts c.requires.fresh;
       width = refl;
+      counts = counted_at_first a.walk.now.steps;
     }
 
 pub explore-requires-clause-room : goal.explore-requires-clause-room
@@ -93,4 +95,6 @@ starts-preserved c =
           (w.is.inside, w.is.bytes) c.explore.new.self
           (λ k le lt. c.heads.ensures.all text k (w.passed k le lt)) explored;
       width = explored.kept.row ∙ v.width;
+      counts = still_counted a.walk.now.steps c.starts.walk.steps c.explore.new.self.steps v.counts
+          c.explore.ensures.counts;
     }

@@ -2,6 +2,7 @@ use Rattle.std.proofs.Common.{◌≡◌, ℕ, ◌-◌, length}
 use Rattle.std.specs.Prelude.{chars}
 use Rattle.regex_lite_engine.specs.Backtrack.Searching.{IsUnderWay}
 use Rattle.regex_lite_engine.specs.Graph.Stored.{table_of}
+use Rattle.regex_lite_engine.specs.Search.Bounds.{StaysCounted}
 use Rattle.regex_lite_engine.specs.Walk.Standing.{IsHere}
 use Rattle.regex_lite_engine.proofs.backtrack.run.run.Given as goal
 
@@ -11,6 +12,7 @@ invariant-starts l = record {
   is : IsHere (chars l.haystack) p l.here;
   under_way : IsUnderWay (table_of l.graph) l.haystack l.start l.graph.start p l.walk;
   width : length l.walk.stack.row ≡ length l.fn.walk.stack.row;
+  counts : StaysCounted l.fn.walk.steps l.walk.steps;
 }
 
 abbrev pub decreases-starts : goal.decreases-starts

@@ -1,6 +1,7 @@
 use Rattle.std.proofs.Common.{◌≡◌, ℕ, ◌-◌, length}
 use Rattle.std.specs.Prelude.{chars}
 use Rattle.regex_lite_engine.specs.Graph.Stored.{table_of}
+use Rattle.regex_lite_engine.specs.Search.Bounds.{StaysCounted}
 use Rattle.regex_lite_engine.specs.Search.Offsets.{position_at}
 use Rattle.regex_lite_engine.specs.Walk.Passing.{IsUnderWay}
 use Rattle.regex_lite_engine.specs.Walk.Standing.{IsHere}
@@ -13,6 +14,7 @@ invariant-positions l = record {
   under_way : IsUnderWay (table_of l.graph) (chars l.haystack) l.graph.start
       (position_at l.haystack l.start) p l.cache;
   width : length l.cache.best.row ≡ length l.fn.cache.best.row;
+  counts : StaysCounted l.fn.cache.walk.steps l.cache.walk.steps;
 }
 
 abbrev pub decreases-positions : goal.decreases-positions

@@ -4,6 +4,7 @@ use Rattle.regex_lite_engine.specs.Graph.Stored.{table_of}
 use Rattle.regex_lite_engine.specs.Search.Offsets.{position_at}
 use Rattle.regex_lite_engine.specs.Walk.Turns.{best_of}
 use Rattle.regex_lite_engine.proofs.pikevm.here.OffsetLemmas.{less_left}
+use Rattle.regex_lite_engine.proofs.pikevm.CountLemmas.{counted_at_first, still_counted}
 use Rattle.regex_lite_engine.proofs.pikevm.EndLemmas.{over_at, some_after}
 use Rattle.regex_lite_engine.proofs.pikevm.PassLemmas.{begun, bounded}
 use Rattle.regex_lite_engine.proofs.pikevm.ShortestLemmas.{shortest_known, not_true}
@@ -19,6 +20,7 @@ positions-init c =
       under_way = begun (table_of a.graph.now) (chars a.haystack.now) a.graph.now.start s a.cache.now
           c.requires.fresh;
       none = c.requires.fresh.none;
+      counts = counted_at_first a.cache.now.walk.steps;
     }
 
 pub pass-here-requires : goal.pass-here-requires
@@ -47,6 +49,8 @@ positions-preserved c =
       is = c.next-here.ensures w.q w.is;
       under_way = w.after;
       none = c.is_known.ensures.none_yet (not_true c.is_known.result c.if-is_known.false);
+      counts = still_counted c.args.cache.now.walk.steps c.positions.cache.walk.steps
+          c.pass-here.new.self.walk.steps v.counts c.pass-here.ensures.counts;
     }
 
 pub positions-smaller : goal.positions-smaller

@@ -1,6 +1,6 @@
 -- `value` shows what every owner lends.
 use mathlib.Core.Path.{refl, sym, subst}
-use Prim.Native.Nat.{ℕ, ◌+◌}
+use Prim.Native.Nat.{ℕ}
 use mir.Syntax.{Fn, Sym, Args, a_type}
 use mir.Val.{Val, vptr}
 use base.Logic.{SProp, ent, via, fst∗, snd∗, never, id⊢}

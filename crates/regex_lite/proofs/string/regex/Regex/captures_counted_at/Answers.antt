@@ -19,8 +19,8 @@ new-caps-requires c =
           a.haystack.now a.start c.in_ok-outcome.outcome outcome
           (ap (λ compiled. compiled.graph) c.deref.ensures) c.in_ok-outcome.ensures.found
           c.in-Some.is,
-    ) c.self.inside.compiled c.self.invariant given enough c.in_ok-slots.slots.items
-    c.in_ok-slots.ensures c.in_ok-compiled.compiled
+    ) c.self.inside.compiled c.self.invariant given enough c.slots_with-slots.result.items
+    c.slots_with-slots.ensures c.in_ok-compiled.compiled
     c.in_ok-compiled.ensures.cases
 
 pub returns-clause-found : goal.returns-clause-found
@@ -39,6 +39,6 @@ returns-clause-found c =
           a.haystack.now a.start c.in_ok-outcome.outcome outcome
           (ap (λ compiled. compiled.graph) c.deref.ensures) c.in_ok-outcome.ensures.found
           c.in-Some.is,
-    ) c.self.inside.compiled c.self.invariant given enough c.in_ok-slots.slots.items
-    c.in_ok-slots.ensures c.in_ok-compiled.compiled
+    ) c.self.inside.compiled c.self.invariant given enough c.slots_with-slots.result.items
+    c.slots_with-slots.ensures c.in_ok-compiled.compiled
     c.in_ok-compiled.ensures.cases c.new-caps.result c.new-caps.ensures

@@ -12,8 +12,8 @@ use Rattle.regex_lite_engine.proofs.backtrack.WentLemmas.{enter_room, entered_ag
 use Rattle.regex_lite_engine.proofs.pikevm.WentLemmas.{got_place}
 use Rattle.regex_lite_engine.proofs.backtrack.walk.Walk.come_to.Goals as goal
 
-pub returns-then-not-insert : goal.returns-then-not-insert
-returns-then-not-insert c =
+pub returns-then-not-insert-clause-goes : goal.returns-then-not-insert-clause-goes
+returns-then-not-insert-clause-goes c =
     let a = c.args in
     let w = a.self.now in
     let fit = c.requires in
@@ -39,8 +39,8 @@ enter-requires-clause-room c =
     c.utf8.haystack (c.insert.ensures.fresh.0 c.if-not-insert.false) place
     (got_place a.graph.now.places a.place place c.look-found.ensures.found)
 
-pub returns : goal.returns
-returns c =
+pub returns-clause-goes : goal.returns-clause-goes
+returns-clause-goes c =
     let a = c.args in
     let w = a.self.now in
     let fit = c.requires in

@@ -2,6 +2,7 @@ use Rattle.std.proofs.Common.{[], ◌∷◌}
 use Rattle.regex_lite_engine.specs.Backtrack.Machine.{explore}
 use Rattle.regex_lite_engine.specs.Backtrack.Room.{HasRoom, work}
 use Rattle.regex_lite_engine.specs.Graph.Stored.{table_of}
+use Rattle.regex_lite_engine.specs.Search.Bounds.{StaysCounted}
 use Rattle.regex_lite_engine.proofs.backtrack.ExploreLemmas.{HasGone}
 use Rattle.regex_lite_engine.proofs.backtrack.walk.Walk.explore.Given as goal
 
@@ -10,6 +11,7 @@ invariant-ways l = record {
   room : HasRoom (table_of l.graph) l.haystack l.self (explore l.place l.at ∷ l.self.stack.frames);
   gone : HasGone (table_of l.graph) l.haystack l.fn.self (explore l.graph.start l.start ∷ []) l.self
       (explore l.place l.at ∷ l.self.stack.frames);
+  counts : StaysCounted l.fn.self.steps l.self.steps;
 }
 
 abbrev pub decreases-ways : goal.decreases-ways

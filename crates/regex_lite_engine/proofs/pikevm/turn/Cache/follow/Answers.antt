@@ -2,11 +2,13 @@ use Rattle.std.proofs.Common.{◌≡◌, ℕ, ◌+◌, ◌^◌, ◌<◌, List, l
 use Rattle.std.proofs.lemmas.List.{length-map}
 use Rattle.regex_lite_engine.specs.declared.pikevm.walk.Walk.{Walk}
 use Rattle.regex_lite_engine.specs.Graph.Stored.{table_of, place_of}
+use Rattle.regex_lite_engine.specs.Search.Bounds.{StaysCounted}
 use Rattle.regex_lite_engine.specs.Walk.Machine.{Row, State, BestState, Thread, thread_at}
 use Rattle.regex_lite_engine.specs.Walk.Room.{due_tries, KeepsPosition}
 use Rattle.regex_lite_engine.specs.Walk.Searching.{ways_at}
 use Rattle.regex_lite_engine.specs.Walk.Turns.{best_of, StepsTo}
 use Rattle.regex_lite_engine.specs.Walk.Walking.{Best}
+use Rattle.regex_lite_engine.proofs.pikevm.CountLemmas.{still_counted}
 use Rattle.regex_lite_engine.proofs.pikevm.StepLemmas.{room_pushed, stepped_walk, spent_walk, entries_walk}
 use Rattle.regex_lite_engine.proofs.pikevm.TurnLemmas.{begun_below, start_begun, start_taken}
 use Rattle.regex_lite_engine.proofs.pikevm.turn.Cache.follow.Goals as goal
@@ -74,6 +76,8 @@ ways-preserved g c =
       spent = spent_walk (table_of a.graph.now) w w1 q em up.steps a.here i.now v.kept.round c.explore.new.self start c.explore.result more.explored due c.ways.k v.spent;
       spent_entries = entries_walk (table_of a.graph.now) w w1 q em up.steps a.here i.now v.kept.round c.explore.new.self start c.explore.result more.explored _ v.spent_entries;
       empty = more.empty;
+      counts = still_counted a.self.now.walk.steps w.steps c.explore.new.self.steps v.counts
+          (subst (λ s. StaysCounted s c.explore.new.self.steps) up.steps more.counts);
     }
 
 pub returns-then-explore-clause-followed : goal.returns-then-explore-clause-followed

@@ -1,5 +1,6 @@
 use Rattle.std.proofs.Common.{◌≡◌, ◌+◌, ◌≤◌, length, []}
 use Rattle.regex_lite_engine.specs.Graph.Stored.{table_of}
+use Rattle.regex_lite_engine.specs.Search.Bounds.{StaysCounted}
 use Rattle.regex_lite_engine.specs.Walk.Machine.{thread_at}
 use Rattle.regex_lite_engine.specs.Walk.Room.{HasRoom, KeepsPosition, due_tries, due_entries}
 use Rattle.regex_lite_engine.specs.Walk.Searching.{ways_at}
@@ -18,4 +19,5 @@ invariant-ways g l = record {
   spent_entries : due_entries (table_of l.graph) l.self.walk.memory.rounds l.initial.self.walk.memory.now l.self.walk.steps.entered
       ≤ due_entries (table_of l.graph) l.initial.self.walk.memory.rounds l.initial.self.walk.memory.now l.initial.self.walk.steps.entered;
   empty : l.self.walk.memory.frames ≡ [];
+  counts : StaysCounted l.initial.self.walk.steps l.self.walk.steps;
 }

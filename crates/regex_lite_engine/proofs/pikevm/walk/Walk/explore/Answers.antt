@@ -2,6 +2,7 @@ use Rattle.std.proofs.Common.{◌∷◌, ◌≡◌, ◌<◌, [], false, refl, sy
 use Rattle.regex_lite_engine.specs.Graph.Stored.{table_of}
 use Rattle.regex_lite_engine.specs.Walk.Machine.{explore, State}
 use Rattle.regex_lite_engine.specs.Walk.Room.{IsFit, Went, work}
+use Rattle.regex_lite_engine.proofs.pikevm.CountLemmas.{still_counted}
 use Rattle.regex_lite_engine.proofs.pikevm.WentLemmas.{went_back, under_back, IsBack, IsUnder}
 use Rattle.regex_lite_engine.proofs.pikevm.walk.Walk.explore.Goals as goal
 
@@ -54,4 +55,5 @@ places-preserved g c =
         room = ap (λ (z : State). z.room) c.next_place.ensures.same ∙ c.in-Back.ensures.kept.room ∙ v.kept.room;
         row = c.next_place.ensures.width ∙ c.in-Back.ensures.kept.row ∙ v.kept.row;
       };
+      counts = still_counted i.steps w.steps x.steps v.counts c.in-Back.ensures.counts;
     }

@@ -1,5 +1,6 @@
 use Rattle.std.proofs.Common.{◌∷◌}
 use Rattle.regex_lite_engine.specs.Graph.Stored.{table_of}
+use Rattle.regex_lite_engine.specs.Search.Bounds.{StaysCounted}
 use Rattle.regex_lite_engine.specs.Walk.Machine.{explore}
 use Rattle.regex_lite_engine.specs.Walk.Room.{HasRoom, KeepsPosition, work}
 use Rattle.regex_lite_engine.proofs.pikevm.WentLemmas.{IsUnder}
@@ -12,6 +13,7 @@ invariant-places g l = record {
       l.initial.self.steps.tried l.initial.self.steps.entered
       l.self.memory.rounds l.self.memory.row (explore l.place ∷ l.self.memory.frames) l.self.memory.next l.self.steps.tried l.self.steps.entered;
   kept : KeepsPosition l.initial.self.memory l.self.memory;
+  counts : StaysCounted l.initial.self.steps l.self.steps;
 }
 
 abbrev pub decreases-places : goal.decreases-places
