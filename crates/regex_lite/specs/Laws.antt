@@ -1,5 +1,5 @@
 -- Laws of what searches tell, and of equality.
-use Rattle.std.specs.Prelude.{◌≡◌, ◌↔◌, ℕ, List, Bool, IsTrue, IsUtf8, Option, chars, is_some, option_map, option_and_then}
+use Rattle.std.specs.Prelude.{◌≡◌, ◌≤◌, ◌↔◌, ℕ, List, Bool, IsTrue, IsUtf8, Option, Some, IfSome, chars, is_some, length, option_map, option_and_then}
 use Rattle.std.specs.Bool.{Decides}
 use Rattle.regex_lite_syntax.specs.declared.error.Error.{Error}
 use Rattle.regex_lite_syntax.specs.declared.error.ErrorKind.{ErrorKind}
@@ -11,7 +11,7 @@ use Rattle.regex_lite_syntax.specs.Tree.Matches.{Matches}
 use Rattle.regex_lite.specs.declared.string.matches.Match.{Match}
 use Rattle.regex_lite.specs.Escapes.{escaped_pattern}
 use Rattle.regex_lite.specs.Expression.{Expression, IsDue, OfTree, expression_of}
-use Rattle.regex_lite.specs.Groups.{Groups, group_span}
+use Rattle.regex_lite.specs.Groups.{Groups, LiesIn, group_span, texts_from, whole_span}
 use Rattle.regex_lite.specs.MatchViews.{is_same_match, span_of_match, match_with_haystack}
 use Rattle.regex_lite.specs.Searches.{MatchesFrom, TellsEnd, TellsGroups, TellsMatch}
 use Rattle.regex_lite.specs.Settings.{Settings, default_settings}
@@ -34,6 +34,26 @@ SearchesAgree =
     → (IsTrue found ↔ MatchesFrom re haystack start) → TellsMatch re haystack start m
     → TellsGroups re haystack start groups → TellsEnd re haystack start end
     → Agree found m groups end
+
+-- a span lies inside that of the match, and in the haystack on character boundaries
+pub record LiesInside (haystack : List ℕ) (whole span : ℕ × ℕ) : Type 0 where
+  pub starts_inside : whole.0 ≤ span.0
+  pub ends_inside : span.1 ≤ whole.1
+  pub lies_in : LiesIn haystack span
+
+-- so does each group that a search tells, where it took part
+abbrev pub GroupsLieInside : Type 0
+GroupsLieInside =
+    (re : Expression) (haystack : List ℕ) (start : ℕ) (groups : Groups) → IsUtf8 haystack
+    → TellsGroups re haystack start (Some groups)
+    → (k : ℕ) → IfSome (group_span groups k) (LiesInside haystack (whole_span groups))
+
+-- at least as many of them took part as do in every match
+abbrev pub EnoughGroupsTakePart : Type 0
+EnoughGroupsTakePart =
+    (re : Expression) (haystack : List ℕ) (start : ℕ) (groups : Groups) → IsUtf8 haystack
+    → TellsGroups re haystack start (Some groups)
+    → IfSome groups.static_captures_len (λ n. n ≤ length (texts_from groups 0))
 
 -- two matches are equal exactly where the texts of their haystacks and their spans are
 abbrev pub MatchesAreTheirSpans : Type 0

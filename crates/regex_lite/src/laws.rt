@@ -1,7 +1,7 @@
 //! Laws of what searches tell, of lists, pieces and replacements, of escaped texts and of
 //! equality. Each function does nothing: its contract is the law.
 ghost use Rattle.std.specs.Cmp.{IsEquivalence};
-ghost use Rattle.regex_lite.specs.Laws.{EscapedTextsAreRefusedForSize, EscapedTextsMatchThemselves, MatchesAreTheirSpans, SearchesAgree};
+ghost use Rattle.regex_lite.specs.Laws.{EnoughGroupsTakePart, EscapedTextsAreRefusedForSize, EscapedTextsMatchThemselves, GroupsLieInside, MatchesAreTheirSpans, SearchesAgree};
 ghost use Rattle.regex_lite.specs.ListLaws.{MatchesAreApart, OneMatchList};
 ghost use Rattle.regex_lite.specs.MatchViews.{is_same_match};
 ghost use Rattle.regex_lite.specs.PieceLaws.{FixedTextIsTemplate, LentReplacersReplaceAlike, OnePieceList, PiecesAndMatches, WholeMatchesGiveHaystack};
@@ -12,6 +12,13 @@ use crate::Replacer;
 /// and the match that is found is group 0.
 pub fn searches_agree()
     ensures { SearchesAgree }
+{}
+
+/// The groups that a search tells lie inside the match, on character boundaries. At least as many
+/// of them took part as the regex tells of every match.
+pub fn groups_lie_inside()
+    ensures inside { GroupsLieInside }
+    ensures enough { EnoughGroupsTakePart }
 {}
 
 /// The matches of a haystack don't overlap, their ends strictly grow, and they are at most one

@@ -18,6 +18,7 @@ use Rattle.regex_lite_engine.proofs.laws.answer.ReachLemmas.{walk_inside}
 use Rattle.regex_lite_engine.proofs.laws.groups.SpanLemmas.{groups_inside}
 use Rattle.regex_lite_engine.proofs.laws.groups.TakingPartLemmas.{enough_take_part}
 use Rattle.regex_lite.specs.Groups.{LiesIn, span_at, spans_of, text_at}
+use Rattle.regex_lite.specs.Laws.{LiesInside}
 use Rattle.regex_lite.specs.Searches.{offsets, spans_from}
 
 -- offsets are in the order of their positions
@@ -149,21 +150,37 @@ module _ (bytes : List ℕ) (utf8 : IsUtf8 bytes) (tree : Tree) (given : IsPatte
       let is_whole = inner.inside 0 found.start found.end inner.whole in
       positions_lie bytes found.start found.end utf8 is_whole.1 end_inside
 
-  group_lies : (k : ℕ) → IfSome (option_map (offsets (chars bytes)) (span found.marks k)) (LiesIn bytes)
+  abbrev whole : ℕ × ℕ
+  whole = offsets (chars bytes) (found.start, found.end)
+
+  group_lies : (k : ℕ) → IfSome (option_map (offsets (chars bytes)) (span found.marks k)) (LiesInside bytes whole)
   group_lies k = each (span found.marks k) refl
     where
       each : (own : Option (ℕ × ℕ)) → span found.marks k ≡ own
-          → IfSome (option_map (offsets (chars bytes)) own) (LiesIn bytes)
+          → IfSome (option_map (offsets (chars bytes)) own) (LiesInside bytes whole)
       each None e = tt
       each (Some (from, to)) e =
           let within = inner.inside k from to e in
+          let order = within.1 in
           let last = within.2 in
           let below = end_inside in
-          positions_lie bytes from to utf8 within.1 (omega (arith, last, below))
+          record {
+            starts_inside = offset_most (chars bytes) found.start from within.0 (omega (arith, order, last, below));
+            ends_inside = offset_most (chars bytes) to found.end last below;
+            lies_in = positions_lie bytes from to utf8 order (omega (arith, last, below));
+          }
 
-  -- so do its groups
+  -- so do its groups, and inside it
+  pub groups_lie_inside : (count k : ℕ)
+      → IfSome (span_at (spans_from (chars bytes) found.marks 0 count) k) (LiesInside bytes whole)
+  groups_lie_inside count k = listed (chars bytes) found.marks (LiesInside bytes whole) group_lies 0 count k
+
   pub groups_lie : (count k : ℕ) → IfSome (span_at (spans_from (chars bytes) found.marks 0 count) k) (LiesIn bytes)
-  groups_lie count k = listed (chars bytes) found.marks (LiesIn bytes) group_lies 0 count k
+  groups_lie count k = each (span_at (spans_from (chars bytes) found.marks 0 count) k) (groups_lie_inside count k)
+    where
+      each : (own : Option (ℕ × ℕ)) → IfSome own (LiesInside bytes whole) → IfSome own (LiesIn bytes)
+      each None inside = tt
+      each (Some group) inside = inside.lies_in
 
   -- as many as are known to take part in each match have a text
   pub enough_texts : (n : ℕ) → static_captures_len tree ≡ Some n
