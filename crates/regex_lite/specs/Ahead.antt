@@ -121,8 +121,8 @@ abbrev pub AreGroupsFound : Expression → (haystack : List ℕ) → Found → G
 AreGroupsFound re haystack found groups =
     OfTree re (λ tree. AreGroupsOf tree haystack found groups)
 
--- the groups of the next match came; or a growth was refused, or there was none, and none comes
--- from then on
+-- the groups of the next match came; or there was one and a growth was refused, or there was none,
+-- and none comes from then on
 abbrev pub GivesGroupsOf : Scanning → Option (Result Groups Error) → Scanning → Type 0
 GivesGroupsOf old item new =
     MatchOption item (Ends (ahead old) (ahead new))
@@ -130,7 +130,8 @@ GivesGroupsOf old item new =
     (λ groups. (found : Found) × AreGroupsFound old.regex old.haystack found groups
     × IsOnward old.ended (whole_span groups) × (new.ended ≡ Some (whole_span groups).1)
     × Passes (ahead old) found (ahead new))
-    (λ error. (error ≡ out_of_memory) × (ahead new ≡ at_end (ahead old))))
+    (λ error. (error ≡ out_of_memory) × (IsOver (ahead old) → ⊥)
+    × (ahead new ≡ at_end (ahead old))))
 
 abbrev pub GivesGroups : CaptureMatches → Option (Result Groups Error) → CaptureMatches → Type 0
 GivesGroups old item new = GivesGroupsOf old.scan item new.scan

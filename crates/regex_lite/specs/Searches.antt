@@ -77,6 +77,16 @@ abbrev pub TellsGroups : Expression → (haystack : List ℕ) → (start : ℕ) 
 TellsGroups re haystack start told =
     TellsAnswer (λ tree. AreGroupsOf tree haystack) re haystack start told
 
+-- these are the groups of a match of the pattern
+pub record AreOfMatch (re : Expression) (groups : Groups) : Type 0 where
+  pub haystack : List ℕ
+  pub start : ℕ
+  pub told : TellsGroups re haystack start (Some groups)
+
+-- the groups of each match tell this number of those that at least take part
+pub record IsStaticNumber (re : Expression) (known : Option ℕ) : Type 0 where
+  pub each : (groups : Groups) → AreOfMatch re groups → groups.static_captures_len ≡ known
+
 -- what is told is the match, of which these are the first groups
 abbrev pub TellsLocations : Expression → (haystack : List ℕ) → (start : ℕ)
     → List (Option (ℕ × ℕ)) → Option Match → Type 0

@@ -1,5 +1,5 @@
 -- The groups that a search tells lie inside the match, and enough of them took part.
-use Rattle.std.proofs.Common.{◌≡◌, ◌≤◌, ◌<◌, ℕ, List, length, Option, Some, None, IfSome, chars, unwrap_or, option_map, sym, ap, subst, ◌∙◌, arith}
+use Rattle.std.proofs.Common.{◌≡◌, ◌≤◌, ℕ, length, Option, Some, None, IfSome, chars, unwrap_or, option_map, sym, ap, subst, ◌∙◌, arith}
 use Rattle.std.specs.List.{filter_map}
 use Rattle.regex_lite_syntax.specs.Tree.Properties.{captures_len, static_captures_len}
 use Rattle.regex_lite_engine.specs.Search.Offsets.{search_start}

@@ -4,37 +4,22 @@ use Rattle.std.specs.Cow.{IsOwnedStr, cow_str_bytes}
 use Rattle.std.specs.declared.borrow.CowStr.{CowStr}
 use Rattle.std.proofs.lemmas.Result.{IfOk-weaker}
 use Rattle.std.proofs.lemmas.Str.{chars-nil}
-use Rattle.regex_lite_engine.specs.Search.Answer.{Found, HasMatchFrom, IsAnswer}
+use Rattle.regex_lite_engine.specs.Search.Answer.{Found, HasMatchFrom}
 use Rattle.regex_lite_engine.specs.Search.Offsets.{search_start}
-use Rattle.regex_lite_engine.proofs.laws.PatternTreeLemmas.{regular_tree}
-use Rattle.regex_lite_engine.proofs.laws.answer.AnswerLemmas.{one_answer}
-use Rattle.regex_lite_syntax.specs.Text.{Text}
 use Rattle.regex_lite.specs.Expression.{Expression}
-use Rattle.regex_lite.specs.Ahead.{Ahead, ComesNext, IsOver, Passes, whole}
-use Rattle.regex_lite.specs.MatchList.{IsAnswerOf, IsNext}
+use Rattle.regex_lite.specs.Ahead.{Ahead, IsOver, Passes, whole}
 use Rattle.regex_lite.specs.Replacements.{limit_of}
 use Rattle.regex_lite.specs.Searches.{MatchesFrom}
+use Rattle.regex_lite.proofs.string.ListLemmas.{one_next}
 use Rattle.regex_lite.proofs.string.OneTreeLemmas.{one_tree}
+use Rattle.regex_lite.proofs.string.ToldLemmas.{not_there}
 
--- a search doesn't find both something and nothing
-not_both : (re : Expression) (haystack : Text) (s : ℕ) (found : Found)
-    → IsAnswerOf re haystack s None → IsAnswerOf re haystack s (Some found) → ⊥
-not_both re haystack s found (tree, given, none) (other, given_too, is) =
-    let one = one_tree re.flags (chars re.pattern) other tree given_too given in
-    let is_too : IsAnswer tree haystack s (Some found) =
-    subst (λ t. IsAnswer t haystack s (Some found)) one is in
-    let same : ◌≡◌ {A = Option Found} None (Some found) =
-    one_answer tree haystack (regular_tree tree (re.flags, _, given)) s None (Some found) none is_too in
-    cc
-
--- a haystack of which a match was passed first wasn't over
-not_over : (start : Ahead) (found : Found) (new : Ahead) → start.ended ≡ None
-    → Passes start found new → IsOver start → ⊥
-not_over start found new begins passes (inl none_left) = passes.may_come none_left
-not_over start found new begins passes (inr none) =
-    let first : (told : Option Found) → ComesNext start told → IsAnswerOf start.regex (chars start.haystack) 0 told =
-    λ told. subst (λ at. IsNext start.regex (chars start.haystack) at told) begins in
-    not_both start.regex (chars start.haystack) 0 found (first None none) (first (Some found) passes.comes)
+-- a haystack of which a match was passed wasn't over
+pub not_over : (start : Ahead) (found : Found) (new : Ahead) → Passes start found new
+    → IsOver start → ⊥
+not_over start found new passes (inl none_left) = passes.may_come none_left
+not_over start found new passes (inr none) =
+    not_there (one_next start.regex (chars start.haystack) start.ended None (Some found) none passes.comes)
 
 -- a replacement either passed a match, or nothing was made and all is still ahead
 abbrev pub IsBegun : (start a : Ahead) → (made : List ℕ) → (ended : Option ℕ) → Type 0
@@ -48,7 +33,7 @@ begun_on start old new made more (Some e) now end found begins begun passes is =
     subst (IsBegun start new more) (sym is) begun
 begun_on start old new made more None now end found begins begun passes is =
     subst (IsBegun start new more) (sym is)
-    (not_over start found new begins (subst (λ a. Passes a found new) begun.0 passes))
+    (not_over start found new (subst (λ a. Passes a found new) begun.0 passes))
 
 -- the new text: the haystack itself where nothing was passed, and else the text that was made with
 -- the rest of the haystack

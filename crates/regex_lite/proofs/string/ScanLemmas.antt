@@ -12,7 +12,7 @@ use Rattle.regex_lite_engine.proofs.OffsetLemmas.{offset_less}
 use Rattle.regex_lite_engine.proofs.PositionLemmas.{position_of}
 use Rattle.regex_lite.specs.declared.string.compiled.Compiled.{Compiled}
 use Rattle.regex_lite.specs.declared.string.matches.Match.{Match}
-use Rattle.regex_lite.specs.Ahead.{Ahead, AreGroupsFound, IsOnward, Passes, ahead}
+use Rattle.regex_lite.specs.Ahead.{Ahead, AreGroupsFound, IsOnward, IsOver, Passes, ahead}
 use Rattle.regex_lite.specs.Compiled.{AreOfRegex, SharesGroups, groups_of}
 use Rattle.regex_lite.specs.Expression.{Expression}
 use Rattle.regex_lite.specs.Groups.{Groups, AreGroups, span_at, whole_span}
@@ -21,6 +21,7 @@ use Rattle.regex_lite.specs.MatchViews.{span_of_match}
 use Rattle.regex_lite.specs.Scanning.{HasSlotsForGroups, IsAnswerIfEmpty, IsEmptyFrom, IsMatchOfSearch, IsMatchWithSlots, Scanning, TellsMatchWithSlots}
 use Rattle.regex_lite.specs.Searches.{IsMatchOf, offsets}
 use Rattle.regex_lite.specs.Slots.{all_slots, kept_slots}
+use Rattle.regex_lite.proofs.string.AnsweredLemmas.{not_over}
 use Rattle.regex_lite.proofs.string.CapturedLemmas.{AreAllSlots, all_told, captured, captured_of}
 use Rattle.regex_lite.proofs.string.FoundLemmas.{group_0}
 use Rattle.regex_lite.proofs.string.NextLemmas.{IsWithin, found_within, next_answer}
@@ -95,6 +96,11 @@ last_match old new m (found, is, onward, ended, passes) =
     let regex : new.regex ≡ old.regex = ap (λ (a : Ahead). a.regex) passes.passed in
     let haystack : new.haystack ≡ old.haystack = ap (λ (a : Ahead). a.haystack) passes.passed in
     rw (regex, haystack) (answer.0, answer.1, is)
+
+-- where a match came, one was ahead
+pub was_not_over : (old new : Scanning) (m : Match) → Came old m new → IsOver (ahead old) → ⊥
+was_not_over old new m (found, is, onward, ended, passes) =
+    not_over (ahead old) found (ahead new) passes
 
 -- and its groups came with it
 pub groups_came : (old new : Scanning) (m : Match) (came : Came old m new) (groups : Groups)

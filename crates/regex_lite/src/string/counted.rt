@@ -1,7 +1,7 @@
 //! Searches that tell what they cost.
 ghost use Rattle.std.specs.Prelude.{◌≡◌, ◌<◌, ◌↔◌, IfOk, IfErr, IfSome, IsTrue};
 ghost use Rattle.regex_lite_syntax.specs.Errors.{out_of_memory};
-ghost use Rattle.regex_lite.specs.Searches.{CanStartAt, IsWithinCost, MatchesFrom, TellsEnd, TellsGroups, TellsMatch};
+ghost use Rattle.regex_lite.specs.Searches.{AreOfMatch, CanStartAt, IsWithinCost, MatchesFrom, TellsEnd, TellsGroups, TellsMatch};
 
 use crate::string::captures::Captures;
 use crate::string::matches::Match;
@@ -76,6 +76,7 @@ impl Regex {
     ) -> Result<(Option<Captures<'h>>, Steps), Error>
         requires { CanStartAt haystack.now start }
         ensures found { IfOk result (λ told. TellsGroups self.now haystack.now start told.0) }
+        ensures of_match { IfOk result (λ told. IfSome told.0 (AreOfMatch self.now)) }
         ensures cost { IfOk result (λ told. IsWithinCost self.now haystack.now start told.1) }
         ensures entered { IfOk result (λ told. IfSome told.0 (λ _. 0 < told.1.entered)) }
         ensures refused { IfErr result (λ error. error ≡ out_of_memory) }

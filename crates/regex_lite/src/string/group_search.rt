@@ -1,9 +1,9 @@
 //! Searches for the groups of a match.
-ghost use Rattle.std.specs.Prelude.{◌≡◌, None, IfOk, IfErr, length, replicate};
+ghost use Rattle.std.specs.Prelude.{◌≡◌, None, IfOk, IfErr, IfSome, length, replicate};
 ghost use Rattle.regex_lite_syntax.specs.Errors.{out_of_memory};
 ghost use Rattle.regex_lite_syntax.specs.Tree.Properties.{captures_len};
 ghost use Rattle.regex_lite.specs.Expression.{OfTree};
-ghost use Rattle.regex_lite.specs.Searches.{CanRead, CanStartAt, TellsGroups, TellsLocations};
+ghost use Rattle.regex_lite.specs.Searches.{AreOfMatch, CanRead, CanStartAt, TellsGroups, TellsLocations};
 
 use crate::string::captures::Captures;
 use crate::string::locations::CaptureLocations;
@@ -32,6 +32,7 @@ impl Regex {
     /// `Memory` where a growth is refused.
     pub fn captures<'h>(&self, haystack: &'h str) -> Result<Option<Captures<'h>>, Error>
         ensures found { IfOk result (λ found. TellsGroups self.now haystack.now 0 found) }
+        ensures of_match { IfOk result (λ found. IfSome found (AreOfMatch self.now)) }
         ensures refused { IfErr result (λ error. error ≡ out_of_memory) }
     {
         self.captures_at(haystack, 0)
@@ -53,6 +54,7 @@ impl Regex {
     ) -> Result<Option<Captures<'h>>, Error>
         requires { CanStartAt haystack.now start }
         ensures found { IfOk result (λ found. TellsGroups self.now haystack.now start found) }
+        ensures of_match { IfOk result (λ found. IfSome found (AreOfMatch self.now)) }
         ensures refused { IfErr result (λ error. error ≡ out_of_memory) }
     {
         let (found, _) = self.captures_counted_at(haystack, start)?;

@@ -1,9 +1,10 @@
 //! What a regex tells of its groups and of its pattern written out.
-ghost use Rattle.std.specs.Prelude.{◌≡◌, ◌^◌, ◌<◌};
+ghost use Rattle.std.specs.Prelude.{◌≡◌, ◌*◌, ◌^◌, ◌<◌, ℕ};
 ghost use Rattle.regex_lite_syntax.specs.Tree.Properties.{captures_len, static_captures_len};
 ghost use Rattle.regex_lite_engine.specs.Graph.PlaceCounts.{whole_places, whole_arrows};
 ghost use Rattle.regex_lite.specs.CaptureNames.{names_left};
 ghost use Rattle.regex_lite.specs.Expression.{AreNames, OfTree};
+ghost use Rattle.regex_lite.specs.Searches.{IsStaticNumber};
 
 use crate::string::capture_names::CaptureNames;
 use crate::string::regex::Regex;
@@ -49,7 +50,8 @@ impl Regex {
     /// differ in their number. More groups may take part: `(?:(a)|(b)){2}` has 2, and in a match of
     /// `ab` all three do.
     pub fn static_captures_len(&self) -> Option<usize>
-        ensures { OfTree self.now (λ tree. result ≡ static_captures_len tree) }
+        ensures known { OfTree self.now (λ tree. result ≡ static_captures_len tree) }
+        ensures told { IsStaticNumber self.now result }
     {
         self.compiled.graph.static_captures_len()
     }
@@ -66,6 +68,8 @@ impl Regex {
     /// twice the places.
     pub fn arrows(&self) -> usize
         ensures counted { OfTree self.now (λ tree. result ≡ whole_arrows tree) }
+        ensures few { (places : ℕ) → OfTree self.now (λ tree. places ≡ whole_places tree)
+            → result < 2 * places }
         ensures bounded { result < 2 ^ 33 }
     {
         self.compiled.graph.arrows()

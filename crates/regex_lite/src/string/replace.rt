@@ -82,7 +82,10 @@ impl Regex {
     ///
     /// The test `tests::examples::replacing::replaced_within` runs this example.
     ///
-    /// Condition: a closure in a [`ReplaceBy`](crate::ReplaceBy) may be called on any groups.
+    /// Condition: the replacer can append, which its ghost member `can_append` says. A
+    /// [`ReplaceBy`](crate::ReplaceBy) can where its closure may be called on any groups, a
+    /// [`ReplacerRef`](crate::ReplacerRef) where the replacer behind it can, and a text or a
+    /// [`NoExpand`](crate::NoExpand) always.
     ///
     /// # Errors
     ///

@@ -1,5 +1,6 @@
 //! What searches cost.
 use crate::{Error, Regex, Steps};
+use std::alloc::Global;
 use std::process::Abort;
 use std::test::Fail;
 
@@ -89,12 +90,72 @@ fn is_kept(regex: &Regex, haystack: &str) -> Result<bool, Error> {
 
 /// What each search costs that finds nothing.
 fn costs_of_none<H: Abort>(rt: &H, regex: &Regex, haystack: &str) -> Result<[Steps; 4], Fail> {
+    let [first, second, third, fourth] = costs(regex, haystack)?;
+    assert!(rt; !first.0 && !second.0 && !third.0 && !fourth.0);
+    Ok([first.1, second.1, third.1, fourth.1])
+}
+
+/// Whether each search finds something, and what it costs: for the match, for its groups, whether
+/// there is one, and where the shortest ends.
+fn costs(regex: &Regex, haystack: &str) -> Result<[(bool, Steps); 4], Error> {
     let (found, first) = regex.find_counted_at(haystack, 0)?;
-    let (matches, second) = regex.is_match_counted_at(haystack, 0)?;
-    let (caps, third) = regex.captures_counted_at(haystack, 0)?;
+    let (caps, second) = regex.captures_counted_at(haystack, 0)?;
+    let (is_match, third) = regex.is_match_counted_at(haystack, 0)?;
     let (end, fourth) = regex.shortest_match_counted_at(haystack, 0)?;
-    assert!(rt; found.is_none() && !matches && caps.is_none() && end.is_none());
-    Ok([first, second, third, fourth])
+    let (found, caps, end) = (found.is_some(), caps.is_some(), end.is_some());
+    Ok([
+        (found, first),
+        (caps, second),
+        (is_match, third),
+        (end, fourth),
+    ])
+}
+
+/// How many places a search tried, how many it entered, and how often it looked at one.
+type Counts = (u128, u128, u128);
+
+/// A pattern, and how many `a` are in the haystack; what a search for the match or for its groups
+/// counts there, and what one counts that is over at the first match. They are counted by hand on
+/// the patterns written out. The second row is too large to go depth first.
+const COUNTED: [(&'static str, usize, Counts, Counts); 3] = [
+    ("(?:|)$", 1, (14, 13, 13), (14, 13, 13)),
+    (
+        "(?:|)$",
+        40_000,
+        (280_007, 240_007, 240_007),
+        (280_007, 240_007, 240_007),
+    ),
+    ("(?:a|a)?$", 1, (9, 9, 9), (12, 12, 12)),
+];
+
+/// A search counts just what it does, by either walk.
+#[test]
+fn counted(rt: HostRuntime) -> Result<(), Fail> {
+    for (pattern, len, by_match, by_end) in &COUNTED {
+        let regex = Regex::new(rt.alloc(), pattern)?;
+        let told = counts_in(rt.alloc(), &regex, *len)?;
+        assert!(rt;
+            told == [*by_match, *by_match, *by_end, *by_end],
+            "{pattern:?} in {len}"
+        );
+    }
+    Ok(())
+}
+
+/// What each search counts in so many `a`.
+fn counts_in(alloc: Global, regex: &Regex, len: usize) -> Result<[Counts; 4], Error> {
+    let haystack = "a".repeat(alloc, len)?;
+    let [first, second, third, fourth] = costs(regex, haystack.as_str())?;
+    Ok([
+        counts(first.1),
+        counts(second.1),
+        counts(third.1),
+        counts(fourth.1),
+    ])
+}
+
+fn counts(steps: Steps) -> Counts {
+    (steps.tried(), steps.entered(), steps.looked())
 }
 
 fn expect_at_most<H: Abort>(rt: &H, steps: Steps, tried: u128, entered: u128) {

@@ -1,4 +1,5 @@
-use Rattle.regex_lite.proofs.string.ScanLemmas.{groups_came, last_match}
+use Rattle.std.proofs.Common.{rules}
+use Rattle.regex_lite.proofs.string.ScanLemmas.{groups_came, last_match, was_not_over}
 use Rattle.regex_lite.proofs.string.group_scan.GroupScan.next.Goals as goal
 
 pub captures-requires-clause-last : goal.captures-requires-clause-last
@@ -13,3 +14,12 @@ returns-in-Ok-clause-steps c =
     (last_match c.self.inside.scan c.next.new.self c.in_ok-found.found steps) in
     rw (← c.self.view_is)
     (groups_came c.self.inside.scan c.next.new.self c.in_ok-found.found steps c.in-Ok.caps found)
+
+pub returns-in-Err-clause-steps : goal.returns-in-Err-clause-steps
+returns-in-Err-clause-steps c =
+    let not_over = was_not_over c.self.inside.scan c.next.new.self c.in_ok-found.found
+    c.in_ok-found.ensures.steps in (
+      c.in-Err.ensures.refused,
+      rw (← c.self.view_is) not_over,
+      search rules,
+    )

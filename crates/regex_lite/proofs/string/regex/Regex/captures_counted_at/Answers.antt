@@ -42,3 +42,10 @@ returns-clause-found c =
     ) c.self.inside.compiled c.self.invariant given enough c.slots_with-slots.result.items
     c.slots_with-slots.ensures c.in_ok-compiled.compiled
     c.in_ok-compiled.ensures.cases c.new-caps.result c.new-caps.ensures
+
+pub returns-clause-of_match : goal.returns-clause-of_match
+returns-clause-of_match c = record {
+  haystack = c.args.haystack.now;
+  start = c.args.start;
+  told = returns-clause-found c;
+}

@@ -1,9 +1,24 @@
-use Rattle.std.proofs.Common.{◌∙◌}
+use Rattle.std.proofs.Common.{◌≡◌, ◌∙◌, Some, refl}
+use Rattle.regex_lite_syntax.specs.Tree.Properties.{static_captures_len}
+use Rattle.regex_lite.specs.Expression.{OfTree}
+use Rattle.regex_lite.proofs.StaticNumberLemmas.{static_number}
 use Rattle.regex_lite.proofs.string.regex.Regex.static_captures_len.Goals as goal
 
-pub returns : goal.returns
-returns c = (
+pub returns-clause-known : goal.returns-clause-known
+returns-clause-known c = (
   c.self.invariant.tree,
   rw (← c.self.view_is) c.self.invariant.given,
   c.static_captures_len.ensures ∙ rw c.deref.ensures c.self.invariant.groups.static_captures,
 )
+
+pub returns-clause-told : goal.returns-clause-told
+returns-clause-told c =
+    let known : OfTree c.args.self.now (λ tree. c.static_captures_len.result ≡ static_captures_len tree) = (
+      c.self.invariant.tree,
+      rw (← c.self.view_is) c.self.invariant.given,
+      c.static_captures_len.ensures ∙ rw c.deref.ensures c.self.invariant.groups.static_captures,
+    ) in
+    record {
+      each = λ groups are. static_number c.args.self.now are.haystack are.start
+          c.static_captures_len.result (Some groups) groups known are.told refl;
+    }
