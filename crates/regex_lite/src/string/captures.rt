@@ -21,7 +21,9 @@ use std::ops::Deref;
 /// let regex = Regex::new(alloc, "(?<key>[a-z]+)=([0-9]+)?")?;
 /// if let Some(caps) = regex.captures("width=")? {
 ///     caps.at(0); // "width="
-///     caps.at_name("key"); // "width"
+///     if caps.name("key").is_some() {
+///         caps.at_name("key"); // "width"
+///     }
 ///     caps.get(2); // None
 /// }
 /// ```
@@ -132,8 +134,10 @@ impl<'h> Captures<'h> {
     /// ```
     /// let regex = Regex::new(alloc, "(a+)(b+)?")?;
     /// if let Some(caps) = regex.captures("xaa")? {
-    ///     caps.at(0); // "aa"
-    ///     caps.at(1); // "aa"
+    ///     caps.at(0); // "aa": the whole match always took part
+    ///     if caps.get(1).is_some() {
+    ///         caps.at(1); // "aa"
+    ///     }
     /// }
     /// ```
     ///
@@ -151,6 +155,17 @@ impl<'h> Captures<'h> {
     /// The text of the group with this name.
     ///
     /// Condition: the group is there and took part, as [`Captures::name`] tells.
+    ///
+    /// ```
+    /// let regex = Regex::new(alloc, "(?<key>[a-z]+)=")?;
+    /// if let Some(caps) = regex.captures("width=")? {
+    ///     if caps.name("key").is_some() {
+    ///         caps.at_name("key"); // "width"
+    ///     }
+    /// }
+    /// ```
+    ///
+    /// The test `tests::examples::groups` makes this call.
     pub fn at_name(&self, name: &str) -> &'h str
         requires { IsSome (named_span self.now name.now) }
         ensures { Some result.now ≡ named_text self.now name.now }

@@ -88,8 +88,10 @@ impl<T: Text> CapturesIn<T> {
     ///
     /// ```
     /// let regex = Regex::new(alloc, "(?:(a)|(b)){2}")?;
-    /// if let Some(caps) = regex.captures("ab")? {
-    ///     let (whole, [first]) = caps.extract(); // "ab", "a"
+    /// if let Some(2) = regex.static_captures_len() {
+    ///     if let Some(caps) = regex.captures("ab")? {
+    ///         let (whole, [first]) = caps.extract(); // "ab", "a"
+    ///     }
     /// }
     /// ```
     ///

@@ -15,8 +15,11 @@ impl Regex {
     ///
     /// ```
     /// let regex = Regex::new(alloc, "([a-z])([0-9])")?;
-    /// for caps in regex.captures_iter("a1 b2")? {
-    ///     caps?.at(2); // "1", then "2"
+    /// for item in regex.captures_iter("a1 b2")? {
+    ///     let caps = item?;
+    ///     if caps.get(2).is_some() {
+    ///         caps.at(2); // "1", then "2"
+    ///     }
     /// }
     /// ```
     ///
