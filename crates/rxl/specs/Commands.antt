@@ -17,3 +17,7 @@ words (Escape text) = codes "escape" ∷ text.now ∷ []
 -- the arguments ask for the command
 abbrev pub Asks : (args : List (Bor (List ℕ))) → Command → Type 0
 Asks args command = map (λ arg. arg.now) args ≡ words command
+
+-- they ask for none
+abbrev pub AskForNone : (args : List (Bor (List ℕ))) → Type 0
+AskForNone args = (command : Command) → Asks args command → ⊥

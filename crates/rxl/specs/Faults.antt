@@ -1,14 +1,16 @@
 -- What a fault says, and the line that reports it.
-use Rattle.std.specs.Prelude.{◌≡◌, ◌⊎◌, ℕ, Bool, false, List, Option, IfSome, IsUtf8, codes}
+use Rattle.std.specs.Prelude.{◌≡◌, ◌⊎◌, ◌++◌, ℕ, Bool, false, List, Option, IfSome, IsUtf8, codes}
 use Rattle.std.specs.Borrow.{Bor}
+use Rattle.std.specs.Io.KnownBytes.{Appends}
 use Rattle.regex_lite.specs.Errors.{out_of_memory, text_of}
 use Rattle.regex_lite.specs.Settings.{default_settings}
-use Rattle.regex_lite.specs.Expression.{IsDue}
+use Rattle.regex_lite.specs.Expression.{IsAccepted, IsDue}
+use Rattle.regex_lite.specs.Replacing.{Begins}
 use Rattle.rxl.specs.declared.command.Command.{Command}
 use Rattle.rxl.specs.declared.command.Command.TheVariants.{Ask, Escape}
 use Rattle.rxl.specs.declared.fault.Fault.{Fault}
 use Rattle.rxl.specs.declared.fault.Fault.TheVariants.{Usage, NotUtf8, Unreadable, Unwritten, Refused}
-use Rattle.rxl.specs.Commands.{Asks}
+use Rattle.rxl.specs.Commands.{AskForNone, Asks}
 use Rattle.rxl.specs.Output.{IsWritten}
 use Rattle.rxl.specs.Program.{IsAnswered}
 
@@ -20,17 +22,38 @@ text_of_fault Unreadable = codes "standard input cannot be read"
 text_of_fault Unwritten = codes "standard output cannot be written"
 text_of_fault (Refused error) = text_of error
 
+-- the line that reports a fault
+abbrev pub line_of_fault : Fault → List ℕ
+line_of_fault fault = text_of_fault fault ++ codes "\n"
+
+-- a writer that held the first bytes holds the second now: it has received the line that reports the
+-- fault, or a beginning of it
+abbrev pub IsReported : Fault → (before now : Option (List ℕ)) → Type 0
+IsReported fault before now =
+    (written : List ℕ) × Begins written (line_of_fault fault) × Appends before now written
+
+-- the first fault is reported as the second: as itself, or a refusal as the want of memory, where
+-- there is none to tell of it
+abbrev pub IsReportedAs : Fault → Fault → Type 0
+IsReportedAs (Refused error) named =
+    (named ≡ Refused error) ⊎ (named ≡ Refused out_of_memory)
+IsReportedAs fault named = named ≡ fault
+
 -- the input could not be read, or there was no memory for it
 abbrev pub IsReadFault : Fault → Type 0
 IsReadFault fault = (fault ≡ Unreadable) ⊎ (fault ≡ Refused out_of_memory)
 
--- what the fault says of a pattern that is asked about and of the input is so
+-- what the fault says of a pattern that is asked about and of the input is so. A fault of the input
+-- comes only where the pattern is accepted, and then no refusal comes but the want of memory
 abbrev pub IsQuestionFault : Fault → (pattern : List ℕ) → (input : Option (List ℕ)) → Type 0
 IsQuestionFault Usage pattern input = ⊥
-IsQuestionFault NotUtf8 pattern input = IfSome input (λ bytes. IsUtf8 bytes → ⊥)
-IsQuestionFault Unreadable pattern input = Unit {0}
+IsQuestionFault NotUtf8 pattern input =
+    IsAccepted (default_settings pattern) × IfSome input (λ bytes. IsUtf8 bytes → ⊥)
+IsQuestionFault Unreadable pattern input = IsAccepted (default_settings pattern)
 IsQuestionFault Unwritten pattern input = ⊥
-IsQuestionFault (Refused error) pattern input = IsDue (default_settings pattern) error
+IsQuestionFault (Refused error) pattern input =
+    IsDue (default_settings pattern) error
+    × (IsAccepted (default_settings pattern) → error ≡ out_of_memory)
 
 -- what the fault says of the command and the input is so
 abbrev pub IsFaultOf : Fault → Command → (input : Option (List ℕ)) → Type 0
@@ -39,7 +62,7 @@ IsFaultOf fault (Escape text) input = fault ≡ Refused out_of_memory
 
 -- the fault is one of the arguments, or of the command that they ask for
 abbrev pub IsFault : Fault → (args : List (Bor (List ℕ))) → (input : Option (List ℕ)) → Type 0
-IsFault Usage args input = (command : Command) → Asks args command → ⊥
+IsFault Usage args input = AskForNone args
 IsFault fault args input =
     (command : Command) × Asks args command × IsFaultOf fault command input
 

@@ -27,6 +27,15 @@ pub record IsQuestionAnswered (question : Question) (pattern : List ℕ) (input 
   pub prints : IfSome input
       (λ haystack. Prints question (expression_of (default_settings pattern)) haystack found text)
 
+-- the command is answered from the input: it asks about a pattern that is accepted
+abbrev pub TakesInput : Command → Type 0
+TakesInput (Ask question pattern) = IsAccepted (default_settings pattern.now)
+TakesInput (Escape text) = ⊥
+
+-- so is the command that the arguments ask for
+abbrev pub AsksForInput : (args : List (Bor (List ℕ))) → Type 0
+AsksForInput args = (command : Command) × Asks args command × TakesInput command
+
 -- this is printed for the command
 abbrev pub IsCommandAnswered : Command → (input : Option (List ℕ)) → (found : Bool)
     → (text : List ℕ) → Type 0

@@ -1,11 +1,17 @@
 //! Why the program ends without an answer.
-ghost use Rattle.std.specs.Prelude.{Some};
-ghost use Rattle.rxl.specs.Faults.{text_of_fault, IsReadFault};
+ghost use Rattle.std.specs.Prelude.{is_ok};
+ghost use Rattle.rxl.specs.declared.fault.Fault.{Fault};
+ghost use Rattle.rxl.specs.declared.fault.Fault.TheVariants.{Refused};
+ghost use Rattle.rxl.specs.Faults.{IsReadFault, IsReportedAs, line_of_fault};
+ghost use Rattle.rxl.specs.Output.{IsWritten};
 
+use crate::output::write_line;
 use regex_lite::Error;
-use std::{fmt, io};
+use std::alloc::Global;
+use std::io;
+use std::io::Write;
 
-/// What goes wrong in a run. `Display` writes the line that reports it.
+/// What goes wrong in a run.
 #[derive(Debug, Drop)]
 pub(crate) enum Fault {
     /// The arguments are not a command with what it takes.
@@ -30,24 +36,40 @@ impl Fault {
             _ => Fault::Unreadable,
         }
     }
+
+    /// Writes the line that reports the fault. Where there is no memory to tell of a refusal, the
+    /// want of memory is reported.
+    ///
+    /// # Errors
+    ///
+    /// A write failed, and a beginning of the line was written.
+    pub(crate) fn report<W: Write>(self, alloc: Global, out: &mut W) -> io::Result<()>
+        ensures { (named : Fault) × IsReportedAs self named
+            × IsWritten (W.contents out.old) (W.contents out.new) (line_of_fault named)
+            (is_ok result) }
+    {
+        match self {
+            Fault::Usage => write_line(
+                out,
+                "usage: rxl is-match|find|captures|split|replace|escape PATTERN [TEXT]",
+            ),
+            Fault::NotUtf8 => write_line(out, "standard input is not UTF-8"),
+            Fault::Unreadable => write_line(out, "standard input cannot be read"),
+            Fault::Unwritten => write_line(out, "standard output cannot be written"),
+            Fault::Refused(error) => report_refusal(error, alloc, out),
+        }
+    }
 }
 
-impl fmt::Display for Fault {
-    ghost output = { λ fault. Some (text_of_fault fault) };
-
-    fn fmt<W: fmt::Write>(&self, f: &mut fmt::Formatter<W>) -> fmt::Result {
-        match self {
-            Fault::Usage => {
-                write!(
-                    f,
-                    "usage: rxl is-match|find|captures|split|replace|escape PATTERN [TEXT]"
-                )
-            }
-            Fault::NotUtf8 => write!(f, "standard input is not UTF-8"),
-            Fault::Unreadable => write!(f, "standard input cannot be read"),
-            Fault::Unwritten => write!(f, "standard output cannot be written"),
-            Fault::Refused(error) => write!(f, "{error}"),
-        }
+/// Writes the text of the error and a line feed, or that memory is wanting.
+fn report_refusal<W: Write>(error: Error, alloc: Global, out: &mut W) -> io::Result<()>
+    ensures { (named : Fault) × IsReportedAs (Refused error) named
+        × IsWritten (W.contents out.old) (W.contents out.new) (line_of_fault named)
+        (is_ok result) }
+{
+    match format!(in alloc; "{error}") {
+        Ok(text) => write_line(out, text.as_str()),
+        Err(_) => write_line(out, "out of memory"),
     }
 }
 

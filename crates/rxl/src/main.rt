@@ -14,20 +14,17 @@ mod tests;
 
 use fault::Fault;
 use program::run;
-use regex_lite::Error;
 use std::env::Env;
-use std::io::Eprint;
 use std::process::ExitCode;
 use std::{env, io};
 
 fn main(rt: HostRuntime) -> ExitCode {
-    let words = match arguments(&rt) {
-        Ok(words) => words,
-        Err(error) => return report(&rt, fault_of(error)),
+    let Ok(words) = arguments(&rt) else {
+        return misused(&rt);
     };
     let texts: Result<Vec<&str>, _> = words.iter().map(|word| word.as_str()).collect(rt.alloc());
     let Ok(args) = texts else {
-        return report(&rt, Fault::Refused(Error::memory()));
+        return misused(&rt);
     };
     let mut input = rt.reader();
     let mut out = io::writer(&rt);
@@ -37,6 +34,10 @@ fn main(rt: HostRuntime) -> ExitCode {
 }
 
 /// The arguments of the process, without the program's name.
+///
+/// # Errors
+///
+/// One of them is no text, so that they ask for no command, or there is no memory for them.
 fn arguments<R: Env + AllocGlobal>(rt: &R) -> io::Result<Vec<String>> {
     let mut words = Vec::new(rt.alloc());
     for word in env::args(rt)?.skip(1) {
@@ -45,16 +46,8 @@ fn arguments<R: Env + AllocGlobal>(rt: &R) -> io::Result<Vec<String>> {
     Ok(words)
 }
 
-/// Why there are no arguments: memory is wanting, or one is no text, so that it is no command's.
-fn fault_of(error: io::Error) -> Fault {
-    match error.kind() {
-        io::ErrorKind::OutOfMemory => Fault::Refused(Error::memory()),
-        _ => Fault::Usage,
-    }
-}
-
-/// Reports the fault of a run that could not begin.
-fn report(rt: &impl Eprint, fault: Fault) -> ExitCode {
-    let _ = eprintln!(rt; "{fault}");
+/// Tells how the program is used, where there are no arguments to run on.
+fn misused(rt: &HostRuntime) -> ExitCode {
+    let _ = Fault::Usage.report(rt.alloc(), &mut rt.stderr());
     ExitCode::from(2)
 }

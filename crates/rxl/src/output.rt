@@ -1,5 +1,5 @@
 //! Output that is gathered, and written in large parts.
-ghost use Rattle.std.specs.Prelude.{◌≡◌, ◌≤◌, ◌++◌, ℕ, List, [], drop, length, Option, IfErr, IfOk, false, is_ok};
+ghost use Rattle.std.specs.Prelude.{◌≡◌, ◌≤◌, ◌++◌, ℕ, List, [], drop, length, Option, IfErr, IfOk, false, is_ok, codes};
 ghost use Rattle.std.specs.Fmt.{decimal};
 ghost use Rattle.rxl.specs.declared.fault.Fault.TheVariants.{Unwritten};
 ghost use Rattle.regex_lite.specs.Errors.{out_of_memory};
@@ -99,6 +99,14 @@ impl Output {
         out.flush()?;
         Ok(())
     }
+}
+
+/// Writes the text and a line feed.
+pub(crate) fn write_line<W: Write>(out: &mut W, text: &str) -> io::Result<()>
+    ensures { IsWritten (W.contents out.old) (W.contents out.new) (text.now ++ codes "\n")
+        (is_ok result) }
+{
+    write_both(out, text.as_bytes(), b"\n")
 }
 
 /// Writes the bytes of both.

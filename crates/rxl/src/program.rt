@@ -1,13 +1,16 @@
 //! What the program does, over any reader and writers.
-ghost use Rattle.std.specs.Prelude.{◌≡◌, ◌<◌, ◌≤◌, ⊤, List, ℕ, IfOk, IfErr, IfSome, IsUtf8};
+ghost use Rattle.std.specs.Prelude.{◌≡◌, ◌<◌, ◌≤◌, ◌⊎◌, ⊤, List, ℕ, Err, IfOk, IfErr, IfSome, IsUtf8};
 ghost use Rattle.std.specs.Io.KnownBytes.{Appends};
-ghost use Rattle.rxl.specs.Faults.{Ends, IsFaultOf, IsQuestionFault, IsReadFault};
+ghost use Rattle.rxl.specs.Faults.{Ends, IsFaultOf, IsQuestionFault, IsReadFault, IsReported};
+ghost use Rattle.regex_lite.specs.Expression.{IsAccepted};
+ghost use Rattle.regex_lite.specs.Settings.{default_settings};
 ghost use Rattle.regex_lite.specs.Errors.{out_of_memory};
 ghost use Rattle.rxl.specs.declared.fault.Fault.{Fault};
-ghost use Rattle.rxl.specs.declared.fault.Fault.TheVariants.{NotUtf8};
+ghost use Rattle.rxl.specs.declared.fault.Fault.TheVariants.{NotUtf8, Usage};
+ghost use Rattle.rxl.specs.Commands.{AskForNone};
 ghost use Rattle.rxl.specs.Output.{PutsSome};
 ghost use Rattle.rxl.specs.Printed.{Prints};
-ghost use Rattle.rxl.specs.Program.{IsCommandAnswered, IsDone, IsQuestionAnswered, status_of};
+ghost use Rattle.rxl.specs.Program.{AsksForInput, IsCommandAnswered, IsDone, IsQuestionAnswered, TakesInput, status_of};
 
 use crate::command::{Command, Question};
 use crate::commands::{print_captures, print_escaped, print_matches, print_pieces, print_replaced};
@@ -23,7 +26,8 @@ use std::str;
 /// is one line on `err`.
 ///
 /// Wrong arguments are found before all else. Then the pattern is built, and then the whole input
-/// is read. What was printed before a fault stays.
+/// is read. So nothing is read where the arguments are wrong, where a text is escaped, or where the
+/// pattern is refused. What was printed before a fault stays.
 pub(crate) fn run<R: Read, O: Write, E: Write>(
     alloc: Global,
     args: &[&str],
@@ -36,7 +40,11 @@ pub(crate) fn run<R: Read, O: Write, E: Write>(
         (O.contents out.old) (O.contents out.new) result }
     ensures silent { result < 2 → err.new ≡ err.old }
     ensures fault { result ≡ 2 → (fault : Fault) × Ends fault args.now (R.remaining input.old)
-        (O.contents out.old) (O.contents out.new) }
+        (O.contents out.old) (O.contents out.new)
+        × IsReported fault (E.contents err.old) (E.contents err.new) }
+    ensures usage { AskForNone args.now → (result ≡ 2) × (input.new ≡ input.old)
+        × (out.new ≡ out.old) × IsReported Usage (E.contents err.old) (E.contents err.new) }
+    ensures unread { (input.new ≡ input.old) ⊎ AsksForInput args.now }
     ensures kept { (text : List ℕ) × Appends (O.contents out.old) (O.contents out.new) text }
 {
     match print_answer(alloc, args, input, out) {
@@ -44,7 +52,7 @@ pub(crate) fn run<R: Read, O: Write, E: Write>(
         Ok(false) => 1,
         Err(fault) => {
             // Where this fails too, the status is all that is left to tell.
-            let _ = writeln!(err, "{fault}");
+            let _ = fault.report(alloc, err);
             2
         }
     }
@@ -61,6 +69,9 @@ fn print_answer<R: Read, W: Write>(
         (W.contents out.old) (W.contents out.new) (status_of found)) }
     ensures refused { IfErr result (λ fault. Ends fault args.now (R.remaining input.old)
         (W.contents out.old) (W.contents out.new)) }
+    ensures usage { AskForNone args.now → (result ≡ Err Usage) × (input.new ≡ input.old)
+        × (out.new ≡ out.old) }
+    ensures unread { (input.new ≡ input.old) ⊎ AsksForInput args.now }
     ensures kept { (text : List ℕ) × Appends (W.contents out.old) (W.contents out.new) text }
 {
     let Some(command) = Command::of(args) else {
@@ -89,6 +100,7 @@ fn answer<R: Read, W: Write>(
         output.old (W.contents out.old) output.new (W.contents out.new) }
     ensures refused { IfErr result (λ fault.
         IsFaultOf fault command.entry (R.remaining input.old)) }
+    ensures unread { (input.new ≡ input.old) ⊎ TakesInput command.entry }
 {
     match command {
         Command::Ask(question, pattern) => ask(alloc, question, pattern, input, output, out),
@@ -112,6 +124,7 @@ fn ask<R: Read, W: Write>(
         output.old (W.contents out.old) output.new (W.contents out.new) }
     ensures refused { IfErr result (λ fault.
         IsQuestionFault fault pattern.now (R.remaining input.old)) }
+    ensures unread { (input.new ≡ input.old) ⊎ IsAccepted (default_settings pattern.now) }
 {
     let regex = Regex::new(alloc, pattern)?;
     let bytes = read_all(alloc, input)?;

@@ -1,9 +1,16 @@
 -- From what went wrong to what the fault says.
-use Rattle.std.proofs.Common.{◌≡◌, ℕ, Result, Ok, Err, IfErr, IsErrAnd, List, Option, Some, None, IfSome, IsUtf8, sym, subst}
+use Rattle.std.proofs.Common.{◌≡◌, inl, inr, ℕ, Bool, true, false, Result, Ok, Err, IfErr, IsErrAnd, List, [], Option, Some, None, IfSome, IsUtf8, refl, sym, ◌∙◌, subst}
 use Rattle.std.specs.Borrow.{Bor}
+use Rattle.std.specs.Io.KnownBytes.{Appends}
+use Rattle.std.proofs.lemmas.List.{append-nil}
+use Rattle.regex_lite.specs.Errors.{out_of_memory}
+use Rattle.regex_lite.specs.Replacing.{Begins}
+use Rattle.rxl.specs.declared.command.Command.{Command}
+use Rattle.rxl.specs.declared.command.Command.TheVariants.{Ask, Escape}
 use Rattle.rxl.specs.declared.fault.Fault.{Fault}
-use Rattle.rxl.specs.declared.fault.Fault.TheVariants.{Unwritten}
-use Rattle.rxl.specs.Faults.{Ends, IsCutShort}
+use Rattle.rxl.specs.declared.fault.Fault.TheVariants.{Usage, NotUtf8, Unreadable, Unwritten, Refused}
+use Rattle.rxl.specs.Faults.{Ends, IsCutShort, IsFaultOf, IsReported, IsReportedAs, line_of_fault}
+use Rattle.rxl.specs.Output.{IsWritten}
 
 -- what was read whole is no text, so the input is none
 pub no_text : (input : Option (List ℕ)) (bytes : List ℕ) → IfSome input (λ known. bytes ≡ known)
@@ -23,3 +30,62 @@ pub handed_on : {T E : Type 0} {P Q : E → Type 0} (result : Result T E) → Is
     → ((error : E) → Q error → P error) → IfErr result P
 handed_on (Ok value) error told = absurd error
 handed_on (Err error) comes told = told error comes
+
+-- memory can be wanting for any command
+wanting : (command : Command) (input : Option (List ℕ))
+    → IsFaultOf (Refused out_of_memory) command input
+wanting (Ask question pattern) input = (inl tt, λ _. refl)
+wanting (Escape text) input = refl
+
+-- what is reported in the place of a fault that is so, is so too
+so_as_reported : (fault named : Fault) (args : List (Bor (List ℕ)))
+    (input before now : Option (List ℕ)) → IsReportedAs fault named
+    → Ends fault args input before now → Ends named args input before now
+so_as_reported Usage named args input before now is so =
+    subst (λ f. Ends f args input before now) (sym is) so
+so_as_reported NotUtf8 named args input before now is so =
+    subst (λ f. Ends f args input before now) (sym is) so
+so_as_reported Unreadable named args input before now is so =
+    subst (λ f. Ends f args input before now) (sym is) so
+so_as_reported Unwritten named args input before now is so =
+    subst (λ f. Ends f args input before now) (sym is) so
+so_as_reported (Refused error) named args input before now (inl is) so =
+    subst (λ f. Ends f args input before now) (sym is) so
+so_as_reported (Refused error) named args input before now (inr is) so =
+    subst (λ f. Ends f args input before now) (sym is) (so.0, so.1, wanting so.0 input)
+
+-- a text or a beginning of it was written
+begun : (text : List ℕ) (before now : Option (List ℕ)) (all : Bool)
+    → IsWritten before now text all
+    → (written : List ℕ) × Begins written text × Appends before now written
+begun text before now true w =
+    (w.written, ([], w.told ∙ sym (append-nil w.written)), w.appended)
+begun text before now false w = (w.written, w.told, w.appended)
+
+-- a fault that is so was reported
+pub reported : (fault : Fault) (args : List (Bor (List ℕ))) (input before now : Option (List ℕ))
+    (told tells : Option (List ℕ)) (all : Bool) → Ends fault args input before now
+    → ((named : Fault) × IsReportedAs fault named
+    × IsWritten told tells (line_of_fault named) all)
+    → (named : Fault) × Ends named args input before now × IsReported named told tells
+reported fault args input before now told tells all so report = (
+  report.0,
+  so_as_reported fault report.0 args input before now report.1 so,
+  begun (line_of_fault report.0) told tells all report.2,
+)
+
+-- the fault of a refused result
+abbrev pub fault_of : {T : Type 0} → Result T Fault → Fault
+fault_of (Ok value) = Usage
+fault_of (Err fault) = fault
+
+-- where no command is asked for the line on the usage was reported
+pub usage_reported : (fault : Fault) (told tells : Option (List ℕ)) (all : Bool) → fault ≡ Usage
+    → ((named : Fault) × IsReportedAs fault named
+    × IsWritten told tells (line_of_fault named) all)
+    → IsReported Usage told tells
+usage_reported fault told tells all is report =
+    let named_is : report.0 ≡ Usage =
+    subst (λ f. IsReportedAs f report.0) is report.1 in
+    begun (line_of_fault Usage) told tells all
+    (subst (λ f. IsWritten told tells (line_of_fault f) all) named_is report.2)

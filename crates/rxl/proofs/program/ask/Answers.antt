@@ -24,6 +24,8 @@ returns-in_err-haystack-clause-refused g c =
     let input = g.R.Read.remaining c.args.input.now in
     let told = c.in_err-haystack.ensures.refused in
     handed_on c.from_residual-in_err-haystack.result c.from_residual-in_err-haystack.ensures.1
-    (λ fault is. subst (λ f. IsQuestionFault f c.args.pattern.now input) (sym (is ∙ told.0))
-    (no_text input c.in_ok-bytes.bytes.items c.in_ok-bytes.ensures.ok
-    (rw (← c.as_slice.ensures.value) told.1)))
+    (λ fault is. subst (λ f. IsQuestionFault f c.args.pattern.now input) (sym (is ∙ told.0)) (
+      c.in_ok-regex.ensures.accepted,
+      no_text input c.in_ok-bytes.bytes.items c.in_ok-bytes.ensures.ok
+          (rw (← c.as_slice.ensures.value) told.1),
+    ))
