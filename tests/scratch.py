@@ -1,6 +1,7 @@
 """A repository with copies of our libraries, in which a test runs a program over them, and that
 program with which cases are replayed."""
 
+import shlex
 import shutil
 import subprocess
 import sys
@@ -12,6 +13,19 @@ LIBRARIES = ('regex_lite_syntax', 'regex_lite_engine', 'regex_lite')
 PARTS = ('src', 'specs', 'proofs')
 CALLER = 'caller'
 ENDING = '.txt'  # the gate refuses files of the language outside the crates
+SCRIPTS = ('rt', 'rtlib.py')
+CLANG = '''#!/bin/sh
+set -eu
+left=$#
+while [ "$left" -gt 0 ]; do
+    word=$1
+    shift
+    [ "$word" != -O0 ] || word=-O2
+    set -- "$@" "$word"
+    left=$((left - 1))
+done
+exec {clang} "$@"
+'''
 
 
 def program_files(program):
@@ -41,10 +55,43 @@ def lay_out(repository, files):
         file.write_text(text, encoding='utf-8')
 
 
-def run(repository, program, options=(), given=''):
+def kit():
+    """The folder of the kit."""
+    page = subprocess.run(['rt', 'doc'], check=True, stdout=subprocess.PIPE, encoding='utf-8')
+    return Path(page.stdout.strip()).parent
+
+
+def link_all(source, target, but=()):
+    """Links what is in the one folder into the other, but for these."""
+    target.mkdir(parents=True)
+    for path in source.iterdir():
+        if path.name not in but:
+            (target / path.name).symlink_to(path)
+
+
+def lay_out_optimising_kit(target):
+    """Makes the folder a kit whose `rt try` has its programs optimised, and answers its `rt`. By
+    itself the kit has clang build them with `-O0`, and then they take some fifty times longer. All
+    tests that it puts in, of indices, of sums and of each access to memory, stay in. The rest of the
+    kit is linked to, but for the scripts that take the folder above them for the kit."""
+    source = kit()
+    link_all(source, target, ('bin', 'toolchain'))
+    link_all(source / 'toolchain', target / 'toolchain', ('bin',))
+    link_all(source / 'toolchain' / 'bin', target / 'toolchain' / 'bin', ('clang',))
+    link_all(source / 'bin', target / 'bin', SCRIPTS)
+    for name in SCRIPTS:
+        shutil.copy2(source / 'bin' / name, target / 'bin' / name)
+    clang = target / 'toolchain' / 'bin' / 'clang'
+    clang.write_text(CLANG.format(clang=shlex.quote(str(source / 'toolchain' / 'bin' / 'clang'))),
+                     encoding='utf-8')
+    clang.chmod(0o755)
+    return target / 'bin' / 'rt'
+
+
+def run(repository, program, options=(), given='', rt='rt'):
     """Builds and runs a program of the repository by `rt try`, which proves nothing, with this
     standard input. Its status is the program's own where the program ends."""
-    return subprocess.run(['rt', 'try', *options], cwd=repository / 'crates' / program, check=False,
+    return subprocess.run([rt, 'try', *options], cwd=repository / 'crates' / program, check=False,
                           input=given, stdout=subprocess.PIPE, stderr=subprocess.PIPE,
                           encoding='utf-8')
 
@@ -52,11 +99,13 @@ def run(repository, program, options=(), given=''):
 def replay(cases, seconds=600):
     """Runs the caller on these lines for so many seconds at most, passes on what it prints, and
     tells its status, which is 0 where all cases passed."""
-    # The interpreter would take hours, so the compiled program alone runs through.
+    # The kit's own interpreter would take hours, so the compiled program alone runs through.
     options = ('--steps', '1', '--seconds', str(seconds))
     with tempfile.TemporaryDirectory() as folder:
-        lay_out(Path(folder), program_files(CALLER))
-        done = run(Path(folder), CALLER, options, cases)
+        repository = Path(folder) / 'repository'
+        lay_out(repository, program_files(CALLER))
+        rt = lay_out_optimising_kit(Path(folder) / 'kit')
+        done = run(repository, CALLER, options, cases, rt)
     print(done.stdout, end='')
     if done.returncode not in (0, 1) or not done.stdout.endswith(' failed\n'):
         sys.exit(f'the caller ended with {done.returncode}:\n{done.stderr[-4000:]}')
