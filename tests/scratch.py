@@ -72,8 +72,8 @@ def link_all(source, target, but=()):
 def lay_out_optimising_kit(target):
     """Makes the folder a kit whose `rt try` has its programs optimised, and answers its `rt`. By
     itself the kit has clang build them with `-O0`, and then they take some fifty times longer. All
-    tests that it puts in, of indices, of sums and of each access to memory, stay in. The rest of the
-    kit is linked to, but for the scripts that take the folder above them for the kit."""
+    tests that it puts in, of indices, of sums and of each access to memory, stay in. The rest of
+    the kit is linked to, but for the scripts that take the folder above them for the kit."""
     source = kit()
     link_all(source, target, ('bin', 'toolchain'))
     link_all(source / 'toolchain', target / 'toolchain', ('bin',))

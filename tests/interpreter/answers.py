@@ -1,5 +1,5 @@
-"""What searches answer, by the definitions: the least start at which the relation holds, and the end
-and the groups of the most preferred way from there."""
+"""What searches answer, by the definitions: the least start at which the relation holds, and the
+end and the groups of the most preferred way from there."""
 
 import itertools
 from typing import NamedTuple
@@ -105,7 +105,8 @@ class Search:
     def least_end(self, s):
         """The least position at which a match from position s or a later one ends, or None."""
         starts = range(s, len(self.haystack) + 1)
-        return min((j for i in starts for j in self.relation.ends(self.regex.tree, i)), default=None)
+        ends = (j for i in starts for j in self.relation.ends(self.regex.tree, i))
+        return min(ends, default=None)
 
     def matches(self):
         """All matches, one after another. An empty match at the end of the last is passed over."""

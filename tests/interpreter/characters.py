@@ -68,7 +68,7 @@ NAMED = {
 LETTERS = {'d': DIGIT, 's': SPACE, 'w': WORD,
            'D': without(DIGIT), 'S': without(SPACE), 'W': without(WORD)}
 
-# What means nothing in verbose mode, besides comments: the characters with the property White_Space.
+# What means nothing in verbose mode, besides comments: the characters that are White_Space.
 WHITE_SPACE = frozenset(map(chr, (
     *range(0x9, 0xE), 0x20, 0x85, 0xA0, 0x1680, *range(0x2000, 0x200B), 0x2028, 0x2029, 0x202F,
     0x205F, 0x3000,

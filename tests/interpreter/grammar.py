@@ -1,4 +1,4 @@
-"""The grammar: which tree a pattern has under some flags. docs/SYNTAX.md tells the same in words."""
+"""The grammar: which tree a pattern has under some flags. docs/SYNTAX.md tells it in words."""
 
 import unicodedata
 

@@ -15,7 +15,7 @@ class Read(NamedTuple):
 
 
 class Look(NamedTuple):
-    """Looks at the characters on both sides of a position, or at its being the first or the last."""
+    """Looks at the characters on both sides of a position."""
 
     name: str
 

@@ -1,7 +1,7 @@
 """The ways through a pattern, the preferred ones first. A pattern is written out as places with
 ordered arrows, each copy of what is repeated with places of its own, and a way comes to no place
-twice at one position. The rows of regex_lite_engine/specs/Graph/WrittenOut.antt say which places and
-arrows a tree has."""
+twice at one position. The rows of regex_lite_engine/specs/Graph/WrittenOut.antt say which places
+and arrows a tree has."""
 
 from typing import NamedTuple, Optional
 
@@ -16,7 +16,7 @@ class TooLarge(Exception):
 
 
 class Place:
-    """A place with its arrows in their order. It is told from all others by being another object."""
+    """A place with its arrows in their order. Each is another object than all others."""
 
     def __init__(self):
         self.arrows = []
@@ -90,7 +90,8 @@ class Writer:
         return self.copies(tree, tree.least, self.choices(tree, self.leading(after)))
 
     def choices(self, tree, join):
-        """As many passes as a repetition may leave out, each behind a choice. All lead to the join."""
+        """As many passes as a repetition may leave out, each behind a choice that may lead to the
+        join."""
         after = join
         for _ in range(tree.most - tree.least):
             choice = self.place()
@@ -100,8 +101,8 @@ class Writer:
         return self.leading(after) if tree.least == 0 and tree.most > 1 else after
 
     def loop(self, tree, after):
-        """A repetition without any limit. Round a body that can match nothing there are two choices,
-        one before the first pass and one behind each."""
+        """A repetition without any limit. Round a body that can match nothing there are two
+        choices, one before the first pass and one behind each."""
         if not is_nullable(tree.body):
             choice = self.place()
             choice.arrows = self.choice(tree, self.entry(tree.body, choice), after)

@@ -25,6 +25,7 @@ sys.dont_write_bytecode = True  # nothing but the lists is written here
 
 import escapes
 import flags
+import hostile
 import lists
 import long
 import plain
@@ -132,6 +133,7 @@ def main():
     written[ANSWERS / 'runs.tsv'] = runs.lines(judge)
     written[ANSWERS / 'settings.tsv'] = settings.lines(judge)
     written[ANSWERS / 'long.tsv'] = long.lines(judge)
+    written[hostile.PATH] = hostile.lines(judge)
     for path, lines in written.items():
         with open(path, 'w', encoding='utf-8', newline='\n') as out:
             out.writelines(lines)
