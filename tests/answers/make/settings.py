@@ -1,7 +1,7 @@
 """The list of what becomes of patterns under flags and limits."""
 
 import sizes
-from data import escaped, rows_of
+from data import escaped, expanded, packed, rows_of
 from judge import answers
 
 # Each text of a refusal that is not the grammar's, with its kind.
@@ -40,7 +40,8 @@ def at_their_sizes(judge):
 
 def lines(judge):
     """The lines of the list."""
-    found = [*rows_of('settings'), *at_their_sizes(judge)]
+    found = [[*row[:3], expanded(row[3])] for row in rows_of('settings')]
+    found += at_their_sizes(judge)
     told = answers(judge, [question(*row) for row in found])
-    return ['\t'.join([*map(escaped, row), *outcome(row, answer)]) + '\n'
+    return [packed('\t'.join([*map(escaped, row), *outcome(row, answer)]) + '\n')
             for row, answer in zip(found, told)]
