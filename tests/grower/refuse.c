@@ -6,6 +6,7 @@
    of it, the environment says what is to fail:
 
    REFUSE=N     the Nth request for memory is refused
+   ONWARD=1     and so is each behind one that is refused, until none is to be
    FAIL=D:K     each read or write of the descriptor D from the Kth on fails
    BYTEWISE=1   a read or a write moves one byte at most
    TELL=D       at the end the number of requests, and that of the blocks that were not given back,
@@ -23,7 +24,7 @@ extern int dprintf(int, const char *, ...);
 extern char *program_invocation_short_name;
 
 static long requests, refused, blocks, blocks_before;
-static int was_refused;
+static int was_refused, is_onward;
 
 static void *next(void **kept, const char *name) {
     if (!*kept) *kept = dlsym((void *)-1L, name); /* RTLD_NEXT */
@@ -53,7 +54,8 @@ static long number_of(const char *name) {
 }
 
 static int is_refused(void) {
-    if (++requests != refused) return 0;
+    requests++;
+    if (!refused || requests < refused || (requests > refused && !is_onward)) return 0;
     was_refused = 1;
     return 1;
 }
@@ -129,6 +131,7 @@ ssize_t write(int descriptor, const void *from, size_t size) {
 __attribute__((constructor)) static void begin(void) {
     long number = number_of("REFUSE");
     if (number > 0) refused = requests + number;
+    is_onward = number_of("ONWARD") == 1;
 }
 
 __attribute__((destructor)) static void tell(void) {
