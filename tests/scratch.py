@@ -1,6 +1,7 @@
 """A repository with copies of our libraries, in which a test runs a program over them, and that
 program with which cases are replayed."""
 
+import re
 import shlex
 import shutil
 import subprocess
@@ -14,6 +15,8 @@ PARTS = ('src', 'specs', 'proofs')
 CALLER = 'caller'
 ENDING = '.txt'  # the gate refuses files of the language outside the crates
 SCRIPTS = ('rt', 'rtlib.py')
+MOST = 48 << 20  # bytes of cases at a time, since the kit hands on no more than 64 MiB
+ENDED = re.compile(r'(\d+) passed, (\d+) failed\n\Z')  # the last line of the caller
 CLANG = '''#!/bin/sh
 set -eu
 left=$#
@@ -96,17 +99,39 @@ def run(repository, program, options=(), given='', rt='rt'):
                           encoding='utf-8')
 
 
+def parts(cases):
+    """The lines of the cases in lists of so many bytes at most."""
+    part, size = [], 0
+    for line in cases.split('\n')[:-1]:
+        length = len(line.encode()) + 1
+        if part and size + length > MOST:
+            yield part
+            part, size = [], 0
+        part.append(line)
+        size += length
+    yield part
+
+
 def replay(cases, seconds=600):
-    """Runs the caller on these lines for so many seconds at most, passes on what it prints, and
-    tells its status, which is 0 where all cases passed."""
+    """Runs the caller on these lines, for so many seconds at most at a time, passes on what it
+    prints of failures, and prints how many cases passed and failed in all. The status is 0 where
+    there is a case and none failed."""
     # The kit's own interpreter would take hours, so the compiled program alone runs through.
     options = ('--steps', '1', '--seconds', str(seconds))
+    passed = failed = 0
     with tempfile.TemporaryDirectory() as folder:
         repository = Path(folder) / 'repository'
         lay_out(repository, program_files(CALLER))
         rt = lay_out_optimising_kit(Path(folder) / 'kit')
-        done = run(repository, CALLER, options, cases, rt)
-    print(done.stdout, end='')
-    if done.returncode not in (0, 1) or not done.stdout.endswith(' failed\n'):
-        sys.exit(f'the caller ended with {done.returncode}:\n{done.stderr[-4000:]}')
-    return done.returncode
+        for part in parts(cases):
+            done = run(repository, CALLER, options, ''.join(f'{line}\n' for line in part), rt)
+            ended = ENDED.search(done.stdout)
+            if done.returncode not in (0, 1) or not ended:
+                sys.exit(f'the caller ended with {done.returncode}:\n{done.stderr[-4000:]}')
+            print(done.stdout[:ended.start()], end='')
+            passed, failed = passed + int(ended[1]), failed + int(ended[2])
+    print(f'{passed} passed, {failed} failed')
+    lines = cases.count('\n')
+    if passed + failed != lines:
+        sys.exit(f'the caller did not read all of {lines} cases')
+    return 0 if passed > 0 and failed == 0 else 1
