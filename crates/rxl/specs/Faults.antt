@@ -26,8 +26,8 @@ text_of_fault (Refused error) = text_of error
 abbrev pub line_of_fault : Fault → List ℕ
 line_of_fault fault = text_of_fault fault ++ codes "\n"
 
--- a writer that held the first bytes holds the second now: it has received the line of the fault, or
--- a beginning of it
+-- a writer that held the first bytes holds the second now: it has received the line of the fault,
+-- or a beginning of it
 abbrev pub IsReported : Fault → (before now : Option (List ℕ)) → Type 0
 IsReported fault before now =
     (written : List ℕ) × Begins written (line_of_fault fault) × Appends before now written
