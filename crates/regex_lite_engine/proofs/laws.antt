@@ -14,9 +14,10 @@ pub mod WalkPassLemmas
 pub mod WrittenPartLemmas
 pub mod WrittenRepetitionLemmas
 pub mod WrittenTreeLemmas
--- lemmas on the preference list, on answers, on groups and on templates
+-- lemmas on the preference list, on answers, on groups, on several patterns and on templates
 pub mod answer
 pub mod groups
 pub mod list
 pub mod search
+pub mod several
 pub mod templates

@@ -8,3 +8,4 @@ pub mod PlaceCounts
 pub mod Size
 pub mod Stored
 pub mod Renumbered
+pub mod SideBySide

@@ -6,6 +6,7 @@ pub mod Graph
 pub mod WayLaws
 pub mod Search
 pub mod SearchLaws
+pub mod ListSearchLaws
 pub mod Interpolation
 pub mod TemplateLaws
 -- What the functions of nfa, and those of the searches, promise one another. No public contract

@@ -2,6 +2,7 @@
 pub mod Preference
 pub mod Marks
 pub mod Answer
+pub mod AnswerOfList
 pub mod PreferenceList
 pub mod Offsets
 pub mod Outcomes

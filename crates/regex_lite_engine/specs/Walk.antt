@@ -1,6 +1,7 @@
 -- What the searches promise one another, over graphs whose places have numbers.
 pub mod Explored
 pub mod NumberedAnswer
+pub mod NumberedList
 pub mod Standing
 pub mod Beginnings
 pub mod Machine

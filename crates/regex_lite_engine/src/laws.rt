@@ -1,5 +1,6 @@
 //! Laws of the definitions. Each function does nothing: its contract is the law.
 ghost use Rattle.regex_lite_engine.specs.TemplateLaws.{PlainTemplatesGiveThemselves, TemplatesGiveOneText};
+ghost use Rattle.regex_lite_engine.specs.ListSearchLaws.{AtMostOneAnswerOfList, HasAnswerOfList, ListAnswersAreAnswers, NoneMatchNothing, OneAnswersByItself, PatternsStandApart};
 ghost use Rattle.regex_lite_engine.specs.WayLaws.{MatchesAreWays};
 ghost use Rattle.regex_lite_engine.specs.SearchLaws.{AnswerIsHead, AnswersAreMatches, AtMostOneAnswer, EnoughTakePart, GroupsLieInside, HasAnswer, ListIsOfAllWays, PreferenceIsTotal, PreferredWaysAreEarlier};
 
@@ -64,4 +65,35 @@ pub fn templates_give_one_text()
 /// A template without a `$` gives itself.
 pub fn plain_templates_give_themselves()
     ensures { PlainTemplatesGiveThemselves }
+{}
+
+/// The ways of a pattern that is written out beside others are those of the pattern by itself.
+pub fn patterns_stand_apart()
+    ensures { PatternsStandApart }
+{}
+
+/// A search for several patterns has an answer.
+pub fn list_search_has_an_answer()
+    ensures { HasAnswerOfList }
+{}
+
+/// A search for several patterns has at most one answer.
+pub fn at_most_one_answer_of_list()
+    ensures { AtMostOneAnswerOfList }
+{}
+
+/// A search for several patterns finds something exactly where one of them matches from a position
+/// at or after the start. What it finds is the answer of the pattern with the number.
+pub fn list_answers_are_answers()
+    ensures { ListAnswersAreAnswers }
+{}
+
+/// A list of one pattern has the answer of the pattern.
+pub fn one_answers_by_itself()
+    ensures { OneAnswersByItself }
+{}
+
+/// A list of no pattern matches nothing.
+pub fn none_match_nothing()
+    ensures { NoneMatchNothing }
 {}

@@ -17,31 +17,27 @@ pub(crate) mod heads;
 pub(crate) mod kept_back;
 pub(crate) mod place;
 pub(crate) mod starts;
+pub(crate) mod table;
 mod write;
 
 use crate::pikevm::steps::Steps;
 use count::Counts;
 use heads::Heads;
-use kept_back::KeptBack;
 use place::Place;
 use regex_lite_syntax::{Error, Hir};
 use std::alloc::{AllocError, Global};
 use std::marker::Model;
 use std::rc::RcStr;
+use table::Table;
 use write::write_out;
 
 /// A pattern that is written out as a graph: a search starts at one place, and follows the arrows
 /// to the place where a match is complete.
 #[derive(Drop)]
 pub struct Graph {
-    places: Vec<Place>,
+    table: Table,
     /// Where a search starts.
     start: u32,
-    arrows: usize,
-    /// How many of its places read a character.
-    reading: usize,
-    /// How much a search keeps back that enters each of them once.
-    kept_back: KeptBack,
     /// The names of the groups by index, shared with the tree.
     capture_names: Vec<Option<RcStr>>,
     static_captures_len: Option<usize>,
@@ -50,28 +46,24 @@ pub struct Graph {
 }
 
 impl Model for Graph {
-    ghost use Rattle.std.specs.Prelude.{◌≡◌, map};
-    ghost use Rattle.regex_lite_engine.specs.Graph.Renumbered.{arrows_of};
-    ghost use Rattle.regex_lite_engine.specs.Graph.Stored.{StoredGraph, IsClosed, IsKeptBackOf, place_of};
+    ghost use Rattle.std.specs.Prelude.{◌<◌, length};
+    ghost use Rattle.regex_lite_engine.specs.Graph.Stored.{StoredGraph, places_of};
     ghost use Rattle.regex_lite_engine.specs.Walk.Starts.{AreHeadsOf};
 
     ghost Value = { StoredGraph };
 
     ghost view = { λ graph. record {
-      places = graph.places.items;
+      places = graph.table.places;
       start = graph.start;
-      arrows = graph.arrows;
-      reading = graph.reading;
+      arrows = graph.table.arrows;
+      reading = graph.table.reading;
       capture_names = graph.capture_names.items;
       static_captures_len = graph.static_captures_len;
       heads = graph.heads;
     } };
 
-    ghost invariant = { λ graph.
-        IsClosed graph.places.items graph.start graph.arrows graph.reading
-        × (arrows_of (map place_of graph.places.items) ≡ graph.arrows)
-        × AreHeadsOf (map place_of graph.places.items) graph.start graph.heads
-        × IsKeptBackOf (map place_of graph.places.items) graph.kept_back };
+    ghost invariant = { λ graph. (graph.start < length graph.table.places)
+        × AreHeadsOf (places_of graph.table) graph.start graph.heads };
 }
 
 impl Graph {
@@ -99,14 +91,11 @@ impl Graph {
         let count = counts.within(size_limit)?;
         let capture_names = capture_names(alloc, hir, &counts)?;
         let (places, start) = write_out(alloc, hir, count)?;
-        let kept_back = KeptBack::of(&places);
+        let table = Table::new(places, counts.arrows(), counts.reading());
         let heads = Heads::of(hir);
         Ok(Graph {
-            places,
+            table,
             start,
-            arrows: counts.arrows(),
-            reading: counts.reading(),
-            kept_back,
             capture_names,
             static_captures_len: counts.static_captures_len(),
             heads,
@@ -121,8 +110,19 @@ impl Graph {
         ensures inside { LeadsBelow (length self.now.places) (place_of result.now) }
         ensures counted { steps.new ≡ record steps.old { looked = steps.old.looked + 1 } }
     {
-        steps.count_look();
-        &self.places[place as usize]
+        self.table.look(place, steps)
+    }
+
+    /// Its places by number.
+    pub(crate) fn table(&self) -> &Table
+        ensures some { 0 < length result.now.places }
+        ensures same { result.now ≡ record {
+          places = self.now.places;
+          arrows = self.now.arrows;
+          reading = self.now.reading;
+        } }
+    {
+        &self.table
     }
 
     /// Where a search starts.
@@ -149,7 +149,7 @@ impl Graph {
         ensures kept_back { kept_back_of (table_of self.now) < result }
         ensures few_arrows { arrows_of (table_of self.now) < 2 ^ 34 }
     {
-        self.places.len()
+        self.table.places()
     }
 
     /// How many arrows there are.
@@ -158,7 +158,7 @@ impl Graph {
         ensures all { result ≡ arrows_of (table_of self.now) }
         ensures few { result < 2 ^ 34 }
     {
-        self.arrows
+        self.table.arrows()
     }
 
     /// How many places read a character. A search counts on there being few arrows too.
@@ -168,18 +168,14 @@ impl Graph {
         ensures few { result < length self.now.places }
         ensures few_arrows { arrows_of (table_of self.now) < 2 ^ 34 }
     {
-        self.reading
+        self.table.reading()
     }
 
     /// How much a search with so many slots keeps back that enters each place once.
     pub(crate) fn kept_back(&self, slots: usize) -> usize
         ensures { result ≡ sum_by (kept_back_with slots) (table_of self.now) }
     {
-        if slots == 0 {
-            self.kept_back.without_slots
-        } else {
-            self.kept_back.with_slots
-        }
+        self.table.kept_back(slots)
     }
 
     /// The names of the groups by index, group 0 first.

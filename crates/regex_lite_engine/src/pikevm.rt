@@ -1,7 +1,7 @@
 //! The search by ordered sets: it goes over a haystack once, and keeps at each position the places
 //! that it can stand at, the most preferred first.
-ghost use Rattle.std.specs.Prelude.{◌≡◌, IfOk, length};
-ghost use Rattle.regex_lite_engine.specs.Graph.Stored.{table_of};
+ghost use Rattle.std.specs.Prelude.{◌≡◌, ◌<◌, IfOk, length};
+ghost use Rattle.regex_lite_engine.specs.Graph.Stored.{places_of};
 ghost use Rattle.regex_lite_engine.specs.Walk.Outcomes.{IsFresh, IsCountable};
 
 pub(crate) mod beginning;
@@ -10,7 +10,9 @@ pub(crate) mod cell;
 mod enter;
 pub(crate) mod here;
 pub(crate) mod memory;
+pub(crate) mod one_pattern;
 mod pass;
+pub(crate) mod patterns;
 pub(crate) mod rows;
 mod run;
 pub(crate) mod search;
@@ -27,7 +29,7 @@ mod threads;
 mod turn;
 mod walk;
 
-use crate::Graph;
+use crate::nfa::table::Table;
 use beginning::Beginning;
 use best::Best;
 use memory::Memory;
@@ -39,16 +41,17 @@ use walk::Walk;
 /// All the memory of a search that keeps so many slots, asked for before its first step.
 pub(crate) fn cache_for<S: Beginning>(
     alloc: Global,
-    graph: &Graph,
+    table: &Table,
     slots: usize,
 ) -> Result<Cache<S>, AllocError>
-    ensures fresh { IfOk result (λ cache. IsFresh (table_of graph.now) cache) }
+    requires { 0 < length table.now.places }
+    ensures fresh { IfOk result (λ cache. IsFresh (places_of table.now) cache) }
     ensures width { IfOk result (λ cache. length cache.best.row ≡ slots) }
-    ensures countable { IfOk result (λ _. IsCountable (table_of graph.now)) }
+    ensures countable { IfOk result (λ _. IsCountable (places_of table.now)) }
 {
-    let places = graph.places();
+    let places = table.places();
     // A thread comes from a place that reads, or is the position's own start.
-    let room = graph.reading() + 1;
+    let room = table.reading() + 1;
     Ok(Cache {
         walk: Walk {
             memory: Memory::blank(alloc, places, room, slots)?,

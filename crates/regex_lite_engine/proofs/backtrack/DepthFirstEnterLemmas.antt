@@ -10,7 +10,7 @@ use Rattle.regex_lite_engine.proofs.backtrack.DepthFirstLemmas.{at_starts}
 use Rattle.regex_lite_engine.proofs.laws.search.WayOrderLemmas.{NotAfter-trans, NotAfter-append}
 use Rattle.regex_lite_engine.proofs.pikevm.InStepLemmas.{or_dead}
 use Rattle.regex_lite_engine.proofs.pikevm.OfferLemmas as order
-use Rattle.regex_lite_engine.proofs.pikevm.OfferLemmas.{preferred_before, below_start, below_append}
+use Rattle.regex_lite_engine.proofs.pikevm.OfferLemmas.{preferred_before, below_front, below_append}
 use Rattle.regex_lite_engine.proofs.pikevm.OptionLemmas.{not_there}
 use Rattle.regex_lite_engine.proofs.pikevm.RecordLemmas as records
 
@@ -181,7 +181,7 @@ module _ (N : Type 0) (step : N → ℕ → Option N) (start : ℕ → N) (is_en
             or_dead (settle (start i) (i ∷ [])) (u.starts i low high lt)
         by_place i low high (inr le) =
             let below = u.offers_below n w here in
-            inl (inr (w, refl, preferred_before w (i ∷ []) (below_start from i w below le)))
+            inl (inr (w, refl, preferred_before w (i ∷ []) (below_front from i [] w below le)))
 
         by_arrow : (m : N) (v : List ℕ) (k : ℕ) (l : N) → step m k ≡ Some l
             → ((m ≡ n) × (v ≡ w)) ⊎ (recorded m ≡ Some v)

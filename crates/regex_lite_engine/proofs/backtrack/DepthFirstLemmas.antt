@@ -8,7 +8,7 @@ use Rattle.regex_lite_engine.specs.Walk.Explored.{NotAfter, StartsAt}
 use Rattle.regex_lite_engine.specs.Walk.InStep as offered
 use Rattle.regex_lite_engine.specs.Walk.InStep.{StartsBelow}
 use Rattle.regex_lite_engine.proofs.pikevm.InStepLemmas.{or_dead}
-use Rattle.regex_lite_engine.proofs.pikevm.OfferLemmas.{preferred_before, below_start, below_up}
+use Rattle.regex_lite_engine.proofs.pikevm.OfferLemmas.{preferred_before, below_front, below_up}
 use Rattle.regex_lite_engine.proofs.pikevm.OptionLemmas.{not_there}
 
 module _ (N : Type 0) (step : N → ℕ → Option N) (start : ℕ → N) (is_end : N → Bool)
@@ -98,7 +98,7 @@ module _ (N : Type 0) (step : N → ℕ → Option N) (start : ℕ → N) (is_en
     no_end = u.no_end;
     ordered = (λ n w i. absurd i, tt);
     ahead = λ n w m v i r. subst (λ z. NotAfter v z) (sym (only n w i).1)
-        (inr (preferred_before v (p ∷ []) (below_start from p v (u.recorded_below m v r) later)));
+        (inr (preferred_before v (p ∷ []) (below_front from p [] v (u.recorded_below m v r) later)));
     offers_below = λ n w i. subst (λ z. StartsBelow (suc p) z) (sym (only n w i).1) (omega arith);
     recorded_below = λ m v r.
         below_up from (suc p) v (omega (arith, later)) (u.recorded_below m v r);

@@ -22,13 +22,15 @@ use Rattle.regex_lite_engine.specs.Walk.InStep.{Offer}
 use Rattle.regex_lite_engine.specs.Walk.Machine.{Row}
 use Rattle.regex_lite_engine.specs.Walk.NumberedAnswer.{place_with, is_complete, numbered_step, is_end}
 use Rattle.regex_lite_engine.specs.Walk.Outcomes.{IsNumberedOutcome}
-use Rattle.regex_lite_engine.specs.Walk.Walking.{Node, WayHolds}
+use Rattle.regex_lite_engine.specs.Walk.Walking.{Node}
+use Rattle.regex_lite_engine.specs.Backtrack.Walking.{WayHolds}
 use Rattle.regex_lite_engine.proofs.OffsetLemmas.{offset_next}
 use Rattle.regex_lite_engine.proofs.backtrack.WalkLemmas.{walk_entered, walk_complete}
 use Rattle.regex_lite_engine.proofs.pikevm.EnterLemmas.{got_map, free_marks}
 use Rattle.regex_lite_engine.proofs.pikevm.MarkLemmas.{slots_set, slots_past}
 use Rattle.regex_lite_engine.proofs.pikevm.OptionLemmas.{not_there}
-use Rattle.regex_lite_engine.proofs.pikevm.WalkLemmas.{one, wide, no_more, offered_by, holds_on}
+use Rattle.regex_lite_engine.proofs.pikevm.WalkLemmas.{one, wide, no_more, offered_by}
+use Rattle.regex_lite_engine.proofs.backtrack.NumberedLemmas.{holds_on}
 
 -- nothing is read of the empty set
 read_none : (at to : ℕ) (o : Option ℕ) (frames : List Frame)
@@ -138,7 +140,7 @@ module _ (table : List (Place ℕ)) (haystack : Text) (s first from i : ℕ) (pa
             listed w (length qs) (suc k) ++ rest,
             is_offset,
             refl,
-            holds_on table haystack s (Some i) row row (q, p) w k (l, p) holds here
+            holds_on table haystack s i row row (q, p) w k (l, p) holds here
                 (unmarked k (ap (λ x. mark_of x k) e ∙ free_marks to k)),
             each qs (suc k) w rest
                 (λ t o got. subst (λ z. numbered_step table haystack (q, p) z ≡ Some (o, p))
@@ -171,7 +173,7 @@ module _ (table : List (Place ℕ)) (haystack : Text) (s first from i : ℕ) (pa
         rest,
         is_last,
         refl,
-        holds_on table haystack s (Some i) row row' (q, p) w 0 (to, j) holds here marking,
+        holds_on table haystack s i row row' (q, p) w 0 (to, j) holds here marking,
         waits' rest waits,
       ))
 

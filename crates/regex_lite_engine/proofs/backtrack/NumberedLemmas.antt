@@ -1,5 +1,5 @@
 -- A depth-first walk over a table of numbered places: its steps, and what it has found at its end.
-use Rattle.std.proofs.Common.{◌≡◌, ℕ, ◌≤◌, IsTrue, List, [], ◌∷◌, ◌++◌, length, Option, Some, None, refl, subst}
+use Rattle.std.proofs.Common.{◌≡◌, ℕ, ◌≤◌, IsTrue, List, [], ◌∷◌, ◌++◌, length, Option, Some, None, refl, sym, ap, subst}
 use Rattle.regex_lite_syntax.specs.Text.{Text}
 use Rattle.regex_lite_engine.specs.Backtrack.DepthFirst as walk
 use Rattle.regex_lite_engine.specs.Graph.Places.{Place}
@@ -9,12 +9,39 @@ use Rattle.regex_lite_engine.specs.Walk.Machine.{Row}
 use Rattle.regex_lite_engine.specs.Walk.NumberedAnswer.{place_with, numbered_step, is_end}
 use Rattle.regex_lite_engine.specs.Walk.Outcomes.{IsNumberedOutcome}
 use Rattle.regex_lite_engine.specs.Walk.Turns.{IsDeadAt}
-use Rattle.regex_lite_engine.specs.Walk.Walking.{Node, WayHolds}
+use Rattle.regex_lite_engine.specs.Walk.Walking.{Node}
+use Rattle.regex_lite_engine.specs.Backtrack.Walking.{WayHolds}
 use Rattle.regex_lite_engine.proofs.backtrack.DepthFirstEnterLemmas.{depth_first_entered, depth_first_complete}
 use Rattle.regex_lite_engine.proofs.backtrack.DepthFirstLemmas.{depth_first_over}
-use Rattle.regex_lite_engine.proofs.pikevm.EndLemmas.{answered}
+use Rattle.regex_lite_engine.specs.Search.Answer.{Found}
+use Rattle.regex_lite_engine.specs.Search.Marks.{Marks, marked, over, mark_of, marks_along}
+use Rattle.regex_lite_engine.specs.Search.Offsets.{HasSlots}
+use Rattle.regex_lite_engine.proofs.laws.LeadsLemmas.{leads_append}
+use Rattle.regex_lite_engine.proofs.laws.search.OverLemmas.{answer_when_over}
+use Rattle.regex_lite_engine.proofs.pikevm.MarkLemmas.{same_slots, marks_append}
 use Rattle.regex_lite_engine.proofs.pikevm.RecordLemmas.{extended}
 use Rattle.regex_lite_engine.proofs.pikevm.WalkLemmas.{same_node, wide, no_more, no_arrow_at, offered_by, offers_listed}
+
+module _ (table : List (Place ℕ)) (h : Text) (s : ℕ) where
+  pub holds_on : (i : ℕ) (row row' : Row) (n : Node) (w : List ℕ) (a : ℕ) (l : Node)
+      → WayHolds table h s i row n w → numbered_step table h n a ≡ Some l
+      → ((ms : Marks) → HasSlots h row ms
+      → HasSlots h row' (over (marked (mark_of (place_with table n.0) a) n.1) ms))
+      → WayHolds table h s i row' l (w ++ a ∷ [])
+  holds_on i row row' n w a l (j, ks, eb, e, path, has) hops f = (
+    j,
+    ks ++ a ∷ [],
+    eb,
+    ap (λ z. z ++ a ∷ []) e,
+    leads_append (numbered_step table h) ks (a ∷ []) (s, j) n l path (l, hops, refl),
+    same_slots h row' (over (marked (mark_of (place_with table n.0) a) n.1) (marks (Some (s, j)) ks))
+        (marks (Some (s, j)) (ks ++ a ∷ []))
+        (λ slot. sym (marks_append h (place_with table) ks (s, j) n a slot path))
+        (f (marks (Some (s, j)) ks) has),
+  )
+    where
+      marks : Option Node → List ℕ → Marks
+      marks = marks_along h (place_with table)
 
 module _ (table : List (Place ℕ)) (haystack : Text) (s first : ℕ) where
   abbrev start : ℕ → Node
@@ -30,9 +57,9 @@ module _ (table : List (Place ℕ)) (haystack : Text) (s first : ℕ) where
       → ((i : ℕ) → from ≤ i → i ≤ length haystack → IsDeadAt table haystack s i)
       → IsDepthFirst from recorded [] → IsNumberedOutcome table haystack s first None
   numbered_over from recorded dead u =
-      answered table haystack s first None recorded None refl
+      answer_when_over table haystack s first recorded None None
       (depth_first_over Node (numbered_step table haystack) start (is_end table haystack) first
-      (length haystack) from recorded dead u)
+      (length haystack) from recorded dead u) refl
 
   module _ (from : ℕ) (recorded : Node → Option (List ℕ)) (q p : ℕ) (w : List ℕ)
       (fresh : recorded (q, p) ≡ None) (rest : List (Offer Node))
@@ -55,9 +82,19 @@ module _ (table : List (Place ℕ)) (haystack : Text) (s first : ℕ) where
     pub numbered_complete : (i : ℕ) (row : Row) → IsTrue (is_end table haystack (q, p))
         → WayHolds table haystack s i row (q, p) w
         → IsNumberedOutcome table haystack s first (Some (i, offset haystack p, row))
-    numbered_complete i row ends holds =
-        answered table haystack s first (Some (Some i, offset haystack p, row)) recorded_now (Some w)
-        (w, refl, (q, p, refl, ends, holds))
-        (depth_first_complete Node (numbered_step table haystack) start (is_end table haystack)
-        first (length haystack) same_node from recorded (q, p) w fresh rest u ends
-        (λ a. no_arrow_at table haystack (place_with table q) p a ends))
+    numbered_complete i row ends (j, ks, at, parts, along, has) =
+        let found : Found = record {
+          start = j;
+          end = p;
+          marks = marks_along haystack (place_with table) (Some (s, j)) ks;
+        } in (
+          found,
+          answer_when_over table haystack s first recorded_now (Some w) (Some found)
+              (depth_first_complete Node (numbered_step table haystack) start (is_end table haystack)
+              first (length haystack) same_node from recorded (q, p) w fresh rest u ends
+              (λ a. no_arrow_at table haystack (place_with table q) p a ends))
+              (found, ks, q, refl, parts, along, refl),
+          at,
+          refl,
+          has,
+        )

@@ -73,7 +73,7 @@ module _ (table : List (Place ℕ)) (haystack : List ℕ) (utf8 : IsUtf8 haystac
   kept_fits kept = let few = few_left in mul-le-mul_left kept (omega (arith, few))
 
   -- a search that has not begun
-  pub begun : (walk : Walk) → CanCount table left → IsFresh table haystack start walk
+  pub begun : (walk : Walk) → CanCount table 1 left → IsFresh table haystack start walk
       → IsUnderWay table haystack start s first walk
   begun walk counts fresh =
       let inside = (position_is haystack start utf8 edge).0 in
@@ -119,7 +119,7 @@ module _ (table : List (Place ℕ)) (haystack : List ℕ) (utf8 : IsUtf8 haystac
     low = let from = on.low in omega (arith, from, later)
 
     -- there is room for the start there
-    pub start_fits : CanCount table left → s < length table
+    pub start_fits : CanCount table 1 left → s < length table
         → HasRoom table haystack walk (explore s at ∷ [])
     start_fits counts lt =
         let start_is = (position_is haystack start utf8 edge).1 in

@@ -15,7 +15,8 @@ use Rattle.regex_lite_engine.specs.Walk.Machine.{Row}
 use Rattle.regex_lite_engine.specs.Walk.NumberedAnswer.{place_with, numbered_step, is_end}
 use Rattle.regex_lite_engine.specs.Walk.Outcomes.{IsNumberedOutcome}
 use Rattle.regex_lite_engine.specs.Walk.Turns.{IsBlank, IsDeadAt}
-use Rattle.regex_lite_engine.specs.Walk.Walking.{Node, WayHolds}
+use Rattle.regex_lite_engine.specs.Walk.Walking.{Node}
+use Rattle.regex_lite_engine.specs.Backtrack.Walking.{WayHolds}
 use Rattle.regex_lite_engine.proofs.backtrack.DepthFirstLemmas.{depth_first_begun, depth_first_passed, depth_first_started}
 use Rattle.regex_lite_engine.proofs.backtrack.NumberedLemmas.{numbered_over, numbered_entered, numbered_complete}
 use Rattle.regex_lite_engine.proofs.backtrack.PairLemmas.{same_pair, offset_grows, none_entered, not_both}

@@ -12,4 +12,5 @@ pub mod NumberedTreeLemmas
 pub mod NumberingLemmas
 pub mod RenumberingLemmas
 pub mod RoomLemmas
+pub mod SeveralLemmas
 pub mod WrittenOverLemmas

@@ -1,5 +1,5 @@
 -- What was counted stays counted, from one step to the next.
-use Rattle.std.proofs.Common.{◌≤◌, arith}
+use Rattle.std.proofs.Common.{arith}
 use Rattle.regex_lite_engine.specs.Search.Bounds.{StepCounts, StaysCounted}
 
 pub counted_at_first : (steps : StepCounts) → StaysCounted steps steps

@@ -11,15 +11,17 @@ use Rattle.regex_lite_engine.specs.declared.pikevm.here.Here.{Here}
 use Rattle.regex_lite_engine.specs.Graph.Places.{Condition, Arrow, Place, complete, with_arrows, free, holding, reading, taken, behind, arrived, arrow_taken, step_from}
 use Rattle.regex_lite_engine.specs.Search.Answer.{Found}
 use Rattle.regex_lite_engine.specs.Search.Marks.{marks_along}
-use Rattle.regex_lite_engine.specs.Walk.Explored.{StartsAt, IsGrown}
-use Rattle.regex_lite_engine.specs.Walk.NumberedAnswer.{place_with, numbered_step, is_end, IsOver}
-use Rattle.regex_lite_engine.specs.Walk.InStep.{Offer}
+use Rattle.regex_lite_engine.specs.Walk.Explored.{IsGrown}
+use Rattle.regex_lite_engine.specs.Walk.NumberedAnswer.{place_with, numbered_step, is_end, IsNumberedFound}
+use Rattle.regex_lite_engine.specs.Walk.NumberedList.{StartsOf, IsOverOf}
+use Rattle.regex_lite_engine.specs.Walk.InStep.{Offer, StartsBelow}
 use Rattle.regex_lite_engine.specs.Walk.Standing.{IsHere}
-use Rattle.regex_lite_engine.specs.Walk.Outcomes.{IsBestOutcome}
+use Rattle.regex_lite_engine.specs.Walk.Outcomes.{IsBestOutcome, IsBestOutcomeOf}
 use Rattle.regex_lite_engine.specs.Walk.Turns.{IsComing, FromIs}
 use Rattle.regex_lite_engine.specs.Walk.Machine.{Thread}
 use Rattle.regex_lite_engine.specs.Walk.Walking.{Node, Best, BestHolds, InStep}
-use Rattle.regex_lite_engine.proofs.laws.search.OverLemmas.{answer_when_over}
+use Rattle.regex_lite_engine.proofs.laws.several.OverListLemmas.{list_answer_when_over}
+use Rattle.regex_lite_engine.proofs.pikevm.TurnLemmas.{only_entry}
 use Rattle.regex_lite_engine.proofs.pikevm.OptionLemmas.{not_there, same_some}
 use Rattle.regex_lite_engine.proofs.pikevm.PositionLemmas as deep
 
@@ -52,43 +54,49 @@ step_in_text h (with_arrows arrows) i k m le e = go (slice_get arrows k) e
         by_end None t e = absurd (not_there e)
         by_end (Some j) t e = let le' = taken_in_text h a.condition i j le t in let same : j ≡ m.1 = ap (λ (z : Node). z.1) (same_some e) in omega (arith, le', same)
 
-module _ (table : List (Place ℕ)) (h : Text) (s first : ℕ) where
+module _ (table : List (Place ℕ)) (h : Text) (s : List ℕ) (first : ℕ) where
   nothing_beyond : (p from : ℕ) (recorded : Node → Option (List ℕ)) (coming : List (Offer Node)) (way : Option (List ℕ)) → length h < p →
       InStep table h s first (length h) p from recorded coming [] way →
       ((n : Node) (v : List ℕ) → recorded n ≡ Some v → n.1 < p) → p ≡ suc (length h) → coming ≡ []
   nothing_beyond p from recorded [] way past u before at = refl
   nothing_beyond p from recorded (o ∷ os) way past u before at = absurd (go (u.now_grown o.0 o.1 (inl (refl, refl))) (u.now_stands o.0 o.1 (inl (refl, refl))))
     where
-      go : IsGrown Node (numbered_step table h) (is_end table h) (StartsAt (λ j. (s, j)) first (length h)) recorded way o.0 o.1 → o.0.1 ≡ p → ⊥
-      go (inl (i, low, high, e, at')) pos = let same : o.0.1 ≡ i = ap (λ (z : Node). z.1) at' in omega (arith, high, past, pos, same)
+      go : IsGrown Node (numbered_step table h) (is_end table h) (StartsOf s first (length h)) recorded way o.0 o.1 → o.0.1 ≡ p → ⊥
+      go (inl (i, number, entry, low, high, is, e, at')) pos = let same : o.0.1 ≡ i = ap (λ (z : Node). z.1) at' in omega (arith, high, past, pos, same)
       go (inr (m, v, k, r, hops, e)) pos =
           let below = before m v r in
           let le = step_in_text h (place_with table m.0) m.1 k o.0 (omega (arith, below, at)) hops in
           omega (arith, le, past, pos)
 
   explored : (q from : ℕ) (recorded : Node → Option (List ℕ)) (way : Option (List ℕ)) → ((length h < from) ⊎ ((b : List ℕ) × (way ≡ Some b))) →
-      InStep table h s first (length h) q from recorded [] [] way → IsOver table h s first recorded way
+      InStep table h s first (length h) q from recorded [] [] way → IsOverOf table h s first recorded way
   explored q from recorded way enough u =
-      deep.in_step_over Node (numbered_step table h) (λ j. (s, j)) (is_end table h) first (length h) (λ x. x.1) q from recorded way enough u
+      deep.in_step_over Node (numbered_step table h) (StartsOf s first (length h)) (is_end table h) (λ x. x.1) q from recorded way
+      (λ front n (i, number, entry, low, high, is, e, f). (i, number ∷ [], e)) (all enough) u
+    where
+      all : ((length h < from) ⊎ ((b : List ℕ) × (way ≡ Some b))) → ((front : List ℕ) (n : Node) → StartsOf s first (length h) front n → StartsBelow from front) ⊎ ((b : List ℕ) × (way ≡ Some b))
+      all (inl past) = inl (λ front n (i, number, entry, low, high, is, e, f). subst (StartsBelow from) (sym e) (omega (arith, past, high)))
+      all (inr best) = inr best
 
   -- a search that is over tells the answer
-  pub answered : (best : Best) (recorded : Node → Option (List ℕ)) (way : Option (List ℕ)) → BestHolds table h s best way → IsOver table h s first recorded way → IsBestOutcome table h s first best
+  pub answered : (best : Best) (recorded : Node → Option (List ℕ)) (way : Option (List ℕ)) → BestHolds table h s best way → IsOverOf table h s first recorded way → IsBestOutcomeOf table h s first best
   answered None recorded way e over =
-      answer_when_over table h s first recorded None None (subst (λ z. IsOver table h s first recorded z) e over) refl
-  answered (Some b) recorded way (w, e, (q, end, at_end, ends, (j, ks, at, parts, along, has))) over =
-      let found : Found = record { start = j; end = end; marks = marks_along h (place_with table) (Some (s, j)) ks } in (
+      list_answer_when_over table h s first recorded None None (subst (λ z. IsOverOf table h s first recorded z) e over) refl
+  answered (Some b) recorded way (w, e, (q, end, at_end, ends, (j, number, entry, ks, at, is, parts, along, has))) over =
+      let found : Found = record { start = j; end = end; marks = marks_along h (place_with table) (Some (entry, j)) ks } in (
+        number,
         found,
-        answer_when_over table h s first recorded (Some w) (Some found) (subst (λ z. IsOver table h s first recorded z) e over) (found, ks, q, refl, parts, along, refl),
+        list_answer_when_over table h s first recorded (Some w) (Some (number, found)) (subst (λ z. IsOverOf table h s first recorded z) e over) (number, entry, found, ks, q, refl, is, parts, along, refl),
         at,
         at_end,
         has,
       )
 
-  pub ended : (p : ℕ) (cur : List Thread) (best : Best) → first ≤ p → p ≤ length h →
-      ((p ≡ length h) ⊎ ((best ≡ None → ⊥) × (length cur ≡ 0))) → IsComing table h s first (length h) (p + 1) cur best → IsBestOutcome table h s first best
-  ended p cur best low high over u = go over
+  pub ended_all : (p : ℕ) (cur : List Thread) (best : Best) → first ≤ p → p ≤ length h →
+      ((p ≡ length h) ⊎ ((best ≡ None → ⊥) × (length cur ≡ 0))) → IsComing table h s first (length h) (p + 1) cur best → IsBestOutcomeOf table h s first best
+  ended_all p cur best low high over u = go over
     where
-      with_none : u.coming ≡ [] → ((length h < u.from) ⊎ ((b : List ℕ) × (u.way ≡ Some b))) → IsBestOutcome table h s first best
+      with_none : u.coming ≡ [] → ((length h < u.from) ⊎ ((b : List ℕ) × (u.way ≡ Some b))) → IsBestOutcomeOf table h s first best
       with_none e enough = answered best u.recorded u.way u.best_holds (explored (p + 1) u.from u.recorded u.way enough
           (subst (λ z. InStep table h s first (length h) (p + 1) u.from u.recorded z [] u.way) e u.in_step))
 
@@ -100,9 +108,20 @@ module _ (table : List (Place ℕ)) (h : Text) (s first : ℕ) where
       at_end None e is same = inl (omega (arith, is, same))
       at_end (Some x) (w, e, held) is same = inr (w, e)
 
-      go : (p ≡ length h) ⊎ ((best ≡ None → ⊥) × (length cur ≡ 0)) → IsBestOutcome table h s first best
+      go : (p ≡ length h) ⊎ ((best ≡ None → ⊥) × (length cur ≡ 0)) → IsBestOutcomeOf table h s first best
       go (inl same) = with_none (nothing_beyond (p + 1) u.from u.recorded u.coming u.way (omega (arith, same)) u.in_step u.before (omega (arith, same))) (at_end best u.best_holds u.from_is same)
       go (inr (some, empty)) = let all = u.all in with_none (nil_from_length u.coming (omega (arith, all, empty))) (inr (way_of best u.best_holds some))
+
+-- of one pattern
+pub one_best : (table : List (Place ℕ)) (h : Text) (s first : ℕ) (best : Best) → IsBestOutcomeOf table h (s ∷ []) first best → IsBestOutcome table h s first best
+one_best table h s first None none = λ i q j way m. none i 0 way q j (record { entry = s; is_entry = refl; is_match = m })
+one_best table h s first (Some b) (number, found, is, from, to, held) = (
+  found,
+  subst (λ z. IsNumberedFound table h z first found) (sym (only_entry s number is.entry is.is_entry).1) is.answer,
+  from.start_told,
+  to,
+  held,
+)
 
 -- one position more
 pub bound_more : (a b p s : ℕ) (m : ℕ) → s ≤ p → a ≤ m * (p - s) → b ≤ a + m → b ≤ m * (p + 1 - s)

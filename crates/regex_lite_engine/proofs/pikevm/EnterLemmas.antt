@@ -6,6 +6,7 @@ use Rattle.regex_lite_syntax.specs.Text.{Text, after}
 use Rattle.regex_lite_syntax.specs.Ranges.{in_ranges}
 use Rattle.regex_lite_syntax.specs.Sets.{Set, just}
 use Rattle.regex_lite_syntax.specs.Tree.Looks.{holds_between}
+use Rattle.regex_lite_engine.specs.Walk.Beginnings.{Told}
 use Rattle.regex_lite_engine.specs.declared.nfa.place.Place as code
 use Rattle.regex_lite_engine.specs.declared.nfa.place.Place.TheVariants as stored
 use Rattle.regex_lite_engine.specs.declared.pikevm.here.Here.{Here}
@@ -45,7 +46,7 @@ pub reads_none : (o : Option ℕ) → reads (in_ranges []) o ≡ false
 reads_none None = refl
 reads_none (Some c) = refl
 
-module _ (table : List (Place ℕ)) (h : Text) (s first last p from now : ℕ) (i : Option ℕ) (f : ℕ → Thread) (k n : ℕ) (best : Best)
+module _ (table : List (Place ℕ)) (h : Text) (s : List ℕ) (first last p from now : ℕ) (i : Told) (f : ℕ → Thread) (k n : ℕ) (best : Best)
     (rounds : List ℕ) (row : Row) (q : ℕ) (frames : List Frame) (short : q < length rounds) (new : slice_index rounds q ≡ now → ⊥) where
   module _ (g : ℕ → Thread) (m : ℕ) where
     abbrev State : List ℕ → Row → List Frame → Type 0

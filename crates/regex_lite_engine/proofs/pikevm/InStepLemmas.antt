@@ -1,7 +1,7 @@
 -- What a walk keeps true when it passes over a node, or enters one.
 use Rattle.std.proofs.Common.{◌≡◌, ℕ, suc, ◌≤◌, ◌⊎◌, inl, inr, ⊎_elim, Bool, IsTrue, List, [], ◌∷◌, ◌++◌, Option, Some, None, refl, sym, ap, subst, ◌∙◌, arith, append-nil}
 use Rattle.regex_lite_engine.specs.Search.Preference.{IsPreferred}
-use Rattle.regex_lite_engine.specs.Walk.Explored.{NotAfter, StartsAt, IsAnswered, IsGrown}
+use Rattle.regex_lite_engine.specs.Walk.Explored.{NotAfter, IsAnswered, IsGrown}
 use Rattle.regex_lite_engine.specs.Walk.InStep as walk
 use Rattle.regex_lite_engine.specs.Walk.InStep.{StartsBelow}
 use Rattle.regex_lite_engine.proofs.pikevm.OfferLemmas as order
@@ -15,7 +15,7 @@ or_dead f (inr d) = inr d
 
 module _ (N : Type 0) (step : N → ℕ → Option N) (same : (x y : N) → (x ≡ y) ⊎ (x ≡ y → ⊥))
     (width : N → ℕ) (no_more : (n : N) (k : ℕ) → width n ≤ k → step n k ≡ None)
-    (start : ℕ → N) (is_end : N → Bool) (first last : ℕ) (position : N → ℕ) where
+    (IsStart : List ℕ → N → Type 0) (is_end : N → Bool) (position : N → ℕ) where
   abbrev Offer : Type 0
   Offer = walk.Offer N
 
@@ -32,7 +32,7 @@ module _ (N : Type 0) (step : N → ℕ → Option N) (same : (x y : N) → (x �
   offers = order.offers N step
 
   abbrev pub IsInStep : ℕ → ℕ → Recorded → List Offer → List Offer → Option (List ℕ) → Type 0
-  IsInStep p from recorded now next best = walk.IsInStep N step start is_end first last position p from recorded now next best
+  IsInStep p from recorded now next best = walk.IsInStep N step IsStart is_end position p from recorded now next best
 
   pub in_step_passed : (p from : ℕ) (recorded : Recorded) (n : N) (w v : List ℕ) (rest next : List Offer) (best : Option (List ℕ)) → recorded n ≡ Some v →
       IsInStep p from recorded ((n, w) ∷ rest) next best → IsInStep p from recorded rest next best
@@ -40,7 +40,7 @@ module _ (N : Type 0) (step : N → ℕ → Option N) (same : (x y : N) → (x �
     grown = u.grown;
     now_grown = λ m x i. u.now_grown m x (inr i);
     next_grown = u.next_grown;
-    starts = λ i q s t. or_dead (settle (start i) (i ∷ [])) (u.starts i q s t);
+    starts = λ front m is below. or_dead (settle m front) (u.starts front m is below);
     arrows = λ m x k l s t. settle l (x ++ k ∷ []) (u.arrows m x k l s t);
     best_ends = u.best_ends;
     best_least = u.best_least;
@@ -58,8 +58,8 @@ module _ (N : Type 0) (step : N → ℕ → Option N) (same : (x y : N) → (x �
     next_better = u.next_better;
   }
     where
-      settle : (m : N) (x : List ℕ) → IsAnswered N step is_end (StartsAt start first last) recorded best m x ⊎ (In m x ((n, w) ∷ rest) ⊎ In m x next) →
-          IsAnswered N step is_end (StartsAt start first last) recorded best m x ⊎ (In m x rest ⊎ In m x next)
+      settle : (m : N) (x : List ℕ) → IsAnswered N step is_end IsStart recorded best m x ⊎ (In m x ((n, w) ∷ rest) ⊎ In m x next) →
+          IsAnswered N step is_end IsStart recorded best m x ⊎ (In m x rest ⊎ In m x next)
       settle m x (inl a) = inl a
       settle m x (inr (inr i)) = inr (inr i)
       settle m x (inr (inl (inr i))) = inr (inl i)
@@ -82,16 +82,16 @@ module _ (N : Type 0) (step : N → ℕ → Option N) (same : (x y : N) → (x �
     back : (m : N) (v : List ℕ) → extended m ≡ Some v → ((m ≡ n) × (v ≡ w)) ⊎ (recorded m ≡ Some v)
     back = records.back N same recorded n w
 
-    grown_still : (m : N) (v : List ℕ) → IsGrown N step is_end (StartsAt start first last) recorded best m v → IsGrown N step is_end (StartsAt start first last) extended best m v
-    grown_still = records.grown_still N same recorded n w fresh step is_end (StartsAt start first last) best
+    grown_still : (m : N) (v : List ℕ) → IsGrown N step is_end IsStart recorded best m v → IsGrown N step is_end IsStart extended best m v
+    grown_still = records.grown_still N same recorded n w fresh step is_end IsStart best
 
-    grown_extended : (m : N) (v : List ℕ) → extended m ≡ Some v → IsGrown N step is_end (StartsAt start first last) extended best m v
-    grown_extended = records.grown_extended N same recorded n w fresh step is_end (StartsAt start first last) best u.grown (u.now_grown n w here)
+    grown_extended : (m : N) (v : List ℕ) → extended m ≡ Some v → IsGrown N step is_end IsStart extended best m v
+    grown_extended = records.grown_extended N same recorded n w fresh step is_end IsStart best u.grown (u.now_grown n w here)
 
     -- the record of n stands for the offer at n
     settle_on : (rest' next' : List Offer) → ((m : N) (x : List ℕ) → In m x rest → In m x rest') → ((m : N) (x : List ℕ) → In m x next → In m x next') →
-        (m : N) (x : List ℕ) → IsAnswered N step is_end (StartsAt start first last) recorded best m x ⊎ (In m x ((n, w) ∷ rest) ⊎ In m x next) →
-        IsAnswered N step is_end (StartsAt start first last) extended best m x ⊎ (In m x rest' ⊎ In m x next')
+        (m : N) (x : List ℕ) → IsAnswered N step is_end IsStart recorded best m x ⊎ (In m x ((n, w) ∷ rest) ⊎ In m x next) →
+        IsAnswered N step is_end IsStart extended best m x ⊎ (In m x rest' ⊎ In m x next')
     settle_on rest' next' f g m x (inl (inl (v, r, le))) = inl (inl (v, kept m v r, le))
     settle_on rest' next' f g m x (inl (inr a)) = inl (inr a)
     settle_on rest' next' f g m x (inr (inr i)) = inr (inr (g m x i))
@@ -121,11 +121,11 @@ module _ (N : Type 0) (step : N → ℕ → Option N) (same : (x y : N) → (x �
     arrows_settled : (rest' next' : List Offer) → ((m : N) (x : List ℕ) → In m x rest → In m x rest') → ((m : N) (x : List ℕ) → In m x next → In m x next') →
         ((k : ℕ) (l : N) → step n k ≡ Some l → In l (w ++ k ∷ []) rest' ⊎ In l (w ++ k ∷ []) next') →
         (m : N) (v : List ℕ) (k : ℕ) (l : N) → extended m ≡ Some v → step m k ≡ Some l →
-        IsAnswered N step is_end (StartsAt start first last) extended best l (v ++ k ∷ []) ⊎ (In l (v ++ k ∷ []) rest' ⊎ In l (v ++ k ∷ []) next')
+        IsAnswered N step is_end IsStart extended best l (v ++ k ∷ []) ⊎ (In l (v ++ k ∷ []) rest' ⊎ In l (v ++ k ∷ []) next')
     arrows_settled rest' next' f g new m v k l r s = by_case (back m v r)
       where
         by_case : ((m ≡ n) × (v ≡ w)) ⊎ (recorded m ≡ Some v) →
-            IsAnswered N step is_end (StartsAt start first last) extended best l (v ++ k ∷ []) ⊎ (In l (v ++ k ∷ []) rest' ⊎ In l (v ++ k ∷ []) next')
+            IsAnswered N step is_end IsStart extended best l (v ++ k ∷ []) ⊎ (In l (v ++ k ∷ []) rest' ⊎ In l (v ++ k ∷ []) next')
         by_case (inr q) = settle_on rest' next' f g l (v ++ k ∷ []) (u.arrows m v k l q s)
         by_case (inl e) = inr (subst (λ z. In l (z ++ k ∷ []) rest' ⊎ In l (z ++ k ∷ []) next') (sym e.1) (new k l (ap (λ z. step z k) (sym e.0) ∙ s)))
 
@@ -136,7 +136,7 @@ module _ (N : Type 0) (step : N → ℕ → Option N) (same : (x y : N) → (x �
       grown = grown_extended;
       now_grown = λ m v i. by_now_grown m v (order.in_either N step m v (offers n w (width n) 0) rest i);
       next_grown = λ m v i. grown_still m v (u.next_grown m v i);
-      starts = λ i q r t. or_dead (settle_on (offers n w (width n) 0 ++ rest) next (λ m v j. order.in_right N step m v (offers n w (width n) 0) rest j) (λ m v j. j) (start i) (i ∷ [])) (u.starts i q r t);
+      starts = λ front m is below. or_dead (settle_on (offers n w (width n) 0 ++ rest) next (λ m v j. order.in_right N step m v (offers n w (width n) 0) rest j) (λ m v j. j) m front) (u.starts front m is below);
       arrows = arrows_settled (offers n w (width n) 0 ++ rest) next (λ m v j. order.in_right N step m v (offers n w (width n) 0) rest j) (λ m v j. j)
           (λ k l s. inl (order.in_left N step l (w ++ k ∷ []) (offers n w (width n) 0) rest (arrow_offered k l s)));
       best_ends = best_ends_now;
@@ -155,7 +155,7 @@ module _ (N : Type 0) (step : N → ℕ → Option N) (same : (x y : N) → (x �
       next_better = u.next_better;
     }
       where
-        by_now_grown : (m : N) (v : List ℕ) → In m v (offers n w (width n) 0) ⊎ In m v rest → IsGrown N step is_end (StartsAt start first last) extended best m v
+        by_now_grown : (m : N) (v : List ℕ) → In m v (offers n w (width n) 0) ⊎ In m v rest → IsGrown N step is_end IsStart extended best m v
         by_now_grown m v (inr i) = grown_still m v (u.now_grown m v (inr i))
         by_now_grown m v (inl i) = let r = order.offered N step n w (width n) 0 m v i in inr (n, w, r.0, extended_here, r.2, r.3)
 
@@ -192,7 +192,7 @@ module _ (N : Type 0) (step : N → ℕ → Option N) (same : (x y : N) → (x �
       grown = grown_extended;
       now_grown = λ m v i. grown_still m v (u.now_grown m v (inr i));
       next_grown = λ m v i. by_next_grown m v (order.in_either N step m v next (offers n w (width n) 0) i);
-      starts = λ i q r t. or_dead (settle_on rest (next ++ offers n w (width n) 0) (λ m v j. j) (λ m v j. order.in_left N step m v next (offers n w (width n) 0) j) (start i) (i ∷ [])) (u.starts i q r t);
+      starts = λ front m is below. or_dead (settle_on rest (next ++ offers n w (width n) 0) (λ m v j. j) (λ m v j. order.in_left N step m v next (offers n w (width n) 0) j) m front) (u.starts front m is below);
       arrows = arrows_settled rest (next ++ offers n w (width n) 0) (λ m v j. j) (λ m v j. order.in_left N step m v next (offers n w (width n) 0) j)
           (λ k l s. inr (order.in_right N step l (w ++ k ∷ []) next (offers n w (width n) 0) (arrow_offered k l s)));
       best_ends = best_ends_now;
@@ -211,7 +211,7 @@ module _ (N : Type 0) (step : N → ℕ → Option N) (same : (x y : N) → (x �
       next_better = λ m v b i e. by_better m v b e (order.in_either N step m v next (offers n w (width n) 0) i);
     }
       where
-        by_next_grown : (m : N) (v : List ℕ) → In m v next ⊎ In m v (offers n w (width n) 0) → IsGrown N step is_end (StartsAt start first last) extended best m v
+        by_next_grown : (m : N) (v : List ℕ) → In m v next ⊎ In m v (offers n w (width n) 0) → IsGrown N step is_end IsStart extended best m v
         by_next_grown m v (inl i) = grown_still m v (u.next_grown m v i)
         by_next_grown m v (inr i) = let r = order.offered N step n w (width n) 0 m v i in inr (n, w, r.0, extended_here, r.2, r.3)
 

@@ -1,7 +1,7 @@
 -- What a walk keeps true when it comes to a match.
 use Rattle.std.proofs.Common.{◌≡◌, ℕ, ◌≤◌, ◌⊎◌, inl, inr, Bool, IsTrue, List, [], ◌∷◌, ◌++◌, Option, Some, None, refl, sym, ap, subst, ◌∙◌}
 use Rattle.regex_lite_engine.specs.Search.Preference.{IsPreferred}
-use Rattle.regex_lite_engine.specs.Walk.Explored.{NotAfter, StartsAt, IsAnswered, IsGrown}
+use Rattle.regex_lite_engine.specs.Walk.Explored.{NotAfter, IsAnswered, IsGrown}
 use Rattle.regex_lite_engine.specs.Walk.InStep as walk
 use Rattle.regex_lite_engine.specs.Walk.InStep.{StartsBelow}
 use Rattle.regex_lite_engine.proofs.pikevm.InStepLemmas as deep
@@ -13,7 +13,7 @@ use Rattle.regex_lite_engine.proofs.laws.search.WayOrderLemmas.{Before-trans, No
 
 module _ (N : Type 0) (step : N → ℕ → Option N) (same : (x y : N) → (x ≡ y) ⊎ (x ≡ y → ⊥))
     (width : N → ℕ) (no_more : (n : N) (k : ℕ) → width n ≤ k → step n k ≡ None)
-    (start : ℕ → N) (is_end : N → Bool) (first last : ℕ) (position : N → ℕ) where
+    (IsStart : List ℕ → N → Type 0) (is_end : N → Bool) (position : N → ℕ) where
   abbrev Offer : Type 0
   Offer = walk.Offer N
 
@@ -24,7 +24,7 @@ module _ (N : Type 0) (step : N → ℕ → Option N) (same : (x y : N) → (x �
   Recorded = N → Option (List ℕ)
 
   abbrev IsInStep : ℕ → ℕ → Recorded → List Offer → List Offer → Option (List ℕ) → Type 0
-  IsInStep p from recorded now next best = walk.IsInStep N step start is_end first last position p from recorded now next best
+  IsInStep p from recorded now next best = walk.IsInStep N step IsStart is_end position p from recorded now next best
 
   module _ (p from : ℕ) (recorded : Recorded) (n : N) (w : List ℕ) (fresh : recorded n ≡ None) (rest next : List Offer) (best : Option (List ℕ))
       (u : IsInStep p from recorded ((n, w) ∷ rest) next best) where
@@ -46,10 +46,10 @@ module _ (N : Type 0) (step : N → ℕ → Option N) (same : (x y : N) → (x �
     -- a match is complete there: it is the best so far, and what is left at this position is dropped
     pub in_step_complete : IsTrue (is_end n) → ((k : ℕ) → step n k ≡ None) → IsInStep p from extended [] next (Some w)
     in_step_complete ends no_arrow = record {
-      grown = λ m v r. regrown m v (records.grown_extended N same recorded n w fresh step is_end (StartsAt start first last) best u.grown (u.now_grown n w here) m v r);
+      grown = λ m v r. regrown m v (records.grown_extended N same recorded n w fresh step is_end IsStart best u.grown (u.now_grown n w here) m v r);
       now_grown = λ m v i. absurd i;
-      next_grown = λ m v i. regrown m v (records.grown_still N same recorded n w fresh step is_end (StartsAt start first last) best m v (u.next_grown m v i));
-      starts = λ i q r t. or_dead (settle (start i) (i ∷ [])) (u.starts i q r t);
+      next_grown = λ m v i. regrown m v (records.grown_still N same recorded n w fresh step is_end IsStart best m v (u.next_grown m v i));
+      starts = λ front m is below. or_dead (settle m front) (u.starts front m is below);
       arrows = λ m v k l r s. by_back m v k l s (back m v r);
       best_ends = λ b e. (n, ends, extended_here ∙ e);
       best_least = λ m v e r. (w, refl, by_end m v e (back m v r));
@@ -59,7 +59,7 @@ module _ (N : Type 0) (step : N → ℕ → Option N) (same : (x y : N) → (x �
       ahead = λ m v l x i r q. absurd i;
       now_stands = λ m v i. absurd i;
       next_stands = u.next_stands;
-      past = deep.past_now N step same width no_more start is_end first last position p from recorded n w fresh rest next best u;
+      past = deep.past_now N step same width no_more IsStart is_end position p from recorded n w fresh rest next best u;
       now_below = λ m v i. absurd i;
       next_below = u.next_below;
       best_below = λ b e. subst (λ z. StartsBelow from z) (same_some e) (u.now_below n w here);
@@ -67,13 +67,13 @@ module _ (N : Type 0) (step : N → ℕ → Option N) (same : (x y : N) → (x �
       next_better = λ m v b i e. subst (λ z. IsPreferred v z) (same_some e) (u.behind m v n w i here);
     }
       where
-        regrown : (m : N) (v : List ℕ) → IsGrown N step is_end (StartsAt start first last) extended best m v →
-            IsGrown N step is_end (StartsAt start first last) extended (Some w) m v
+        regrown : (m : N) (v : List ℕ) → IsGrown N step is_end IsStart extended best m v →
+            IsGrown N step is_end IsStart extended (Some w) m v
         regrown m v (inl g) = inl g
         regrown m v (inr g) = inr g
 
-        settle : (m : N) (x : List ℕ) → IsAnswered N step is_end (StartsAt start first last) recorded best m x ⊎ (In m x ((n, w) ∷ rest) ⊎ In m x next) →
-            IsAnswered N step is_end (StartsAt start first last) extended (Some w) m x ⊎ (⊥ ⊎ In m x next)
+        settle : (m : N) (x : List ℕ) → IsAnswered N step is_end IsStart recorded best m x ⊎ (In m x ((n, w) ∷ rest) ⊎ In m x next) →
+            IsAnswered N step is_end IsStart extended (Some w) m x ⊎ (⊥ ⊎ In m x next)
         settle m x (inl (inl (v, r, le))) = inl (inl (v, kept m v r, le))
         settle m x (inl (inr (b, e, lt))) = inl (inr (w, refl, Before-trans w b x (preferred_before w b (u.now_better n w b here e)) lt))
         settle m x (inr (inr i)) = inr (inr i)
@@ -81,7 +81,7 @@ module _ (N : Type 0) (step : N → ℕ → Option N) (same : (x y : N) → (x �
         settle m x (inr (inl (inl e))) = inl (inl (w, ap extended e.0 ∙ extended_here, inl (sym e.1)))
 
         by_back : (m : N) (v : List ℕ) (k : ℕ) (l : N) → step m k ≡ Some l → ((m ≡ n) × (v ≡ w)) ⊎ (recorded m ≡ Some v) →
-            IsAnswered N step is_end (StartsAt start first last) extended (Some w) l (v ++ k ∷ []) ⊎ (⊥ ⊎ In l (v ++ k ∷ []) next)
+            IsAnswered N step is_end IsStart extended (Some w) l (v ++ k ∷ []) ⊎ (⊥ ⊎ In l (v ++ k ∷ []) next)
         by_back m v k l s (inr r) = settle l (v ++ k ∷ []) (u.arrows m v k l r s)
         by_back m v k l s (inl e) = absurd (not_there (sym (no_arrow k) ∙ ap (λ z. step z k) (sym e.0) ∙ s))
 

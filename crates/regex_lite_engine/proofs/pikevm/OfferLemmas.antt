@@ -31,9 +31,9 @@ pub preferred_snoc : (w : List ℕ) (j k : ℕ) → j < k → IsPreferred (w ++ 
 preferred_snoc [] j k p = inl p
 preferred_snoc (x ∷ w) j k p = inr (refl, preferred_snoc w j k p)
 
-pub below_start : (from i : ℕ) (v : List ℕ) → StartsBelow from v → from ≤ i → IsPreferred v (i ∷ [])
-below_start from i [] h q = absurd h
-below_start from i (j ∷ v) h q = inl (omega (arith, h, q))
+pub below_front : (from i : ℕ) (rest v : List ℕ) → StartsBelow from v → from ≤ i → IsPreferred v (i ∷ rest)
+below_front from i rest [] h q = absurd h
+below_front from i rest (j ∷ v) h q = inl (omega (arith, h, q))
 
 pub below_append : (from : ℕ) (v x : List ℕ) → StartsBelow from v → StartsBelow from (v ++ x)
 below_append from [] x h = absurd h

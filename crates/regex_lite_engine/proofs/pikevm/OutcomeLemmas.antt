@@ -33,14 +33,15 @@ few_products a b few_a few_b =
     omega (arith, left, right)
 
 pub can_count : (table : List (Place ℕ)) (bytes : List ℕ) (s : ℕ) → IsUtf8 bytes
-    → length bytes < 2 ^ 63 → IsCountable table → CanCount table (characters_left (chars bytes) s)
-can_count table bytes s utf8 short countable =
+    → length bytes < 2 ^ 63 → IsCountable table → (patterns : ℕ) → patterns < 2 ^ 32
+    → CanCount table patterns (characters_left (chars bytes) s)
+can_count table bytes s utf8 short countable patterns few_patterns =
     let few = few_chars bytes utf8 in
     let places = countable.few_places in
     let arrows = countable.few_arrows in
     record {
-      tries = few_products (arrows_of table + 1) (characters_left (chars bytes) s + 1)
-          (omega (arith, arrows)) (omega (arith, few, short));
+      tries = few_products (arrows_of table + patterns) (characters_left (chars bytes) s + 1)
+          (omega (arith, arrows, few_patterns)) (omega (arith, few, short));
       entries = few_products (length table) (characters_left (chars bytes) s + 1)
           (omega (arith, places)) (omega (arith, few, short));
       rounds = omega (arith, few, short);

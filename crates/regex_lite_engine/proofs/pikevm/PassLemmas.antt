@@ -5,7 +5,7 @@ use Rattle.regex_lite_syntax.specs.Text.{Text}
 use Rattle.regex_lite_engine.specs.declared.pikevm.turn.Cache.{Cache}
 use Rattle.regex_lite_engine.specs.Graph.Places.{Place}
 use Rattle.regex_lite_engine.specs.Graph.Renumbered.{arrows_of}
-use Rattle.regex_lite_engine.specs.Search.Bounds.{IsBounded}
+use Rattle.regex_lite_engine.specs.Search.Bounds.{IsBoundedBy}
 use Rattle.regex_lite_engine.specs.Walk.Outcomes.{IsFresh}
 use Rattle.regex_lite_engine.specs.Walk.Passing.{IsUnderWay}
 use Rattle.regex_lite_engine.specs.Walk.Turns.{IsComing}
@@ -13,9 +13,9 @@ use Rattle.regex_lite_engine.proofs.pikevm.EndLemmas.{bound_more}
 use Rattle.regex_lite_engine.proofs.pikevm.SkipLemmas.{bound_later}
 use Rattle.regex_lite_engine.proofs.pikevm.TurnLemmas.{none_coming}
 
-module _ (table : List (Place ℕ)) (haystack : Text) (start s : ℕ) where
+module _ (table : List (Place ℕ)) (haystack : Text) (entries : List ℕ) (s : ℕ) where
   -- a search that has not begun
-  pub begun : {S : Type 0} (cache : Cache S) → IsFresh table cache → IsUnderWay table haystack start s s cache
+  pub begun : {S : Type 0} (cache : Cache S) → IsFresh table cache → IsUnderWay table haystack entries s s cache
   begun cache fresh =
       let none = fresh.no_threads in
       let tried = fresh.no_tries in
@@ -24,8 +24,8 @@ module _ (table : List (Place ℕ)) (haystack : Text) (start s : ℕ) where
       record {
         low = omega arith;
         ready = fresh.between;
-        coming = subst (λ z. IsComing table haystack start s (length haystack) s cache.walk.memory.threads z)
-            (sym fresh.none) (none_coming table haystack start s (length haystack) cache.walk.memory.threads none);
+        coming = subst (λ z. IsComing table haystack entries s (length haystack) s cache.walk.memory.threads z)
+            (sym fresh.none) (none_coming table haystack entries s (length haystack) cache.walk.memory.threads none);
         tries = omega (arith, tried, ap length none);
         entries = omega (arith, entered);
         rounds = omega (arith, rounds);
@@ -39,20 +39,20 @@ module _ (table : List (Place ℕ)) (haystack : Text) (start s : ℕ) where
 
   -- a search that has gone over a position of the haystack did no more than is allowed
   pub bounded : {S : Type 0} (q : ℕ) (cache : Cache S) → s ≤ q → q ≤ length haystack
-      → IsUnderWay table haystack start s (q + 1) cache
-      → IsBounded (length table) (arrows_of table) haystack s cache.walk.steps.tried
+      → IsUnderWay table haystack entries s (q + 1) cache
+      → IsBoundedBy (length table) (arrows_of table + length entries) haystack s cache.walk.steps.tried
       cache.walk.steps.entered cache.walk.steps.looked
   bounded q cache low high on =
       let tries = on.tries in
-      let entries = on.entries in
+      let all_entered = on.entries in
       let entered = on.ready.entered_tried in
       let looked = on.ready.looked_entered in
-      let all_tries = mul-le-mul_left (arrows_of table + 1) (within q low high) in
+      let all_tries = mul-le-mul_left (arrows_of table + length entries) (within q low high) in
       let all_entries = mul-le-mul_left (length table) (within q low high) in
       record {
         few_tried = omega (arith, tries, all_tries);
         entered_tried = entered;
-        few_entered = omega (arith, entries, all_entries);
+        few_entered = omega (arith, all_entered, all_entries);
         few_looked = omega (arith, looked);
         none_beyond = λ lt. absurd (omega (arith, lt, low, high));
       }

@@ -1,5 +1,5 @@
 -- What entering a place takes of what is left, and what it adds to frames and threads.
-use Rattle.std.proofs.Common.{Option, rules, ◌≡◌, ℕ, zero, suc, ◌+◌, ◌<◌, ◌≤◌, ◌⊎◌, inl, inr, Bool, true, false, List, [], ◌∷◌, ◌++◌, length, set, map, slice_get, slice_index, sum_by, if◌then◌else◌, ◌==◌, Some, refl, sym, ap, subst, ◌∙◌, arith, length-append, length-set}
+use Rattle.std.proofs.Common.{rules, ◌≡◌, ℕ, zero, suc, ◌+◌, ◌<◌, ◌≤◌, ◌⊎◌, inl, inr, Bool, true, false, List, [], ◌∷◌, ◌++◌, length, set, map, slice_get, slice_index, sum_by, if◌then◌else◌, ◌==◌, Some, refl, sym, ap, subst, ◌∙◌, arith, length-append, length-set}
 use Rattle.std.proofs.lemmas.List.{length-map}
 use Rattle.std.proofs.lemmas.List.Sums.{sum_by-cons}
 use Rattle.std.proofs.lemmas.Bool.{cases_lt}
@@ -8,6 +8,7 @@ use Rattle.regex_lite_syntax.specs.declared.class.ClassRange.{ClassRange}
 use Rattle.regex_lite_syntax.specs.Ranges.{in_ranges}
 use Rattle.regex_lite_syntax.specs.Sets.{just}
 use Rattle.regex_lite_syntax.specs.Tree.Looks.{holds_between}
+use Rattle.regex_lite_engine.specs.Walk.Beginnings.{Told}
 use Rattle.regex_lite_engine.specs.declared.nfa.place.Place as code
 use Rattle.regex_lite_engine.specs.declared.nfa.place.Place.TheVariants as stored
 use Rattle.regex_lite_engine.specs.declared.pikevm.here.Here.{Here}
@@ -69,7 +70,7 @@ pub entries_kept : (qs : List ℕ) → length qs ≤ kept_back (with_arrows (map
 entries_kept [] = omega arith
 entries_kept (q ∷ qs) = omega (arith, length-map qs (λ (q : ℕ). go q))
 
-module _ (here : Here) (i : Option ℕ) (row row' : Row) (fs fs' : List Frame) (t t' : List Thread) (done : Bool) where
+module _ (here : Here) (i : Told) (row row' : Row) (fs fs' : List Frame) (t t' : List Thread) (done : Bool) where
   abbrev Few : (added : ℕ) → Type 0
   Few added = (explores fs' + (length t') ≤ explores fs + (length t) + added) × (length fs' ≤ length fs + (added + 1)) × (length row' ≡ length row) × ((length t) ≤ (length t'))
 
@@ -169,7 +170,7 @@ module _ (here : Here) (i : Option ℕ) (row row' : Row) (fs fs' : List Frame) (
 threads_same : (c : ℕ) (t t' : List Thread) → Same t t' → ThreadsBelow c t → ThreadsBelow c t'
 threads_same c t t' same within k lt = subst (λ (z : Thread). z.0 < c) (sym (same_at same k)) (within k (let e : length t' ≡ length t = same_len same in omega (arith, lt, e)))
 
-pub threads_pushed : (c to : ℕ) (i : Option ℕ) (row : Row) (t t' : List Thread) → to < c → Pushed t t' (to, i, row) → ThreadsBelow c t → ThreadsBelow c t'
+pub threads_pushed : (c to : ℕ) (i : Told) (row : Row) (t t' : List Thread) → to < c → Pushed t t' (to, i, row) → ThreadsBelow c t → ThreadsBelow c t'
 threads_pushed c to i row t t' fits pushed within k lt = go (cases_lt k (length t))
   where
     go : (k < (length t)) ⊎ ((length t) ≤ k) → (thread_at t' k).0 < c
@@ -181,7 +182,7 @@ frames_all : (c width : ℕ) (qs : List ℕ) (fs : List Frame) → LeadBelow c (
 frames_all c width [] fs f within = within
 frames_all c width (q ∷ qs) fs f within = (f.0, frames_all c width qs fs f.1 within)
 
-module _ (here : Here) (i : Option ℕ) (c : ℕ) (row row' : Row) (fs fs' : List Frame) (t t' : List Thread) (done : Bool) (within : FramesBelow c (length row) fs) (all : ThreadsBelow c t) where
+module _ (here : Here) (i : Told) (c : ℕ) (row row' : Row) (fs fs' : List Frame) (t t' : List Thread) (done : Bool) (within : FramesBelow c (length row) fs) (all : ThreadsBelow c t) where
   abbrev Inside : Type 0
   Inside = FramesBelow c (length row') fs' × ThreadsBelow c t'
 

@@ -7,16 +7,19 @@ use Rattle.regex_lite_syntax.proofs.ListLemmas.{same_head, same_tail}
 use Rattle.regex_lite_engine.specs.Graph.Places.{Condition, Arrow, Place, complete, with_arrows, free, holding, reading, taken, behind, arrived, arrow_taken, step_from}
 use Rattle.regex_lite_engine.specs.Graph.Ways.{Leads, NoneTwice}
 use Rattle.regex_lite_engine.specs.Search.Offsets.{offset}
-use Rattle.regex_lite_engine.specs.Walk.Explored.{StartsAt, IsAnswered, IsDead}
+use Rattle.regex_lite_engine.specs.Walk.Beginnings.{Told}
+use Rattle.regex_lite_engine.specs.Walk.Explored.{IsAnswered, IsDead}
+use Rattle.regex_lite_engine.specs.Walk.NumberedList.{IsEntry, StartsOf, IsMatchOfAny}
 use Rattle.regex_lite_engine.specs.Walk.NumberedAnswer.{place_with, numbered_step, is_end, IsNumberedMatch}
 use Rattle.regex_lite_engine.specs.Walk.InStep.{Offer, In}
 use Rattle.regex_lite_engine.specs.Walk.Machine.{Row, Thread}
-use Rattle.regex_lite_engine.specs.Walk.Outcomes.{IsNumberedEnd}
+use Rattle.regex_lite_engine.specs.Walk.Outcomes.{IsNumberedEnd, IsNumberedEndOf}
 use Rattle.regex_lite_engine.specs.Walk.Turns.{IsComing, EndsAt}
 use Rattle.regex_lite_engine.specs.Walk.Walking.{Node, Best, BestHolds, InStep}
-use Rattle.regex_lite_engine.proofs.laws.search.OverLemmas.{starts_differ}
+use Rattle.regex_lite_engine.proofs.laws.several.OverListLemmas.{differ}
 use Rattle.regex_lite_engine.proofs.laws.search.RecordedWayLemmas.{traced, recorded_once}
 use Rattle.regex_lite_engine.proofs.pikevm.EndLemmas.{step_in_text}
+use Rattle.regex_lite_engine.proofs.pikevm.TurnLemmas.{only_entry}
 use Rattle.regex_lite_engine.proofs.pikevm.OptionLemmas.{not_there, same_some}
 use Rattle.regex_lite_engine.proofs.pikevm.here.OffsetLemmas.{same_position}
 
@@ -72,19 +75,19 @@ module _ (table : List (Place ℕ)) (haystack : Text) where
   leads_in_text (k ∷ ks) m n low (l, s, along) =
       leads_in_text ks l n (step_in_text haystack (place_with table m.0) m.1 k l low s) along
 
-  module _ (start s : ℕ) where
+  module _ (entries : List ℕ) (s : ℕ) where
     abbrev Answered : (Node → Option (List ℕ)) → Option (List ℕ) → Node → List ℕ → Type 0
     Answered recorded best =
         IsAnswered Node (numbered_step table haystack) (is_end table haystack)
-        (StartsAt (λ j. (start, j)) s (length haystack)) recorded best
+        (StartsOf entries s (length haystack)) recorded best
 
     abbrev In_step : ℕ → ℕ → (Node → Option (List ℕ)) → List (Offer Node) → Option (List ℕ)
         → Type 0
     In_step p from recorded coming way =
-        InStep table haystack start s (length haystack) p from recorded coming [] way
+        InStep table haystack entries s (length haystack) p from recorded coming [] way
 
     abbrev Coming : ℕ → List Thread → Best → Type 0
-    Coming = IsComing table haystack start s (length haystack)
+    Coming = IsComing table haystack entries s (length haystack)
 
     -- while there is no match
     module _ (p from : ℕ) (recorded : Node → Option (List ℕ)) (coming : List (Offer Node))
@@ -110,105 +113,124 @@ module _ (table : List (Place ℕ)) (haystack : Text) where
               let rest = leads_on ks l n along in
               omega (arith, at, rest)
 
-      later_than_start : (i : ℕ) (ks : List ℕ) (n : Node) → s ≤ i → i ≤ length haystack → from ≡ p
-          → Leads Node (numbered_step table haystack) (start, i) ks n
+      later_than_start : (i number entry : ℕ) (ks : List ℕ) (n : Node)
+          → IsEntry entries number entry → s ≤ i → i ≤ length haystack → from ≡ p
+          → Leads Node (numbered_step table haystack) (entry, i) ks n
           → IsTrue (is_end table haystack n) → p ≤ n.1
-      later_than_start i ks n low high same along ends = by_from (cases_lt i from)
+      later_than_start i number entry ks n is low high same along ends = by_from (cases_lt i from)
         where
-          by_case : (Answered recorded None (start, i) (i ∷ [])
-              ⊎ (In Node (start, i) (i ∷ []) coming ⊎ ⊥))
-              ⊎ IsDead Node (numbered_step table haystack) (is_end table haystack) (start, i)
+          by_case : (Answered recorded None (entry, i) (i ∷ (number ∷ []))
+              ⊎ (In Node (entry, i) (i ∷ (number ∷ [])) coming ⊎ ⊥))
+              ⊎ IsDead Node (numbered_step table haystack) (is_end table haystack) (entry, i)
               → p ≤ n.1
           by_case (inr dead) = absurd (dead ks n ends along)
-          by_case (inl (inl (inl (w, e, le)))) = later_than_entered ks (start, i) n w e along ends
+          by_case (inl (inl (inl (w, e, le)))) = later_than_entered ks (entry, i) n w e along ends
           by_case (inl (inl (inr (b, e, less)))) = absurd (not_there e)
           by_case (inl (inr (inr none))) = absurd none
           by_case (inl (inr (inl i'))) =
-              let at = u.now_stands (start, i) (i ∷ []) i' in
-              let rest = leads_on ks (start, i) n along in
+              let at = u.now_stands (entry, i) (i ∷ (number ∷ [])) i' in
+              let rest = leads_on ks (entry, i) n along in
               omega (arith, at, rest)
 
           by_from : (i < from) ⊎ (from ≤ i) → p ≤ n.1
-          by_from (inl less) = by_case (u.starts i low high less)
+          by_from (inl less) =
+              by_case (u.starts (i ∷ (number ∷ [])) (entry, i)
+              (i, number, entry, low, high, is, refl, refl) less)
           by_from (inr le) =
-              let rest = leads_on ks (start, i) n along in omega (arith, le, same, rest)
+              let rest = leads_on ks (entry, i) n along in omega (arith, le, same, rest)
 
     -- then each match ends at the position or later
-    ends_later : (p : ℕ) (threads : List Thread) → Coming p threads None → (i q j : ℕ) (way : List ℕ)
-        → IsNumberedMatch table haystack start s i way q j → p ≤ j
-    ends_later p threads u i q j way m =
+    ends_later : (p : ℕ) (threads : List Thread) → Coming p threads None → (i k : ℕ)
+        (way : List ℕ) (q j : ℕ) → IsMatchOfAny table haystack entries s i k way q j → p ≤ j
+    ends_later p threads u i k way q j m =
         later_than_start p u.from u.recorded u.coming
-        (subst (λ z. In_step p u.from u.recorded u.coming z) u.best_holds u.in_step) i way (q, j)
-        m.from m.inside u.from_is m.leads.is_way.0 m.leads.ends
+        (subst (λ z. In_step p u.from u.recorded u.coming z) u.best_holds u.in_step) i k m.entry way
+        (q, j) m.is_entry m.is_match.from m.is_match.inside u.from_is m.is_match.leads.is_way.0
+        m.is_match.leads.ends
+
+    -- a match that ends at the offset
+    record EndsWith (at : ℕ) : Type 0 where
+      start : ℕ
+      number : ℕ
+      way : List ℕ
+      last : ℕ
+      end : ℕ
+      ends_at : at ≡ offset haystack end
+      is_match : IsMatchOfAny table haystack entries s start number way last end
 
     -- the best match is one
-    best_matches : (p : ℕ) (threads : List Thread) (b : Option ℕ × ℕ × Row) → Coming p threads (Some b)
-        → (i : ℕ) × (q : ℕ) × (j : ℕ) × (way : List ℕ) × (b.1 ≡ offset haystack j)
-        × IsNumberedMatch table haystack start s i way q j
+    best_matches : (p : ℕ) (threads : List Thread) (b : Told × ℕ × Row)
+        → Coming p threads (Some b) → EndsWith b.1
     best_matches p threads b u = by_way u.best_holds
       where
-        by_way : BestHolds table haystack start (Some b) u.way
-            → (i : ℕ) × (q : ℕ) × (j : ℕ) × (way : List ℕ) × (b.1 ≡ offset haystack j)
-            × IsNumberedMatch table haystack start s i way q j
-        by_way (w, e, (q, j, at, ends, (i, ks, from_at, parts, along, has))) =
+        by_way : BestHolds table haystack entries (Some b) u.way → EndsWith b.1
+        by_way (w, e, (q, j, at, ends, (i, number, entry, ks, from_at, is, parts, along, has))) =
             let end = u.in_step.best_ends w e in
-            let differ = starts_differ (numbered_step table haystack) (is_end table haystack)
-            (λ i. (start, i)) s (length haystack) in
+            let starts = differ table haystack entries s in
             let t = traced Node (numbered_step table haystack) (is_end table haystack)
-            (StartsAt (λ i. (start, i)) s (length haystack)) u.recorded u.way differ
+            (StartsOf entries s (length haystack)) u.recorded u.way starts
             u.in_step.grown end.0 w end.2 in
             by_start t.front t.start t.is_start t.arrows (sym parts ∙ t.parts)
             (recorded_once Node (numbered_step table haystack) (is_end table haystack)
-            (StartsAt (λ i. (start, i)) s (length haystack)) u.recorded u.way differ
+            (StartsOf entries s (length haystack)) u.recorded u.way starts
             u.in_step.grown end.0 w t.front t.arrows t.start t.is_start end.2 t.parts)
           where
             by_start : (front : List ℕ) (n : Node)
-                → StartsAt (λ i. (start, i)) s (length haystack) front n → (arrows : List ℕ)
-                → i ∷ ks ≡ front ++ arrows
-                → NoneTwice Node (numbered_step table haystack) n arrows
-                → (i : ℕ) × (q : ℕ) × (j : ℕ) × (way : List ℕ) × (b.1 ≡ offset haystack j)
-                × IsNumberedMatch table haystack start s i way q j
-            by_start front n (i', low, high, front_is, n_is) arrows all once =
-                let whole : i ∷ ks ≡ i' ∷ arrows = all ∙ ap (λ z. z ++ arrows) front_is in
+                → StartsOf entries s (length haystack) front n → (arrows : List ℕ)
+                → i ∷ (number ∷ ks) ≡ front ++ arrows
+                → NoneTwice Node (numbered_step table haystack) n arrows → EndsWith b.1
+            by_start front n (i', number', entry', low, high, is', front_is, n_is) arrows all once =
+                let whole : i ∷ (number ∷ ks) ≡ i' ∷ (number' ∷ arrows)
+                = all ∙ ap (λ z. z ++ arrows) front_is in
                 let same : i ≡ i' = same_head whole in
-                let rest : ks ≡ arrows = same_tail whole in (
-                  i,
-                  q,
-                  j,
-                  ks,
-                  at,
-                  record {
-                    from = omega (arith, low, same);
-                    inside = omega (arith, high, same);
-                    leads = record {
-                      is_way = (
-                        along,
-                        subst (λ z. NoneTwice Node (numbered_step table haystack) z ks)
-                            (n_is ∙ ap (λ (z : ℕ). (start, z)) (sym same))
-                            (subst (λ z. NoneTwice Node (numbered_step table haystack) n z) (sym rest)
-                            once),
-                      );
-                      ends = ends;
+                let rest : ks ≡ arrows = same_tail (same_tail whole) in
+                let own : entry ≡ entry' = same_some (sym is
+                ∙ ap (slice_get entries) (same_head (same_tail whole)) ∙ is') in
+                record {
+                  start = i;
+                  number = number;
+                  way = ks;
+                  last = q;
+                  end = j;
+                  ends_at = at;
+                  is_match = record {
+                    entry = entry;
+                    is_entry = is;
+                    is_match = record {
+                      from = omega (arith, low, same);
+                      inside = omega (arith, high, same);
+                      leads = record {
+                        is_way = (
+                          along,
+                          subst (λ z. NoneTwice Node (numbered_step table haystack) z ks)
+                              (n_is ∙ ap (λ (z : ℕ). (z, i')) (sym own)
+                              ∙ ap (λ (z : ℕ). (entry, z)) (sym same))
+                              (subst (λ z. NoneTwice Node (numbered_step table haystack) n z)
+                              (sym rest) once),
+                        );
+                        ends = ends;
+                      };
                     };
-                  },
-                )
+                  };
+                }
 
     -- at the first position with a match, or at the end of the haystack
     pub shortest_known : (p at : ℕ) (threads threads' : List Thread) (best best' : Best) → s ≤ p
         → p ≤ length haystack → best ≡ None → at ≡ offset haystack p → EndsAt at best best'
         → ((p ≡ length haystack) ⊎ (best' ≡ None → ⊥)) → Coming p threads best
-        → Coming (p + 1) threads' best' → IsNumberedEnd table haystack start s best'
+        → Coming (p + 1) threads' best' → IsNumberedEndOf table haystack entries s best'
     shortest_known p at threads threads' best best' low high none is_at ends known before after =
         by_best best' refl
       where
         none_before : Coming p threads None
         none_before = subst (λ z. Coming p threads z) none before
 
-        by_best : (b : Best) → best' ≡ b → IsNumberedEnd table haystack start s b
-        by_best None e = λ i q j way m. (
+        by_best : (b : Best) → best' ≡ b → IsNumberedEndOf table haystack entries s b
+        by_best None e = λ i k way q j m. (
             let later = ends_later (p + 1) threads'
-            (subst (λ z. Coming (p + 1) threads' z) e after) i q j way m in
-            let inside = leads_in_text way (start, i) (q, j) m.inside m.leads.is_way.0 in
+            (subst (λ z. Coming (p + 1) threads' z) e after) i k way q j m in
+            let inside = leads_in_text way (m.entry, i) (q, j) m.is_match.inside
+            m.is_match.leads.is_way.0 in
             over known later inside)
           where
             over : {j : ℕ} → (p ≡ length haystack) ⊎ (best' ≡ None → ⊥) → p + 1 ≤ j
@@ -216,25 +238,53 @@ module _ (table : List (Place ℕ)) (haystack : Text) where
             over (inl at_end) later inside = omega (arith, at_end, later, inside)
             over (inr found) later inside = found e
         by_best (Some b) e =
-            let (i, q, j, way, ends_at, m) = best_matches (p + 1) threads' b
+            let found = best_matches (p + 1) threads' b
             (subst (λ z. Coming (p + 1) threads' z) e after) in
-            let inside = leads_in_text way (start, i) (q, j) m.inside m.leads.is_way.0 in
-            let here : j ≡ p = same_position haystack j p inside high
-            (sym ends_at ∙ ends_here ends ∙ is_at) in (
-              j,
-              (
-                (i, q, way, m),
-                λ k r l other n. (
-                    let later = ends_later p threads none_before k r l other n in
-                    omega (arith, later, here)),
-              ),
-              ends_at,
+            let m = found.is_match in
+            let inside = leads_in_text found.way (m.entry, found.start) (found.last, found.end)
+            m.is_match.inside m.is_match.leads.is_way.0 in
+            let here : found.end ≡ p = same_position haystack found.end p inside high
+            (sym found.ends_at ∙ ends_here ends ∙ is_at) in (
+              found.end,
+              record {
+                start = found.start;
+                number = found.number;
+                way = found.way;
+                last = found.last;
+                is_match = m;
+                least = λ i k way q j n. (
+                    let later = ends_later p threads none_before i k way q j n in
+                    omega (arith, later, here));
+              },
+              found.ends_at,
             )
           where
             ends_here : EndsAt at best best' → b.1 ≡ at
             ends_here (inl same) = absurd (not_there (sym none ∙ sym same ∙ e))
             ends_here (inr (i, row, f)) =
-                ap (λ (z : Option ℕ × ℕ × Row). z.1) (same_some (sym e ∙ f))
+                ap (λ (z : Told × ℕ × Row). z.1) (same_some (sym e ∙ f))
+
+-- of one pattern
+pub one_end : (table : List (Place ℕ)) (h : Text) (start s : ℕ) (best : Best)
+    → IsNumberedEndOf table h (start ∷ []) s best → IsNumberedEnd table h start s best
+one_end table h start s None none = λ i q j way m.
+    none i 0 way q j (record { entry = start; is_entry = refl; is_match = m })
+one_end table h start s (Some b) (end, is, at) = (
+  end,
+  (
+    (
+      is.start,
+      is.last,
+      is.way,
+      subst (λ z. IsNumberedMatch table h z s is.start is.way is.last end)
+          (sym (only_entry start is.number is.is_match.entry is.is_match.is_entry).1)
+          is.is_match.is_match,
+    ),
+    λ i q j way m.
+        is.least i 0 way q j (record { entry = start; is_entry = refl; is_match = m }),
+  ),
+  at,
+)
 
 pub not_true : (r : Bool) → r ≡ false → IsTrue r → ⊥
 not_true r e t = cc

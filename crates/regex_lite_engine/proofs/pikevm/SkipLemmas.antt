@@ -331,14 +331,14 @@ passes_as Passed Other h p x each w = record {
 }
 
 -- where a search stands after the positions that it passes over
-pub record Onward (table : List (Place ℕ)) (h : Text) (s first last p : ℕ) (threads : List Thread)
-    (best : Best) (x : Here) : Type 0 where
+pub record Onward (table : List (Place ℕ)) (h : Text) (s : List ℕ) (first last p : ℕ)
+    (threads : List Thread) (best : Best) (x : Here) : Type 0 where
   pub q : ℕ
   pub later : p ≤ q
   pub is : IsHere h q x
   pub coming : IsComing table h s first last q threads best
 
-pub onward : (table : List (Place ℕ)) (h : Text) (s first last p : ℕ) (threads : List Thread)
+pub onward : (table : List (Place ℕ)) (h : Text) (s : List ℕ) (first last p : ℕ) (threads : List Thread)
     (best : Best) (x : Here) → GoesOnAt table h s threads best p x
     → IsComing table h s first last p threads best → Onward table h s first last p threads best x
 onward table h s first last p threads best x (inl is) u =

@@ -1,6 +1,7 @@
 -- From thread to thread of a position.
-use Rattle.std.proofs.Common.{◌≡◌, ℕ, suc, ◌+◌, ◌^◌, ◌<◌, ◌≤◌, Bool, List, [], ◌∷◌, ◌++◌, length, if◌then◌else◌, Option, Some, None, refl, sym, ap, subst, ◌∙◌, arith}
+use Rattle.std.proofs.Common.{◌≡◌, ℕ, suc, ◌+◌, ◌^◌, ◌<◌, ◌≤◌, Bool, List, [], ◌∷◌, ◌++◌, length, if◌then◌else◌, Some, refl, sym, ap, subst, ◌∙◌, arith}
 use Rattle.regex_lite_syntax.specs.Text.{Text}
+use Rattle.regex_lite_engine.specs.Walk.Beginnings.{Told, untold}
 use Rattle.regex_lite_engine.specs.declared.pikevm.here.Here.{Here}
 use Rattle.regex_lite_engine.specs.Search.Bounds.{StepCounts}
 use Rattle.regex_lite_engine.specs.declared.pikevm.walk.Walk.{Walk}
@@ -12,9 +13,9 @@ use Rattle.regex_lite_engine.specs.Walk.Turns.{Between, StepsTo}
 use Rattle.regex_lite_engine.specs.Walk.Walking.{Node, Best, WayTold, ThreadsHold, InStep, IsWalking}
 use Rattle.regex_lite_engine.proofs.pikevm.RoomLemmas.{left_most}
 
-module _ (table : List (Place ℕ)) (h : Text) (s first last p from : ℕ) (rounds : List ℕ) (now : ℕ) (f : ℕ → Thread) (n : ℕ) (g : ℕ → Thread) (m : ℕ) (best : Best) where
+module _ (table : List (Place ℕ)) (h : Text) (s : List ℕ) (first last p from : ℕ) (rounds : List ℕ) (now : ℕ) (f : ℕ → Thread) (n : ℕ) (g : ℕ → Thread) (m : ℕ) (best : Best) where
   -- the thread that is at work does not matter once its frames are done
-  pub thread_over : (i i' : Option ℕ) (row row' : Row) (k : ℕ) → IsWalking table h s first last p from rounds now i row [] f k n g m best → IsWalking table h s first last p from rounds now i' row' [] f k n g m best
+  pub thread_over : (i i' : Told) (row row' : Row) (k : ℕ) → IsWalking table h s first last p from rounds now i row [] f k n g m best → IsWalking table h s first last p from rounds now i' row' [] f k n g m best
   thread_over i i' row row' k u = record {
     recorded = u.recorded;
     under = u.under;
@@ -32,7 +33,7 @@ module _ (table : List (Place ℕ)) (h : Text) (s first last p from : ℕ) (roun
     best_holds = u.best_holds;
   }
 
-  pub thread_taken : (k q : ℕ) (i : Option ℕ) (row : Row) → k < n → f k ≡ (q, i, row) → IsWalking table h s first last p from rounds now None [] [] f k n g m best →
+  pub thread_taken : (k q : ℕ) (i : Told) (row : Row) → k < n → f k ≡ (q, i, row) → IsWalking table h s first last p from rounds now untold [] [] f k n g m best →
       IsWalking table h s first last p from rounds now i row (explore q ∷ []) f (suc k) n g m best
   thread_taken k q i row below e u = go u.later u.later_hold u.later_all (subst (λ z. In_step (z ++ u.later)) u.frames_hold u.in_step)
     where
@@ -66,13 +67,13 @@ module _ (table : List (Place ℕ)) (h : Text) (s first last p from : ℕ) (roun
           node_of t = (t.0, p)
 
 pub stepped : (table : List (Place ℕ)) (here : Here) (now : ℕ) (f : ℕ → Thread) (n : ℕ) (r0 : List ℕ) (t0 : List Thread) (b0 : Best) (k : ℕ) (rounds rounds' : List ℕ) (t t' : List Thread)
-    (q : ℕ) (i : Option ℕ) (row row' : Row) (fs : List Frame) (done : Bool) → k < n → f k ≡ (q, i, row) → fs ≡ explore q ∷ [] →
+    (q : ℕ) (i : Told) (row row' : Row) (fs : List Frame) (done : Bool) → k < n → f k ≡ (q, i, row) → fs ≡ explore q ∷ [] →
     StepsTo table here now f n r0 t0 b0 k rounds t b0 → WalksTo table here i now rounds row fs t rounds' row' [] t' done →
     StepsTo table here now f n r0 t0 b0 (if done then n else k + 1) rounds' t' (if done then Some (i, here.at, row') else b0)
 stepped table here now f n r0 t0 b0 k rounds rounds' t t' q i row row' fs done below e ef w v = λ h p is s first last from x.
     let next : suc k ≡ k + 1 = omega arith in
     subst (λ z. Between table h s first last p from rounds' now f (if done then n else z) n t' (if done then Some (i, here.at, row') else b0)) next
-    (thread_over table h s first last p from rounds' now f n (thread_at t') (length t') (if done then Some (i, here.at, row') else b0) i None row' [] (if done then n else suc k)
+    (thread_over table h s first last p from rounds' now f n (thread_at t') (length t') (if done then Some (i, here.at, row') else b0) i untold row' [] (if done then n else suc k)
     (subst (λ z. WalksTo table here i now rounds row z t rounds' row' [] t' done) ef v h p is s first last from f (suc k) n b0
     (thread_taken table h s first last p from rounds now f n (thread_at t) (length t) b0 k q i row below e (w h p is s first last from x))))
 
@@ -137,7 +138,7 @@ module _ (table : List (Place ℕ)) {S : Type 0} (w w1 : Walk S) (q : ℕ) (em :
       (fit_pushed table w.memory.rounds w.memory.now w.memory.row w1.memory.row q (explore q ∷ w1.memory.frames) w.memory.room w.memory.next w.steps.tried w.steps.entered w.steps.looked
       inside kept few same_frames fit))
 
-  module _ (here : Here) (now : ℕ) (round : w.memory.now ≡ now) (w2 : Walk S) (i : Option ℕ) (done : Bool) (explored : Explores table here i w1 w2 (explore q ∷ w1.memory.frames) done) where
+  module _ (here : Here) (now : ℕ) (round : w.memory.now ≡ now) (w2 : Walk S) (i : Told) (done : Bool) (explored : Explores table here i w1 w2 (explore q ∷ w1.memory.frames) done) where
     round_now : w1.memory.now ≡ now
     round_now = same_now ∙ round
 

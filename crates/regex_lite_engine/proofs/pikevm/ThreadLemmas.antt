@@ -1,16 +1,39 @@
 -- Lists of threads that are the same, or have one more.
-use Rattle.std.proofs.Common.{◌≡◌, ℕ, zero, suc, ◌+◌, ◌<◌, List, [], ◌∷◌, ◌++◌, length, refl, ap, ◌∙◌, arith, length-append}
+use Rattle.std.proofs.Common.{◌≡◌, ℕ, zero, suc, ◌+◌, ◌-◌, ◌<◌, ◌≤◌, slice_get, Some, List, [], ◌∷◌, ◌++◌, length, refl, ap, ◌∙◌, arith, length-append}
+use Rattle.regex_lite_engine.specs.declared.pikevm.patterns.Start.{Start}
+use Rattle.regex_lite_engine.specs.Walk.Beginnings.{Told}
 use Rattle.regex_lite_engine.specs.Walk.Entering.{Pushed, Same}
-use Rattle.regex_lite_engine.specs.Walk.Machine.{Thread, thread_at}
+use Rattle.regex_lite_engine.specs.Walk.Machine.{Row, Thread, thread_at}
+use Rattle.regex_lite_engine.specs.Walk.Turns.{begun}
+use Rattle.regex_lite_engine.proofs.pikevm.OptionLemmas.{not_there, same_some}
 
 at_end : (ts : List Thread) (thread : Thread) → thread_at (ts ++ thread ∷ []) (length ts) ≡ thread
 at_end [] thread = refl
 at_end (t ∷ ts) thread = at_end ts thread
 
-at_front : (ts more : List Thread) (k : ℕ) → k < length ts → thread_at (ts ++ more) k ≡ thread_at ts k
+pub at_front : (ts more : List Thread) (k : ℕ) → k < length ts → thread_at (ts ++ more) k ≡ thread_at ts k
 at_front [] more k lt = absurd (omega (arith, lt))
 at_front (t ∷ ts) more zero lt = refl
 at_front (t ∷ ts) more (suc k) lt = at_front ts more k (omega (arith, lt))
+
+pub begun_length : (told : ℕ → Told) (blank : Row) (starts : List Start)
+    → length (begun told blank starts) ≡ length starts
+begun_length told blank [] = refl
+begun_length told blank (start ∷ starts) = ap suc (begun_length told blank starts)
+
+-- the thread of a start
+pub begun_at : (told : ℕ → Told) (blank : Row) (starts : List Start) (k : ℕ) (start : Start)
+    → slice_get starts k ≡ Some start
+    → thread_at (begun told blank starts) k ≡ (start.place, told start.number, blank)
+begun_at told blank [] k start e = absurd (not_there e)
+begun_at told blank (first ∷ starts) zero start e =
+    ap (λ (s : Start). (s.place, told s.number, blank)) (same_some e)
+begun_at told blank (first ∷ starts) (suc k) start e = begun_at told blank starts k start e
+
+pub at_back : (ts more : List Thread) (k : ℕ) → length ts ≤ k → thread_at (ts ++ more) k ≡ thread_at more (k - length ts)
+at_back [] more k le = let same : k ≡ k - 0 = omega arith in ap (thread_at more) same
+at_back (t ∷ ts) more zero le = absurd (omega (arith, le))
+at_back (t ∷ ts) more (suc k) le = let same : k - length ts ≡ suc k - suc (length ts) = omega arith in at_back ts more k (omega (arith, le)) ∙ ap (thread_at more) same
 
 pub same_len : {before after : List Thread} → Same before after → length after ≡ length before
 same_len same = ap length same

@@ -4,9 +4,11 @@ use Rattle.std.proofs.lemmas.Option.{slice_get_past}
 use Rattle.std.proofs.lemmas.List.{get_or-set_same, get_or-set_other}
 use Rattle.std.proofs.lemmas.Bool.{cases_eq}
 use Rattle.regex_lite_syntax.specs.Text.{Text}
+use Rattle.regex_lite_engine.specs.Walk.Beginnings.{Told}
 use Rattle.regex_lite_engine.specs.Graph.Places.{Place, complete, with_arrows, arrow_taken, step_from}
 use Rattle.regex_lite_engine.specs.Graph.Renumbered.{arrow_count}
 use Rattle.regex_lite_engine.specs.Search.Marks.{Marks, marked, over, mark_of, marks_along}
+use Rattle.regex_lite_engine.specs.Walk.NumberedList.{StartsOf}
 use Rattle.regex_lite_engine.specs.Walk.InStep.{Offer}
 use Rattle.regex_lite_engine.specs.Walk.Machine.{Row, Frame, explore, restore, Thread}
 use Rattle.regex_lite_engine.specs.Walk.NumberedAnswer.{place_with, is_complete, numbered_step, is_end}
@@ -71,17 +73,20 @@ module _ (table : List (Place ℕ)) (h : Text) where
       by_first None e = e
       by_first (Some m) e = ap (λ z. (m, w ++ j ∷ []) ∷ z) e
 
-  module _ (s : ℕ) where
-    pub holds_on : (i : Option ℕ) (row row' : Row) (n : Node) (w : List ℕ) (a : ℕ) (l : Node) → WayTold table h s i row n w → numbered_step table h n a ≡ Some l →
+  module _ (s : List ℕ) where
+    pub holds_on : (i : Told) (row row' : Row) (n : Node) (w : List ℕ) (a : ℕ) (l : Node) → WayTold table h s i row n w → numbered_step table h n a ≡ Some l →
         ((ms : Marks) → HasSlots h row ms → HasSlots h row' (over (marked (mark_of (place_with table n.0) a) n.1) ms)) → WayTold table h s i row' l (w ++ a ∷ [])
-    holds_on i row row' n w a l (j, ks, eb, e, path, has) hops f = (
+    holds_on i row row' n w a l (j, number, x, ks, eb, is, e, path, has) hops f = (
       j,
+      number,
+      x,
       ks ++ a ∷ [],
       eb,
+      is,
       ap (λ z. z ++ a ∷ []) e,
-      leads_append (numbered_step table h) ks (a ∷ []) (s, j) n l path (l, hops, refl),
-      same_slots h row' (over (marked (mark_of (place_with table n.0) a) n.1) (marks (Some (s, j)) ks)) (marks (Some (s, j)) (ks ++ a ∷ []))
-          (λ slot. sym (marks_append h (place_with table) ks (s, j) n a slot path)) (f (marks (Some (s, j)) ks) has),
+      leads_append (numbered_step table h) ks (a ∷ []) (x, j) n l path (l, hops, refl),
+      same_slots h row' (over (marked (mark_of (place_with table n.0) a) n.1) (marks (Some (x, j)) ks)) (marks (Some (x, j)) (ks ++ a ∷ []))
+          (λ slot. sym (marks_append h (place_with table) ks (x, j) n a slot path)) (f (marks (Some (x, j)) ks) has),
     )
       where
         marks : Option Node → List ℕ → Marks
@@ -110,7 +115,7 @@ module _ (table : List (Place ℕ)) (h : Text) where
         let same : k + suc (length os) ≡ suc k + length os = omega arith in
         (first, first_holds, held_more p f (suc k) os o rest (subst (λ z. o.0 ≡ ((f z).0, p)) same at) (subst (λ z. WayTold table h s (f z).1 (f z).2 o.0 o.1) same holds))
 
-    module _ (first last p from now : ℕ) (i : Option ℕ) (f : ℕ → Thread) (k n : ℕ) (g : ℕ → Thread) (m : ℕ) (best : Best) where
+    module _ (first last p from now : ℕ) (i : Told) (f : ℕ → Thread) (k n : ℕ) (g : ℕ → Thread) (m : ℕ) (best : Best) where
       abbrev State : List ℕ → Row → List Frame → Type 0
       State rounds row frames = IsWalking table h s first last p from rounds now i row frames f k n g m best
 
@@ -148,7 +153,7 @@ module _ (table : List (Place ℕ)) (h : Text) where
             later = u.later;
             coming = u.coming;
             way = u.way;
-            in_step = deep.in_step_passed Node (numbered_step table h) same_node wide no_more (λ j. (s, j)) (is_end table h) first last (λ x. x.1)
+            in_step = deep.in_step_passed Node (numbered_step table h) same_node wide no_more (StartsOf s first last) (is_end table h) (λ x. x.1)
                 p from u.recorded (q, p) w v (rest ++ u.later) u.coming u.way r (subst (λ z. In_step u.recorded (z ++ u.later) u.coming u.way) e u.in_step);
             seen = u.seen;
             met = u.met;
@@ -213,7 +218,7 @@ module _ (table : List (Place ℕ)) (h : Text) where
                   way = u.way;
                   in_step = subst (λ z. In_step (recorded_now w) z u.coming u.way) (sym (append_assoc listed rest u.later))
                       (subst (λ z. In_step (recorded_now w) (z ++ (rest ++ u.later)) u.coming u.way) (offers_listed q p w (wide (q, p)) 0)
-                      (deep.in_step_free Node (numbered_step table h) same_node wide no_more (λ j. (s, j)) (is_end table h) first last (λ x. x.1)
+                      (deep.in_step_free Node (numbered_step table h) same_node wide no_more (StartsOf s first last) (is_end table h) (λ x. x.1)
                       p from u.recorded (q, p) w fresh (rest ++ u.later) u.coming u.way (subst (λ z. In_step u.recorded (z ++ u.later) u.coming u.way) e u.in_step)
                       open_still stays));
                   seen = seen_now w;
@@ -247,7 +252,7 @@ module _ (table : List (Place ℕ)) (h : Text) where
                   coming = u.coming ++ listed;
                   way = u.way;
                   in_step = subst (λ z. In_step (recorded_now w) (rest ++ u.later) (u.coming ++ z) u.way) (offers_listed q p w (wide (q, p)) 0)
-                      (deep.in_step_read Node (numbered_step table h) same_node wide no_more (λ j. (s, j)) (is_end table h) first last (λ x. x.1)
+                      (deep.in_step_read Node (numbered_step table h) same_node wide no_more (StartsOf s first last) (is_end table h) (λ x. x.1)
                       p from u.recorded (q, p) w fresh (rest ++ u.later) u.coming u.way (subst (λ z. In_step u.recorded (z ++ u.later) u.coming u.way) e u.in_step)
                       open_still moves);
                   seen = seen_now w;
@@ -272,7 +277,7 @@ module _ (table : List (Place ℕ)) (h : Text) where
               later = [];
               coming = u.coming;
               way = Some w;
-              in_step = at_match.in_step_complete Node (numbered_step table h) same_node wide no_more (λ j. (s, j)) (is_end table h) first last (λ x. x.1)
+              in_step = at_match.in_step_complete Node (numbered_step table h) same_node wide no_more (StartsOf s first last) (is_end table h) (λ x. x.1)
                   p from u.recorded (q, p) w fresh (rest ++ u.later) u.coming u.way (subst (λ z. In_step u.recorded (z ++ u.later) u.coming u.way) e u.in_step)
                   ends (λ a. no_arrow_at (place_with table q) p a ends);
               seen = seen_now w;

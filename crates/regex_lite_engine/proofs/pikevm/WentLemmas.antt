@@ -2,6 +2,7 @@
 use Rattle.std.proofs.Common.{◌≡◌, ℕ, zero, suc, ◌+◌, ◌<◌, ◌≤◌, ◌⊎◌, inl, inr, Bool, true, false, List, [], ◌∷◌, length, set, map, slice_get, slice_set, slice_index, if◌then◌else◌, Option, Some, unwrap_or, refl, sym, ap, subst, ◌∙◌, arith, length-set}
 use Rattle.std.proofs.lemmas.List.{set-get_or, get_or-set_same, get_or-set_other}
 use Rattle.std.proofs.lemmas.Bool.{cases_eq}
+use Rattle.regex_lite_engine.specs.Walk.Beginnings.{Told}
 use Rattle.regex_lite_engine.specs.declared.nfa.place.Place as code
 use Rattle.regex_lite_engine.specs.declared.pikevm.enter.Onward.{Onward}
 use Rattle.regex_lite_engine.specs.declared.pikevm.enter.Onward.TheVariants as onward
@@ -18,7 +19,7 @@ use Rattle.regex_lite_engine.proofs.pikevm.OptionLemmas.{not_there, same_some}
 use Rattle.regex_lite_engine.proofs.pikevm.WalkLemmas.{walk_seen, walk_restored}
 use Rattle.regex_lite_engine.proofs.pikevm.RoomLemmas.{left_enter, enters_few, enters_keeps, enters_reads, enters_within}
 
-pub went_seen : (table : List (Place ℕ)) (here : Here) (i : Option ℕ) (now : ℕ) (rounds rounds' : List ℕ) (row : Row) (q : ℕ) (fs : List Frame) (room : ℕ) (t : List Thread) (tried entered looked : ℕ) →
+pub went_seen : (table : List (Place ℕ)) (here : Here) (i : Told) (now : ℕ) (rounds rounds' : List ℕ) (row : Row) (q : ℕ) (fs : List Frame) (room : ℕ) (t : List Thread) (tried entered looked : ℕ) →
     IsFit table rounds now row (explore q ∷ fs) room t tried entered looked → slice_index rounds q ≡ now → rounds' ≡ slice_set rounds q now →
     Went table here i now rounds row (explore q ∷ fs) t tried entered rounds' row fs room t (tried + 1) entered looked false
 went_seen table here i now rounds rounds' row q fs room t tried entered looked fit was e =
@@ -46,7 +47,7 @@ went_seen table here i now rounds rounds' row q fs room t tried entered looked f
       spent_entries = omega arith;
     })
 
-pub went_restored : (table : List (Place ℕ)) (here : Here) (i : Option ℕ) (now : ℕ) (rounds : List ℕ) (row : Row) (slot : ℕ) (old : Option ℕ) (fs : List Frame) (room : ℕ) (t : List Thread) (tried entered looked : ℕ) →
+pub went_restored : (table : List (Place ℕ)) (here : Here) (i : Told) (now : ℕ) (rounds : List ℕ) (row : Row) (slot : ℕ) (old : Option ℕ) (fs : List Frame) (room : ℕ) (t : List Thread) (tried entered looked : ℕ) →
     IsFit table rounds now row (restore slot old ∷ fs) room t tried entered looked →
     Went table here i now rounds row (restore slot old ∷ fs) t tried entered rounds (slice_set row slot old) fs room t tried entered looked false
 went_restored table here i now rounds row slot old fs room t tried entered looked fit =
@@ -73,7 +74,7 @@ went_restored table here i now rounds row slot old fs room t tried entered looke
     }
 
 -- a new place is entered; at a match what is left is dropped
-pub went_entered : (table : List (Place ℕ)) (here : Here) (i : Option ℕ) (now : ℕ) (rounds rounds' : List ℕ) (row row' : Row) (q : ℕ) (x : code.Place) (fs fs' fs'' : List Frame) (room : ℕ) (t t' : List Thread)
+pub went_entered : (table : List (Place ℕ)) (here : Here) (i : Told) (now : ℕ) (rounds rounds' : List ℕ) (row row' : Row) (q : ℕ) (x : code.Place) (fs fs' fs'' : List Frame) (room : ℕ) (t t' : List Thread)
     (tried entered looked : ℕ) (done : Bool) →
     LeadsBelow (length table) (place_of x) → IsFit table rounds now row (explore q ∷ fs) room t tried entered looked → (slice_index rounds q ≡ now → ⊥) → rounds' ≡ slice_set rounds q now →
     slice_get table q ≡ Some (place_of x) → Enters here i x row fs t row' fs' t' done →
@@ -164,19 +165,19 @@ goes_on onward.Back d = refl
 goes_on onward.Complete d = absurd (d refl)
 
 -- a walk so far, and what is kept of the counts
-pub record IsUnder (table : List (Place ℕ)) (here : Here) (i : Option ℕ) (now : ℕ) (rounds : List ℕ) (row : Row) (frames : List Frame) (t : List Thread) (tried entered : ℕ)
+pub record IsUnder (table : List (Place ℕ)) (here : Here) (i : Told) (now : ℕ) (rounds : List ℕ) (row : Row) (frames : List Frame) (t : List Thread) (tried entered : ℕ)
     (rounds' : List ℕ) (row' : Row) (frames' : List Frame) (t' : List Thread) (tried' entered' : ℕ) : Type 0 where
   pub walks : WalksTo table here i now rounds row frames t rounds' row' frames' t' false
   pub spent : due_tries table rounds' now frames' t' tried' ≤ due_tries table rounds now frames t tried
   pub spent_entries : due_entries table rounds' now entered' ≤ due_entries table rounds now entered
 
 -- frames were taken off up to the next place
-pub record IsBack (table : List (Place ℕ)) (here : Here) (i : Option ℕ) (now : ℕ) (rounds : List ℕ) (row : Row) (frames : List Frame) (left : Row × List Frame) (room : ℕ) (t : List Thread) (tried entered looked : ℕ) : Type 0 where
+pub record IsBack (table : List (Place ℕ)) (here : Here) (i : Told) (now : ℕ) (rounds : List ℕ) (row : Row) (frames : List Frame) (left : Row × List Frame) (room : ℕ) (t : List Thread) (tried entered looked : ℕ) : Type 0 where
   pub fit : IsFit table rounds now left.0 left.1 room t tried entered looked
   pub under : IsUnder table here i now rounds row frames t tried entered rounds left.0 left.1 t tried entered
   pub few : length left.1 ≤ length frames
 
-pub went_back : (table : List (Place ℕ)) (here : Here) (i : Option ℕ) (now : ℕ) (rounds : List ℕ) (row : Row) (fs : List Frame) (room : ℕ) (t : List Thread) (tried entered looked : ℕ) →
+pub went_back : (table : List (Place ℕ)) (here : Here) (i : Told) (now : ℕ) (rounds : List ℕ) (row : Row) (fs : List Frame) (room : ℕ) (t : List Thread) (tried entered looked : ℕ) →
     IsFit table rounds now row fs room t tried entered looked → IsBack table here i now rounds row fs (unwound row fs) room t tried entered looked
 went_back table here i now rounds row [] room t tried entered looked fit = record {
   fit = fit;
@@ -204,7 +205,7 @@ went_back table here i now rounds row (restore slot old ∷ fs) room t tried ent
     }
 
 -- so far, then a place, and back to the next one
-pub under_back : (table : List (Place ℕ)) (here : Here) (i : Option ℕ) (now : ℕ) (rounds : List ℕ) (row : Row) (fs : List Frame) (t : List Thread) (tried entered : ℕ)
+pub under_back : (table : List (Place ℕ)) (here : Here) (i : Told) (now : ℕ) (rounds : List ℕ) (row : Row) (fs : List Frame) (t : List Thread) (tried entered : ℕ)
     (rounds1 : List ℕ) (row1 : Row) (fs1 : List Frame) (t1 : List Thread) (tried1 entered1 : ℕ)
     (rounds2 : List ℕ) (row2 : Row) (fs2 : List Frame) (room : ℕ) (t2 : List Thread) (tried2 entered2 looked2 : ℕ) (left : Row × List Frame) →
     IsUnder table here i now rounds row fs t tried entered rounds1 row1 fs1 t1 tried1 entered1 →

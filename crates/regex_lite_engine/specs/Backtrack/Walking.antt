@@ -5,21 +5,30 @@ use Rattle.regex_lite_syntax.specs.Tree.Matches.{IsPosition}
 use Rattle.regex_lite_engine.specs.Backtrack.DepthFirst.{IsDepthFirst}
 use Rattle.regex_lite_engine.specs.Backtrack.Machine.{Frame, explore, restore, Pairs, was_entered}
 use Rattle.regex_lite_engine.specs.Graph.Places.{Place}
-use Rattle.regex_lite_engine.specs.Search.Offsets.{offset, IsOffset}
+use Rattle.regex_lite_engine.specs.Search.Offsets.{offset, IsOffset, HasSlots}
+use Rattle.regex_lite_engine.specs.Search.Marks.{marks_along}
+use Rattle.regex_lite_engine.specs.Graph.Ways.{Leads}
 use Rattle.regex_lite_engine.specs.Walk.InStep.{Offer}
 use Rattle.regex_lite_engine.specs.Walk.Machine.{Row}
-use Rattle.regex_lite_engine.specs.Walk.NumberedAnswer.{numbered_step, is_end}
+use Rattle.regex_lite_engine.specs.Walk.NumberedAnswer.{place_with, numbered_step, is_end}
 use Rattle.regex_lite_engine.specs.Walk.Turns.{IsBlank}
-use Rattle.regex_lite_engine.specs.Walk.Walking.{Node, WayHolds}
+use Rattle.regex_lite_engine.specs.Walk.Walking.{Node}
 
 module _ (table : List (Place ℕ)) (haystack : Text) (s : ℕ) where
+  -- the way w leads to n from place s at the offset i, and the row has what it marks
+  abbrev pub WayHolds : (i : ℕ) → Row → Node → (w : List ℕ) → Type 0
+  WayHolds i row n w =
+      (j : ℕ) × (ks : List ℕ) × (i ≡ offset haystack j) × (w ≡ j ∷ ks)
+      × Leads Node (numbered_step table haystack) (s, j) ks n
+      × HasSlots haystack row (marks_along haystack (place_with table) (Some (s, j)) ks)
+
   -- The frames hold the offers, the first on top. The row of each is that which stands when its
   -- frame comes off, and when all have come off no slot is marked
   abbrev pub FramesHold : (i : ℕ) → Row → List Frame → List (Offer Node) → Type 0
   FramesHold i row [] offers = (offers ≡ []) × IsBlank row
   FramesHold i row (explore q at ∷ frames) offers =
       (p : ℕ) × (w : List ℕ) × (rest : List (Offer Node)) × IsOffset haystack p at
-      × (offers ≡ ((q, p), w) ∷ rest) × WayHolds table haystack s i row (q, p) w
+      × (offers ≡ ((q, p), w) ∷ rest) × WayHolds i row (q, p) w
       × FramesHold i row frames rest
   FramesHold i row (restore slot old ∷ frames) offers =
       FramesHold i (slice_set row slot old) frames offers

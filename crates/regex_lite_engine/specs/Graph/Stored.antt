@@ -8,7 +8,15 @@ use Rattle.regex_lite_engine.specs.declared.nfa.place.Place.TheVariants as store
 use Rattle.regex_lite_engine.specs.declared.nfa.kept_back.KeptBack.{KeptBack}
 use Rattle.regex_lite_engine.specs.declared.nfa.heads.Heads.{Heads}
 
--- a graph as callers see it
+-- the table of a graph as callers see it
+pub record StoredTable : Type 0 where
+  pub places : List code.Place
+  -- how many arrows the places have
+  pub arrows : ℕ
+  -- how many places read a character
+  pub reading : ℕ
+
+-- the graph of one pattern as callers see it
 pub record StoredGraph : Type 0 where
   pub places : List code.Place
   -- the number of the place where a search starts
@@ -34,6 +42,10 @@ place_of (stored.Choice first second) = with_arrows (go first ∷ go second ∷ 
 place_of (stored.Branches entries) = with_arrows (map go entries.items)
 place_of stored.Match = complete
 
+-- the places of the table
+abbrev pub places_of : StoredTable → List (Place ℕ)
+places_of table = map place_of table.places
+
 -- the places of the graph
 abbrev pub table_of : StoredGraph → List (Place ℕ)
 table_of graph = map place_of graph.places
@@ -48,20 +60,29 @@ abbrev pub LeadsBelow : ℕ → Place ℕ → Type 0
 LeadsBelow n complete = Unit {0}
 LeadsBelow n (with_arrows arrows) = LeadBelow n arrows
 
+-- the arrows lead to such numbers
+abbrev pub LeadInto : (Part : ℕ → Type 0) → List (Arrow ℕ) → Type 0
+LeadInto Part [] = Unit {0}
+LeadInto Part (arrow ∷ arrows) = Part arrow.to × LeadInto Part arrows
+
+-- those of the place do
+abbrev pub LeadsInto : (Part : ℕ → Type 0) → Place ℕ → Type 0
+LeadsInto Part complete = Unit {0}
+LeadsInto Part (with_arrows arrows) = LeadInto Part arrows
+
 -- what a search keeps back that enters each of these places once, without slots and with them
 pub record IsKeptBackOf (table : List (Place ℕ)) (kept : KeptBack) : Type 0 where
   pub without_slots : kept.without_slots ≡ sum_by (kept_back_with 0) table
   pub with_slots : kept.with_slots ≡ kept_back_of table
 
--- a search starts at a place and is led to places, and neither places nor arrows are more than can
--- be numbered. So many of the places read a character, and a search keeps back less than there are
--- places
-pub record IsClosed (places : List code.Place) (start arrows reading : ℕ) : Type 0 where
-  pub start_inside : start < length places
+-- a search is led to places of the table, and neither places nor arrows are more than can be
+-- numbered. So many of the places read a character, and a search keeps back less than there are
+-- places. A table of no pattern has none
+pub record IsClosed (places : List code.Place) (arrows reading : ℕ) : Type 0 where
   pub each_inside : (q : ℕ) (place : code.Place) → slice_get places q ≡ Some place
       → LeadsBelow (length places) (place_of place)
   pub few_places : length places < 2 ^ 32
   pub few_arrows : arrows < 2 ^ 34
-  pub few_reading : reading < length places
+  pub few_reading : 0 < length places → reading < length places
   pub each_reading : reading_of (map place_of places) ≡ reading
-  pub few_kept_back : kept_back_of (map place_of places) < length places
+  pub few_kept_back : 0 < length places → kept_back_of (map place_of places) < length places

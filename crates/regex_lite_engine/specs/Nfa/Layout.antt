@@ -3,6 +3,7 @@
 use Rattle.std.specs.Prelude.{◌≡◌, ℕ, zero, suc, ◌+◌, ◌-◌, ◌*◌, Bool, true, false, List, [], ◌∷◌, ◌++◌, length, map, Option, Some, None}
 use Rattle.regex_lite_syntax.specs.Tree.{Tree, Trees, empty, character, class, look, repetition, capture, concat, alternation, none, more}
 use Rattle.regex_lite_syntax.specs.Tree.Properties.{nullable}
+use Rattle.regex_lite_engine.specs.Graph.PlaceCounts.{whole_places}
 use Rattle.regex_lite_engine.specs.Graph.Places.{Place, complete, with_arrows, go, go_marking, go_holding, choice, one_char, one_of}
 
 -- places, and the number of the one where they are entered
@@ -136,9 +137,28 @@ abbrev mutual
       let later = branches_layout rest (base + length first.0) exit in
       (first.0 ++ later.0, first.1 ∷ later.1)
 
--- the layout of the whole pattern, behind the place with number 0 where the match is complete
+-- the layout of a whole pattern, behind the place with this number where its match is complete
+abbrev pub pattern_layout : Tree → (base : ℕ) → Fragment
+pattern_layout tree base = capture_layout 0 (layout tree) (base + 1) base
+
+abbrev pub pattern_table : Tree → (base : ℕ) → List (Place ℕ)
+pattern_table tree base = complete ∷ (pattern_layout tree base).0
+
+-- patterns one behind another
+abbrev pub patterns_table : List Tree → (base : ℕ) → List (Place ℕ)
+patterns_table [] base = []
+patterns_table (tree ∷ trees) base =
+    pattern_table tree base ++ patterns_table trees (base + whole_places tree)
+
+-- where each is entered
+abbrev pub patterns_entries : List Tree → (base : ℕ) → List ℕ
+patterns_entries [] base = []
+patterns_entries (tree ∷ trees) base =
+    (pattern_layout tree base).1 ∷ patterns_entries trees (base + whole_places tree)
+
+-- one pattern, the place where its match is complete with number 0
 abbrev pub whole_layout : Tree → Fragment
-whole_layout tree = capture_layout 0 (layout tree) 1 0
+whole_layout tree = pattern_layout tree 0
 
 abbrev pub whole_table : Tree → List (Place ℕ)
-whole_table tree = complete ∷ (whole_layout tree).0
+whole_table tree = pattern_table tree 0

@@ -1,11 +1,12 @@
 -- How the working memory of a search lies in its cells and rows.
-use Rattle.std.specs.Prelude.{◌≡◌, ◌+◌, ◌-◌, ◌*◌, ◌≤◌, ◌<◌, ℕ, List, [], ◌++◌, take, drop, replicate, length, map, Option, None, slice_index, slice_index_or}
+use Rattle.std.specs.Prelude.{◌≡◌, ◌+◌, ◌-◌, ◌*◌, ◌≤◌, ◌<◌, ℕ, List, [], ◌++◌, take, drop, replicate, length, map, None, slice_index, slice_index_or}
 use Rattle.std.specs.List.{range_with_len}
 use Rattle.regex_lite_engine.specs.declared.pikevm.cell.Cell.{Cell}
 use Rattle.regex_lite_engine.specs.declared.pikevm.cell.Frame as code
 use Rattle.regex_lite_engine.specs.declared.pikevm.cell.Frame.TheVariants as stored
 use Rattle.regex_lite_engine.specs.declared.pikevm.cell.Side.{Side}
 use Rattle.regex_lite_engine.specs.declared.pikevm.cell.Side.TheVariants.{First, Second}
+use Rattle.regex_lite_engine.specs.Walk.Beginnings.{Told, untold}
 use Rattle.regex_lite_engine.specs.Walk.Machine.{Row, Frame, explore, restore, Thread}
 
 -- row k of rows of one width that lie one behind the other
@@ -70,15 +71,15 @@ row_on First k = 2 * k + 1
 row_on Second k = 2 * k + 2
 
 -- what the thread tells of where its way began
-abbrev pub start_told : {S : Type 0} → (S → Option ℕ) → Side → Cell S → Option ℕ
+abbrev pub start_told : {S : Type 0} → (S → Told) → Side → Cell S → Told
 start_told told side cell = told (start_on side cell)
 
-module _ {S : Type 0} (told : S → Option ℕ) (side : Side) (cells : List (Cell S)) (rows : List Row)
+module _ {S : Type 0} (told : S → Told) (side : Side) (cells : List (Cell S)) (rows : List Row)
     (room : ℕ) where
   abbrev pub thread_on : ℕ → Thread
   thread_on k = (
     slice_index (map (place_on side) cells) k,
-    slice_index_or (map (start_told told side) cells) k None,
+    slice_index_or (map (start_told told side) cells) k untold,
     nth_row rows (row_on side k),
   )
 

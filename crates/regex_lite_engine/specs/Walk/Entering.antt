@@ -4,6 +4,7 @@ use Rattle.std.specs.Prelude.{◌≡◌, ◌≤◌, ◌<◌, ◌⊎◌, ℕ, Boo
 use Rattle.regex_lite_syntax.specs.Ranges.{in_ranges}
 use Rattle.regex_lite_syntax.specs.Sets.{Set, just}
 use Rattle.regex_lite_syntax.specs.Tree.Looks.{holds_between}
+use Rattle.regex_lite_engine.specs.Walk.Beginnings.{Told}
 use Rattle.regex_lite_engine.specs.declared.nfa.place.Place.{Place}
 use Rattle.regex_lite_engine.specs.declared.nfa.place.Place.TheVariants as stored
 use Rattle.regex_lite_engine.specs.declared.pikevm.enter.Onward as code
@@ -49,7 +50,7 @@ SlotMarked at slot to row frames row' frames' =
     ⊎ ((frames ≡ []) × (frames' ≡ explore to ∷ frames))))
     ⊎ ((length row ≤ slot) × (row' ≡ row) × (frames' ≡ explore to ∷ frames))
 
-module _ (here : Here) (i : Option ℕ) where
+module _ (here : Here) (i : Told) where
   -- i is told of where the way to the place began; `done` tells that a match is complete there
   abbrev pub Enters : Place → Row → List Frame → List Thread → Row → List Frame → List Thread
       → (done : Bool) → Type 0

@@ -2,7 +2,7 @@
 -- it has still to follow. Nodes stand at positions, and a way has its start in front.
 use Rattle.std.specs.Prelude.{◌≡◌, ◌<◌, ◌≤◌, ◌⊎◌, ℕ, suc, Bool, IsTrue, List, [], ◌∷◌, ◌++◌, Option, Some}
 use Rattle.regex_lite_engine.specs.Search.Preference.{IsPreferred}
-use Rattle.regex_lite_engine.specs.Walk.Explored.{NotAfter, StartsAt, IsAnswered, IsGrown, IsDead}
+use Rattle.regex_lite_engine.specs.Walk.Explored.{NotAfter, IsAnswered, IsGrown, IsDead}
 
 -- a node, and a way to it
 abbrev pub Offer : Type 0 → Type 0
@@ -23,26 +23,26 @@ module _ (N : Type 0) where
   Ordered [] = Unit {0}
   Ordered (o ∷ os) = ((n : N) (w : List ℕ) → In n w os → IsPreferred o.1 w) × Ordered os
 
-module _ (N : Type 0) (step : N → ℕ → Option N) (start : ℕ → N) (is_end : N → Bool)
-    (first last : ℕ) (position : N → ℕ) where
+module _ (N : Type 0) (step : N → ℕ → Option N) (IsStart : (front : List ℕ) → N → Type 0)
+    (is_end : N → Bool) (position : N → ℕ) where
   -- At position p. What is offered there are the ways of `now`, and what is offered at the next
   -- position so far those of `next`. The starts below `from` were offered, or lead to no end
   pub record IsInStep (p from : ℕ) (recorded : N → Option (List ℕ)) (now next : List (Offer N))
       (best : Option (List ℕ)) : Type 0 where
     -- each way is a start alone, or a recorded way and one arrow
     pub grown : (n : N) (w : List ℕ) → recorded n ≡ Some w
-        → IsGrown N step is_end (StartsAt start first last) recorded best n w
+        → IsGrown N step is_end IsStart recorded best n w
     pub now_grown : (n : N) (w : List ℕ) → In N n w now
-        → IsGrown N step is_end (StartsAt start first last) recorded best n w
+        → IsGrown N step is_end IsStart recorded best n w
     pub next_grown : (n : N) (w : List ℕ) → In N n w next
-        → IsGrown N step is_end (StartsAt start first last) recorded best n w
+        → IsGrown N step is_end IsStart recorded best n w
     -- nothing is forgotten
-    pub starts : (i : ℕ) → first ≤ i → i ≤ last → i < from
-        → (IsAnswered N step is_end (StartsAt start first last) recorded best (start i) (i ∷ [])
-        ⊎ (In N (start i) (i ∷ []) now ⊎ In N (start i) (i ∷ []) next))
-        ⊎ IsDead N step is_end (start i)
+    pub starts : (front : List ℕ) (n : N) → IsStart front n → StartsBelow from front
+        → (IsAnswered N step is_end IsStart recorded best n front
+        ⊎ (In N n front now ⊎ In N n front next))
+        ⊎ IsDead N step is_end n
     pub arrows : (n : N) (w : List ℕ) (k : ℕ) (m : N) → recorded n ≡ Some w → step n k ≡ Some m
-        → IsAnswered N step is_end (StartsAt start first last) recorded best m (w ++ k ∷ [])
+        → IsAnswered N step is_end IsStart recorded best m (w ++ k ∷ [])
         ⊎ (In N m (w ++ k ∷ []) now ⊎ In N m (w ++ k ∷ []) next)
     -- the best way is that of the ends which is preferred
     pub best_ends : (b : List ℕ) → best ≡ Some b

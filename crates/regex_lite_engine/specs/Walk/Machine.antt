@@ -1,5 +1,6 @@
 -- What a search keeps while it goes over one position.
-use Rattle.std.specs.Prelude.{ℕ, List, [], ◌∷◌, Option, None, slice_index_or, slice_set}
+use Rattle.std.specs.Prelude.{ℕ, List, [], ◌∷◌, Option, slice_index_or, slice_set}
+use Rattle.regex_lite_engine.specs.Walk.Beginnings.{Told, untold}
 
 -- the offset that each slot holds
 abbrev pub Row : Type 0
@@ -17,13 +18,13 @@ unwound row [] = (row, [])
 unwound row (explore place ∷ frames) = (row, explore place ∷ frames)
 unwound row (restore slot old ∷ frames) = unwound (slice_set row slot old) frames
 
--- a place, what is told of the offset where its way began, and a row
+-- a place, what is told of where its way began, and a row
 abbrev pub Thread : Type 0
-Thread = ℕ × Option ℕ × Row
+Thread = ℕ × Told × Row
 
 -- the thread with this number
 abbrev pub thread_at : List Thread → ℕ → Thread
-thread_at threads k = slice_index_or threads k (0, None, [])
+thread_at threads k = slice_index_or threads k (0, untold, [])
 
 -- what the working memory of a search stands for
 pub record State : Type 0 where
@@ -40,8 +41,8 @@ pub record State : Type 0 where
   -- how many threads there may be in each list
   pub room : ℕ
 
--- what the store of the best match stands for: what is told of the offset of its start, and that of
--- its end; its row, or that of an earlier match
+-- what the store of the best match stands for: what is told of its start, and the offset of its
+-- end; its row, or that of an earlier match
 pub record BestState : Type 0 where
-  pub found : Option (Option ℕ × ℕ)
+  pub found : Option (Told × ℕ)
   pub row : Row

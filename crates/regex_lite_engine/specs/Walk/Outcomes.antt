@@ -6,9 +6,10 @@ use Rattle.regex_lite_engine.specs.declared.pikevm.turn.Cache.{Cache}
 use Rattle.regex_lite_engine.specs.Graph.Places.{Place}
 use Rattle.regex_lite_engine.specs.Graph.Renumbered.{arrows_of}
 use Rattle.regex_lite_engine.specs.Search.Answer.{Found}
-use Rattle.regex_lite_engine.specs.Walk.Beginnings.{Tells}
+use Rattle.regex_lite_engine.specs.Walk.Beginnings.{IsTold, Tells}
 use Rattle.regex_lite_engine.specs.Walk.Machine.{Row}
 use Rattle.regex_lite_engine.specs.Walk.NumberedAnswer.{IsNumberedAnswer, IsNumberedShortest}
+use Rattle.regex_lite_engine.specs.Walk.NumberedList.{IsNumberedAnswerOf, IsNumberedShortestOf}
 use Rattle.regex_lite_engine.specs.Search.Offsets.{offset, HasSlots}
 use Rattle.regex_lite_engine.specs.Walk.Walking.{Best}
 use Rattle.regex_lite_engine.specs.Walk.Turns.{best_of}
@@ -22,14 +23,24 @@ match_told (Some outcome) = Some (outcome.start, outcome.end, outcome.slots.item
 -- the match of which the start is kept
 abbrev pub with_start_kept : Option (ℕ × ℕ × Row) → Best
 with_start_kept None = None
-with_start_kept (Some found) = Some (Some found.0, found.1, found.2)
+with_start_kept (Some found) =
+    Some (record { at = Some found.0; number = None }, found.1, found.2)
 
 -- the best match has the offsets of the answer, its start as far as it is told
 abbrev pub IsBestOutcome : List (Place ℕ) → Text → (start s : ℕ) → Best → Type 0
 IsBestOutcome table haystack start s None = IsNumberedAnswer table haystack start s None
 IsBestOutcome table haystack start s (Some best) =
     (found : Found) × IsNumberedAnswer table haystack start s (Some found)
-    × Tells best.0 (offset haystack found.start) × (best.1 ≡ offset haystack found.end)
+    × IsTold best.0.at (offset haystack found.start) × (best.1 ≡ offset haystack found.end)
+    × HasSlots haystack best.2 found.marks
+
+-- the same of a search for several patterns
+abbrev pub IsBestOutcomeOf : List (Place ℕ) → Text → (entries : List ℕ) → (s : ℕ) → Best → Type 0
+IsBestOutcomeOf table haystack entries s None = IsNumberedAnswerOf table haystack entries s None
+IsBestOutcomeOf table haystack entries s (Some best) =
+    (number : ℕ) × (found : Found)
+    × IsNumberedAnswerOf table haystack entries s (Some (number, found))
+    × Tells best.0 (offset haystack found.start) number × (best.1 ≡ offset haystack found.end)
     × HasSlots haystack best.2 found.marks
 
 -- the match has all of them
@@ -43,6 +54,13 @@ abbrev pub IsNumberedEnd : List (Place ℕ) → Text → (start s : ℕ) → Bes
 IsNumberedEnd table haystack start s None = IsNumberedShortest table haystack start s None
 IsNumberedEnd table haystack start s (Some best) =
     (end : ℕ) × IsNumberedShortest table haystack start s (Some end)
+    × (best.1 ≡ offset haystack end)
+
+-- the same of a search for several patterns
+abbrev pub IsNumberedEndOf : List (Place ℕ) → Text → (entries : List ℕ) → (s : ℕ) → Best → Type 0
+IsNumberedEndOf table haystack entries s None = IsNumberedAnswerOf table haystack entries s None
+IsNumberedEndOf table haystack entries s (Some best) =
+    (end : ℕ) × IsNumberedShortestOf table haystack entries s end
     × (best.1 ≡ offset haystack end)
 
 -- a search from position s on has not begun. There may have been rounds of others
@@ -59,8 +77,8 @@ pub record IsCountable (table : List (Place ℕ)) : Type 0 where
   pub few_places : length table < 2 ^ 32
   pub few_arrows : arrows_of table < 2 ^ 34
 
--- the counts of a search over so many characters fit
-pub record CanCount (table : List (Place ℕ)) (characters : ℕ) : Type 0 where
-  pub tries : (arrows_of table + 1) * (characters + 1) < 2 ^ 127
+-- the counts of a search for so many patterns over so many characters fit
+pub record CanCount (table : List (Place ℕ)) (patterns characters : ℕ) : Type 0 where
+  pub tries : (arrows_of table + patterns) * (characters + 1) < 2 ^ 127
   pub entries : length table * (characters + 1) < 2 ^ 127
   pub rounds : characters < 2 ^ 63

@@ -9,16 +9,16 @@ use Rattle.regex_lite_engine.specs.Walk.Searching.{IsBetween}
 use Rattle.regex_lite_engine.specs.Walk.Standing.{IsHere}
 use Rattle.regex_lite_engine.specs.Walk.Turns.{best_of, IsComing, EndsAt}
 
-module _ (table : List (Place ℕ)) (haystack : Text) (start s : ℕ) where
+module _ (table : List (Place ℕ)) (haystack : Text) (starts : List ℕ) (s : ℕ) where
   -- a search from position s on has come to position p
   pub record IsUnderWay {S : Type 0} (p : ℕ) (cache : Cache S) : Type 0 where
     pub low : s ≤ p
     pub ready : IsBetween table cache
-    pub coming : IsComing table haystack start s (length haystack) p cache.walk.memory.threads
+    pub coming : IsComing table haystack starts s (length haystack) p cache.walk.memory.threads
         (best_of cache.best)
     pub tries :
         cache.walk.steps.tried + length cache.walk.memory.threads
-        ≤ (arrows_of table + 1) * (p - s)
+        ≤ (arrows_of table + length starts) * (p - s)
     pub entries : cache.walk.steps.entered ≤ length table * (p - s)
     pub rounds : cache.walk.memory.now < 2 ^ 63 + (p - s)
 
@@ -27,7 +27,7 @@ module _ (table : List (Place ℕ)) (haystack : Text) (start s : ℕ) where
     pub q : ℕ
     pub later : p ≤ q
     pub is : IsHere haystack q here
-    pub before : IsComing table haystack start s (length haystack) q cache.walk.memory.threads
+    pub before : IsComing table haystack starts s (length haystack) q cache.walk.memory.threads
         (best_of cache.best)
     pub ends : EndsAt here.at (best_of cache.best) (best_of cache'.best)
     pub after : IsUnderWay (q + 1) cache'

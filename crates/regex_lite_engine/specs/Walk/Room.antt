@@ -1,7 +1,8 @@
 -- The working memory suffices for what is left to do at a position, and what is left bounds the
 -- counts.
-use Rattle.std.specs.Prelude.{◌≡◌, ◌+◌, ◌^◌, ◌≤◌, ◌<◌, ◌==◌, ℕ, Bool, true, false, List, [], ◌∷◌, length, Option, Some, slice_index, if◌then◌else◌}
+use Rattle.std.specs.Prelude.{◌≡◌, ◌+◌, ◌^◌, ◌≤◌, ◌<◌, ◌==◌, ℕ, Bool, true, false, List, [], ◌∷◌, length, Some, slice_index, if◌then◌else◌}
 use Rattle.regex_lite_syntax.specs.Text.{Text}
+use Rattle.regex_lite_engine.specs.Walk.Beginnings.{Told}
 use Rattle.regex_lite_engine.specs.declared.pikevm.here.Here.{Here}
 use Rattle.regex_lite_engine.specs.declared.pikevm.walk.Walk.{Walk}
 use Rattle.regex_lite_engine.specs.Graph.Places.{Place, kept_back, reading_count, reading_of}
@@ -66,11 +67,11 @@ module _ (table : List (Place ℕ)) where
     pub looked_entered : looked ≤ entered
 
   -- from one state of a walk to a later one, in whatever haystack it stands there
-  abbrev pub WalksTo : Here → (i : Option ℕ) → (now : ℕ) → (rounds : List ℕ) → Row → List Frame
+  abbrev pub WalksTo : Here → (i : Told) → (now : ℕ) → (rounds : List ℕ) → Row → List Frame
       → List Thread → (rounds' : List ℕ) → Row → List Frame → List Thread → (done : Bool) → Type 0
   WalksTo here i now rounds row frames next rounds' row' frames' next' done =
       (haystack : Text) (p : ℕ) → IsHere haystack p here
-      → (s first last from : ℕ) (threads : ℕ → Thread) (k n : ℕ) (best : Best)
+      → (s : List ℕ) (first last from : ℕ) (threads : ℕ → Thread) (k n : ℕ) (best : Best)
       → IsWalking table haystack s first last p from rounds now i row frames threads k n
       (thread_at next) (length next) best
       → IsWalking table haystack s first last p from rounds' now i row' frames' threads
@@ -78,7 +79,7 @@ module _ (table : List (Place ℕ)) where
       (if done then Some (i, here.at, row') else best)
 
   -- a frame was taken off, or all of them where a match is complete
-  pub record Went (here : Here) (i : Option ℕ) (now : ℕ) (rounds : List ℕ) (row : Row)
+  pub record Went (here : Here) (i : Told) (now : ℕ) (rounds : List ℕ) (row : Row)
       (frames : List Frame)
       (next : List Thread) (tried entered : ℕ) (rounds' : List ℕ) (row' : Row)
       (frames' : List Frame) (room : ℕ) (next' : List Thread) (tried' entered' looked' : ℕ)
@@ -98,7 +99,7 @@ module _ (table : List (Place ℕ)) where
       IsFit walk.memory.rounds walk.memory.now walk.memory.row frames walk.memory.room
       walk.memory.next walk.steps.tried walk.steps.entered walk.steps.looked
 
-  abbrev pub TakesFrame : {S : Type 0} → Here → (i : Option ℕ) → Walk S → List Frame → Walk S
+  abbrev pub TakesFrame : {S : Type 0} → Here → (i : Told) → Walk S → List Frame → Walk S
       → List Frame → (done : Bool) → Type 0
   TakesFrame here i walk frames walk' frames' done =
       Went here i walk.memory.now walk.memory.rounds walk.memory.row frames walk.memory.next
@@ -107,7 +108,7 @@ module _ (table : List (Place ℕ)) where
       walk'.steps.looked done
 
   -- all frames were taken off
-  pub record Explores {S : Type 0} (here : Here) (i : Option ℕ) (walk walk' : Walk S)
+  pub record Explores {S : Type 0} (here : Here) (i : Told) (walk walk' : Walk S)
       (frames : List Frame) (done : Bool) : Type 0 where
     pub walks : WalksTo here i walk.memory.now walk.memory.rounds walk.memory.row frames
         walk.memory.next walk'.memory.rounds walk'.memory.row [] walk'.memory.next done

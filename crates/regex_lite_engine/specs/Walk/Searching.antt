@@ -1,17 +1,18 @@
 -- What a search works in, as one value.
-use Rattle.std.specs.Prelude.{◌≡◌, ◌+◌, ◌^◌, ◌≤◌, ◌<◌, ℕ, Bool, List, [], Option, length}
+use Rattle.std.specs.Prelude.{◌≡◌, ◌+◌, ◌^◌, ◌≤◌, ◌<◌, ℕ, List, [], length}
 use Rattle.regex_lite_engine.specs.declared.pikevm.here.Here.{Here}
+use Rattle.regex_lite_engine.specs.declared.pikevm.patterns.Start.{Start}
 use Rattle.regex_lite_engine.specs.declared.pikevm.turn.Cache.{Cache}
 use Rattle.regex_lite_engine.specs.Graph.Places.{Place, kept_back_of}
+use Rattle.regex_lite_engine.specs.Walk.Beginnings.{Told}
 use Rattle.regex_lite_engine.specs.Walk.Machine.{Thread, thread_at}
 use Rattle.regex_lite_engine.specs.Walk.Room.{KeepsPosition, ThreadsBelow, due_tries, due_entries}
-use Rattle.regex_lite_engine.specs.Walk.Turns.{best_of, with_start, StepsTo, IsReady}
+use Rattle.regex_lite_engine.specs.Walk.Turns.{best_of, with_starts, StepsTo, IsReady}
 
--- the ways that are followed at a position: its threads, and its own start
-abbrev pub ways_at : {S : Type 0} → (s : ℕ) → (at : Option ℕ) → (may_start : Bool) → Cache S
-    → List Thread
-ways_at s at may_start cache =
-    with_start s at may_start (best_of cache.best) (length cache.walk.memory.row)
+-- the ways that are followed at a position: its threads, and its own starts
+abbrev pub ways_at : {S : Type 0} → List Start → (told : ℕ → Told) → Cache S → List Thread
+ways_at starts told cache =
+    with_starts starts told (best_of cache.best) (length cache.walk.memory.row)
     cache.walk.memory.threads
 
 module _ (table : List (Place ℕ)) where

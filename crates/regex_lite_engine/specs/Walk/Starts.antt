@@ -7,7 +7,7 @@ use Rattle.regex_lite_engine.specs.Graph.Places.{Place}
 use Rattle.regex_lite_engine.specs.Nfa.Heads.{NeverBegins}
 use Rattle.regex_lite_engine.specs.Walk.Machine.{Thread}
 use Rattle.regex_lite_engine.specs.Walk.Standing.{IsHere}
-use Rattle.regex_lite_engine.specs.Walk.Turns.{IsDeadAt}
+use Rattle.regex_lite_engine.specs.Walk.Turns.{AreDeadAt, IsDeadAt}
 use Rattle.regex_lite_engine.specs.Walk.Walking.{Best}
 
 -- no way from the start leads to a complete match where none can begin
@@ -24,9 +24,9 @@ pub record PassesTo (Passed : ℕ → Type 0) (haystack : Text) (p : ℕ) (here 
 
 -- A search goes on here from position p. Where there is neither a thread nor a match it passes over
 -- positions at which no match can start
-abbrev pub GoesOnAt : List (Place ℕ) → Text → (start : ℕ) → List Thread → Best → (p : ℕ) → Here
-    → Type 0
-GoesOnAt table haystack start threads best p here =
+abbrev pub GoesOnAt : List (Place ℕ) → Text → (entries : List ℕ) → List Thread → Best → (p : ℕ)
+    → Here → Type 0
+GoesOnAt table haystack entries threads best p here =
     IsHere haystack p here
     ⊎ ((threads ≡ []) × (best ≡ None)
-    × PassesTo (IsDeadAt table haystack start) haystack p here)
+    × PassesTo (AreDeadAt table haystack entries) haystack p here)

@@ -1,7 +1,9 @@
 -- The threads of one position, and from one position to the next.
-use Rattle.std.specs.Prelude.{◌≡◌, ◌≤◌, ◌<◌, ◌⊎◌, ℕ, Bool, true, false, List, [], ◌∷◌, ◌++◌, length, replicate, slice_get, slice_index, Option, Some, None}
+use Rattle.std.specs.Prelude.{◌≡◌, ◌≤◌, ◌<◌, ◌⊎◌, ℕ, suc, List, [], ◌∷◌, ◌++◌, length, replicate, slice_get, slice_index, Option, Some, None}
 use Rattle.regex_lite_syntax.specs.Text.{Text}
 use Rattle.regex_lite_engine.specs.declared.pikevm.here.Here.{Here}
+use Rattle.regex_lite_engine.specs.declared.pikevm.patterns.Start.{Start}
+use Rattle.regex_lite_engine.specs.Walk.Beginnings.{Told, untold}
 use Rattle.regex_lite_engine.specs.Graph.Places.{Place, kept_back_of, reading_of}
 use Rattle.regex_lite_engine.specs.Walk.Explored.{IsDead}
 use Rattle.regex_lite_engine.specs.Walk.NumberedAnswer.{numbered_step, is_end}
@@ -9,7 +11,7 @@ use Rattle.regex_lite_engine.specs.Walk.InStep.{Offer}
 use Rattle.regex_lite_engine.specs.Walk.Machine.{Row, Thread, thread_at, State, BestState}
 use Rattle.regex_lite_engine.specs.Walk.Standing.{IsHere}
 use Rattle.regex_lite_engine.specs.Walk.Walking.{Node, Best, ThreadsHold, BestHolds, InStep, IsWalking}
-use Rattle.regex_lite_engine.specs.Walk.Entering.{Pushed}
+use Rattle.regex_lite_engine.specs.Walk.NumberedList.{IsEntry}
 use Rattle.regex_lite_engine.specs.Walk.Room.{ThreadsBelow}
 
 abbrev pub best_at : {X : Type 0} → Option (X × ℕ) → Row → Option (X × ℕ × Row)
@@ -32,32 +34,37 @@ FromIs p from (Some best) = Unit {0}
 -- the best match afterwards is that of before, or ends at the offset
 abbrev pub EndsAt : (at : ℕ) → (before after : Best) → Type 0
 EndsAt at before after =
-    (after ≡ before) ⊎ ((i : Option ℕ) × (row : Row) × (after ≡ Some (i, at, row)))
+    (after ≡ before) ⊎ ((i : Told) × (row : Row) × (after ≡ Some (i, at, row)))
 
 module _ (table : List (Place ℕ)) where
-  -- no match can start at the position
+  -- no match of the pattern that is entered at place s can start at the position
   abbrev pub IsDeadAt : Text → (s p : ℕ) → Type 0
   IsDeadAt haystack s p =
       IsDead Node (numbered_step table haystack) (is_end table haystack) (s, p)
 
+  -- none of any pattern can
+  abbrev pub AreDeadAt : Text → (entries : List ℕ) → (p : ℕ) → Type 0
+  AreDeadAt haystack entries p =
+      (number entry : ℕ) → IsEntry entries number entry → IsDeadAt haystack entry p
+
   -- nothing is on the stack; the threads from the k-th to the n-th are left
-  abbrev pub Between : Text → (s first last p from : ℕ) → (rounds : List ℕ) → (now : ℕ)
+  abbrev pub Between : Text → (s : List ℕ) → (first last p from : ℕ) → (rounds : List ℕ) → (now : ℕ)
       → (ℕ → Thread) → (k n : ℕ) → List Thread → Best → Type 0
   Between haystack s first last p from rounds now threads k n next best =
-      IsWalking table haystack s first last p from rounds now None [] [] threads k n
+      IsWalking table haystack s first last p from rounds now untold [] [] threads k n
       (thread_at next) (length next) best
 
   -- from the first of n threads to before the k-th
   abbrev pub StepsTo : Here → (now : ℕ) → (ℕ → Thread) → (n : ℕ) → (rounds : List ℕ) → List Thread
       → Best → (k : ℕ) → (rounds' : List ℕ) → List Thread → Best → Type 0
   StepsTo here now threads n rounds next best k rounds' next' best' =
-      (haystack : Text) (p : ℕ) → IsHere haystack p here → (s first last from : ℕ)
+      (haystack : Text) (p : ℕ) → IsHere haystack p here → (s : List ℕ) (first last from : ℕ)
       → Between haystack s first last p from rounds now threads 0 n next best
       → Between haystack s first last p from rounds' now threads k n next' best'
 
   -- all below position p is done; what is offered at p are the threads, without its own start
-  pub record IsComing (haystack : Text) (s first last p : ℕ) (threads : List Thread) (best : Best)
-      : Type 0 where
+  pub record IsComing (haystack : Text) (s : List ℕ) (first last p : ℕ)
+      (threads : List Thread) (best : Best) : Type 0 where
     pub recorded : Node → Option (List ℕ)
     pub coming : List (Offer Node)
     pub way : Option (List ℕ)
@@ -84,17 +91,40 @@ module _ (table : List (Place ℕ)) where
     pub looked_entered : looked ≤ entered
     pub match_entered : (best_of best ≡ None → ⊥) → 0 < entered
 
--- The position's own start is the last thread. It is left out where there is a match, and where no
--- match can start
-abbrev pub Begun : (s : ℕ) → (at : Option ℕ) → (may_start : Bool) → Best
-    → (before after : List Thread) → Type 0
-Begun s at may_start best before after =
-    ((best ≡ None) × ((blank : Row) × IsBlank blank × Pushed before after (s, at, blank)))
-    ⊎ (((best ≡ None → ⊥) ⊎ (may_start ≡ false)) × (after ≡ before))
+abbrev pub IsAmong : (number entry : ℕ) → List Start → Type 0
+IsAmong number entry [] = ⊥
+IsAmong number entry (start ∷ starts) =
+    ((number ≡ start.number) × (entry ≡ start.place)) ⊎ IsAmong number entry starts
 
--- the threads, and the position's own start behind them unless it is left out
-abbrev pub with_start : (s : ℕ) → (at : Option ℕ) → (may_start : Bool) → Best → (width : ℕ)
-    → List Thread → List Thread
-with_start s at true None width threads = threads ++ (s, at, replicate width None) ∷ []
-with_start s at false None width threads = threads
-with_start s at may_start (Some best) width threads = threads
+-- patterns are entered there, in the order of their numbers, from this one on
+abbrev pub AreFrom : (entries : List ℕ) → (from : ℕ) → List Start → Type 0
+AreFrom entries from [] = Unit {0}
+AreFrom entries from (start ∷ starts) =
+    (from ≤ start.number) × IsEntry entries start.number start.place
+    × AreFrom entries (suc start.number) starts
+
+-- at position p no match can start but by these
+pub record AreStartsAt (table : List (Place ℕ)) (haystack : Text) (entries : List ℕ) (p : ℕ)
+    (starts : List Start) : Type 0 where
+  pub in_order : AreFrom entries 0 starts
+  pub each : (number entry : ℕ) → IsEntry entries number entry
+      → IsAmong number entry starts ⊎ IsDeadAt table haystack entry p
+
+-- the threads that begin at a position, of which this is told by the number of the pattern
+abbrev pub begun : (told : ℕ → Told) → Row → List Start → List Thread
+begun told blank [] = []
+begun told blank (start ∷ starts) =
+    (start.place, told start.number, blank) ∷ begun told blank starts
+
+-- The position's own starts are the last threads. They are left out where there is a match
+abbrev pub Begun : List Start → (told : ℕ → Told) → Best → (before after : List Thread) → Type 0
+Begun starts told best before after =
+    ((best ≡ None)
+    × ((blank : Row) × IsBlank blank × (after ≡ before ++ begun told blank starts)))
+    ⊎ ((best ≡ None → ⊥) × (after ≡ before))
+
+-- the threads, and the position's own starts behind them unless they are left out
+abbrev pub with_starts : List Start → (told : ℕ → Told) → Best → (width : ℕ) → List Thread
+    → List Thread
+with_starts starts told None width threads = threads ++ begun told (replicate width None) starts
+with_starts starts told (Some best) width threads = threads

@@ -5,8 +5,9 @@ use Rattle.regex_lite_engine.specs.Graph.Places.{Place}
 use Rattle.regex_lite_engine.specs.Graph.Ways.{Leads}
 use Rattle.regex_lite_engine.specs.Search.Marks.{marks_along}
 use Rattle.regex_lite_engine.specs.Walk.NumberedAnswer.{place_with, numbered_step, is_end}
+use Rattle.regex_lite_engine.specs.Walk.NumberedList.{IsEntry, StartsOf}
 use Rattle.regex_lite_engine.specs.Search.Offsets.{offset, HasSlots}
-use Rattle.regex_lite_engine.specs.Walk.Beginnings.{Tells}
+use Rattle.regex_lite_engine.specs.Walk.Beginnings.{Told, Tells}
 use Rattle.regex_lite_engine.specs.Walk.Machine.{Row, Frame, explore, restore, Thread}
 use Rattle.regex_lite_engine.specs.Walk.InStep.{Offer, IsInStep}
 
@@ -14,27 +15,24 @@ use Rattle.regex_lite_engine.specs.Walk.InStep.{Offer, IsInStep}
 abbrev pub Node : Type 0
 Node = ℕ × ℕ
 
--- the best match so far: what is told of the offset of its start, that of its end, and its row
+-- the best match so far: what is told of its start, the offset of its end, and its row
 abbrev pub Best : Type 0
-Best = Option (Option ℕ × ℕ × Row)
+Best = Option (Told × ℕ × Row)
 
 module _ (table : List (Place ℕ)) (haystack : Text) where
-  module _ (s : ℕ) where
-    -- the way w leads to n from place s at the offset of which i is told, and the row has what it
-    -- marks
-    abbrev pub WayTold : (i : Option ℕ) → Row → Node → (w : List ℕ) → Type 0
+  module _ (s : List ℕ) where
+    -- the way w leads to n from where a pattern is entered, of which i is told, and the row has
+    -- what it marks. It is told by the position there, and then by the pattern's number
+    abbrev pub WayTold : (i : Told) → Row → Node → (w : List ℕ) → Type 0
     WayTold i row n w =
-        (j : ℕ) × (ks : List ℕ) × Tells i (offset haystack j) × (w ≡ j ∷ ks)
-        × Leads Node (numbered_step table haystack) (s, j) ks n
-        × HasSlots haystack row (marks_along haystack (place_with table) (Some (s, j)) ks)
-
-    -- the same where the offset is i
-    abbrev pub WayHolds : (i : ℕ) → Row → Node → (w : List ℕ) → Type 0
-    WayHolds i = WayTold (Some i)
+        (j : ℕ) × (number : ℕ) × (entry : ℕ) × (ks : List ℕ) × Tells i (offset haystack j) number
+        × IsEntry s number entry × (w ≡ j ∷ (number ∷ ks))
+        × Leads Node (numbered_step table haystack) (entry, j) ks n
+        × HasSlots haystack row (marks_along haystack (place_with table) (Some (entry, j)) ks)
 
     -- the frames hold the offers at position p, the first on top. The row of each is that which
     -- stands when its frame comes off
-    abbrev pub FramesHold : (p : ℕ) → (i : Option ℕ) → Row → List Frame → List (Offer Node) → Type 0
+    abbrev pub FramesHold : (p : ℕ) → (i : Told) → Row → List Frame → List (Offer Node) → Type 0
     FramesHold p i row [] os = os ≡ []
     FramesHold p i row (explore q ∷ frames) os =
         (w : List ℕ) × (rest : List (Offer Node)) × (os ≡ ((q, p), w) ∷ rest)
@@ -61,13 +59,13 @@ module _ (table : List (Place ℕ)) (haystack : Text) where
       abbrev pub InStep : (p from : ℕ) → (recorded : Node → Option (List ℕ))
           → (offers next : List (Offer Node)) → (way : Option (List ℕ)) → Type 0
       InStep =
-          IsInStep Node (numbered_step table haystack) (λ i. (s, i)) (is_end table haystack) first
-          last (λ n. n.1)
+          IsInStep Node (numbered_step table haystack) (StartsOf s first last)
+          (is_end table haystack) (λ n. n.1)
 
       -- At position p. The frames belong to a thread of whose start i is told. Left are the
       -- frames, then the threads from the k-th to the n-th; at the next position there are so far
       -- the m threads of `next`. Starts below `from` were offered
-      pub record IsWalking (p from : ℕ) (rounds : List ℕ) (now : ℕ) (i : Option ℕ) (row : Row)
+      pub record IsWalking (p from : ℕ) (rounds : List ℕ) (now : ℕ) (i : Told) (row : Row)
           (frames : List Frame) (threads : ℕ → Thread) (k n : ℕ) (next : ℕ → Thread) (m : ℕ)
           (best : Best) : Type 0 where
         pub recorded : Node → Option (List ℕ)

@@ -18,7 +18,7 @@ use crate::pikevm::skip::pass_over;
 pub fn run(walk: &mut Walk, graph: &Graph, haystack: &str, start: usize) -> Option<(usize, usize)>
     requires boundary { IsCharBoundary haystack.now start }
     requires fresh { IsFresh (table_of graph.now) haystack.now start walk.old }
-    requires counts { CanCount (table_of graph.now)
+    requires counts { CanCount (table_of graph.now) 1
         (characters_left (chars haystack.now) (position_at haystack.now start)) }
     ensures found { IsNumberedOutcome (table_of graph.now) (chars haystack.now) graph.now.start
         (position_at haystack.now start) (best_at result walk.new.stack.row) }

@@ -1,14 +1,14 @@
-//! A tree written out as a table of places. The last part is written first, so that the number of
-//! what follows is known.
-ghost use Rattle.std.specs.Prelude.{◌≡◌, ◌<◌, ◌≤◌, ◌+◌, ◌*◌, ◌^◌, [], ◌∷◌, ◌++◌, length, map, drop, slice_set, slice_index_or, IfOk};
+//! Trees written out as a table of places. The last part of each is written first, so that the
+//! number of what follows is known.
+ghost use Rattle.std.specs.Prelude.{◌≡◌, ◌<◌, ◌≤◌, ◌+◌, ◌*◌, ◌^◌, [], ◌∷◌, ◌++◌, All, length, map, drop, slice_set, slice_index_or, IfOk};
 ghost use Rattle.regex_lite_syntax.specs.Tree.{trees};
 ghost use Rattle.regex_lite_syntax.specs.Tree.Views.{tree_of};
 ghost use Rattle.regex_lite_syntax.specs.Tree.Properties.{greatest_index, greatest_index_in};
-ghost use Rattle.regex_lite_engine.specs.declared.nfa.place.Place.TheVariants.{Match};
 ghost use Rattle.regex_lite_engine.specs.Graph.Places.{complete, choice};
 ghost use Rattle.regex_lite_engine.specs.Graph.Stored.{place_of};
 ghost use Rattle.regex_lite_engine.specs.Graph.PlaceCounts.{places, places_in, whole_places};
-ghost use Rattle.regex_lite_engine.specs.Nfa.Layout.{IsAdded, layout, capture_layout, chain_layout, branches_layout, alternation_layout};
+ghost use Rattle.regex_lite_engine.specs.Graph.SideBySide.{places_of_all};
+ghost use Rattle.regex_lite_engine.specs.Nfa.Layout.{IsAdded, layout, capture_layout, chain_layout, branches_layout, alternation_layout, pattern_layout, pattern_table, patterns_table, patterns_entries};
 
 mod repetition;
 
@@ -40,8 +40,39 @@ pub(crate) fn write_out(
         length graph.0.items ≡ whole_places (tree_of hir.now)) }
 {
     let mut writer = Writer::new(alloc, count)?;
-    let start = writer.write_capture(0, hir, 0)?;
+    let start = writer.write_pattern(hir)?;
     Ok((writer.places, start))
+}
+
+/// The table of the places of several trees, one tree after another, and the numbers where they
+/// are entered.
+///
+/// Condition: `count` is how many places they have together, so the table needs memory only once,
+/// and each slot can be numbered.
+///
+/// # Errors
+///
+/// Where a growth was refused, or a set has as many owners as can be counted.
+pub(crate) fn write_all(
+    alloc: Global,
+    hirs: &[Hir],
+    count: u32,
+) -> Result<(Vec<Place>, Vec<u32>), AllocError>
+    requires count { count ≡ places_of_all (map tree_of hirs.now) }
+    requires slots { All (λ tree. greatest_index tree < 2 ^ 31) (map tree_of hirs.now) }
+    ensures written { IfOk result (λ graph.
+        map place_of graph.0.items ≡ patterns_table (map tree_of hirs.now) 0) }
+    ensures entries { IfOk result (λ graph.
+        graph.1.items ≡ patterns_entries (map tree_of hirs.now) 0) }
+    ensures length { IfOk result (λ graph.
+        length graph.0.items ≡ places_of_all (map tree_of hirs.now)) }
+{
+    let mut writer = Writer::new(alloc, count)?;
+    let mut entries = Vec::with_capacity(alloc, hirs.len())?;
+    for hir in hirs {
+        entries.push(writer.write_pattern(hir)?)?;
+    }
+    Ok((writer.places, entries))
 }
 
 /// The places that have been written.
@@ -61,12 +92,11 @@ impl Model for Writer {
 }
 
 impl Writer {
-    /// The match alone, with memory for so many places.
+    /// No place yet, with memory for so many.
     fn new(alloc: Global, count: u32) -> Result<Writer, AllocError>
-        ensures { IfOk result (λ writer. writer ≡ Match ∷ []) }
+        ensures { IfOk result (λ writer. writer ≡ []) }
     {
-        let mut places = Vec::with_capacity(alloc, count as usize)?;
-        places.push(Place::Match)?;
+        let places = Vec::with_capacity(alloc, count as usize)?;
         Ok(Writer { alloc, places })
     }
 
@@ -87,6 +117,21 @@ impl Writer {
         ensures { self.new ≡ slice_set self.old number place }
     {
         self.places[number as usize] = place;
+    }
+
+    /// Adds the places of a whole pattern: the one where its match is complete, and then the tree
+    /// with those of group 0 round it. Answers where it is entered.
+    fn write_pattern(&mut self, hir: &Hir) -> Result<u32, AllocError>
+        requires room { length self.old + whole_places (tree_of hir.now) < 2 ^ 32 }
+        requires slots { greatest_index (tree_of hir.now) < 2 ^ 31 }
+        ensures written { let tree = tree_of hir.now in let base = length self.old in
+            IfOk result (λ entry. IsAdded (map place_of self.old) (map place_of self.new) entry
+            (pattern_table tree base, (pattern_layout tree base).1)) }
+        ensures grown { IfOk result (λ _.
+            length self.new ≡ length self.old + whole_places (tree_of hir.now)) }
+    {
+        let end = self.add(Place::Match)?;
+        self.write_capture(0, hir, end)
     }
 
     /// Adds the places of the tree, which lead on to `exit`, and answers where they are entered.

@@ -1,37 +1,58 @@
 //! What a search keeps of where a way began.
-ghost use Rattle.std.specs.Prelude.{◌≡◌, ℕ, Option, Some, None};
-ghost use Rattle.regex_lite_engine.specs.Walk.Beginnings.{Tells};
+ghost use Rattle.std.specs.Prelude.{◌≡◌, ℕ, Some, None};
+ghost use Rattle.regex_lite_engine.specs.Walk.Beginnings.{Told, Tells, untold};
 
-/// What stands beside a thread for the offset where its way began: the offset, or nothing in a
-/// search that is asked only for an end.
+/// What stands beside a thread for where its way began: the offset with or without the number of
+/// the pattern, or nothing in a search that is asked only for an end.
 pub trait Beginning: Copy {
-    /// What it tells of the offset.
-    ghost told: { Self → Option ℕ };
+    /// What it tells.
+    ghost told: { Self → Told };
 
-    /// What is told of this offset.
-    ghost told_of: { ℕ → Option ℕ };
+    /// What is told of a way from this offset of the pattern with this number.
+    ghost told_of: { (at number : ℕ) → Told };
 
-    /// What is kept of a way that begins at this offset.
-    fn at(at: usize) -> Self
-        ensures { told result ≡ told_of at };
+    /// What is kept of a way that begins at this offset, of the pattern with this number.
+    fn at(at: usize, number: u32) -> Self
+        ensures { told result ≡ told_of at number };
 
-    /// No other offset is told of it.
-    ghost tells: { (at : ℕ) → Tells (told_of at) at };
+    /// Nothing else is told of it.
+    ghost tells: { (at number : ℕ) → Tells (told_of at number) at number };
 }
 
-// The offset itself is kept.
+// The offset itself is kept: there is one pattern.
 impl Beginning for usize {
     ghost use Rattle.std.specs.Prelude.{refl};
 
-    ghost told = { λ at. Some at };
+    ghost told = { λ at. record { at = Some at; number = None } };
 
-    ghost told_of = { λ at. Some at };
+    ghost told_of = { λ at _. record { at = Some at; number = None } };
 
-    fn at(at: usize) -> usize {
+    fn at(at: usize, _: u32) -> usize {
         at
     }
 
-    ghost tells = { λ at. refl };
+    ghost tells = { λ at _. record { start_told = refl; number_told = tt } };
+}
+
+/// The offset, and which of several patterns it is.
+#[derive(Clone, Copy)]
+pub struct Origin {
+    pub at: usize,
+    pub number: u32,
+}
+
+impl Beginning for Origin {
+    ghost use Rattle.std.specs.Prelude.{refl};
+
+    ghost told = { λ origin. record { at = Some origin.at; number = Some origin.number } };
+
+    ghost told_of = { λ at number. record { at = Some at; number = Some number } };
+
+    fn at(at: usize, number: u32) -> Origin {
+        Origin { at, number }
+    }
+
+    ghost tells = { λ at number. record { start_told = refl; number_told = refl } };
 }
 
 /// Nothing is kept, in no bytes.
@@ -39,13 +60,13 @@ impl Beginning for usize {
 pub struct Unkept;
 
 impl Beginning for Unkept {
-    ghost told = { λ _. None };
+    ghost told = { λ _. untold };
 
-    ghost told_of = { λ _. None };
+    ghost told_of = { λ _ _. untold };
 
-    fn at(_: usize) -> Unkept {
+    fn at(_: usize, _: u32) -> Unkept {
         Unkept
     }
 
-    ghost tells = { λ _. tt };
+    ghost tells = { λ _ _. record { start_told = tt; number_told = tt } };
 }

@@ -2,7 +2,7 @@
 ghost use Rattle.std.specs.Prelude.{◌≡◌};
 ghost use Rattle.regex_lite_engine.specs.Walk.Cells.{other, place_on, start_on, with_thread};
 
-use crate::pikevm::beginning::{Beginning, Unkept};
+use crate::pikevm::beginning::{Beginning, Origin, Unkept};
 use crate::pikevm::slot::Slot;
 use std::mem::size_of;
 
@@ -40,6 +40,9 @@ pub struct Cell<S: Beginning> {
 // A search has one for each place.
 const _: () = prove!(size_of::<Cell<usize>>() == 48);
 
+// One for several patterns has larger ones.
+const _: () = prove!(size_of::<Cell<Origin>>() == 64);
+
 // One that is asked only for an end has smaller ones.
 const _: () = prove!(size_of::<Cell<Unkept>>() == 32);
 
@@ -63,8 +66,8 @@ impl<S: Beginning> Cell<S> {
         Cell {
             entered: 0,
             frame: Frame::Explore(0),
-            first_start: S::at(0),
-            second_start: S::at(0),
+            first_start: S::at(0, 0),
+            second_start: S::at(0, 0),
             first_place: 0,
             second_place: 0,
         }

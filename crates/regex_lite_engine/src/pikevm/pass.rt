@@ -1,33 +1,58 @@
 //! From position to position, past those at which no match can start.
 ghost use Rattle.std.specs.Prelude.{◌≡◌, ℕ, chars, length};
-ghost use Rattle.regex_lite_engine.specs.Graph.Stored.{table_of};
 ghost use Rattle.regex_lite_engine.specs.Search.Bounds.{StaysCounted, characters_left};
 ghost use Rattle.regex_lite_engine.specs.Walk.Outcomes.{CanCount};
 ghost use Rattle.regex_lite_engine.specs.Walk.Passing.{IsUnderWay, Passes};
 ghost use Rattle.regex_lite_engine.specs.Walk.Standing.{IsHere};
+ghost use Rattle.regex_lite_engine.specs.Walk.Starts.{GoesOnAt};
+ghost use Rattle.regex_lite_engine.specs.Walk.Turns.{best_of};
 
-use crate::Graph;
 use crate::pikevm::beginning::Beginning;
 use crate::pikevm::here::Here;
-use crate::pikevm::skip::{may_start, next_start};
+use crate::pikevm::patterns::Patterns;
 use crate::pikevm::turn::Cache;
 
 impl<S: Beginning> Cache<S> {
     /// Goes on from here to the next position at which there is something to do, and over it.
     /// Answers that position.
-    pub fn pass(&mut self, graph: &Graph, haystack: &str, here: Here) -> Here
+    pub fn pass<P: Patterns>(&mut self, patterns: &mut P, haystack: &str, here: Here) -> Here
         requires { (s p : ℕ) × IsHere (chars haystack.now) p here
-            × CanCount (table_of graph.now) (characters_left (chars haystack.now) s)
-            × IsUnderWay (table_of graph.now) (chars haystack.now) graph.now.start s p self.old }
+            × CanCount (P.table patterns.old) (length (P.entries patterns.old))
+            (characters_left (chars haystack.now) s)
+            × IsUnderWay (P.table patterns.old) (chars haystack.now) (P.entries patterns.old) s p
+            self.old }
+        ensures table { P.table patterns.new ≡ P.table patterns.old }
+        ensures entries { P.entries patterns.new ≡ P.entries patterns.old }
         ensures passes { (s p : ℕ) → IsHere (chars haystack.now) p here
-            → IsUnderWay (table_of graph.now) (chars haystack.now) graph.now.start s p self.old
-            → Passes (table_of graph.now) (chars haystack.now) graph.now.start s p self.old self.new
-            result }
+            → IsUnderWay (P.table patterns.old) (chars haystack.now) (P.entries patterns.old) s p
+            self.old
+            → Passes (P.table patterns.new) (chars haystack.now) (P.entries patterns.new) s p
+            self.old self.new result }
         ensures width { length self.new.best.row ≡ length self.old.best.row }
         ensures counts { StaysCounted self.old.walk.steps self.new.walk.steps }
     {
-        let here = next_start(graph, haystack, here, &self.walk.memory, &self.best);
-        self.turn(graph, here, may_start(graph, here));
+        let here = self.next_start(patterns, haystack, here);
+        patterns.come_to(haystack, here);
+        // There is room for more ways than there are patterns.
+        let _threads = self.walk.memory.threads();
+        self.turn(patterns, here);
         here
+    }
+
+    /// Where the search goes on: where it is while there is a thread or a match, and else at the
+    /// next position at which a match can start, or at the haystack's end.
+    fn next_start<P: Patterns>(&self, patterns: &P, haystack: &str, here: Here) -> Here
+        requires { (p : ℕ) × IsHere (chars haystack.now) p here }
+        ensures { (p : ℕ) → IsHere (chars haystack.now) p here
+            → GoesOnAt (P.table patterns.now) (chars haystack.now) (P.entries patterns.now)
+            self.now.walk.memory.threads (best_of self.now.best) p result }
+    {
+        if self.walk.memory.threads() > 0 {
+            return here;
+        }
+        if !self.best.is_none() {
+            return here;
+        }
+        patterns.pass_over(haystack, here)
     }
 }

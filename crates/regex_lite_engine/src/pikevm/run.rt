@@ -1,37 +1,43 @@
 //! A whole search, position by position.
-ghost use Rattle.std.specs.Prelude.{◌≡◌, ◌⊎◌, IsCharBoundary, IsTrue, None, chars, length};
+ghost use Rattle.std.specs.Prelude.{◌≡◌, ◌+◌, ◌⊎◌, IsCharBoundary, IsTrue, None, chars, length};
 ghost use Rattle.regex_lite_engine.specs.Graph.Renumbered.{arrows_of};
-ghost use Rattle.regex_lite_engine.specs.Graph.Stored.{table_of};
-ghost use Rattle.regex_lite_engine.specs.Search.Bounds.{IsBounded, StaysCounted, characters_left};
+ghost use Rattle.regex_lite_engine.specs.Search.Bounds.{IsBoundedBy, StaysCounted, characters_left};
 ghost use Rattle.regex_lite_engine.specs.Search.Offsets.{position_at};
-ghost use Rattle.regex_lite_engine.specs.Walk.Outcomes.{IsBestOutcome, IsFresh, CanCount};
+ghost use Rattle.regex_lite_engine.specs.Walk.Outcomes.{IsBestOutcomeOf, IsFresh, CanCount};
 ghost use Rattle.regex_lite_engine.specs.Walk.Searching.{IsBetween};
 ghost use Rattle.regex_lite_engine.specs.Walk.Turns.{best_of};
 
-use crate::Graph;
+use crate::pikevm::beginning::Beginning;
 use crate::pikevm::best::Best;
 use crate::pikevm::here::Here;
 use crate::pikevm::memory::Memory;
+use crate::pikevm::patterns::Patterns;
 use crate::pikevm::turn::Cache;
 
 /// Goes from position to position, until the most preferred match is known.
-pub fn run(cache: &mut Cache<usize>, graph: &Graph, haystack: &str, start: usize)
+pub fn run<S: Beginning, P: Patterns>(
+    cache: &mut Cache<S>,
+    patterns: &mut P,
+    haystack: &str,
+    start: usize,
+)
     requires boundary { IsCharBoundary haystack.now start }
-    requires fresh { IsFresh (table_of graph.now) cache.old }
-    requires counts { CanCount (table_of graph.now)
+    requires fresh { IsFresh (P.table patterns.old) cache.old }
+    requires counts { CanCount (P.table patterns.old) (length (P.entries patterns.old))
         (characters_left (chars haystack.now) (position_at haystack.now start)) }
-    ensures found { IsBestOutcome (table_of graph.now) (chars haystack.now) graph.now.start
-        (position_at haystack.now start) (best_of cache.new.best) }
-    ensures bounded { IsBounded (length (table_of graph.now)) (arrows_of (table_of graph.now))
-        (chars haystack.now) (position_at haystack.now start) cache.new.walk.steps.tried
+    ensures found { IsBestOutcomeOf (P.table patterns.old) (chars haystack.now)
+        (P.entries patterns.old) (position_at haystack.now start) (best_of cache.new.best) }
+    ensures bounded { IsBoundedBy (length (P.table patterns.old))
+        (arrows_of (P.table patterns.old) + length (P.entries patterns.old)) (chars haystack.now)
+        (position_at haystack.now start) cache.new.walk.steps.tried
         cache.new.walk.steps.entered cache.new.walk.steps.looked }
     ensures counts { StaysCounted cache.old.walk.steps cache.new.walk.steps }
     ensures width { length cache.new.best.row ≡ length cache.old.best.row }
-    ensures between { IsBetween (table_of graph.now) cache.new }
+    ensures between { IsBetween (P.table patterns.old) cache.new }
 {
     let mut here = Here::at(haystack, start);
     'positions: loop {
-        here = cache.pass(graph, haystack, here);
+        here = cache.pass(patterns, haystack, here);
         if is_over(here, &cache.walk.memory, &cache.best) {
             return;
         }
@@ -40,7 +46,7 @@ pub fn run(cache: &mut Cache<usize>, graph: &Graph, haystack: &str, start: usize
 }
 
 /// Whether nothing is left to do after the position.
-fn is_over(here: Here, memory: &Memory<usize>, best: &Best<usize>) -> bool
+fn is_over<S: Beginning>(here: Here, memory: &Memory<S>, best: &Best<S>) -> bool
     ensures over { IsTrue result → (here.after ≡ None)
         ⊎ (¬ (best_of best.now ≡ None) × (length memory.now.threads ≡ 0)) }
     ensures at_end { here.after ≡ None → IsTrue result }

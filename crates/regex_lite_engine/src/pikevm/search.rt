@@ -8,6 +8,7 @@ ghost use Rattle.regex_lite_engine.specs.Search.Outcomes.{IsOutcome, IsEndOutcom
 use crate::Graph;
 use crate::pikevm::beginning::Unkept;
 use crate::pikevm::cache_for;
+use crate::pikevm::one_pattern::OnePattern;
 use crate::pikevm::run::run;
 use crate::pikevm::shortest::run_shortest;
 use crate::pikevm::steps::Steps;
@@ -41,8 +42,12 @@ impl Graph {
             → HasCost tree haystack.now start told.1) }
         ensures entered { IfOk result (λ told. IfSome told.0 (λ _. 0 < told.1.entered)) }
     {
-        let mut cache = cache_for::<usize>(alloc, self, slots)?;
-        run(&mut cache, self, haystack, start);
+        let mut cache = cache_for::<usize>(alloc, self.table(), slots)?;
+        let mut pattern = OnePattern {
+            graph: self,
+            may_start: false,
+        };
+        run(&mut cache, &mut pattern, haystack, start);
         let Cache { walk, best, .. } = cache;
         Ok((best.into_outcome(), walk.steps))
     }
@@ -71,8 +76,12 @@ impl Graph {
         if start > haystack.len() {
             return Ok((None, Steps::none()));
         }
-        let mut cache = cache_for::<Unkept>(alloc, self, 0)?;
-        run_shortest(&mut cache, self, haystack, start);
+        let mut cache = cache_for::<Unkept>(alloc, self.table(), 0)?;
+        let mut pattern = OnePattern {
+            graph: self,
+            may_start: false,
+        };
+        run_shortest(&mut cache, &mut pattern, haystack, start);
         let Cache { walk, best, .. } = cache;
         Ok((best.end(), walk.steps))
     }

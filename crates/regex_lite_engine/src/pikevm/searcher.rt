@@ -10,6 +10,7 @@ ghost use Rattle.regex_lite_engine.specs.Walk.Searching.{IsBetween};
 
 use crate::Graph;
 use crate::pikevm::cache_for;
+use crate::pikevm::one_pattern::OnePattern;
 use crate::pikevm::run::run;
 use crate::pikevm::steps::Steps;
 use crate::pikevm::turn::Cache;
@@ -51,7 +52,7 @@ impl<'g> Searcher<'g> {
         ensures graph { IfOk result (λ searcher. searcher.graph ≡ graph.now) }
         ensures slots { IfOk result (λ searcher. length searcher.slots ≡ slots) }
     {
-        let cache = cache_for(alloc, graph, slots)?;
+        let cache = cache_for(alloc, graph.table(), slots)?;
         Ok(Searcher { graph, cache })
     }
 
@@ -70,7 +71,11 @@ impl<'g> Searcher<'g> {
             return None;
         }
         restart(&mut self.cache);
-        run(&mut self.cache, self.graph, haystack, start);
+        let mut pattern = OnePattern {
+            graph: self.graph,
+            may_start: false,
+        };
+        run(&mut self.cache, &mut pattern, haystack, start);
         self.cache.best.span()
     }
 

@@ -1,35 +1,40 @@
 //! A search that is over once any match is known.
-ghost use Rattle.std.specs.Prelude.{◌≡◌, ◌<◌, ◌⊎◌, IsCharBoundary, IsTrue, None, chars, length};
+ghost use Rattle.std.specs.Prelude.{◌≡◌, ◌+◌, ◌<◌, ◌⊎◌, IsCharBoundary, IsTrue, None, chars, length};
 ghost use Rattle.regex_lite_engine.specs.Graph.Renumbered.{arrows_of};
-ghost use Rattle.regex_lite_engine.specs.Graph.Stored.{table_of};
-ghost use Rattle.regex_lite_engine.specs.Search.Bounds.{IsBounded, StaysCounted, characters_left};
+ghost use Rattle.regex_lite_engine.specs.Search.Bounds.{IsBoundedBy, StaysCounted, characters_left};
 ghost use Rattle.regex_lite_engine.specs.Search.Offsets.{position_at};
-ghost use Rattle.regex_lite_engine.specs.Walk.Outcomes.{IsNumberedEnd, IsFresh, CanCount};
+ghost use Rattle.regex_lite_engine.specs.Walk.Outcomes.{IsNumberedEndOf, IsFresh, CanCount};
 ghost use Rattle.regex_lite_engine.specs.Walk.Turns.{best_of};
 
-use crate::Graph;
 use crate::pikevm::beginning::Unkept;
 use crate::pikevm::best::Best;
 use crate::pikevm::here::Here;
+use crate::pikevm::patterns::Patterns;
 use crate::pikevm::turn::Cache;
 
 /// Goes from position to position, up to the first at which a match is complete.
-pub fn run_shortest(cache: &mut Cache<Unkept>, graph: &Graph, haystack: &str, start: usize)
+pub fn run_shortest<P: Patterns>(
+    cache: &mut Cache<Unkept>,
+    patterns: &mut P,
+    haystack: &str,
+    start: usize,
+)
     requires boundary { IsCharBoundary haystack.now start }
-    requires fresh { IsFresh (table_of graph.now) cache.old }
-    requires counts { CanCount (table_of graph.now)
+    requires fresh { IsFresh (P.table patterns.old) cache.old }
+    requires counts { CanCount (P.table patterns.old) (length (P.entries patterns.old))
         (characters_left (chars haystack.now) (position_at haystack.now start)) }
-    ensures found { IsNumberedEnd (table_of graph.now) (chars haystack.now) graph.now.start
-        (position_at haystack.now start) (best_of cache.new.best) }
-    ensures bounded { IsBounded (length (table_of graph.now)) (arrows_of (table_of graph.now))
-        (chars haystack.now) (position_at haystack.now start) cache.new.walk.steps.tried
+    ensures found { IsNumberedEndOf (P.table patterns.old) (chars haystack.now)
+        (P.entries patterns.old) (position_at haystack.now start) (best_of cache.new.best) }
+    ensures bounded { IsBoundedBy (length (P.table patterns.old))
+        (arrows_of (P.table patterns.old) + length (P.entries patterns.old)) (chars haystack.now)
+        (position_at haystack.now start) cache.new.walk.steps.tried
         cache.new.walk.steps.entered cache.new.walk.steps.looked }
     ensures counts { StaysCounted cache.old.walk.steps cache.new.walk.steps }
     ensures entry { ¬ (best_of cache.new.best ≡ None) → 0 < cache.new.walk.steps.entered }
 {
     let mut here = Here::at(haystack, start);
     'positions: loop {
-        here = cache.pass(graph, haystack, here);
+        here = cache.pass(patterns, haystack, here);
         if is_known(here, &cache.best) {
             return;
         }

@@ -1,54 +1,13 @@
 //! The positions at which no match can start, which a search passes over.
-ghost use Rattle.std.specs.Prelude.{◌≡◌, ◌≤◌, ◌<◌, ◌⊎◌, ℕ, [], IsTrue, None, false, true, chars, length, slice_index};
-ghost use Rattle.regex_lite_syntax.specs.Text.{Text};
-ghost use Rattle.regex_lite_engine.specs.Graph.Stored.{table_of};
+ghost use Rattle.std.specs.Prelude.{◌≡◌, ◌≤◌, ◌<◌, ◌⊎◌, ℕ, IsTrue, false, true, chars, length, slice_index};
 ghost use Rattle.regex_lite_engine.specs.Nfa.Heads.{IsCutOff, IsPassed, NeverBegins};
 ghost use Rattle.regex_lite_engine.specs.Nfa.Starts.{may_begin, stops_at};
 ghost use Rattle.regex_lite_engine.specs.Walk.Standing.{IsHere};
-ghost use Rattle.regex_lite_engine.specs.Walk.Starts.{GoesOnAt, PassesTo};
-ghost use Rattle.regex_lite_engine.specs.Walk.Turns.{best_of, IsDeadAt};
+ghost use Rattle.regex_lite_engine.specs.Walk.Starts.{PassesTo};
 
-use crate::Graph;
 use crate::nfa::heads::Heads;
 use crate::nfa::starts::Starts;
-use crate::pikevm::beginning::Beginning;
-use crate::pikevm::best::Best;
 use crate::pikevm::here::Here;
-use crate::pikevm::memory::Memory;
-
-/// Where the search goes on: where it is while there is a thread or a match, and else at the next
-/// position at which a match can start, or at the haystack's end.
-pub fn next_start<S: Beginning>(
-    graph: &Graph,
-    haystack: &str,
-    here: Here,
-    memory: &Memory<S>,
-    best: &Best<S>,
-) -> Here
-    requires { (p : ℕ) × IsHere (chars haystack.now) p here }
-    ensures passes { (p : ℕ) → IsHere (chars haystack.now) p here
-        → GoesOnAt (table_of graph.now) (chars haystack.now) graph.now.start memory.now.threads
-        (best_of best.now) p result }
-    ensures stops { memory.now.threads ≡ [] → best_of best.now ≡ None
-        → may_begin graph.now.heads.first result.before result.after ≡ true }
-{
-    if memory.threads() > 0 {
-        return here;
-    }
-    if !best.is_none() {
-        return here;
-    }
-    pass_over(graph.heads(), haystack, here)
-}
-
-/// Whether a match can start here.
-pub fn may_start(graph: &Graph, here: Here) -> bool
-    ensures dead { (haystack : Text) (p : ℕ) → IsHere haystack p here → result ≡ false
-        → IsDeadAt (table_of graph.now) haystack graph.now.start p }
-    ensures tells { result ≡ may_begin graph.now.heads.first here.before here.after }
-{
-    graph.heads().first.may_begin(here.before, here.after)
-}
 
 /// The next position from here on at which a match can begin, or the haystack's end.
 pub fn pass_over(heads: &Heads, haystack: &str, here: Here) -> Here

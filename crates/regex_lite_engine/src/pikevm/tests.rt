@@ -143,7 +143,7 @@ fn search_again(
 /// way that is followed for the one list and that of the best match for the other.
 fn rows_of_a_list(alloc: Global, pattern: &str) -> Result<usize, Fail> {
     let graph = graph_of(alloc, pattern)?;
-    let cache = cache_for::<usize>(alloc, &graph, 2)?;
+    let cache = cache_for::<usize>(alloc, graph.table(), 2)?;
     Ok(cache.walk.memory.rows() / 2 + 1)
 }
 

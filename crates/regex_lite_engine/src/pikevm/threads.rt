@@ -12,7 +12,7 @@ impl<S: Beginning> Memory<S> {
     /// How many threads the position has.
     pub fn threads(&self) -> usize
         ensures same { result ≡ length self.now.threads }
-        ensures few { result + 1 < 2 ^ 64 }
+        ensures few { result < 2 ^ 63 }
     {
         self.len
     }

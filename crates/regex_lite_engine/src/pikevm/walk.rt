@@ -1,16 +1,18 @@
 //! The walk over one position: from a place over all that its arrows lead to without reading.
-ghost use Rattle.std.specs.Prelude.{◌≡◌, ◌≤◌, ◌<◌, ◌+◌, ◌++◌, [], ◌∷◌, None, length, replicate, true};
-ghost use Rattle.regex_lite_engine.specs.Graph.Stored.{table_of};
+ghost use Rattle.std.specs.Prelude.{◌≡◌, ◌+◌, ◌≤◌, ◌<◌, ◌++◌, [], ◌∷◌, None, length, replicate, true};
+ghost use Rattle.regex_lite_engine.specs.Graph.Stored.{places_of};
 ghost use Rattle.regex_lite_engine.specs.Search.Bounds.{StaysCounted};
 ghost use Rattle.regex_lite_engine.specs.Walk.Entering.{completes, onto};
 ghost use Rattle.regex_lite_engine.specs.Walk.Machine.{explore, thread_at};
+ghost use Rattle.regex_lite_engine.specs.Walk.Turns.{begun};
 ghost use Rattle.regex_lite_engine.specs.Walk.Room.{HasRoom, TakesFrame, Explores, KeepsPosition};
 
-use crate::Graph;
+use crate::nfa::table::Table;
 use crate::pikevm::beginning::Beginning;
 use crate::pikevm::enter::{Onward, enter};
 use crate::pikevm::here::Here;
 use crate::pikevm::memory::Memory;
+use crate::pikevm::patterns::Patterns;
 use crate::pikevm::steps::Steps;
 
 /// What a walk works in, and what it has counted.
@@ -21,33 +23,51 @@ pub struct Walk<S: Beginning> {
 }
 
 impl<S: Beginning> Walk<S> {
-    /// Takes up a thread of the position, or its own start behind them: the row is that which is
-    /// followed. Answers the place to explore, and what is kept of where the way began.
-    pub fn take_up(&mut self, k: usize, start: u32, at: usize) -> (u32, S)
-        requires { k ≤ length self.old.memory.threads }
+    /// Takes up a thread of the position, or one of its own starts behind them: the row is that
+    /// which is followed. Answers the place to explore, and what is kept of where the way began.
+    pub fn take_up<P: Patterns>(&mut self, k: usize, patterns: &P, at: usize) -> (u32, S)
+        requires { k < length self.old.memory.threads + length (P.starts patterns.now) }
         ensures thread { thread_at (self.old.memory.threads
-            ++ (start, S.told_of at, replicate (length self.old.memory.row) None) ∷ []) k
+            ++ begun (S.told_of at) (replicate (length self.old.memory.row) None)
+            (P.starts patterns.now)) k
             ≡ (result.0, S.told result.1, self.new.memory.row) }
         ensures memory { self.new.memory
             ≡ record self.old.memory { row = self.new.memory.row } }
         ensures row { length self.new.memory.row ≡ length self.old.memory.row }
         ensures steps { self.new.steps ≡ self.old.steps }
     {
-        if k < self.memory.threads() {
+        let threads = self.memory.threads();
+        if k < threads {
             return self.memory.load(k);
         }
         self.memory.clear_row();
-        (start, S::at(at))
+        let start = patterns.start(k - threads);
+        (start.place, S::at(at, start.number))
     }
 
     /// Explores this place and all that is on the stack, the ways of one thread that started at
     /// `start`. Stops where a match is complete, and tells whether one is: what is left then is
     /// less preferred.
-    pub fn explore(&mut self, first: u32, graph: &Graph, here: Here, start: S) -> bool
-        requires { HasRoom (table_of graph.now) self.old
+    pub fn explore<P: Patterns>(&mut self, first: u32, patterns: &P, here: Here, start: S) -> bool
+        requires { HasRoom (P.table patterns.now) self.old
             (explore first ∷ self.old.memory.frames) }
-        ensures room { HasRoom (table_of graph.now) self.new [] }
-        ensures explored { Explores (table_of graph.now) here (S.told start) self.old self.new
+        ensures room { HasRoom (P.table patterns.now) self.new [] }
+        ensures explored { Explores (P.table patterns.now) here (S.told start) self.old self.new
+            (explore first ∷ self.old.memory.frames) result }
+        ensures empty { self.new.memory.frames ≡ [] }
+        ensures kept { KeepsPosition self.old.memory self.new.memory }
+        ensures counts { StaysCounted self.old.steps self.new.steps }
+        ensures entry { result ≡ true → 0 < self.new.steps.entered }
+    {
+        self.explore_in(first, patterns.table(), here, start)
+    }
+
+    /// The same in a table.
+    fn explore_in(&mut self, first: u32, table: &Table, here: Here, start: S) -> bool
+        requires { HasRoom (places_of table.now) self.old
+            (explore first ∷ self.old.memory.frames) }
+        ensures room { HasRoom (places_of table.now) self.new [] }
+        ensures explored { Explores (places_of table.now) here (S.told start) self.old self.new
             (explore first ∷ self.old.memory.frames) result }
         ensures empty { self.new.memory.frames ≡ [] }
         ensures kept { KeepsPosition self.old.memory self.new.memory }
@@ -56,7 +76,7 @@ impl<S: Beginning> Walk<S> {
     {
         let mut place = first;
         'places: loop {
-            place = match self.come_to(place, graph, here, start) {
+            place = match self.come_to(place, table, here, start) {
                 Onward::To(next) => next,
                 Onward::Back => match self.memory.next_place() {
                     Some(next) => next,
@@ -68,10 +88,10 @@ impl<S: Beginning> Walk<S> {
     }
 
     /// Comes to a place, and enters it if it is new at this position.
-    fn come_to(&mut self, place: u32, graph: &Graph, here: Here, start: S) -> Onward
-        requires { HasRoom (table_of graph.now) self.old
+    fn come_to(&mut self, place: u32, table: &Table, here: Here, start: S) -> Onward
+        requires { HasRoom (places_of table.now) self.old
             (explore place ∷ self.old.memory.frames) }
-        ensures taken { TakesFrame (table_of graph.now) here (S.told start) self.old
+        ensures taken { TakesFrame (places_of table.now) here (S.told start) self.old
             (explore place ∷ self.old.memory.frames) self.new
             (onto result self.new.memory.frames) (completes result) }
         ensures kept { KeepsPosition self.old.memory self.new.memory }
@@ -84,7 +104,7 @@ impl<S: Beginning> Walk<S> {
             return Onward::Back;
         }
         self.steps.count_entry();
-        let found = graph.look(place, &mut self.steps);
+        let found = table.look(place, &mut self.steps);
         let onward = enter(found, here, start, &mut self.memory);
         if let Onward::Complete = onward {
             self.memory.drop_frames();

@@ -3,7 +3,7 @@ use Rattle.std.proofs.Common.{◌≡◌, refl, sym, ap, subst, ◌∙◌, ℕ, L
 use Rattle.regex_lite_engine.specs.Graph.Ways.{Leads, NoneTwice, IsWay}
 use Rattle.regex_lite_engine.proofs.laws.LeadsLemmas.{same_some}
 
-mapped_back : {A B : Type 0} (f : A → B) (o : Option A) (y : B) → option_map f o ≡ Some y
+pub mapped_back : {A B : Type 0} (f : A → B) (o : Option A) (y : B) → option_map f o ≡ Some y
     → (x : A) × (o ≡ Some x) × (f x ≡ y)
 mapped_back f None y e = absurd cc
 mapped_back f (Some x) y e = (x, refl, same_some e)

@@ -1,5 +1,5 @@
 -- The answer over a table of numbered places is that over the pattern which the table stands for.
-use Rattle.std.proofs.Common.{sym, ap, ◌∙◌, ℕ, List, Option, Some, None}
+use Rattle.std.proofs.Common.{◌<◌, sym, ap, ◌∙◌, ℕ, List, length, Option, Some, None}
 use Rattle.regex_lite_syntax.specs.Text.{Text}
 use Rattle.regex_lite_syntax.specs.Tree.{Tree}
 use Rattle.regex_lite_syntax.specs.Tree.Regular.{IsRegular}
@@ -11,64 +11,82 @@ use Rattle.regex_lite_engine.specs.Search.Marks.{marks_along}
 use Rattle.regex_lite_engine.specs.Search.Answer.{IsMatchFrom, Found, IsAnswer, IsShortest}
 use Rattle.regex_lite_engine.specs.Walk.NumberedAnswer.{IsNumberedMatch, IsNumberedAnswer, IsNumberedShortest}
 use Rattle.regex_lite_engine.proofs.laws.PatternWayLemmas.{match_way, walk_match}
-use Rattle.regex_lite_engine.proofs.laws.search.NumberedWayLemmas.{marks_named, begins, in_numbers, in_addresses}
+use Rattle.regex_lite_engine.proofs.laws.search.NumberedWayLemmas.{IsPart, IsPartNumber, whole_part, whole_number, marks_named, begins, in_numbers, in_addresses}
 
 module _ (tree : Tree) (haystack : Text) (table : List (Place ℕ)) (start : ℕ)
-    (name : ℕ → Address) (r : IsRenumbered (written_out tree) name table)
-    (first : IsNumberOf name table start_address start) (regular : IsRegular tree) where
+    (name : ℕ → Address) (Part : ℕ → Type 0) (r : IsPart (written_out tree) name table Part)
+    (first : IsPartNumber name Part start_address start) (regular : IsRegular tree) where
   -- a match of the tree, over numbers
-  numbered_match : (s i j : ℕ) → IsMatchFrom tree haystack s i j
+  pub numbered_match : (s i j : ℕ) → IsMatchFrom tree haystack s i j
       → (q : ℕ) × (way : List ℕ) × IsNumberedMatch table haystack start s i way q j
   numbered_match s i j m =
       let way = match_way tree haystack i j regular m.matches in
-      let numbered = in_numbers tree haystack table start name r first i j way.0 way.1 in (
+      let numbered = in_numbers tree haystack table start name Part r first i j way.0 way.1 in (
         numbered.0,
         way.0,
         record { from = m.from; inside = m.inside; leads = numbered.1 },
       )
 
   -- and the other way round
-  match_of_numbers : (s i q j : ℕ) (way : List ℕ)
+  pub match_of_numbers : (s i q j : ℕ) (way : List ℕ)
       → IsNumberedMatch table haystack start s i way q j → IsMatchFrom tree haystack s i j
   match_of_numbers s i q j way m =
-      let is_way = in_addresses tree haystack table start name r first i q j way m.leads in
+      let is_way = in_addresses tree haystack table start name Part r first i q j way m.leads in
       record {
         from = m.from;
         inside = m.inside;
         matches = walk_match tree haystack i j way regular is_way.0;
       }
 
-  pub answer_of_numbers : (s : ℕ) (answer : Option Found)
+  pub answer_of_part : (s : ℕ) (answer : Option Found)
       → IsNumberedAnswer table haystack start s answer → IsAnswer tree haystack s answer
-  answer_of_numbers s None none = λ (i, j, m). (
+  answer_of_part s None none = λ (i, j, m). (
       let (q, way, numbered) = numbered_match s i j m in none i q j way numbered)
-  answer_of_numbers s (Some found) is = record {
+  answer_of_part s (Some found) is = record {
     from = is.from;
     inside = is.inside;
     least = λ i j m. (
         let (q, way, numbered) = numbered_match s i j m in is.least i q j way numbered);
     way = is.way;
     most_preferred = record {
-      is_way = in_addresses tree haystack table start name r first found.start is.last found.end
+      is_way = in_addresses tree haystack table start name Part r first found.start is.last found.end
           is.way is.is_way;
       preferred = λ other j p. (
-          let numbered = in_numbers tree haystack table start name r first found.start j other p in
+          let numbered = in_numbers tree haystack table start name Part r first found.start j other p in
           is.preferred other numbered.0 j numbered.1);
     };
     marks = is.marks
-        ∙ sym (marks_named tree haystack table start name r first is.way (start, found.start)
+        ∙ sym (marks_named tree haystack table start name Part r first is.way (start, found.start)
         first.inside)
         ∙ ap (λ n. marks_along haystack (place_of_pattern tree) (Some n) is.way)
-        (sym (begins tree haystack table start name r first found.start));
+        (sym (begins tree haystack table start name Part r first found.start));
   }
 
-  pub shortest_of_numbers : (s : ℕ) (answer : Option ℕ)
+  pub shortest_of_part : (s : ℕ) (answer : Option ℕ)
       → IsNumberedShortest table haystack start s answer → IsShortest tree haystack s answer
-  shortest_of_numbers s None none = λ (i, j, m). (
+  shortest_of_part s None none = λ (i, j, m). (
       let (q, way, numbered) = numbered_match s i j m in none i q j way numbered)
-  shortest_of_numbers s (Some end) ((i, q, way, m), least) = record {
+  shortest_of_part s (Some end) ((i, q, way, m), least) = record {
     start = i;
     is_match = match_of_numbers s i q end way m;
     least = λ k j n. (
         let (p, other, numbered) = numbered_match s k j n in least k p j other numbered);
   }
+
+-- over the whole table
+module _ (tree : Tree) (haystack : Text) (table : List (Place ℕ)) (start : ℕ)
+    (name : ℕ → Address) (r : IsRenumbered (written_out tree) name table)
+    (first : IsNumberOf name table start_address start) (regular : IsRegular tree) where
+  pub answer_of_numbers : (s : ℕ) (answer : Option Found)
+      → IsNumberedAnswer table haystack start s answer → IsAnswer tree haystack s answer
+  answer_of_numbers =
+      answer_of_part tree haystack table start name (λ q. q < length table)
+      (whole_part (written_out tree) name table r) (whole_number name table start_address start first)
+      regular
+
+  pub shortest_of_numbers : (s : ℕ) (answer : Option ℕ)
+      → IsNumberedShortest table haystack start s answer → IsShortest tree haystack s answer
+  shortest_of_numbers =
+      shortest_of_part tree haystack table start name (λ q. q < length table)
+      (whole_part (written_out tree) name table r) (whole_number name table start_address start first)
+      regular

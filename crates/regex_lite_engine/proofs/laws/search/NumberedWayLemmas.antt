@@ -7,8 +7,9 @@ use Rattle.regex_lite_syntax.specs.Tree.{Tree}
 use Rattle.regex_lite_engine.specs.Graph.Ways.{IsWay}
 use Rattle.regex_lite_engine.specs.Graph.Places.{Arrow, Place, complete, with_arrows, taken, arrived, arrow_taken, step, step_from}
 use Rattle.regex_lite_engine.specs.Graph.Addresses.{Address}
+use Rattle.regex_lite_engine.specs.Graph.Repetitions.{Content}
 use Rattle.regex_lite_engine.specs.Graph.WrittenOut.{start_address, end_address, written_out, place_of_pattern, IsWayThrough}
-use Rattle.regex_lite_engine.specs.Graph.Stored.{LeadBelow}
+use Rattle.regex_lite_engine.specs.Graph.Stored.{LeadBelow, LeadsBelow, LeadInto, LeadsInto}
 use Rattle.regex_lite_engine.specs.Graph.Renumbered.{renamed, renamed_arrow, IsRenumbered, IsNumberOf}
 use Rattle.regex_lite_engine.specs.Search.Marks.{over, marked, mark_of, mark_of_arrow, marks_along}
 use Rattle.regex_lite_engine.specs.Walk.NumberedAnswer.{place_with, is_complete, numbered_step, IsNumberedWay}
@@ -23,22 +24,22 @@ place_within (x ∷ list) zero other less = refl
 place_within (x ∷ list) (suc q) other less = place_within list q other (omega (arith, less))
 
 -- a place leads as its renamed one does
-abbrev pub name_pair : (ℕ → Address) → ℕ × ℕ → Address × ℕ
+abbrev pub name_pair : {A B : Type 0} → (A → B) → A × ℕ → B × ℕ
 name_pair name n = (name n.0, n.1)
 
-arrived_renamed : (name : ℕ → Address) (a : ℕ) (o : Option ℕ)
+arrived_renamed : {A B : Type 0} (name : A → B) (a : A) (o : Option ℕ)
     → arrived (name a) o ≡ option_map (name_pair name) (arrived a o)
 arrived_renamed name a None = refl
 arrived_renamed name a (Some j) = refl
 
-taken_renamed : (haystack : Text) (name : ℕ → Address) (i : ℕ) (o : Option (Arrow ℕ))
+taken_renamed : {A B : Type 0} (haystack : Text) (name : A → B) (i : ℕ) (o : Option (Arrow A))
     → arrow_taken haystack i (option_map (renamed_arrow name) o)
     ≡ option_map (name_pair name) (arrow_taken haystack i o)
 taken_renamed haystack name i None = refl
 taken_renamed haystack name i (Some arrow) =
     arrived_renamed name arrow.to (taken haystack arrow.condition i)
 
-pub step_renamed : (haystack : Text) (name : ℕ → Address) (place : Place ℕ) (i k : ℕ)
+pub step_renamed : {A B : Type 0} (haystack : Text) (name : A → B) (place : Place A) (i k : ℕ)
     → step_from haystack (renamed name place) i k
     ≡ option_map (name_pair name) (step_from haystack place i k)
 step_renamed haystack name complete i k = refl
@@ -46,12 +47,12 @@ step_renamed haystack name (with_arrows arrows) i k =
     ap (λ o. arrow_taken haystack i o) (slice_get-map (renamed_arrow name) arrows k)
     ∙ taken_renamed haystack name i (slice_get arrows k)
 
-mark_renamed_arrow : (name : ℕ → Address) (o : Option (Arrow ℕ))
+mark_renamed_arrow : {A B : Type 0} (name : A → B) (o : Option (Arrow A))
     → mark_of_arrow (option_map (renamed_arrow name) o) ≡ mark_of_arrow o
 mark_renamed_arrow name None = refl
 mark_renamed_arrow name (Some arrow) = refl
 
-pub mark_renamed : (name : ℕ → Address) (place : Place ℕ) (k : ℕ)
+pub mark_renamed : {A B : Type 0} (name : A → B) (place : Place A) (k : ℕ)
     → mark_of (renamed name place) k ≡ mark_of place k
 mark_renamed name complete k = refl
 mark_renamed name (with_arrows arrows) k =
@@ -68,18 +69,57 @@ is_complete_place : (place : Place ℕ) → IsTrue (is_complete place) → place
 is_complete_place complete e = refl
 is_complete_place (with_arrows arrows) e = absurd cc
 
-below : (n : ℕ) (arrows : List (Arrow ℕ)) (k : ℕ) (arrow : Arrow ℕ) → LeadBelow n arrows
-    → slice_get arrows k ≡ Some arrow → arrow.to < n
-below n [] k arrow all e = absurd cc
-below n (first ∷ rest) zero arrow all e =
-    subst (λ (a : Arrow ℕ). a.to < n) (same_some e) all.0
-below n (first ∷ rest) (suc k) arrow all e = below n rest k arrow all.1 e
+into : (Part : ℕ → Type 0) (arrows : List (Arrow ℕ)) (k : ℕ) (arrow : Arrow ℕ)
+    → LeadInto Part arrows → slice_get arrows k ≡ Some arrow → Part arrow.to
+into Part [] k arrow all e = absurd cc
+into Part (first ∷ rest) zero arrow all e =
+    subst (λ (a : Arrow ℕ). Part a.to) (same_some e) all.0
+into Part (first ∷ rest) (suc k) arrow all e = into Part rest k arrow all.1 e
+
+-- part of the table has places that stand at addresses, under these names for its numbers, and no
+-- arrow leads out of it
+pub record IsPart (content : Address → Content) (name : ℕ → Address) (table : List (Place ℕ))
+    (Part : ℕ → Type 0) : Type 0 where
+  pub within : (q : ℕ) → Part q → q < length table
+  pub apart : (p q : ℕ) → Part p → Part q → name p ≡ name q → p ≡ q
+  pub alike : (q : ℕ) (place : Place ℕ) → Part q → slice_get table q ≡ Some place
+      → content (name q) ≡ Some (renamed name place)
+  pub inside : (q : ℕ) (place : Place ℕ) → Part q → slice_get table q ≡ Some place
+      → LeadsInto Part place
+
+-- the number is one of the part, and stands for the address
+pub record IsPartNumber (name : ℕ → Address) (Part : ℕ → Type 0) (a : Address) (q : ℕ)
+    : Type 0 where
+  pub inside : Part q
+  pub same : name q ≡ a
+
+lead_into : (n : ℕ) (arrows : List (Arrow ℕ)) → LeadBelow n arrows → LeadInto (λ q. q < n) arrows
+lead_into n [] below = tt
+lead_into n (arrow ∷ arrows) below = (below.0, lead_into n arrows below.1)
+
+leads_into : (n : ℕ) (place : Place ℕ) → LeadsBelow n place → LeadsInto (λ q. q < n) place
+leads_into n complete below = tt
+leads_into n (with_arrows arrows) below = lead_into n arrows below
+
+-- the whole table is one
+pub whole_part : (content : Address → Content) (name : ℕ → Address) (table : List (Place ℕ))
+    → IsRenumbered content name table → IsPart content name table (λ q. q < length table)
+whole_part content name table r = record {
+  within = λ q less. less;
+  apart = r.apart;
+  alike = λ q place less e. r.alike q place e;
+  inside = λ q place less e. leads_into (length table) place (r.inside q place e);
+}
+
+pub whole_number : (name : ℕ → Address) (table : List (Place ℕ)) (a : Address) (q : ℕ)
+    → IsNumberOf name table a q → IsPartNumber name (λ q. q < length table) a q
+whole_number name table a q is = record { inside = is.inside; same = is.same }
 
 module _ (tree : Tree) (haystack : Text) (table : List (Place ℕ)) (start : ℕ)
-    (name : ℕ → Address) (r : IsRenumbered (written_out tree) name table)
-    (first : IsNumberOf name table start_address start) where
+    (name : ℕ → Address) (Part : ℕ → Type 0) (r : IsPart (written_out tree) name table Part)
+    (first : IsPartNumber name Part start_address start) where
   abbrev Known : ℕ × ℕ → Type 0
-  Known n = n.0 < length table
+  Known n = Part n.0
 
   abbrev in_table : ℕ × ℕ → ℕ → Option (ℕ × ℕ)
   in_table = numbered_step table haystack
@@ -90,11 +130,14 @@ module _ (tree : Tree) (haystack : Text) (table : List (Place ℕ)) (start : ℕ
   abbrev named : ℕ × ℕ → Address × ℕ
   named = name_pair name
 
-  written_at : (q : ℕ) → q < length table
-      → written_out tree (name q) ≡ Some (renamed name (place_with table q))
-  written_at q less = r.alike q (place_with table q) (place_within table q (with_arrows []) less)
+  here : (q : ℕ) → Part q → slice_get table q ≡ Some (place_with table q)
+  here q known = place_within table q (with_arrows []) (r.within q known)
 
-  place_named : (q : ℕ) → q < length table
+  written_at : (q : ℕ) → Part q
+      → written_out tree (name q) ≡ Some (renamed name (place_with table q))
+  written_at q known = r.alike q (place_with table q) known (here q known)
+
+  place_named : (q : ℕ) → Part q
       → place_of_pattern tree (name q) ≡ renamed name (place_with table q)
   place_named q less = ap (λ o. unwrap_or o (with_arrows [])) (written_at q less)
 
@@ -105,9 +148,9 @@ module _ (tree : Tree) (haystack : Text) (table : List (Place ℕ)) (start : ℕ
       ∙ step_renamed haystack name (place_with table x.0) x.1 k
 
   stays : (x y : ℕ × ℕ) (k : ℕ) → Known x → in_table x k ≡ Some y → Known y
-  stays x y k less s = by_place (place_with table x.0) (place_within table x.0 (with_arrows []) less) s
+  stays x y k known s = by_place (place_with table x.0) (here x.0 known) s
     where
-      by_result : (a : ℕ) (o : Option ℕ) → a < length table → arrived a o ≡ Some y → Known y
+      by_result : (a : ℕ) (o : Option ℕ) → Part a → arrived a o ≡ Some y → Known y
       by_result a None low e = absurd cc
       by_result a (Some j) low e =
           let same : (a, j) ≡ y = same_some e in
@@ -119,7 +162,7 @@ module _ (tree : Tree) (haystack : Text) (table : List (Place ℕ)) (start : ℕ
       by_arrow arrows at None there e = absurd cc
       by_arrow arrows at (Some arrow) there e =
           by_result arrow.to (taken haystack arrow.condition x.1)
-          (below (length table) arrows k arrow (r.inside x.0 (with_arrows arrows) at) there) e
+          (into Part arrows k arrow (r.inside x.0 (with_arrows arrows) known at) there) e
 
       by_place : (place : Place ℕ) → slice_get table x.0 ≡ Some place
           → step_from haystack place x.1 k ≡ Some y → Known y

@@ -29,7 +29,7 @@ module _ {A : Type 0} (haystack : Text) (place : A → Place A) where
   no_arrow_on (with_arrows arrows) i l next over s = absurd cc
 
   -- of two walks to where a match is complete, none is a beginning of the other
-  before_preferred : (a b : List ℕ) (n x y : A × ℕ) → Before a b
+  pub before_preferred : (a b : List ℕ) (n x y : A × ℕ) → Before a b
       → Leads (A × ℕ) (step haystack place) n a x → IsTrue (is_complete (place x.0))
       → Leads (A × ℕ) (step haystack place) n b y → IsPreferred a b
   before_preferred a [] n x y before p over q = absurd before
@@ -43,7 +43,7 @@ module _ {A : Type 0} (haystack : Text) (place : A → Place A) where
       inr (e, before_preferred a b next x y before p over moved)
 
 -- behind one start
-behind_start : (i : ℕ) (a b : List ℕ) → NotAfter (i ∷ a) (i ∷ b) → (a ≡ b) ⊎ Before a b
+pub behind_start : (i : ℕ) (a b : List ℕ) → NotAfter (i ∷ a) (i ∷ b) → (a ≡ b) ⊎ Before a b
 behind_start i a b (inl e) = inl (same_tail e)
 behind_start i a b (inr (inl less)) = absurd (omega (arith, less))
 behind_start i a b (inr (inr (e, before))) = inr before

@@ -9,7 +9,7 @@ use Rattle.regex_lite_engine.specs.Graph.Places.{Place, with_arrows, go, go_mark
 use Rattle.regex_lite_engine.specs.Graph.Renumbered.{arrow_count, arrows_of}
 use Rattle.regex_lite_engine.specs.Graph.PlaceCounts.{copies, bounded_arrows, own_arrows, class_arrows, arrows, arrows_in, count, whole_arrows}
 use Rattle.regex_lite_engine.specs.Nfa.Layout.{Fragment, copies_layout, choices_layout, star_layout, bounded_layout, repetition_layout, layout, chain_layout, branches_layout}
-use Rattle.regex_lite_engine.specs.Nfa.Layout.{whole_table}
+use Rattle.regex_lite_engine.specs.Nfa.Layout.{pattern_table, whole_table}
 
 -- the sum by recursion on the list, which `sum_by` is not
 abbrev total : List (Place ℕ) → ℕ
@@ -182,12 +182,15 @@ mutual
         total_branches rest now exit,
       )
 
-pub arrows_whole : (tree : Tree) → arrows_of (whole_table tree) ≡ whole_arrows tree
-arrows_whole tree =
-    total_is (whole_table tree)
-    ∙ (let inner = layout tree 2 1 in
+pub arrows_pattern : (tree : Tree) (base : ℕ) → arrows_of (pattern_table tree base) ≡ whole_arrows tree
+arrows_pattern tree base =
+    total_is (pattern_table tree base)
+    ∙ (let inner = layout tree (base + 1 + 1) (base + 1) in
     omega (
       arith,
       total_both inner.0 (with_arrows (go_marking 0 inner.1 ∷ []) ∷ []),
-      total_layout tree 2 1,
+      total_layout tree (base + 1 + 1) (base + 1),
     ))
+
+pub arrows_whole : (tree : Tree) → arrows_of (whole_table tree) ≡ whole_arrows tree
+arrows_whole tree = arrows_pattern tree 0

@@ -5,7 +5,7 @@ use Rattle.regex_lite_syntax.specs.Tree.Properties.{nullable}
 use Rattle.regex_lite_engine.specs.Graph.Places.{with_arrows, go, go_marking, choice}
 use Rattle.regex_lite_engine.specs.Graph.PlaceCounts.{copies, bounded_places, own_places, places, places_in, whole_places}
 use Rattle.regex_lite_engine.specs.Nfa.Layout.{Fragment, copies_layout, choices_layout, star_layout, bounded_layout, repetition_layout, layout, chain_layout, branches_layout}
-use Rattle.regex_lite_engine.specs.Nfa.Layout.{whole_table}
+use Rattle.regex_lite_engine.specs.Nfa.Layout.{pattern_table, whole_table}
 
 module _ (greedy : Bool) (body : ℕ → ℕ → Fragment) (b : ℕ)
     (counted : (base exit : ℕ) → length (body base exit).0 ≡ b) where
@@ -143,11 +143,14 @@ mutual
         length_branches rest now exit,
       )
 
-pub length_whole : (tree : Tree) → length (whole_table tree) ≡ whole_places tree
-length_whole tree =
-    let inner = layout tree 2 1 in
+pub length_pattern : (tree : Tree) (base : ℕ) → length (pattern_table tree base) ≡ whole_places tree
+length_pattern tree base =
+    let inner = layout tree (base + 1 + 1) (base + 1) in
     omega (
       arith,
       length-append inner.0 (with_arrows (go_marking 0 inner.1 ∷ []) ∷ []),
-      length_layout tree 2 1,
+      length_layout tree (base + 1 + 1) (base + 1),
     )
+
+pub length_whole : (tree : Tree) → length (whole_table tree) ≡ whole_places tree
+length_whole tree = length_pattern tree 0

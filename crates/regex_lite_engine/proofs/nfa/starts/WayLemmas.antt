@@ -1,5 +1,5 @@
 -- Where the tree of a graph does not match, no arrows of the graph lead to a complete match.
-use Rattle.std.proofs.Common.{◌≡◌, ◌≢◌, ◌⊎◌, inl, inr, sym, ap, subst, ℕ, suc, List, Option, Some, None}
+use Rattle.std.proofs.Common.{◌≡◌, ◌≢◌, ◌<◌, length, ◌⊎◌, inl, inr, sym, ap, subst, ℕ, suc, List, Option, Some, None}
 use Rattle.std.specs.Prelude.{IfSome, MatchOption}
 use Rattle.std.proofs.lemmas.Bool.{cases_eq}
 use Rattle.regex_lite_syntax.specs.Text.{Text}
@@ -21,7 +21,7 @@ use Rattle.regex_lite_engine.specs.declared.nfa.starts.Starts.{Starts}
 use Rattle.regex_lite_engine.proofs.nfa.write.RenumberingLemmas.{whole_names, renumbered, starts as starts_there}
 use Rattle.regex_lite_engine.proofs.laws.LoopLemmas.{without_loops}
 use Rattle.regex_lite_engine.proofs.laws.PatternWayLemmas.{walk_match}
-use Rattle.regex_lite_engine.proofs.laws.search.NumberedWayLemmas.{in_addresses}
+use Rattle.regex_lite_engine.proofs.laws.search.NumberedWayLemmas.{IsPart, IsPartNumber, whole_part, whole_number, in_addresses}
 
 one_or_two : (m n : ℕ × ℕ) → (m ≡ n) ⊎ (m ≢ n)
 one_or_two (q, i) (p, j) = elim (cases_eq q p) [
@@ -33,12 +33,12 @@ one_or_two (q, i) (p, j) = elim (cases_eq q p) [
 ]
 
 pub dead_without_match : (tree : Tree) (haystack : Text) (table : List (Place ℕ)) (start : ℕ)
-    (name : ℕ → Address) → IsRenumbered (written_out tree) name table
-    → IsNumberOf name table start_address start → IsRegular tree → (i : ℕ)
+    (name : ℕ → Address) (Part : ℕ → Type 0) → IsPart (written_out tree) name table Part
+    → IsPartNumber name Part start_address start → IsRegular tree → (i : ℕ)
     → ((j : ℕ) → Matches haystack tree i j → ⊥) → IsDeadAt table haystack start i
-dead_without_match tree haystack table start name r first regular i none arrows end ends leads =
+dead_without_match tree haystack table start name Part r first regular i none arrows end ends leads =
     let way = without_loops (numbered_step table haystack) one_or_two arrows (start, i) end leads in
-    let through = in_addresses tree haystack table start name r first i end.0 end.1 way.0
+    let through = in_addresses tree haystack table start name Part r first i end.0 end.1 way.0
     (record { is_way = way.1; ends = ends }) in
     none end.1 (walk_match tree haystack i end.1 way.0 regular through.0)
 
@@ -53,7 +53,9 @@ written_heads tree regular table start table_is start_is heads of_tree haystack 
     let first = subst (λ s. IsNumberOf name table start_address s) (sym start_is)
     (subst (λ t. IsNumberOf name t start_address (whole_layout tree).1) (sym table_is)
     (starts_there tree regular)) in
-    dead_without_match tree haystack table start name written first regular i (none never)
+    dead_without_match tree haystack table start name (λ q. q < length table)
+    (whole_part (written_out tree) name table written)
+    (whole_number name table start_address start first) regular i (none never)
   where
     by_second : (o : Option Starts) → IfSome o (AreSecondOfTree tree)
         → MatchOption o ⊥ (λ second. ¬ (MayBegin second haystack (suc i)))

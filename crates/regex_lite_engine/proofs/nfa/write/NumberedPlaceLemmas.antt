@@ -5,8 +5,8 @@ use Rattle.regex_lite_engine.specs.Graph.Places.{Condition, Place, with_arrows, 
 use Rattle.regex_lite_engine.specs.Graph.Addresses.{Address}
 use Rattle.regex_lite_engine.specs.Graph.Repetitions.{Content}
 use Rattle.regex_lite_engine.specs.Graph.Renumbered.{renamed, renamed_arrow}
-use Rattle.regex_lite_engine.specs.Graph.Stored.{LeadBelow, LeadsBelow}
-use Rattle.regex_lite_engine.proofs.nfa.write.NumberingLemmas.{Numbering, Stands, IsAt}
+use Rattle.regex_lite_engine.specs.Graph.Stored.{LeadInto, LeadsInto}
+use Rattle.regex_lite_engine.proofs.nfa.write.NumberingLemmas.{Numbering, Inside, Stands, IsAt}
 
 -- the place with this one arrow
 abbrev pub one_arrow : {A : Type 0} → Condition → (mark : Option ℕ) → A → Place A
@@ -15,7 +15,7 @@ one_arrow condition mark to = with_arrows (record { condition = condition; mark 
 module _ (by : Numbering) where
   -- the place is that one with numbers in the place of addresses
   abbrev IsNumbered : Place ℕ → Place Address → Type 0
-  IsNumbered place wanted = (renamed by.address place ≡ wanted) × LeadsBelow by.end place
+  IsNumbered place wanted = (renamed by.address place ≡ wanted) × LeadsInto (Inside by) place
 
   -- the numbers stand for these addresses
   abbrev pub StandAll : List ℕ → List Address → Type 0
@@ -46,7 +46,7 @@ module _ (by : Numbering) where
   numbered_choice false n m a b r s = two_arrows m n b a s r
 
   numbered_arrows : (ns : List ℕ) (list : List Address) → StandAll ns list
-      → (map (renamed_arrow by.address) (map go ns) ≡ map go list) × LeadBelow by.end (map go ns)
+      → (map (renamed_arrow by.address) (map go ns) ≡ map go list) × LeadInto (Inside by) (map go ns)
   numbered_arrows [] [] r = (refl, tt)
   numbered_arrows [] (a ∷ list) r = absurd r
   numbered_arrows (n ∷ ns) [] r = absurd r

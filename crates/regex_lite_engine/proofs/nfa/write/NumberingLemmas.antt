@@ -1,31 +1,35 @@
 -- Numbers in the place of addresses, and that places in a row are what stands at their addresses.
-use Rattle.std.proofs.Common.{◌≡◌, ◌<◌, refl, sym, ap, subst, ◌∙◌, arith, ℕ, suc, ◌+◌, List, [], ◌∷◌, ◌++◌, length, append_assoc, Some}
+use Rattle.std.proofs.Common.{◌≡◌, ◌<◌, ◌≤◌, refl, sym, ap, subst, ◌∙◌, arith, ℕ, suc, ◌+◌, List, [], ◌∷◌, ◌++◌, length, append_assoc, Some}
 use Rattle.regex_lite_engine.specs.Graph.Places.{Place}
 use Rattle.regex_lite_engine.specs.Graph.Addresses.{Address, part}
 use Rattle.regex_lite_engine.specs.Graph.Repetitions.{Content}
 use Rattle.regex_lite_engine.specs.Graph.Renumbered.{renamed}
-use Rattle.regex_lite_engine.specs.Graph.Stored.{LeadsBelow}
+use Rattle.regex_lite_engine.specs.Graph.Stored.{LeadsInto}
 use Rattle.regex_lite_engine.specs.Nfa.Layout.{Fragment, before}
 use Rattle.regex_lite_engine.proofs.nfa.write.AddressLemmas.{in_part}
 
--- what the numbers below the end stand for
+-- what the numbers from the first on to below the end stand for
 pub record Numbering : Type 0 where
   pub address : ℕ → Address
+  pub first : ℕ
   pub end : ℕ
 
 module _ (by : Numbering) where
+  abbrev pub Inside : ℕ → Type 0
+  Inside n = (by.first ≤ n) × (n < by.end)
+
   -- the number stands for the address
   abbrev pub Stands : ℕ → Address → Type 0
-  Stands n a = (by.address n ≡ a) × (n < by.end)
+  Stands n a = (by.address n ≡ a) × Inside n
 
   -- the numbers from n on stand for these addresses in the tree at `pre`, one after another
   abbrev pub InRow : (pre : Address) → ℕ → List Address → Type 0
   InRow pre n [] = Unit {0}
   InRow pre n (a ∷ list) = Stands n (pre ++ a) × InRow pre (n + 1) list
 
-  -- the place is what stands at the address, and leads to numbers below the end
+  -- the place is what stands at the address, and leads to such numbers
   abbrev pub IsAt : (Address → Content) → Address → Place ℕ → Type 0
-  IsAt content a place = (content a ≡ Some (renamed by.address place)) × LeadsBelow by.end place
+  IsAt content a place = (content a ≡ Some (renamed by.address place)) × LeadsInto Inside place
 
   abbrev pub AreAt : (Address → Content) → List Address → List (Place ℕ) → Type 0
   AreAt content [] [] = Unit {0}

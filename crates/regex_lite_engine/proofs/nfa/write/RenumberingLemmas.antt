@@ -1,20 +1,20 @@
 -- The layout of the whole pattern is the written-out one, with numbers in the place of addresses.
-use Rattle.std.proofs.Common.{◌≡◌, ◌<◌, refl, sym, ap, subst, ◌∙◌, arith, ℕ, zero, suc, ◌+◌, inl, inr, List, [], ◌∷◌, ◌++◌, length, get_or, slice_get, append_assoc, length-append, Some, None, ◌^◌, map, option_map}
+use Rattle.std.proofs.Common.{◌≡◌, ◌<◌, ◌≤◌, ◌-◌, refl, sym, ap, subst, ◌∙◌, arith, ℕ, zero, suc, ◌+◌, inl, inr, List, [], ◌∷◌, ◌++◌, length, get_or, slice_get, append_assoc, length-append, Some, None, ◌^◌, map, option_map}
 use Rattle.std.proofs.lemmas.List.{length-map}
 use Rattle.std.proofs.lemmas.Option.{slice_get-map}
 use Rattle.std.proofs.Math.Seq.{get_or-append_seam}
 use Rattle.regex_lite_syntax.specs.Tree.{Tree}
 use Rattle.regex_lite_syntax.specs.Tree.Regular.{IsRegular}
-use Rattle.regex_lite_engine.specs.Graph.Places.{Place, kept_back_of, reading_of}
+use Rattle.regex_lite_engine.specs.Graph.Places.{Arrow, Place, complete, with_arrows, kept_back_of, reading_of}
 use Rattle.regex_lite_engine.specs.Graph.Addresses.{Address, entry}
 use Rattle.regex_lite_engine.specs.Graph.Repetitions.{Content}
 use Rattle.regex_lite_engine.specs.Graph.WrittenOut.{start_address, end_address, place_at, whole, written_out}
 use Rattle.regex_lite_engine.specs.Graph.Renumbered.{IsRenumbered, IsNumberOf}
-use Rattle.regex_lite_engine.specs.Graph.Stored.{IsClosed, LeadsBelow, place_of}
+use Rattle.regex_lite_engine.specs.Graph.Stored.{IsClosed, LeadBelow, LeadsBelow, LeadInto, LeadsInto, place_of}
 use Rattle.regex_lite_engine.specs.declared.nfa.place.Place as code
-use Rattle.regex_lite_engine.specs.Nfa.Layout.{whole_layout, whole_table}
+use Rattle.regex_lite_engine.specs.Nfa.Layout.{pattern_layout, pattern_table, whole_layout, whole_table}
 use Rattle.regex_lite_engine.proofs.nfa.write.AddressLemmas.{in_part, addresses}
-use Rattle.regex_lite_engine.proofs.nfa.write.NumberingLemmas.{Numbering, InRow, IsAt, AreAt, Fits, as_many, part_at}
+use Rattle.regex_lite_engine.proofs.nfa.write.NumberingLemmas.{Numbering, Stands, InRow, IsAt, AreAt, Fits, as_many, part_at}
 use Rattle.regex_lite_engine.proofs.nfa.write.NumberedTreeLemmas.{fits_capture, fits_tree}
 use Rattle.regex_lite_engine.proofs.nfa.write.ApartLemmas.{Apart, apart_first, apart_part, apart_get}
 use Rattle.regex_lite_engine.proofs.nfa.write.ApartAddressLemmas.{InPart, each_in_part, apart_addresses}
@@ -22,35 +22,40 @@ use Rattle.regex_lite_engine.proofs.nfa.write.AmongLemmas.{Among, among_part, nu
 use Rattle.regex_lite_engine.proofs.nfa.write.ListedAddressLemmas.{listed_tree}
 
 -- the addresses of the whole pattern, the place where the match is complete first
-abbrev whole_addresses : Tree → List Address
+abbrev pub whole_addresses : Tree → List Address
 whole_addresses tree = end_address ∷ in_part 0 (addresses (whole tree))
 
--- numbers stand for the addresses of a list in its order
-abbrev numbering_of : List Address → Numbering
-numbering_of all = record { address = λ n. get_or all n []; end = length all }
+-- numbers from the base on stand for the addresses of a list in its order
+abbrev pub numbering_of : (base : ℕ) → List Address → Numbering
+numbering_of base all = record {
+  address = λ n. get_or all (n - base) [];
+  first = base;
+  end = base + length all;
+}
 
-row_of : (all before list : List Address) → all ≡ before ++ in_part 0 list
-    → InRow (numbering_of all) (1 ∷ []) (length before) list
-row_of all before [] e = tt
-row_of all before (a ∷ list) e =
+row_of : (base : ℕ) (all before list : List Address) → all ≡ before ++ in_part 0 list
+    → InRow (numbering_of base all) (1 ∷ []) (base + length before) list
+row_of base all before [] e = tt
+row_of base all before (a ∷ list) e =
     let rest = in_part 0 list in
     let so_far = before ++ (1 ∷ a) ∷ [] in
     let long = ap length e ∙ length-append before ((1 ∷ a) ∷ rest) in
     let longer = length-append before ((1 ∷ a) ∷ []) in
     let found = get_or-append_seam before (1 ∷ a) rest [] in
-    let here = ap (λ x. get_or x (length before) []) e ∙ found in
+    let own : base + length before - base ≡ length before = omega arith in
+    let here = ap (λ n. get_or all n []) own ∙ ap (λ x. get_or x (length before) []) e ∙ found in
     let moved = e ∙ sym (append_assoc before ((1 ∷ a) ∷ []) rest) in
-    let later = row_of all so_far list moved in
-    let same : length so_far ≡ length before + 1 = omega (arith, longer) in (
-      (here, omega (arith, long)),
-      subst (λ n. InRow (numbering_of all) (1 ∷ []) n list) same later,
+    let later = row_of base all so_far list moved in
+    let same : base + length so_far ≡ base + length before + 1 = omega (arith, longer) in (
+      (here, (omega arith, omega (arith, long))),
+      subst (λ n. InRow (numbering_of base all) (1 ∷ []) n list) same later,
     )
 
 none_here : (q : ℕ) (place : Place ℕ) → slice_get {X = Place ℕ} [] q ≡ Some place → ⊥
 none_here zero place e = cc
 none_here (suc q) place e = cc
 
-is_at_number : (by : Numbering) (content : Address → Content) (list : List Address)
+pub is_at_number : (by : Numbering) (content : Address → Content) (list : List Address)
     (ps : List (Place ℕ)) → AreAt by content list ps → (q : ℕ) (place : Place ℕ)
     → slice_get ps q ≡ Some place → IsAt by content (get_or list q []) place
 is_at_number by content [] [] r q place e = absurd (none_here q place e)
@@ -61,14 +66,24 @@ is_at_number by content (a ∷ list) (p ∷ ps) r zero place e =
 is_at_number by content (a ∷ list) (p ∷ ps) r (suc q) place e =
     is_at_number by content list ps r.1 q place e
 
-apart_whole : (tree : Tree) → Apart (whole_addresses tree)
+lead_below : (first end : ℕ) (arrows : List (Arrow ℕ))
+    → LeadInto (λ q. (first ≤ q) × (q < end)) arrows → LeadBelow end arrows
+lead_below first end [] r = tt
+lead_below first end (arrow ∷ arrows) r = (r.0.1, lead_below first end arrows r.1)
+
+pub leads_below : (first end : ℕ) (place : Place ℕ)
+    → LeadsInto (λ q. (first ≤ q) × (q < end)) place → LeadsBelow end place
+leads_below first end complete r = tt
+leads_below first end (with_arrows arrows) r = lead_below first end arrows r
+
+pub apart_whole : (tree : Tree) → Apart (whole_addresses tree)
 apart_whole tree =
     let list = addresses (whole tree) in
     let inner = apart_part 0 list (apart_addresses (whole tree)) in
     let in_tree = each_in_part 0 list in
     apart_first end_address (InPart 0) (λ r. omega arith) (in_part 0 list) in_tree inner
 
-listed_whole : (tree : Tree) (a : Address) (place : Place Address)
+pub listed_whole : (tree : Tree) (a : Address) (place : Place Address)
     → written_out tree a ≡ Some place → Among a (whole_addresses tree)
 listed_whole tree (zero ∷ []) place e = inl refl
 listed_whole tree (suc zero ∷ a) place e =
@@ -80,78 +95,87 @@ module _ (tree : Tree) (regular : IsRegular tree) where
   abbrev all : List Address
   all = whole_addresses tree
 
-  abbrev by : Numbering
-  by = numbering_of all
-
   abbrev content : Address → Content
   content = place_at (whole tree) (1 ∷ []) end_address
 
-  whole_fits : Fits by content (addresses (whole tree)) (entry (whole tree) (1 ∷ []))
-      (whole_layout tree)
-  whole_fits =
-      let in_row = row_of all (end_address ∷ []) (addresses (whole tree)) refl in
-      let inner = fits_tree by tree regular in
-      let fits = fits_capture by 0 None tree inner (1 ∷ []) end_address 1 0 in
-      fits (refl, omega arith) in_row
+  module _ (base : ℕ) where
+    abbrev by : Numbering
+    by = numbering_of base all
 
-  table_is : AreAt by (written_out tree) all (whole_table tree)
-  table_is =
-      let list = addresses (whole tree) in
-      let inner = part_at by (written_out tree) content 0 list (whole_layout tree).0 in
-      ((refl, tt), inner (λ a. refl) whole_fits.1)
+    pub pattern_fits : Fits by content (addresses (whole tree)) (entry (whole tree) (1 ∷ []))
+        (pattern_layout tree base)
+    pattern_fits =
+        let in_row = row_of base all (end_address ∷ []) (addresses (whole tree)) refl in
+        let inner = fits_tree by tree regular in
+        let fits = fits_capture by 0 None tree inner (1 ∷ []) end_address (base + 1) base in
+        let here : base - base ≡ 0 = omega arith in
+        fits (ap (λ n. get_or all n []) here, (omega arith, omega arith)) in_row
+
+    -- the pattern is entered where it starts
+    pub pattern_start : Stands by (pattern_layout tree base).1 start_address
+    pattern_start = pattern_fits.0
+
+    pub pattern_is : AreAt by (written_out tree) all (pattern_table tree base)
+    pattern_is =
+        let list = addresses (whole tree) in
+        let inner = part_at by (written_out tree) content 0 list (pattern_layout tree base).0 in
+        ((refl, tt), inner (λ a. refl) pattern_fits.1)
+
+  -- from number 0 on
+  at_zero : (n : ℕ) → (by 0).address n ≡ get_or all n []
+  at_zero n = let same : n - 0 ≡ n = omega arith in ap (λ m. get_or all m []) same
 
   as_long : length (whole_table tree) ≡ length all
-  as_long = as_many by (written_out tree) all (whole_table tree) table_is
+  as_long = as_many (by 0) (written_out tree) all (whole_table tree) (pattern_is 0)
 
   place_is : (q : ℕ) (place : Place ℕ) → slice_get (whole_table tree) q ≡ Some place
-      → IsAt by (written_out tree) (get_or all q []) place
-  place_is = is_at_number by (written_out tree) all (whole_table tree) table_is
+      → IsAt (by 0) (written_out tree) (get_or all q []) place
+  place_is = is_at_number (by 0) (written_out tree) all (whole_table tree) (pattern_is 0)
 
   apart_numbers : (p q : ℕ) → p < length (whole_table tree) → q < length (whole_table tree)
-      → by.address p ≡ by.address q → p ≡ q
+      → (by 0).address p ≡ (by 0).address q → p ≡ q
   apart_numbers p q l m same =
       let less_p : p < length all = omega (arith, as_long) in
       let less_q : q < length all = omega (arith, as_long) in
-      apart_get all (apart_whole tree) p q less_p less_q same
+      apart_get all (apart_whole tree) p q less_p less_q (sym (at_zero p) ∙ same ∙ at_zero q)
 
   each_numbered : (a : Address) (place : Place Address) → written_out tree a ≡ Some place
-      → (q : ℕ) × (q < length (whole_table tree)) × (by.address q ≡ a)
+      → (q : ℕ) × (q < length (whole_table tree)) × ((by 0).address q ≡ a)
   each_numbered a place e =
       let number = number_of a all (listed_whole tree a place e) in
-      (number.0, omega (arith, as_long, number.1), number.2)
+      (number.0, omega (arith, as_long, number.1), at_zero number.0 ∙ number.2)
 
   arrows_inside : (q : ℕ) (place : Place ℕ) → slice_get (whole_table tree) q ≡ Some place
       → LeadsBelow (length (whole_table tree)) place
   arrows_inside q place e =
-      subst (λ n. LeadsBelow n place) (sym as_long) (place_is q place e).1
+      let same : 0 + length all ≡ length (whole_table tree) = omega (arith, as_long) in
+      subst (λ n. LeadsBelow n place) same (leads_below 0 (0 + length all) place (place_is q place e).1)
 
   pub whole_names : ℕ → Address
-  whole_names = by.address
+  whole_names = (by 0).address
 
   pub renumbered : IsRenumbered (written_out tree) whole_names (whole_table tree)
   unfolding whole_names
   renumbered = record {
     apart = apart_numbers;
-    alike = λ q place e. (place_is q place e).0;
+    alike = λ q place e. ap (written_out tree) (at_zero q) ∙ (place_is q place e).0;
     each = each_numbered;
     inside = arrows_inside;
   }
 
   pub starts : IsNumberOf whole_names (whole_table tree) start_address (whole_layout tree).1
   unfolding whole_names
-  starts = record { inside = omega (arith, as_long, whole_fits.0.1); same = whole_fits.0.0 }
+  starts = record { inside = omega (arith, as_long, (pattern_fits 0).0.1.1); same = (pattern_fits 0).0.0 }
 
   module _ (places : List code.Place) (table_is : map place_of places ≡ whole_table tree) where
     as_many_places : length (whole_table tree) ≡ length places
     as_many_places = ap length (sym table_is) ∙ length-map places place_of
 
-    -- the graph with these places leads to its own places
-    pub closed : (start arrows reading : ℕ) → start ≡ (whole_layout tree).1
-        → length places < 2 ^ 32 → arrows < 2 ^ 34 → reading < length places
-        → reading_of (whole_table tree) ≡ reading → kept_back_of (whole_table tree) < length places
-        → IsClosed places start arrows reading
-    closed start arrows reading start_is few_places few_arrows few_reading each_reading few_kept_back = record {
-      start_inside = omega (arith, start_is, starts.inside, as_many_places);
+    -- a table with these places leads to its own places
+    pub closed : (arrows reading : ℕ) → length places < 2 ^ 32 → arrows < 2 ^ 34
+        → reading < length places → reading_of (whole_table tree) ≡ reading
+        → kept_back_of (whole_table tree) < length places → IsClosed places arrows reading
+    closed arrows reading few_places few_arrows few_reading each_reading few_kept_back = record {
       each_inside = λ q place e. (
           let stored = ap (λ table. slice_get table q) (sym table_is)
           ∙ slice_get-map place_of places q ∙ ap (option_map place_of) e in
@@ -160,7 +184,11 @@ module _ (tree : Tree) (regular : IsRegular tree) where
           );
       few_places = few_places;
       few_arrows = few_arrows;
-      few_reading = few_reading;
+      few_reading = λ some. few_reading;
       each_reading = ap reading_of table_is ∙ each_reading;
-      few_kept_back = omega (arith, ap kept_back_of table_is, few_kept_back);
+      few_kept_back = λ some. omega (arith, ap kept_back_of table_is, few_kept_back);
     }
+
+    -- and it has the place where the pattern starts
+    pub start_inside : (start : ℕ) → start ≡ (whole_layout tree).1 → start < length places
+    start_inside start start_is = omega (arith, start_is, starts.inside, as_many_places)

@@ -1,16 +1,16 @@
-use Rattle.std.proofs.Common.{◌≡◌, length, map, sym, ◌∙◌, ap, arith}
+use Rattle.std.proofs.Common.{◌≡◌, ◌<◌, length, map, sym, subst, ◌∙◌, ap, arith}
 use Rattle.std.proofs.lemmas.List.{length-map}
 use Rattle.regex_lite_engine.specs.Graph.Stored.{place_of}
 use Rattle.regex_lite_engine.proofs.pikevm.cache_for.Goals as goal
 
 pub overflow_add-room : goal.overflow_add-room
-overflow_add-room g c = omega (arith, c.places-places.ensures.same, c.places-places.ensures.few, c.reading-room.ensures.few)
+overflow_add-room g c = omega (arith, c.places-places.ensures.same, c.places-places.ensures.few, c.reading-room.ensures.few c.requires)
 
 pub returns-clause-fresh : goal.returns-clause-fresh
 returns-clause-fresh g c =
-    let count : length (map place_of c.args.graph.now.places) ≡ length c.args.graph.now.places = length-map c.args.graph.now.places place_of in
-    let places : c.places-places.result ≡ length c.args.graph.now.places = c.places-places.ensures.same in
-    let kept = c.places-places.ensures.kept_back in
+    let count : length (map place_of c.args.table.now.places) ≡ length c.args.table.now.places = length-map c.args.table.now.places place_of in
+    let places : c.places-places.result ≡ length c.args.table.now.places = c.places-places.ensures.same in
+    let kept = c.places-places.ensures.kept_back (subst (λ n. 0 < n) (sym places) c.requires) in
     let reading = c.reading-room.ensures.each in
     let blank = c.in_ok-blank.ensures in
     let tried = c.none.ensures.tried in let entered = c.none.ensures.entered in let looked = c.none.ensures.looked in
@@ -39,6 +39,6 @@ returns-clause-fresh g c =
 
 pub returns-clause-countable : goal.returns-clause-countable
 returns-clause-countable g c =
-    let count : length (map place_of c.args.graph.now.places) ≡ length c.args.graph.now.places = length-map c.args.graph.now.places place_of in
+    let count : length (map place_of c.args.table.now.places) ≡ length c.args.table.now.places = length-map c.args.table.now.places place_of in
     let places = c.places-places.ensures.same in let few = c.places-places.ensures.few in
     record { few_places = omega (arith, count, places, few); few_arrows = c.reading-room.ensures.few_arrows }

@@ -1,7 +1,8 @@
 -- What a change of cells and rows changes of the lists of threads.
-use Rattle.std.proofs.Common.{◌≡◌, ℕ, ◌+◌, ◌*◌, ◌<◌, ◌≤◌, List, [], ◌∷◌, ◌++◌, length, map, set, Option, None, slice_index, slice_index_or, sym, ap, ◌∙◌, arith}
+use Rattle.std.proofs.Common.{◌≡◌, ℕ, ◌+◌, ◌*◌, ◌<◌, ◌≤◌, List, [], ◌∷◌, ◌++◌, length, map, set, slice_index, slice_index_or, sym, ap, ◌∙◌, arith}
 use Rattle.std.proofs.lemmas.List.{map-set, get_or-set_same, get_or-set_other, length-map}
 use Rattle.std.proofs.lemmas.List.FromFn.{get_or-map-range_with_len, length-map-range_with_len, map-range_with_len_more}
+use Rattle.regex_lite_engine.specs.Walk.Beginnings.{Told, untold}
 use Rattle.regex_lite_engine.specs.declared.pikevm.cell.Cell.{Cell}
 use Rattle.regex_lite_engine.specs.declared.pikevm.cell.Side.{Side}
 use Rattle.regex_lite_engine.specs.Walk.Cells.{round_in, frame_in, other, place_on, start_on, start_told, with_thread, row_on, nth_row, thread_on, threads_on}
@@ -9,26 +10,26 @@ use Rattle.regex_lite_engine.specs.Walk.Machine.{Row, Thread, thread_at}
 use Rattle.regex_lite_engine.proofs.pikevm.memory.CellLemmas.{own_place, own_start, other_place, other_start, row_apart, row_other, row_fits, row_behind_first, not_told, same_round, same_frame}
 use Rattle.regex_lite_engine.proofs.pikevm.rows.RowLemmas.{listed_alike}
 
-pub threads_long : {S : Type 0} (told : S → Option ℕ) (s : Side) (cells : List (Cell S)) (rows : List Row) (room n : ℕ) → length (threads_on told s cells rows room n) ≡ n
+pub threads_long : {S : Type 0} (told : S → Told) (s : Side) (cells : List (Cell S)) (rows : List Row) (room n : ℕ) → length (threads_on told s cells rows room n) ≡ n
 threads_long told s cells rows room n = length-map-range_with_len (thread_on told s cells rows room) 0 n
 
-pub thread_is : {S : Type 0} (told : S → Option ℕ) (s : Side) (cells : List (Cell S)) (rows : List Row) (room n k : ℕ) → k < n → thread_at (threads_on told s cells rows room n) k ≡ thread_on told s cells rows room k
-thread_is told s cells rows room n k lt = get_or-map-range_with_len (thread_on told s cells rows room) 0 n k k (0, None, []) lt (omega arith)
+pub thread_is : {S : Type 0} (told : S → Told) (s : Side) (cells : List (Cell S)) (rows : List Row) (room n k : ℕ) → k < n → thread_at (threads_on told s cells rows room n) k ≡ thread_on told s cells rows room k
+thread_is told s cells rows room n k lt = get_or-map-range_with_len (thread_on told s cells rows room) 0 n k k (0, untold, []) lt (omega arith)
 
 -- cells that a list cannot tell from one another
-pub cells_alike : {S : Type 0} (told : S → Option ℕ) (s : Side) (cells cells' : List (Cell S)) (rows : List Row) (room n : ℕ) → map (place_on s) cells' ≡ map (place_on s) cells → map (start_told told s) cells' ≡ map (start_told told s) cells →
+pub cells_alike : {S : Type 0} (told : S → Told) (s : Side) (cells cells' : List (Cell S)) (rows : List Row) (room n : ℕ) → map (place_on s) cells' ≡ map (place_on s) cells → map (start_told told s) cells' ≡ map (start_told told s) cells →
     threads_on told s cells' rows room n ≡ threads_on told s cells rows room n
 cells_alike told s cells cells' rows room n ep es =
     listed_alike (thread_on told s cells' rows room) (thread_on told s cells rows room) 0 n
-    (λ k low lt. (let a = ap (λ ps. slice_index ps k) ep in let b = ap (λ ss. slice_index_or ss k None) es in cc))
+    (λ k low lt. (let a = ap (λ ps. slice_index ps k) ep in let b = ap (λ ss. slice_index_or ss k untold) es in cc))
 
 -- the row of the way that is followed belongs to no thread
-pub first_row_alone : {S : Type 0} (told : S → Option ℕ) (s : Side) (cells : List (Cell S)) (rows : List Row) (room n : ℕ) (row : Row) → threads_on told s cells (set rows 0 row) room n ≡ threads_on told s cells rows room n
+pub first_row_alone : {S : Type 0} (told : S → Told) (s : Side) (cells : List (Cell S)) (rows : List Row) (room n : ℕ) (row : Row) → threads_on told s cells (set rows 0 row) room n ≡ threads_on told s cells rows room n
 first_row_alone told s cells rows room n row =
     listed_alike (thread_on told s cells (set rows 0 row) room) (thread_on told s cells rows room) 0 n
     (λ k low lt. (let a : nth_row (set rows 0 row) (row_on s k) ≡ nth_row rows (row_on s k) = get_or-set_other rows 0 (row_on s k) row [] (row_behind_first s room k) in cc))
 
-module _ {S : Type 0} (told : S → Option ℕ) (s : Side) (cells : List (Cell S)) (rows : List Row) (room n place : ℕ) (start : S) (x : Cell S) (row : Row) (is : x ≡ slice_index_or cells n x)
+module _ {S : Type 0} (told : S → Told) (s : Side) (cells : List (Cell S)) (rows : List Row) (room n place : ℕ) (start : S) (x : Cell S) (row : Row) (is : x ≡ slice_index_or cells n x)
     (lt : n < room) (fits : room ≤ length cells) (all : length rows ≡ 2 * room + 1) where
   -- the list has a thread more
   pub thread_added : threads_on told s (set cells n (with_thread s place start x)) (set rows (row_on s n) row) room (n + 1) ≡ threads_on told s cells rows room n ++ (place, told start, row) ∷ []
@@ -37,8 +38,8 @@ module _ {S : Type 0} (told : S → Option ℕ) (s : Side) (cells : List (Cell S
       let last : thread_on told s c2 r2 room n ≡ (place, told start, row) = (
       let p : slice_index (map (place_on s) c2) n ≡ place = ap (λ ps. slice_index ps n) (map-set (place_on s) cells n (with_thread s place start x))
       ∙ get_or-set_same (map (place_on s) cells) n (place_on s (with_thread s place start x)) 0 (omega (arith, lt, fits, length-map cells (place_on s))) ∙ own_place place start x s in
-      let t : slice_index_or (map (start_told told s) c2) n None ≡ told start = ap (λ ps. slice_index_or ps n None) (map-set (start_told told s) cells n (with_thread s place start x))
-      ∙ get_or-set_same (map (start_told told s) cells) n (start_told told s (with_thread s place start x)) None (omega (arith, lt, fits, length-map cells (start_told told s))) ∙ ap told (own_start place start x s) in
+      let t : slice_index_or (map (start_told told s) c2) n untold ≡ told start = ap (λ ps. slice_index_or ps n untold) (map-set (start_told told s) cells n (with_thread s place start x))
+      ∙ get_or-set_same (map (start_told told s) cells) n (start_told told s (with_thread s place start x)) untold (omega (arith, lt, fits, length-map cells (start_told told s))) ∙ ap told (own_start place start x s) in
       let r : nth_row r2 (row_on s n) ≡ row = get_or-set_same rows (row_on s n) row [] (omega (arith, row_fits s room n lt, all)) in
       cc
       ) in
@@ -50,8 +51,8 @@ module _ {S : Type 0} (told : S → Option ℕ) (s : Side) (cells : List (Cell S
       earlier k below =
           let p : slice_index (map (place_on s) (set cells n (with_thread s place start x))) k ≡ slice_index (map (place_on s) cells) k = ap (λ ps. slice_index ps k) (map-set (place_on s) cells n (with_thread s place start x))
           ∙ get_or-set_other (map (place_on s) cells) n k (place_on s (with_thread s place start x)) 0 (λ e. omega (arith, e, below)) in
-          let t : slice_index_or (map (start_told told s) (set cells n (with_thread s place start x))) k None ≡ slice_index_or (map (start_told told s) cells) k None = ap (λ ps. slice_index_or ps k None) (map-set (start_told told s) cells n (with_thread s place start x))
-          ∙ get_or-set_other (map (start_told told s) cells) n k (start_told told s (with_thread s place start x)) None (λ e. omega (arith, e, below)) in
+          let t : slice_index_or (map (start_told told s) (set cells n (with_thread s place start x))) k untold ≡ slice_index_or (map (start_told told s) cells) k untold = ap (λ ps. slice_index_or ps k untold) (map-set (start_told told s) cells n (with_thread s place start x))
+          ∙ get_or-set_other (map (start_told told s) cells) n k (start_told told s (with_thread s place start x)) untold (λ e. omega (arith, e, below)) in
           let r : nth_row (set rows (row_on s n) row) (row_on s k) ≡ nth_row rows (row_on s k) = get_or-set_other rows (row_on s n) (row_on s k) row [] (row_other s k n below) in
           cc
 
@@ -70,17 +71,17 @@ module _ {S : Type 0} (told : S → Option ℕ) (s : Side) (cells : List (Cell S
       ))
 
 -- a thread with its parts
-pub thread_told : {S : Type 0} (told : S → Option ℕ) (a : ℕ) (b : Option ℕ) (p : ℕ) (s : S) (row row' : Row) (is : ℕ × S) → a ≡ p → b ≡ told s → is ≡ (p, s) → row' ≡ row → ◌≡◌ {A = Thread} (a, b, row) (is.0, told is.1, row')
+pub thread_told : {S : Type 0} (told : S → Told) (a : ℕ) (b : Told) (p : ℕ) (s : S) (row row' : Row) (is : ℕ × S) → a ≡ p → b ≡ told s → is ≡ (p, s) → row' ≡ row → ◌≡◌ {A = Thread} (a, b, row) (is.0, told is.1, row')
 thread_told told a b p s row row' is ea eb et er = cc
 
 -- a cell in which the threads are as they were
-pub threads_kept : {S : Type 0} (told : S → Option ℕ) (s : Side) (cells : List (Cell S)) (rows : List Row) (room n i : ℕ) (x y : Cell S) → x ≡ slice_index_or cells i x → (place_on s y ≡ place_on s x) × (start_on s y ≡ start_on s x) →
+pub threads_kept : {S : Type 0} (told : S → Told) (s : Side) (cells : List (Cell S)) (rows : List Row) (room n i : ℕ) (x y : Cell S) → x ≡ slice_index_or cells i x → (place_on s y ≡ place_on s x) × (start_on s y ≡ start_on s x) →
     threads_on told s (set cells i y) rows room n ≡ threads_on told s cells rows room n
 threads_kept told s cells rows room n i x y is same =
     cells_alike told s cells (set cells i y) rows room n (not_told (place_on s) cells i x y is same.0) (not_told (start_told told s) cells i x y is (ap told same.1))
 
 -- a thread is added to the list s
-module _ {S : Type 0} (told : S → Option ℕ) (s t : Side) (apart : t ≡ other s) (cells : List (Cell S)) (rows rows' : List Row) (room n m place : ℕ) (start : S) (x y : Cell S) (row : Row)
+module _ {S : Type 0} (told : S → Told) (s t : Side) (apart : t ≡ other s) (cells : List (Cell S)) (rows rows' : List Row) (room n m place : ℕ) (start : S) (x y : Cell S) (row : Row)
     (is : x ≡ slice_index_or cells n x) (written : y ≡ with_thread s place start x) (copied : rows' ≡ set rows (row_on s n) row)
     (lt : n < room) (le : m ≤ room) (fits : room ≤ length cells) (all : length rows ≡ 2 * room + 1) where
   pub rounds_stay : map round_in (set cells n y) ≡ map round_in cells

@@ -1,4 +1,4 @@
-use Rattle.std.proofs.Common.{rules, length, ◌<◌, ◌^◌, sym, subst}
+use Rattle.std.proofs.Common.{rules, length, ◌<◌, ◌^◌, sym, subst, arith}
 use Rattle.std.specs.Prelude.{chars}
 use Rattle.regex_lite_engine.specs.Graph.Stored.{table_of}
 use Rattle.regex_lite_engine.specs.Search.Offsets.{position_at}
@@ -9,7 +9,7 @@ use Rattle.regex_lite_engine.proofs.nfa.Graph.search_depth_first.Goals as goal
 pub run-found-requires-clause-counts : goal.run-found-requires-clause-counts
 run-found-requires-clause-counts c =
     let short : length c.args.haystack.now < 2 ^ 63 = search rules in
-    can_count (table_of c.args.self.now) c.args.haystack.now (position_at c.args.haystack.now c.args.start) c.utf8.haystack short c.in_ok-walk.ensures.countable
+    can_count (table_of c.args.self.now) c.args.haystack.now (position_at c.args.haystack.now c.args.start) c.utf8.haystack short c.in_ok-walk.ensures.countable 1 (omega arith)
 
 pub returns-clause-found : goal.returns-clause-found
 returns-clause-found c = λ tree regular is.

@@ -1,6 +1,5 @@
 use Rattle.std.proofs.Common.{◌≡◌, ℕ, ◌-◌, length}
 use Rattle.std.specs.Prelude.{chars}
-use Rattle.regex_lite_engine.specs.Graph.Stored.{table_of}
 use Rattle.regex_lite_engine.specs.Search.Bounds.{StaysCounted}
 use Rattle.regex_lite_engine.specs.Search.Offsets.{position_at}
 use Rattle.regex_lite_engine.specs.Walk.Passing.{IsUnderWay}
@@ -8,14 +7,16 @@ use Rattle.regex_lite_engine.specs.Walk.Standing.{IsHere}
 use Rattle.regex_lite_engine.proofs.pikevm.run.run.Given as goal
 
 abbrev pub invariant-positions : goal.invariant-positions
-invariant-positions l = record {
+invariant-positions g l = record {
   p : ℕ;
   is : IsHere (chars l.haystack) p l.here;
-  under_way : IsUnderWay (table_of l.graph) (chars l.haystack) l.graph.start
-      (position_at l.haystack l.start) p l.cache;
+  table : g.P.Patterns.table l.patterns ≡ g.P.Patterns.table l.fn.patterns;
+  entries : g.P.Patterns.entries l.patterns ≡ g.P.Patterns.entries l.fn.patterns;
+  under_way : IsUnderWay (g.P.Patterns.table l.patterns) (chars l.haystack)
+      (g.P.Patterns.entries l.patterns) (position_at l.haystack l.start) p l.cache;
   width : length l.cache.best.row ≡ length l.fn.cache.best.row;
   counts : StaysCounted l.fn.cache.walk.steps l.cache.walk.steps;
 }
 
 abbrev pub decreases-positions : goal.decreases-positions
-decreases-positions l = length l.haystack - l.here.at
+decreases-positions g l = length l.haystack - l.here.at

@@ -1,7 +1,9 @@
-use Rattle.std.proofs.Common.{rules, ℕ, ◌+◌, ◌≤◌, arith}
+use Rattle.std.proofs.Common.{rules, refl, sym, subst, ◌≡◌, ◌∙◌, ℕ, length, ◌+◌, ◌≤◌, arith}
 use Rattle.std.specs.Prelude.{chars}
-use Rattle.regex_lite_engine.specs.Graph.Stored.{table_of}
+use Rattle.regex_lite_engine.specs.Graph.Renumbered.{arrows_of}
+use Rattle.regex_lite_engine.specs.Search.Bounds.{IsBoundedBy, characters_left}
 use Rattle.regex_lite_engine.specs.Search.Offsets.{position_at}
+use Rattle.regex_lite_engine.specs.Walk.Outcomes.{CanCount, IsNumberedEndOf}
 use Rattle.regex_lite_engine.specs.Walk.Turns.{best_of}
 use Rattle.regex_lite_engine.proofs.pikevm.here.OffsetLemmas.{less_left}
 use Rattle.regex_lite_engine.proofs.pikevm.CountLemmas.{counted_at_first, still_counted}
@@ -11,25 +13,38 @@ use Rattle.regex_lite_engine.proofs.pikevm.ShortestLemmas.{shortest_known, not_t
 use Rattle.regex_lite_engine.proofs.pikevm.shortest.run_shortest.Goals as goal
 
 pub positions-init : goal.positions-init
-positions-init c =
+positions-init g c =
     let a = c.args in
     let s : ℕ = position_at a.haystack.now a.start in
     record {
       p = s;
       is = c.at-here.ensures.here;
-      under_way = begun (table_of a.graph.now) (chars a.haystack.now) a.graph.now.start s a.cache.now
+      table = refl;
+      entries = refl;
+      under_way = begun (g.P.Patterns.table a.patterns.now) (chars a.haystack.now)
+          (g.P.Patterns.entries a.patterns.now) s a.cache.now
           c.requires.fresh;
       none = c.requires.fresh.none;
       counts = counted_at_first a.cache.now.walk.steps;
     }
 
 pub pass-here-requires : goal.pass-here-requires
-pass-here-requires c =
+pass-here-requires g c =
     let v = c.positions.invariant in
-    (position_at c.args.haystack.now c.args.start, v.p, v.is, c.requires.counts, v.under_way)
+    let s : ℕ = position_at c.args.haystack.now c.args.start in
+    let characters = characters_left (chars c.args.haystack.now) s in (
+      s,
+      v.p,
+      v.is,
+      subst (λ table. CanCount table (length (g.P.Patterns.entries c.positions.patterns)) characters)
+          (sym v.table)
+          (subst (λ es. CanCount (g.P.Patterns.table c.args.patterns.now) (length es) characters)
+          (sym v.entries) c.requires.counts),
+      v.under_way,
+    )
 
 pub next-here-requires : goal.next-here-requires
-next-here-requires c =
+next-here-requires g c =
     let v = c.positions.invariant in
     let w = c.pass-here.ensures.passes (position_at c.args.haystack.now c.args.start) v.p v.is
     v.under_way in (
@@ -40,13 +55,15 @@ next-here-requires c =
     )
 
 pub positions-preserved : goal.positions-preserved
-positions-preserved c =
+positions-preserved g c =
     let v = c.positions.invariant in
     let w = c.pass-here.ensures.passes (position_at c.args.haystack.now c.args.start) v.p v.is
     v.under_way in
     record {
       p = w.q + 1;
       is = c.next-here.ensures w.q w.is;
+      table = c.pass-here.ensures.table ∙ v.table;
+      entries = c.pass-here.ensures.entries ∙ v.entries;
       under_way = w.after;
       none = c.is_known.ensures.none_yet (not_true c.is_known.result c.if-is_known.false);
       counts = still_counted c.args.cache.now.walk.steps c.positions.cache.walk.steps
@@ -54,7 +71,7 @@ positions-preserved c =
     }
 
 pub positions-smaller : goal.positions-smaller
-positions-smaller c =
+positions-smaller g c =
     let v = c.positions.invariant in
     let w = c.pass-here.ensures.passes (position_at c.args.haystack.now c.args.start) v.p v.is
     v.under_way in
@@ -62,7 +79,7 @@ positions-smaller c =
     (c.next-here.ensures w.q w.is) w.later
 
 pub returns-then-is_known-clause-found : goal.returns-then-is_known-clause-found
-returns-then-is_known-clause-found c =
+returns-then-is_known-clause-found g c =
     let a = c.args in
     let v = c.positions.invariant in
     let s : ℕ = position_at a.haystack.now a.start in
@@ -71,19 +88,37 @@ returns-then-is_known-clause-found c =
     let low = v.under_way.low in
     let later = w.later in
     let first : s ≤ w.q = omega (arith, low, later) in
-    shortest_known (table_of a.graph.now) haystack a.graph.now.start s w.q c.pass-here.result.at
+    let table = g.P.Patterns.table c.pass-here.new.patterns in
+    let entries = g.P.Patterns.entries c.pass-here.new.patterns in
+    let table_is : table ≡ g.P.Patterns.table a.patterns.now = c.pass-here.ensures.table ∙ v.table in
+    let entries_are : entries ≡ g.P.Patterns.entries a.patterns.now
+    = c.pass-here.ensures.entries ∙ v.entries in
+    let best = best_of c.pass-here.new.self.best in
+    subst (λ t. IsNumberedEndOf t haystack (g.P.Patterns.entries a.patterns.now) s best) table_is
+    (subst (λ es. IsNumberedEndOf table haystack es s best) entries_are (shortest_known table haystack entries s w.q c.pass-here.result.at
     c.positions.cache.walk.memory.threads c.pass-here.new.self.walk.memory.threads (best_of c.positions.cache.best)
     (best_of c.pass-here.new.self.best) first w.is.inside v.none w.is.bytes w.ends
     (over_at haystack w.q c.pass-here.result w.is (c.is_known.ensures.known (search rules)))
-    w.before w.after.coming
+    w.before w.after.coming))
 
 pub returns-then-is_known-clause-bounded : goal.returns-then-is_known-clause-bounded
-returns-then-is_known-clause-bounded c =
+returns-then-is_known-clause-bounded g c =
     let a = c.args in
     let v = c.positions.invariant in
     let s : ℕ = position_at a.haystack.now a.start in
     let w = c.pass-here.ensures.passes s v.p v.is v.under_way in
     let low = v.under_way.low in
     let later = w.later in
-    bounded (table_of a.graph.now) (chars a.haystack.now) a.graph.now.start s w.q
-    c.pass-here.new.self (omega (arith, low, later)) w.is.inside w.after
+    let table = g.P.Patterns.table c.pass-here.new.patterns in
+    let entries = g.P.Patterns.entries c.pass-here.new.patterns in
+    let table_is : table ≡ g.P.Patterns.table a.patterns.now = c.pass-here.ensures.table ∙ v.table in
+    let entries_are : entries ≡ g.P.Patterns.entries a.patterns.now
+    = c.pass-here.ensures.entries ∙ v.entries in
+    let steps = c.pass-here.new.self.walk.steps in
+    subst (λ t. IsBoundedBy (length t)
+    (arrows_of t + length (g.P.Patterns.entries a.patterns.now)) (chars a.haystack.now) s
+    steps.tried steps.entered steps.looked) table_is
+    (subst (λ es. IsBoundedBy (length table) (arrows_of table + length es) (chars a.haystack.now) s
+    steps.tried steps.entered steps.looked) entries_are
+    (bounded table (chars a.haystack.now) entries s w.q c.pass-here.new.self
+    (omega (arith, low, later)) w.is.inside w.after))

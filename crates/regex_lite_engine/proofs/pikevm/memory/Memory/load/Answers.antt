@@ -1,5 +1,6 @@
-use Rattle.std.proofs.Common.{◌≡◌, ◌<◌, [], length, map, slice_index, slice_index_or, None, refl, ap, sym, ◌∙◌, arith}
+use Rattle.std.proofs.Common.{◌≡◌, ◌<◌, [], length, map, slice_index, slice_index_or, refl, ap, sym, ◌∙◌, arith}
 use Rattle.std.proofs.lemmas.List.{get_or-set_same}
+use Rattle.regex_lite_engine.specs.Walk.Beginnings.{untold}
 use Rattle.regex_lite_engine.specs.Walk.Cells.{nth_row, threads_on, other, row_on, place_on, start_on, start_told}
 use Rattle.regex_lite_engine.specs.Walk.Machine.{State, thread_at}
 use Rattle.regex_lite_engine.proofs.pikevm.memory.CellLemmas.{row_fits, told_at, state_is}
@@ -32,9 +33,9 @@ returns-clause-thread g c =
     let some : 0 < length i.rows = omega (arith, fit.rows_fit) in
     let row : nth_row c.copy.new.self 0 ≡ nth_row i.rows (row_on i.side c.args.k) = ap (λ z. nth_row z 0) c.copy.ensures.copied ∙ get_or-set_same i.rows 0 (nth_row i.rows c.row_of.result) [] some ∙ ap (nth_row i.rows) c.row_of.ensures in
     let place = told_at (place_on i.side) 0 i.cells.items c.args.k x short c.index.ensures in
-    let start = told_at (start_told g.S.Beginning.told i.side) None i.cells.items c.args.k x short c.index.ensures in
+    let start = told_at (start_told g.S.Beginning.told i.side) untold i.cells.items c.args.k x short c.index.ensures in
     let at = ap (λ ts. thread_at ts c.args.k) (sym (ap (λ (z : State). z.threads) v)) ∙ thread_is g.S.Beginning.told i.side i.cells.items i.rows i.room i.len c.args.k lt in
-    at ∙ thread_told g.S.Beginning.told (slice_index (map (place_on i.side) i.cells.items) c.args.k) (slice_index_or (map (start_told g.S.Beginning.told i.side) i.cells.items) c.args.k None) (place_on i.side x) (start_on i.side x)
+    at ∙ thread_told g.S.Beginning.told (slice_index (map (place_on i.side) i.cells.items) c.args.k) (slice_index_or (map (start_told g.S.Beginning.told i.side) i.cells.items) c.args.k untold) (place_on i.side x) (start_on i.side x)
     (nth_row i.rows (row_on i.side c.args.k)) (nth_row c.copy.new.self 0) c.thread.result place start c.thread.ensures row
 
 pub returns-clause-same : goal.returns-clause-same

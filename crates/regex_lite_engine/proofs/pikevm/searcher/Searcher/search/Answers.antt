@@ -1,10 +1,12 @@
-use Rattle.std.proofs.Common.{rules, length, ◌<◌, ◌^◌, sym, subst}
+use Rattle.std.proofs.Common.{rules, length, ◌<◌, ◌^◌, sym, subst, arith}
 use Rattle.std.specs.Prelude.{chars}
 use Rattle.regex_lite_engine.specs.Graph.Renumbered.{IsGraphOf}
 use Rattle.regex_lite_engine.specs.Graph.Stored.{table_of}
 use Rattle.regex_lite_engine.specs.Search.Offsets.{position_at}
 use Rattle.regex_lite_engine.specs.Search.Searching.{Searching}
 use Rattle.regex_lite_engine.specs.Walk.Outcomes.{IsBestOutcome}
+use Rattle.regex_lite_engine.specs.Walk.Turns.{best_of}
+use Rattle.regex_lite_engine.proofs.pikevm.EndLemmas.{one_best}
 use Rattle.regex_lite_engine.proofs.pikevm.OutcomeLemmas.{can_count, span_told}
 use Rattle.regex_lite_engine.proofs.pikevm.searcher.Searcher.search.Goals as goal
 
@@ -13,7 +15,7 @@ run-requires-clause-counts c =
     let haystack = c.args.haystack.now in
     let short : length haystack < 2 ^ 63 = search rules in
     can_count (table_of c.self.inside.graph.now) haystack (position_at haystack c.args.start)
-    c.utf8.haystack short c.self.invariant.1
+    c.utf8.haystack short c.self.invariant.1 1 (omega arith)
 
 pub returns-clause-found : goal.returns-clause-found
 returns-clause-found c = λ tree regular is.
@@ -23,4 +25,6 @@ returns-clause-found c = λ tree regular is.
     span_told tree regular graph of_graph haystack c.args.start c.if-start-haystack.false
     c.span.result c.run.new.cache.best.row
     (subst (λ z. IsBestOutcome (table_of graph) (chars haystack) graph.start
-    (position_at haystack c.args.start) z) c.span.ensures c.run.ensures.found)
+    (position_at haystack c.args.start) z) c.span.ensures
+    (one_best (table_of graph) (chars haystack) graph.start (position_at haystack c.args.start)
+    (best_of c.run.new.cache.best) c.run.ensures.found))

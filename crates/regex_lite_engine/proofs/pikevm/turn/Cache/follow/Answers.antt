@@ -1,65 +1,63 @@
-use Rattle.std.proofs.Common.{◌≡◌, ℕ, ◌+◌, ◌^◌, ◌<◌, List, length, replicate, [], ◌++◌, ◌∷◌, None, if◌then◌else◌, Option, Some, sym, ap, subst, ◌∙◌, arith}
-use Rattle.std.proofs.lemmas.List.{length-map}
+use Rattle.std.proofs.Common.{◌≡◌, ℕ, ◌+◌, ◌^◌, ◌<◌, List, length, replicate, [], ◌++◌, None, if◌then◌else◌, Some, sym, ap, subst, ◌∙◌, arith}
 use Rattle.regex_lite_engine.specs.declared.pikevm.walk.Walk.{Walk}
-use Rattle.regex_lite_engine.specs.Graph.Stored.{table_of, place_of}
 use Rattle.regex_lite_engine.specs.Search.Bounds.{StaysCounted}
+use Rattle.regex_lite_engine.specs.Walk.Beginnings.{Told}
 use Rattle.regex_lite_engine.specs.Walk.Machine.{Row, State, BestState, Thread, thread_at}
 use Rattle.regex_lite_engine.specs.Walk.Room.{due_tries, KeepsPosition}
 use Rattle.regex_lite_engine.specs.Walk.Searching.{ways_at}
-use Rattle.regex_lite_engine.specs.Walk.Turns.{best_of, StepsTo}
+use Rattle.regex_lite_engine.specs.Walk.Turns.{begun, best_of, StepsTo}
 use Rattle.regex_lite_engine.specs.Walk.Walking.{Best}
 use Rattle.regex_lite_engine.proofs.pikevm.CountLemmas.{still_counted}
 use Rattle.regex_lite_engine.proofs.pikevm.StepLemmas.{room_pushed, stepped_walk, spent_walk, entries_walk}
 use Rattle.regex_lite_engine.proofs.pikevm.TurnLemmas.{begun_below, start_begun, start_taken}
 use Rattle.regex_lite_engine.proofs.pikevm.turn.Cache.follow.Goals as goal
 
-abbrev as_best : Option ℕ → ℕ → Row → Best
+abbrev as_best : Told → ℕ → Row → Best
 as_best i at row = Some (i, at, row)
 
 pub take_up-place-requires : goal.take_up-place-requires
 take_up-place-requires g c =
     let a = c.args in let i = a.self.now.walk.memory in let v = c.ways.invariant in
-    let lt : c.ways.k < length (ways_at a.graph.now.start (g.S.Beginning.told_of a.here.at) a.may_start a.self.now) = (let t = c.ways-test.true in let e = c.ways-k-end.ensures a.graph.now.start (g.S.Beginning.told_of a.here.at) in omega (arith, t, e)) in
-    let taken = start_taken a.graph.now.start (g.S.Beginning.told_of a.here.at) (length i.row) a.may_start (best_of a.self.now.best) i.threads c.ways.k lt in
+    let lt : c.ways.k < length (ways_at (g.P.Patterns.starts a.patterns.now) (g.S.Beginning.told_of a.here.at) a.self.now) = (let t = c.ways-test.true in let e = c.ways-k-end.ensures (g.S.Beginning.told_of a.here.at) in omega (arith, t, e)) in
+    let taken = start_taken (g.P.Patterns.starts a.patterns.now) (g.S.Beginning.told_of a.here.at) (length i.row) (best_of a.self.now.best) i.threads c.ways.k lt in
     let few = taken.0 in let same = ap (λ (ts : List Thread). length ts) v.kept.threads in
     omega (arith, few, same)
 
 pub explore-requires : goal.explore-requires
 explore-requires g c =
     let a = c.args in let i = a.self.now.walk.memory in let w = c.ways.self.walk in let v = c.ways.invariant in let up = c.take_up-place.ensures in
-    let q : ℕ = c.take_up-place.result.0 in let start : Option ℕ = g.S.Beginning.told c.take_up-place.result.1 in let w1 : Walk g.row.S.Denot = record { memory = c.take_up-place.new.self.memory; steps = c.take_up-place.new.self.steps } in
-    let ws = ways_at a.graph.now.start (g.S.Beginning.told_of a.here.at) a.may_start a.self.now in
-    let lt : c.ways.k < length ws = (let t = c.ways-test.true in let e = c.ways-k-end.ensures a.graph.now.start (g.S.Beginning.told_of a.here.at) in omega (arith, t, e)) in
+    let q : ℕ = c.take_up-place.result.0 in let start : Told = g.S.Beginning.told c.take_up-place.result.1 in let w1 : Walk g.row.S.Denot = record { memory = c.take_up-place.new.self.memory; steps = c.take_up-place.new.self.steps } in
+    let ws = ways_at (g.P.Patterns.starts a.patterns.now) (g.S.Beginning.told_of a.here.at) a.self.now in
+    let lt : c.ways.k < length ws = (let t = c.ways-test.true in let e = c.ways-k-end.ensures (g.S.Beginning.told_of a.here.at) in omega (arith, t, e)) in
     let em = up.memory ∙ ap (λ fs. record w.memory { row = w1.memory.row; frames = fs }) v.empty in
-    let taken = start_taken a.graph.now.start (g.S.Beginning.told_of a.here.at) (length i.row) a.may_start (best_of a.self.now.best) i.threads c.ways.k lt in
+    let taken = start_taken (g.P.Patterns.starts a.patterns.now) (g.S.Beginning.told_of a.here.at) (length i.row) (best_of a.self.now.best) i.threads c.ways.k lt in
     let at : thread_at ws c.ways.k ≡ (q, start, w1.memory.row) =
-    taken.1 ∙ ap (λ ts. thread_at (ts ++ (a.graph.now.start, g.S.Beginning.told_of a.here.at, replicate (length i.row) None) ∷ []) c.ways.k) (sym v.kept.threads)
-    ∙ ap (λ n. thread_at (w.memory.threads ++ (a.graph.now.start, g.S.Beginning.told_of a.here.at, replicate n None) ∷ []) c.ways.k) (sym v.kept.row)
-    ∙ ap (λ z. thread_at (w.memory.threads ++ (z, g.S.Beginning.told_of a.here.at, replicate (length w.memory.row) None) ∷ []) c.ways.k) (sym c.start.ensures.same) ∙ up.thread in
-    let inside = c.start.ensures.inside in let all = length-map a.graph.now.places place_of in
-    let below = begun_below (length (table_of a.graph.now)) (best_of a.self.now.best) a.graph.now.start (g.S.Beginning.told_of a.here.at) a.may_start i.threads ws (omega (arith, inside, all, c.start.ensures.same)) c.requires.placed.below
-    (start_begun a.graph.now.start (g.S.Beginning.told_of a.here.at) (length i.row) a.may_start (best_of a.self.now.best) i.threads) in
+    taken.1 ∙ ap (λ ts. thread_at (ts ++ begun (g.S.Beginning.told_of a.here.at) (replicate (length i.row) None) (g.P.Patterns.starts a.patterns.now)) c.ways.k) (sym v.kept.threads)
+    ∙ ap (λ n. thread_at (w.memory.threads ++ begun (g.S.Beginning.told_of a.here.at) (replicate n None) (g.P.Patterns.starts a.patterns.now)) c.ways.k) (sym v.kept.row)
+    ∙ up.thread in
+    let below = begun_below (length (g.P.Patterns.table a.patterns.now)) (best_of a.self.now.best) (g.P.Patterns.starts a.patterns.now) (g.S.Beginning.told_of a.here.at) i.threads ws c.requires.inside c.requires.placed.below
+    (start_begun (g.P.Patterns.starts a.patterns.now) (g.S.Beginning.told_of a.here.at) (length i.row) (best_of a.self.now.best) i.threads) in
     let budget = c.requires.placed.budget in let spent = v.spent in
-    room_pushed (table_of a.graph.now) w w1 q em up.steps
-    (subst (λ (t : Thread). t.0 < length (table_of a.graph.now)) at (below c.ways.k lt))
+    room_pushed (g.P.Patterns.table a.patterns.now) w w1 q em up.steps
+    (subst (λ (t : Thread). t.0 < length (g.P.Patterns.table a.patterns.now)) at (below c.ways.k lt))
     c.requires.placed.stack_room
-    (subst (λ z. due_tries (table_of a.graph.now) w.memory.rounds z [] w.memory.next w.steps.tried + 1 < 2 ^ 127) (sym v.kept.round) (omega (arith, budget, spent, lt)))
+    (subst (λ z. due_tries (g.P.Patterns.table a.patterns.now) w.memory.rounds z [] w.memory.next w.steps.tried + 1 < 2 ^ 127) (sym v.kept.round) (omega (arith, budget, spent, lt)))
     v.room
 
 pub ways-preserved : goal.ways-preserved
 ways-preserved g c =
     let a = c.args in let i = a.self.now.walk.memory in let w = c.ways.self.walk in let v = c.ways.invariant in let up = c.take_up-place.ensures in
-    let q : ℕ = c.take_up-place.result.0 in let start : Option ℕ = g.S.Beginning.told c.take_up-place.result.1 in let w1 : Walk g.row.S.Denot = record { memory = c.take_up-place.new.self.memory; steps = c.take_up-place.new.self.steps } in
-    let ws = ways_at a.graph.now.start (g.S.Beginning.told_of a.here.at) a.may_start a.self.now in
-    let lt : c.ways.k < length ws = (let t = c.ways-test.true in let e = c.ways-k-end.ensures a.graph.now.start (g.S.Beginning.told_of a.here.at) in omega (arith, t, e)) in
+    let q : ℕ = c.take_up-place.result.0 in let start : Told = g.S.Beginning.told c.take_up-place.result.1 in let w1 : Walk g.row.S.Denot = record { memory = c.take_up-place.new.self.memory; steps = c.take_up-place.new.self.steps } in
+    let ws = ways_at (g.P.Patterns.starts a.patterns.now) (g.S.Beginning.told_of a.here.at) a.self.now in
+    let lt : c.ways.k < length ws = (let t = c.ways-test.true in let e = c.ways-k-end.ensures (g.S.Beginning.told_of a.here.at) in omega (arith, t, e)) in
     let em = up.memory ∙ ap (λ fs. record w.memory { row = w1.memory.row; frames = fs }) v.empty in
     let more = c.explore.ensures in
-    let taken = start_taken a.graph.now.start (g.S.Beginning.told_of a.here.at) (length i.row) a.may_start (best_of a.self.now.best) i.threads c.ways.k lt in
+    let taken = start_taken (g.P.Patterns.starts a.patterns.now) (g.S.Beginning.told_of a.here.at) (length i.row) (best_of a.self.now.best) i.threads c.ways.k lt in
     let at : thread_at ws c.ways.k ≡ (q, start, w1.memory.row) =
-    taken.1 ∙ ap (λ ts. thread_at (ts ++ (a.graph.now.start, g.S.Beginning.told_of a.here.at, replicate (length i.row) None) ∷ []) c.ways.k) (sym v.kept.threads)
-    ∙ ap (λ n. thread_at (w.memory.threads ++ (a.graph.now.start, g.S.Beginning.told_of a.here.at, replicate n None) ∷ []) c.ways.k) (sym v.kept.row)
-    ∙ ap (λ z. thread_at (w.memory.threads ++ (z, g.S.Beginning.told_of a.here.at, replicate (length w.memory.row) None) ∷ []) c.ways.k) (sym c.start.ensures.same) ∙ up.thread in
-    let due = due_tries (table_of a.graph.now) i.rounds i.now [] i.next a.self.now.walk.steps.tried in
+    taken.1 ∙ ap (λ ts. thread_at (ts ++ begun (g.S.Beginning.told_of a.here.at) (replicate (length i.row) None) (g.P.Patterns.starts a.patterns.now)) c.ways.k) (sym v.kept.threads)
+    ∙ ap (λ n. thread_at (w.memory.threads ++ begun (g.S.Beginning.told_of a.here.at) (replicate n None) (g.P.Patterns.starts a.patterns.now)) c.ways.k) (sym v.kept.row)
+    ∙ up.thread in
+    let due = due_tries (g.P.Patterns.table a.patterns.now) i.rounds i.now [] i.next a.self.now.walk.steps.tried in
     let kept : KeepsPosition i c.explore.new.self.memory = record {
       round = more.kept.round ∙ ap (λ (m : State). m.now) em ∙ v.kept.round;
       threads = more.kept.threads ∙ ap (λ (m : State). m.threads) em ∙ v.kept.threads;
@@ -68,13 +66,13 @@ ways-preserved g c =
     } in
     record {
       room = more.room;
-      steps = subst (λ d. StepsTo (table_of a.graph.now) a.here i.now (thread_at ws) (length ws) i.rounds i.next (best_of a.self.now.best)
+      steps = subst (λ d. StepsTo (g.P.Patterns.table a.patterns.now) a.here i.now (thread_at ws) (length ws) i.rounds i.next (best_of a.self.now.best)
           (if d then length ws else c.ways.k + 1) c.explore.new.self.memory.rounds c.explore.new.self.memory.next (if d then Some (start, a.here.at, c.explore.new.self.memory.row) else best_of a.self.now.best)) c.if-explore.false
-          (stepped_walk (table_of a.graph.now) w w1 q em up.steps a.here i.now v.kept.round c.explore.new.self start c.explore.result more.explored (thread_at ws) (length ws) i.rounds i.next (best_of a.self.now.best) c.ways.k lt at v.steps);
+          (stepped_walk (g.P.Patterns.table a.patterns.now) w w1 q em up.steps a.here i.now v.kept.round c.explore.new.self start c.explore.result more.explored (thread_at ws) (length ws) i.rounds i.next (best_of a.self.now.best) c.ways.k lt at v.steps);
       best = v.best;
       kept = kept;
-      spent = spent_walk (table_of a.graph.now) w w1 q em up.steps a.here i.now v.kept.round c.explore.new.self start c.explore.result more.explored due c.ways.k v.spent;
-      spent_entries = entries_walk (table_of a.graph.now) w w1 q em up.steps a.here i.now v.kept.round c.explore.new.self start c.explore.result more.explored _ v.spent_entries;
+      spent = spent_walk (g.P.Patterns.table a.patterns.now) w w1 q em up.steps a.here i.now v.kept.round c.explore.new.self start c.explore.result more.explored due c.ways.k v.spent;
+      spent_entries = entries_walk (g.P.Patterns.table a.patterns.now) w w1 q em up.steps a.here i.now v.kept.round c.explore.new.self start c.explore.result more.explored _ v.spent_entries;
       empty = more.empty;
       counts = still_counted a.self.now.walk.steps w.steps c.explore.new.self.steps v.counts
           (subst (λ s. StaysCounted s c.explore.new.self.steps) up.steps more.counts);
@@ -83,34 +81,34 @@ ways-preserved g c =
 pub returns-then-explore-clause-followed : goal.returns-then-explore-clause-followed
 returns-then-explore-clause-followed g c =
     let a = c.args in let i = a.self.now.walk.memory in let w = c.ways.self.walk in let v = c.ways.invariant in let up = c.take_up-place.ensures in
-    let q : ℕ = c.take_up-place.result.0 in let start : Option ℕ = g.S.Beginning.told c.take_up-place.result.1 in let w1 : Walk g.row.S.Denot = record { memory = c.take_up-place.new.self.memory; steps = c.take_up-place.new.self.steps } in
-    let ws = ways_at a.graph.now.start (g.S.Beginning.told_of a.here.at) a.may_start a.self.now in
-    let lt : c.ways.k < length ws = (let t = c.ways-test.true in let e = c.ways-k-end.ensures a.graph.now.start (g.S.Beginning.told_of a.here.at) in omega (arith, t, e)) in
+    let q : ℕ = c.take_up-place.result.0 in let start : Told = g.S.Beginning.told c.take_up-place.result.1 in let w1 : Walk g.row.S.Denot = record { memory = c.take_up-place.new.self.memory; steps = c.take_up-place.new.self.steps } in
+    let ws = ways_at (g.P.Patterns.starts a.patterns.now) (g.S.Beginning.told_of a.here.at) a.self.now in
+    let lt : c.ways.k < length ws = (let t = c.ways-test.true in let e = c.ways-k-end.ensures (g.S.Beginning.told_of a.here.at) in omega (arith, t, e)) in
     let em = up.memory ∙ ap (λ fs. record w.memory { row = w1.memory.row; frames = fs }) v.empty in
     let more = c.explore.ensures in
-    let taken = start_taken a.graph.now.start (g.S.Beginning.told_of a.here.at) (length i.row) a.may_start (best_of a.self.now.best) i.threads c.ways.k lt in
+    let taken = start_taken (g.P.Patterns.starts a.patterns.now) (g.S.Beginning.told_of a.here.at) (length i.row) (best_of a.self.now.best) i.threads c.ways.k lt in
     let at : thread_at ws c.ways.k ≡ (q, start, w1.memory.row) =
-    taken.1 ∙ ap (λ ts. thread_at (ts ++ (a.graph.now.start, g.S.Beginning.told_of a.here.at, replicate (length i.row) None) ∷ []) c.ways.k) (sym v.kept.threads)
-    ∙ ap (λ n. thread_at (w.memory.threads ++ (a.graph.now.start, g.S.Beginning.told_of a.here.at, replicate n None) ∷ []) c.ways.k) (sym v.kept.row)
-    ∙ ap (λ z. thread_at (w.memory.threads ++ (z, g.S.Beginning.told_of a.here.at, replicate (length w.memory.row) None) ∷ []) c.ways.k) (sym c.start.ensures.same) ∙ up.thread in
-    let due = due_tries (table_of a.graph.now) i.rounds i.now [] i.next a.self.now.walk.steps.tried in
+    taken.1 ∙ ap (λ ts. thread_at (ts ++ begun (g.S.Beginning.told_of a.here.at) (replicate (length i.row) None) (g.P.Patterns.starts a.patterns.now)) c.ways.k) (sym v.kept.threads)
+    ∙ ap (λ n. thread_at (w.memory.threads ++ begun (g.S.Beginning.told_of a.here.at) (replicate n None) (g.P.Patterns.starts a.patterns.now)) c.ways.k) (sym v.kept.row)
+    ∙ up.thread in
+    let due = due_tries (g.P.Patterns.table a.patterns.now) i.rounds i.now [] i.next a.self.now.walk.steps.tried in
     let kept : KeepsPosition i c.explore.new.self.memory = record {
       round = more.kept.round ∙ ap (λ (m : State). m.now) em ∙ v.kept.round;
       threads = more.kept.threads ∙ ap (λ (m : State). m.threads) em ∙ v.kept.threads;
       room = more.kept.room ∙ ap (λ (m : State). m.room) em ∙ v.kept.room;
       row = more.kept.row ∙ up.row ∙ v.kept.row;
     } in
-    let spent = spent_walk (table_of a.graph.now) w w1 q em up.steps a.here i.now v.kept.round c.explore.new.self start c.explore.result more.explored due c.ways.k v.spent in
+    let spent = spent_walk (g.P.Patterns.table a.patterns.now) w w1 q em up.steps a.here i.now v.kept.round c.explore.new.self start c.explore.result more.explored due c.ways.k v.spent in
     let found : best_of c.set.new.self ≡ Some (start, a.here.at, c.explore.new.self.memory.row) =
     c.set.ensures.found ∙ ap (λ (r : Row). as_best start a.here.at r) c.row.ensures in
     record {
-      steps = subst (λ z. StepsTo (table_of a.graph.now) a.here i.now (thread_at ws) (length ws) i.rounds i.next (best_of a.self.now.best)
+      steps = subst (λ z. StepsTo (g.P.Patterns.table a.patterns.now) a.here i.now (thread_at ws) (length ws) i.rounds i.next (best_of a.self.now.best)
           (length ws) c.explore.new.self.memory.rounds c.explore.new.self.memory.next z) (sym found)
-          (subst (λ d. StepsTo (table_of a.graph.now) a.here i.now (thread_at ws) (length ws) i.rounds i.next (best_of a.self.now.best)
+          (subst (λ d. StepsTo (g.P.Patterns.table a.patterns.now) a.here i.now (thread_at ws) (length ws) i.rounds i.next (best_of a.self.now.best)
           (if d then length ws else c.ways.k + 1) c.explore.new.self.memory.rounds c.explore.new.self.memory.next (if d then Some (start, a.here.at, c.explore.new.self.memory.row) else best_of a.self.now.best)) c.if-explore.true
-          (stepped_walk (table_of a.graph.now) w w1 q em up.steps a.here i.now v.kept.round c.explore.new.self start c.explore.result more.explored (thread_at ws) (length ws) i.rounds i.next (best_of a.self.now.best) c.ways.k lt at v.steps));
+          (stepped_walk (g.P.Patterns.table a.patterns.now) w w1 q em up.steps a.here i.now v.kept.round c.explore.new.self start c.explore.result more.explored (thread_at ws) (length ws) i.rounds i.next (best_of a.self.now.best) c.ways.k lt at v.steps));
       spent = omega (arith, spent, lt);
-      spent_entries = entries_walk (table_of a.graph.now) w w1 q em up.steps a.here i.now v.kept.round c.explore.new.self start c.explore.result more.explored _ v.spent_entries;
+      spent_entries = entries_walk (g.P.Patterns.table a.patterns.now) w w1 q em up.steps a.here i.now v.kept.round c.explore.new.self start c.explore.result more.explored _ v.spent_entries;
       stack_empty = more.empty;
       kept = kept;
       best_width = c.set.ensures.width ∙ ap (λ (b : BestState). length b.row) v.best;

@@ -1,5 +1,4 @@
 use Rattle.std.proofs.Common.{◌≡◌, ◌+◌, ◌≤◌, length, []}
-use Rattle.regex_lite_engine.specs.Graph.Stored.{table_of}
 use Rattle.regex_lite_engine.specs.Search.Bounds.{StaysCounted}
 use Rattle.regex_lite_engine.specs.Walk.Machine.{thread_at}
 use Rattle.regex_lite_engine.specs.Walk.Room.{HasRoom, KeepsPosition, due_tries, due_entries}
@@ -9,15 +8,15 @@ use Rattle.regex_lite_engine.proofs.pikevm.turn.Cache.follow.Given as goal
 
 abbrev pub invariant-ways : goal.invariant-ways
 invariant-ways g l = record {
-  room : HasRoom (table_of l.graph) l.self.walk [];
-  steps : StepsTo (table_of l.graph) l.here l.initial.self.walk.memory.now (thread_at (ways_at l.graph.start (g.S.Beginning.told_of l.here.at) l.may_start l.initial.self)) (length (ways_at l.graph.start (g.S.Beginning.told_of l.here.at) l.may_start l.initial.self)) l.initial.self.walk.memory.rounds
+  room : HasRoom (g.P.Patterns.table l.patterns) l.self.walk [];
+  steps : StepsTo (g.P.Patterns.table l.patterns) l.here l.initial.self.walk.memory.now (thread_at (ways_at (g.P.Patterns.starts l.patterns) (g.S.Beginning.told_of l.here.at) l.initial.self)) (length (ways_at (g.P.Patterns.starts l.patterns) (g.S.Beginning.told_of l.here.at) l.initial.self)) l.initial.self.walk.memory.rounds
       l.initial.self.walk.memory.next (best_of l.initial.self.best) l.k l.self.walk.memory.rounds l.self.walk.memory.next (best_of l.initial.self.best);
   best : l.self.best ≡ l.initial.self.best;
   kept : KeepsPosition l.initial.self.walk.memory l.self.walk.memory;
-  spent : due_tries (table_of l.graph) l.self.walk.memory.rounds l.initial.self.walk.memory.now [] l.self.walk.memory.next l.self.walk.steps.tried
-      ≤ due_tries (table_of l.graph) l.initial.self.walk.memory.rounds l.initial.self.walk.memory.now [] l.initial.self.walk.memory.next l.initial.self.walk.steps.tried + l.k;
-  spent_entries : due_entries (table_of l.graph) l.self.walk.memory.rounds l.initial.self.walk.memory.now l.self.walk.steps.entered
-      ≤ due_entries (table_of l.graph) l.initial.self.walk.memory.rounds l.initial.self.walk.memory.now l.initial.self.walk.steps.entered;
+  spent : due_tries (g.P.Patterns.table l.patterns) l.self.walk.memory.rounds l.initial.self.walk.memory.now [] l.self.walk.memory.next l.self.walk.steps.tried
+      ≤ due_tries (g.P.Patterns.table l.patterns) l.initial.self.walk.memory.rounds l.initial.self.walk.memory.now [] l.initial.self.walk.memory.next l.initial.self.walk.steps.tried + l.k;
+  spent_entries : due_entries (g.P.Patterns.table l.patterns) l.self.walk.memory.rounds l.initial.self.walk.memory.now l.self.walk.steps.entered
+      ≤ due_entries (g.P.Patterns.table l.patterns) l.initial.self.walk.memory.rounds l.initial.self.walk.memory.now l.initial.self.walk.steps.entered;
   empty : l.self.walk.memory.frames ≡ [];
   counts : StaysCounted l.initial.self.walk.steps l.self.walk.steps;
 }

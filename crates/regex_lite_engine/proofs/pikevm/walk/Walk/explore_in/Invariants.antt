@@ -1,15 +1,15 @@
 use Rattle.std.proofs.Common.{◌∷◌}
-use Rattle.regex_lite_engine.specs.Graph.Stored.{table_of}
+use Rattle.regex_lite_engine.specs.Graph.Stored.{places_of}
 use Rattle.regex_lite_engine.specs.Search.Bounds.{StaysCounted}
 use Rattle.regex_lite_engine.specs.Walk.Machine.{explore}
 use Rattle.regex_lite_engine.specs.Walk.Room.{HasRoom, KeepsPosition, work}
 use Rattle.regex_lite_engine.proofs.pikevm.WentLemmas.{IsUnder}
-use Rattle.regex_lite_engine.proofs.pikevm.walk.Walk.explore.Given as goal
+use Rattle.regex_lite_engine.proofs.pikevm.walk.Walk.explore_in.Given as goal
 
 abbrev pub invariant-places : goal.invariant-places
 invariant-places g l = record {
-  room : HasRoom (table_of l.graph) l.self (explore l.place ∷ l.self.memory.frames);
-  under : IsUnder (table_of l.graph) l.here (g.S.Beginning.told l.start) l.initial.self.memory.now l.initial.self.memory.rounds l.initial.self.memory.row (explore l.first ∷ l.initial.self.memory.frames) l.initial.self.memory.next
+  room : HasRoom (places_of l.table) l.self (explore l.place ∷ l.self.memory.frames);
+  under : IsUnder (places_of l.table) l.here (g.S.Beginning.told l.start) l.initial.self.memory.now l.initial.self.memory.rounds l.initial.self.memory.row (explore l.first ∷ l.initial.self.memory.frames) l.initial.self.memory.next
       l.initial.self.steps.tried l.initial.self.steps.entered
       l.self.memory.rounds l.self.memory.row (explore l.place ∷ l.self.memory.frames) l.self.memory.next l.self.steps.tried l.self.steps.entered;
   kept : KeepsPosition l.initial.self.memory l.self.memory;
@@ -17,4 +17,4 @@ invariant-places g l = record {
 }
 
 abbrev pub decreases-places : goal.decreases-places
-decreases-places g l = work (table_of l.graph) l.self.memory.rounds l.self.memory.now (explore l.place ∷ l.self.memory.frames)
+decreases-places g l = work (places_of l.table) l.self.memory.rounds l.self.memory.now (explore l.place ∷ l.self.memory.frames)

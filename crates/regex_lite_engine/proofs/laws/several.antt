@@ -1,0 +1,5 @@
+-- searches for several patterns
+pub mod ApartLemmas
+pub mod ListAnswerLemmas
+pub mod OverListLemmas
+pub mod PartLemmas

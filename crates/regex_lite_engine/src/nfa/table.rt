@@ -1,0 +1,114 @@
+//! Numbered places in a table: what the graph of one pattern and that of several have in common.
+ghost use Rattle.std.specs.Prelude.{◌≡◌, ◌+◌, ◌^◌, ◌<◌, length, map, slice_get, sum_by, Some};
+ghost use Rattle.regex_lite_engine.specs.Graph.Places.{kept_back_of, kept_back_with, reading_of};
+ghost use Rattle.regex_lite_engine.specs.Graph.Renumbered.{arrows_of};
+ghost use Rattle.regex_lite_engine.specs.Graph.Stored.{IsClosed, LeadsBelow, place_of, places_of};
+
+use crate::nfa::kept_back::KeptBack;
+use crate::nfa::place::Place;
+use crate::pikevm::steps::Steps;
+use std::marker::Model;
+
+/// The places of a graph by number. Their arrows lead to places of the table.
+#[derive(Drop)]
+pub(crate) struct Table {
+    places: Vec<Place>,
+    arrows: usize,
+    /// How many of its places read a character.
+    reading: usize,
+    /// How much a search keeps back that enters each of them once.
+    kept_back: KeptBack,
+}
+
+impl Model for Table {
+    ghost use Rattle.std.specs.Prelude.{◌≡◌, map};
+    ghost use Rattle.regex_lite_engine.specs.Graph.Renumbered.{arrows_of};
+    ghost use Rattle.regex_lite_engine.specs.Graph.Stored.{StoredTable, IsClosed, IsKeptBackOf, place_of};
+
+    ghost Value = { StoredTable };
+
+    ghost view = { λ table. record {
+      places = table.places.items;
+      arrows = table.arrows;
+      reading = table.reading;
+    } };
+
+    ghost invariant = { λ table.
+        IsClosed table.places.items table.arrows table.reading
+        × (arrows_of (map place_of table.places.items) ≡ table.arrows)
+        × IsKeptBackOf (map place_of table.places.items) table.kept_back };
+}
+
+impl Table {
+    /// The table of these places, which have so many arrows, and of which so many read a
+    /// character.
+    pub(crate) fn new(places: Vec<Place>, arrows: usize, reading: usize) -> Table
+        requires closed { IsClosed places.items arrows reading }
+        requires each_arrow { arrows_of (map place_of places.items) ≡ arrows }
+        ensures { result ≡ record {
+          places = places.items;
+          arrows = arrows;
+          reading = reading;
+        } }
+    {
+        let kept_back = KeptBack::of(&places);
+        Table {
+            places,
+            arrows,
+            reading,
+            kept_back,
+        }
+    }
+
+    /// What stands at a place. No other call hands that out, and this one is counted.
+    pub(crate) fn look(&self, place: u32, steps: &mut Steps) -> &Place
+        requires inside { place < length self.now.places }
+        requires room { steps.old.looked + 1 < 2 ^ 128 }
+        ensures found { slice_get self.now.places place ≡ Some result.now }
+        ensures inside { LeadsBelow (length self.now.places) (place_of result.now) }
+        ensures counted { steps.new ≡ record steps.old { looked = steps.old.looked + 1 } }
+    {
+        steps.count_look();
+        &self.places[place as usize]
+    }
+
+    /// How many places there are.
+    pub(crate) fn places(&self) -> usize
+        ensures same { result ≡ length self.now.places }
+        ensures few { result < 2 ^ 32 }
+        ensures kept_back { 0 < result → kept_back_of (places_of self.now) < result }
+        ensures few_arrows { arrows_of (places_of self.now) < 2 ^ 34 }
+    {
+        self.places.len()
+    }
+
+    /// How many arrows there are.
+    pub(crate) fn arrows(&self) -> usize
+        ensures same { result ≡ self.now.arrows }
+        ensures all { result ≡ arrows_of (places_of self.now) }
+        ensures few { result < 2 ^ 34 }
+    {
+        self.arrows
+    }
+
+    /// How many places read a character. A search counts on there being few arrows too.
+    pub(crate) fn reading(&self) -> usize
+        ensures same { result ≡ self.now.reading }
+        ensures each { result ≡ reading_of (places_of self.now) }
+        ensures few { 0 < length self.now.places → result < length self.now.places }
+        ensures few_arrows { arrows_of (places_of self.now) < 2 ^ 34 }
+    {
+        self.reading
+    }
+
+    /// How much a search with so many slots keeps back that enters each place once.
+    pub(crate) fn kept_back(&self, slots: usize) -> usize
+        ensures { result ≡ sum_by (kept_back_with slots) (places_of self.now) }
+    {
+        if slots == 0 {
+            self.kept_back.without_slots
+        } else {
+            self.kept_back.with_slots
+        }
+    }
+}
