@@ -9,9 +9,13 @@ pub mod EscapedLemmas
 pub mod FoundLemmas
 pub mod GroupLemmas
 pub mod GroupNameLemmas
+pub mod ListBuildLemmas
+pub mod LawfulLemmas
 pub mod ListLemmas
+pub mod ListToldLemmas
 pub mod NextLemmas
 pub mod OneTreeLemmas
+pub mod PairedLemmas
 pub mod PieceLemmas
 pub mod ReplacementLemmas
 pub mod ScanLemmas

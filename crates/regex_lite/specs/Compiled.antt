@@ -7,6 +7,7 @@ use Rattle.regex_lite_syntax.specs.Tree.Properties.{static_captures_len}
 use Rattle.regex_lite_syntax.specs.Tree.Regular.{IsRegular}
 use Rattle.regex_lite_engine.specs.Graph.Renumbered.{IsGraphOf, HasGroupsOf}
 use Rattle.regex_lite_engine.specs.Graph.Size.{Fits}
+use Rattle.regex_lite_engine.specs.Graph.StoredList.{StoredGroups}
 use Rattle.regex_lite_engine.specs.Search.Searching.{Searching}
 use Rattle.regex_lite.specs.Expression.{AreNames, Expression, OfTree}
 use Rattle.regex_lite.specs.Groups.{Groups, spans_of}
@@ -27,31 +28,39 @@ pub record IsBuilt (compiled : Compiled) : Type 0 where
 abbrev pub SearchesFor : Expression → Searching → Type 0
 SearchesFor re searcher = OfTree re (λ tree. IsRegular tree × IsGraphOf tree searcher.graph)
 
--- the names of its groups, as their bytes
-abbrev pub names_of : Compiled → List (Option (List ℕ))
-names_of compiled = map (option_map rc_str_bytes) compiled.graph.capture_names
+-- what is stored of the groups of a regex
+abbrev pub stored_groups : Compiled → StoredGroups
+stored_groups compiled = record {
+  capture_names = compiled.graph.capture_names;
+  static_captures_len = compiled.graph.static_captures_len;
+}
 
--- what a regex tells of its groups without a match: their names, and how many at least take part
+-- the names of the groups, as their bytes
+abbrev pub names_of : StoredGroups → List (Option (List ℕ))
+names_of stored = map (option_map rc_str_bytes) stored.capture_names
+
+-- what is known of the groups of a tree without a match: their names, and how many at least take
+-- part
 pub record NamesGroups (tree : Tree) (names : List (Option (List ℕ))) (static : Option ℕ)
     : Type 0 where
   pub names_are : AreNames names tree
   pub static_is : static ≡ static_captures_len tree
 
--- what was built tells the regex's names and number
-abbrev pub SharesGroups : Expression → Compiled → Type 0
-SharesGroups re compiled =
-    OfTree re (λ tree. NamesGroups tree (names_of compiled) compiled.graph.static_captures_len)
+-- what is stored tells the regex's names and number
+abbrev pub SharesGroups : Expression → StoredGroups → Type 0
+SharesGroups re stored =
+    OfTree re (λ tree. NamesGroups tree (names_of stored) stored.static_captures_len)
 
 -- these groups tell them too, whatever they matched
 abbrev pub AreOfRegex : Expression → Groups → Type 0
 AreOfRegex re groups =
     OfTree re (λ tree. NamesGroups tree groups.names groups.static_captures_len)
 
--- the groups of a match of the regex in this haystack, of which these are the slots
-abbrev pub groups_of : (haystack : List ℕ) → (slots : List (Option ℕ)) → Compiled → Groups
-groups_of haystack slots compiled = record {
+-- the groups of a match in this haystack, of which these are the slots
+abbrev pub groups_of : (haystack : List ℕ) → (slots : List (Option ℕ)) → StoredGroups → Groups
+groups_of haystack slots stored = record {
   haystack = haystack;
   spans = spans_of slots;
-  names = names_of compiled;
-  static_captures_len = compiled.graph.static_captures_len;
+  names = names_of stored;
+  static_captures_len = stored.static_captures_len;
 }

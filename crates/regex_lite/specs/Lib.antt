@@ -1,11 +1,14 @@
 -- Where to begin: Expression says what is built, what is refused and what a regex tells, and
--- Searches what the searches tell. Templates says what a template gives for the groups of a match,
--- and Escapes which pattern is made of a text.
+-- Searches what the searches tell. RegexList and RegexListSearches say the same of several patterns
+-- at once. Templates says what a template gives for the groups of a match, and Escapes which
+-- pattern is made of a text.
 pub mod Settings
 pub mod Expression
 pub mod Groups
 pub mod MatchViews
 pub mod Searches
+pub mod RegexList
+pub mod RegexListSearches
 pub mod MatchList
 pub mod Ahead
 pub mod Pieces
@@ -16,6 +19,7 @@ pub mod Escapes
 pub mod Laws
 pub mod PieceLaws
 pub mod ListLaws
+pub mod RegexListLaws
 pub mod CaptureNames
 pub use Rattle.regex_lite_syntax.specs.Errors
 pub use Rattle.regex_lite_syntax.specs.Text
@@ -27,9 +31,11 @@ pub use Rattle.regex_lite_syntax.specs.Tree.Properties
 pub use Rattle.regex_lite_engine.specs.Graph.PlaceCounts
 pub use Rattle.regex_lite_engine.specs.Graph.Size
 pub use Rattle.regex_lite_engine.specs.Search
--- What every regex keeps, and what is told behind a match.
+-- What every regex keeps, and what is told of answers and behind a match.
 pub mod Compiled
+pub mod CompiledList
 pub mod Slots
+pub mod Answers
 pub mod Scanning
 pub mod NextMatch
 pub mod Rewriting

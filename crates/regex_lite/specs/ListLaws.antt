@@ -10,11 +10,16 @@ abbrev pub Follows : (ended : Option ℕ) → Found → Type 0
 Follows None found = Unit {0}
 Follows (Some e) found = (e ≤ found.start) × (e < found.end)
 
--- none overlaps the one before it, and the ends strictly grow
+-- none of what was found overlaps the one before it, and the ends strictly grow
+abbrev pub AreAnswersApart : {A : Type 0} → (found_of : A → Found) → (ended : Option ℕ) → List A
+    → Type 0
+AreAnswersApart found_of ended [] = Unit {0}
+AreAnswersApart found_of ended (answer ∷ list) =
+    Follows ended (found_of answer) × ((found_of answer).start ≤ (found_of answer).end)
+    × AreAnswersApart found_of (Some (found_of answer).end) list
+
 abbrev pub AreApart : (ended : Option ℕ) → List Found → Type 0
-AreApart ended [] = Unit {0}
-AreApart ended (found ∷ list) =
-    Follows ended found × (found.start ≤ found.end) × AreApart (Some found.end) list
+AreApart ended list = AreAnswersApart (λ own. own) ended list
 
 -- the matches of a haystack are apart, and they are at most one more than its characters
 abbrev pub MatchesAreApart : Type 0

@@ -1,4 +1,4 @@
--- The matches of a haystack, one after another.
+-- The matches of a haystack, one after another: those of any searches, and those of a regex.
 use Rattle.std.specs.Prelude.{◌≡◌, ◌≢◌, ◌-◌, ◌==◌, ◌&&◌, ℕ, suc, Bool, false, List, [], ◌∷◌, Option, Some, None, MatchBool, option_map, zero}
 use Rattle.regex_lite_syntax.specs.Text.{Text}
 use Rattle.regex_lite_engine.specs.Search.Answer.{Found, IsAnswer}
@@ -8,46 +8,81 @@ use Rattle.regex_lite.specs.Expression.{Expression, OfTree}
 abbrev pub IsAnswerOf : Expression → Text → (s : ℕ) → Option Found → Type 0
 IsAnswerOf re haystack s found = OfTree re (λ tree. IsAnswer tree haystack s found)
 
--- there is a match, it is empty, and it stands at position e
-abbrev pub is_empty_at : (e : ℕ) → Option Found → Bool
-is_empty_at e None = false
-is_empty_at e (Some found) = found.start == e && found.end == e
-
 -- how many matches may come behind one of so many, where there is a limit
 abbrev pub one_less : (limit : Option ℕ) → Option ℕ
 one_less limit = option_map (λ n. n - 1) limit
 
-module _ (re : Expression) (haystack : Text) where
+-- there is an answer, its match is empty, and it stands at position e
+abbrev pub is_empty_answer : {A : Type 0} → (found_of : A → Found) → (e : ℕ) → Option A → Bool
+is_empty_answer found_of e None = false
+is_empty_answer found_of e (Some answer) =
+    (found_of answer).start == e && (found_of answer).end == e
+
+-- Searches of a haystack are known by their answers from each position on. What was found is a part
+-- of the answer
+module _ {A : Type 0} (found_of : A → Found) (Answers : (s : ℕ) → Option A → Type 0) where
   -- What comes behind a match that ended at this position. It is the answer from there; but where
   -- that is empty right there, it is the answer from the next character. What comes first is the
   -- answer from the haystack's start
+  abbrev pub IsNextAnswer : (ended : Option ℕ) → Option A → Type 0
+  IsNextAnswer None answer = Answers 0 answer
+  IsNextAnswer (Some e) answer =
+      (from_end : Option A) × Answers e from_end
+      × MatchBool (is_empty_answer found_of e from_end) (Answers (suc e) answer)
+      (answer ≡ from_end)
+
+  -- these are all answers behind a match that ended there
+  abbrev pub AreAnswers : (ended : Option ℕ) → List A → Type 0
+  AreAnswers ended [] = IsNextAnswer ended None
+  AreAnswers ended (answer ∷ list) =
+      IsNextAnswer ended (Some answer) × AreAnswers (Some (found_of answer).end) list
+
+  -- these are the first of them: so many, or all where they are fewer
+  abbrev pub AreFirstAnswers : (count : ℕ) → (ended : Option ℕ) → List A → Type 0
+  AreFirstAnswers zero ended list = list ≡ []
+  AreFirstAnswers (suc count) ended [] = IsNextAnswer ended None
+  AreFirstAnswers (suc count) ended (answer ∷ list) =
+      IsNextAnswer ended (Some answer)
+      × AreFirstAnswers count (Some (found_of answer).end) list
+
+  -- these are the first of them up to a limit, where there is one, and else all
+  abbrev pub AreAnswersWithin : (limit : Option ℕ) → (ended : Option ℕ) → List A → Type 0
+  AreAnswersWithin None ended list = AreAnswers ended list
+  AreAnswersWithin (Some count) ended list = AreFirstAnswers count ended list
+
+  -- these are some of those, from the first on
+  abbrev pub AreSomeAnswersWithin : (limit : Option ℕ) → (ended : Option ℕ) → List A → Type 0
+  AreSomeAnswersWithin limit ended [] = Unit {0}
+  AreSomeAnswersWithin limit ended (answer ∷ list) =
+      (limit ≢ Some 0) × IsNextAnswer ended (Some answer)
+      × AreSomeAnswersWithin (one_less limit) (Some (found_of answer).end) list
+
+-- So of searches for a pattern, whose answers are what was found
+
+-- there is a match, it is empty, and it stands at position e
+abbrev pub is_empty_at : (e : ℕ) → Option Found → Bool
+is_empty_at e found = is_empty_answer (λ own. own) e found
+
+module _ (re : Expression) (haystack : Text) where
+  -- what comes behind a match that ended at this position, or first
   abbrev pub IsNext : (ended : Option ℕ) → Option Found → Type 0
-  IsNext None found = IsAnswerOf re haystack 0 found
-  IsNext (Some e) found =
-      (from_end : Option Found) × IsAnswerOf re haystack e from_end
-      × MatchBool (is_empty_at e from_end) (IsAnswerOf re haystack (suc e) found)
-      (found ≡ from_end)
+  IsNext ended found = IsNextAnswer (λ own. own) (IsAnswerOf re haystack) ended found
 
   -- these are all matches behind one that ended there
   abbrev pub AreMatches : (ended : Option ℕ) → List Found → Type 0
-  AreMatches ended [] = IsNext ended None
-  AreMatches ended (found ∷ list) = IsNext ended (Some found) × AreMatches (Some found.end) list
+  AreMatches ended list = AreAnswers (λ own. own) (IsAnswerOf re haystack) ended list
 
   -- these are the first of them: so many, or all where they are fewer
   abbrev pub AreFirst : (count : ℕ) → (ended : Option ℕ) → List Found → Type 0
-  AreFirst zero ended list = list ≡ []
-  AreFirst (suc count) ended [] = IsNext ended None
-  AreFirst (suc count) ended (found ∷ list) =
-      IsNext ended (Some found) × AreFirst count (Some found.end) list
+  AreFirst count ended list =
+      AreFirstAnswers (λ own. own) (IsAnswerOf re haystack) count ended list
 
   -- these are the first of them up to a limit, where there is one, and else all
   abbrev pub AreWithin : (limit : Option ℕ) → (ended : Option ℕ) → List Found → Type 0
-  AreWithin None ended list = AreMatches ended list
-  AreWithin (Some count) ended list = AreFirst count ended list
+  AreWithin limit ended list =
+      AreAnswersWithin (λ own. own) (IsAnswerOf re haystack) limit ended list
 
   -- these are some of those, from the first on
   abbrev pub AreSomeWithin : (limit : Option ℕ) → (ended : Option ℕ) → List Found → Type 0
-  AreSomeWithin limit ended [] = Unit {0}
-  AreSomeWithin limit ended (found ∷ list) =
-      (limit ≢ Some 0) × IsNext ended (Some found)
-      × AreSomeWithin (one_less limit) (Some found.end) list
+  AreSomeWithin limit ended list =
+      AreSomeAnswersWithin (λ own. own) (IsAnswerOf re haystack) limit ended list

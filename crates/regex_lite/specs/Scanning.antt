@@ -1,14 +1,15 @@
 -- A regex that is searched for again and again, and a haystack that is gone over match by match.
-use Rattle.std.specs.Prelude.{◌≡◌, ℕ, List, Option, Some, IfSome, IsTrue, true, chars, length}
+use Rattle.std.specs.Prelude.{◌≡◌, ℕ, List, Option, Some, IfSome, IsTrue, chars, length}
 use Rattle.regex_lite_syntax.specs.Tree.Properties.{captures_len}
 use Rattle.regex_lite_engine.specs.Search.Answer.{Found}
-use Rattle.regex_lite_engine.specs.Search.Offsets.{HasSlots, position_at}
+use Rattle.regex_lite_engine.specs.Search.Offsets.{HasSlots, search_start}
 use Rattle.regex_lite.specs.declared.string.cursor.Cursor.{Cursor}
 use Rattle.regex_lite.specs.declared.string.matches.Match.{Match}
+use Rattle.regex_lite.specs.Answers.{IsEmptyAnswerFrom, TellsOfAnswer}
 use Rattle.regex_lite.specs.Expression.{Expression, OfTree}
-use Rattle.regex_lite.specs.MatchList.{IsAnswerOf, is_empty_at}
+use Rattle.regex_lite.specs.MatchList.{IsAnswerOf}
 use Rattle.regex_lite.specs.MatchViews.{span_of_match}
-use Rattle.regex_lite.specs.Searches.{IsMatchOf, TellsAnswer}
+use Rattle.regex_lite.specs.Searches.{IsMatchOf}
 use Rattle.regex_lite.specs.Slots.{kept_slots}
 
 -- a regex, and the slots of the last match that was found
@@ -35,7 +36,8 @@ pub record IsMatchWithSlots (haystack : List ℕ) (slots : List (Option ℕ)) (f
 abbrev pub TellsMatchWithSlots : Expression → (haystack : List ℕ) → (start : ℕ)
     → (slots : List (Option ℕ)) → Option Match → Type 0
 TellsMatchWithSlots re haystack start slots told =
-    TellsAnswer (λ tree. IsMatchWithSlots haystack slots) re haystack start told
+    TellsOfAnswer (IsAnswerOf re (chars haystack)) (IsMatchWithSlots haystack slots)
+    (search_start haystack start) told
 
 -- the match is this answer of some search of the haystack, and these are its slots
 abbrev pub IsMatchOfSearch : Expression → (haystack : List ℕ) → (slots : List (Option ℕ)) → Found
@@ -47,8 +49,7 @@ IsMatchOfSearch re haystack slots found m =
 -- the answer from this offset on is empty there
 abbrev pub IsEmptyFrom : Expression → (haystack : List ℕ) → (at : ℕ) → Type 0
 IsEmptyFrom re haystack at =
-    (found : Found) × IsAnswerOf re (chars haystack) (position_at haystack at) (Some found)
-    × (is_empty_at (position_at haystack at) (Some found) ≡ true)
+    IsEmptyAnswerFrom (λ own. own) (IsAnswerOf re (chars haystack)) haystack at
 
 -- a match that is empty is the answer from its end
 abbrev pub IsAnswerIfEmpty : Expression → (haystack : List ℕ) → Option Match → Type 0

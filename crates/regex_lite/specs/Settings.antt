@@ -1,5 +1,5 @@
--- The settings of a builder.
-use Rattle.std.specs.Prelude.{ℕ, List, false}
+-- The settings of a builder, and those of a builder of lists.
+use Rattle.std.specs.Prelude.{ℕ, List, [], false}
 use Rattle.regex_lite_syntax.specs.declared.flags.Flags.{Flags}
 
 -- a pattern, as its bytes, and the settings under which it is to be built
@@ -24,3 +24,24 @@ no_flags = record {
 abbrev pub default_settings : List ℕ → Settings
 default_settings pattern =
     record { pattern = pattern; flags = no_flags; nest_limit = 50; size_limit = 10485760 }
+
+-- several patterns, each with its own settings, and the settings of the next that is pushed
+pub record ListSettings : Type 0 where
+  pub patterns : List Settings
+  pub flags : Flags
+  pub nest_limit : ℕ
+  pub size_limit : ℕ
+
+-- the settings with which a builder of lists begins
+abbrev pub default_list : ListSettings
+default_list =
+    record { patterns = []; flags = no_flags; nest_limit = 50; size_limit = 10485760 }
+
+-- those of a pattern that is pushed next
+abbrev pub settings_of_next : ListSettings → (pattern : List ℕ) → Settings
+settings_of_next list pattern = record {
+  pattern = pattern;
+  flags = list.flags;
+  nest_limit = list.nest_limit;
+  size_limit = list.size_limit;
+}

@@ -5,6 +5,7 @@ ghost use Rattle.regex_lite.specs.Laws.{EnoughGroupsTakePart, EscapedTextsAreRef
 ghost use Rattle.regex_lite.specs.ListLaws.{MatchesAreApart, OneMatchList};
 ghost use Rattle.regex_lite.specs.MatchViews.{is_same_match};
 ghost use Rattle.regex_lite.specs.PieceLaws.{FixedTextIsTemplate, LentReplacersReplaceAlike, OnePieceList, PiecesAndMatches, WholeMatchesGiveHaystack};
+ghost use Rattle.regex_lite.specs.RegexListLaws.{EmptyListFindsNothing, ListAnswersAreAnswers, ListOfOneAnswersAsItsRegex, ListOfOneIsAcceptedAsItsRegex, ListSearchesAgree};
 
 use crate::Replacer;
 
@@ -72,4 +73,28 @@ pub fn equality_is_an_equivalence<T: Eq>()
 pub fn escaped_texts_match_themselves()
     ensures refused { EscapedTextsAreRefusedForSize }
     ensures matches { EscapedTextsMatchThemselves }
+{}
+
+/// A list of one pattern is accepted exactly where the pattern is, and each of its searches answers
+/// as that of the pattern's [`Regex`](crate::Regex), within the same cost.
+pub fn list_of_one_answers_as_its_regex()
+    ensures accepted { ListOfOneIsAcceptedAsItsRegex }
+    ensures answers { ListOfOneAnswersAsItsRegex }
+{}
+
+/// No search of a list without patterns finds anything, and each tries no place.
+pub fn empty_list_finds_nothing()
+    ensures { EmptyListFindsNothing }
+{}
+
+/// What a search for several patterns finds is what the search for the pattern with the answered
+/// number tells, from the same offset on.
+pub fn list_answers_are_answers()
+    ensures { ListAnswersAreAnswers }
+{}
+
+/// The searches for several patterns in a haystack, from one offset on, agree on whether there is a
+/// match and of which pattern, and the match that is found is group 0.
+pub fn list_searches_agree()
+    ensures { ListSearchesAgree }
 {}

@@ -20,10 +20,13 @@
 //! What a pattern means is stated in `specs/`: the grammar says which tree a pattern stands for,
 //! and the match relation says which parts of a haystack a tree matches.
 //!
+//! A [`RegexList`] holds several patterns, which are searched for at once: it answers which of them
+//! matches first, and where.
+//!
 //! A [`RegexBuilder`] has the pattern read and written out by the two crates below; what it builds
-//! is shared by the clones of a [`Regex`] and by the [`Captures`] that it finds. `string` holds
-//! these types and the searches, and `owner` what they share by; `laws` holds what is true of the
-//! definitions alone.
+//! is shared by the clones of a [`Regex`] and by the [`Captures`] that it finds. A
+//! [`RegexListBuilder`] does the same for a [`RegexList`]. `string` holds these types and the
+//! searches, and `owner` what they share by; `laws` holds what is true of the definitions alone.
 #![tactic(auto)]
 
 pub mod laws;
@@ -35,7 +38,8 @@ pub use regex_lite_syntax::{Error, ErrorKind};
 pub use string::escape::escape;
 pub use string::{
     CaptureLocations, CaptureMatches, CaptureNames, Captures, CapturesIn, Match, Matches, NoExpand,
-    Regex, RegexBuilder, ReplaceBy, Replacer, ReplacerRef, Split, SplitN, SubCaptureMatches, Text,
+    Regex, RegexBuilder, RegexList, RegexListBuilder, ReplaceBy, Replacer, ReplacerRef, Split,
+    SplitN, SubCaptureMatches, Text,
 };
 
 #[cfg(test)]

@@ -14,5 +14,6 @@ mod owners;
 mod pieces;
 mod replacements;
 mod searches;
+mod several;
 mod values;
 mod written_out;

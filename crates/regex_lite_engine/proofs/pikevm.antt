@@ -4,6 +4,7 @@ pub mod EnterLemmas
 pub mod EndLemmas
 pub mod InStepLemmas
 pub mod InStepMatchLemmas
+pub mod ListOutcomeLemmas
 pub mod MarkLemmas
 pub mod OfferLemmas
 pub mod OptionLemmas

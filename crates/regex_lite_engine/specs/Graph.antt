@@ -9,3 +9,4 @@ pub mod Size
 pub mod Stored
 pub mod Renumbered
 pub mod SideBySide
+pub mod StoredList

@@ -3,3 +3,5 @@ pub mod Saturation
 pub mod Layout
 pub mod Starts
 pub mod Heads
+pub mod ListHeads
+pub mod Totals

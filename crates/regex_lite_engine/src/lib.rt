@@ -18,6 +18,8 @@ mod search;
 mod tests;
 
 pub use nfa::Graph;
+pub use nfa::groups::Groups;
+pub use nfa::list::GraphList;
 pub use pikevm::search::Outcome;
 pub use pikevm::searcher::Searcher;
 pub use pikevm::steps::Steps;

@@ -1,20 +1,21 @@
 //! The graph of a pattern: numbered places with ordered arrows.
-ghost use Rattle.std.specs.Prelude.{◌≡◌, ◌+◌, ◌^◌, ◌<◌, ℕ, length, map, option_map, slice_get, slice_index_or, sum_by, Some, None, IfOk, IfErr};
+ghost use Rattle.std.specs.Prelude.{◌≡◌, ◌+◌, ◌^◌, ◌<◌, length, slice_get, sum_by, Some, IfOk, IfErr};
 ghost use Rattle.regex_lite_syntax.specs.Errors.{kind_of};
 ghost use Rattle.regex_lite_syntax.specs.Tree.Regular.{IsRegular};
-ghost use Rattle.regex_lite_syntax.specs.Tree.Properties.{captures_len, group_name};
-ghost use Rattle.regex_lite_syntax.specs.Tree.Views.{text_of_name, tree_of};
+ghost use Rattle.regex_lite_syntax.specs.Tree.Views.{tree_of};
 ghost use Rattle.regex_lite_engine.specs.Graph.Renumbered.{arrows_of, IsGraphOf, HasGroupsOf};
 ghost use Rattle.regex_lite_engine.specs.Graph.Size.{Fits, IsDueToTree};
 ghost use Rattle.regex_lite_engine.specs.Graph.Places.{kept_back_of, kept_back_with, reading_of};
 ghost use Rattle.regex_lite_engine.specs.Graph.Stored.{LeadsBelow, place_of, table_of};
-ghost use Rattle.regex_lite_engine.specs.Nfa.Saturation.{AreCountsOf};
 ghost use Rattle.regex_lite_engine.specs.Walk.Starts.{AreHeadsOf};
 
 pub(crate) mod class;
 mod count;
+pub(crate) mod groups;
 pub(crate) mod heads;
 pub(crate) mod kept_back;
+pub(crate) mod list;
+pub(crate) mod list_heads;
 pub(crate) mod place;
 pub(crate) mod starts;
 pub(crate) mod table;
@@ -22,10 +23,11 @@ mod write;
 
 use crate::pikevm::steps::Steps;
 use count::Counts;
+use groups::Groups;
 use heads::Heads;
 use place::Place;
 use regex_lite_syntax::{Error, Hir};
-use std::alloc::{AllocError, Global};
+use std::alloc::Global;
 use std::marker::Model;
 use std::rc::RcStr;
 use table::Table;
@@ -38,9 +40,7 @@ pub struct Graph {
     table: Table,
     /// Where a search starts.
     start: u32,
-    /// The names of the groups by index, shared with the tree.
-    capture_names: Vec<Option<RcStr>>,
-    static_captures_len: Option<usize>,
+    groups: Groups,
     /// Where a match can begin.
     heads: Heads,
 }
@@ -57,8 +57,8 @@ impl Model for Graph {
       start = graph.start;
       arrows = graph.table.arrows;
       reading = graph.table.reading;
-      capture_names = graph.capture_names.items;
-      static_captures_len = graph.static_captures_len;
+      capture_names = graph.groups.capture_names;
+      static_captures_len = graph.groups.static_captures_len;
       heads = graph.heads;
     } };
 
@@ -89,15 +89,14 @@ impl Graph {
     {
         let counts = Counts::of(hir);
         let count = counts.within(size_limit)?;
-        let capture_names = capture_names(alloc, hir, &counts)?;
+        let groups = Groups::of(alloc, hir, &counts)?;
         let (places, start) = write_out(alloc, hir, count)?;
         let table = Table::new(places, counts.arrows(), counts.reading());
         let heads = Heads::of(hir);
         Ok(Graph {
             table,
             start,
-            capture_names,
-            static_captures_len: counts.static_captures_len(),
+            groups,
             heads,
         })
     }
@@ -182,7 +181,7 @@ impl Graph {
     pub fn capture_names(&self) -> &[Option<RcStr>]
         ensures { result.now ≡ self.now.capture_names }
     {
-        &self.capture_names
+        self.groups.capture_names()
     }
 
     /// How many groups at least take part in every match, the whole match among them, where that is
@@ -190,27 +189,6 @@ impl Graph {
     pub fn static_captures_len(&self) -> Option<usize>
         ensures { result ≡ self.now.static_captures_len }
     {
-        self.static_captures_len
+        self.groups.static_captures_len()
     }
-}
-
-/// The names of the groups by index. Where the tree has none, it is not walked for them.
-fn capture_names(
-    alloc: Global,
-    hir: &Hir,
-    counts: &Counts,
-) -> Result<Vec<Option<RcStr>>, AllocError>
-    requires { AreCountsOf (tree_of hir.now) counts.now }
-    ensures each_group { IfOk result (λ names.
-        length names.items ≡ captures_len (tree_of hir.now)) }
-    ensures names { IfOk result (λ names. (k : ℕ)
-        → slice_index_or (map (option_map text_of_name) names.items) k None
-        ≡ group_name (tree_of hir.now) k) }
-{
-    let len = counts.captures_len();
-    if counts.names_size == 0 {
-        let names = vec![in alloc; None; len]?;
-        return Ok(names);
-    }
-    hir.capture_names(alloc, len)
 }

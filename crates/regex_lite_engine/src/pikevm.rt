@@ -9,6 +9,8 @@ mod best;
 pub(crate) mod cell;
 mod enter;
 pub(crate) mod here;
+pub(crate) mod list_patterns;
+mod list_search;
 pub(crate) mod memory;
 pub(crate) mod one_pattern;
 mod pass;

@@ -1,10 +1,11 @@
 """make JUDGE: rewrites the lists of answers, and the cases in the tests of regex_lite_engine.
 
 Each list has what was picked by hand, from the files in picked/, and then generated cases by the
-quotas in choice.py, or in searches.py and lists.py for the lists that these two make. The list of
-runs has no generated ones. With `--fresh SEED NUMBER` so many new cases of the whole grammar are
-written to standard output instead, and no file, with `--fresh-searches SEED NUMBER` so many new
-searches, and with `--fresh-lists SEED NUMBER` so many new cases of the list of lists.
+quotas in choice.py, or in searches.py, lists.py and pattern_lists.py for the lists that these make.
+The list of runs has no generated ones. With `--fresh SEED NUMBER` so many new cases of the whole
+grammar are written to standard output instead, and no file, with `--fresh-searches SEED NUMBER` so
+many new searches, with `--fresh-lists SEED NUMBER` so many new cases of the list of lists, and with
+`--fresh-pattern-lists SEED NUMBER` so many new searches for several patterns.
 
 JUDGE is a program over the Rust crate regex-lite 0.1.9 with the changes that README.md tells,
 started as `JUDGE batch`. For each line of standard input it writes one line. A question has four
@@ -26,8 +27,10 @@ sys.dont_write_bytecode = True  # nothing but the lists is written here
 import escapes
 import flags
 import hostile
+import hostile_lists
 import lists
 import long
+import pattern_lists
 import plain
 import runs
 import searches
@@ -113,6 +116,10 @@ def main():
         '--fresh-lists', nargs=2, type=int, metavar=('SEED', 'NUMBER'),
         help='write so many new cases with all matches to standard output, and no file',
     )
+    parser.add_argument(
+        '--fresh-pattern-lists', nargs=2, type=int, metavar=('SEED', 'NUMBER'),
+        help='write so many new searches for several patterns to standard output, and no file',
+    )
     arguments = parser.parse_args()
     judge = arguments.judge
     fresh = []
@@ -122,6 +129,8 @@ def main():
         fresh += searches.fresh(judge, *arguments.fresh_searches)
     if arguments.fresh_lists:
         fresh += lists.fresh(judge, *arguments.fresh_lists)
+    if arguments.fresh_pattern_lists:
+        fresh += pattern_lists.fresh_lines(judge, *arguments.fresh_pattern_lists)
     if fresh:
         sys.stdout.buffer.write(''.join(fresh).encode())
         return
@@ -133,7 +142,9 @@ def main():
     written[ANSWERS / 'runs.tsv'] = runs.lines(judge)
     written[ANSWERS / 'settings.tsv'] = settings.lines(judge)
     written[ANSWERS / 'long.tsv'] = long.lines(judge)
+    written[ANSWERS / 'pattern-lists.tsv'] = pattern_lists.lines(judge)
     written[hostile.PATH] = hostile.lines(judge)
+    written[hostile_lists.PATH] = hostile_lists.made(judge)
     for path, lines in written.items():
         with open(path, 'w', encoding='utf-8', newline='\n') as out:
             out.writelines(lines)

@@ -1,14 +1,62 @@
 -- What comes next stands behind what came before, and is one.
-use Rattle.std.proofs.Common.{◌≡◌, ◌≤◌, ℕ, zero, suc, Bool, true, false, MatchBool, List, [], ◌∷◌, Option, Some, None, unwrap_or, refl, sym, ap, ◌∙◌, subst, arith}
+use Rattle.std.proofs.Common.{◌≡◌, ◌≤◌, ℕ, zero, suc, List, [], ◌∷◌, Option, Some, None, unwrap_or, refl, ap, ◌∙◌, subst, arith}
 use Rattle.regex_lite_syntax.specs.Text.{Text}
 use Rattle.regex_lite_engine.specs.Search.Answer.{Found}
 use Rattle.regex_lite_engine.specs.Search.Marks.{span}
 use Rattle.regex_lite_engine.proofs.laws.PatternTreeLemmas.{regular_tree}
 use Rattle.regex_lite_engine.proofs.laws.groups.SpanLemmas.{groups_inside}
+use Rattle.regex_lite.specs.Answers.{AreLawful}
 use Rattle.regex_lite.specs.Expression.{Expression}
-use Rattle.regex_lite.specs.MatchList.{AreFirst, AreWithin, IsAnswerOf, IsNext, is_empty_at, one_less}
+use Rattle.regex_lite.specs.MatchList.{AreAnswersWithin, AreFirstAnswers, AreWithin, IsAnswerOf, IsNext, IsNextAnswer, one_less}
+use Rattle.regex_lite.proofs.string.LawfulLemmas.{regex_lawful}
 use Rattle.regex_lite.proofs.string.ListLemmas.{one_next}
+use Rattle.regex_lite.proofs.string.NextLemmas.{next_answer}
 use Rattle.regex_lite.proofs.string.ToldLemmas.{not_there, same_some}
+
+module _ {A : Type 0} (found_of : A → Found) (Answers : (s : ℕ) → Option A → Type 0) where
+  abbrev Within : (limit ended : Option ℕ) → List A → Type 0
+  Within limit ended list = AreAnswersWithin found_of Answers limit ended list
+
+  -- the first of a list that is up to a limit, and those behind it
+  pub first_within : (limit ended : Option ℕ) (answer : A) (list : List A)
+      → Within limit ended (answer ∷ list)
+      → IsNextAnswer found_of Answers ended (Some answer)
+      × Within (one_less limit) (Some (found_of answer).end) list
+  first_within None ended answer list are = are
+  first_within (Some zero) ended answer list are = absurd cc
+  first_within (Some (suc k)) ended answer list (next, rest) = (
+    next,
+    subst (λ n. AreFirstAnswers found_of Answers n (Some (found_of answer).end) list) (omega arith)
+        rest,
+  )
+
+  module _ (haystack : Text) (lawful : AreLawful found_of haystack Answers) where
+    abbrev one : (ended : Option ℕ) (a b : Option A) → IsNextAnswer found_of Answers ended a
+        → IsNextAnswer found_of Answers ended b → a ≡ b
+    one = one_next found_of haystack Answers lawful
+
+    none_or_some : (limit ended : Option ℕ) (answer : A) (list : List A)
+        → Within limit ended [] → Within limit ended (answer ∷ list) → ⊥
+    none_or_some None ended answer list none (next, rest) =
+        not_there (one ended None (Some answer) none next)
+    none_or_some (Some zero) ended answer list none are = absurd cc
+    none_or_some (Some (suc k)) ended answer list none (next, rest) =
+        not_there (one ended None (Some answer) none next)
+
+    -- there is one such list
+    pub one_within : (limit ended : Option ℕ) (list other : List A) → Within limit ended list
+        → Within limit ended other → list ≡ other
+    one_within limit ended [] [] p q = refl
+    one_within limit ended [] (g ∷ other) p q =
+        absurd (none_or_some limit ended g other p q)
+    one_within limit ended (f ∷ list) [] p q = absurd (none_or_some limit ended f list q p)
+    one_within limit ended (f ∷ list) (g ∷ other) p q =
+        let a = first_within limit ended f list p in
+        let b = first_within limit ended g other q in
+        let same : f ≡ g = same_some (one ended (Some f) (Some g) a.0 b.0) in
+        let rest = one_within (one_less limit) (Some (found_of g).end) list other
+        (subst (λ own. Within (one_less limit) (Some (found_of own).end) list) same a.1) b.1 in
+        ap (λ x. x ∷ list) same ∙ ap (λ l. g ∷ l) rest
 
 -- it starts at position s or later and ends no earlier than it starts, and group 0 is all of it
 pub record StandsFrom (s : ℕ) (found : Found) : Type 0 where
@@ -17,68 +65,34 @@ pub record StandsFrom (s : ℕ) (found : Found) : Type 0 where
   pub whole : span found.marks 0 ≡ Some (found.start, found.end)
 
 module _ (re : Expression) (haystack : Text) where
-  answer_stands : (s : ℕ) (found : Found) → IsAnswerOf re haystack s (Some found)
-      → StandsFrom s found
-  answer_stands s found (tree, given, is) =
+  answer_stands : (s t : ℕ) (found : Found) → t ≤ s → IsAnswerOf re haystack s (Some found)
+      → StandsFrom t found
+  answer_stands s t found later (tree, given, is) =
       let own = groups_inside tree haystack s found (regular_tree tree (re.flags, _, given)) is in
       record {
-        from = is.from;
+        from = omega (arith, later, is.from);
         ordered = (own.inside 0 found.start found.end own.whole).1;
         whole = own.whole;
       }
-
-  behind : (e : ℕ) (found : Found) (from_end : Option Found) (b : Bool)
-      → IsAnswerOf re haystack e from_end
-      → MatchBool b (IsAnswerOf re haystack (suc e) (Some found)) (Some found ≡ from_end)
-      → StandsFrom e found
-  behind e found from_end true there next =
-      let own = answer_stands (suc e) found next in
-      let from = own.from in
-      record { from = omega (arith, from); ordered = own.ordered; whole = own.whole }
-  behind e found from_end false there next =
-      answer_stands e found (subst (IsAnswerOf re haystack e) (sym next) there)
-
-  next_stands : (ended : Option ℕ) (found : Found) → IsNext re haystack ended (Some found)
-      → StandsFrom (unwrap_or ended 0) found
-  next_stands None found next = answer_stands 0 found next
-  next_stands (Some e) found (from_end, there, next) =
-      behind e found from_end (is_empty_at e from_end) there next
 
   -- the first of a list that is up to a limit, and those behind it
   pub within_first : (limit ended : Option ℕ) (found : Found) (list : List Found)
       → AreWithin re haystack limit ended (found ∷ list)
       → IsNext re haystack ended (Some found)
       × AreWithin re haystack (one_less limit) (Some found.end) list
-  within_first None ended found list are = are
-  within_first (Some zero) ended found list are = absurd cc
-  within_first (Some (suc k)) ended found list (next, rest) =
-      (next, subst (λ n. AreFirst re haystack n (Some found.end) list) (omega arith) rest)
+  within_first = first_within (λ own. own) (IsAnswerOf re haystack)
 
   -- where it stands
   pub first_stands : (limit ended : Option ℕ) (found : Found) (list : List Found)
       → AreWithin re haystack limit ended (found ∷ list) → StandsFrom (unwrap_or ended 0) found
   first_stands limit ended found list are =
-      next_stands ended found (within_first limit ended found list are).0
-
-  none_or_some : (limit ended : Option ℕ) (found : Found) (list : List Found)
-      → AreWithin re haystack limit ended [] → AreWithin re haystack limit ended (found ∷ list) → ⊥
-  none_or_some None ended found list none (next, rest) =
-      not_there (one_next re haystack ended None (Some found) none next)
-  none_or_some (Some zero) ended found list none are = absurd cc
-  none_or_some (Some (suc k)) ended found list none (next, rest) =
-      not_there (one_next re haystack ended None (Some found) none next)
+      let next = within_first limit ended found list are in
+      let own = next_answer (λ own. own) (IsAnswerOf re haystack) ended found next.0 in
+      answer_stands own.0 (unwrap_or ended 0) found own.2 own.1
 
   -- there is one such list
   pub same_within : (limit ended : Option ℕ) (list other : List Found)
       → AreWithin re haystack limit ended list → AreWithin re haystack limit ended other
       → list ≡ other
-  same_within limit ended [] [] p q = refl
-  same_within limit ended [] (g ∷ other) p q = absurd (none_or_some limit ended g other p q)
-  same_within limit ended (f ∷ list) [] p q = absurd (none_or_some limit ended f list q p)
-  same_within limit ended (f ∷ list) (g ∷ other) p q =
-      let a = within_first limit ended f list p in
-      let b = within_first limit ended g other q in
-      let one : f ≡ g = same_some (one_next re haystack ended (Some f) (Some g) a.0 b.0) in
-      let rest = same_within (one_less limit) (Some g.end) list other
-      (subst (λ (x : Found). AreWithin re haystack (one_less limit) (Some x.end) list) one a.1) b.1 in
-      ap (λ x. x ∷ list) one ∙ ap (λ l. g ∷ l) rest
+  same_within =
+      one_within (λ own. own) (IsAnswerOf re haystack) haystack (regex_lawful re haystack)

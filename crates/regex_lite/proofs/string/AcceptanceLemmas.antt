@@ -21,7 +21,7 @@ pub fits_too : (settings : Settings) (a b : Tree) → IsReadAs settings a → Is
 fits_too settings a b p q fits =
     subst (λ tree. Fits settings.size_limit tree) (same_tree settings b a q p) fits
 
-for_memory : (settings : Settings) (error : Refusal) → IsDue settings error
+pub for_memory : (settings : Settings) (error : Refusal) → IsDue settings error
     → IsAccepted settings → error ≡ out_of_memory
 for_memory settings out_of_memory refused accepted = refl
 for_memory settings (syntax_error rule) (inl none) (tree, read, fits) =

@@ -17,7 +17,7 @@ use Rattle.regex_lite.proofs.string.FoundLemmas.{group_0}
 use Rattle.regex_lite.proofs.string.OneTreeLemmas.{matches_told, one_tree}
 use Rattle.regex_lite.proofs.string.ToldLemmas.{same_some}
 
-same_truth : (a b : Bool) (P : Type 0) → (IsTrue a ↔ P) → (IsTrue b ↔ P) → a ≡ b
+pub same_truth : (a b : Bool) (P : Type 0) → (IsTrue a ↔ P) → (IsTrue b ↔ P) → a ≡ b
 same_truth true true P p q = refl
 same_truth true false P p q = absurd (false≢true (q.1 (p.0 refl)))
 same_truth false true P p q = absurd (false≢true (p.1 (q.0 refl)))

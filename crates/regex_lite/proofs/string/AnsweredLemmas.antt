@@ -8,8 +8,10 @@ use Rattle.regex_lite_engine.specs.Search.Answer.{Found, HasMatchFrom}
 use Rattle.regex_lite_engine.specs.Search.Offsets.{search_start}
 use Rattle.regex_lite.specs.Expression.{Expression}
 use Rattle.regex_lite.specs.Ahead.{Ahead, IsOver, Passes, whole}
+use Rattle.regex_lite.specs.MatchList.{IsAnswerOf}
 use Rattle.regex_lite.specs.Replacements.{limit_of}
 use Rattle.regex_lite.specs.Searches.{MatchesFrom}
+use Rattle.regex_lite.proofs.string.LawfulLemmas.{regex_lawful}
 use Rattle.regex_lite.proofs.string.ListLemmas.{one_next}
 use Rattle.regex_lite.proofs.string.OneTreeLemmas.{one_tree}
 use Rattle.regex_lite.proofs.string.ToldLemmas.{not_there}
@@ -19,7 +21,10 @@ pub not_over : (start : Ahead) (found : Found) (new : Ahead) → Passes start fo
     → IsOver start → ⊥
 not_over start found new passes (inl none_left) = passes.may_come none_left
 not_over start found new passes (inr none) =
-    not_there (one_next start.regex (chars start.haystack) start.ended None (Some found) none passes.comes)
+    not_there (one_next (λ own. own) (chars start.haystack)
+    (IsAnswerOf start.regex (chars start.haystack))
+    (regex_lawful start.regex (chars start.haystack)) start.ended None (Some found) none
+    passes.comes)
 
 -- a replacement either passed a match, or nothing was made and all is still ahead
 abbrev pub IsBegun : (start a : Ahead) → (made : List ℕ) → (ended : Option ℕ) → Type 0

@@ -6,12 +6,13 @@ use Rattle.regex_lite_syntax.specs.Text.{Text}
 use Rattle.regex_lite_syntax.specs.Tree.{Tree}
 use Rattle.regex_lite_syntax.specs.Tree.Properties.{captures_len, static_captures_len}
 use Rattle.regex_lite_engine.specs.WayLaws.{IsPatternTree}
+use Rattle.regex_lite_engine.specs.Graph.StoredList.{StoredGroups}
 use Rattle.regex_lite_engine.specs.Search.Answer.{Found, IsFound}
 use Rattle.regex_lite_engine.specs.Search.Offsets.{HasSlots, offset}
 use Rattle.regex_lite_engine.proofs.laws.PatternTreeLemmas.{regular_tree}
 use Rattle.regex_lite_engine.proofs.laws.groups.SpanLemmas.{groups_inside}
 use Rattle.regex_lite.specs.declared.string.compiled.Compiled.{Compiled}
-use Rattle.regex_lite.specs.Compiled.{IsBuilt, NamesGroups, groups_of, names_of}
+use Rattle.regex_lite.specs.Compiled.{IsBuilt, NamesGroups, groups_of, names_of, stored_groups}
 use Rattle.regex_lite.specs.Groups.{AreGroups, LiesIn, span_at, spans_of, text_at, texts_from, group_span}
 use Rattle.regex_lite.specs.Searches.{AreGroupsOf, offsets, spans_from}
 use Rattle.regex_lite.specs.Slots.{all_slots, kept_slots}
@@ -56,6 +57,13 @@ module _ (haystack : Text) (tree : Tree) (s : ℕ) (found : Found) (given : IsPa
           ∙ ap (option_map (offset haystack)) (sym marked.1)
       each (suc (suc k)) slot at = absurd cc
 
+  -- all slots hold those of the match, however many were kept
+  pub held_all : (kept : List (Option ℕ)) (span : ℕ × ℕ) → HasSlots haystack kept found.marks
+      → span ≡ offsets haystack (found.start, found.end)
+      → HasSlots haystack (all_slots kept span) found.marks
+  held_all [] span held same = whole_slots span same
+  held_all (slot ∷ kept) span held same = held
+
   -- these are all slots of the match, where as many were kept as its groups need
   each_told : (kept : List (Option ℕ)) (span : ℕ × ℕ) → length kept ≡ kept_slots (captures_len tree)
       → HasSlots haystack kept found.marks → span ≡ offsets haystack (found.start, found.end)
@@ -73,7 +81,7 @@ module _ (haystack : Text) (tree : Tree) (s : ℕ) (found : Found) (given : IsPa
 
 -- a regex shares what tells of the groups of its tree
 pub built_shares : (compiled : Compiled) (built : IsBuilt compiled)
-    → NamesGroups built.tree (names_of compiled) compiled.graph.static_captures_len
+    → NamesGroups built.tree (names_of (stored_groups compiled)) compiled.graph.static_captures_len
 built_shares compiled built = record {
   names_are = are_names _ compiled.graph.capture_names built.tree refl built.regular
       built.groups.captures built.groups.names;
@@ -82,8 +90,8 @@ built_shares compiled built = record {
 
 module _ (bytes : List ℕ) (utf8 : IsUtf8 bytes) (tree : Tree) (given : IsPatternTree tree) (s : ℕ)
     (found : Found) (is : IsFound tree (chars bytes) s found) (slots : List (Option ℕ))
-    (all : AreAllSlots (chars bytes) tree found slots) (shared : Compiled)
-    (shares : NamesGroups tree (names_of shared) shared.graph.static_captures_len) where
+    (all : AreAllSlots (chars bytes) tree found slots) (shared : StoredGroups)
+    (shares : NamesGroups tree (names_of shared) shared.static_captures_len) where
   abbrev spans : List (Option (ℕ × ℕ))
   spans = spans_from (chars bytes) found.marks 0 (captures_len tree)
 
@@ -114,7 +122,7 @@ module _ (bytes : List ℕ) (utf8 : IsUtf8 bytes) (tree : Tree) (given : IsPatte
     each = ap length spans_are ∙ length_spans (chars bytes) found.marks 0 (captures_len tree)
         ∙ sym shares.names_are.each_group;
     whole = some_group_0;
-    enough = each shared.graph.static_captures_len shares.static_is;
+    enough = each shared.static_captures_len shares.static_is;
   }
     where
       each : (known : Option ℕ) → known ≡ static_captures_len tree

@@ -3,32 +3,33 @@
 use Rattle.std.proofs.Common.{◌≡◌, ◌<◌, ◌≤◌, ◌⊎◌, inl, inr, refl, ◌∙◌, ℕ, List, length, Option, Some, chars, IsUtf8, unwrap_or, sym, ap, subst, arith}
 use Rattle.std.proofs.lemmas.Bool.{cases_order}
 use Rattle.std.proofs.lemmas.Bool.Decides.{nat_tests}
-use Rattle.regex_lite_syntax.specs.Text.{Text}
 use Rattle.regex_lite_syntax.specs.Tree.{Tree}
 use Rattle.regex_lite_syntax.specs.Tree.Properties.{captures_len}
+use Rattle.regex_lite_engine.specs.Graph.StoredList.{StoredGroups}
 use Rattle.regex_lite_engine.specs.Search.Answer.{Found, IsFound}
 use Rattle.regex_lite_engine.specs.Search.Offsets.{offset, position_at, search_start}
 use Rattle.regex_lite_engine.proofs.OffsetLemmas.{offset_less}
 use Rattle.regex_lite_engine.proofs.PositionLemmas.{position_of}
-use Rattle.regex_lite.specs.declared.string.compiled.Compiled.{Compiled}
 use Rattle.regex_lite.specs.declared.string.matches.Match.{Match}
 use Rattle.regex_lite.specs.Ahead.{Ahead, AreGroupsFound, IsOnward, IsOver, Passes, ahead}
+use Rattle.regex_lite.specs.Answers.{AreLawful, IsEmptyAnswerFrom, IsWithin}
 use Rattle.regex_lite.specs.Compiled.{AreOfRegex, SharesGroups, groups_of}
 use Rattle.regex_lite.specs.Expression.{Expression}
 use Rattle.regex_lite.specs.Groups.{Groups, AreGroups, span_at, whole_span}
 use Rattle.regex_lite.specs.MatchList.{IsAnswerOf}
 use Rattle.regex_lite.specs.MatchViews.{span_of_match}
-use Rattle.regex_lite.specs.Scanning.{HasSlotsForGroups, IsAnswerIfEmpty, IsEmptyFrom, IsMatchOfSearch, IsMatchWithSlots, Scanning, TellsMatchWithSlots}
+use Rattle.regex_lite.specs.Scanning.{HasSlotsForGroups, IsAnswerIfEmpty, IsMatchOfSearch, IsMatchWithSlots, Scanning, TellsMatchWithSlots}
 use Rattle.regex_lite.specs.Searches.{IsMatchOf, offsets}
 use Rattle.regex_lite.specs.Slots.{all_slots, kept_slots}
 use Rattle.regex_lite.proofs.string.AnsweredLemmas.{not_over}
 use Rattle.regex_lite.proofs.string.CapturedLemmas.{AreAllSlots, all_told, captured, captured_of}
 use Rattle.regex_lite.proofs.string.FoundLemmas.{group_0}
-use Rattle.regex_lite.proofs.string.NextLemmas.{IsWithin, found_within, next_answer}
+use Rattle.regex_lite.proofs.string.LawfulLemmas.{regex_lawful}
+use Rattle.regex_lite.proofs.string.NextLemmas.{next_answer}
 use Rattle.regex_lite.proofs.string.OneTreeLemmas.{one_tree}
 
 module _ (bytes : List ℕ) (utf8 : IsUtf8 bytes) (re : Expression) (kept slots : List (Option ℕ))
-    (room : HasSlotsForGroups re kept) (shared : Compiled) (shares : SharesGroups re shared)
+    (room : HasSlotsForGroups re kept) (shared : StoredGroups) (shares : SharesGroups re shared)
     (found : Found) (m : Match) (filled : slots ≡ all_slots kept (span_of_match m))
     (last : IsMatchOfSearch re bytes kept found m) where
   abbrev tree : Tree
@@ -92,7 +93,7 @@ Came old m new =
 pub last_match : (old new : Scanning) (m : Match) (came : Came old m new)
     → IsMatchOfSearch new.regex new.haystack new.slots came.0 m
 last_match old new m (found, is, onward, ended, passes) =
-    let answer = next_answer old.regex (chars old.haystack) (ahead old).ended found passes.comes in
+    let answer = next_answer (λ own. own) (IsAnswerOf old.regex (chars old.haystack)) (ahead old).ended found passes.comes in
     let regex : new.regex ≡ old.regex = ap (λ (a : Ahead). a.regex) passes.passed in
     let haystack : new.haystack ≡ old.haystack = ap (λ (a : Ahead). a.haystack) passes.passed in
     rw (regex, haystack) (answer.0, answer.1, is)
@@ -110,7 +111,7 @@ pub groups_came : (old new : Scanning) (m : Match) (came : Came old m new) (grou
     × Passes (ahead old) found (ahead new)
 groups_came old new m (found, is, onward, ended, passes) groups are =
     let passed = passes.passed in
-    let answer = next_answer old.regex (chars old.haystack) (ahead old).ended found passes.comes in
+    let answer = next_answer (λ own. own) (IsAnswerOf old.regex (chars old.haystack)) (ahead old).ended found passes.comes in
     let there : AreGroupsFound old.regex old.haystack found groups =
     subst (λ re. AreGroupsFound re old.haystack found groups) (ap (λ (a : Ahead). a.regex) passed)
     (subst (λ bytes. AreGroupsFound new.regex bytes found groups) (ap (λ (a : Ahead). a.haystack) passed) are) in
@@ -123,63 +124,54 @@ groups_came old new m (found, is, onward, ended, passes) groups are =
       passes,
     )
 
--- an answer from s is also the answer from any position up to its start
-pub answer_from : (tree : Tree) (haystack : Text) (s p : ℕ) (found : Found) → s ≤ p
-    → p ≤ found.start → IsFound tree haystack s found → IsFound tree haystack p found
-answer_from tree haystack s p found further before is = record {
-  from = before;
-  inside = is.inside;
-  least = λ i j m. is.least i j (record {
-    from = omega (arith, further, m.from);
-    inside = m.inside;
-    matches = m.matches;
-  });
-  way = is.way;
-  most_preferred = is.most_preferred;
-  marks = is.marks;
-}
+-- an empty match is the answer from its end
+module _ {A : Type 0} (found_of : A → Found) (bytes : List ℕ) (utf8 : IsUtf8 bytes)
+    (Answers : (s : ℕ) → Option A → Type 0) (lawful : AreLawful found_of (chars bytes) Answers)
+    (s : ℕ) (answer : A) (is : Answers s (Some answer)) (m : Match)
+    (of : IsMatchOf bytes (found_of answer) m) where
+  within : IsWithin (chars bytes) s (found_of answer)
+  within = lawful.within s answer is
 
--- so an empty match is the answer from its end
-empty_from : (re : Expression) (bytes : List ℕ) (utf8 : IsUtf8 bytes) (s : ℕ) (found : Found)
-    (m : Match) → IsAnswerOf re (chars bytes) s (Some found) → IsMatchOf bytes found m
-    → (span_of_match m).0 ≡ (span_of_match m).1 → IsEmptyFrom re bytes (span_of_match m).1
-empty_from re bytes utf8 s found m (tree, given, is) of empty = (
-  found,
-  subst (λ p. IsAnswerOf re (chars bytes) p (Some found)) (sym at) (
-    tree,
-    given,
-    answer_from tree (chars bytes) s found.end found
-        (omega (arith, within.from, within.ordered)) (omega (arith, same)) is,
-  ),
-  grind (arith, nat_tests, at, same),
-)
-  where
-    within : IsWithin (chars bytes) s found
-    within = found_within tree (chars bytes) s found (re.flags, _, given) is
+  start : m.start ≡ offset (chars bytes) (found_of answer).start
+  start = ap (λ (own : ℕ × ℕ). own.0) of.span
 
-    start : m.start ≡ offset (chars bytes) found.start
-    start = ap (λ (own : ℕ × ℕ). own.0) of.span
+  end : m.end ≡ offset (chars bytes) (found_of answer).end
+  end = ap (λ (own : ℕ × ℕ). own.1) of.span
 
-    end : m.end ≡ offset (chars bytes) found.end
-    end = ap (λ (own : ℕ × ℕ). own.1) of.span
+  at : position_at bytes m.end ≡ (found_of answer).end
+  at = ap (position_at bytes) end
+      ∙ position_of bytes utf8 (found_of answer).end (offset (chars bytes) (found_of answer).end)
+      (within.inside, refl)
 
-    at : position_at bytes m.end ≡ found.end
-    at = ap (position_at bytes) end
-        ∙ position_of bytes utf8 found.end (offset (chars bytes) found.end) (within.inside, refl)
+  same : (span_of_match m).0 ≡ (span_of_match m).1
+      → (found_of answer).start ≡ (found_of answer).end
+  same empty = each (cases_order (found_of answer).start (found_of answer).end)
+    where
+      each : ((found_of answer).start ≡ (found_of answer).end)
+          ⊎ (((found_of answer).start < (found_of answer).end)
+          ⊎ ((found_of answer).end < (found_of answer).start))
+          → (found_of answer).start ≡ (found_of answer).end
+      each (inl e) = e
+      each (inr (inl less)) =
+          let below = offset_less (chars bytes) (found_of answer).start (found_of answer).end less
+          within.inside in
+          absurd (omega (arith, start, end, below, empty))
+      each (inr (inr more)) = absurd (omega (arith, within.ordered, more))
 
-    same : found.start ≡ found.end
-    same = each (cases_order found.start found.end)
-      where
-        each : (found.start ≡ found.end)
-            ⊎ ((found.start < found.end) ⊎ (found.end < found.start)) → found.start ≡ found.end
-        each (inl e) = e
-        each (inr (inl less)) =
-            let below = offset_less (chars bytes) found.start found.end less within.inside in
-            absurd (omega (arith, start, end, below, empty))
-        each (inr (inr more)) = absurd (omega (arith, within.ordered, more))
+  pub empty_from : (span_of_match m).0 ≡ (span_of_match m).1
+      → IsEmptyAnswerFrom found_of Answers bytes (span_of_match m).1
+  empty_from empty =
+      let one = same empty in (
+        answer,
+        subst (λ p. Answers p (Some answer)) (sym at)
+            (lawful.further s (found_of answer).end answer
+            (omega (arith, within.from, within.ordered)) (omega (arith, one)) is),
+        grind (arith, nat_tests, at, one),
+      )
 
 pub answer_if_empty : (re : Expression) (bytes : List ℕ) (utf8 : IsUtf8 bytes) (start : ℕ)
     (slots : List (Option ℕ)) (m : Match) → TellsMatchWithSlots re bytes start slots (Some m)
     → IsAnswerIfEmpty re bytes (Some m)
-answer_if_empty re bytes utf8 start slots m (tree, given, (found, is, of)) = λ empty.
-    empty_from re bytes utf8 (search_start bytes start) found m (tree, given, is) of.is_match empty
+answer_if_empty re bytes utf8 start slots m (found, is, of) =
+    empty_from (λ own. own) bytes utf8 (IsAnswerOf re (chars bytes))
+    (regex_lawful re (chars bytes)) (search_start bytes start) found is m of.is_match

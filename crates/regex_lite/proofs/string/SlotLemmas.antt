@@ -1,9 +1,10 @@
 -- Slots, and the spans that they hold.
-use Rattle.std.proofs.Common.{◌≡◌, refl, sym, ap, ℕ, zero, suc, ◌+◌, ◌*◌, ◌≤◌, ◌<◌, ◌/◌, List, [], ◌∷◌, length, take, replicate, get_or, Option, Some, None, arith}
+use Rattle.std.proofs.Common.{◌≡◌, refl, sym, ap, ℕ, zero, suc, ◌+◌, ◌*◌, ◌≤◌, ◌<◌, ◌/◌, List, [], ◌∷◌, length, take, drop, max, replicate, get_or, slice_get, Option, Some, None, arith}
 use Rattle.std.specs.Option.{option_zip, option_flatten}
 use Rattle.std.proofs.lemmas.Option.{slice_get_past}
+use Rattle.regex_lite_engine.specs.Graph.StoredList.{StoredGroups}
 use Rattle.regex_lite.specs.Groups.{span_at, spans_of}
-use Rattle.regex_lite.specs.Slots.{kept_slots}
+use Rattle.regex_lite.specs.Slots.{kept_slots, most_groups}
 
 none_behind : (start : Option ℕ) → None ≡ option_zip {U = ℕ} start None
 none_behind None = refl
@@ -93,3 +94,24 @@ pub kept_of_more : (groups slots : ℕ) → slots ≡ 2 * groups → (slots ≡ 
 kept_of_more zero slots all more = all
 kept_of_more (suc zero) slots all more = absurd (more all)
 kept_of_more (suc (suc n)) slots all more = all
+
+behind : {A : Type 0} (xs : List A) (k : ℕ) (x : A) → slice_get xs k ≡ Some x
+    → drop k xs ≡ x ∷ drop (k + 1) xs
+behind [] k x there = absurd cc
+behind (x ∷ xs) zero own there = ap (λ y. y ∷ xs) (some_same there)
+  where
+    some_same : {A : Type 0} {a b : A} → ◌≡◌ {A = Option A} (Some a) (Some b) → a ≡ b
+    some_same e = cc
+behind (x ∷ xs) (suc k) own there =
+    let next : suc k + 1 ≡ suc (k + 1) = omega arith in
+    rw (next) (behind xs k own there)
+
+-- the slots of one more pattern, with those that are left
+pub most_on : (all : List StoredGroups) (k : ℕ) (own : StoredGroups) (most next slots : ℕ)
+    → slice_get all k ≡ Some own → slots ≡ 2 * length own.capture_names
+    → next ≡ max most slots
+    → max next (2 * most_groups (drop (k + 1) all)) ≡ max most (2 * most_groups (drop k all))
+most_on all k own most next slots there two is =
+    let left = ap most_groups (behind all k own there) in
+    let rest = most_groups (drop (k + 1) all) in
+    omega (arith, left, two, is)

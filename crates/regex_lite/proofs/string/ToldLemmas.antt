@@ -7,13 +7,14 @@ use Rattle.regex_lite_syntax.specs.Grammar.{IsTree}
 use Rattle.regex_lite_engine.specs.declared.pikevm.search.Outcome.{Outcome}
 use Rattle.regex_lite_engine.specs.Graph.Renumbered.{IsGraphOf}
 use Rattle.regex_lite_engine.specs.Graph.Stored.{StoredGraph}
+use Rattle.regex_lite_engine.specs.Graph.StoredList.{StoredGroups}
 use Rattle.regex_lite_engine.specs.Search.Answer.{Found}
 use Rattle.regex_lite_engine.specs.Search.Offsets.{search_start}
 use Rattle.regex_lite_engine.specs.Search.Outcomes.{IsSpanOutcome, IsOutcome}
 use Rattle.regex_lite_engine.specs.Search.Searching.{Searching}
 use Rattle.regex_lite.specs.declared.string.compiled.Compiled.{Compiled}
 use Rattle.regex_lite.specs.declared.string.matches.Match.{Match}
-use Rattle.regex_lite.specs.Compiled.{IsBuilt, SearchesFor, groups_of}
+use Rattle.regex_lite.specs.Compiled.{IsBuilt, SearchesFor, groups_of, stored_groups}
 use Rattle.regex_lite.specs.Expression.{Expression, OfTree}
 use Rattle.regex_lite.specs.Groups.{Groups, AreGroups, LiesIn, group_span, span_at}
 use Rattle.regex_lite.specs.MatchViews.{haystack_of_match, span_of_match}
@@ -30,7 +31,7 @@ same_some e = cc
 pub not_there : {A : Type 0} {x : A} → ◌≡◌ {A = Option A} None (Some x) → ⊥
 not_there e = cc
 
-same_pair : {a b i j : ℕ} → a ≡ i → b ≡ j → ◌≡◌ {A = ℕ × ℕ} (a, b) (i, j)
+pub same_pair : {a b i j : ℕ} → a ≡ i → b ≡ j → ◌≡◌ {A = ℕ × ℕ} (a, b) (i, j)
 same_pair {a} {b} {i} {j} start end = rw (start, end) refl
 
 -- what a search of the graph tells, whatever its tree: an outcome, or a span with its slots
@@ -95,22 +96,19 @@ module _ (bytes : List ℕ) (utf8 : IsUtf8 bytes) (start : ℕ) (re : Expression
   pub match_with_slots_told : (m : Match) → haystack_of_match m ≡ bytes → span_of_match m ≡ span
       → TellsMatchWithSlots re bytes start slots (Some m)
   match_with_slots_told m haystack is = (
-    own.0,
-    own.1,
-    (
-      found,
-      own.2.1,
-      record {
-        is_match = record { haystack = haystack; span = is ∙ sym span_is };
-        has_slots = own.2.2.slots;
-      },
-    ),
+    found,
+    (own.0, own.1, own.2.1),
+    record {
+      is_match = record { haystack = haystack; span = is ∙ sym span_is };
+      has_slots = own.2.2.slots;
+    },
   )
 
   module _ (compiled : Compiled) (built : IsBuilt compiled)
       (given : IsTree re.flags (chars re.pattern) built.tree)
       (enough : length slots ≡ kept_slots (captures_len built.tree)) (all : List (Option ℕ))
-      (filled : all ≡ all_slots slots span) (shared : Compiled) (same : shared ≡ compiled) where
+      (filled : all ≡ all_slots slots span) (shared : StoredGroups)
+      (same : shared ≡ stored_groups compiled) where
     of_built : IsSpanOutcome built.tree bytes start slots (Some span)
     of_built =
         subst (λ tree. IsSpanOutcome tree bytes start slots (Some span))
@@ -127,14 +125,14 @@ module _ (bytes : List ℕ) (utf8 : IsUtf8 bytes) (start : ℕ) (re : Expression
     groups_are =
         subst (λ c. AreGroups (groups_of bytes all c)) (sym same)
         (captured bytes utf8 built.tree (compiled.flags, _, built.given) (search_start bytes start)
-        of_built.0 of_built.1 all all_held compiled (built_shares compiled built))
+        of_built.0 of_built.1 all all_held (stored_groups compiled) (built_shares compiled built))
 
     -- which are what is told
     pub groups_told : (groups : Groups) → groups ≡ groups_of bytes all shared
         → TellsGroups re bytes start (Some groups)
     groups_told groups are =
         let own = captured_of bytes utf8 built.tree (compiled.flags, _, built.given)
-        (search_start bytes start) of_built.0 of_built.1 all all_held compiled
+        (search_start bytes start) of_built.0 of_built.1 all all_held (stored_groups compiled)
         (built_shares compiled built) in
         let as_shared = subst (λ c. AreGroupsOf built.tree bytes of_built.0 (groups_of bytes all c))
         (sym same) own in (

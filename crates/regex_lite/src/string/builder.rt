@@ -1,15 +1,19 @@
 //! The settings under which a pattern is built.
 ghost use Rattle.std.specs.Prelude.{◌≡◌, ◌-◌, ◌^◌, min, IfOk, IfErr};
 ghost use Rattle.regex_lite_syntax.specs.Errors.{out_of_memory};
+ghost use Rattle.regex_lite_syntax.specs.Tree.Regular.{IsRegular};
+ghost use Rattle.regex_lite_syntax.specs.Tree.Views.{tree_of};
 ghost use Rattle.regex_lite.specs.Settings.{default_settings};
-ghost use Rattle.regex_lite.specs.Expression.{Builds};
+ghost use Rattle.regex_lite.specs.Expression.{Builds, IsDue, IsReadAs, expression_of};
+ghost use Rattle.regex_lite.specs.RegexList.{IsAcceptedAs};
 
 use crate::owner::Shared;
 use crate::string::compiled::Compiled;
+use crate::string::list::compiled::Pattern;
 use crate::string::regex::Regex;
-use regex_lite_engine::Graph;
+use regex_lite_engine::{Graph, GraphList};
 use regex_lite_syntax::{Config, Error, Flags, Hir};
-use std::alloc::Global;
+use std::alloc::{AllocError, Global};
 use std::marker::Model;
 
 /// A pattern with the settings under which it is to be built.
@@ -27,11 +31,11 @@ use std::marker::Model;
 /// The test `tests::examples::builder` runs this example.
 #[derive(Debug, Drop)]
 pub struct RegexBuilder {
-    alloc: Global,
-    pattern: String,
-    flags: Flags,
-    nest_limit: u32,
-    size_limit: usize,
+    pub(super) alloc: Global,
+    pub(super) pattern: String,
+    pub(super) flags: Flags,
+    pub(super) nest_limit: u32,
+    pub(super) size_limit: usize,
 }
 
 impl Model for RegexBuilder {
@@ -233,18 +237,47 @@ impl RegexBuilder {
         ensures { Builds self.now result }
     {
         let alloc = self.alloc;
-        let config = Config {
-            flags: self.flags,
-            nest_limit: self.nest_limit,
-        };
-        let hir = Hir::parse(alloc, config, self.pattern.as_str())?;
+        let hir = self.hir()?;
         let graph = Graph::new(alloc, &hir, self.size_limit)?;
         let compiled = Compiled {
             pattern: self.pattern.clone()?,
-            flags: config.flags,
+            flags: self.flags,
             graph,
         };
         let compiled = Shared::new(alloc, compiled)?;
         Ok(Regex { alloc, compiled })
+    }
+
+    /// The tree of the pattern.
+    fn hir(&self) -> Result<Hir, Error>
+        ensures read { IfOk result (λ hir. IsReadAs self.now (tree_of hir)) }
+        ensures regular { IfOk result (λ hir. IsRegular (tree_of hir)) }
+        ensures refused { IfErr result (λ error. IsDue self.now error) }
+    {
+        let config = Config {
+            flags: self.flags,
+            nest_limit: self.nest_limit,
+        };
+        Hir::parse(self.alloc, config, self.pattern.as_str())
+    }
+
+    /// The tree of the pattern, which passes no limit.
+    pub(super) fn accepted_hir(&self) -> Result<Hir, Error>
+        ensures accepted { IfOk result (λ hir. IsAcceptedAs self.now (tree_of hir)) }
+        ensures refused { IfErr result (λ error. IsDue self.now error) }
+    {
+        let hir = self.hir()?;
+        GraphList::within_limits(&hir, self.size_limit)?;
+        Ok(hir)
+    }
+
+    /// The pattern, and the flags under which it is read.
+    pub(super) fn to_pattern(&self) -> Result<Pattern, AllocError>
+        ensures { IfOk result (λ own. own ≡ expression_of self.now) }
+    {
+        Ok(Pattern {
+            text: self.pattern.clone()?,
+            flags: self.flags,
+        })
     }
 }

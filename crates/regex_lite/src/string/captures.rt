@@ -3,11 +3,10 @@ ghost use Rattle.std.specs.Prelude.{◌≡◌, ◌≤◌, Some, IsSome, IfSome, 
 ghost use Rattle.regex_lite.specs.Groups.{AreGroups, group_span, group_text, named_span, named_text};
 ghost use Rattle.regex_lite.specs.Compiled.{groups_of, names_of};
 
-use crate::owner::Shared;
 use crate::string::captures_in::CapturesIn;
-use crate::string::compiled::Compiled;
 use crate::string::locations::CaptureLocations;
 use crate::string::matches::Match;
+use crate::string::source::Source;
 use crate::string::sub_captures::SubCaptureMatches;
 use std::fmt;
 use std::marker::Model;
@@ -15,7 +14,8 @@ use std::ops::Deref;
 
 /// The groups of a match: where each matched last, if it took part.
 ///
-/// It borrows the haystack alone, and shares the names of the groups with the regex that found it.
+/// It borrows the haystack alone, and shares the names of the groups with the regex, or the list of
+/// patterns, that found it.
 ///
 /// ```
 /// let regex = Regex::new(alloc, "(?<key>[a-z]+)=([0-9]+)?")?;
@@ -58,25 +58,20 @@ impl<'h> Deref for Captures<'h> {
 impl<'h> Captures<'h> {
     ghost use Rattle.regex_lite.specs.MatchViews.{spans_to_come, haystack_of_match, span_of_match};
 
-    /// The groups that these slots hold, of the regex that shares what was built.
-    pub(super) fn new(
-        haystack: &'h str,
-        slots: Vec<Option<usize>>,
-        compiled: Shared<Compiled>,
-    ) -> Captures<'h>
-        requires { AreGroups (groups_of haystack.now slots.items compiled) }
-        ensures { result ≡ groups_of haystack.now slots.items compiled }
+    /// The groups that these slots hold, of the pattern that the source tells of.
+    pub(super) fn new(haystack: &'h str, slots: Vec<Option<usize>>, source: Source) -> Captures<'h>
+        requires { AreGroups (groups_of haystack.now slots.items source) }
+        ensures { result ≡ groups_of haystack.now slots.items source }
     {
         Captures {
-            inner: CapturesIn::new(haystack, slots, compiled),
+            inner: CapturesIn::new(haystack, slots, source),
         }
     }
 
-    /// The slots, and what is shared with the regex.
-    pub(super) fn into_parts(self) -> (Vec<Option<usize>>, Shared<Compiled>)
+    /// The slots, and what is shared with what found them.
+    pub(super) fn into_parts(self) -> (Vec<Option<usize>>, Source)
         ensures names { names_of result.1 ≡ self.entry.names }
-        ensures static_captures { result.1.graph.static_captures_len
-            ≡ self.entry.static_captures_len }
+        ensures static_captures { result.1.static_captures_len ≡ self.entry.static_captures_len }
     {
         self.inner.into_parts()
     }
@@ -120,7 +115,7 @@ impl<'h> Captures<'h> {
         SubCaptureMatches::new(self)
     }
 
-    /// How many groups there are, the whole match among them: the `captures_len` of the regex.
+    /// How many groups there are, the whole match among them: the `captures_len` of the pattern.
     pub fn len(&self) -> usize
         ensures { result ≡ length self.now.spans }
     {

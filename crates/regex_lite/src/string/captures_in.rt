@@ -4,9 +4,8 @@ ghost use Rattle.std.specs.Rc.{rc_str_bytes};
 ghost use Rattle.regex_lite.specs.Groups.{AreGroups, LiesIn, group_span, group_text, index_of, is_named, texts_from, whole_span};
 ghost use Rattle.regex_lite.specs.Compiled.{groups_of, names_of};
 
-use crate::owner::Shared;
-use crate::string::compiled::Compiled;
 use crate::string::locations::{CaptureLocations, span_in};
+use crate::string::source::Source;
 use std::marker::Model;
 use std::rc::RcStr;
 
@@ -39,7 +38,7 @@ pub struct CapturesIn<T: Text> {
     pub(super) haystack: T,
     /// Slots 2k and 2k + 1 are the start and the end of group k.
     slots: Vec<Option<usize>>,
-    compiled: Shared<Compiled>,
+    source: Source,
 }
 
 impl<T: Text> Model for CapturesIn<T> {
@@ -49,36 +48,32 @@ impl<T: Text> Model for CapturesIn<T> {
     ghost Value = { Groups };
 
     ghost view = { λ caps.
-        groups_of (T.bytes caps.haystack) caps.slots.items caps.compiled };
+        groups_of (T.bytes caps.haystack) caps.slots.items caps.source };
 
     ghost invariant = { λ caps. AreGroups
-        (groups_of (T.bytes caps.haystack) caps.slots.items caps.compiled) };
+        (groups_of (T.bytes caps.haystack) caps.slots.items caps.source) };
 }
 
 impl<T: Text> CapturesIn<T> {
-    /// The groups that these slots hold, of the regex that shares what was built.
-    pub(super) fn new(haystack: T, slots: Vec<Option<usize>>, compiled: Shared<Compiled>) -> Self
-        requires { AreGroups (groups_of (T.bytes haystack) slots.items compiled) }
-        ensures { result ≡ groups_of (T.bytes haystack) slots.items compiled }
+    /// The groups that these slots hold, of the pattern that the source tells of.
+    pub(super) fn new(haystack: T, slots: Vec<Option<usize>>, source: Source) -> Self
+        requires { AreGroups (groups_of (T.bytes haystack) slots.items source) }
+        ensures { result ≡ groups_of (T.bytes haystack) slots.items source }
     {
         CapturesIn {
             haystack,
             slots,
-            compiled,
+            source,
         }
     }
 
-    /// The slots, and what is shared with the regex.
-    pub(super) fn into_parts(self) -> (Vec<Option<usize>>, Shared<Compiled>)
+    /// The slots, and what is shared with what found them.
+    pub(super) fn into_parts(self) -> (Vec<Option<usize>>, Source)
         ensures names { names_of result.1 ≡ self.names }
-        ensures static_captures { result.1.graph.static_captures_len ≡ self.static_captures_len }
+        ensures static_captures { result.1.static_captures_len ≡ self.static_captures_len }
     {
-        let CapturesIn {
-            slots,
-            compiled,
-            ..
-        } = self;
-        (slots, compiled)
+        let CapturesIn { slots, source, .. } = self;
+        (slots, source)
     }
 
     /// The text of the whole match, and those of the first N other groups that took part, by index.
@@ -141,7 +136,7 @@ impl<T: Text> CapturesIn<T> {
     pub(super) fn groups(&self) -> usize
         ensures { result ≡ length self.now.spans }
     {
-        self.compiled.graph.capture_names().len()
+        self.source.capture_names().len()
     }
 
     /// Where the group with this index starts and ends, if it is there and took part.
@@ -167,7 +162,7 @@ impl<T: Text> CapturesIn<T> {
     pub(super) fn index_of(&self, name: &str) -> Option<usize>
         ensures { result ≡ index_of self.now.names name.now }
     {
-        let names = self.compiled.graph.capture_names();
+        let names = self.source.capture_names();
         for k in 0..names.len() {
             if is_named(&names[k], name) {
                 return Some(k);

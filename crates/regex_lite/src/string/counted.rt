@@ -6,7 +6,8 @@ ghost use Rattle.regex_lite.specs.Searches.{AreOfMatch, CanStartAt, IsWithinCost
 use crate::string::captures::Captures;
 use crate::string::matches::Match;
 use crate::string::regex::Regex;
-use crate::string::slots::slots_with;
+use crate::string::slots::{slots_with, whole_slots};
+use crate::string::source::Source;
 use regex_lite_engine::{Outcome, Steps};
 use regex_lite_syntax::Error;
 
@@ -82,15 +83,15 @@ impl Regex {
         ensures refused { IfErr result (λ error. error ≡ out_of_memory) }
     {
         let count = self.kept_slots();
-        let whole = self.whole_slots(count)?;
+        let whole = whole_slots(self.alloc, count)?;
         let graph = &self.compiled.graph;
         let (outcome, steps) = graph.search(self.alloc, haystack, start, count)?;
         let Some(Outcome { start, end, slots }) = outcome else {
             return Ok((None, steps));
         };
         let slots = slots_with(slots, whole, (start, end));
-        let compiled = self.compiled.clone()?;
-        let caps = Captures::new(haystack, slots, compiled);
+        let source = Source::of_regex(self.compiled.clone()?);
+        let caps = Captures::new(haystack, slots, source);
         Ok((Some(caps), steps))
     }
 

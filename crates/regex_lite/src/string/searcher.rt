@@ -7,12 +7,11 @@ ghost use Rattle.regex_lite.specs.Compiled.{AreOfRegex, SharesGroups};
 ghost use Rattle.regex_lite.specs.Scanning.{HasSlotsForGroups, IsAnswerIfEmpty, IsMatchOfSearch, TellsMatchWithSlots};
 ghost use Rattle.regex_lite.specs.Searches.{CanStartAt};
 
-use crate::owner::Shared;
 use crate::string::captures::Captures;
-use crate::string::compiled::Compiled;
 use crate::string::matches::Match;
 use crate::string::regex::Regex;
 use crate::string::slots::all_slots;
+use crate::string::source::Source;
 use regex_lite_syntax::Error;
 use std::fmt;
 use std::marker::Model;
@@ -80,18 +79,15 @@ impl<'r> Searcher<'r> {
             → AreGroupsFound self.now.regex haystack.now found groups) }
         ensures refused { IfErr result (λ error. error ≡ out_of_memory) }
     {
-        let (mut slots, compiled) = self.parts(spare)?;
+        let (mut slots, source) = self.parts(spare)?;
         slots.clear();
         slots.extend_from_slice(self.inner.slots())?;
         let slots = all_slots(slots, (last.start(), last.end()))?;
-        Ok(Captures::new(haystack, slots, compiled))
+        Ok(Captures::new(haystack, slots, source))
     }
 
     /// Those of the spare groups, or new ones with room for the slots that are kept.
-    fn parts<'h>(
-        &self,
-        spare: Option<Captures<'h>>,
-    ) -> Result<(Vec<Option<usize>>, Shared<Compiled>), Error>
+    fn parts<'h>(&self, spare: Option<Captures<'h>>) -> Result<(Vec<Option<usize>>, Source), Error>
         requires { IfSome spare (AreOfRegex self.now.regex) }
         ensures ok { IfOk result (λ parts. SharesGroups self.now.regex parts.1) }
         ensures refused { IfErr result (λ error. error ≡ out_of_memory) }
@@ -101,8 +97,8 @@ impl<'r> Searcher<'r> {
         }
         let regex = self.regex;
         let slots = Vec::with_capacity(regex.alloc, self.inner.slots().len())?;
-        let compiled = regex.compiled.clone()?;
-        Ok((slots, compiled))
+        let source = Source::of_regex(regex.compiled.clone()?);
+        Ok((slots, source))
     }
 }
 

@@ -5,7 +5,7 @@ ghost use Rattle.regex_lite.specs.Expression.{OfTree};
 ghost use Rattle.regex_lite.specs.Slots.{all_slots, kept_slots};
 
 use crate::string::regex::Regex;
-use std::alloc::AllocError;
+use std::alloc::{AllocError, Global};
 
 impl Regex {
     /// How many slots the groups have: two each.
@@ -23,14 +23,14 @@ impl Regex {
         let slots = self.slots();
         if slots == 2 { 0 } else { slots }
     }
+}
 
-    /// Room for the slots of the whole match, where a search keeps none for its groups.
-    pub(super) fn whole_slots(&self, kept: usize) -> Result<Vec<Option<usize>>, AllocError>
-        ensures { IfOk result (λ whole. kept ≡ 0 → length whole.items ≡ 2) }
-    {
-        let count = if kept == 0 { 2 } else { 0 };
-        vec![in self.alloc; None; count]
-    }
+/// Room for the slots of the whole match, where a search keeps none for its groups.
+pub(super) fn whole_slots(alloc: Global, kept: usize) -> Result<Vec<Option<usize>>, AllocError>
+    ensures { IfOk result (λ whole. kept ≡ 0 → length whole.items ≡ 2) }
+{
+    let count = if kept == 0 { 2 } else { 0 };
+    vec![in alloc; None; count]
 }
 
 /// The slots of all groups of a match with this span, of which a search kept these. Those of the

@@ -1,4 +1,5 @@
 //! The examples of the documentation.
+mod lists;
 mod replacing;
 
 use crate::{Captures, Error, Regex, RegexBuilder, escape};

@@ -10,7 +10,7 @@ use std::process::Abort;
 use std::test::Fail;
 
 /// The groups as their spans.
-fn groups_text<H: Abort + AllocGlobal>(
+pub(super) fn groups_text<H: Abort + AllocGlobal>(
     rt: &H,
     found: Option<&Captures<'_>>,
 ) -> Result<String, Fail> {

@@ -5,3 +5,4 @@ pub mod NameSizeLemmas
 pub mod PlaceCountLemmas
 pub mod ReadingCountLemmas
 pub mod StaticGroupLemmas
+pub mod TotalLemmas

@@ -1,5 +1,5 @@
 -- Places with ordered arrows, and the steps that they allow on a haystack.
-use Rattle.std.specs.Prelude.{ℕ, zero, suc, ◌+◌, Bool, List, [], ◌∷◌, Option, Some, None, if◌then◌else◌, length, slice_get, sum_by}
+use Rattle.std.specs.Prelude.{ℕ, zero, suc, ◌+◌, Bool, List, [], ◌∷◌, Option, Some, None, if◌then◌else◌, length, map, slice_get, sum_by}
 use Rattle.regex_lite_syntax.specs.declared.class.ClassRange.{ClassRange}
 use Rattle.regex_lite_syntax.specs.declared.hir.look.Look.{Look}
 use Rattle.regex_lite_syntax.specs.Text.{Text, before, after}
@@ -43,6 +43,15 @@ pub record Arrow (A : Type 0) : Type 0 where
 pub data Place (A : Type 0) : Type 0 where
   complete : Place A
   with_arrows : (arrows : List (Arrow A)) → Place A
+
+-- an arrow, and a place, with other names for the addresses
+abbrev pub renamed_arrow : {A B : Type 0} → (name : A → B) → Arrow A → Arrow B
+renamed_arrow name arrow =
+    record { condition = arrow.condition; mark = arrow.mark; to = name arrow.to }
+
+abbrev pub renamed : {A B : Type 0} → (name : A → B) → Place A → Place B
+renamed name complete = complete
+renamed name (with_arrows arrows) = with_arrows (map (renamed_arrow name) arrows)
 
 -- the position behind a character of the set
 abbrev pub behind : Set → ℕ → Option ℕ → Option ℕ

@@ -4,21 +4,12 @@ use Rattle.std.specs.Prelude.{◌≡◌, ◌<◌, ℕ, List, map, option_map, le
 use Rattle.regex_lite_syntax.specs.Tree.{Tree}
 use Rattle.regex_lite_syntax.specs.Tree.Properties.{captures_len, group_name, static_captures_len}
 use Rattle.regex_lite_syntax.specs.Tree.Views.{text_of_name}
-use Rattle.regex_lite_engine.specs.Graph.Places.{Arrow, Place, complete, with_arrows}
+use Rattle.regex_lite_engine.specs.Graph.Places.{Place, complete, with_arrows, renamed}
 use Rattle.regex_lite_engine.specs.Graph.Addresses.{Address}
 use Rattle.regex_lite_engine.specs.Graph.Repetitions.{Content}
 use Rattle.regex_lite_engine.specs.Graph.WrittenOut.{written_out, start_address}
 use Rattle.regex_lite_engine.specs.Graph.PlaceCounts.{whole_places, whole_arrows}
 use Rattle.regex_lite_engine.specs.Graph.Stored.{StoredGraph, LeadsBelow, table_of}
-
--- an arrow, and a place, with other names for the addresses
-abbrev pub renamed_arrow : {A B : Type 0} → (name : A → B) → Arrow A → Arrow B
-renamed_arrow name arrow =
-    record { condition = arrow.condition; mark = arrow.mark; to = name arrow.to }
-
-abbrev pub renamed : {A B : Type 0} → (name : A → B) → Place A → Place B
-renamed name complete = complete
-renamed name (with_arrows arrows) = with_arrows (map (renamed_arrow name) arrows)
 
 -- how many arrows the places have
 abbrev pub arrow_count : {A : Type 0} → Place A → ℕ

@@ -4,12 +4,12 @@ use Rattle.std.specs.Prelude.{ℕ, ◌≡◌, ◌+◌, List, [], ◌∷◌, Opti
 use Rattle.regex_lite_syntax.specs.Text.{Text}
 use Rattle.regex_lite_syntax.specs.Tree.{Tree}
 use Rattle.regex_lite_syntax.specs.Tree.Regular.{IsRegular}
-use Rattle.regex_lite_engine.specs.Graph.Places.{Place, with_arrows, step}
+use Rattle.regex_lite_engine.specs.Graph.Places.{Place, with_arrows, step, renamed}
 use Rattle.regex_lite_engine.specs.Graph.Ways.{IsWay}
 use Rattle.regex_lite_engine.specs.Graph.Addresses.{Address}
 use Rattle.regex_lite_engine.specs.Graph.Repetitions.{Content}
 use Rattle.regex_lite_engine.specs.Graph.WrittenOut.{written_out, start_address, end_address}
-use Rattle.regex_lite_engine.specs.Graph.Renumbered.{renamed, IsNumberOf}
+use Rattle.regex_lite_engine.specs.Graph.Renumbered.{IsNumberOf}
 use Rattle.regex_lite_engine.specs.Graph.PlaceCounts.{whole_places, whole_arrows}
 
 -- what stands at an address in the pattern with this number, which has this tree, if it is there

@@ -1,5 +1,6 @@
 -- Where a match can begin, by the characters beside a position.
-use Rattle.std.specs.Prelude.{◌≡◌, ◌⊎◌, ℕ, Bool, true, false, ◌&&◌, ◌||◌, Option, Some, None, is_none, IsTrue, if◌then◌else◌, nat_lt, slice_index_or}
+use Rattle.std.specs.Prelude.{◌≡◌, ◌⊎◌, ℕ, Bool, true, false, ◌&&◌, ◌||◌, Option, Some, None, is_none, IsTrue, if◌then◌else◌, nat_lt, slice_index_or, List}
+use Rattle.std.specs.List.{list_any}
 use Rattle.regex_lite_syntax.specs.Text.{Text, before, after}
 use Rattle.regex_lite_syntax.specs.Sets.{Set}
 use Rattle.regex_lite_syntax.specs.Tree.{Tree}
@@ -47,3 +48,13 @@ abbrev pub BeginsOrPasses : Tree → Starts → (passable : Bool) → Type 0
 BeginsOrPasses tree starts passable =
     (haystack : Text) (i j : ℕ) → Matches haystack tree i j
     → MayBegin starts haystack i ⊎ (IsTrue passable × (i ≡ j))
+
+-- a match can begin with what it could begin with before, or with what the other lets it
+pub record IsUnion (before other after : Starts) : Type 0 where
+  pub with : (c : ℕ) → begins_with after c ≡ (begins_with before c || begins_with other c)
+  pub at_start : after.at_start ≡ (before.at_start || other.at_start)
+
+-- a match can begin with what one of these lets it begin with, and with nothing else
+pub record IsUnionOf (parts : List Starts) (starts : Starts) : Type 0 where
+  pub with : (c : ℕ) → begins_with starts c ≡ list_any (λ part. begins_with part c) parts
+  pub at_start : starts.at_start ≡ list_any (λ part. part.at_start) parts

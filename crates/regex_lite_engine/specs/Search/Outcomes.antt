@@ -5,7 +5,9 @@ use Rattle.regex_lite_syntax.specs.Tree.{Tree}
 use Rattle.regex_lite_engine.specs.declared.pikevm.search.Outcome.{Outcome}
 use Rattle.regex_lite_engine.specs.Graph.PlaceCounts.{whole_places, whole_arrows}
 use Rattle.regex_lite_engine.specs.Search.Answer.{Found, IsAnswer, IsShortest}
-use Rattle.regex_lite_engine.specs.Search.Bounds.{StepCounts, IsBounded}
+use Rattle.regex_lite_engine.specs.Graph.SideBySide.{places_of_all, tries_of_all}
+use Rattle.regex_lite_engine.specs.Search.AnswerOfList.{IsAnswerOfList}
+use Rattle.regex_lite_engine.specs.Search.Bounds.{StepCounts, IsBounded, IsBoundedBy}
 use Rattle.regex_lite_engine.specs.Search.Offsets.{offset, search_start, HasSlots}
 
 -- the span and the slots have the offsets of what was found
@@ -42,4 +44,21 @@ IsEndOutcome tree haystack start (Some at) =
 abbrev pub HasCost : Tree → (haystack : List ℕ) → (start : ℕ) → StepCounts → Type 0
 HasCost tree haystack start steps =
     IsBounded (whole_places tree) (whole_arrows tree) (chars haystack)
+    (search_start haystack start) steps.tried steps.entered steps.looked
+
+-- the outcome of a search for several patterns tells the answer of the list: the number of a
+-- pattern, and what was found of it
+abbrev pub IsOutcomeOfList : List Tree → (haystack : List ℕ) → (start : ℕ) → Option (ℕ × Outcome)
+    → Type 0
+IsOutcomeOfList trees haystack start None =
+    IsAnswerOfList trees (chars haystack) (search_start haystack start) None
+IsOutcomeOfList trees haystack start (Some told) =
+    (found : Found)
+    × IsAnswerOfList trees (chars haystack) (search_start haystack start) (Some (told.0, found))
+    × Tells (chars haystack) found (told.1.start, told.1.end) told.1.slots.items
+
+-- a search of the graph of these trees did no more than is allowed
+abbrev pub HasCostOfList : List Tree → (haystack : List ℕ) → (start : ℕ) → StepCounts → Type 0
+HasCostOfList trees haystack start steps =
+    IsBoundedBy (places_of_all trees) (tries_of_all trees) (chars haystack)
     (search_start haystack start) steps.tried steps.entered steps.looked

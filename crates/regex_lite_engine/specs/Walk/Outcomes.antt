@@ -26,6 +26,17 @@ with_start_kept None = None
 with_start_kept (Some found) =
     Some (record { at = Some found.0; number = None }, found.1, found.2)
 
+-- the match that is told of a pattern among several, with the pattern's number
+abbrev pub numbered_told : Option (ℕ × Outcome) → Option (ℕ × ℕ × ℕ × Row)
+numbered_told None = None
+numbered_told (Some told) = Some (told.0, told.1.start, told.1.end, told.1.slots.items)
+
+-- the match of which the number and the start are kept
+abbrev pub with_origin_kept : Option (ℕ × ℕ × ℕ × Row) → Best
+with_origin_kept None = None
+with_origin_kept (Some (number, start, end, row)) =
+    Some (record { at = Some start; number = Some number }, end, row)
+
 -- the best match has the offsets of the answer, its start as far as it is told
 abbrev pub IsBestOutcome : List (Place ℕ) → Text → (start s : ℕ) → Best → Type 0
 IsBestOutcome table haystack start s None = IsNumberedAnswer table haystack start s None

@@ -1,11 +1,15 @@
 -- Where a match can begin in a graph, and the positions that a search passes over.
-use Rattle.std.specs.Prelude.{◌≡◌, ◌≤◌, ◌<◌, ◌⊎◌, ℕ, List, [], None}
+use Rattle.std.specs.Prelude.{◌≡◌, ◌≤◌, ◌<◌, ◌⊎◌, ℕ, false, List, [], None, length, slice_index}
 use Rattle.regex_lite_syntax.specs.Text.{Text}
 use Rattle.regex_lite_engine.specs.declared.nfa.heads.Heads.{Heads}
+use Rattle.regex_lite_engine.specs.declared.nfa.list_heads.ListHeads.{ListHeads}
 use Rattle.regex_lite_engine.specs.declared.pikevm.here.Here.{Here}
+use Rattle.regex_lite_engine.specs.declared.pikevm.patterns.Start.{Start}
 use Rattle.regex_lite_engine.specs.Graph.Places.{Place}
 use Rattle.regex_lite_engine.specs.Nfa.Heads.{NeverBegins}
+use Rattle.regex_lite_engine.specs.Nfa.ListHeads.{may_start_at, IsWalkable}
 use Rattle.regex_lite_engine.specs.Walk.Machine.{Thread}
+use Rattle.regex_lite_engine.specs.Walk.NumberedList.{IsEntry}
 use Rattle.regex_lite_engine.specs.Walk.Standing.{IsHere}
 use Rattle.regex_lite_engine.specs.Walk.Turns.{AreDeadAt, IsDeadAt}
 use Rattle.regex_lite_engine.specs.Walk.Walking.{Best}
@@ -30,3 +34,19 @@ GoesOnAt table haystack entries threads best p here =
     IsHere haystack p here
     ⊎ ((threads ≡ []) × (best ≡ None)
     × PassesTo (AreDeadAt table haystack entries) haystack p here)
+
+-- where the index of several patterns says so, no way from an entry leads to a complete match
+pub record AreListHeadsOf (table : List (Place ℕ)) (entries : List ℕ) (heads : ListHeads)
+    : Type 0 where
+  pub count : heads.count ≡ length entries
+  pub walkable : IsWalkable heads
+  -- of no pattern where none of all can begin
+  pub any : (haystack : Text) (p : ℕ) → NeverBegins heads.any haystack p
+      → AreDeadAt table haystack entries p
+  -- of none that may not start there
+  pub each : (haystack : Text) (p number entry : ℕ) → IsEntry entries number entry
+      → may_start_at heads haystack p number ≡ false → IsDeadAt table haystack entry p
+
+-- the pattern with this number, and the place where it is entered
+abbrev pub start_of : (entries : List ℕ) → (number : ℕ) → Start
+start_of entries number = record { number = number; place = slice_index entries number }

@@ -14,6 +14,7 @@ ghost use Rattle.regex_lite_engine.specs.Nfa.Saturation.{saturated, AreCountsOf,
 
 mod copies;
 mod limits;
+pub(crate) mod totals;
 
 use copies::{OwnPlaces, copies};
 use regex_lite_syntax::{Class, Hir, Properties};

@@ -5,7 +5,7 @@ ghost use Rattle.regex_lite_syntax.specs.Ranges.{in_ranges};
 ghost use Rattle.regex_lite_syntax.specs.Sets.{just, span};
 ghost use Rattle.regex_lite_syntax.specs.Tree.{look, class, repetition, concat, alternation, trees};
 ghost use Rattle.regex_lite_syntax.specs.Tree.Views.{tree_of};
-ghost use Rattle.regex_lite_engine.specs.Nfa.Starts.{begins_with, may_begin, stops_at, IsGrown, HasAll, BeginsOrPasses, AreStartsOfTree};
+ghost use Rattle.regex_lite_engine.specs.Nfa.Starts.{begins_with, may_begin, stops_at, IsGrown, IsUnion, IsUnionOf, HasAll, BeginsOrPasses, AreStartsOfTree};
 
 use regex_lite_syntax::{Class, ClassRange, Hir, Look};
 
@@ -37,7 +37,8 @@ impl Starts {
 
     /// A match can begin nowhere.
     pub(crate) fn nowhere() -> Starts
-        ensures { (c : ℕ) → begins_with result c ≡ false }
+        ensures none { (c : ℕ) → begins_with result c ≡ false }
+        ensures at_start { result.at_start ≡ false }
     {
         Starts {
             any: false,
@@ -194,6 +195,40 @@ impl Starts {
         } else {
             self.others
         }
+    }
+
+    /// Whether a match can begin with the ASCII character of this code, or at 128 with one that is
+    /// not ASCII.
+    pub(crate) fn begins_in(&self, column: usize) -> bool
+        ensures { result ≡ begins_with self.now column }
+    {
+        if !self.any {
+            return false;
+        }
+        if column < 128 {
+            self.ascii[column]
+        } else {
+            self.others
+        }
+    }
+
+    /// Whether a match can begin at the haystack's start, whatever comes next.
+    pub(crate) fn at_start(&self) -> bool
+        ensures { result ≡ self.now.at_start }
+    {
+        self.at_start
+    }
+
+    /// Lets a match also begin where the other lets it.
+    pub(crate) fn add_starts(&mut self, other: &Starts)
+        ensures { IsUnion self.old other.now self.new }
+    {
+        for code in 0..128 {
+            self.ascii[code] = self.begins_in(code) | other.begins_in(code);
+        }
+        self.others = self.begins_in(128) | other.begins_in(128);
+        self.at_start |= other.at_start;
+        self.any |= other.any;
     }
 
     /// With how many ASCII characters a match can begin.

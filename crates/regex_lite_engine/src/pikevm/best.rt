@@ -1,7 +1,7 @@
 //! The best match that a search has found so far.
 ghost use Rattle.std.specs.Prelude.{◌≡◌, ◌↔◌, IfOk, IfSome, IsTrue, None, Some, length, option_map};
 
-use crate::pikevm::beginning::Beginning;
+use crate::pikevm::beginning::{Beginning, Origin};
 use crate::pikevm::search::Outcome;
 use crate::pikevm::slot::Slot;
 use std::alloc::{AllocError, Global};
@@ -106,6 +106,27 @@ impl Best<usize> {
                 slots: row,
             }),
         }
+    }
+}
+
+impl Best<Origin> {
+    ghost use Rattle.regex_lite_engine.specs.Walk.Outcomes.{numbered_told, with_origin_kept};
+    ghost use Rattle.regex_lite_engine.specs.Walk.Turns.{best_of};
+
+    /// The match by itself, with its row and the number of its pattern.
+    pub fn into_numbered(self) -> Option<(usize, Outcome)>
+        ensures told { best_of self ≡ with_origin_kept (numbered_told result) }
+        ensures width { IfSome result
+            (λ told. length told.1.slots.items ≡ length self.row) }
+    {
+        let Best { found, row } = self;
+        let (origin, end) = found?;
+        let outcome = Outcome {
+            start: origin.at,
+            end,
+            slots: row,
+        };
+        Some((origin.number as usize, outcome))
     }
 }
 

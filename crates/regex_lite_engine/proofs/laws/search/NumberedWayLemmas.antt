@@ -5,12 +5,12 @@ use Rattle.std.proofs.lemmas.Option.{slice_get-map}
 use Rattle.regex_lite_syntax.specs.Text.{Text}
 use Rattle.regex_lite_syntax.specs.Tree.{Tree}
 use Rattle.regex_lite_engine.specs.Graph.Ways.{IsWay}
-use Rattle.regex_lite_engine.specs.Graph.Places.{Arrow, Place, complete, with_arrows, taken, arrived, arrow_taken, step, step_from}
+use Rattle.regex_lite_engine.specs.Graph.Places.{Arrow, Place, complete, with_arrows, taken, arrived, arrow_taken, step, step_from, renamed, renamed_arrow}
 use Rattle.regex_lite_engine.specs.Graph.Addresses.{Address}
 use Rattle.regex_lite_engine.specs.Graph.Repetitions.{Content}
 use Rattle.regex_lite_engine.specs.Graph.WrittenOut.{start_address, end_address, written_out, place_of_pattern, IsWayThrough}
 use Rattle.regex_lite_engine.specs.Graph.Stored.{LeadBelow, LeadsBelow, LeadInto, LeadsInto}
-use Rattle.regex_lite_engine.specs.Graph.Renumbered.{renamed, renamed_arrow, IsRenumbered, IsNumberOf}
+use Rattle.regex_lite_engine.specs.Graph.Renumbered.{IsRenumbered, IsNumberOf}
 use Rattle.regex_lite_engine.specs.Search.Marks.{over, marked, mark_of, mark_of_arrow, marks_along}
 use Rattle.regex_lite_engine.specs.Walk.NumberedAnswer.{place_with, is_complete, numbered_step, IsNumberedWay}
 use Rattle.regex_lite_engine.proofs.laws.LeadsLemmas.{same_some}

@@ -4,10 +4,9 @@ use Rattle.regex_lite_syntax.specs.Text.{Text}
 use Rattle.regex_lite_syntax.specs.Tree.{Tree}
 use Rattle.regex_lite_syntax.proofs.ListLemmas.{same_tail}
 use Rattle.regex_lite_engine.specs.Graph.Ways.{IsWay}
-use Rattle.regex_lite_engine.specs.Graph.Places.{Place, with_arrows, step, step_from}
+use Rattle.regex_lite_engine.specs.Graph.Places.{Place, with_arrows, step, step_from, renamed}
 use Rattle.regex_lite_engine.specs.Graph.Addresses.{Address}
 use Rattle.regex_lite_engine.specs.Graph.WrittenOut.{written_out, start_address, end_address, place_of_pattern, IsWayThrough}
-use Rattle.regex_lite_engine.specs.Graph.Renumbered.{renamed}
 use Rattle.regex_lite_engine.specs.Graph.SideBySide.{in_pattern, place_of_patterns, end_of, IsWayOfPattern}
 use Rattle.regex_lite_engine.specs.Search.AnswerOfList.{HasTree}
 use Rattle.regex_lite_engine.proofs.laws.search.NamedWayLemmas.{unnamed_walk, named_way, unnamed_way}

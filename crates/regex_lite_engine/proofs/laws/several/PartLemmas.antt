@@ -2,11 +2,11 @@
 use Rattle.std.proofs.Common.{◌≡◌, ◌<◌, refl, sym, ap, ◌∙◌, ℕ, List, [], ◌∷◌, length, map, slice_get, Some}
 use Rattle.regex_lite_syntax.specs.Tree.{Tree}
 use Rattle.regex_lite_syntax.proofs.ListLemmas.{same_head, same_tail}
-use Rattle.regex_lite_engine.specs.Graph.Places.{Arrow, Place, complete, with_arrows}
+use Rattle.regex_lite_engine.specs.Graph.Places.{Arrow, Place, complete, with_arrows, renamed, renamed_arrow}
 use Rattle.regex_lite_engine.specs.Graph.Addresses.{Address}
 use Rattle.regex_lite_engine.specs.Graph.WrittenOut.{written_out, start_address}
 use Rattle.regex_lite_engine.specs.Graph.Stored.{LeadBelow, LeadsBelow, LeadInto, LeadsInto}
-use Rattle.regex_lite_engine.specs.Graph.Renumbered.{renamed, renamed_arrow, IsRenumbered, IsNumberOf}
+use Rattle.regex_lite_engine.specs.Graph.Renumbered.{IsRenumbered, IsNumberOf}
 use Rattle.regex_lite_engine.specs.Graph.SideBySide.{in_pattern, side_by_side, start_of}
 use Rattle.regex_lite_engine.specs.Search.AnswerOfList.{HasTree}
 use Rattle.regex_lite_engine.proofs.laws.search.NamedWayLemmas.{mapped_back}

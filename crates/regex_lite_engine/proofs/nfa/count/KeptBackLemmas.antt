@@ -9,7 +9,7 @@ use Rattle.regex_lite_syntax.specs.Tree.Regular.{IsRegular, AreRegular}
 use Rattle.regex_lite_engine.specs.Graph.Places.{Place, with_arrows, go, go_marking, choice, one_of, kept_back, kept_back_of}
 use Rattle.regex_lite_engine.specs.Graph.PlaceCounts.{copies, bounded_places, own_places, places, places_in, count, whole_places}
 use Rattle.regex_lite_engine.specs.Nfa.Layout.{Fragment, copies_layout, choices_layout, star_layout, bounded_layout, repetition_layout, layout, chain_layout, branches_layout}
-use Rattle.regex_lite_engine.specs.Nfa.Layout.{whole_table}
+use Rattle.regex_lite_engine.specs.Nfa.Layout.{pattern_table, whole_table}
 
 -- the sum by recursion on the list, which `sum_by` is not
 abbrev total : List (Place ℕ) → ℕ
@@ -194,13 +194,17 @@ mutual
         few_branches rest regular.1 now exit,
       )
 
-pub kept_back_whole : (tree : Tree) → IsRegular tree
-    → kept_back_of (whole_table tree) < whole_places tree
-kept_back_whole tree regular =
-    let inner = layout tree 2 1 in
+pub kept_back_pattern : (tree : Tree) → IsRegular tree → (base : ℕ)
+    → kept_back_of (pattern_table tree base) < whole_places tree
+kept_back_pattern tree regular base =
+    let inner = layout tree (base + 1 + 1) (base + 1) in
     omega (
       arith,
-      total_is (whole_table tree),
+      total_is (pattern_table tree base),
       total_both inner.0 (with_arrows (go_marking 0 inner.1 ∷ []) ∷ []),
-      few_layout tree regular 2 1,
+      few_layout tree regular (base + 1 + 1) (base + 1),
     )
+
+pub kept_back_whole : (tree : Tree) → IsRegular tree
+    → kept_back_of (whole_table tree) < whole_places tree
+kept_back_whole tree regular = kept_back_pattern tree regular 0

@@ -8,7 +8,7 @@ use Rattle.regex_lite_syntax.specs.Tree.Properties.{nullable}
 use Rattle.regex_lite_engine.specs.Graph.Places.{Place, with_arrows, go, go_marking, choice, one_of, reading_arrows, reading_count, reading_of}
 use Rattle.regex_lite_engine.specs.Graph.PlaceCounts.{copies, class_arrows, places, places_in, reading_places, reading_places_in}
 use Rattle.regex_lite_engine.specs.Nfa.Layout.{Fragment, copies_layout, choices_layout, star_layout, bounded_layout, repetition_layout, layout, chain_layout, branches_layout}
-use Rattle.regex_lite_engine.specs.Nfa.Layout.{whole_table}
+use Rattle.regex_lite_engine.specs.Nfa.Layout.{pattern_table, whole_table}
 
 -- the sum by recursion on the list, which `sum_by` is not
 abbrev total : List (Place ℕ) → ℕ
@@ -125,7 +125,8 @@ module _ (greedy : Bool) (body : ℕ → ℕ → Fragment) (b : ℕ)
       total_bounded (suc n) (most - suc n) base exit
 
 mutual
-  pub total_layout : (tree : Tree) (base exit : ℕ) → total (layout tree base exit).0 ≡ reading_places tree
+  pub total_layout : (tree : Tree) (base exit : ℕ)
+      → total (layout tree base exit).0 ≡ reading_places tree
   total_layout empty base exit = refl
   total_layout (character c) base exit = refl
   total_layout (class ranges) base exit = omega (arith, set_reads ranges exit)
@@ -176,15 +177,19 @@ mutual
         total_branches rest now exit,
       )
 
-pub reading_whole : (tree : Tree) → reading_of (whole_table tree) ≡ reading_places tree
-reading_whole tree =
-    total_is (whole_table tree)
-    ∙ (let inner = layout tree 2 1 in
+pub reading_pattern : (tree : Tree) (base : ℕ)
+    → reading_of (pattern_table tree base) ≡ reading_places tree
+reading_pattern tree base =
+    total_is (pattern_table tree base)
+    ∙ (let inner = layout tree (base + 1 + 1) (base + 1) in
     omega (
       arith,
       total_both inner.0 (with_arrows (go_marking 0 inner.1 ∷ []) ∷ []),
-      total_layout tree 2 1,
+      total_layout tree (base + 1 + 1) (base + 1),
     ))
+
+pub reading_whole : (tree : Tree) → reading_of (whole_table tree) ≡ reading_places tree
+reading_whole tree = reading_pattern tree 0
 
 -- no more places read than there are
 reading_sets : (ranges : List ClassRange) → class_arrows ranges ≤ 1

@@ -264,3 +264,50 @@ module _ (a : Tree) (rest : Trees) (s t : Starts) (passable : Bool) (grown : IsG
     | inl begins ↦ inl begins
     | inr (p, same) ↦ inr (inl (new p, same))
   ]
+
+-- a match can begin with a character where what is stored of it lets it
+pub begins_alike : (s t : Starts) (c : ℕ) → s.any ≡ t.any → s.others ≡ t.others
+    → slice_index_or s.ascii c true ≡ slice_index_or t.ascii c true
+    → begins_with s c ≡ begins_with t c
+begins_alike s t c any others ascii =
+    ap (λ a. a && (if nat_lt c 128 then slice_index_or s.ascii c true else s.others)) any
+    ∙ ap (λ b. t.any && (if nat_lt c 128 then b else s.others)) ascii
+    ∙ ap (λ o. t.any && (if nat_lt c 128 then slice_index_or t.ascii c true else o)) others
+
+-- those that are not ASCII are alike
+pub begins_as_one : (s : Starts) (c : ℕ) → 128 ≤ c → begins_with s c ≡ begins_with s 128
+begins_as_one s c le =
+    let wide : nat_lt c 128 ≡ false = grind (arith, nat_tests) in
+    ap (λ b. s.any && (if b then slice_index_or s.ascii c true else s.others)) wide
+
+-- two sets together, by what is stored of each character
+pub union_at : (s t u : Starts) → u.any ≡ (s.any || t.any)
+    → ((c : ℕ) → c < 128
+    → slice_index_or u.ascii c true ≡ (begins_with s c || begins_with t c))
+    → u.others ≡ (begins_with s 128 || begins_with t 128)
+    → (c : ℕ) → begins_with u c ≡ (begins_with s c || begins_with t c)
+union_at s t u any ascii others c = by_width (cases_lt c 128)
+  where
+    kept : (a b x y : Bool) → ((a || b) && ((a && x) || (b && y))) ≡ ((a && x) || (b && y))
+    kept true b x y = refl
+    kept false true x y = refl
+    kept false false x y = refl
+
+    char : Starts → Bool
+    char z = if nat_lt c 128 then slice_index_or z.ascii c true else z.others
+
+    stored : char u ≡ (begins_with s c || begins_with t c) → begins_with u c
+        ≡ (begins_with s c || begins_with t c)
+    stored e =
+        ap (λ a. a && char u) any ∙ ap (λ b. (s.any || t.any) && b) e
+        ∙ kept s.any t.any (char s) (char t)
+
+    by_width : (c < 128) ⊎ (128 ≤ c) → begins_with u c ≡ (begins_with s c || begins_with t c)
+    by_width (inl lt) =
+        let narrow : nat_lt c 128 ≡ true = grind (arith, nat_tests) in
+        stored (ap (λ b. if b then slice_index_or u.ascii c true else u.others) narrow ∙ ascii c lt)
+    by_width (inr le) =
+        let wide : nat_lt c 128 ≡ false = grind (arith, nat_tests) in
+        stored (ap (λ b. if b then slice_index_or u.ascii c true else u.others) wide ∙ others
+        ∙ sym (ap (λ b. b || begins_with t c) (begins_as_one s c le)
+        ∙ ap (λ b. begins_with s 128 || b) (begins_as_one t c le)))

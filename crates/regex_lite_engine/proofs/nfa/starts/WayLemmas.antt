@@ -1,7 +1,8 @@
 -- Where the tree of a graph does not match, no arrows of the graph lead to a complete match.
-use Rattle.std.proofs.Common.{◌≡◌, ◌≢◌, ◌<◌, length, ◌⊎◌, inl, inr, sym, ap, subst, ℕ, suc, List, Option, Some, None}
+use Rattle.std.proofs.Common.{◌≡◌, ◌≢◌, ◌<◌, length, ◌⊎◌, inl, inr, sym, ap, subst, ◌∙◌, arith, ℕ, suc, List, Option, Some, None, slice_get}
 use Rattle.std.specs.Prelude.{IfSome, MatchOption}
 use Rattle.std.proofs.lemmas.Bool.{cases_eq}
+use Rattle.std.proofs.lemmas.Option.{slice_get_within}
 use Rattle.regex_lite_syntax.specs.Text.{Text}
 use Rattle.regex_lite_syntax.specs.Tree.{Tree}
 use Rattle.regex_lite_syntax.specs.Tree.Matches.{Matches}
@@ -10,14 +11,21 @@ use Rattle.regex_lite_engine.specs.Graph.Places.{Place}
 use Rattle.regex_lite_engine.specs.Graph.Addresses.{Address}
 use Rattle.regex_lite_engine.specs.Graph.WrittenOut.{start_address, written_out}
 use Rattle.regex_lite_engine.specs.Graph.Renumbered.{IsRenumbered, IsNumberOf}
+use Rattle.regex_lite_engine.specs.Graph.SideBySide.{side_by_side, start_of, AreEntries, AreRegular}
 use Rattle.regex_lite_engine.specs.Walk.NumberedAnswer.{numbered_step}
 use Rattle.regex_lite_engine.specs.Walk.Turns.{IsDeadAt}
-use Rattle.regex_lite_engine.specs.Walk.Starts.{AreHeadsOf}
+use Rattle.regex_lite_engine.specs.Walk.NumberedList.{IsEntry}
+use Rattle.regex_lite_engine.specs.Walk.Starts.{AreHeadsOf, AreListHeadsOf}
 use Rattle.regex_lite_engine.specs.Nfa.Layout.{whole_layout, whole_table}
 use Rattle.regex_lite_engine.specs.Nfa.Heads.{AreHeadsOfTree, AreSecondOfTree, NeverBegins}
+use Rattle.regex_lite_engine.specs.Nfa.ListHeads.{AreHeadsOfTrees}
 use Rattle.regex_lite_engine.specs.Nfa.Starts.{MayBegin}
 use Rattle.regex_lite_engine.specs.declared.nfa.heads.Heads.{Heads}
+use Rattle.regex_lite_engine.specs.declared.nfa.list_heads.ListHeads.{ListHeads}
 use Rattle.regex_lite_engine.specs.declared.nfa.starts.Starts.{Starts}
+use Rattle.regex_lite_engine.proofs.nfa.list_heads.IndexLemmas.{walkable}
+use Rattle.regex_lite_engine.proofs.nfa.list_heads.TreeLemmas.{left_out_matches, none_matches, there_is}
+use Rattle.regex_lite_engine.proofs.laws.several.PartLemmas.{name_in_pattern, InPattern, part_of_list, entry_of_part}
 use Rattle.regex_lite_engine.proofs.nfa.write.RenumberingLemmas.{whole_names, renumbered, starts as starts_there}
 use Rattle.regex_lite_engine.proofs.laws.LoopLemmas.{without_loops}
 use Rattle.regex_lite_engine.proofs.laws.PatternWayLemmas.{walk_match}
@@ -66,3 +74,49 @@ written_heads tree regular table start table_is start_is heads of_tree haystack 
     none : NeverBegins heads haystack i → (j : ℕ) → Matches haystack tree i j → ⊥
     none (inl off) j m = off (of_tree.first haystack i j m)
     none (inr off) j m = by_second heads.second of_tree.second off j m
+
+-- what the index of several trees tells is so of their places in a table
+pub listed_heads : (trees : List Tree) → AreRegular trees → (name : ℕ → Address)
+    (table : List (Place ℕ)) (entries : List ℕ) → IsRenumbered (side_by_side trees) name table
+    → AreEntries trees name table entries → length entries ≡ length trees → (heads : ListHeads)
+    → AreHeadsOfTrees trees heads → AreListHeadsOf table entries heads
+listed_heads trees regular name table entries written are all heads w = record {
+  count = w.count ∙ sym all;
+  walkable = walkable w.parts heads w.index (w.of_trees.all ∙ sym w.count);
+  any = λ haystack p never number entry is. (
+      let own = own_tree number entry is in
+      let part = own_part number own.0 own.1 in
+      dead number entry is haystack p
+      (none_matches w.parts heads.any part.0 number w.index.any part.1 own.0
+      (w.of_trees.each number own.0 part.0 own.1 part.1) haystack p never));
+  each = λ haystack p number entry is off. (
+      let own = own_tree number entry is in
+      let part = own_part number own.0 own.1 in
+      dead number entry is haystack p
+      (left_out_matches w.parts heads w.index part.0 number part.1
+      (omega (arith, slice_get_within trees number own.0 own.1, w.count)) own.0
+      (w.of_trees.each number own.0 part.0 own.1 part.1) haystack p off));
+}
+  where
+    own_tree : (number entry : ℕ) → IsEntry entries number entry
+        → (tree : Tree) × (slice_get trees number ≡ Some tree)
+        × IsNumberOf name table (start_of number) entry
+    own_tree number entry is = are.of_pattern number entry is
+
+    own_part : (number : ℕ) (tree : Tree) → slice_get trees number ≡ Some tree
+        → (part : Heads) × (slice_get w.parts number ≡ Some part)
+    own_part number tree there =
+        there_is w.parts number
+        (omega (arith, slice_get_within trees number tree there, w.of_trees.all))
+
+    dead : (number entry : ℕ) (is : IsEntry entries number entry) (haystack : Text) (i : ℕ)
+        → ((j : ℕ) → Matches haystack (are.of_pattern number entry is).0 i j → ⊥)
+        → IsDeadAt table haystack entry i
+    dead number entry is haystack i none =
+        let own = are.of_pattern number entry is in
+        dead_without_match own.0 haystack table entry
+        (name_in_pattern trees number own.0 own.1 name table written)
+        (InPattern trees number own.0 own.1 name table written)
+        (part_of_list trees number own.0 own.1 name table written)
+        (entry_of_part trees number own.0 own.1 name table written entry own.2)
+        (regular number own.0 own.1) i none

@@ -1,10 +1,9 @@
 -- Single places with numbers in the place of addresses.
 use Rattle.std.proofs.Common.{◌≡◌, refl, sym, ap, ◌∙◌, ℕ, Bool, true, false, List, [], ◌∷◌, map, Option, Some, None}
 use Rattle.regex_lite_syntax.specs.declared.class.ClassRange.{ClassRange}
-use Rattle.regex_lite_engine.specs.Graph.Places.{Condition, Place, with_arrows, go, choice, one_of, free}
+use Rattle.regex_lite_engine.specs.Graph.Places.{Condition, Place, with_arrows, go, choice, one_of, free, renamed, renamed_arrow}
 use Rattle.regex_lite_engine.specs.Graph.Addresses.{Address}
 use Rattle.regex_lite_engine.specs.Graph.Repetitions.{Content}
-use Rattle.regex_lite_engine.specs.Graph.Renumbered.{renamed, renamed_arrow}
 use Rattle.regex_lite_engine.specs.Graph.Stored.{LeadInto, LeadsInto}
 use Rattle.regex_lite_engine.proofs.nfa.write.NumberingLemmas.{Numbering, Inside, Stands, IsAt}
 

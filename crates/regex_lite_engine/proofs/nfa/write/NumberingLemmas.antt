@@ -1,9 +1,8 @@
 -- Numbers in the place of addresses, and that places in a row are what stands at their addresses.
 use Rattle.std.proofs.Common.{◌≡◌, ◌<◌, ◌≤◌, refl, sym, ap, subst, ◌∙◌, arith, ℕ, suc, ◌+◌, List, [], ◌∷◌, ◌++◌, length, append_assoc, Some}
-use Rattle.regex_lite_engine.specs.Graph.Places.{Place}
+use Rattle.regex_lite_engine.specs.Graph.Places.{Place, renamed}
 use Rattle.regex_lite_engine.specs.Graph.Addresses.{Address, part}
 use Rattle.regex_lite_engine.specs.Graph.Repetitions.{Content}
-use Rattle.regex_lite_engine.specs.Graph.Renumbered.{renamed}
 use Rattle.regex_lite_engine.specs.Graph.Stored.{LeadsInto}
 use Rattle.regex_lite_engine.specs.Nfa.Layout.{Fragment, before}
 use Rattle.regex_lite_engine.proofs.nfa.write.AddressLemmas.{in_part}

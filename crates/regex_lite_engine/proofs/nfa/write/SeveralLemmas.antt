@@ -8,13 +8,13 @@ use Rattle.std.proofs.lemmas.Option.{slice_get_within}
 use Rattle.regex_lite_syntax.specs.Tree.{Tree}
 use Rattle.regex_lite_syntax.specs.Tree.Regular.{IsRegular}
 use Rattle.regex_lite_syntax.proofs.ListLemmas.{same_head, same_tail}
-use Rattle.regex_lite_engine.specs.Graph.Places.{Arrow, Place, complete, with_arrows}
+use Rattle.regex_lite_engine.specs.Graph.Places.{Arrow, Place, complete, with_arrows, renamed, renamed_arrow}
 use Rattle.regex_lite_engine.specs.Graph.Addresses.{Address}
 use Rattle.regex_lite_engine.specs.Graph.WrittenOut.{written_out, start_address}
 use Rattle.regex_lite_engine.specs.Graph.PlaceCounts.{whole_places, whole_arrows}
 use Rattle.regex_lite_engine.specs.Graph.Stored.{LeadInto, LeadsInto, LeadsBelow}
-use Rattle.regex_lite_engine.specs.Graph.Renumbered.{renamed, renamed_arrow, arrow_count, arrows_of, IsRenumbered, IsNumberOf}
-use Rattle.regex_lite_engine.specs.Graph.SideBySide.{in_pattern, side_by_side, start_of, places_of_all, arrows_of_all, tries_of_all, AreEntries}
+use Rattle.regex_lite_engine.specs.Graph.Renumbered.{arrow_count, arrows_of, IsRenumbered, IsNumberOf}
+use Rattle.regex_lite_engine.specs.Graph.SideBySide.{in_pattern, side_by_side, start_of, places_of_all, arrows_of_all, AreEntries}
 use Rattle.regex_lite_engine.specs.Search.AnswerOfList.{HasTree}
 use Rattle.regex_lite_engine.specs.Nfa.Layout.{pattern_layout, pattern_table, patterns_table, patterns_entries}
 use Rattle.regex_lite_engine.proofs.laws.LeadsLemmas.{same_some}
@@ -253,17 +253,6 @@ located (tree ∷ trees) q less = elim (cases_lt q (whole_places tree)) [
 same_before : (trees : List Tree) (k l x y : ℕ) → k ≡ l → x ≡ y
     → before trees k + x ≡ before trees l + y
 same_before trees k l x y e f = ap (λ n. before trees n + x) e ∙ ap (λ n. before trees l + n) f
-
--- one try for each arrow, and one to enter each pattern
-pub tries_add_up : (trees : List Tree) → tries_of_all trees ≡ arrows_of_all trees + length trees
-tries_add_up [] = refl
-tries_add_up (tree ∷ trees) =
-    omega (
-      arith,
-      sum_by-cons (λ t. whole_arrows t + 1) tree trees,
-      sum_by-cons whole_arrows tree trees,
-      tries_add_up trees,
-    )
 
 module _ (trees : List Tree) (regular : (k : ℕ) (tree : Tree) → HasTree trees k tree → IsRegular tree)
   where

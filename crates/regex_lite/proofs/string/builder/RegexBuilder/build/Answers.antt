@@ -1,9 +1,8 @@
-use Rattle.std.proofs.Common.{inl, inr, refl}
+use Rattle.std.proofs.Common.{inr, refl}
 use Rattle.std.proofs.lemmas.Result.{err_from_is_err_and}
 use Rattle.regex_lite_syntax.specs.Errors.{kind_of}
 use Rattle.regex_lite_syntax.specs.Tree.Views.{tree_of}
 use Rattle.regex_lite_engine.specs.Graph.Size.{IsDueToTree}
-use Rattle.regex_lite.specs.Expression.{IsReadAs}
 use Rattle.regex_lite.proofs.string.AcceptanceLemmas.{builds_refused}
 use Rattle.regex_lite.proofs.string.builder.RegexBuilder.build.Goals as goal
 
@@ -11,13 +10,12 @@ pub returns-in_err-hir : goal.returns-in_err-hir
 returns-in_err-hir c =
     let left = err_from_is_err_and c.from_residual.result c.from_residual.ensures.1 in
     rw (left.1, left.2) (builds_refused c.args.self.now c.in_err-hir.field-0.0
-    (inl (rw (← c.self.view_is, ← c.as_str.ensures.value) c.in_err-hir.ensures.refused)))
+    c.in_err-hir.ensures.refused)
 
 pub returns-in_err-graph : goal.returns-in_err-graph
 returns-in_err-graph c =
     let left = err_from_is_err_and c.from_residual-in_err-graph.result c.from_residual-in_err-graph.ensures.1 in
-    let read : IsReadAs c.args.self.now (tree_of c.in_ok-hir.hir) =
-    rw (← c.self.view_is, ← c.as_str.ensures.value) c.in_ok-hir.ensures.tree in
+    let read = c.in_ok-hir.ensures.read in
     let says : IsDueToTree c.args.self.now.size_limit (tree_of c.in_ok-hir.hir) (kind_of c.in_err-graph.field-0.0) =
     rw (← c.self.view_is) c.in_err-graph.ensures.refused in
     rw (left.1, left.2) (builds_refused c.args.self.now c.in_err-graph.field-0.0
@@ -25,8 +23,7 @@ returns-in_err-graph c =
 
 pub returns : goal.returns
 returns c =
-    let read : IsReadAs c.args.self.now (tree_of c.in_ok-hir.hir) =
-    rw (← c.self.view_is, ← c.as_str.ensures.value) c.in_ok-hir.ensures.tree in
+    let read = c.in_ok-hir.ensures.read in
     record {
       ok = rw (c.in_ok-compiled.ensures.ok, c.in_ok-clone.ensures.cases, ← c.self.view_is) refl;
       accepted = (tree_of c.in_ok-hir.hir, read, rw (← c.self.view_is) c.in_ok-graph.ensures.fits);

@@ -1,5 +1,6 @@
-use Rattle.std.proofs.Common.{ap, chars}
+use Rattle.std.proofs.Common.{◌∙◌, ap, chars}
 use Rattle.regex_lite_syntax.specs.Grammar.{IsTree}
+use Rattle.regex_lite.specs.Compiled.{stored_groups}
 use Rattle.regex_lite.proofs.string.ToldLemmas.{groups_are, groups_told, outcome_of, slots_are}
 use Rattle.regex_lite.proofs.string.regex.Regex.captures_counted_at.Goals as goal
 
@@ -20,8 +21,8 @@ new-caps-requires c =
           (ap (λ compiled. compiled.graph) c.deref.ensures) c.in_ok-outcome.ensures.found
           c.in-Some.is,
     ) c.self.inside.compiled c.self.invariant given enough c.slots_with-slots.result.items
-    c.slots_with-slots.ensures c.in_ok-compiled.compiled
-    c.in_ok-compiled.ensures.cases
+    c.slots_with-slots.ensures c.of_regex-source.result
+    (c.of_regex-source.ensures ∙ ap stored_groups c.in_ok-clone.ensures.cases)
 
 pub returns-clause-found : goal.returns-clause-found
 returns-clause-found c =
@@ -40,8 +41,8 @@ returns-clause-found c =
           (ap (λ compiled. compiled.graph) c.deref.ensures) c.in_ok-outcome.ensures.found
           c.in-Some.is,
     ) c.self.inside.compiled c.self.invariant given enough c.slots_with-slots.result.items
-    c.slots_with-slots.ensures c.in_ok-compiled.compiled
-    c.in_ok-compiled.ensures.cases c.new-caps.result c.new-caps.ensures
+    c.slots_with-slots.ensures c.of_regex-source.result
+    (c.of_regex-source.ensures ∙ ap stored_groups c.in_ok-clone.ensures.cases) c.new-caps.result c.new-caps.ensures
 
 pub returns-clause-of_match : goal.returns-clause-of_match
 returns-clause-of_match c = record {

@@ -1,0 +1,10 @@
+use Rattle.regex_lite.specs.Searches.{AreGroupsOf, IsMatchOf}
+use Rattle.regex_lite.proofs.string.ListToldLemmas.{of_pattern}
+use Rattle.regex_lite.proofs.laws.list_answers_are_answers.Goals as goal
+
+pub returns : goal.returns
+returns c = λ list haystack start number. (
+  λ m told. of_pattern (λ tree. IsMatchOf haystack) list haystack start number m told,
+  λ groups told. of_pattern (λ tree. AreGroupsOf tree haystack) list haystack start number groups
+      told,
+)

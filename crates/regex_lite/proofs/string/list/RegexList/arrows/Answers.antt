@@ -1,0 +1,35 @@
+use Rattle.std.proofs.Common.{ap, arith}
+use Rattle.regex_lite_engine.specs.Graph.SideBySide.{places_of_all}
+use Rattle.regex_lite.specs.declared.string.list.compiled.CompiledList.{CompiledList}
+use Rattle.regex_lite.specs.RegexList.{AreTrees}
+use Rattle.regex_lite.proofs.string.ListBuildLemmas.{arrows_few_of_all, one_list}
+use Rattle.regex_lite.proofs.string.list.RegexList.arrows.Goals as goal
+
+pub returns-clause-few : goal.returns-clause-few
+returns-clause-few c = λ places (trees, given, counted).
+    let built = c.self.invariant in
+    let own : AreTrees c.args.self.now built.trees = rw (← c.self.view_is) built.given in
+    let same = ap places_of_all (one_list c.args.self.now trees built.trees given own) in
+    let graph = ap (λ (compiled : CompiledList). compiled.graph.arrows) c.deref.ensures in
+    omega (
+      arith,
+      c.arrows.ensures.same,
+      graph,
+      built.graph.arrows,
+      counted,
+      same,
+      arrows_few_of_all built.trees built.regular,
+    )
+
+pub returns-clause-bounded : goal.returns-clause-bounded
+returns-clause-bounded c =
+    let built = c.self.invariant in
+    let graph = ap (λ (compiled : CompiledList). compiled.graph.arrows) c.deref.ensures in
+    omega (
+      arith,
+      c.arrows.ensures.same,
+      graph,
+      built.graph.arrows,
+      built.fit,
+      arrows_few_of_all built.trees built.regular,
+    )

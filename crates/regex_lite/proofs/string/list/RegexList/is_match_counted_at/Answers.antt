@@ -1,0 +1,15 @@
+use Rattle.std.proofs.Common.{ap, subst, sym}
+use Rattle.regex_lite_engine.specs.Graph.StoredList.{IsGraphOfList}
+use Rattle.regex_lite.specs.declared.string.list.compiled.CompiledList.{CompiledList}
+use Rattle.regex_lite.specs.RegexList.{AreTrees}
+use Rattle.regex_lite.proofs.string.ListToldLemmas.{any_told}
+use Rattle.regex_lite.proofs.string.list.RegexList.is_match_counted_at.Goals as goal
+
+pub returns-clause-found : goal.returns-clause-found
+returns-clause-found c =
+    let built = c.self.invariant in
+    let given : AreTrees c.args.self.now built.trees = rw (← c.self.view_is) built.given in
+    let graph = ap (λ (compiled : CompiledList). compiled.graph) c.deref.ensures in
+    any_told c.args.self.now built.trees c.args.haystack.now c.args.start c.in_ok-told.told.0 given
+    (c.in_ok-told.ensures.found built.trees built.regular
+    (subst (IsGraphOfList built.trees) (sym graph) built.graph))

@@ -1,0 +1,9 @@
+use Rattle.std.proofs.Common.{map, take}
+use Rattle.regex_lite_syntax.specs.Tree.Views.{tree_of}
+use Rattle.regex_lite.specs.RegexList.{AreAcceptedAs}
+use Rattle.regex_lite.proofs.string.list.build.parse_all.Given as goal
+
+-- those so far are accepted
+abbrev pub invariant-loop-builder : goal.invariant-loop-builder
+invariant-loop-builder l =
+    AreAcceptedAs (take l.builder-index l.builders) (map tree_of l.hirs.items)

@@ -1,0 +1,7 @@
+use Rattle.std.proofs.Common.{◌≡◌, map, take}
+use Rattle.regex_lite.specs.Expression.{expression_of}
+use Rattle.regex_lite.proofs.string.list.build.patterns_of.Given as goal
+
+abbrev pub invariant-loop-builder : goal.invariant-loop-builder
+invariant-loop-builder l =
+    l.patterns.items ≡ map expression_of (take l.builder-index l.builders)

@@ -1,0 +1,41 @@
+-- What the answers of searches of a haystack are, and what is told of them, whatever is searched
+-- for.
+use Rattle.std.specs.Prelude.{◌≡◌, ◌≤◌, ◌<◌, ℕ, true, List, Option, Some, None, length}
+use Rattle.regex_lite_syntax.specs.Text.{Text}
+use Rattle.regex_lite_engine.specs.Search.Answer.{Found}
+use Rattle.regex_lite_engine.specs.Search.Offsets.{position_at}
+use Rattle.regex_lite.specs.MatchList.{is_empty_answer}
+
+-- what is found lies in the haystack, at or after the start of the search
+pub record IsWithin (haystack : Text) (s : ℕ) (found : Found) : Type 0 where
+  pub from : s ≤ found.start
+  pub ordered : found.start ≤ found.end
+  pub inside : found.end ≤ length haystack
+
+-- what the lists of answers rest on
+pub record AreLawful {A : Type 0} (found_of : A → Found) (haystack : Text)
+    (Answers : (s : ℕ) → Option A → Type 0) : Type 0 where
+  pub within : (s : ℕ) (answer : A) → Answers s (Some answer)
+      → IsWithin haystack s (found_of answer)
+  -- it is also found from any later position on up to its start
+  pub further : (s p : ℕ) (answer : A) → s ≤ p → p ≤ (found_of answer).start
+      → Answers s (Some answer) → Answers p (Some answer)
+  -- where there are answers, nothing is found behind the haystack's end
+  pub none_behind : (s p : ℕ) (answer : Option A) → Answers s answer → length haystack < p
+      → Answers p None
+  pub one : (s : ℕ) (a b : Option A) → Answers s a → Answers s b → a ≡ b
+
+-- what is told of the answer from position s on: nothing where nothing is found, and else what this
+-- says of the answer
+abbrev pub TellsOfAnswer : {A T : Type 0} → (Answers : (s : ℕ) → Option A → Type 0)
+    → (says : A → T → Type 0) → (s : ℕ) → Option T → Type 0
+TellsOfAnswer Answers says s None = Answers s None
+TellsOfAnswer {A} Answers says s (Some told) =
+    (answer : A) × Answers s (Some answer) × says answer told
+
+-- the answer from this offset on is empty there
+abbrev pub IsEmptyAnswerFrom : {A : Type 0} → (found_of : A → Found)
+    → (Answers : (s : ℕ) → Option A → Type 0) → (haystack : List ℕ) → (at : ℕ) → Type 0
+IsEmptyAnswerFrom {A} found_of Answers haystack at =
+    (answer : A) × Answers (position_at haystack at) (Some answer)
+    × (is_empty_answer found_of (position_at haystack at) (Some answer) ≡ true)

@@ -1,0 +1,80 @@
+-- Laws of what searches for several patterns tell.
+use Rattle.std.specs.Prelude.{◌≡◌, ◌↔◌, ℕ, List, [], ◌∷◌, Bool, IsTrue, Option, Some, None, is_some, option_map, option_and_then, slice_get}
+use Rattle.regex_lite_engine.specs.declared.pikevm.steps.Steps.{Steps}
+use Rattle.regex_lite.specs.declared.string.matches.Match.{Match}
+use Rattle.regex_lite.specs.Expression.{Expression, IsAccepted}
+use Rattle.regex_lite.specs.Groups.{Groups, group_span}
+use Rattle.regex_lite.specs.MatchViews.{span_of_match}
+use Rattle.regex_lite.specs.RegexList.{AreAccepted}
+use Rattle.regex_lite.specs.RegexListSearches.{AnyMatches, IsWithinListCost, TellsGroupsOfList, TellsMatchOfList}
+use Rattle.regex_lite.specs.Searches.{IsWithinCost, MatchesFrom, TellsGroups, TellsMatch}
+use Rattle.regex_lite.specs.Settings.{Settings}
+
+-- what is told of the only pattern of a list
+abbrev pub of_the_only : {A : Type 0} → Option A → Option (ℕ × A)
+of_the_only told = option_map (λ own. (0, own)) told
+
+-- the list tells what its only pattern tells, and nothing else
+pub record TellsAlike {A : Type 0} (alone : Option A → Type 0) (listed : Option (ℕ × A) → Type 0)
+    : Type 0 where
+  pub same : (told : Option A) → alone told ↔ listed (of_the_only told)
+  pub only : (told : Option (ℕ × A)) → listed told → (own : Option A) × (told ≡ of_the_only own)
+
+-- each search of a list of one pattern answers as that of the pattern's regex, within the same cost
+pub record AnswersAsItsRegex (re : Expression) (haystack : List ℕ) (start : ℕ) : Type 0 where
+  pub is_match : MatchesFrom re haystack start ↔ AnyMatches (re ∷ []) haystack start
+  pub match : TellsAlike (TellsMatch re haystack start) (TellsMatchOfList (re ∷ []) haystack start)
+  pub groups : TellsAlike (TellsGroups re haystack start)
+      (TellsGroupsOfList (re ∷ []) haystack start)
+  pub cost : (steps : Steps)
+      → IsWithinCost re haystack start steps ↔ IsWithinListCost (re ∷ []) haystack start steps
+
+abbrev pub ListOfOneAnswersAsItsRegex : Type 0
+ListOfOneAnswersAsItsRegex =
+    (re : Expression) (haystack : List ℕ) (start : ℕ) → AnswersAsItsRegex re haystack start
+
+-- it is accepted exactly where the pattern is
+abbrev pub ListOfOneIsAcceptedAsItsRegex : Type 0
+ListOfOneIsAcceptedAsItsRegex =
+    (settings : Settings) → IsAccepted settings ↔ AreAccepted (settings ∷ [])
+
+-- no search of an empty list finds anything, and each tries no place
+pub record FindsNothing (haystack : List ℕ) (start : ℕ) : Type 0 where
+  pub is_match : AnyMatches [] haystack start → ⊥
+  pub match : (told : Option (ℕ × Match))
+      → TellsMatchOfList [] haystack start told ↔ (told ≡ None)
+  pub groups : (told : Option (ℕ × Groups))
+      → TellsGroupsOfList [] haystack start told ↔ (told ≡ None)
+  pub cost : (steps : Steps) → IsWithinListCost [] haystack start steps → steps.tried ≡ 0
+
+abbrev pub EmptyListFindsNothing : Type 0
+EmptyListFindsNothing = (haystack : List ℕ) (start : ℕ) → FindsNothing haystack start
+
+-- what is found is what the search for the pattern with the number tells
+abbrev pub ListAnswersAreAnswers : Type 0
+ListAnswersAreAnswers =
+    (list : List Expression) (haystack : List ℕ) (start number : ℕ)
+    → ((m : Match) → TellsMatchOfList list haystack start (Some (number, m))
+    → (re : Expression) × (slice_get list number ≡ Some re) × TellsMatch re haystack start (Some m))
+    × ((groups : Groups) → TellsGroupsOfList list haystack start (Some (number, groups))
+    → (re : Expression) × (slice_get list number ≡ Some re)
+    × TellsGroups re haystack start (Some groups))
+
+-- a search for whether one of the patterns matches, one for the match and one for its groups agree
+pub record AgreeOnList (found : Bool) (m : Option (ℕ × Match)) (groups : Option (ℕ × Groups))
+    : Type 0 where
+  pub with_match : is_some m ≡ found
+  pub with_groups : is_some groups ≡ found
+  -- both are of one pattern
+  pub number : option_map (λ told. told.0) m ≡ option_map (λ told. told.0) groups
+  -- the match is group 0
+  pub whole : option_map (λ told. span_of_match told.1) m
+      ≡ option_and_then (λ told. group_span told.1 0) groups
+
+-- those for one list, in one haystack and from one offset on, do
+abbrev pub ListSearchesAgree : Type 0
+ListSearchesAgree =
+    (list : List Expression) (haystack : List ℕ) (start : ℕ) (found : Bool)
+    (m : Option (ℕ × Match)) (groups : Option (ℕ × Groups))
+    → (IsTrue found ↔ AnyMatches list haystack start) → TellsMatchOfList list haystack start m
+    → TellsGroupsOfList list haystack start groups → AgreeOnList found m groups

@@ -1,0 +1,58 @@
+-- What searches for several patterns tell, by offsets.
+use Rattle.std.specs.Prelude.{◌≡◌, ℕ, List, Option, Some, None, chars, slice_get}
+use Rattle.regex_lite_syntax.specs.Text.{Text}
+use Rattle.regex_lite_syntax.specs.Tree.{Tree}
+use Rattle.regex_lite_engine.specs.declared.pikevm.steps.Steps.{Steps}
+use Rattle.regex_lite_engine.specs.Search.Answer.{Found}
+use Rattle.regex_lite_engine.specs.Search.AnswerOfList.{AnyMatchesFrom, IsAnswerOfList, IsFoundInList}
+use Rattle.regex_lite_engine.specs.Search.Offsets.{search_start}
+use Rattle.regex_lite_engine.specs.Search.Outcomes.{HasCostOfList}
+use Rattle.regex_lite.specs.declared.string.matches.Match.{Match}
+use Rattle.regex_lite.specs.Expression.{Expression}
+use Rattle.regex_lite.specs.Groups.{Groups}
+use Rattle.regex_lite.specs.RegexList.{OfTrees}
+use Rattle.regex_lite.specs.Searches.{AreGroupsOf, AreOfMatch, IsMatchOf}
+
+-- one of the patterns matches from some position at or after this offset
+abbrev pub AnyMatches : List Expression → (haystack : List ℕ) → (start : ℕ) → Type 0
+AnyMatches list haystack start =
+    OfTrees list (λ trees. AnyMatchesFrom trees (chars haystack) (search_start haystack start))
+
+-- what is told of the answer of a search from position s on: nothing where there is none, and else
+-- the number of the pattern, and what this says of what is found of its tree
+abbrev pub TellsOfList : {A : Type 0} → (says : Tree → Found → A → Type 0)
+    → List Tree → Text → (s : ℕ) → Option (ℕ × A) → Type 0
+TellsOfList says trees haystack s None = IsAnswerOfList trees haystack s None
+TellsOfList says trees haystack s (Some told) =
+    (found : Found) × (answer : IsFoundInList trees haystack s told.0 found)
+    × says answer.tree found told.1
+
+-- so of a search for the patterns from this offset on
+abbrev pub TellsAnswerOfList : {A : Type 0} → (says : Tree → Found → A → Type 0)
+    → List Expression → (haystack : List ℕ) → (start : ℕ) → Option (ℕ × A) → Type 0
+TellsAnswerOfList says list haystack start told =
+    OfTrees list (λ trees.
+    TellsOfList says trees (chars haystack) (search_start haystack start) told)
+
+-- what is told is the match, with the number of its pattern
+abbrev pub TellsMatchOfList : List Expression → (haystack : List ℕ) → (start : ℕ)
+    → Option (ℕ × Match) → Type 0
+TellsMatchOfList list haystack start told =
+    TellsAnswerOfList (λ tree. IsMatchOf haystack) list haystack start told
+
+-- what is told are the groups, with the number of their pattern
+abbrev pub TellsGroupsOfList : List Expression → (haystack : List ℕ) → (start : ℕ)
+    → Option (ℕ × Groups) → Type 0
+TellsGroupsOfList list haystack start told =
+    TellsAnswerOfList (λ tree. AreGroupsOf tree haystack) list haystack start told
+
+-- these are the groups of a match of the pattern with this number
+pub record AreOfPattern (list : List Expression) (told : ℕ × Groups) : Type 0 where
+  pub re : Expression
+  pub numbered : slice_get list told.0 ≡ Some re
+  pub of_match : AreOfMatch re told.1
+
+-- the search did no more than the places and the arrows of the patterns written out allow
+abbrev pub IsWithinListCost : List Expression → (haystack : List ℕ) → (start : ℕ) → Steps → Type 0
+IsWithinListCost list haystack start steps =
+    OfTrees list (λ trees. HasCostOfList trees haystack start steps)

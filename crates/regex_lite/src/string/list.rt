@@ -1,0 +1,138 @@
+//! Several patterns that are searched for at once.
+ghost use Rattle.std.specs.Prelude.{◌≡◌, ◌↔◌, ◌≤◌, ◌<◌, ◌*◌, ◌^◌, [], ℕ, IsTrue, length, map, option_map, slice_get, ⊤};
+ghost use Rattle.regex_lite_engine.specs.Graph.SideBySide.{arrows_of_all, places_of_all};
+ghost use Rattle.regex_lite.specs.RegexList.{BuildsList, OfTrees};
+ghost use Rattle.regex_lite.specs.Settings.{default_settings};
+
+mod build;
+pub(super) mod builder;
+pub(super) mod compiled;
+mod counted;
+mod group_search;
+mod search;
+
+use crate::owner::Shared;
+use build::default_builders;
+use compiled::CompiledList;
+use regex_lite_syntax::Error;
+use std::alloc::{AllocError, Global};
+use std::fmt;
+use std::marker::Model;
+
+/// Several patterns that are ready to be searched for at once. They are numbered from 0 on, in
+/// their order.
+///
+/// A search goes over the haystack once, whatever the number of patterns. It tells the match that
+/// starts first, and of the patterns that match there the one with the lowest number.
+///
+/// Clones share what was built, so a clone costs little. It always succeeds.
+#[derive(Drop)]
+pub struct RegexList {
+    alloc: Global,
+    compiled: Shared<CompiledList>,
+}
+
+impl Model for RegexList {
+    ghost use Rattle.std.specs.Prelude.{List};
+    ghost use Rattle.regex_lite.specs.CompiledList.{IsBuiltList};
+    ghost use Rattle.regex_lite.specs.Expression.{Expression};
+
+    ghost Value = { List Expression };
+
+    ghost view = { λ list. list.compiled.patterns.items };
+
+    ghost invariant = { λ list. IsBuiltList list.compiled };
+}
+
+impl RegexList {
+    /// The list of these patterns, each under the default settings. It may be empty, and a pattern
+    /// may stand in it twice.
+    ///
+    /// ```
+    /// let list = RegexList::new(alloc, &["samwise", "sam"])?;
+    /// list.len(); // 2
+    /// list.as_str(1); // Some("sam")
+    /// ```
+    ///
+    /// The test `tests::examples::lists::patterns` runs this example.
+    ///
+    /// # Errors
+    ///
+    /// Those of [`Regex::new`](crate::Regex::new) for the first pattern that is refused by itself.
+    /// Each pattern has the size limit for itself. Where none is refused, `Places` if they have
+    /// 2^32 places or more together. `Memory` where a growth is refused. All patterns are read and
+    /// their places counted before any is written out.
+    pub fn new(alloc: Global, patterns: &[&str]) -> Result<RegexList, Error>
+        ensures { BuildsList
+            (map (λ pattern. default_settings pattern.now) patterns.now) result }
+    {
+        let builders = default_builders(alloc, patterns)?;
+        RegexList::build(alloc, &builders)
+    }
+
+    /// How many patterns there are.
+    pub fn len(&self) -> usize
+        ensures { result ≡ length self.now }
+    {
+        self.compiled.patterns.len()
+    }
+
+    /// Whether there is no pattern.
+    pub fn is_empty(&self) -> bool
+        ensures { IsTrue result ↔ (self.now ≡ []) }
+    {
+        self.compiled.patterns.is_empty()
+    }
+
+    /// The pattern with this number, if there is one.
+    pub fn as_str(&self, i: usize) -> Option<&str>
+        ensures { option_map (λ text. text.now) result
+            ≡ option_map (λ re. re.pattern) (slice_get self.now i) }
+    {
+        let pattern = self.compiled.patterns.get(i)?;
+        Some(pattern.text.as_str())
+    }
+
+    /// How many places the patterns have together when they are written out. They are fewer than
+    /// 2^32.
+    pub fn places(&self) -> usize
+        ensures counted { OfTrees self.now (λ trees. result ≡ places_of_all trees) }
+        ensures bounded { result < 2 ^ 32 }
+    {
+        self.compiled.graph.places()
+    }
+
+    /// How many arrows lead from place to place in the patterns written out. They are at most twice
+    /// the places.
+    pub fn arrows(&self) -> usize
+        ensures counted { OfTrees self.now (λ trees. result ≡ arrows_of_all trees) }
+        ensures few { (places : ℕ) → OfTrees self.now (λ trees. places ≡ places_of_all trees)
+            → result ≤ 2 * places }
+        ensures bounded { result < 2 ^ 33 }
+    {
+        self.compiled.graph.arrows()
+    }
+}
+
+impl Clone for RegexList {
+    ghost is_clone = { λ old new. new ≡ old };
+
+    ghost is_infallible = { λ _. ⊤ };
+
+    /// An equal list. It takes no memory, and is never refused.
+    fn clone(&self) -> Result<RegexList, AllocError> {
+        Ok(RegexList {
+            alloc: self.alloc,
+            compiled: self.compiled.clone()?,
+        })
+    }
+}
+
+/// Writes the patterns as a list, the only field of `RegexList`.
+impl fmt::Debug for RegexList {
+    fn fmt<W: fmt::Write>(&self, f: &mut fmt::Formatter<W>) -> fmt::Result {
+        f.debug_tuple("RegexList")
+            .field(&self.compiled.patterns)
+            .finish()
+    }
+}

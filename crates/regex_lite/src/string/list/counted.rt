@@ -1,0 +1,102 @@
+//! Searches for several patterns that tell what they cost.
+ghost use Rattle.std.specs.Prelude.{◌≡◌, ◌<◌, ◌↔◌, IfOk, IfErr, IfSome, IsTrue};
+ghost use Rattle.regex_lite_syntax.specs.Errors.{out_of_memory};
+ghost use Rattle.regex_lite.specs.RegexListSearches.{AnyMatches, AreOfPattern, IsWithinListCost, TellsGroupsOfList, TellsMatchOfList};
+ghost use Rattle.regex_lite.specs.Searches.{CanStartAt};
+
+use crate::string::captures::Captures;
+use crate::string::list::RegexList;
+use crate::string::matches::Match;
+use crate::string::slots::{slots_with, whole_slots};
+use crate::string::source::Source;
+use regex_lite_engine::{Outcome, Steps};
+use regex_lite_syntax::Error;
+
+/// Each search tries places of the patterns written out at most so often: their arrows and their
+/// number together, times one more than the characters from the start to the haystack's end. It
+/// enters places at most so often: the places, times one more than those characters.
+/// [`RegexList::places`], [`RegexList::arrows`] and [`RegexList::len`] tell how many there are. A
+/// search from above the length tries none, and one that finds something has entered a place.
+impl RegexList {
+    /// [`RegexList::is_match_at`], and what the search cost.
+    ///
+    /// Condition: the start is above the haystack's length or on a character boundary.
+    ///
+    /// # Errors
+    ///
+    /// `Memory` where a growth is refused.
+    pub fn is_match_counted_at(&self, haystack: &str, start: usize) -> Result<(bool, Steps), Error>
+        requires { CanStartAt haystack.now start }
+        ensures found { IfOk result
+            (λ told. IsTrue told.0 ↔ AnyMatches self.now haystack.now start) }
+        ensures cost { IfOk result (λ told. IsWithinListCost self.now haystack.now start told.1) }
+        ensures entered { IfOk result (λ told. IsTrue told.0 → 0 < told.1.entered) }
+        ensures refused { IfErr result (λ error. error ≡ out_of_memory) }
+    {
+        let graph = &self.compiled.graph;
+        let told = graph.search_any(self.alloc, haystack, start)?;
+        Ok(told)
+    }
+
+    /// [`RegexList::find_at`], and what the search cost.
+    ///
+    /// Condition: the start is above the haystack's length or on a character boundary.
+    ///
+    /// # Errors
+    ///
+    /// `Memory` where a growth is refused.
+    pub fn find_counted_at<'h>(
+        &self,
+        haystack: &'h str,
+        start: usize,
+    ) -> Result<(Option<(usize, Match<'h>)>, Steps), Error>
+        requires { CanStartAt haystack.now start }
+        ensures found { IfOk result (λ told. TellsMatchOfList self.now haystack.now start told.0) }
+        ensures cost { IfOk result (λ told. IsWithinListCost self.now haystack.now start told.1) }
+        ensures entered { IfOk result (λ told. IfSome told.0 (λ _. 0 < told.1.entered)) }
+        ensures refused { IfErr result (λ error. error ≡ out_of_memory) }
+    {
+        let graph = &self.compiled.graph;
+        let (told, steps) = graph.search(self.alloc, haystack, start, 0)?;
+        let Some((number, outcome)) = told else {
+            return Ok((None, steps));
+        };
+        let found = Match::new(haystack, outcome.start, outcome.end);
+        Ok((Some((number, found)), steps))
+    }
+
+    /// [`RegexList::captures_at`], and what the search cost.
+    ///
+    /// Condition: the start is above the haystack's length or on a character boundary.
+    ///
+    /// # Errors
+    ///
+    /// `Memory` where a growth is refused.
+    pub fn captures_counted_at<'h>(
+        &self,
+        haystack: &'h str,
+        start: usize,
+    ) -> Result<(Option<(usize, Captures<'h>)>, Steps), Error>
+        requires { CanStartAt haystack.now start }
+        ensures found { IfOk result
+            (λ told. TellsGroupsOfList self.now haystack.now start told.0) }
+        ensures of_match { IfOk result (λ told. IfSome told.0 (AreOfPattern self.now)) }
+        ensures cost { IfOk result (λ told. IsWithinListCost self.now haystack.now start told.1) }
+        ensures entered { IfOk result (λ told. IfSome told.0 (λ _. 0 < told.1.entered)) }
+        ensures refused { IfErr result (λ error. error ≡ out_of_memory) }
+    {
+        let count = self.compiled.kept_slots;
+        let whole = whole_slots(self.alloc, count)?;
+        let graph = &self.compiled.graph;
+        let (told, steps) = graph.search(self.alloc, haystack, start, count)?;
+        let Some((number, Outcome { start, end, slots })) = told else {
+            return Ok((None, steps));
+        };
+        let mut slots = slots_with(slots, whole, (start, end));
+        let source = Source::of_listed(self.compiled.clone()?, number);
+        // A search keeps slots for the pattern with the most groups. This one may have fewer.
+        slots.truncate(source.slots());
+        let caps = Captures::new(haystack, slots, source);
+        Ok((Some((number, caps)), steps))
+    }
+}

@@ -1,0 +1,61 @@
+//! Searches for the groups of a match of one of several patterns.
+ghost use Rattle.std.specs.Prelude.{◌≡◌, IfOk, IfErr, IfSome};
+ghost use Rattle.regex_lite_syntax.specs.Errors.{out_of_memory};
+ghost use Rattle.regex_lite.specs.RegexListSearches.{AreOfPattern, TellsGroupsOfList};
+ghost use Rattle.regex_lite.specs.Searches.{CanStartAt};
+
+use crate::string::captures::Captures;
+use crate::string::list::RegexList;
+use regex_lite_syntax::Error;
+
+impl RegexList {
+    /// The groups of the match that [`RegexList::find`] answers, with the number of its pattern.
+    ///
+    /// They are the groups of that pattern alone, by its own indices and names.
+    ///
+    /// ```
+    /// let list = RegexList::new(alloc, &["(?<key>[a-z]+)=([0-9]+)", "#(?<note>.*)"])?;
+    /// if let Some((number, caps)) = list.captures("#width")? {
+    ///     number; // 1
+    ///     caps.len(); // 2
+    ///     caps.name("note"); // the match of "width"
+    /// }
+    /// ```
+    ///
+    /// The test `tests::examples::lists::captured` runs this example.
+    ///
+    /// # Errors
+    ///
+    /// `Memory` where a growth is refused.
+    pub fn captures<'h>(&self, haystack: &'h str) -> Result<Option<(usize, Captures<'h>)>, Error>
+        ensures found { IfOk result (λ found. TellsGroupsOfList self.now haystack.now 0 found) }
+        ensures of_match { IfOk result (λ found. IfSome found (AreOfPattern self.now)) }
+        ensures refused { IfErr result (λ error. error ≡ out_of_memory) }
+    {
+        self.captures_at(haystack, 0)
+    }
+
+    /// The groups of the match that [`RegexList::find_at`] answers, with the number of its pattern.
+    ///
+    /// Looks see the whole haystack, as they do in [`RegexList::is_match_at`].
+    ///
+    /// Condition: the start is above the haystack's length or on a character boundary.
+    ///
+    /// # Errors
+    ///
+    /// `Memory` where a growth is refused.
+    pub fn captures_at<'h>(
+        &self,
+        haystack: &'h str,
+        start: usize,
+    ) -> Result<Option<(usize, Captures<'h>)>, Error>
+        requires { CanStartAt haystack.now start }
+        ensures found { IfOk result
+            (λ found. TellsGroupsOfList self.now haystack.now start found) }
+        ensures of_match { IfOk result (λ found. IfSome found (AreOfPattern self.now)) }
+        ensures refused { IfErr result (λ error. error ≡ out_of_memory) }
+    {
+        let (found, _) = self.captures_counted_at(haystack, start)?;
+        Ok(found)
+    }
+}

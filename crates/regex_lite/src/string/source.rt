@@ -1,0 +1,72 @@
+//! What the groups of a match share with the regex, or with the list of patterns, that found it.
+ghost use Rattle.std.specs.Prelude.{◌≡◌, ◌*◌, ◌<◌, length};
+ghost use Rattle.regex_lite.specs.Compiled.{stored_groups};
+ghost use Rattle.regex_lite.specs.CompiledList.{groups_at};
+
+use crate::owner::Shared;
+use crate::string::compiled::Compiled;
+use crate::string::list::compiled::CompiledList;
+use std::marker::Model;
+use std::rc::RcStr;
+
+/// What found a match: a regex, or the pattern of a list that has this number.
+#[derive(Drop)]
+enum Finder {
+    Regex(Shared<Compiled>),
+    Listed(Shared<CompiledList>, usize),
+}
+
+/// What tells the names of the groups of one pattern.
+#[derive(Drop)]
+pub(super) struct Source {
+    finder: Finder,
+}
+
+impl Model for Source {
+    ghost use Rattle.regex_lite_engine.specs.Graph.StoredList.{StoredGroups};
+    ghost use Rattle.regex_lite.specs.CompiledList.{IsThere, groups_from};
+
+    ghost Value = { StoredGroups };
+
+    ghost view = { λ source. groups_from source.finder };
+
+    ghost invariant = { λ source. IsThere source.finder };
+}
+
+impl Source {
+    /// That of a regex.
+    pub fn of_regex(compiled: Shared<Compiled>) -> Source
+        ensures { result ≡ stored_groups compiled }
+    {
+        Source {
+            finder: Finder::Regex(compiled),
+        }
+    }
+
+    /// That of the pattern with this number.
+    pub fn of_listed(list: Shared<CompiledList>, number: usize) -> Source
+        requires { number < length list.graph.groups }
+        ensures { result ≡ groups_at list.graph.groups number }
+    {
+        Source {
+            finder: Finder::Listed(list, number),
+        }
+    }
+
+    /// The names of the groups by index, group 0 first.
+    pub fn capture_names(&self) -> &[Option<RcStr>]
+        ensures { result.now ≡ self.now.capture_names }
+    {
+        match &self.finder {
+            Finder::Regex(compiled) => compiled.graph.capture_names(),
+            Finder::Listed(list, number) => list.graph.groups(*number).capture_names(),
+        }
+    }
+
+    /// How many slots the groups have: two each.
+    pub fn slots(&self) -> usize
+        ensures { result ≡ 2 * length self.now.capture_names }
+    {
+        2 * self.capture_names().len()
+    }
+}

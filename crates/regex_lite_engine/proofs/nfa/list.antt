@@ -1,0 +1,3 @@
+-- lemmas that several proofs here share
+pub mod GroupLemmas
+pub mod TableLemmas

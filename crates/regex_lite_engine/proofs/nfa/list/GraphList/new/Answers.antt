@@ -1,0 +1,69 @@
+use Rattle.std.proofs.Common.{◌≡◌, ◌<◌, ◌^◌, ◌∙◌, ap, sym, arith, length, map}
+use Rattle.regex_lite_syntax.specs.Tree.Views.{tree_of}
+use Rattle.regex_lite_engine.specs.Graph.Renumbered.{arrows_of}
+use Rattle.regex_lite_engine.specs.Graph.SideBySide.{places_of_all}
+use Rattle.regex_lite_engine.specs.Graph.Stored.{StoredTable, places_of}
+use Rattle.regex_lite_engine.specs.Nfa.Layout.{patterns_table}
+use Rattle.regex_lite_engine.proofs.nfa.list.TableLemmas.{closed, name, written, entered, entries_inside, entry_for_each, few_entries}
+use Rattle.regex_lite_engine.proofs.nfa.starts.WayLemmas.{listed_heads}
+use Rattle.regex_lite_engine.proofs.nfa.write.SeveralLemmas.{arrows_add_up}
+use Rattle.regex_lite_engine.proofs.nfa.list.GraphList.new.Goals as goal
+
+pub write_all-requires-clause-slots : goal.write_all-requires-clause-slots
+write_all-requires-clause-slots c = λ k d less. (c.requires.fit k d less).1.slots_fit
+
+pub new-table-requires-clause-closed : goal.new-table-requires-clause-closed
+new-table-requires-clause-closed c =
+    let trees = map tree_of c.args.hirs.now in
+    let totals = c.in_ok-totals.ensures.ok in
+    let few : places_of_all trees < 2 ^ 32 = omega (arith, totals.places) in
+    closed trees c.requires.regular c.in_ok-places.places.items c.in_ok-places.ensures.written
+    c.in_ok-totals.totals.arrows c.in_ok-totals.totals.reading few totals.arrows totals.reading
+
+pub new-table-requires-clause-each_arrow : goal.new-table-requires-clause-each_arrow
+new-table-requires-clause-each_arrow c =
+    ap arrows_of c.in_ok-places.ensures.written
+    ∙ arrows_add_up (map tree_of c.args.hirs.now) 0 ∙ sym c.in_ok-totals.ensures.ok.arrows
+
+pub invariant_of-result : goal.invariant_of-result
+invariant_of-result c =
+    let trees = map tree_of c.args.hirs.now in
+    let regular = c.requires.regular in
+    let places = c.new-table.result.places in
+    let entries = c.in_ok-places.entries.items in
+    let entries_are = c.in_ok-places.ensures.entries in
+    let table_is : places_of c.new-table.result ≡ patterns_table trees 0
+    = ap places_of c.new-table.ensures ∙ c.in_ok-places.ensures.written in (
+      entries_inside trees regular places table_is entries entries_are,
+      omega (
+        arith,
+        few_entries trees regular places table_is entries entries_are,
+        c.in_ok-totals.ensures.ok.places,
+      ),
+      listed_heads trees regular (name trees regular places table_is)
+          (places_of c.new-table.result) entries (written trees regular places table_is)
+          (entered trees regular places table_is entries entries_are)
+          (ap length entries_are ∙ entry_for_each trees 0) c.in_ok-heads.heads
+          c.in_ok-heads.ensures.ok,
+    )
+
+pub returns-clause-ok : goal.returns-clause-ok
+returns-clause-ok c =
+    let trees = map tree_of c.args.hirs.now in
+    let regular = c.requires.regular in
+    let places = c.new-table.result.places in
+    let entries = c.in_ok-places.entries.items in
+    let entries_are = c.in_ok-places.ensures.entries in
+    let table_is : places_of c.new-table.result ≡ patterns_table trees 0
+    = ap places_of c.new-table.ensures ∙ c.in_ok-places.ensures.written in
+    record {
+      name = name trees regular places table_is;
+      written = written trees regular places table_is;
+      entries = entered trees regular places table_is entries entries_are;
+      each_entry = ap length entries_are ∙ entry_for_each trees 0;
+      places = ap (λ (t : StoredTable). length t.places) c.new-table.ensures
+          ∙ c.in_ok-places.ensures.length;
+      arrows = ap (λ (t : StoredTable). t.arrows) c.new-table.ensures
+          ∙ c.in_ok-totals.ensures.ok.arrows;
+      each_arrow = ap arrows_of table_is ∙ arrows_add_up trees 0;
+    }

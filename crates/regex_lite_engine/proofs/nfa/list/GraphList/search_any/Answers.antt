@@ -1,0 +1,63 @@
+use Rattle.std.proofs.Common.{rules, length, IsTrue, ◌<◌, ◌^◌, ◌+◌, ◌↔◌, ◌∙◌, ap, subst, sym, arith}
+use Rattle.std.specs.Prelude.{chars, is_some}
+use Rattle.regex_lite_engine.specs.Graph.Renumbered.{arrows_of}
+use Rattle.regex_lite_engine.specs.Graph.Stored.{places_of}
+use Rattle.regex_lite_engine.specs.Graph.StoredList.{StoredList, table_of_list}
+use Rattle.regex_lite_engine.specs.Search.Bounds.{IsBoundedBy, characters_left}
+use Rattle.regex_lite_engine.specs.Search.AnswerOfList.{AnyMatchesFrom}
+use Rattle.regex_lite_engine.specs.Search.Offsets.{position_at, search_start}
+use Rattle.regex_lite_engine.specs.Walk.Outcomes.{IsNumberedEndOf, IsCountable, IsFresh, CanCount}
+use Rattle.regex_lite_engine.specs.Walk.Turns.{best_of}
+use Rattle.regex_lite_engine.proofs.pikevm.ListOutcomeLemmas.{cost_of_list, any_told}
+use Rattle.regex_lite_engine.proofs.pikevm.OutcomeLemmas.{can_count}
+use Rattle.regex_lite_engine.proofs.nfa.list.GraphList.search_any.Goals as goal
+
+pub cache_for-requires : goal.cache_for-requires
+cache_for-requires c =
+    let some = c.len.ensures.places (omega (arith, c.if-len-eq0.false)) in
+    subst (λ places. 0 < length places) (ap (λ t. t.places) (sym c.table.ensures.same)) some
+
+pub run_shortest-requires-clause-fresh : goal.run_shortest-requires-clause-fresh
+run_shortest-requires-clause-fresh c =
+    subst (λ (list : StoredList). IsFresh (table_of_list list) c.in_ok-cache.cache)
+    (sym c.in_ok-patterns.ensures.list)
+    (subst (λ table. IsFresh table c.in_ok-cache.cache) (ap places_of c.table.ensures.same)
+    c.in_ok-cache.ensures.fresh)
+
+pub run_shortest-requires-clause-counts : goal.run_shortest-requires-clause-counts
+run_shortest-requires-clause-counts c =
+    let haystack = c.args.haystack.now in
+    let list = c.args.self.now in
+    let short : length haystack < 2 ^ 63 = search rules in
+    let few : length list.entries < 2 ^ 32 = omega (arith, c.len.ensures.few, c.len.ensures.same) in
+    subst (λ (l : StoredList). CanCount (table_of_list l) (length l.entries)
+    (characters_left (chars haystack) (position_at haystack c.args.start)))
+    (sym c.in_ok-patterns.ensures.list)
+    (can_count (table_of_list list) haystack (position_at haystack c.args.start)
+    c.utf8.haystack short (subst IsCountable (ap places_of c.table.ensures.same)
+    c.in_ok-cache.ensures.countable) (length list.entries) few)
+
+pub returns-clause-found : goal.returns-clause-found
+returns-clause-found c = λ trees regular is.
+    let list = c.args.self.now in
+    let haystack = c.args.haystack.now in
+    let best = best_of c.run_shortest.new.cache.best in
+    let found = subst (λ (l : StoredList). IsNumberedEndOf (table_of_list l) (chars haystack)
+    l.entries (position_at haystack c.args.start) best)
+    c.in_ok-patterns.ensures.list c.run_shortest.ensures.found in
+    let told = any_told trees list is haystack c.args.start
+    (omega (arith, c.if-start-haystack.false)) regular best found in
+    subst (λ found. IsTrue found
+    ↔ AnyMatchesFrom trees (chars haystack) (search_start haystack c.args.start))
+    (sym (c.is_some.ensures ∙ ap is_some c.end.ensures)) told
+
+pub returns-clause-cost : goal.returns-clause-cost
+returns-clause-cost c = λ trees is.
+    let haystack = c.args.haystack.now in
+    let steps = c.run_shortest.new.cache.walk.steps in
+    cost_of_list trees c.args.self.now is haystack c.args.start
+    (omega (arith, c.if-start-haystack.false)) steps
+    (subst (λ (l : StoredList). IsBoundedBy (length (table_of_list l))
+    (arrows_of (table_of_list l) + length l.entries) (chars haystack)
+    (position_at haystack c.args.start) steps.tried steps.entered steps.looked)
+    c.in_ok-patterns.ensures.list c.run_shortest.ensures.bounded)

@@ -1,0 +1,6 @@
+-- lemmas that several proofs here share
+pub mod RowBitLemmas
+pub mod NumberLemmas
+pub mod IndexLemmas
+pub mod WalkLemmas
+pub mod TreeLemmas

@@ -1,0 +1,189 @@
+//! The graph of several patterns: one table of places, with an entry and a match for each pattern.
+ghost use Rattle.std.specs.Prelude.{◌≡◌, ◌^◌, ◌<◌, ◌≤◌, ◌⊎◌, ℕ, All, IfOk, IfErr, map, length, slice_get, Some};
+ghost use Rattle.regex_lite_syntax.specs.declared.error.ErrorKind.TheVariants.{Places};
+ghost use Rattle.regex_lite_syntax.specs.Errors.{kind_of, out_of_memory};
+ghost use Rattle.regex_lite_syntax.specs.Tree.Regular.{IsRegular};
+ghost use Rattle.regex_lite_syntax.specs.Tree.Views.{tree_of};
+ghost use Rattle.regex_lite_engine.specs.Graph.PlaceCounts.{whole_places};
+ghost use Rattle.regex_lite_engine.specs.Graph.Renumbered.{arrows_of};
+ghost use Rattle.regex_lite_engine.specs.Graph.SideBySide.{AreRegular, places_of_all};
+ghost use Rattle.regex_lite_engine.specs.Graph.Size.{Fits, IsDueToTree};
+ghost use Rattle.regex_lite_engine.specs.Graph.StoredList.{HasGroupsOfList, IsGraphOfList, TellGroupsOf, table_of_list};
+ghost use Rattle.regex_lite_engine.specs.Walk.Starts.{AreListHeadsOf};
+
+use crate::nfa::count::Counts;
+use crate::nfa::count::totals::Totals;
+use crate::nfa::groups::Groups;
+use crate::nfa::list_heads::ListHeads;
+use crate::nfa::table::Table;
+use crate::nfa::write::write_all;
+use regex_lite_syntax::{Error, Hir};
+use std::alloc::{AllocError, Global};
+use std::marker::Model;
+
+/// Several patterns that are written out as one graph. Each has places of its own, is entered at
+/// one of them, and has a place where its match is complete.
+#[derive(Drop)]
+pub struct GraphList {
+    table: Table,
+    /// Where each pattern is entered, by its number.
+    entries: Vec<u32>,
+    /// By the number of the pattern.
+    groups: Vec<Groups>,
+    /// Which patterns may start at a position.
+    heads: ListHeads,
+}
+
+impl Model for GraphList {
+    ghost use Rattle.std.specs.Prelude.{◌<◌, ◌^◌, All, length};
+    ghost use Rattle.regex_lite_engine.specs.Graph.Stored.{places_of};
+    ghost use Rattle.regex_lite_engine.specs.Graph.StoredList.{StoredList};
+    ghost use Rattle.regex_lite_engine.specs.Walk.Starts.{AreListHeadsOf};
+
+    ghost Value = { StoredList };
+
+    ghost view = { λ list. record {
+      places = list.table.places;
+      entries = list.entries.items;
+      arrows = list.table.arrows;
+      reading = list.table.reading;
+      groups = list.groups.items;
+      heads = list.heads;
+    } };
+
+    ghost invariant = { λ list.
+        All (λ entry. entry < length list.table.places) list.entries.items
+        × (length list.entries.items < 2 ^ 32)
+        × AreListHeadsOf (places_of list.table) list.entries.items list.heads };
+}
+
+impl GraphList {
+    /// Finds out whether a tree passes none of the limits by itself, with nothing written.
+    ///
+    /// # Errors
+    ///
+    /// `Size` where the size is above the limit, `Places` where there are more places than can be
+    /// numbered, and `Slots` where a group's slots can't be numbered. Where several limits are
+    /// passed, any of them may be named.
+    pub fn within_limits(hir: &Hir, size_limit: usize) -> Result<(), Error>
+        ensures ok { IfOk result (λ _. Fits size_limit (tree_of hir.now)) }
+        ensures refused { IfErr result
+            (λ error. IsDueToTree size_limit (tree_of hir.now) (kind_of error)) }
+    {
+        let counts = Counts::of(hir);
+        counts.within(size_limit)?;
+        Ok(())
+    }
+
+    /// The graph of these trees. Whether there are too many places is found out before anything is
+    /// written.
+    ///
+    /// Conditions: each tree is regular, as the grammar gives it, and passes no limit by itself.
+    ///
+    /// # Errors
+    ///
+    /// `Places` where the trees have more places together than can be numbered, and `Memory` where
+    /// a growth was refused or a set or a name has as many owners as can be counted.
+    pub fn new(alloc: Global, hirs: &[Hir]) -> Result<GraphList, Error>
+        requires regular { AreRegular (map tree_of hirs.now) }
+        requires fit { All (λ tree. (limit : ℕ) × Fits limit tree) (map tree_of hirs.now) }
+        ensures ok { IfOk result (λ list. IsGraphOfList (map tree_of hirs.now) list) }
+        ensures groups { IfOk result (λ list. HasGroupsOfList (map tree_of hirs.now) list) }
+        ensures fits { IfOk result (λ _. places_of_all (map tree_of hirs.now) < 2 ^ 32) }
+        ensures refused { IfErr result (λ error. (error ≡ out_of_memory)
+            ⊎ ((kind_of error ≡ Places) × (2 ^ 32 ≤ places_of_all (map tree_of hirs.now)))) }
+    {
+        let totals = Totals::of(hirs)?;
+        let groups = groups_of(alloc, hirs)?;
+        let (places, entries) = write_all(alloc, hirs, totals.places)?;
+        let table = Table::new(places, totals.arrows, totals.reading);
+        let heads = ListHeads::of(alloc, hirs)?;
+        Ok(GraphList {
+            table,
+            entries,
+            groups,
+            heads,
+        })
+    }
+
+    /// Its places by number.
+    pub(crate) fn table(&self) -> &Table
+        ensures same { result.now ≡ record {
+          places = self.now.places;
+          arrows = self.now.arrows;
+          reading = self.now.reading;
+        } }
+    {
+        &self.table
+    }
+
+    /// Where each pattern is entered, by its number.
+    pub(crate) fn entries(&self) -> &[u32]
+        ensures same { result.now ≡ self.now.entries }
+        ensures inside { All (λ entry. entry < length (table_of_list self.now)) result.now }
+        ensures few { length result.now < 2 ^ 32 }
+    {
+        &self.entries
+    }
+
+    /// Which patterns may start at a position.
+    pub(crate) fn heads(&self) -> &ListHeads
+        ensures same { result.now ≡ self.now.heads }
+        ensures all { AreListHeadsOf (table_of_list self.now) self.now.entries result.now }
+    {
+        &self.heads
+    }
+
+    /// How many patterns there are. Each has places.
+    pub fn len(&self) -> usize
+        ensures same { result ≡ length self.now.entries }
+        ensures few { result < 2 ^ 32 }
+        ensures places { 0 < result → 0 < length self.now.places }
+    {
+        self.entries.len()
+    }
+
+    /// How many places all patterns have together.
+    pub fn places(&self) -> usize
+        ensures same { result ≡ length self.now.places }
+        ensures few { result < 2 ^ 32 }
+    {
+        self.table.places()
+    }
+
+    /// How many arrows all patterns have together.
+    pub fn arrows(&self) -> usize
+        ensures same { result ≡ self.now.arrows }
+        ensures all { result ≡ arrows_of (table_of_list self.now) }
+        ensures few { result < 2 ^ 34 }
+    {
+        self.table.arrows()
+    }
+
+    /// The groups of the pattern with this number.
+    pub fn groups(&self, number: usize) -> &Groups
+        requires { number < length self.now.groups }
+        ensures { slice_get self.now.groups number ≡ Some result.now }
+    {
+        &self.groups[number]
+    }
+}
+
+/// The groups of the pattern of each tree, in their order.
+///
+/// Condition: the places of each can be numbered.
+///
+/// # Errors
+///
+/// Where a growth was refused, or a name has as many owners as can be counted.
+fn groups_of(alloc: Global, hirs: &[Hir]) -> Result<Vec<Groups>, AllocError>
+    requires { All (λ tree. whole_places tree < 2 ^ 32) (map tree_of hirs.now) }
+    ensures all { IfOk result (λ groups. length groups.items ≡ length hirs.now) }
+    ensures each { IfOk result (λ groups. TellGroupsOf (map tree_of hirs.now) groups.items) }
+{
+    let mut groups = Vec::with_capacity(alloc, hirs.len())?;
+    for hir in hirs {
+        groups.push(Groups::of(alloc, hir, &Counts::of(hir))?)?;
+    }
+    Ok(groups)
+}

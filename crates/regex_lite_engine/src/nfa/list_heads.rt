@@ -1,0 +1,87 @@
+//! Which of several patterns may start at a position, by the two characters there.
+//!
+//! A row of bits belongs to each first character, and to each second one, with a bit for each
+//! pattern. The patterns that may start at a position are in the rows of both characters there.
+ghost use Rattle.std.specs.Prelude.{◌≡◌, ◌<◌, ◌++◌, [], ◌∷◌, List, IfOk, length, map};
+ghost use Rattle.regex_lite_syntax.specs.Tree.Views.{tree_of};
+ghost use Rattle.regex_lite_engine.specs.declared.nfa.heads.Heads.{Heads};
+ghost use Rattle.regex_lite_engine.specs.Nfa.ListHeads.{AreHeadsOfTrees, IsIndexOf, IsSized, belongs, row_count};
+
+mod rows;
+mod walk;
+
+use crate::nfa::heads::Heads;
+use regex_lite_syntax::Hir;
+use rows::{AT_START, ROWS, Rows, SECOND};
+use std::alloc::{AllocError, Global};
+
+/// Which patterns may start at a position.
+#[derive(Drop)]
+pub(crate) struct ListHeads {
+    /// Where a match of any of them can begin.
+    pub(crate) any: Heads,
+    /// How many patterns there are.
+    pub(crate) count: usize,
+    pub(crate) rows: Rows,
+}
+
+impl ListHeads {
+    /// Where matches of these trees can begin.
+    ///
+    /// # Errors
+    ///
+    /// Where memory runs out.
+    pub(crate) fn of(alloc: Global, hirs: &[Hir]) -> Result<ListHeads, AllocError>
+        ensures ok { IfOk result (λ heads. AreHeadsOfTrees (map tree_of hirs.now) heads) }
+    {
+        let mut heads = ListHeads::none(alloc, hirs.len())?;
+        for (number, hir) in hirs.iter().enumerate() {
+            heads.add(number, &Heads::of(hir));
+        }
+        heads.any.keep_few();
+        Ok(heads)
+    }
+
+    /// Room for so many patterns, none of which is known yet.
+    fn none(alloc: Global, count: usize) -> Result<ListHeads, AllocError>
+        ensures count { IfOk result (λ heads. heads.count ≡ count) }
+        ensures none { IfOk result (λ heads. IsIndexOf [] heads) }
+    {
+        Ok(ListHeads {
+            any: Heads::nowhere(),
+            count,
+            rows: Rows::blank(alloc, count)?,
+        })
+    }
+
+    /// Adds the pattern with this number, whose matches begin like this.
+    fn add(&mut self, number: usize, heads: &Heads)
+        requires room { number < self.old.count }
+        requires sized { IsSized self.old.rows self.old.count }
+        ensures count { self.new.count ≡ self.old.count }
+        ensures sized { IsSized self.new.rows self.new.count }
+        ensures added { (parts : List Heads) → length parts ≡ number → IsIndexOf parts self.old
+            → IsIndexOf (parts ++ heads.now ∷ []) self.new }
+    {
+        for row in 0..ROWS {
+            if belongs(heads, row) {
+                self.rows.set(row, number);
+            }
+        }
+        self.any.add(heads);
+    }
+}
+
+/// Whether a pattern that begins like this belongs in the row.
+fn belongs(heads: &Heads, row: usize) -> bool
+    requires { row < row_count }
+    ensures { result ≡ belongs heads.now row }
+{
+    if row < SECOND {
+        return heads.first.begins_in(row);
+    }
+    if row < AT_START {
+        return heads.goes_on_in(row - SECOND);
+    }
+    heads.first.at_start()
+}

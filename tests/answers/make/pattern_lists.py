@@ -1,0 +1,231 @@
+"""The list of searches for several patterns at once: which of them is found, where, and with which
+groups. The judge searches for each pattern by itself; of what it finds the least start is taken,
+and where several patterns have it the lowest of these."""
+
+import itertools
+from typing import NamedTuple, Optional
+
+from data import escaped, rows_of
+from dice import Dice
+from flags import WORDS_AND_LINES
+from judge import found
+from leaves import ALPHABETS, SPECIAL, Leaf
+from searches import FAMILIES, FEW, SearchMaker, bounds, is_fit, starts
+from whole import Writer, sample
+
+SEED = 6  # another than those of the other lists and of the sizes
+WORD = 'list'  # the first field of each line
+TRIAL = 'list trial'  # and of a line without an answer
+
+CASES = 36_000  # how many generated cases the judge is asked about
+SIZES = (2, 2, 2, 3, 3, 3, 4, 4, 5, 6, 7, 8, 9)
+TEXT = 60  # characters of a haystack
+
+# How many cases of generated lists are kept of each shape, with the start 0 and with a greater one.
+QUOTAS = {
+    'ends first, same start': (375, 375),
+    'ends first, later start': (350, 250),
+    'same start': (550, 450),
+    'later pattern': (400, 400),
+    'other match': (150, 150),
+    'none': (150, 250),
+    'above': (0, 150),
+}
+
+# Patterns that match little or nothing, and some that match many a text.
+EMPTY = ('', '(?:)', 'a*', 'x{0}', '(a)?', '^', '$', r'\b', r'\B', r'\z', '(?m)^', '(?m)$', '|a',
+         '(?<n>)')
+WIDE = ('.', '..', '.*', '.+?', '(.)', '(?s).', r'\w', r'\w+', r'\W', r'\s*', '[a-z]+', '[^a]',
+        '(?i)[a-m]+', '(?<n>.)(?<m>.)?')
+
+
+class Part(NamedTuple):
+    """A pattern of a list, and the tree of texts that it often matches."""
+
+    pattern: str
+    tree: list
+
+
+class Answer(NamedTuple):
+    """The number of the pattern that is found, and what the judge finds by it."""
+
+    number: Optional[int]
+    found: object
+
+
+def leaf(pattern, text):
+    """A pattern that matches this text."""
+    return Part(pattern, [[(Leaf(pattern, (text,)), [])]])
+
+
+def literal(text):
+    """The pattern that matches just this text."""
+    return leaf(''.join('\\' + sign if sign in SPECIAL else sign for sign in text), text)
+
+
+def fresh(dice, letters):
+    """A pattern of one of the families of searches, of these letters, under flags of its own."""
+    family = FAMILIES[dice.pick(tuple(FAMILIES))]
+    maker = SearchMaker(dice, family)
+    maker.letters = letters
+    tree = maker.whole(dice.pick(family.depths), dice.pick(family.stacking))
+    flags = dice.pick(family.flags) if dice.chance(0.4) else ''
+    writer = Writer(dice, dice.pick((0.05, 0.15, 0.3)), 'x' in flags)
+    pattern = ''.join(writer.parts(tree))
+    return Part(f'(?{flags}){pattern}' if flags else pattern, tree)
+
+
+def kin(dice, parts, letters):
+    """A pattern that competes with another one of the list for the same texts."""
+    other = dice.pick(parts)
+    kind = dice.random()
+    if kind < 0.4:
+        text = sample(dice, other.tree)
+        return literal(text[dice.pick((0, 0, 1, 1, 2)):][:dice.pick((1, 1, 2, 3, 4, 6))])
+    if kind < 0.45:
+        return other
+    if kind < 0.55:
+        return Part(f'(?U){other.pattern}', other.tree)
+    if kind < 0.7:
+        return Part(f'(?:{other.pattern}){literal(dice.pick(letters)).pattern}?', other.tree)
+    if kind < 0.8:
+        return Part(f'(?s:.)(?:{other.pattern})', other.tree)
+    return leaf(dice.pick(EMPTY if kind < 0.86 else WIDE), '')
+
+
+def is_long(dice, part):
+    """Whether the texts that the pattern often matches are hardly ever empty."""
+    return all(sample(dice, part.tree) for _ in range(4))
+
+
+def parts_of_list(dice, letters):
+    """The patterns of a list. In most lists few of them match the empty text, since such a pattern
+    matches at each start."""
+    parts = []
+    count = dice.pick(SIZES)
+    relation = dice.pick((0.2, 0.5, 0.8))
+    empty = dice.pick((0, 0, 0.1, 1))
+    while len(parts) < count:
+        related = parts and dice.chance(relation)
+        part = kin(dice, parts, letters) if related else fresh(dice, letters)
+        if is_fit(part.pattern) and (dice.chance(empty) or is_long(dice, part)):
+            parts.append(part)
+    # Those that others were made of stand anywhere among them.
+    return [parts.pop(dice.below(len(parts))) for _ in range(count)]
+
+
+def haystacks(dice, parts, letters):
+    """Two texts: one of several texts that some of the patterns often match, mostly with something
+    round them, and one of random characters."""
+    signs = letters + dice.pick(('', '', '~', 'zé', '.~~~'))
+
+    def some(counts):
+        return ''.join(dice.pick(signs) for _ in range(dice.pick(counts)))
+
+    between = dice.pick(((0,), (0, 1), (0, 1, 2), (1, 2, 3)))
+    near = some(between)
+    for _ in range(dice.pick((1, 1, 2, 3, 4))):
+        near += sample(dice, dice.pick(parts).tree)[:TEXT // 2] + some(between)
+    return near[:TEXT], some((0, 1, 2, 4, 6, 8, 12))
+
+
+def generated(dice):
+    """Makes cases without end: a list's patterns, a haystack and a start."""
+    while True:
+        letters = dice.pick(dice.pick((FEW, FEW, ALPHABETS, (WORDS_AND_LINES,))))
+        parts = parts_of_list(dice, letters)
+        for text in haystacks(dice, parts, letters):
+            for start in starts(dice, text):
+                yield tuple(part.pattern for part in parts), text, start
+
+
+def first_of(founds):
+    """The answer, of what the judge finds by each pattern."""
+    starting = [(span(one)[0], number) for number, one in enumerate(founds) if one.groups]
+    if not starting:
+        return Answer(None, None)
+    _, number = min(starting)
+    return Answer(number, founds[number])
+
+
+def span(one):
+    """The span of what is found."""
+    start, _, end = one.groups.partition(' ')[0].partition('..')
+    return int(start), int(end)
+
+
+def answers_of(judge, cases):
+    """For each case what the judge finds by each of its patterns."""
+    told = iter(found(judge, [('-', pattern, text, start)
+                              for patterns, text, start in cases for pattern in patterns]))
+    return [list(itertools.islice(told, len(patterns))) for patterns, _, _ in cases]
+
+
+def shape_of(case, founds):
+    """The shape of a case, one of QUOTAS."""
+    _, text, start = case
+    if start > len(text.encode()):
+        return 'above'
+    number, one = first_of(founds)
+    if number is None:
+        return 'none'
+    spans = {other: span(told) for other, told in enumerate(founds) if told.groups}
+    ending = min(spans, key=lambda other: (spans[other][1], other))
+    is_shared = any(other != number and at[0] == span(one)[0] for other, at in spans.items())
+    if ending != number:
+        is_same = spans[ending][0] == span(one)[0]
+        return 'ends first, same start' if is_same else 'ends first, later start'
+    if is_shared:
+        return 'same start'
+    return 'later pattern' if number > min(spans) else 'other match'
+
+
+def kept_lines(judge, cases, picked):
+    """The lines of the first cases of each shape, as many as its quota says, without those that
+    were picked by hand."""
+    left = {(shape, is_behind): count for shape, counts in QUOTAS.items()
+            for is_behind, count in zip((False, True), counts)}
+    lines = []
+    for case, founds in zip(cases, answers_of(judge, cases)):
+        kind = shape_of(case, founds), case[2] > 0
+        if case not in picked and left[kind]:
+            picked.add(case)
+            left[kind] -= 1
+            lines.append(line_of(case, first_of(founds)))
+    if any(left.values()):
+        raise SystemExit(f'too few lists of patterns: {left}')
+    return lines
+
+
+def picked_cases():
+    """The cases picked by hand: each haystack at each offset of a character, at its length, and at
+    the next number. In a row the patterns stand behind the haystack."""
+    return [(tuple(patterns), text, start) for text, *patterns in rows_of('pattern-lists')
+            for start in (*bounds(text), len(text.encode()) + 1)]
+
+
+def line_of(case, answer):
+    """A case and its answer as a line of the list."""
+    patterns, text, start = case
+    fields = [WORD, escaped(text), str(start)]
+    if answer.number is None:
+        fields += ['-', '-', '-']
+    else:
+        fields += [str(answer.number), answer.found.groups, escaped(answer.found.names)]
+    return '\t'.join([*fields, *map(escaped, patterns)]) + '\n'
+
+
+def lines(judge):
+    """The lines of the list."""
+    picked = picked_cases()
+    made = [line_of(case, first_of(founds))
+            for case, founds in zip(picked, answers_of(judge, picked))]
+    cases = list(dict.fromkeys(itertools.islice(generated(Dice(SEED)), CASES)))
+    return made + kept_lines(judge, cases, set(picked))
+
+
+def fresh_lines(judge, seed, count):
+    """So many lines of generated cases of another seed, without any choice among their shapes."""
+    cases = list(dict.fromkeys(itertools.islice(generated(Dice(seed)), 2 * count)))[:count]
+    return [line_of(case, first_of(founds))
+            for case, founds in zip(cases, answers_of(judge, cases))]
