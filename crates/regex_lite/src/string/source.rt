@@ -10,7 +10,6 @@ use std::marker::Model;
 use std::rc::RcStr;
 
 /// What found a match: a regex, or the pattern of a list that has this number.
-#[derive(Drop)]
 enum Finder {
     Regex(Shared<Compiled>),
     Listed(Shared<CompiledList>, usize),
@@ -20,6 +19,16 @@ enum Finder {
 #[derive(Drop)]
 pub(super) struct Source {
     finder: Finder,
+}
+
+/// Written out, so that where groups are dropped the proof has one call and not two paths.
+impl Drop for Finder {
+    fn drop(self) {
+        match self {
+            Finder::Regex(compiled) => drop(compiled),
+            Finder::Listed(list, _) => drop(list),
+        }
+    }
 }
 
 impl Model for Source {

@@ -42,28 +42,6 @@ loop-item-preserved g c =
       haystack = same_haystack old new step.0 c.args.haystack.now step.4 inv.haystack;
     }
 
-pub loop-item-preserved-in_ok-caps : goal.loop-item-preserved-in_ok-caps
-loop-item-preserved-in_ok-caps g c =
-    let inv = c.loop-item.invariant in
-    let step = rw c.in_ok-caps.was at c.in-Some.ensures.steps in
-    let caps = c.in_ok-caps.caps in
-    let old = groups_ahead_of c.loop-item.item-iterator in
-    let new = groups_ahead_of c.next.new.self in
-    record {
-      can = tt;
-      finite = tt;
-      printed = inv.printed ++ groups_line caps.spans;
-      puts = puts_more c.args.output.now c.loop-item.output c.print_groups.new.output
-          (g.W.Write.contents c.args.out.now) (g.W.Write.contents c.loop-item.out)
-          (g.W.Write.contents c.print_groups.new.out) inv.printed (groups_line caps.spans) inv.puts
-          c.print_groups.ensures;
-      so_far = groups_more (whole c.args.regex.now c.args.haystack.now None)
-          old new c.loop-item.has_match inv.printed step.0 caps inv.so_far step.4 inv.regex inv.haystack
-          step.1;
-      regex = same_regex old new step.0 c.args.regex.now step.4 inv.regex;
-      haystack = same_haystack old new step.0 c.args.haystack.now step.4 inv.haystack;
-    }
-
 pub returns-in_err-caps-clause-kept : goal.returns-in_err-caps-clause-kept
 returns-in_err-caps-clause-kept g c =
     let inv = c.loop-item.invariant in
