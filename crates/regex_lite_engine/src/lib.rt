@@ -20,6 +20,7 @@ mod tests;
 pub use nfa::Graph;
 pub use nfa::groups::Groups;
 pub use nfa::list::GraphList;
+pub use pikevm::list_searcher::ListSearcher;
 pub use pikevm::search::Outcome;
 pub use pikevm::searcher::Searcher;
 pub use pikevm::steps::Steps;

@@ -11,6 +11,7 @@ mod enter;
 pub(crate) mod here;
 pub(crate) mod list_patterns;
 mod list_search;
+pub(crate) mod list_searcher;
 pub(crate) mod memory;
 pub(crate) mod one_pattern;
 mod pass;

@@ -14,9 +14,9 @@ use Rattle.regex_lite_engine.specs.Search.Answer.{Found}
 use Rattle.regex_lite_engine.specs.Search.AnswerOfList.{AnyMatchesFrom, IsAnswerOfList}
 use Rattle.regex_lite_engine.specs.Search.Bounds.{IsBoundedBy, StepCounts}
 use Rattle.regex_lite_engine.specs.Search.Offsets.{position_at, search_start}
-use Rattle.regex_lite_engine.specs.Search.Outcomes.{HasCostOfList, IsOutcomeOfList}
+use Rattle.regex_lite_engine.specs.Search.Outcomes.{HasCostOfList, IsOutcomeOfList, IsSpanOutcomeOfList}
 use Rattle.regex_lite_engine.specs.Walk.NumberedList.{IsNumberedAnswerOf}
-use Rattle.regex_lite_engine.specs.Walk.Outcomes.{IsBestOutcomeOf, IsNumberedEndOf, numbered_told, with_origin_kept}
+use Rattle.regex_lite_engine.specs.Walk.Outcomes.{IsBestOutcomeOf, IsNumberedEndOf, numbered_at, numbered_told, with_origin_kept}
 use Rattle.regex_lite_engine.specs.Walk.Walking.{Best}
 use Rattle.regex_lite_engine.proofs.laws.several.NumberedListLemmas.{any_of_numbers, list_answer_of_numbers}
 
@@ -74,18 +74,26 @@ module _ (trees : List Tree) (list : StoredList) (is : IsGraphOfList trees list)
         (list_answer_of_numbers trees (chars haystack) (table_of_list list) list.entries is.name
         is.written is.entries regular (position_at haystack start) answer numbered)
 
-    pub outcome_told : (outcome : Option (ℕ × Outcome))
+    pub list_span_told : (span : Option (ℕ × (ℕ × ℕ))) (slots : List (Option ℕ))
         → IsBestOutcomeOf (table_of_list list) (chars haystack) list.entries
-        (position_at haystack start) (with_origin_kept (numbered_told outcome))
-        → IsOutcomeOfList trees haystack start outcome
-    outcome_told None none = answer_told None none
-    outcome_told (Some (told, outcome)) (number, found, answer, tells, to, held) =
+        (position_at haystack start) (with_origin_kept (numbered_at span slots))
+        → IsSpanOutcomeOfList trees haystack start slots span
+    list_span_told None slots none = answer_told None none
+    list_span_told (Some (told, span)) slots (number, found, answer, tells, to, held) =
         let same : told ≡ number = tells.number_told in (
           found,
           subst (λ n. IsAnswerOfList trees (chars haystack) (search_start haystack start)
               (Some (n, found))) (sym same) (answer_told (Some (number, found)) answer),
           record { start = tells.start_told; end = to; slots = held },
         )
+
+    pub outcome_told : (outcome : Option (ℕ × Outcome))
+        → IsBestOutcomeOf (table_of_list list) (chars haystack) list.entries
+        (position_at haystack start) (with_origin_kept (numbered_told outcome))
+        → IsOutcomeOfList trees haystack start outcome
+    outcome_told None none = list_span_told None [] none
+    outcome_told (Some (told, outcome)) some =
+        list_span_told (Some (told, (outcome.start, outcome.end))) outcome.slots.items some
 
     pub any_told : (best : Best)
         → IsNumberedEndOf (table_of_list list) (chars haystack) list.entries

@@ -46,16 +46,24 @@ HasCost tree haystack start steps =
     IsBounded (whole_places tree) (whole_arrows tree) (chars haystack)
     (search_start haystack start) steps.tried steps.entered steps.looked
 
--- the outcome of a search for several patterns tells the answer of the list: the number of a
--- pattern, and what was found of it
-abbrev pub IsOutcomeOfList : List Tree → (haystack : List ℕ) → (start : ℕ) → Option (ℕ × Outcome)
-    → Type 0
-IsOutcomeOfList trees haystack start None =
+-- the number and the span that a search for several patterns finds, and its slots, tell the answer
+-- of the list: the number of a pattern, and what was found of it
+abbrev pub IsSpanOutcomeOfList : List Tree → (haystack : List ℕ) → (start : ℕ)
+    → (slots : List (Option ℕ)) → Option (ℕ × (ℕ × ℕ)) → Type 0
+IsSpanOutcomeOfList trees haystack start slots None =
     IsAnswerOfList trees (chars haystack) (search_start haystack start) None
-IsOutcomeOfList trees haystack start (Some told) =
+IsSpanOutcomeOfList trees haystack start slots (Some told) =
     (found : Found)
     × IsAnswerOfList trees (chars haystack) (search_start haystack start) (Some (told.0, found))
-    × Tells (chars haystack) found (told.1.start, told.1.end) told.1.slots.items
+    × Tells (chars haystack) found told.1 slots
+
+-- so does its outcome
+abbrev pub IsOutcomeOfList : List Tree → (haystack : List ℕ) → (start : ℕ) → Option (ℕ × Outcome)
+    → Type 0
+IsOutcomeOfList trees haystack start None = IsSpanOutcomeOfList trees haystack start [] None
+IsOutcomeOfList trees haystack start (Some told) =
+    IsSpanOutcomeOfList trees haystack start told.1.slots.items
+    (Some (told.0, (told.1.start, told.1.end)))
 
 -- a search of the graph of these trees did no more than is allowed
 abbrev pub HasCostOfList : List Tree → (haystack : List ℕ) → (start : ℕ) → StepCounts → Type 0

@@ -5,6 +5,7 @@ use Rattle.regex_lite_engine.specs.declared.pikevm.search.Outcome.{Outcome}
 use Rattle.regex_lite_engine.specs.declared.pikevm.turn.Cache.{Cache}
 use Rattle.regex_lite_engine.specs.Graph.Places.{Place}
 use Rattle.regex_lite_engine.specs.Graph.Renumbered.{arrows_of}
+use Rattle.regex_lite_engine.specs.Graph.StoredList.{StoredList, table_of_list}
 use Rattle.regex_lite_engine.specs.Search.Answer.{Found}
 use Rattle.regex_lite_engine.specs.Walk.Beginnings.{IsTold, Tells}
 use Rattle.regex_lite_engine.specs.Walk.Machine.{Row}
@@ -30,6 +31,11 @@ with_start_kept (Some found) =
 abbrev pub numbered_told : Option (ℕ × Outcome) → Option (ℕ × ℕ × ℕ × Row)
 numbered_told None = None
 numbered_told (Some told) = Some (told.0, told.1.start, told.1.end, told.1.slots.items)
+
+-- the match with this span, of the pattern with this number, and with this row
+abbrev pub numbered_at : Option (ℕ × (ℕ × ℕ)) → Row → Option (ℕ × ℕ × ℕ × Row)
+numbered_at None row = None
+numbered_at (Some told) row = Some (told.0, told.1.0, told.1.1, row)
 
 -- the match of which the number and the start are kept
 abbrev pub with_origin_kept : Option (ℕ × ℕ × ℕ × Row) → Best
@@ -87,6 +93,12 @@ pub record IsFresh {S : Type 0} (table : List (Place ℕ)) (cache : Cache S) : T
 pub record IsCountable (table : List (Place ℕ)) : Type 0 where
   pub few_places : length table < 2 ^ 32
   pub few_arrows : arrows_of table < 2 ^ 34
+
+-- searches for the patterns of the graph go on in this cache. Without a pattern none is begun
+abbrev pub GoesOnIn : {S : Type 0} → StoredList → Cache S → Type 0
+GoesOnIn list cache =
+    0 < length list.entries
+    → IsBetween (table_of_list list) cache × IsCountable (table_of_list list)
 
 -- the counts of a search for so many patterns over so many characters fit
 pub record CanCount (table : List (Place ℕ)) (patterns characters : ℕ) : Type 0 where

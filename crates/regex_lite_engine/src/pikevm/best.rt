@@ -64,11 +64,13 @@ impl<S: Beginning> Best<S> {
             Some((_, end)) => Some(end),
         }
     }
-}
 
-impl Best<usize> {
-    ghost use Rattle.regex_lite_engine.specs.Walk.Turns.{best_at, best_of};
-    ghost use Rattle.regex_lite_engine.specs.Walk.Outcomes.{match_told, with_start_kept};
+    /// The slots of the last match that was found.
+    pub fn row(&self) -> &[Option<usize>]
+        ensures { result.now ≡ self.now.row }
+    {
+        &self.row
+    }
 
     /// Forgets the match. Its row stays as it is.
     pub fn clear(&mut self)
@@ -77,19 +79,17 @@ impl Best<usize> {
     {
         self.found = None;
     }
+}
+
+impl Best<usize> {
+    ghost use Rattle.regex_lite_engine.specs.Walk.Turns.{best_at, best_of};
+    ghost use Rattle.regex_lite_engine.specs.Walk.Outcomes.{match_told, with_start_kept};
 
     /// Where it starts and where it ends.
     pub fn span(&self) -> Option<(usize, usize)>
         ensures { best_of self.now ≡ with_start_kept (best_at result self.now.row) }
     {
         self.found
-    }
-
-    /// The slots of the last match that was found.
-    pub fn row(&self) -> &[Option<usize>]
-        ensures { result.now ≡ self.now.row }
-    {
-        &self.row
     }
 
     /// The match by itself, with its row.
@@ -110,8 +110,16 @@ impl Best<usize> {
 }
 
 impl Best<Origin> {
-    ghost use Rattle.regex_lite_engine.specs.Walk.Outcomes.{numbered_told, with_origin_kept};
+    ghost use Rattle.regex_lite_engine.specs.Walk.Outcomes.{numbered_at, numbered_told, with_origin_kept};
     ghost use Rattle.regex_lite_engine.specs.Walk.Turns.{best_of};
+
+    /// The number of its pattern, and where it starts and where it ends.
+    pub fn numbered_span(&self) -> Option<(usize, (usize, usize))>
+        ensures { best_of self.now ≡ with_origin_kept (numbered_at result self.now.row) }
+    {
+        let (origin, end) = self.found?;
+        Some((origin.number as usize, (origin.at, end)))
+    }
 
     /// The match by itself, with its row and the number of its pattern.
     pub fn into_numbered(self) -> Option<(usize, Outcome)>

@@ -34,6 +34,8 @@ pub fn run<S: Beginning, P: Patterns>(
     ensures counts { StaysCounted cache.old.walk.steps cache.new.walk.steps }
     ensures width { length cache.new.best.row ≡ length cache.old.best.row }
     ensures between { IsBetween (P.table patterns.old) cache.new }
+    ensures table { P.table patterns.new ≡ P.table patterns.old }
+    ensures entries { P.entries patterns.new ≡ P.entries patterns.old }
 {
     let mut here = Here::at(haystack, start);
     'positions: loop {

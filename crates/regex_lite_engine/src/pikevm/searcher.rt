@@ -9,6 +9,7 @@ ghost use Rattle.regex_lite_engine.specs.Walk.Outcomes.{IsFresh};
 ghost use Rattle.regex_lite_engine.specs.Walk.Searching.{IsBetween};
 
 use crate::Graph;
+use crate::pikevm::beginning::Beginning;
 use crate::pikevm::cache_for;
 use crate::pikevm::one_pattern::OnePattern;
 use crate::pikevm::run::run;
@@ -89,7 +90,7 @@ impl<'g> Searcher<'g> {
 }
 
 /// Makes ready for another search: what the last one left is forgotten.
-fn restart(cache: &mut Cache<usize>)
+pub(super) fn restart<S: Beginning>(cache: &mut Cache<S>)
     ensures fresh { (table : List (Place ℕ)) → IsBetween table cache.old → IsFresh table cache.new }
     ensures width { length cache.new.best.row ≡ length cache.old.best.row }
 {

@@ -129,3 +129,10 @@ returns-then-is_over-clause-between g c =
     v.under_way in
     subst (λ table. IsBetween table c.pass-here.new.self) (c.pass-here.ensures.table ∙ v.table)
     w.after.ready
+
+pub returns-then-is_over-clause-table : goal.returns-then-is_over-clause-table
+returns-then-is_over-clause-table g c = c.pass-here.ensures.table ∙ c.positions.invariant.table
+
+pub returns-then-is_over-clause-entries : goal.returns-then-is_over-clause-entries
+returns-then-is_over-clause-entries g c =
+    c.pass-here.ensures.entries ∙ c.positions.invariant.entries
