@@ -12,6 +12,7 @@ pub mod GroupNameLemmas
 pub mod ListBuildLemmas
 pub mod LawfulLemmas
 pub mod ListLemmas
+pub mod ListScanLemmas
 pub mod ListToldLemmas
 pub mod NextLemmas
 pub mod OneTreeLemmas

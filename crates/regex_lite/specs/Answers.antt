@@ -1,6 +1,6 @@
 -- What the answers of searches of a haystack are, and what is told of them, whatever is searched
 -- for.
-use Rattle.std.specs.Prelude.{◌≡◌, ◌≤◌, ◌<◌, ℕ, true, List, Option, Some, None, length}
+use Rattle.std.specs.Prelude.{◌≡◌, ◌≤◌, ◌<◌, ℕ, true, List, Option, Some, None, IfSome, length}
 use Rattle.regex_lite_syntax.specs.Text.{Text}
 use Rattle.regex_lite_engine.specs.Search.Answer.{Found}
 use Rattle.regex_lite_engine.specs.Search.Offsets.{position_at}
@@ -39,3 +39,11 @@ abbrev pub IsEmptyAnswerFrom : {A : Type 0} → (found_of : A → Found)
 IsEmptyAnswerFrom {A} found_of Answers haystack at =
     (answer : A) × Answers (position_at haystack at) (Some answer)
     × (is_empty_answer found_of (position_at haystack at) (Some answer) ≡ true)
+
+-- where what is told has an empty span, it is told of the answer from there, which is empty there
+abbrev pub IsAnswerWhereEmpty : {A T : Type 0} → (found_of : A → Found)
+    → (Answers : (s : ℕ) → Option A → Type 0) → (span : T → ℕ × ℕ) → (haystack : List ℕ)
+    → Option T → Type 0
+IsAnswerWhereEmpty found_of Answers span haystack told =
+    IfSome told (λ own. (span own).0 ≡ (span own).1
+    → IsEmptyAnswerFrom found_of Answers haystack (span own).1)

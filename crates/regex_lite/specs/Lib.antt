@@ -11,6 +11,7 @@ pub mod RegexList
 pub mod RegexListSearches
 pub mod MatchList
 pub mod Ahead
+pub mod ListAhead
 pub mod Pieces
 pub mod Replacing
 pub mod Replacements
@@ -37,6 +38,7 @@ pub mod CompiledList
 pub mod Slots
 pub mod Answers
 pub mod Scanning
+pub mod ListScanning
 pub mod NextMatch
 pub mod Rewriting
 -- What those have that share what was built. No public contract rests on it.

@@ -1,12 +1,20 @@
--- The matches of a haystack, one after another: those of any searches, and those of a regex.
+-- The matches of a haystack, one after another: those of any searches, those of a regex, and those of
+-- several patterns.
 use Rattle.std.specs.Prelude.{◌≡◌, ◌≢◌, ◌-◌, ◌==◌, ◌&&◌, ℕ, suc, Bool, false, List, [], ◌∷◌, Option, Some, None, MatchBool, option_map, zero}
 use Rattle.regex_lite_syntax.specs.Text.{Text}
 use Rattle.regex_lite_engine.specs.Search.Answer.{Found, IsAnswer}
+use Rattle.regex_lite_engine.specs.Search.AnswerOfList.{IsAnswerOfList}
 use Rattle.regex_lite.specs.Expression.{Expression, OfTree}
+use Rattle.regex_lite.specs.RegexList.{OfTrees}
 
 -- the answer of a search for the pattern from position s on
 abbrev pub IsAnswerOf : Expression → Text → (s : ℕ) → Option Found → Type 0
 IsAnswerOf re haystack s found = OfTree re (λ tree. IsAnswer tree haystack s found)
+
+-- that of a search for several patterns: the number of one, and what was found of it
+abbrev pub IsAnswerOfPatterns : List Expression → Text → (s : ℕ) → Option (ℕ × Found) → Type 0
+IsAnswerOfPatterns list haystack s answer =
+    OfTrees list (λ trees. IsAnswerOfList trees haystack s answer)
 
 -- how many matches may come behind one of so many, where there is a limit
 abbrev pub one_less : (limit : Option ℕ) → Option ℕ
@@ -86,3 +94,21 @@ module _ (re : Expression) (haystack : Text) where
   abbrev pub AreSomeWithin : (limit : Option ℕ) → (ended : Option ℕ) → List Found → Type 0
   AreSomeWithin limit ended list =
       AreSomeAnswersWithin (λ own. own) (IsAnswerOf re haystack) limit ended list
+
+-- So of searches for several patterns, whose answers are the number of a pattern and what was found
+-- of it. Where the next one is looked for has nothing to do with the numbers
+module _ (list : List Expression) (haystack : Text) where
+  -- what comes behind a match that ended at this position, or first
+  abbrev pub IsNextOfList : (ended : Option ℕ) → Option (ℕ × Found) → Type 0
+  IsNextOfList ended answer =
+      IsNextAnswer (λ own. own.1) (IsAnswerOfPatterns list haystack) ended answer
+
+  -- these are all matches behind one that ended there
+  abbrev pub AreMatchesOfList : (ended : Option ℕ) → List (ℕ × Found) → Type 0
+  AreMatchesOfList ended answers =
+      AreAnswers (λ own. own.1) (IsAnswerOfPatterns list haystack) ended answers
+
+  -- these are the first of them up to a limit, where there is one, and else all
+  abbrev pub AreWithinOfList : (limit : Option ℕ) → (ended : Option ℕ) → List (ℕ × Found) → Type 0
+  AreWithinOfList limit ended answers =
+      AreAnswersWithin (λ own. own.1) (IsAnswerOfPatterns list haystack) limit ended answers

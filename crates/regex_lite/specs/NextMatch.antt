@@ -4,9 +4,10 @@ use Rattle.regex_lite_engine.specs.Search.Answer.{Found}
 use Rattle.regex_lite_engine.specs.Search.Offsets.{position_at}
 use Rattle.regex_lite.specs.declared.string.matches.Match.{Match}
 use Rattle.regex_lite.specs.Expression.{Expression}
-use Rattle.regex_lite.specs.MatchList.{IsAnswerOf, IsNextAnswer}
+use Rattle.regex_lite.specs.MatchList.{IsAnswerOf, IsAnswerOfPatterns, IsNextAnswer}
 use Rattle.regex_lite.specs.Ahead.{IsOnward}
 use Rattle.regex_lite.specs.MatchViews.{span_of_match}
+use Rattle.regex_lite.specs.ListScanning.{IsListMatchWithSlots, span_of_listed}
 use Rattle.regex_lite.specs.Scanning.{IsMatchWithSlots}
 
 -- what is told of the answer behind a match that ended at this offset, and has this span: nothing
@@ -29,6 +30,13 @@ abbrev pub TellsNextMatch : Expression → (haystack : List ℕ) → (ended : Op
 TellsNextMatch re haystack ended slots told =
     TellsNext (λ own. own) (IsAnswerOf re (chars haystack)) (IsMatchWithSlots haystack slots)
     span_of_match haystack ended told
+
+-- what is told is the match of one of several patterns, with its number
+abbrev pub TellsNextListMatch : List Expression → (haystack : List ℕ) → (ended : Option ℕ)
+    → (slots : List (Option ℕ)) → Option (ℕ × Match) → Type 0
+TellsNextListMatch list haystack ended slots told =
+    TellsNext (λ own. own.1) (IsAnswerOfPatterns list (chars haystack))
+    (IsListMatchWithSlots haystack slots) span_of_listed haystack ended told
 
 -- this is the offset of the next position, and at the haystack's end there is none
 abbrev pub IsNextOffset : (haystack : List ℕ) → (at : ℕ) → Option ℕ → Type 0

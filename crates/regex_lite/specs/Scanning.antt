@@ -5,7 +5,7 @@ use Rattle.regex_lite_engine.specs.Search.Answer.{Found}
 use Rattle.regex_lite_engine.specs.Search.Offsets.{HasSlots, search_start}
 use Rattle.regex_lite.specs.declared.string.cursor.Cursor.{Cursor}
 use Rattle.regex_lite.specs.declared.string.matches.Match.{Match}
-use Rattle.regex_lite.specs.Answers.{IsEmptyAnswerFrom, TellsOfAnswer}
+use Rattle.regex_lite.specs.Answers.{IsAnswerWhereEmpty, IsEmptyAnswerFrom, TellsOfAnswer}
 use Rattle.regex_lite.specs.Expression.{Expression, OfTree}
 use Rattle.regex_lite.specs.MatchList.{IsAnswerOf}
 use Rattle.regex_lite.specs.MatchViews.{span_of_match}
@@ -54,13 +54,19 @@ IsEmptyFrom re haystack at =
 -- a match that is empty is the answer from its end
 abbrev pub IsAnswerIfEmpty : Expression → (haystack : List ℕ) → Option Match → Type 0
 IsAnswerIfEmpty re haystack told =
-    IfSome told (λ m. (span_of_match m).0 ≡ (span_of_match m).1
-    → IsEmptyFrom re haystack (span_of_match m).1)
+    IsAnswerWhereEmpty (λ own. own) (IsAnswerOf re (chars haystack)) span_of_match haystack told
 
 -- where the last match was empty, the answer from its end is empty there
+abbrev pub IsBehind : {A : Type 0} → (found_of : A → Found)
+    → (Answers : (s : ℕ) → Option A → Type 0) → Cursor → Type 0
+IsBehind found_of Answers cursor =
+    IsTrue cursor.was_empty
+    → IfSome cursor.ended (IsEmptyAnswerFrom found_of Answers cursor.haystack.now)
+
+-- so where it was a match of the pattern
 abbrev pub IsBehindAnswer : Expression → Cursor → Type 0
 IsBehindAnswer re cursor =
-    IsTrue cursor.was_empty → IfSome cursor.ended (IsEmptyFrom re cursor.haystack.now)
+    IsBehind (λ own. own) (IsAnswerOf re (chars cursor.haystack.now)) cursor
 
 -- there are as many slots as are kept for the groups
 abbrev pub HasSlotsForGroups : Expression → (slots : List (Option ℕ)) → Type 0

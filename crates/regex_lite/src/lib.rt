@@ -37,9 +37,9 @@ pub use regex_lite_engine::Steps;
 pub use regex_lite_syntax::{Error, ErrorKind};
 pub use string::escape::escape;
 pub use string::{
-    CaptureLocations, CaptureMatches, CaptureNames, Captures, CapturesIn, Match, Matches, NoExpand,
-    Regex, RegexBuilder, RegexList, RegexListBuilder, ReplaceBy, Replacer, ReplacerRef, Split,
-    SplitN, SubCaptureMatches, Text,
+    CaptureLocations, CaptureMatches, CaptureNames, Captures, CapturesIn, ListCaptureMatches,
+    ListMatches, Match, Matches, NoExpand, Regex, RegexBuilder, RegexList, RegexListBuilder,
+    ReplaceBy, Replacer, ReplacerRef, Split, SplitN, SubCaptureMatches, Text,
 };
 
 #[cfg(test)]

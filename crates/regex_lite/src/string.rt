@@ -37,6 +37,8 @@ pub use captures_iter::CaptureMatches;
 pub use find_iter::Matches;
 pub use list::RegexList;
 pub use list::builder::RegexListBuilder;
+pub use list::captures_iter::ListCaptureMatches;
+pub use list::find_iter::ListMatches;
 pub use locations::CaptureLocations;
 pub use matches::Match;
 pub use regex::Regex;

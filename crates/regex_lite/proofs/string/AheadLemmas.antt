@@ -62,12 +62,18 @@ fewer_left (Some e) bytes span onward inside =
     omega (arith, inside, later)
 
 -- behind a match fewer are ahead
+pub fewer_behind : (limit now ended : Option ℕ) (bytes : ℕ) (span : ℕ × ℕ) → limit ≢ Some 0
+    → IsOnward ended span → span.1 ≤ bytes
+    → most_left now bytes (Some span.1) < most_left limit bytes ended
+fewer_behind limit now ended bytes span may onward inside =
+    let most = at_most_left now bytes span.1 in
+    let all = all_left limit ended bytes may in
+    let fewer = fewer_left ended bytes span onward inside in
+    omega (arith, most, all, fewer)
+
 pub fewer_ahead : (old new : Scanning) (span : ℕ × ℕ) → old.limit ≢ Some 0
     → new.haystack ≡ old.haystack → new.ended ≡ Some span.1 → IsOnward old.ended span
     → span.1 ≤ length old.haystack → most_ahead new < most_ahead old
 fewer_ahead old new span may same ended onward inside =
     rw (same, ended)
-    (let most = at_most_left new.limit (length old.haystack) span.1 in
-    let all = all_left old.limit old.ended (length old.haystack) may in
-    let fewer = fewer_left old.ended (length old.haystack) span onward inside in
-    omega (arith, most, all, fewer))
+    (fewer_behind old.limit new.limit old.ended (length old.haystack) span may onward inside)

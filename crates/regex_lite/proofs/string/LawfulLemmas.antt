@@ -14,7 +14,8 @@ use Rattle.regex_lite_engine.proofs.laws.groups.SpanLemmas.{groups_inside}
 use Rattle.regex_lite_engine.proofs.laws.several.ListAnswerLemmas.{one_list_answer}
 use Rattle.regex_lite.specs.Answers.{AreLawful, IsWithin}
 use Rattle.regex_lite.specs.Expression.{Expression}
-use Rattle.regex_lite.specs.MatchList.{IsAnswerOf}
+use Rattle.regex_lite.specs.MatchList.{IsAnswerOf, IsAnswerOfPatterns}
+use Rattle.regex_lite.proofs.string.ListBuildLemmas.{one_list, pattern_tree}
 use Rattle.regex_lite.proofs.string.OneTreeLemmas.{one_tree}
 
 pub found_within : (tree : Tree) (haystack : Text) (s : ℕ) (found : Found) → IsPatternTree tree
@@ -72,8 +73,8 @@ regex_lawful re haystack = record {
   one = one_of re haystack;
 }
 
--- so are those of a list of patterns
-pub list_lawful : (trees : List Tree) (haystack : Text) → ArePatternTrees trees
+-- so are those of several trees
+list_lawful : (trees : List Tree) (haystack : Text) → ArePatternTrees trees
     → AreLawful (λ (own : ℕ × Found). own.1) haystack (IsAnswerOfList trees haystack)
 list_lawful trees haystack given = record {
   within = λ s answer is.
@@ -96,4 +97,26 @@ list_lawful trees haystack given = record {
       absurd (omega (arith, m.from, m.inside, over));
   one = λ s. one_list_answer trees haystack
       (λ k tree there. regular_tree tree (given k tree there)) s;
+}
+
+-- and those of several patterns, which have one list of trees
+pub patterns_lawful : (list : List Expression) (haystack : Text)
+    → AreLawful (λ (own : ℕ × Found). own.1) haystack (IsAnswerOfPatterns list haystack)
+patterns_lawful list haystack = record {
+  within = λ s answer (trees, given, is).
+      (list_lawful trees haystack (pattern_tree list trees given)).within s answer is;
+  further = λ s p answer later before (trees, given, is). (
+    trees,
+    given,
+    (list_lawful trees haystack (pattern_tree list trees given)).further s p answer later before is,
+  );
+  none_behind = λ s p answer (trees, given, is) over. (
+    trees,
+    given,
+    (list_lawful trees haystack (pattern_tree list trees given)).none_behind s p answer is over,
+  );
+  one = λ s a b (trees, given, is) (other, given_too, is_too).
+      (list_lawful trees haystack (pattern_tree list trees given)).one s a b is
+      (subst (λ own. IsAnswerOfList own haystack s b) (one_list list other trees given_too given)
+      is_too);
 }

@@ -6,21 +6,26 @@ use Rattle.regex_lite_syntax.specs.Tree.{Tree}
 use Rattle.regex_lite_engine.specs.declared.pikevm.search.Outcome.{Outcome}
 use Rattle.regex_lite_engine.specs.WayLaws.{IsPatternTree}
 use Rattle.regex_lite_engine.specs.Graph.SideBySide.{AreRegular}
-use Rattle.regex_lite_engine.specs.Graph.StoredList.{HasGroupsOfList, IsGraphOfList, StoredGroups, StoredList, TellsGroupsOf}
+use Rattle.regex_lite_engine.specs.Graph.StoredList.{HasGroupsOfList, IsGraphOfList, StoredGroups, StoredList, TellGroupsOf, TellsGroupsOf}
 use Rattle.regex_lite_engine.specs.Search.Answer.{Found, IsAnswer}
 use Rattle.regex_lite_engine.specs.Search.AnswerOfList.{AnyMatchesFrom, HasTree, IsFoundInList}
-use Rattle.regex_lite_engine.specs.Search.Offsets.{search_start}
-use Rattle.regex_lite_engine.specs.Search.Outcomes.{IsOutcomeOfList}
+use Rattle.regex_lite_engine.specs.Search.Offsets.{HasSlots, search_start}
+use Rattle.regex_lite_engine.specs.Search.Outcomes.{IsOutcomeOfList, IsSpanOutcomeOfList}
+use Rattle.regex_lite_engine.specs.Search.Searching.{ListSearching}
 use Rattle.regex_lite_engine.proofs.laws.PatternTreeLemmas.{regular_tree}
 use Rattle.regex_lite_engine.proofs.laws.several.ListAnswerLemmas.{list_answers}
 use Rattle.regex_lite.specs.declared.string.list.compiled.CompiledList.{CompiledList}
 use Rattle.regex_lite.specs.declared.string.matches.Match.{Match}
+use Rattle.regex_lite.specs.Answers.{TellsOfAnswer}
 use Rattle.regex_lite.specs.Compiled.{NamesGroups, groups_of, names_of}
 use Rattle.regex_lite.specs.CompiledList.{IsBuiltList, groups_at}
 use Rattle.regex_lite.specs.Expression.{Expression}
 use Rattle.regex_lite.specs.Groups.{AreGroups, Groups, LiesIn}
+use Rattle.regex_lite.specs.ListAhead.{AreGroupsFoundInList}
+use Rattle.regex_lite.specs.ListScanning.{IsListMatchWithSlots, SearchesForList, most_captures}
+use Rattle.regex_lite.specs.MatchList.{IsAnswerOfPatterns}
 use Rattle.regex_lite.specs.MatchViews.{haystack_of_match, span_of_match}
-use Rattle.regex_lite.specs.RegexList.{AreTrees}
+use Rattle.regex_lite.specs.RegexList.{AreTrees, OfTrees}
 use Rattle.regex_lite.specs.RegexListSearches.{AnyMatches, AreOfPattern, TellsAnswerOfList, TellsGroupsOfList, TellsMatchOfList}
 use Rattle.regex_lite.specs.Searches.{AreGroupsOf, TellsAnswer, offsets}
 use Rattle.regex_lite.specs.Slots.{all_slots, kept_slots, most_groups}
@@ -68,6 +73,15 @@ outcome_of_list trees graph own bytes start told number outcome regular is_graph
     subst (IsOutcomeOfList trees bytes start) is
     (tells trees regular (subst (IsGraphOfList trees) (sym same) is_graph))
 
+-- what a searcher tells is so of the patterns' trees
+pub span_of_list : (list : List Expression) (searcher : ListSearching) (bytes : List ℕ) (start : ℕ)
+    (slots : List (Option ℕ)) (told : Option (ℕ × (ℕ × ℕ))) → SearchesForList list searcher
+    → ((trees : List Tree) → AreRegular trees → IsGraphOfList trees searcher.graph
+    → IsSpanOutcomeOfList trees bytes start slots told)
+    → OfTrees list (λ trees. IsSpanOutcomeOfList trees bytes start slots told)
+span_of_list list searcher bytes start slots told (trees, given, (regular, is_graph)) tells =
+    (trees, given, tells trees regular is_graph)
+
 -- as many slots are kept as were asked for
 pub kept_width : (told : Option (ℕ × Outcome)) (number : ℕ) (outcome : Outcome) (n : ℕ)
     → IfSome told (λ found. length found.1.slots.items ≡ n) → told ≡ Some (number, outcome)
@@ -77,13 +91,11 @@ kept_width (Some found) number outcome n len is =
     ap (λ (own : ℕ × Outcome). length own.1.slots.items) (sym (same_some is)) ∙ len
 
 module _ (bytes : List ℕ) (utf8 : IsUtf8 bytes) (start : ℕ) (list : List Expression)
-    (trees : List Tree) (given : AreTrees list trees) (number : ℕ) (outcome : Outcome)
-    (own : IsOutcomeOfList trees bytes start (Some (number, outcome))) where
+    (trees : List Tree) (given : AreTrees list trees) (number : ℕ) (span : ℕ × ℕ)
+    (kept : List (Option ℕ))
+    (own : IsSpanOutcomeOfList trees bytes start kept (Some (number, span))) where
   abbrev found : Found
   found = own.0
-
-  abbrev span : ℕ × ℕ
-  span = (outcome.start, outcome.end)
 
   abbrev answer : IsFoundInList trees (chars bytes) (search_start bytes start) number found
   answer = own.1
@@ -114,6 +126,21 @@ module _ (bytes : List ℕ) (utf8 : IsUtf8 bytes) (start : ℕ) (list : List Exp
         span = is ∙ sym span_is;
       },
     ),
+  )
+
+  -- with its slots
+  pub list_match_with_slots_told : (m : Match) → haystack_of_match m ≡ bytes
+      → span_of_match m ≡ span
+      → TellsOfAnswer (IsAnswerOfPatterns list (chars bytes)) (IsListMatchWithSlots bytes kept)
+      (search_start bytes start) (Some (number, m))
+  list_match_with_slots_told m haystack is = (
+    (number, found),
+    (trees, given, answer),
+    record {
+      number = refl;
+      is_match = record { haystack = haystack; span = is ∙ sym span_is };
+      has_slots = own.2.slots;
+    },
   )
 
 -- what is stored of the groups of a pattern is so of its tree
@@ -168,78 +195,122 @@ enough_kept (slot ∷ kept) span (suc zero) own len le = absurd (omega (arith, l
 enough_kept [] span (suc (suc most)) own len le = absurd (omega (arith, len))
 enough_kept (slot ∷ kept) span (suc (suc most)) own len le = omega (arith, len, le)
 
--- with the groups of its pattern
-module _ (bytes : List ℕ) (utf8 : IsUtf8 bytes) (start : ℕ) (list : List Expression)
-    (compiled : CompiledList) (built : IsBuiltList compiled) (given : AreTrees list built.trees)
-    (number : ℕ) (outcome : Outcome)
-    (own : IsOutcomeOfList built.trees bytes start (Some (number, outcome)))
-    (width : length outcome.slots.items ≡ compiled.kept_slots)
-    (slots : List (Option ℕ)) where
+-- as many slots are kept as the pattern with the most groups needs
+pub most_are : (trees : List Tree) (all : List StoredGroups) → length all ≡ length trees
+    → TellGroupsOf trees all → most_groups all ≡ most_captures trees
+most_are [] [] same tell = refl
+most_are [] (own ∷ rest) same tell = absurd (omega (arith, same))
+most_are (tree ∷ trees) [] same tell = absurd (omega (arith, same))
+most_are (tree ∷ trees) (own ∷ rest) same tell =
+    let first = (tell 0 tree own refl refl).captures in
+    let others = most_are trees rest (omega (arith, same))
+    (λ number t o there at. tell (suc number) t o there at) in
+    rw (first, others) refl
+
+-- the groups of what is found of a pattern of the list
+module _ (bytes : List ℕ) (utf8 : IsUtf8 bytes) (list : List Expression) (compiled : CompiledList)
+    (built : IsBuiltList compiled) (given : AreTrees list built.trees) (s number : ℕ)
+    (found : Found) (answer : IsFoundInList built.trees (chars bytes) s number found)
+    (kept : List (Option ℕ)) (held : HasSlots (chars bytes) kept found.marks) (span : ℕ × ℕ)
+    (same : span ≡ offsets (chars bytes) (found.start, found.end))
+    (width : length kept ≡ compiled.kept_slots) (slots : List (Option ℕ)) where
   abbrev stored : StoredGroups
   stored = groups_at compiled.graph.groups number
 
-  abbrev own_found : Found
-  own_found = own.0
-
-  abbrev own_answer : IsFoundInList built.trees (chars bytes) (search_start bytes start) number
-      own_found
-  own_answer = own.1
-
   abbrev tree : Tree
-  tree = own_answer.tree
+  tree = answer.tree
 
   own_grammar : IsPatternTree tree
-  own_grammar = pattern_tree list built.trees given number tree own_answer.numbered
+  own_grammar = pattern_tree list built.trees given number tree answer.numbered
 
   -- the pattern is there
-  pub listed_there : number < length compiled.graph.groups
-  listed_there =
-      (stored_at built.trees compiled.graph number tree built.groups own_answer.numbered).0
+  pub found_there : number < length compiled.graph.groups
+  found_there = (stored_at built.trees compiled.graph number tree built.groups answer.numbered).0
 
   tells : TellsGroupsOf tree stored
-  tells = (stored_at built.trees compiled.graph number tree built.groups own_answer.numbered).1
+  tells = (stored_at built.trees compiled.graph number tree built.groups answer.numbered).1
 
-  module _ (filled : slots ≡ take (2 * length stored.capture_names)
-      (all_slots outcome.slots.items (outcome.start, outcome.end))) where
-    cut_held : AreAllSlots (chars bytes) tree own_found slots
+  module _ (filled : slots ≡ take (2 * length stored.capture_names) (all_slots kept span)) where
+    cut_held : AreAllSlots (chars bytes) tree found slots
     cut_held =
-        let all = all_slots outcome.slots.items (outcome.start, outcome.end) in
-        let held = held_all (chars bytes) tree own_found.start own_found own_grammar
-        own_answer.answer outcome.slots.items (outcome.start, outcome.end) own.2.slots
-        (same_pair own.2.start own.2.end) in
-        let few = most_at compiled.graph.groups number listed_there in
-        let enough = enough_kept outcome.slots.items (outcome.start, outcome.end)
-        (most_groups compiled.graph.groups) (length stored.capture_names)
-        (width ∙ built.slots) few in
+        let all = all_slots kept span in
+        let all_held = held_all (chars bytes) tree found.start found own_grammar answer.answer kept
+        span held same in
+        let few = most_at compiled.graph.groups number found_there in
+        let enough = enough_kept kept span (most_groups compiled.graph.groups)
+        (length stored.capture_names) (width ∙ built.slots) few in
         let two = 2 * length stored.capture_names in
         rw (filled) (
-          λ k slot there. held k slot (in_whole all two k slot there),
+          λ k slot there. all_held k slot (in_whole all two k slot there),
           length-take-le two all enough ∙ ap (λ n. 2 * n) tells.captures,
         )
 
     -- all slots hold groups
-    pub listed_groups_are : AreGroups (groups_of bytes slots stored)
+    pub found_groups_are : AreGroups (groups_of bytes slots stored)
+    found_groups_are =
+        captured bytes utf8 tree own_grammar found.start found answer.answer slots cut_held stored
+        (named_groups tree stored own_grammar tells)
+
+    -- which are those of what was found
+    pub found_groups : (groups : Groups) → groups ≡ groups_of bytes slots stored
+        → AreGroupsOf tree bytes found groups
+    found_groups groups are =
+        subst (λ g. AreGroupsOf tree bytes found g) (sym are)
+        (captured_of bytes utf8 tree own_grammar found.start found answer.answer slots cut_held
+        stored (named_groups tree stored own_grammar tells))
+
+    -- of the pattern with the number
+    pub found_groups_in_list : (groups : Groups) → groups ≡ groups_of bytes slots stored
+        → AreGroupsFoundInList list bytes number found groups
+    found_groups_in_list groups are =
+        let own = own_tree list built.trees number tree given answer.numbered in
+        (own.0, own.1, (tree, own.2, found_groups groups are))
+
+-- so of the outcome of a search
+module _ (bytes : List ℕ) (utf8 : IsUtf8 bytes) (start : ℕ) (list : List Expression)
+    (compiled : CompiledList) (built : IsBuiltList compiled) (given : AreTrees list built.trees)
+    (number : ℕ) (outcome : Outcome)
+    (own : IsOutcomeOfList built.trees bytes start (Some (number, outcome)))
+    (width : length outcome.slots.items ≡ compiled.kept_slots) (slots : List (Option ℕ)) where
+  abbrev own_span : ℕ × ℕ
+  own_span = (outcome.start, outcome.end)
+
+  own_span_is : own_span ≡ offsets (chars bytes) (own.0.start, own.0.end)
+  own_span_is = same_pair own.2.start own.2.end
+
+  -- the pattern is there
+  pub listed_there : number < length compiled.graph.groups
+  listed_there =
+      found_there bytes utf8 list compiled built given (search_start bytes start) number own.0 own.1
+      outcome.slots.items own.2.slots own_span own_span_is width slots
+
+  module _ (filled : slots ≡ take (2 * length (groups_at compiled.graph.groups number).capture_names)
+      (all_slots outcome.slots.items own_span)) where
+    -- all slots hold groups
+    pub listed_groups_are : AreGroups
+        (groups_of bytes slots (groups_at compiled.graph.groups number))
     listed_groups_are =
-        captured bytes utf8 tree own_grammar own_found.start own_found own_answer.answer slots
-        cut_held stored (named_groups tree stored own_grammar tells)
+        found_groups_are bytes utf8 list compiled built given (search_start bytes start) number own.0
+        own.1 outcome.slots.items own.2.slots own_span own_span_is width slots filled
 
     -- which are what is told
-    pub listed_groups_told : (groups : Groups) → groups ≡ groups_of bytes slots stored
+    pub listed_groups_told : (groups : Groups)
+        → groups ≡ groups_of bytes slots (groups_at compiled.graph.groups number)
         → TellsGroupsOfList list bytes start (Some (number, groups))
-    listed_groups_told groups are =
-        let told = captured_of bytes utf8 tree own_grammar own_found.start own_found
-        own_answer.answer slots cut_held stored (named_groups tree stored own_grammar tells) in (
-          built.trees,
-          given,
-          (
-            own_found,
-            own_answer,
-            subst (λ g. AreGroupsOf tree bytes own_found g) (sym are) told,
-          ),
-        )
+    listed_groups_told groups are = (
+      built.trees,
+      given,
+      (
+        own.0,
+        own.1,
+        found_groups bytes utf8 list compiled built given (search_start bytes start) number own.0
+            own.1 outcome.slots.items own.2.slots own_span own_span_is width slots filled groups are,
+      ),
+    )
 
     -- they are those of a match of the pattern
-    pub listed_of_pattern : (groups : Groups) → groups ≡ groups_of bytes slots stored
+    pub listed_of_pattern : (groups : Groups)
+        → groups ≡ groups_of bytes slots (groups_at compiled.graph.groups number)
         → AreOfPattern list (number, groups)
     listed_of_pattern groups are =
         let alone = of_pattern (λ tree. AreGroupsOf tree bytes) list bytes start number groups

@@ -10,6 +10,7 @@ use Rattle.regex_lite_engine.proofs.OffsetLemmas.{offset_less}
 use Rattle.regex_lite_engine.proofs.PositionLemmas.{first_position, position_is, position_of, start_position}
 use Rattle.regex_lite.specs.Ahead.{IsOnward}
 use Rattle.regex_lite.specs.Answers.{AreLawful, IsEmptyAnswerFrom, IsWithin, TellsOfAnswer}
+use Rattle.regex_lite.specs.ListScanning.{IsListMatchWithSlots, span_of_listed}
 use Rattle.regex_lite.specs.MatchList.{IsNextAnswer, is_empty_answer}
 use Rattle.regex_lite.specs.MatchViews.{span_of_match}
 use Rattle.regex_lite.specs.NextMatch.{IsNextOffset, TellsNext}
@@ -212,7 +213,12 @@ module _ {A : Type 0} (found_of : A → Found) (Answers : (s : ℕ) → Option A
   next_answer (Some e) answer (from_end, there, next) =
       answer_behind e answer from_end (is_empty_answer found_of e from_end) there next
 
--- a match has the span of what is found
+-- a match has the span of what is found, whatever found it
 pub match_meant : (bytes : List ℕ) (slots : List (Option ℕ))
     → HasItsSpan (λ (own : Found). own) (IsMatchWithSlots bytes slots) span_of_match (chars bytes)
 match_meant bytes slots found m is = is.is_match.span
+
+pub list_match_meant : (bytes : List ℕ) (slots : List (Option ℕ))
+    → HasItsSpan (λ (own : ℕ × Found). own.1) (IsListMatchWithSlots bytes slots) span_of_listed
+    (chars bytes)
+list_match_meant bytes slots answer told is = is.is_match.span

@@ -1,15 +1,22 @@
 //! Several patterns that are searched for at once.
 ghost use Rattle.std.specs.Prelude.{◌≡◌, ◌↔◌, ◌≤◌, ◌<◌, ◌*◌, ◌^◌, [], ℕ, IsTrue, length, map, option_map, slice_get, ⊤};
 ghost use Rattle.regex_lite_engine.specs.Graph.SideBySide.{arrows_of_all, places_of_all};
+ghost use Rattle.regex_lite.specs.ListScanning.{most_captures};
 ghost use Rattle.regex_lite.specs.RegexList.{BuildsList, OfTrees};
 ghost use Rattle.regex_lite.specs.Settings.{default_settings};
+ghost use Rattle.regex_lite.specs.Slots.{kept_slots};
 
 mod build;
 pub(super) mod builder;
+pub(super) mod captures_iter;
 pub(super) mod compiled;
 mod counted;
+pub(super) mod find_iter;
+mod group_scan;
 mod group_search;
+mod scan;
 mod search;
+mod searcher;
 
 use crate::owner::Shared;
 use build::default_builders;
@@ -111,6 +118,15 @@ impl RegexList {
         ensures bounded { result < 2 ^ 33 }
     {
         self.compiled.graph.arrows()
+    }
+}
+
+impl RegexList {
+    /// How many slots a search for groups keeps.
+    fn kept_slots(&self) -> usize
+        ensures { OfTrees self.now (λ trees. result ≡ kept_slots (most_captures trees)) }
+    {
+        self.compiled.kept_slots
     }
 }
 

@@ -196,7 +196,7 @@ fn match_behind_empty<'h>(
 }
 
 /// Where the character ends that stands at this offset. None stands at the haystack's end.
-fn next_offset(haystack: &str, at: usize) -> Option<usize>
+pub(super) fn next_offset(haystack: &str, at: usize) -> Option<usize>
     requires { IsCharBoundary haystack.now at }
     ensures { IsNextOffset haystack.now at result }
 {

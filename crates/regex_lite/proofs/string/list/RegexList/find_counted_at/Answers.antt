@@ -10,7 +10,7 @@ new-found-requires c =
     let built = c.self.invariant in
     let given : AreTrees a.self.now built.trees = rw (← c.self.view_is) built.given in
     list_span_lies a.haystack.now c.utf8.haystack a.start a.self.now built.trees given
-    c.in-Some.number c.in-Some.outcome
+    c.in-Some.number (c.in-Some.outcome.start, c.in-Some.outcome.end) c.in-Some.outcome.slots.items
     (outcome_of_list built.trees c.deref.result.now.graph c.self.inside.compiled.graph
     a.haystack.now a.start c.in_ok-told.told c.in-Some.number c.in-Some.outcome built.regular
     built.graph
@@ -23,7 +23,7 @@ returns-clause-found c =
     let built = c.self.invariant in
     let given : AreTrees a.self.now built.trees = rw (← c.self.view_is) built.given in
     list_match_told a.haystack.now c.utf8.haystack a.start a.self.now built.trees given
-    c.in-Some.number c.in-Some.outcome
+    c.in-Some.number (c.in-Some.outcome.start, c.in-Some.outcome.end) c.in-Some.outcome.slots.items
     (outcome_of_list built.trees c.deref.result.now.graph c.self.inside.compiled.graph
     a.haystack.now a.start c.in_ok-told.told c.in-Some.number c.in-Some.outcome built.regular
     built.graph

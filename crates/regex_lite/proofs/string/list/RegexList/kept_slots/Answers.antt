@@ -1,0 +1,18 @@
+use Rattle.std.proofs.Common.{◌∙◌, ap}
+use Rattle.regex_lite.specs.declared.string.list.compiled.CompiledList.{CompiledList}
+use Rattle.regex_lite.specs.RegexList.{AreTrees}
+use Rattle.regex_lite.specs.Slots.{kept_slots}
+use Rattle.regex_lite.proofs.string.ListToldLemmas.{most_are}
+use Rattle.regex_lite.proofs.string.list.RegexList.kept_slots.Goals as goal
+
+pub returns : goal.returns
+returns c =
+    let built = c.self.invariant in
+    let given : AreTrees c.args.self.now built.trees = rw (← c.self.view_is) built.given in
+    let most = most_are built.trees c.self.inside.compiled.graph.groups built.groups.all
+    built.groups.each in (
+      built.trees,
+      given,
+      ap (λ (compiled : CompiledList). compiled.kept_slots) c.deref.ensures
+          ∙ built.slots ∙ ap kept_slots most,
+    )

@@ -1,0 +1,78 @@
+//! The groups of all matches of several patterns in a haystack, match after match.
+ghost use Rattle.std.specs.Prelude.{◌≡◌, None, IfOk, IfErr};
+ghost use Rattle.regex_lite_syntax.specs.Errors.{out_of_memory};
+ghost use Rattle.regex_lite.specs.ListAhead.{list_groups_ahead_of, whole_list};
+
+use crate::string::captures::Captures;
+use crate::string::list::RegexList;
+use crate::string::list::group_scan::ListGroupScan;
+use regex_lite_syntax::Error;
+use std::fmt;
+use std::iter::FusedIterator;
+
+impl RegexList {
+    /// The groups of all matches that [`RegexList::find_iter`] gives, each with the number of its
+    /// pattern.
+    ///
+    /// ```
+    /// let list = RegexList::new(alloc, &["([a-z])[0-9]", "([0-9])"])?;
+    /// for item in list.captures_iter("a12")? {
+    ///     let (number, caps) = item?;
+    ///     number; // 0, then 1
+    ///     caps.get(1); // the match of "a", then that of "2"
+    /// }
+    /// ```
+    ///
+    /// The test `tests::examples::lists::all_groups` runs this example.
+    ///
+    /// # Errors
+    ///
+    /// `Memory` where a growth is refused. Each item takes memory of its own. One that is refused
+    /// is the last.
+    pub fn captures_iter<'r, 'h>(
+        &'r self,
+        haystack: &'h str,
+    ) -> Result<ListCaptureMatches<'r, 'h>, Error>
+        ensures ahead { IfOk result
+            (λ it. list_groups_ahead_of it ≡ whole_list self.now haystack.now) }
+        ensures begins { IfOk result (λ it. it.scan.ended ≡ None) }
+        ensures refused { IfErr result (λ error. error ≡ out_of_memory) }
+    {
+        Ok(ListCaptureMatches {
+            scan: ListGroupScan::new(self, haystack)?,
+        })
+    }
+}
+
+/// The groups of all matches of several patterns in a haystack, match after match, each with the
+/// number of its pattern: an iterator that [`RegexList::captures_iter`] makes.
+///
+/// After the last match, and after an error, it gives `None`, and goes on giving it. The groups
+/// borrow the haystack alone, and outlive the iterator and the list.
+#[derive(Drop)]
+pub struct ListCaptureMatches<'r, 'h> {
+    scan: ListGroupScan<'r, 'h>,
+}
+
+impl<'r, 'h> Iterator for ListCaptureMatches<'r, 'h> {
+    ghost use Rattle.regex_lite.specs.ListAhead.{GivesListGroups, most_list_groups};
+
+    type Item = Result<(usize, Captures<'h>), Error>;
+
+    ghost next_gives = { GivesListGroups };
+
+    ghost remaining = { most_list_groups };
+
+    fn next(&mut self) -> Option<Result<(usize, Captures<'h>), Error>> {
+        self.scan.next()
+    }
+}
+
+impl<'r, 'h> FusedIterator for ListCaptureMatches<'r, 'h> {}
+
+/// Writes the patterns, and where the iterator stands.
+impl<'r, 'h> fmt::Debug for ListCaptureMatches<'r, 'h> {
+    fn fmt<W: fmt::Write>(&self, f: &mut fmt::Formatter<W>) -> fmt::Result {
+        self.scan.fmt_as("ListCaptureMatches", f)
+    }
+}

@@ -1,0 +1,76 @@
+//! The matches of several patterns in a haystack, one after another.
+ghost use Rattle.std.specs.Prelude.{◌≡◌, None, IfOk, IfErr};
+ghost use Rattle.regex_lite_syntax.specs.Errors.{out_of_memory};
+ghost use Rattle.regex_lite.specs.ListAhead.{list_ahead_of, whole_list};
+
+use crate::string::list::RegexList;
+use crate::string::list::scan::ListScan;
+use crate::string::matches::Match;
+use regex_lite_syntax::Error;
+use std::fmt;
+use std::iter::FusedIterator;
+
+impl RegexList {
+    /// All matches, from left to right, each with the number of its pattern.
+    ///
+    /// The first is that of [`RegexList::find`]. The next is looked for where the last one ended,
+    /// whichever pattern that was of; where that would be an empty match at that very place, it is
+    /// looked for one character further on. So no two matches overlap.
+    ///
+    /// ```
+    /// let list = RegexList::new(alloc, &["if", "[a-z]+", "[0-9]+"])?;
+    /// for (number, found) in list.find_iter("if x1")? {
+    ///     number; // 0, then 1, then 2
+    ///     found.range(); // 0..2, then 3..4, then 4..5
+    /// }
+    /// ```
+    ///
+    /// The test `tests::examples::lists::all_matches` runs this example.
+    ///
+    /// # Errors
+    ///
+    /// `Memory` where a growth is refused. The items take no memory, and are never refused.
+    pub fn find_iter<'r, 'h>(&'r self, haystack: &'h str) -> Result<ListMatches<'r, 'h>, Error>
+        ensures ahead { IfOk result
+            (λ it. list_ahead_of it ≡ whole_list self.now haystack.now) }
+        ensures begins { IfOk result (λ it. it.scan.ended ≡ None) }
+        ensures refused { IfErr result (λ error. error ≡ out_of_memory) }
+    {
+        Ok(ListMatches {
+            scan: ListScan::new(self, haystack, 0)?,
+        })
+    }
+}
+
+/// The matches of several patterns in a haystack, one after another, each with the number of its
+/// pattern: an iterator that [`RegexList::find_iter`] makes.
+///
+/// After the last match it gives `None`, and goes on giving it. The matches borrow the haystack
+/// alone, and outlive the iterator and the list.
+#[derive(Drop)]
+pub struct ListMatches<'r, 'h> {
+    scan: ListScan<'r, 'h>,
+}
+
+impl<'r, 'h> Iterator for ListMatches<'r, 'h> {
+    ghost use Rattle.regex_lite.specs.ListAhead.{GivesListMatch, most_list_matches};
+
+    type Item = (usize, Match<'h>);
+
+    ghost next_gives = { GivesListMatch };
+
+    ghost remaining = { most_list_matches };
+
+    fn next(&mut self) -> Option<(usize, Match<'h>)> {
+        self.scan.next()
+    }
+}
+
+impl<'r, 'h> FusedIterator for ListMatches<'r, 'h> {}
+
+/// Writes the patterns, and where the iterator stands.
+impl<'r, 'h> fmt::Debug for ListMatches<'r, 'h> {
+    fn fmt<W: fmt::Write>(&self, f: &mut fmt::Formatter<W>) -> fmt::Result {
+        self.scan.fmt_as("ListMatches", f)
+    }
+}

@@ -1,0 +1,96 @@
+//! Searches for several patterns, one after another, in the same memory.
+ghost use Rattle.std.specs.Prelude.{◌≡◌, IfOk, IfErr, length};
+ghost use Rattle.regex_lite_syntax.specs.Errors.{out_of_memory};
+ghost use Rattle.regex_lite_engine.specs.Search.Answer.{Found};
+ghost use Rattle.regex_lite.specs.ListAhead.{AreGroupsFoundInList};
+ghost use Rattle.regex_lite.specs.ListScanning.{HasSlotsForAllGroups, IsListAnswerIfEmpty, IsListMatchOfSearch, TellsListMatchWithSlots};
+ghost use Rattle.regex_lite.specs.Searches.{CanStartAt};
+
+use crate::string::captures::Captures;
+use crate::string::list::RegexList;
+use crate::string::matches::Match;
+use crate::string::slots::all_slots;
+use crate::string::source::Source;
+use regex_lite_syntax::Error;
+use std::fmt;
+use std::marker::Model;
+
+/// Several patterns, and the memory in which they are searched for, search after search.
+#[derive(Drop)]
+pub(super) struct ListSearcher<'r> {
+    list: &'r RegexList,
+    inner: regex_lite_engine::ListSearcher<'r>,
+}
+
+impl<'r> Model for ListSearcher<'r> {
+    ghost use Rattle.regex_lite.specs.ListScanning.{ListSearching, SearchesForList};
+
+    ghost Value = { ListSearching };
+
+    ghost view = { λ searcher. record {
+      list = searcher.list.now;
+      slots = searcher.inner.slots;
+    } };
+
+    ghost invariant = { λ searcher. SearchesForList searcher.list.now searcher.inner };
+}
+
+impl<'r> ListSearcher<'r> {
+    /// The patterns with memory for their searches, whose matches have so many slots.
+    pub fn new(list: &'r RegexList, slots: usize) -> Result<ListSearcher<'r>, Error>
+        ensures list { IfOk result (λ searcher. searcher.list ≡ list.now) }
+        ensures slots { IfOk result (λ searcher. length searcher.slots ≡ slots) }
+        ensures refused { IfErr result (λ error. error ≡ out_of_memory) }
+    {
+        let graph = &list.compiled.graph;
+        let inner = regex_lite_engine::ListSearcher::new(list.alloc, graph, slots)?;
+        Ok(ListSearcher { list, inner })
+    }
+
+    /// [`RegexList::find_at`], which is never refused here. The slots of the match are kept.
+    pub fn find_at<'h>(&mut self, haystack: &'h str, start: usize) -> Option<(usize, Match<'h>)>
+        requires { CanStartAt haystack.now start }
+        ensures found { TellsListMatchWithSlots self.old.list haystack.now start self.new.slots
+            result }
+        ensures empty { IsListAnswerIfEmpty self.old.list haystack.now result }
+        ensures list { self.new.list ≡ self.old.list }
+        ensures slots { length self.new.slots ≡ length self.old.slots }
+    {
+        let (number, (from, to)) = self.inner.search(haystack, start)?;
+        Some((number, Match::new(haystack, from, to)))
+    }
+
+    /// The groups of the last match, which was found in this haystack.
+    pub fn captures<'h>(
+        &self,
+        haystack: &'h str,
+        last: &(usize, Match<'h>),
+    ) -> Result<Captures<'h>, Error>
+        requires room { HasSlotsForAllGroups self.now.list self.now.slots }
+        requires last { (found : Found) × IsListMatchOfSearch self.now.list haystack.now
+            self.now.slots (last.now.0, found) last.now }
+        ensures groups { IfOk result (λ groups. (found : Found)
+            → IsListMatchOfSearch self.now.list haystack.now self.now.slots (last.now.0, found)
+            last.now
+            → AreGroupsFoundInList self.now.list haystack.now last.now.0 found groups) }
+        ensures refused { IfErr result (λ error. error ≡ out_of_memory) }
+    {
+        let list = self.list;
+        let (number, whole) = last;
+        let kept = self.inner.slots();
+        let mut slots = Vec::with_capacity(list.alloc, kept.len())?;
+        slots.extend_from_slice(kept)?;
+        let mut slots = all_slots(slots, (whole.start(), whole.end()))?;
+        let source = Source::of_listed(list.compiled.clone()?, *number);
+        // A search keeps slots for the pattern with the most groups. This one may have fewer.
+        slots.truncate(source.slots());
+        Ok(Captures::new(haystack, slots, source))
+    }
+}
+
+/// Writes the patterns.
+impl<'r> fmt::Debug for ListSearcher<'r> {
+    fn fmt<W: fmt::Write>(&self, f: &mut fmt::Formatter<W>) -> fmt::Result {
+        write!(f, "{:?}", self.list)
+    }
+}
