@@ -5,6 +5,7 @@ mod built;
 mod costs;
 mod found;
 mod groups;
+mod lists;
 mod only;
 
 use crate::{Error, Match, RegexList};

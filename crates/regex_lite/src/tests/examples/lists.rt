@@ -37,6 +37,34 @@ fn captured(rt: HostRuntime) -> Result<(), Fail> {
     Ok(())
 }
 
+/// At `RegexList::find_iter`.
+#[test]
+fn all_matches(rt: HostRuntime) -> Result<(), Fail> {
+    let list = RegexList::new(rt.alloc(), &["if", "[a-z]+", "[0-9]+"])?;
+    let mut matches = list.find_iter("if x1")?;
+    for (number, range) in [(0, 0..2), (1, 3..4), (2, 4..5)] {
+        let found = matches.next().map(|(own, found)| (own, found.range()));
+        assert_eq!(rt; found, Some((number, range)));
+    }
+    Ok(())
+}
+
+/// At `RegexList::captures_iter`.
+#[test]
+fn all_groups(rt: HostRuntime) -> Result<(), Fail> {
+    let list = RegexList::new(rt.alloc(), &["([a-z])[0-9]", "([0-9])"])?;
+    let mut items = list.captures_iter("a12")?;
+    for (wanted, text) in [(0, "a"), (1, "2")] {
+        if let Some(item) = items.next() {
+            let (number, caps) = item?;
+            assert_eq!(rt; number, wanted);
+            assert_eq!(rt; caps.get(1).map(|m| m.as_str()), Some(text));
+        }
+    }
+    assert!(rt; items.next().is_none());
+    Ok(())
+}
+
 /// At `RegexListBuilder`.
 #[test]
 fn builder(rt: HostRuntime) -> Result<(), Fail> {
