@@ -1,5 +1,5 @@
--- The matches of a haystack, one after another: those of any searches, those of a regex, and those of
--- several patterns.
+-- The matches of a haystack, one after another: those of any searches, of a regex, and of several
+-- patterns.
 use Rattle.std.specs.Prelude.{◌≡◌, ◌≢◌, ◌-◌, ◌==◌, ◌&&◌, ℕ, suc, Bool, false, List, [], ◌∷◌, Option, Some, None, MatchBool, option_map, zero}
 use Rattle.regex_lite_syntax.specs.Text.{Text}
 use Rattle.regex_lite_engine.specs.Search.Answer.{Found, IsAnswer}
