@@ -38,8 +38,8 @@ def program_files(program):
               if line.partition(':')[0] in LIBRARIES]
     found = {'crates.txt': '\n'.join([*crates, f'{program}: regex_lite', ''])}
     folder = TOP / 'tests' / program
-    for file in folder.glob(f'*.rt{ENDING}'):
-        name = file.name[:-len(ENDING)]
+    for file in folder.glob(f'**/*.rt{ENDING}'):
+        name = str(file.relative_to(folder))[:-len(ENDING)]
         found[f'crates/{program}/src/{name}'] = file.read_text(encoding='utf-8')
     for file in folder.glob(f'proofs/**/*.antt{ENDING}'):
         name = str(file.relative_to(folder))[:-len(ENDING)]

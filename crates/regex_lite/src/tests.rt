@@ -1,19 +1,10 @@
-//! What no clause says and no list of answers holds: that calls succeed, what is printed, and how
-//! owners, iterators and replacers behave in careless hands. Lists of what single calls answer are
-//! replayed by a program of their own, which costs no proof. The wanted answers are those of the
-//! Rust crate `regex-lite`.
-mod capture_names;
+//! What no clause says and no list of answers holds, and needs private items or a proof: that
+//! conditions can be met as they stand, and how owners and replacers behave in careless hands. Tests
+//! that ask public calls alone are run without a proof, from tests/unit. The wanted answers are those
+//! of the Rust crate `regex-lite`.
 mod careless;
-mod conversions;
-mod ends;
 mod errors;
-mod escapes;
 mod examples;
-mod limits;
 mod owners;
-mod pieces;
-mod replacements;
-mod searches;
-mod several;
 mod values;
 mod written_out;

@@ -1,6 +1,5 @@
-//! Replacers that count how often they are asked, and refuse; iterators that are dropped early, or
-//! asked in turn.
-use crate::{CaptureMatches, Captures, Error, ErrorKind, Matches, Regex, Replacer};
+//! Replacers that count how often they are asked, and refuse.
+use crate::{Captures, Error, ErrorKind, Regex, Replacer};
 use std::alloc::Global;
 use std::borrow::CowStr;
 use std::test::Fail;
@@ -148,84 +147,4 @@ fn never_called(rt: HostRuntime) -> Result<(), Fail> {
     drop(answer);
     assert_eq!(rt; replacer.called, 0);
     Ok(())
-}
-
-/// Where a match is, if there is one.
-type Span = Option<(usize, usize)>;
-
-/// The first match, of an iterator that is dropped then.
-fn first_span(regex: &Regex, haystack: &str) -> Result<Span, Error> {
-    let mut matches = regex.find_iter(haystack)?;
-    Ok(next_span(&mut matches))
-}
-
-/// The first four answers of an iterator.
-fn first_four_spans(regex: &Regex, haystack: &str) -> Result<[Span; 4], Error> {
-    let mut matches = regex.find_iter(haystack)?;
-    let (first, second) = (next_span(&mut matches), next_span(&mut matches));
-    let (third, fourth) = (next_span(&mut matches), next_span(&mut matches));
-    Ok([first, second, third, fourth])
-}
-
-/// An iterator that was dropped leaves nothing behind.
-#[test]
-fn dropped_early(rt: HostRuntime) -> Result<(), Fail> {
-    let regex = Regex::new(rt.alloc(), "a")?;
-    assert_eq!(rt; first_span(&regex, "aaa")?, Some((0, 1)));
-    let again = first_four_spans(&regex, "aaa")?;
-    assert!(rt; again == [Some((0, 1)), Some((1, 2)), Some((2, 3)), None]);
-    Ok(())
-}
-
-/// Two iterators of one regex don't disturb each other.
-#[test]
-fn asked_in_turn(rt: HostRuntime) -> Result<(), Fail> {
-    let regex = Regex::new(rt.alloc(), "[ab]")?;
-    let (matches, groups) = spans_in_turn(&regex, "a-b", "-ab-")?;
-    assert!(rt; matches == [Some((0, 1)), Some((2, 3)), None]);
-    assert!(rt; groups == [Some((1, 2)), Some((2, 3)), None]);
-    Ok(())
-}
-
-/// What the two iterators give that are asked in turn.
-fn spans_in_turn(regex: &Regex, left: &str, right: &str) -> Result<([Span; 3], [Span; 3]), Error> {
-    let mut matches = regex.find_iter(left)?;
-    let mut groups = regex.captures_iter(right)?;
-    let first = (next_span(&mut matches), next_whole_span(&mut groups));
-    let second = (next_span(&mut matches), next_whole_span(&mut groups));
-    let third = (next_span(&mut matches), next_whole_span(&mut groups));
-    Ok(([first.0, second.0, third.0], [first.1, second.1, third.1]))
-}
-
-fn next_span(matches: &mut Matches<'_, '_>) -> Span {
-    matches.next().map(|m| (m.start(), m.end()))
-}
-
-fn next_whole_span(groups: &mut CaptureMatches<'_, '_>) -> Span {
-    let caps = groups.next()?.ok()?;
-    caps.get(0).map(|m| (m.start(), m.end()))
-}
-
-/// Nor do pieces disturb the matches.
-#[test]
-fn cut_in_turn(rt: HostRuntime) -> Result<(), Fail> {
-    let regex = Regex::new(rt.alloc(), "[ab]")?;
-    let (matches, pieces) = pieces_in_turn(&regex, "a-b", "1a2b3")?;
-    assert!(rt; matches == [Some((0, 1)), Some((2, 3)), None]);
-    assert!(rt; pieces == [Some("1"), Some("2"), Some("3")]);
-    Ok(())
-}
-
-/// What the iterators over matches and over pieces give that are asked in turn.
-fn pieces_in_turn<'h>(
-    regex: &Regex,
-    left: &str,
-    right: &'h str,
-) -> Result<([Span; 3], [Option<&'h str>; 3]), Error> {
-    let mut matches = regex.find_iter(left)?;
-    let mut pieces = regex.split(right)?;
-    let first = (next_span(&mut matches), pieces.next());
-    let second = (next_span(&mut matches), pieces.next());
-    let third = (next_span(&mut matches), pieces.next());
-    Ok(([first.0, second.0, third.0], [first.1, second.1, third.1]))
 }

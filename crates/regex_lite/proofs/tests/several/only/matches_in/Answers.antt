@@ -1,9 +1,0 @@
-use Rattle.std.proofs.Common.{inr}
-use Rattle.std.proofs.lemmas.Str.{IsCharBoundary-start}
-use Rattle.regex_lite.proofs.tests.several.only.matches_in.Goals as goal
-
-pub find_at-requires : goal.find_at-requires
-find_at-requires c = inr (IsCharBoundary-start _ c.utf8.haystack)
-
-pub find_counted_at-requires : goal.find_counted_at-requires
-find_counted_at-requires c = inr (IsCharBoundary-start _ c.utf8.haystack)
