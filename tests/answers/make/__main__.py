@@ -1,11 +1,12 @@
 """make JUDGE: rewrites the lists of answers, and the cases in the tests of regex_lite_engine.
 
 Each list has what was picked by hand, from the files in picked/, and then generated cases by the
-quotas in choice.py, or in searches.py, lists.py and pattern_lists.py for the lists that these make.
-The list of runs has no generated ones. With `--fresh SEED NUMBER` so many new cases of the whole
-grammar are written to standard output instead, and no file, with `--fresh-searches SEED NUMBER` so
-many new searches, with `--fresh-lists SEED NUMBER` so many new cases of the list of lists, and with
-`--fresh-pattern-lists SEED NUMBER` so many new searches for several patterns.
+quotas in choice.py, or in searches.py, lists.py, pattern_lists.py and list_matches.py for the lists
+that these make. The list of runs has no generated ones. With `--fresh SEED NUMBER` so many new
+cases of the whole grammar are written to standard output instead, and no file, with
+`--fresh-searches SEED NUMBER` so many new searches, with `--fresh-lists SEED NUMBER` so many new
+cases of the list of lists, and with `--fresh-pattern-lists SEED NUMBER` so many new searches for
+several patterns.
 
 JUDGE is a program over the Rust crate regex-lite 0.1.9 with the changes that README.md tells,
 started as `JUDGE batch`. For each line of standard input it writes one line. A question has four
@@ -28,6 +29,7 @@ import escapes
 import flags
 import hostile
 import hostile_lists
+import list_matches
 import lists
 import long
 import pattern_lists
@@ -143,6 +145,7 @@ def main():
     written[ANSWERS / 'settings.tsv'] = settings.lines(judge)
     written[ANSWERS / 'long.tsv'] = long.lines(judge)
     written[ANSWERS / 'pattern-lists.tsv'] = pattern_lists.lines(judge)
+    written[ANSWERS / 'list-matches.tsv'] = list_matches.lines(judge)
     written[hostile.PATH] = hostile.lines(judge)
     written[hostile_lists.PATH] = hostile_lists.made(judge)
     for path, lines in written.items():

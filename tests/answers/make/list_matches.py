@@ -1,0 +1,84 @@
+"""The list of all matches of several patterns, one after another. Each is what the judge answers to
+a search for several patterns from where the last one ended, as pattern_lists.py asks it; an empty
+match that ends where the last one did is passed over, and the search begins again a character on."""
+
+import itertools
+
+from data import escaped, rows_of
+from dice import Dice
+from pattern_lists import answers_of, first_of, generated, span
+
+SEED = 8  # another than those of the other lists and of the sizes
+WORD = 'list matches'  # the first field of each line
+CASES = 8_000  # how many generated cases the judge is asked about
+
+# How many generated cases are kept of each shape: by how many patterns are found, and whether some
+# match is empty.
+QUOTAS = {
+    ('none', False): 40,
+    ('one pattern', False): 80, ('one pattern', True): 60,
+    ('more patterns', False): 240, ('more patterns', True): 180,
+}
+
+
+def behind(text, end):
+    """The offset after the character that begins at this one, or None at the text's end."""
+    rest = text.encode()[end:].decode()
+    return end + len(rest[0].encode()) if rest else None
+
+
+def all_matches(judge, cases):
+    """For each case, of patterns and a text, its matches: the number of the pattern and the groups."""
+    matches = [[] for _ in cases]
+    asked = {index: (0, None) for index in range(len(cases))}  # where to search, and the last end
+    while asked:
+        indices = sorted(asked)
+        founds = answers_of(judge, [(*cases[index], asked[index][0]) for index in indices])
+        asked, before = {}, asked
+        for index, found in zip(indices, founds):
+            number, one = first_of(found)
+            if number is None:
+                continue
+            start, end = span(one)
+            if start == end == before[index][1]:
+                at = behind(cases[index][1], end)
+                if at is not None:
+                    asked[index] = at, None
+                continue
+            matches[index].append((number, one.groups))
+            asked[index] = end, end
+    return matches
+
+
+def shape_of(matches):
+    """The shape of the matches, one of QUOTAS."""
+    numbers = {number for number, _ in matches}
+    spans = [groups.partition(' ')[0].split('..') for _, groups in matches]
+    word = 'none' if not numbers else 'one pattern' if len(numbers) == 1 else 'more patterns'
+    return word, any(start == end for start, end in spans)
+
+
+def line_of(case, matches):
+    """A case and its answer as a line of the list: the matches stand in lines of their own."""
+    patterns, text = case
+    told = ''.join(f'{number}: {groups}\n' for number, groups in matches)
+    return '\t'.join([WORD, escaped(text), escaped(told), *map(escaped, patterns)]) + '\n'
+
+
+def lines(judge):
+    """The lines of the list: those of the cases picked by hand, and then of generated ones."""
+    picked = [(tuple(patterns), text)
+              for name in ('pattern-lists', 'list-matches') for text, *patterns in rows_of(name)]
+    made = [line_of(case, matches) for case, matches in zip(picked, all_matches(judge, picked))]
+    left, seen = dict(QUOTAS), set(picked)
+    drawn = itertools.islice(generated(Dice(SEED)), CASES)
+    cases = [case for case in dict.fromkeys((patterns, text) for patterns, text, _ in drawn)
+             if case not in seen]
+    for case, matches in zip(cases, all_matches(judge, cases)):
+        shape = shape_of(matches)
+        if left[shape]:
+            left[shape] -= 1
+            made.append(line_of(case, matches))
+    if any(left.values()):
+        raise SystemExit(f'too few lists with all matches: {left}')
+    return made
