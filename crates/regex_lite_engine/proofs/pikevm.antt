@@ -1,4 +1,5 @@
 -- lemmas that several proofs here share
+pub mod BlockLemmas
 pub mod CountLemmas
 pub mod EnterLemmas
 pub mod EndLemmas

@@ -4,4 +4,5 @@ pub mod Layout
 pub mod Starts
 pub mod Heads
 pub mod ListHeads
+pub mod Prefilter
 pub mod Totals

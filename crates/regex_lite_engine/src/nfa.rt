@@ -1,5 +1,5 @@
 //! The graph of a pattern: numbered places with ordered arrows.
-ghost use Rattle.std.specs.Prelude.{◌≡◌, ◌+◌, ◌^◌, ◌<◌, length, slice_get, sum_by, Some, IfOk, IfErr};
+ghost use Rattle.std.specs.Prelude.{◌≡◌, ◌+◌, ◌^◌, ◌<◌, length, slice_get, sum_by, Some, IfOk, IfErr, IfSome};
 ghost use Rattle.regex_lite_syntax.specs.Errors.{kind_of};
 ghost use Rattle.regex_lite_syntax.specs.Tree.Regular.{IsRegular};
 ghost use Rattle.regex_lite_syntax.specs.Tree.Views.{tree_of};
@@ -7,6 +7,7 @@ ghost use Rattle.regex_lite_engine.specs.Graph.Renumbered.{arrows_of, IsGraphOf,
 ghost use Rattle.regex_lite_engine.specs.Graph.Size.{Fits, IsDueToTree};
 ghost use Rattle.regex_lite_engine.specs.Graph.Places.{kept_back_of, kept_back_with, reading_of};
 ghost use Rattle.regex_lite_engine.specs.Graph.Stored.{LeadsBelow, place_of, table_of};
+ghost use Rattle.regex_lite_engine.specs.Nfa.Prefilter.{IsPrefilterOf};
 ghost use Rattle.regex_lite_engine.specs.Walk.Starts.{AreHeadsOf};
 
 pub(crate) mod class;
@@ -17,6 +18,7 @@ pub(crate) mod kept_back;
 pub(crate) mod list;
 pub(crate) mod list_heads;
 pub(crate) mod place;
+pub(crate) mod prefilter;
 pub(crate) mod starts;
 pub(crate) mod table;
 mod write;
@@ -26,6 +28,7 @@ use count::Counts;
 use groups::Groups;
 use heads::Heads;
 use place::Place;
+use prefilter::Prefilter;
 use regex_lite_syntax::{Error, Hir};
 use std::alloc::Global;
 use std::marker::Model;
@@ -43,11 +46,14 @@ pub struct Graph {
     groups: Groups,
     /// Where a match can begin.
     heads: Heads,
+    /// What blocks of bytes are compared with before these.
+    prefilter: Option<Prefilter>,
 }
 
 impl Model for Graph {
-    ghost use Rattle.std.specs.Prelude.{◌<◌, length};
+    ghost use Rattle.std.specs.Prelude.{◌<◌, IfSome, length};
     ghost use Rattle.regex_lite_engine.specs.Graph.Stored.{StoredGraph, places_of};
+    ghost use Rattle.regex_lite_engine.specs.Nfa.Prefilter.{IsPrefilterOf};
     ghost use Rattle.regex_lite_engine.specs.Walk.Starts.{AreHeadsOf};
 
     ghost Value = { StoredGraph };
@@ -63,7 +69,8 @@ impl Model for Graph {
     } };
 
     ghost invariant = { λ graph. (graph.start < length graph.table.places)
-        × AreHeadsOf (places_of graph.table) graph.start graph.heads };
+        × AreHeadsOf (places_of graph.table) graph.start graph.heads
+        × IfSome graph.prefilter (IsPrefilterOf graph.heads) };
 }
 
 impl Graph {
@@ -93,11 +100,13 @@ impl Graph {
         let (places, start) = write_out(alloc, hir, count)?;
         let table = Table::new(places, counts.arrows(), counts.reading());
         let heads = Heads::of(hir);
+        let prefilter = Prefilter::of(&heads);
         Ok(Graph {
             table,
             start,
             groups,
             heads,
+            prefilter,
         })
     }
 
@@ -139,6 +148,13 @@ impl Graph {
         ensures inside { self.now.start < length self.now.places }
     {
         &self.heads
+    }
+
+    /// What blocks of bytes are compared with before these.
+    pub(crate) fn prefilter(&self) -> Option<Prefilter>
+        ensures { IfSome result (IsPrefilterOf self.now.heads) }
+    {
+        self.prefilter
     }
 
     /// How many places there are.

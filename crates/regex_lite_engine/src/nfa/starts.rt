@@ -1,6 +1,6 @@
 //! The characters with which a match of a pattern can begin: one walk over the tree, which takes no
 //! memory, and leaves out what lies behind a part that reads.
-ghost use Rattle.std.specs.Prelude.{◌≡◌, ◌≤◌, ◌<◌, [], ◌∷◌, ℕ, IsTrue, false, true, map, slice_index};
+ghost use Rattle.std.specs.Prelude.{◌≡◌, ◌≤◌, ◌<◌, ◌+◌, ◌*◌, [], ◌∷◌, ℕ, IsTrue, false, true, map, slice_index};
 ghost use Rattle.regex_lite_syntax.specs.Ranges.{in_ranges};
 ghost use Rattle.regex_lite_syntax.specs.Sets.{just, span};
 ghost use Rattle.regex_lite_syntax.specs.Tree.{look, class, repetition, concat, alternation, trees};
@@ -210,6 +210,20 @@ impl Starts {
         } else {
             self.others
         }
+    }
+
+    /// Whether a match can begin with one of the sixteen ASCII characters of this row.
+    pub(crate) fn begins_in_row(&self, row: u8) -> bool
+        requires { row < 8 }
+        ensures { result ≡ false → (byte : ℕ) → 16 * row ≤ byte → byte < 16 * row + 16
+            → stops_at self.now byte ≡ false }
+    {
+        let first = 16 * usize::from(row);
+        let mut begins = false;
+        for code in first..first + 16 {
+            begins |= self.ascii[code];
+        }
+        begins
     }
 
     /// Whether a match can begin at the haystack's start, whatever comes next.

@@ -57,7 +57,7 @@ impl<'g> Patterns for ListPatterns<'g> {
     }
 
     fn pass_over(&self, haystack: &str, here: Here) -> Here {
-        pass_over(&self.list.heads().any, haystack, here)
+        pass_over(&self.list.heads().any, None, haystack, here)
     }
 
     fn come_to(&mut self, haystack: &str, here: Here) {

@@ -35,7 +35,7 @@ impl<'g> Patterns for OnePattern<'g> {
     }
 
     fn pass_over(&self, haystack: &str, here: Here) -> Here {
-        pass_over(self.graph.heads(), haystack, here)
+        pass_over(self.graph.heads(), self.graph.prefilter(), haystack, here)
     }
 
     fn come_to(&mut self, _: &str, here: Here) {

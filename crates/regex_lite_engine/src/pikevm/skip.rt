@@ -1,17 +1,27 @@
 //! The positions at which no match can start, which a search passes over.
-ghost use Rattle.std.specs.Prelude.{◌≡◌, ◌≤◌, ◌<◌, ◌⊎◌, ℕ, IsTrue, false, true, chars, length, slice_index};
+ghost use Rattle.std.specs.Prelude.{◌≡◌, ◌≤◌, ◌<◌, ◌+◌, ◌⊎◌, ℕ, IfSome, IsTrue, false, true, chars, length, slice_index};
 ghost use Rattle.regex_lite_engine.specs.Nfa.Heads.{IsCutOff, IsPassed, NeverBegins};
+ghost use Rattle.regex_lite_engine.specs.Nfa.Prefilter.{suits, IsPrefilterOf};
 ghost use Rattle.regex_lite_engine.specs.Nfa.Starts.{may_begin, stops_at};
 ghost use Rattle.regex_lite_engine.specs.Walk.Standing.{IsHere};
 ghost use Rattle.regex_lite_engine.specs.Walk.Starts.{PassesTo};
 
 use crate::nfa::heads::Heads;
+use crate::nfa::prefilter::Prefilter;
 use crate::nfa::starts::Starts;
 use crate::pikevm::here::Here;
 
+/// How many bytes a prefilter is asked about at a time.
+const BLOCK: usize = 32;
+
+/// How many bytes are looked at one by one before that. Where a match may begin so near, a block
+/// would be compared for nothing.
+const NEAR: usize = 16;
+
 /// The next position from here on at which a match can begin, or the haystack's end.
-pub fn pass_over(heads: &Heads, haystack: &str, here: Here) -> Here
-    requires { (p : ℕ) × IsHere (chars haystack.now) p here }
+pub fn pass_over(heads: &Heads, prefilter: Option<Prefilter>, haystack: &str, here: Here) -> Here
+    requires here { (p : ℕ) × IsHere (chars haystack.now) p here }
+    requires prefilter { IfSome prefilter (IsPrefilterOf heads.now) }
     ensures passes { (p : ℕ) → IsHere (chars haystack.now) p here
         → PassesTo (NeverBegins heads.now (chars haystack.now)) (chars haystack.now) p result }
     ensures stops { may_begin heads.now.first result.before result.after ≡ true }
@@ -20,7 +30,7 @@ pub fn pass_over(heads: &Heads, haystack: &str, here: Here) -> Here
     if can_begin(heads, bytes, here) {
         return here;
     }
-    let at = next_offset(heads, bytes, here.at);
+    let at = next_offset(heads, prefilter, bytes, here.at);
     Here::at(haystack, at)
 }
 
@@ -49,8 +59,9 @@ fn may_go_on(heads: &Heads, bytes: &[u8], at: usize) -> bool
 /// The first offset from this one on of a byte that tells of no passing, or the end.
 // Not inlined, since the loop of a search is so large that this one would lose its registers.
 #[inline(never)]
-fn next_offset(heads: &Heads, bytes: &[u8], from: usize) -> usize
-    requires { from ≤ length bytes.now }
+fn next_offset(heads: &Heads, prefilter: Option<Prefilter>, bytes: &[u8], from: usize) -> usize
+    requires inside { from ≤ length bytes.now }
+    requires prefilter { IfSome prefilter (IsPrefilterOf heads.now) }
     ensures low { from ≤ result }
     ensures high { result ≤ length bytes.now }
     ensures passed { (k : ℕ) → from ≤ k → k < result → IsPassed heads.now bytes.now k }
@@ -59,7 +70,7 @@ fn next_offset(heads: &Heads, bytes: &[u8], from: usize) -> usize
 {
     let mut at = from;
     'stops: loop {
-        at = next_first(&heads.first, bytes, at);
+        at = next_first(heads, prefilter, bytes, at);
         if at == bytes.len() || heads.may_go_on(bytes, at) {
             return at;
         }
@@ -67,21 +78,64 @@ fn next_offset(heads: &Heads, bytes: &[u8], from: usize) -> usize
     }
 }
 
-/// The first offset from this one on of a byte with which such a character may begin, or the end.
-fn next_first(starts: &Starts, bytes: &[u8], from: usize) -> usize
+/// The first offset from this one on, as far as the prefilter tells, of a byte with which a first
+/// character may begin, or the end.
+fn next_first(heads: &Heads, prefilter: Option<Prefilter>, bytes: &[u8], from: usize) -> usize
+    requires inside { from ≤ length bytes.now }
+    requires prefilter { IfSome prefilter (IsPrefilterOf heads.now) }
+    ensures low { from ≤ result }
+    ensures high { result ≤ length bytes.now }
+    ensures passed { (k : ℕ) → from ≤ k → k < result → IsPassed heads.now bytes.now k }
+    ensures stops { result < length bytes.now
+        → stops_at heads.now.first (slice_index bytes.now result) ≡ true }
+{
+    let Some(prefilter) = prefilter else {
+        return next_stop(&heads.first, bytes, from, bytes.len());
+    };
+    let near = from + NEAR.min(bytes.len() - from);
+    let at = next_stop(&heads.first, bytes, from, near);
+    if at < near {
+        return at;
+    }
+    let block = next_block(prefilter, bytes, near);
+    next_stop(&heads.first, bytes, block, bytes.len())
+}
+
+/// The first offset from this one on, block by block, of a block in which a match may begin, or of
+/// the bytes after the last.
+fn next_block(prefilter: Prefilter, bytes: &[u8], from: usize) -> usize
     requires { from ≤ length bytes.now }
     ensures low { from ≤ result }
     ensures high { result ≤ length bytes.now }
+    ensures passed { (k : ℕ) → from ≤ k → k < result → (k + 1 < length bytes.now)
+        × (suits prefilter (slice_index bytes.now k) (slice_index bytes.now (k + 1)) ≡ false) }
+{
+    let mut at = from;
+    'all: while bytes.len() - at > BLOCK {
+        let end = at + BLOCK;
+        if prefilter.may_begin_in(&bytes[at..end], &bytes[at + 1..end + 1]) {
+            return at;
+        }
+        at = end;
+    }
+    at
+}
+
+/// The first offset from this one on of a byte with which such a character may begin, or this end.
+fn next_stop(starts: &Starts, bytes: &[u8], from: usize, end: usize) -> usize
+    requires from { from ≤ end }
+    requires end { end ≤ length bytes.now }
+    ensures low { from ≤ result }
+    ensures high { result ≤ end }
     ensures passed { (k : ℕ) → from ≤ k → k < result
         → stops_at starts.now (slice_index bytes.now k) ≡ false }
-    ensures stops { result < length bytes.now
-        → stops_at starts.now (slice_index bytes.now result) ≡ true }
+    ensures stops { result < end → stops_at starts.now (slice_index bytes.now result) ≡ true }
 {
     if !starts.any() {
-        return bytes.len();
+        return end;
     }
     let mut at = from;
-    'fours: while bytes.len() - at >= 4 {
+    'fours: while end - at >= 4 {
         if !starts.passes(bytes[at], bytes[at + 1], bytes[at + 2], bytes[at + 3]) {
             for k in 0..4 {
                 if starts.stops_at(bytes[at + k]) {
@@ -91,7 +145,7 @@ fn next_first(starts: &Starts, bytes: &[u8], from: usize) -> usize
         }
         at += 4;
     }
-    'ones: while at < bytes.len() {
+    'ones: while at < end {
         if starts.stops_at(bytes[at]) {
             return at;
         }

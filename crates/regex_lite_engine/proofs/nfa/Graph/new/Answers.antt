@@ -68,4 +68,5 @@ invariant_of-result c =
           written.0,
       written_heads tree c.requires (places_of c.new-table.result) c.in_ok-places.start table_is
           written.0 c.of-heads.result c.of-heads.ensures,
+      c.of-prefilter.ensures,
     )

@@ -11,13 +11,13 @@ pub can_begin-requires : goal.can_begin-requires
 can_begin-requires c =
     let same = c.as_bytes-bytes.ensures.value in
     subst (λ z. c.args.here.at ≤ length z) (sym same)
-    (at_most c.args.haystack.now c.requires.0 c.args.here c.utf8.haystack c.requires.1)
+    (at_most c.args.haystack.now c.requires.here.0 c.args.here c.utf8.haystack c.requires.here.1)
 
-pub next_offset-at-requires : goal.next_offset-at-requires
-next_offset-at-requires c =
+pub next_offset-at-requires-clause-inside : goal.next_offset-at-requires-clause-inside
+next_offset-at-requires-clause-inside c =
     let same = c.as_bytes-bytes.ensures.value in
     subst (λ z. c.args.here.at ≤ length z) (sym same)
-    (at_most c.args.haystack.now c.requires.0 c.args.here c.utf8.haystack c.requires.1)
+    (at_most c.args.haystack.now c.requires.here.0 c.args.here c.utf8.haystack c.requires.here.1)
 
 pub returns-clause-passes : goal.returns-clause-passes
 returns-clause-passes c = λ p is.

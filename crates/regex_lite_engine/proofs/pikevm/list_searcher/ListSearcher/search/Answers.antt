@@ -1,4 +1,4 @@
-use Rattle.std.proofs.Common.{rules, length, List, ℕ, ◌<◌, ◌≤◌, ◌^◌, ap, sym, subst, arith}
+use Rattle.std.proofs.Common.{rules, length, List, ℕ, ◌<◌, ◌^◌, sym, subst, arith}
 use Rattle.std.specs.Prelude.{chars}
 use Rattle.regex_lite_engine.specs.Graph.StoredList.{IsGraphOfList, table_of_list}
 use Rattle.regex_lite_engine.specs.Search.Bounds.{characters_left}

@@ -1,30 +1,30 @@
-use Rattle.std.proofs.Common.{length, ◌+◌, ◌-◌, ◌≡◌, ◌≤◌, ◌<◌, ℕ, false, slice_index}
+use Rattle.std.proofs.Common.{◌+◌, ◌-◌, ◌≡◌, ◌≤◌, ◌<◌, ℕ, false, slice_index}
 use Rattle.regex_lite_engine.specs.Nfa.Starts.{stops_at}
-use Rattle.regex_lite_engine.proofs.pikevm.skip.next_first.Given as goal
+use Rattle.regex_lite_engine.proofs.pikevm.skip.next_stop.Given as goal
 
 abbrev pub invariant-fours : goal.invariant-fours
 invariant-fours l = record {
   low : l.from ≤ l.at;
-  high : l.at ≤ length l.bytes;
+  high : l.at ≤ l.end;
   passed : (k : ℕ) → l.from ≤ k → k < l.at → stops_at l.starts (slice_index l.bytes k) ≡ false;
 }
 
 abbrev pub decreases-fours : goal.decreases-fours
-decreases-fours l = length l.bytes - l.at
+decreases-fours l = l.end - l.at
 
 abbrev pub invariant-loop-k : goal.invariant-loop-k
 invariant-loop-k l = record {
   low : l.from ≤ l.at;
-  high : l.at + 4 ≤ length l.bytes;
+  high : l.at + 4 ≤ l.end;
   passed : (k : ℕ) → l.from ≤ k → k < l.at + l.k → stops_at l.starts (slice_index l.bytes k) ≡ false;
 }
 
 abbrev pub invariant-ones : goal.invariant-ones
 invariant-ones l = record {
   low : l.from ≤ l.at;
-  high : l.at ≤ length l.bytes;
+  high : l.at ≤ l.end;
   passed : (k : ℕ) → l.from ≤ k → k < l.at → stops_at l.starts (slice_index l.bytes k) ≡ false;
 }
 
 abbrev pub decreases-ones : goal.decreases-ones
-decreases-ones l = length l.bytes - l.at
+decreases-ones l = l.end - l.at

@@ -1,0 +1,11 @@
+use Rattle.std.proofs.Common.{◌≡◌, ◌≤◌, ◌<◌, ℕ, true, length}
+use Rattle.regex_lite_engine.specs.Nfa.Prefilter.{StandsBelow}
+use Rattle.regex_lite_engine.specs.Nfa.Starts.{stops_at}
+use Rattle.regex_lite_engine.proofs.nfa.prefilter.fill_row.Given as goal
+
+abbrev pub invariant-loop-code : goal.invariant-loop-code
+invariant-loop-code l = record {
+  same : length l.bytes ≡ length l.fn.bytes;
+  room : l.len ≤ length l.bytes;
+  written : (byte : ℕ) → byte < l.code → stops_at l.starts byte ≡ true → StandsBelow l.bytes l.len byte;
+}
