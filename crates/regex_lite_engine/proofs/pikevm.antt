@@ -10,6 +10,7 @@ pub mod MarkLemmas
 pub mod OfferLemmas
 pub mod OptionLemmas
 pub mod OutcomeLemmas
+pub mod OwnPartLemmas
 pub mod PassLemmas
 pub mod PositionLemmas
 pub mod RecordLemmas

@@ -7,6 +7,7 @@ pub mod WrittenOut
 pub mod PlaceCounts
 pub mod Size
 pub mod Stored
+pub mod Parts
 pub mod Renumbered
 pub mod SideBySide
 pub mod StoredList

@@ -3,6 +3,7 @@ use Rattle.std.proofs.Common.{ℕ, ◌+◌, ◌-◌, ◌*◌, ◌≤◌, List, l
 use Rattle.std.proofs.Math.Nat.{mul-le-mul_left}
 use Rattle.regex_lite_syntax.specs.Text.{Text}
 use Rattle.regex_lite_engine.specs.declared.pikevm.turn.Cache.{Cache}
+use Rattle.regex_lite_engine.specs.Graph.Parts.{IsOwnPart, row_of}
 use Rattle.regex_lite_engine.specs.Graph.Places.{Place}
 use Rattle.regex_lite_engine.specs.Graph.Renumbered.{arrows_of}
 use Rattle.regex_lite_engine.specs.Search.Bounds.{IsBoundedBy}
@@ -28,6 +29,10 @@ module _ (table : List (Place ℕ)) (haystack : Text) (entries : List ℕ) (s : 
             (sym fresh.none) (none_coming table haystack entries s (length haystack) cache.walk.memory.threads none);
         tries = omega (arith, tried, ap length none);
         entries = omega (arith, entered);
+        own = λ low len part. record {
+          tries = omega (arith, tried, ap length none);
+          entries = omega (arith, entered);
+        };
         rounds = omega (arith, rounds);
       }
 
@@ -36,6 +41,33 @@ module _ (table : List (Place ℕ)) (haystack : Text) (entries : List ℕ) (s : 
       → b ≤ m * (q + 1 - s)
   bound_on a b p q m low later bound more =
       bound_more a b q s m (omega (arith, low, later)) (bound_later a p q s m later bound) more
+
+  within_haystack : (q : ℕ) → s ≤ q → q ≤ length haystack → q + 1 - s ≤ length haystack - s + 1
+  within_haystack q low high = omega (arith, low, high)
+
+  -- a search that has gone over a position of the haystack did no more than is allowed in the part
+  -- of the table that is its own
+  pub bounded_within : {S : Type 0} (q : ℕ) (cache : Cache S) → s ≤ q → q ≤ length haystack
+      → IsUnderWay table haystack entries s (q + 1) cache → (low len : ℕ)
+      → IsOwnPart table entries low len
+      → IsBoundedBy len (arrows_of (row_of table low len) + length entries) haystack s
+      cache.walk.steps.tried cache.walk.steps.entered cache.walk.steps.looked
+  bounded_within q cache first last on low len part =
+      let own = on.own low len part in
+      let tries = own.tries in
+      let all_entered = own.entries in
+      let entered = on.ready.entered_tried in
+      let looked = on.ready.looked_entered in
+      let most = within_haystack q first last in
+      let all_tries = mul-le-mul_left (arrows_of (row_of table low len) + length entries) most in
+      let all_entries = mul-le-mul_left len most in
+      record {
+        few_tried = omega (arith, tries, all_tries);
+        entered_tried = entered;
+        few_entered = omega (arith, all_entered, all_entries);
+        few_looked = omega (arith, looked);
+        none_beyond = λ lt. absurd (omega (arith, lt, first, last));
+      }
 
   -- a search that has gone over a position of the haystack did no more than is allowed
   pub bounded : {S : Type 0} (q : ℕ) (cache : Cache S) → s ≤ q → q ≤ length haystack

@@ -168,8 +168,7 @@ module _ (table : List (Place ℕ)) (haystack : Text) where
             let end = u.in_step.best_ends w e in
             let starts = differ table haystack entries s in
             let t = traced Node (numbered_step table haystack) (is_end table haystack)
-            (StartsOf entries s (length haystack)) u.recorded u.way starts
-            u.in_step.grown end.0 w end.2 in
+            (StartsOf entries s (length haystack)) u.recorded u.way u.in_step.grown end.0 w end.2 in
             by_start t.front t.start t.is_start t.arrows (sym parts ∙ t.parts)
             (recorded_once Node (numbered_step table haystack) (is_end table haystack)
             (StartsOf entries s (length haystack)) u.recorded u.way starts

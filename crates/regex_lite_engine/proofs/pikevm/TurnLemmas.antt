@@ -8,6 +8,7 @@ use Rattle.std.proofs.lemmas.Option.{slice_get-get_or}
 use Rattle.regex_lite_syntax.specs.Text.{Text}
 use Rattle.regex_lite_engine.specs.declared.pikevm.here.Here.{Here}
 use Rattle.regex_lite_engine.specs.Graph.Places.{Place, kept_back, reading_count}
+use Rattle.regex_lite_engine.specs.Graph.Parts.{IsOwnPart, IsWithin}
 use Rattle.regex_lite_engine.specs.Graph.Renumbered.{arrow_count, arrows_of}
 use Rattle.regex_lite_engine.specs.Search.Preference.{IsPreferred}
 use Rattle.regex_lite_engine.specs.Walk.Explored.{IsDead}
@@ -24,6 +25,7 @@ use Rattle.regex_lite_engine.specs.Walk.Room.{IsFit, ThreadsBelow, lone}
 use Rattle.regex_lite_engine.specs.Walk.Turns.{begun, with_starts, IsAmong, AreFrom, AreDeadAt, AreStartsAt, Between, StepsTo, IsComing, IsDeadAt, Begun, FromIs, IsBlank, IsReady}
 use Rattle.regex_lite_engine.specs.Walk.Walking.{Node, Best, WayTold, ThreadsHold, InStep}
 use Rattle.regex_lite_engine.proofs.pikevm.OptionLemmas.{not_there, same_some}
+use Rattle.regex_lite_engine.proofs.pikevm.OwnPartLemmas.{recorded_within}
 use Rattle.regex_lite_engine.proofs.pikevm.PositionLemmas as deep
 use Rattle.regex_lite_engine.proofs.pikevm.RoomLemmas.{left_most}
 use Rattle.regex_lite_engine.proofs.pikevm.ThreadLemmas.{at_front, at_back, begun_at, begun_length}
@@ -273,17 +275,22 @@ module _ (table : List (Place ℕ)) (h : Text) (s : List ℕ) (first last : ℕ)
     from_kept p from None None f kept = f
     from_kept p from (Some b) None f kept = let e : ◌≡◌ {A = Best} (Some b) None = kept refl in absurd (not_there (sym e))
 
-    pub turned_all : (here : Here) (at : ℕ → Told) → ((number : ℕ) → Tells (at number) here.at number) → (p : ℕ) → IsHere h p here → (starts : List Start) → AreStartsAt table h s p starts → (best best' : Best) (rounds2 : List ℕ) (next2 : List Thread) → first ≤ p → p ≤ last →
+    -- the position's threads are followed
+    abbrev Turned : (p : ℕ) → (rounds2 : List ℕ) → List Thread → Best → Type 0
+    Turned p rounds2 next2 best =
+        (from : ℕ) × FromIs (p + 1) from best × Between table h s first last p from rounds2 now' (thread_at cur') (length cur') (length cur') next2 best
+
+    turned : (here : Here) (at : ℕ → Told) → ((number : ℕ) → Tells (at number) here.at number) → (p : ℕ) → IsHere h p here → (starts : List Start) → AreStartsAt table h s p starts → (best best' : Best) (rounds2 : List ℕ) (next2 : List Thread) → first ≤ p → p ≤ last →
         ((best ≡ None) × ((blank : Row) × IsBlank blank × (cur' ≡ cur ++ begun at blank starts))) ⊎ ((best ≡ None → ⊥) × (cur' ≡ cur)) →
         StepsTo table here now' (thread_at cur') (length cur') rounds' next best (length cur') rounds2 next2 best' → (best' ≡ None → best ≡ None) →
-        IsComing table h s first last p cur best → IsComing table h s first last (p + 1) next2 best'
-    turned_all here at told p is starts are best best' rounds2 next2 low high begins steps kept u = go best begins refl u
+        IsComing table h s first last p cur best → Turned p rounds2 next2 best'
+    turned here at told p is starts are best best' rounds2 next2 low high begins steps kept u = go best begins refl u
       where
         Goal : Type 0
-        Goal = IsComing table h s first last (p + 1) next2 best'
+        Goal = Turned p rounds2 next2 best'
 
         on : (from : ℕ) → FromIs (p + 1) from best → Between table h s first last p from rounds' now' (thread_at cur') 0 (length cur') next best → Goal
-        on from fis w = left_over p from (length cur') (thread_at cur') rounds2 now' next2 best' (from_kept (p + 1) from best best' fis kept) (steps h p is s first last from w)
+        on from fis w = (from, from_kept (p + 1) from best best' fis kept, steps h p is s first last from w)
 
         on_none : (from : ℕ) → from ≡ suc p → best ≡ None → Between table h s first last p from rounds' now' (thread_at cur') 0 (length cur') next None → Goal
         on_none from e none w = on from (subst (λ z. FromIs (p + 1) from z) (sym none) (omega (arith, e))) (subst (λ z. Between table h s first last p from rounds' now' (thread_at cur') 0 (length cur') next z) (sym none) w)
@@ -294,6 +301,25 @@ module _ (table : List (Place ℕ)) (h : Text) (s : List ℕ) (first last : ℕ)
         go (Some b) (inl (none, pushed)) e u = absurd (not_there (sym none))
         go (Some b) (inr (why, same)) e u = on u.from (subst (λ z. FromIs (p + 1) u.from z) (sym e) tt)
             (subst (λ z. Between table h s first last p u.from rounds' now' (thread_at cur') 0 (length cur') next z) (sym e) (begun_alone p u.from (Some b) u u.in_step same))
+
+    pub turned_all : (here : Here) (at : ℕ → Told) → ((number : ℕ) → Tells (at number) here.at number) → (p : ℕ) → IsHere h p here → (starts : List Start) → AreStartsAt table h s p starts → (best best' : Best) (rounds2 : List ℕ) (next2 : List Thread) → first ≤ p → p ≤ last →
+        ((best ≡ None) × ((blank : Row) × IsBlank blank × (cur' ≡ cur ++ begun at blank starts))) ⊎ ((best ≡ None → ⊥) × (cur' ≡ cur)) →
+        StepsTo table here now' (thread_at cur') (length cur') rounds' next best (length cur') rounds2 next2 best' → (best' ≡ None → best ≡ None) →
+        IsComing table h s first last p cur best → IsComing table h s first last (p + 1) next2 best'
+    turned_all here at told p is starts are best best' rounds2 next2 low high begins steps kept u =
+        let (from, is_from, done) = turned here at told p is starts are best best' rounds2 next2 low high begins steps kept u in
+        left_over p from (length cur') (thread_at cur') rounds2 now' next2 best' is_from done
+
+    -- just places of the part were entered
+    pub turned_within : (here : Here) (at : ℕ → Told) → ((number : ℕ) → Tells (at number) here.at number) → (p : ℕ) → IsHere h p here → (starts : List Start) → AreStartsAt table h s p starts → (best best' : Best) (rounds2 : List ℕ) (next2 : List Thread) → first ≤ p → p ≤ last →
+        ((best ≡ None) × ((blank : Row) × IsBlank blank × (cur' ≡ cur ++ begun at blank starts))) ⊎ ((best ≡ None → ⊥) × (cur' ≡ cur)) →
+        StepsTo table here now' (thread_at cur') (length cur') rounds' next best (length cur') rounds2 next2 best' → (best' ≡ None → best ≡ None) →
+        IsComing table h s first last p cur best → (begin len : ℕ) → IsOwnPart table s begin len →
+        (q : ℕ) → q < length rounds2 → slice_index rounds2 q ≡ now' → IsWithin begin len q
+    turned_within here at told p is starts are best best' rounds2 next2 low high begins steps kept u begin len part q lt e =
+        let (from, is_from, done) = turned here at told p is starts are best best' rounds2 next2 low high begins steps kept u in
+        let (v, known) = done.met q lt e in
+        recorded_within table h s first last begin len part p from done.recorded (done.under ++ done.later) done.coming done.way done.in_step (q, p) v known
 
 pub begun_len : (best : Best) (starts : List Start) (at : ℕ → Told) (cur cur' : List Thread) → Begun starts at best cur cur' → (length cur') ≤ length cur + length starts
 begun_len best starts at cur cur' (inl (none, (blank, blanks, pushed))) = let e = ap length pushed ∙ length-append cur (begun at blank starts) in let f = begun_length at blank starts in omega (arith, e, f)

@@ -3,6 +3,7 @@ use Rattle.std.specs.Prelude.{◌+◌, ◌-◌, ◌*◌, ◌^◌, ◌≤◌, ◌
 use Rattle.regex_lite_syntax.specs.Text.{Text}
 use Rattle.regex_lite_engine.specs.declared.pikevm.here.Here.{Here}
 use Rattle.regex_lite_engine.specs.declared.pikevm.turn.Cache.{Cache}
+use Rattle.regex_lite_engine.specs.Graph.Parts.{IsOwnPart, row_of}
 use Rattle.regex_lite_engine.specs.Graph.Places.{Place}
 use Rattle.regex_lite_engine.specs.Graph.Renumbered.{arrows_of}
 use Rattle.regex_lite_engine.specs.Walk.Searching.{IsBetween}
@@ -10,6 +11,13 @@ use Rattle.regex_lite_engine.specs.Walk.Standing.{IsHere}
 use Rattle.regex_lite_engine.specs.Walk.Turns.{best_of, IsComing, EndsAt}
 
 module _ (table : List (Place ℕ)) (haystack : Text) (starts : List ℕ) (s : ℕ) where
+  -- a search up to position p has cost no more than what is in this part of the table
+  pub record HasSpentWithin {S : Type 0} (low len p : ℕ) (cache : Cache S) : Type 0 where
+    pub tries :
+        cache.walk.steps.tried + length cache.walk.memory.threads
+        ≤ (arrows_of (row_of table low len) + length starts) * (p - s)
+    pub entries : cache.walk.steps.entered ≤ len * (p - s)
+
   -- a search from position s on has come to position p
   pub record IsUnderWay {S : Type 0} (p : ℕ) (cache : Cache S) : Type 0 where
     pub low : s ≤ p
@@ -20,6 +28,7 @@ module _ (table : List (Place ℕ)) (haystack : Text) (starts : List ℕ) (s : �
         cache.walk.steps.tried + length cache.walk.memory.threads
         ≤ (arrows_of table + length starts) * (p - s)
     pub entries : cache.walk.steps.entered ≤ length table * (p - s)
+    pub own : (low len : ℕ) → IsOwnPart table starts low len → HasSpentWithin low len p cache
     pub rounds : cache.walk.memory.now < 2 ^ 63 + (p - s)
 
   -- it has gone over a position that is not before p

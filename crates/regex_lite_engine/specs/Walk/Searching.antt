@@ -3,7 +3,9 @@ use Rattle.std.specs.Prelude.{◌≡◌, ◌+◌, ◌^◌, ◌≤◌, ◌<◌, �
 use Rattle.regex_lite_engine.specs.declared.pikevm.here.Here.{Here}
 use Rattle.regex_lite_engine.specs.declared.pikevm.patterns.Start.{Start}
 use Rattle.regex_lite_engine.specs.declared.pikevm.turn.Cache.{Cache}
+use Rattle.regex_lite_engine.specs.Graph.Parts.{row_of}
 use Rattle.regex_lite_engine.specs.Graph.Places.{Place, kept_back_of}
+use Rattle.regex_lite_engine.specs.Graph.Renumbered.{arrows_of}
 use Rattle.regex_lite_engine.specs.Walk.Beginnings.{Told}
 use Rattle.regex_lite_engine.specs.Walk.Machine.{Thread, thread_at}
 use Rattle.regex_lite_engine.specs.Walk.Room.{KeepsPosition, ThreadsBelow, due_tries, due_entries}
@@ -51,3 +53,11 @@ module _ (table : List (Place ℕ)) where
     pub stack_empty : cache'.walk.memory.frames ≡ []
     pub kept : KeepsPosition cache.walk.memory cache'.walk.memory
     pub best_width : length cache'.best.row ≡ length cache.best.row
+
+  -- a position has cost no more than what is in this part of the table, and so many starts
+  pub record SpendsWithin {S : Type 0} (low len starts : ℕ) (cache cache' : Cache S) : Type 0 where
+    pub tries :
+        cache'.walk.steps.tried + length cache'.walk.memory.threads
+        ≤ cache.walk.steps.tried + length cache.walk.memory.threads
+        + (arrows_of (row_of table low len) + starts)
+    pub entries : cache'.walk.steps.entered ≤ cache.walk.steps.entered + len

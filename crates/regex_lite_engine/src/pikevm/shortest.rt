@@ -1,5 +1,6 @@
 //! A search that is over once any match is known.
-ghost use Rattle.std.specs.Prelude.{◌≡◌, ◌+◌, ◌<◌, ◌⊎◌, IsCharBoundary, IsTrue, None, chars, length};
+ghost use Rattle.std.specs.Prelude.{◌≡◌, ◌+◌, ◌<◌, ◌⊎◌, ℕ, IsCharBoundary, IsTrue, None, chars, length};
+ghost use Rattle.regex_lite_engine.specs.Graph.Parts.{IsOwnPart, row_of};
 ghost use Rattle.regex_lite_engine.specs.Graph.Renumbered.{arrows_of};
 ghost use Rattle.regex_lite_engine.specs.Search.Bounds.{IsBoundedBy, StaysCounted, characters_left};
 ghost use Rattle.regex_lite_engine.specs.Search.Offsets.{position_at};
@@ -28,6 +29,11 @@ pub fn run_shortest<P: Patterns>(
     ensures bounded { IsBoundedBy (length (P.table patterns.old))
         (arrows_of (P.table patterns.old) + length (P.entries patterns.old)) (chars haystack.now)
         (position_at haystack.now start) cache.new.walk.steps.tried
+        cache.new.walk.steps.entered cache.new.walk.steps.looked }
+    ensures own { (low len : ℕ) → IsOwnPart (P.table patterns.old) (P.entries patterns.old) low len
+        → IsBoundedBy len
+        (arrows_of (row_of (P.table patterns.old) low len) + length (P.entries patterns.old))
+        (chars haystack.now) (position_at haystack.now start) cache.new.walk.steps.tried
         cache.new.walk.steps.entered cache.new.walk.steps.looked }
     ensures counts { StaysCounted cache.old.walk.steps cache.new.walk.steps }
     ensures entry { ¬ (best_of cache.new.best ≡ None) → 0 < cache.new.walk.steps.entered }

@@ -23,7 +23,8 @@ impl<S: Beginning> Cache<S> {
     ghost use Rattle.regex_lite_engine.specs.Walk.Standing.{IsHere};
     ghost use Rattle.regex_lite_engine.specs.Walk.Room.{HasRoom};
     ghost use Rattle.regex_lite_engine.specs.Walk.Turns.{AreStartsAt, EndsAt, IsComing};
-    ghost use Rattle.regex_lite_engine.specs.Walk.Searching.{ways_at, IsPlaced, Follows, IsBetween};
+    ghost use Rattle.regex_lite_engine.specs.Graph.Parts.{IsOwnPart};
+    ghost use Rattle.regex_lite_engine.specs.Walk.Searching.{ways_at, IsPlaced, Follows, IsBetween, SpendsWithin};
 
     /// Goes over the position. Its own starts come last, and only while there is no match.
     pub fn turn<P: Patterns>(&mut self, patterns: &P, here: Here)
@@ -52,6 +53,14 @@ impl<S: Beginning> Cache<S> {
             + (arrows_of (P.table patterns.now) + length (P.starts patterns.now)) }
         ensures entries { self.new.walk.steps.entered
             ≤ self.old.walk.steps.entered + length (P.table patterns.now) }
+        ensures own { (haystack : Text) (entries : List ℕ) (p first last low len : ℕ)
+            → IsHere haystack p here → first ≤ p → p ≤ last
+            → AreStartsAt (P.table patterns.now) haystack entries p (P.starts patterns.now)
+            → IsComing (P.table patterns.now) haystack entries first last p
+            self.old.walk.memory.threads (best_of self.old.best)
+            → IsOwnPart (P.table patterns.now) entries low len
+            → SpendsWithin (P.table patterns.now) low len (length (P.starts patterns.now)) self.old
+            self.new }
         ensures counts { StaysCounted self.old.walk.steps self.new.walk.steps }
         ensures round { self.new.walk.memory.now ≡ self.old.walk.memory.now + 1 }
     {

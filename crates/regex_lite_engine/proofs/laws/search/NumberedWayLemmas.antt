@@ -4,7 +4,7 @@ use Rattle.std.proofs.Common.{◌≡◌, ◌<◌, refl, sym, ap, subst, ◌∙�
 use Rattle.std.proofs.lemmas.Option.{slice_get-map}
 use Rattle.regex_lite_syntax.specs.Text.{Text}
 use Rattle.regex_lite_syntax.specs.Tree.{Tree}
-use Rattle.regex_lite_engine.specs.Graph.Ways.{IsWay}
+use Rattle.regex_lite_engine.specs.Graph.Ways.{IsWay, Leads}
 use Rattle.regex_lite_engine.specs.Graph.Places.{Arrow, Place, complete, with_arrows, taken, arrived, arrow_taken, step, step_from, renamed, renamed_arrow}
 use Rattle.regex_lite_engine.specs.Graph.Addresses.{Address}
 use Rattle.regex_lite_engine.specs.Graph.Repetitions.{Content}
@@ -115,6 +115,42 @@ pub whole_number : (name : ℕ → Address) (table : List (Place ℕ)) (a : Addr
     → IsNumberOf name table a q → IsPartNumber name (λ q. q < length table) a q
 whole_number name table a q is = record { inside = is.inside; same = is.same }
 
+-- an arrow leads from a place of the part to one of the part
+module _ (haystack : Text) (table : List (Place ℕ)) (Part : ℕ → Type 0)
+    (within : (q : ℕ) → Part q → q < length table)
+    (inside : (q : ℕ) (place : Place ℕ) → Part q → slice_get table q ≡ Some place
+    → LeadsInto Part place) where
+  pub stays_within : (x y : ℕ × ℕ) (k : ℕ) → Part x.0 → numbered_step table haystack x k ≡ Some y
+      → Part y.0
+  stays_within x y k known s =
+      by_place (place_with table x.0) (place_within table x.0 (with_arrows []) (within x.0 known)) s
+    where
+      by_result : (a : ℕ) (o : Option ℕ) → Part a → arrived a o ≡ Some y → Part y.0
+      by_result a None low e = absurd cc
+      by_result a (Some j) low e =
+          let same : (a, j) ≡ y = same_some e in
+          subst (λ (z : ℕ × ℕ). Part z.0) same low
+
+      by_arrow : (arrows : List (Arrow ℕ)) → slice_get table x.0 ≡ Some (with_arrows arrows)
+          → (o : Option (Arrow ℕ)) → slice_get arrows k ≡ o → arrow_taken haystack x.1 o ≡ Some y
+          → Part y.0
+      by_arrow arrows at None there e = absurd cc
+      by_arrow arrows at (Some arrow) there e =
+          by_result arrow.to (taken haystack arrow.condition x.1)
+          (into Part arrows k arrow (inside x.0 (with_arrows arrows) known at) there) e
+
+      by_place : (place : Place ℕ) → slice_get table x.0 ≡ Some place
+          → step_from haystack place x.1 k ≡ Some y → Part y.0
+      by_place complete at e = absurd cc
+      by_place (with_arrows arrows) at e = by_arrow arrows at (slice_get arrows k) refl e
+
+  -- and so do arrows one after another
+  pub leads_within : (ks : List ℕ) (x y : ℕ × ℕ) → Part x.0
+      → Leads (ℕ × ℕ) (numbered_step table haystack) x ks y → Part y.0
+  leads_within [] x y known e = subst (λ (z : ℕ × ℕ). Part z.0) e known
+  leads_within (k ∷ ks) x y known (l, s, rest) =
+      leads_within ks l y (stays_within x l k known s) rest
+
 module _ (tree : Tree) (haystack : Text) (table : List (Place ℕ)) (start : ℕ)
     (name : ℕ → Address) (Part : ℕ → Type 0) (r : IsPart (written_out tree) name table Part)
     (first : IsPartNumber name Part start_address start) where
@@ -148,26 +184,7 @@ module _ (tree : Tree) (haystack : Text) (table : List (Place ℕ)) (start : ℕ
       ∙ step_renamed haystack name (place_with table x.0) x.1 k
 
   stays : (x y : ℕ × ℕ) (k : ℕ) → Known x → in_table x k ≡ Some y → Known y
-  stays x y k known s = by_place (place_with table x.0) (here x.0 known) s
-    where
-      by_result : (a : ℕ) (o : Option ℕ) → Part a → arrived a o ≡ Some y → Known y
-      by_result a None low e = absurd cc
-      by_result a (Some j) low e =
-          let same : (a, j) ≡ y = same_some e in
-          subst Known same low
-
-      by_arrow : (arrows : List (Arrow ℕ)) → slice_get table x.0 ≡ Some (with_arrows arrows)
-          → (o : Option (Arrow ℕ)) → slice_get arrows k ≡ o → arrow_taken haystack x.1 o ≡ Some y
-          → Known y
-      by_arrow arrows at None there e = absurd cc
-      by_arrow arrows at (Some arrow) there e =
-          by_result arrow.to (taken haystack arrow.condition x.1)
-          (into Part arrows k arrow (r.inside x.0 (with_arrows arrows) known at) there) e
-
-      by_place : (place : Place ℕ) → slice_get table x.0 ≡ Some place
-          → step_from haystack place x.1 k ≡ Some y → Known y
-      by_place complete at e = absurd cc
-      by_place (with_arrows arrows) at e = by_arrow arrows at (slice_get arrows k) refl e
+  stays x y k known s = stays_within haystack table Part r.within r.inside x y k known s
 
   apart : (x y : ℕ × ℕ) → Known x → Known y → named x ≡ named y → x ≡ y
   apart x y p q e =

@@ -7,7 +7,7 @@ use Rattle.regex_lite_engine.proofs.laws.search.CutLemmas.{rest_of, same_rest, n
 
 module _ (N : Type 0) (step : N → ℕ → Option N) (is_end : N → Bool)
     (IsStart : (front : List ℕ) → N → Type 0) (recorded : N → Option (List ℕ))
-    (best : Option (List ℕ)) (differ : StartsDiffer N step is_end IsStart)
+    (best : Option (List ℕ))
     (grown : (n : N) (way : List ℕ) → recorded n ≡ Some way
     → IsGrown N step is_end IsStart recorded best n way) where
   -- a start, and arrows that lead from it
@@ -52,6 +52,11 @@ module _ (N : Type 0) (step : N → ℕ → Option N) (is_end : N → Bool)
   pub traced : (n : N) (way : List ℕ) → recorded n ≡ Some way → Traced n way
   traced n way r = traced_within (suc (length way)) n way (omega arith) r
 
+module _ (N : Type 0) (step : N → ℕ → Option N) (is_end : N → Bool)
+    (IsStart : (front : List ℕ) → N → Type 0) (recorded : N → Option (List ℕ))
+    (best : Option (List ℕ)) (differ : StartsDiffer N step is_end IsStart)
+    (grown : (n : N) (way : List ℕ) → recorded n ≡ Some way
+    → IsGrown N step is_end IsStart recorded best n way) where
   -- recorded where these arrows lead from the start
   abbrev IsRecorded : (front arrows : List ℕ) → (start : N) → Type 0
   IsRecorded front arrows start =
@@ -60,7 +65,7 @@ module _ (N : Type 0) (step : N → ℕ → Option N) (is_end : N → Bool)
   recorded_here : (n : N) (way front arrows : List ℕ) (start : N) → IsStart front start
       → recorded n ≡ Some way → way ≡ front ++ arrows → IsRecorded front arrows start
   recorded_here n way front arrows start is_start r e =
-      let t = traced n way r in
+      let t = traced N step is_end IsStart recorded best grown n way r in
       let parts = sym t.parts ∙ e in
       let same = differ t.front front t.arrows arrows t.start start t.is_start is_start parts in
       let rest = rest_of t.front front t.arrows arrows same.0 parts in

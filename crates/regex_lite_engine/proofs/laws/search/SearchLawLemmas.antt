@@ -12,10 +12,10 @@ module _ {N : Type 0} {step : N → ℕ → Option N} {is_end : N → Bool}
     {best : Option (List ℕ)} (differ : StartsDiffer N step is_end IsStart)
     (x : IsExplored N step is_end IsStart recorded best) where
   abbrev TracedTo : N → List ℕ → Type 0
-  TracedTo = Traced N step is_end IsStart recorded best differ x.grown
+  TracedTo = Traced N step is_end IsStart recorded best x.grown
 
   traced_to : (n : N) (way : List ℕ) → recorded n ≡ Some way → TracedTo n way
-  traced_to = traced N step is_end IsStart recorded best differ x.grown
+  traced_to = traced N step is_end IsStart recorded best x.grown
 
   abbrev IsBestBy : List ℕ → Type 0
   IsBestBy way = (first : List ℕ) × (best ≡ Some first) × NotAfter first way

@@ -1,5 +1,6 @@
 use Rattle.std.proofs.Common.{rules, refl, sym, subst, ◌≡◌, ◌∙◌, ℕ, length, ◌+◌, ◌≤◌, arith}
 use Rattle.std.specs.Prelude.{chars}
+use Rattle.regex_lite_engine.specs.Graph.Parts.{IsOwnPart, row_of}
 use Rattle.regex_lite_engine.specs.Graph.Renumbered.{arrows_of}
 use Rattle.regex_lite_engine.specs.Search.Bounds.{IsBoundedBy, characters_left}
 use Rattle.regex_lite_engine.specs.Search.Offsets.{position_at}
@@ -8,7 +9,7 @@ use Rattle.regex_lite_engine.specs.Walk.Turns.{best_of}
 use Rattle.regex_lite_engine.proofs.pikevm.here.OffsetLemmas.{less_left}
 use Rattle.regex_lite_engine.proofs.pikevm.CountLemmas.{counted_at_first, still_counted}
 use Rattle.regex_lite_engine.proofs.pikevm.EndLemmas.{over_at, some_after}
-use Rattle.regex_lite_engine.proofs.pikevm.PassLemmas.{begun, bounded}
+use Rattle.regex_lite_engine.proofs.pikevm.PassLemmas.{begun, bounded, bounded_within}
 use Rattle.regex_lite_engine.proofs.pikevm.ShortestLemmas.{shortest_known, not_true}
 use Rattle.regex_lite_engine.proofs.pikevm.shortest.run_shortest.Goals as goal
 
@@ -122,3 +123,28 @@ returns-then-is_known-clause-bounded g c =
     steps.tried steps.entered steps.looked) entries_are
     (bounded table (chars a.haystack.now) entries s w.q c.pass-here.new.self
     (omega (arith, low, later)) w.is.inside w.after))
+
+pub returns-then-is_known-clause-own : goal.returns-then-is_known-clause-own
+returns-then-is_known-clause-own g c = λ begin len part.
+    let a = c.args in
+    let v = c.positions.invariant in
+    let s : ℕ = position_at a.haystack.now a.start in
+    let w = c.pass-here.ensures.passes s v.p v.is v.under_way in
+    let low = v.under_way.low in
+    let later = w.later in
+    let table = g.P.Patterns.table c.pass-here.new.patterns in
+    let entries = g.P.Patterns.entries c.pass-here.new.patterns in
+    let table_is : table ≡ g.P.Patterns.table a.patterns.now = c.pass-here.ensures.table ∙ v.table in
+    let entries_are : entries ≡ g.P.Patterns.entries a.patterns.now
+    = c.pass-here.ensures.entries ∙ v.entries in
+    let steps = c.pass-here.new.self.walk.steps in
+    let own : IsOwnPart table entries begin len =
+    subst (λ t. IsOwnPart t entries begin len) (sym table_is)
+    (subst (λ es. IsOwnPart (g.P.Patterns.table a.patterns.now) es begin len) (sym entries_are) part) in
+    subst (λ t. IsBoundedBy len
+    (arrows_of (row_of t begin len) + length (g.P.Patterns.entries a.patterns.now))
+    (chars a.haystack.now) s steps.tried steps.entered steps.looked) table_is
+    (subst (λ es. IsBoundedBy len (arrows_of (row_of table begin len) + length es)
+    (chars a.haystack.now) s steps.tried steps.entered steps.looked) entries_are
+    (bounded_within table (chars a.haystack.now) entries s w.q c.pass-here.new.self
+    (omega (arith, low, later)) w.is.inside w.after begin len own))

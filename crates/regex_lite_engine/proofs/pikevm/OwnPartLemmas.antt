@@ -1,0 +1,71 @@
+-- A search stays in the part of the table in which its patterns are entered, and pays for no other.
+use Rattle.std.proofs.Common.{◌≡◌, ℕ, zero, suc, ◌+◌, ◌<◌, ◌≤◌, ◌==◌, Bool, true, false, List, [], ◌∷◌, length, take, drop, slice_get, slice_index, sum_by, if◌then◌else◌, Option, Some, refl, sym, ap, subst, arith}
+use Rattle.std.proofs.lemmas.Bool.{ne_eqb}
+use Rattle.std.proofs.lemmas.List.{length-take}
+use Rattle.std.proofs.lemmas.List.Sums.{sum_by-cons}
+use Rattle.regex_lite_syntax.specs.Text.{Text}
+use Rattle.regex_lite_engine.specs.Graph.Parts.{IsOwnPart, IsWithin, row_of}
+use Rattle.regex_lite_engine.specs.Graph.Places.{Place}
+use Rattle.regex_lite_engine.specs.Walk.InStep.{Offer}
+use Rattle.regex_lite_engine.specs.Walk.NumberedAnswer.{numbered_step, is_end}
+use Rattle.regex_lite_engine.specs.Walk.NumberedList.{StartsOf}
+use Rattle.regex_lite_engine.specs.Walk.Room.{left_of}
+use Rattle.regex_lite_engine.specs.Walk.Walking.{Node, InStep}
+use Rattle.regex_lite_engine.proofs.laws.search.NumberedWayLemmas.{leads_within}
+use Rattle.regex_lite_engine.proofs.laws.search.RecordedWayLemmas.{traced}
+
+-- what is recorded is a place of the part
+pub recorded_within : (table : List (Place ℕ)) (h : Text) (s : List ℕ) (first last low len : ℕ)
+    → IsOwnPart table s low len → (p from : ℕ) (recorded : Node → Option (List ℕ))
+    (now next : List (Offer Node)) (way : Option (List ℕ))
+    → InStep table h s first last p from recorded now next way
+    → (n : Node) (v : List ℕ) → recorded n ≡ Some v → IsWithin low len n.0
+recorded_within table h s first last low len part p from recorded now next way in_step n v known =
+    let t = traced Node (numbered_step table h) (is_end table h) (StartsOf s first last) recorded way in_step.grown n v known in
+    let (i, number, entry, above, below, is_entry, front, start) = t.is_start in
+    leads_within h table (IsWithin low len) within part.closed t.arrows t.start n
+    (subst (λ (z : Node). IsWithin low len z.0) (sym start) (part.entered number entry is_entry)) t.along
+  where
+    within : (q : ℕ) → IsWithin low len q → q < length table
+    within q inside = let high = part.inside in omega (arith, high, inside.1)
+
+not_entered : (now round value : ℕ) → (round ≡ now → ⊥) → (if round == now then 0 else value) ≡ value
+not_entered now round value other = ap (λ b. if b then 0 else value) (ne_eqb round now other)
+
+-- where just places of the part were entered in this round, the others are left
+pub left_outside : (f : Place ℕ → ℕ) (now : ℕ) (rounds : List ℕ) (table : List (Place ℕ))
+    (low len : ℕ) → length rounds ≡ length table
+    → ((q : ℕ) → q < length rounds → slice_index rounds q ≡ now → IsWithin low len q)
+    → sum_by f table ≤ left_of f now rounds table + sum_by f (row_of table low len)
+left_outside f now [] [] low len same only = omega arith
+left_outside f now [] (x ∷ table) low len same only = absurd (omega (arith, same))
+left_outside f now (round ∷ rounds) [] low len same only = absurd (omega (arith, same))
+left_outside f now (round ∷ rounds) (x ∷ table) (suc low) len same only =
+    omega (
+      arith,
+      sum_by-cons f x table,
+      not_entered now round (f x) (λ e. absurd (omega (arith, (only 0 (omega arith) e).0))),
+      left_outside f now rounds table low len (omega (arith, same)) (λ q lt e. (
+          let inside = only (suc q) (omega (arith, lt)) e in
+          (omega (arith, inside.0), omega (arith, inside.1)))),
+    )
+left_outside f now (round ∷ rounds) (x ∷ table) zero (suc len) same only =
+    omega (
+      arith,
+      sum_by-cons f x table,
+      sum_by-cons f x (take len table),
+      left_outside f now rounds table zero len (omega (arith, same)) (λ q lt e. (
+          let inside = only (suc q) (omega (arith, lt)) e in
+          (omega arith, omega (arith, inside.1)))),
+    )
+left_outside f now (round ∷ rounds) (x ∷ table) zero zero same only =
+    omega (
+      arith,
+      sum_by-cons f x table,
+      not_entered now round (f x) (λ e. absurd (omega (arith, (only 0 (omega arith) e).1))),
+      left_outside f now rounds table zero zero (omega (arith, same)) (λ q lt e. (
+          absurd (omega (arith, (only (suc q) (omega (arith, lt)) e).1)))),
+    )
+
+pub length_row : (table : List (Place ℕ)) (low len : ℕ) → length (row_of table low len) ≤ len
+length_row table low len = omega (arith, length-take len (drop low table))
