@@ -1,10 +1,10 @@
 -- What searches for several patterns tell, by offsets.
-use Rattle.std.specs.Prelude.{◌≡◌, ℕ, List, Option, Some, None, chars, slice_get}
+use Rattle.std.specs.Prelude.{◌≡◌, ℕ, Bool, List, Option, Some, None, chars, slice_get}
 use Rattle.regex_lite_syntax.specs.Text.{Text}
 use Rattle.regex_lite_syntax.specs.Tree.{Tree}
 use Rattle.regex_lite_engine.specs.declared.pikevm.steps.Steps.{Steps}
 use Rattle.regex_lite_engine.specs.Search.Answer.{Found}
-use Rattle.regex_lite_engine.specs.Search.AnswerOfList.{AnyMatchesFrom, IsAnswerOfList, IsFoundInList}
+use Rattle.regex_lite_engine.specs.Search.AnswerOfList.{AnyMatchesFrom, IsAnswerOfList, IsFoundInList, TellsWhich}
 use Rattle.regex_lite_engine.specs.Search.Offsets.{search_start}
 use Rattle.regex_lite_engine.specs.Search.Outcomes.{HasCostOfList}
 use Rattle.regex_lite.specs.declared.string.matches.Match.{Match}
@@ -17,6 +17,14 @@ use Rattle.regex_lite.specs.Searches.{AreGroupsOf, AreOfMatch, IsMatchOf}
 abbrev pub AnyMatches : List Expression → (haystack : List ℕ) → (start : ℕ) → Type 0
 AnyMatches list haystack start =
     OfTrees list (λ trees. AnyMatchesFrom trees (chars haystack) (search_start haystack start))
+
+-- of each pattern, by its number, it is told whether it matches from some position at or after this
+-- offset
+abbrev pub TellsWhichMatch : List Expression → (haystack : List ℕ) → (start : ℕ)
+    → (matched : List Bool) → Type 0
+TellsWhichMatch list haystack start matched =
+    OfTrees list (λ trees.
+    TellsWhich trees (chars haystack) (search_start haystack start) matched)
 
 -- what is told of the answer of a search from position s on: nothing where there is none, and else
 -- the number of the pattern, and what this says of what is found of its tree

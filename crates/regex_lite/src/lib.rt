@@ -39,7 +39,7 @@ pub use string::escape::escape;
 pub use string::{
     CaptureLocations, CaptureMatches, CaptureNames, Captures, CapturesIn, ListCaptureMatches,
     ListMatches, Match, Matches, NoExpand, Regex, RegexBuilder, RegexList, RegexListBuilder,
-    ReplaceBy, Replacer, ReplacerRef, Split, SplitN, SubCaptureMatches, Text,
+    ReplaceBy, Replacer, ReplacerRef, SetMatches, Split, SplitN, SubCaptureMatches, Text,
 };
 
 #[cfg(test)]

@@ -1,5 +1,6 @@
 -- lemmas that several proofs here share
 pub mod BlockLemmas
+pub mod BoundLemmas
 pub mod CountLemmas
 pub mod EnterLemmas
 pub mod EndLemmas
@@ -8,6 +9,7 @@ pub mod InStepMatchLemmas
 pub mod ListOutcomeLemmas
 pub mod MarkLemmas
 pub mod OfferLemmas
+pub mod OneStartLemmas
 pub mod OptionLemmas
 pub mod OutcomeLemmas
 pub mod OwnPartLemmas

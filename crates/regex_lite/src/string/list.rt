@@ -17,6 +17,8 @@ mod group_search;
 mod scan;
 mod search;
 mod searcher;
+pub(super) mod set_matches;
+mod which;
 
 use crate::owner::Shared;
 use build::default_builders;
@@ -31,6 +33,8 @@ use std::marker::Model;
 ///
 /// A search goes over the haystack once, whatever the number of patterns. It tells the match that
 /// starts first, and of the patterns that match there the one with the lowest number.
+/// [`RegexList::matches`] alone, which tells of each pattern whether it matches, goes over the
+/// haystack once for each.
 ///
 /// Clones share what was built, so a clone costs little. It always succeeds.
 #[derive(Drop)]

@@ -1,6 +1,9 @@
 -- A part of a table: places in a row that no arrow leaves.
-use Rattle.std.specs.Prelude.{◌≡◌, ◌+◌, ◌≤◌, ◌<◌, ℕ, List, length, slice_get, take, drop, Some}
+use Rattle.std.specs.Prelude.{◌≡◌, ◌+◌, ◌≤◌, ◌<◌, ◌∷◌, [], ℕ, List, length, slice_get, take, drop, Some}
+use Rattle.regex_lite_syntax.specs.Tree.{Tree}
+use Rattle.regex_lite_engine.specs.Graph.PlaceCounts.{whole_places, whole_arrows}
 use Rattle.regex_lite_engine.specs.Graph.Places.{Place}
+use Rattle.regex_lite_engine.specs.Graph.Renumbered.{arrows_of}
 use Rattle.regex_lite_engine.specs.Graph.Stored.{LeadsInto}
 
 -- the number is one of so many in a row
@@ -17,3 +20,16 @@ pub record IsOwnPart (table : List (Place ℕ)) (entries : List ℕ) (low len : 
   pub entered : (number entry : ℕ) → slice_get entries number ≡ Some entry → IsWithin low len entry
   pub closed : (q : ℕ) (place : Place ℕ) → IsWithin low len q → slice_get table q ≡ Some place
       → LeadsInto (IsWithin low len) place
+
+-- the pattern of this tree is entered here, in a part of its own with as many places and arrows as
+-- it has
+pub record OwnPart (tree : Tree) (table : List (Place ℕ)) (entry : ℕ) : Type 0 where
+  pub low : ℕ
+  pub is : IsOwnPart table (entry ∷ []) low (whole_places tree)
+  pub arrows : arrows_of (row_of table low (whole_places tree)) ≡ whole_arrows tree
+
+-- each pattern has one
+abbrev pub HaveOwnParts : List Tree → List (Place ℕ) → (entries : List ℕ) → Type 0
+HaveOwnParts trees table entries =
+    (number : ℕ) (tree : Tree) (entry : ℕ) → slice_get trees number ≡ Some tree
+    → slice_get entries number ≡ Some entry → OwnPart tree table entry

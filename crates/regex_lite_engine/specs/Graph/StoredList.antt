@@ -8,6 +8,7 @@ use Rattle.regex_lite_syntax.specs.Tree.Views.{text_of_name}
 use Rattle.regex_lite_engine.specs.declared.nfa.list_heads.ListHeads.{ListHeads}
 use Rattle.regex_lite_engine.specs.declared.nfa.place.Place as code
 use Rattle.regex_lite_engine.specs.Graph.Addresses.{Address}
+use Rattle.regex_lite_engine.specs.Graph.Parts.{HaveOwnParts}
 use Rattle.regex_lite_engine.specs.Graph.Places.{Place}
 use Rattle.regex_lite_engine.specs.Graph.Renumbered.{IsRenumbered, arrows_of}
 use Rattle.regex_lite_engine.specs.Graph.SideBySide.{AreEntries, arrows_of_all, places_of_all, side_by_side}
@@ -43,6 +44,7 @@ pub record IsGraphOfList (trees : List Tree) (list : StoredList) : Type 0 where
   pub written : IsRenumbered (side_by_side trees) name (table_of_list list)
   pub entries : AreEntries trees name (table_of_list list) list.entries
   pub each_entry : length list.entries ≡ length trees
+  pub parts : HaveOwnParts trees (table_of_list list) list.entries
   pub places : length list.places ≡ places_of_all trees
   pub arrows : list.arrows ≡ arrows_of_all trees
   pub each_arrow : arrows_of (table_of_list list) ≡ arrows_of_all trees

@@ -1,5 +1,5 @@
 -- The answer of a search for several patterns, which have numbers from 0 on.
-use Rattle.std.specs.Prelude.{◌≡◌, ◌≤◌, ℕ, List, Option, Some, None, slice_get}
+use Rattle.std.specs.Prelude.{◌≡◌, ◌≤◌, ◌↔◌, ℕ, Bool, false, IsTrue, List, length, Option, Some, None, slice_get, slice_index_or}
 use Rattle.regex_lite_syntax.specs.Text.{Text}
 use Rattle.regex_lite_syntax.specs.Tree.{Tree}
 use Rattle.regex_lite_syntax.specs.Tree.Matches.{Matches}
@@ -31,3 +31,10 @@ pub record IsFoundInList (trees : List Tree) (haystack : Text) (s number : ℕ) 
 abbrev pub IsAnswerOfList : List Tree → Text → (s : ℕ) → Option (ℕ × Found) → Type 0
 IsAnswerOfList trees haystack s None = AnyMatchesFrom trees haystack s → ⊥
 IsAnswerOfList trees haystack s (Some told) = IsFoundInList trees haystack s told.0 told.1
+
+-- for each pattern, in the order of their numbers, whether it matches from a position at or after s
+pub record TellsWhich (trees : List Tree) (haystack : Text) (s : ℕ) (told : List Bool)
+    : Type 0 where
+  pub all : length told ≡ length trees
+  pub each : (number : ℕ) (tree : Tree) → HasTree trees number tree
+      → IsTrue (slice_index_or told number false) ↔ HasMatchFrom tree haystack s

@@ -5,6 +5,7 @@ ghost use Rattle.regex_lite_engine.specs.Graph.Renumbered.{arrows_of};
 ghost use Rattle.regex_lite_engine.specs.Search.Bounds.{IsBoundedBy, StaysCounted, characters_left};
 ghost use Rattle.regex_lite_engine.specs.Search.Offsets.{position_at};
 ghost use Rattle.regex_lite_engine.specs.Walk.Outcomes.{IsNumberedEndOf, IsFresh, CanCount};
+ghost use Rattle.regex_lite_engine.specs.Walk.Searching.{IsBetween};
 ghost use Rattle.regex_lite_engine.specs.Walk.Turns.{best_of};
 
 use crate::pikevm::beginning::Unkept;
@@ -35,6 +36,7 @@ pub fn run_shortest<P: Patterns>(
         (arrows_of (row_of (P.table patterns.old) low len) + length (P.entries patterns.old))
         (chars haystack.now) (position_at haystack.now start) cache.new.walk.steps.tried
         cache.new.walk.steps.entered cache.new.walk.steps.looked }
+    ensures between { IsBetween (P.table patterns.old) cache.new }
     ensures counts { StaysCounted cache.old.walk.steps cache.new.walk.steps }
     ensures entry { ¬ (best_of cache.new.best ≡ None) → 0 < cache.new.walk.steps.entered }
 {

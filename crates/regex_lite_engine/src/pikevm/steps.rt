@@ -1,5 +1,5 @@
 //! What a search does, counted.
-ghost use Rattle.std.specs.Prelude.{◌≡◌, ◌+◌, ◌<◌, ◌^◌};
+ghost use Rattle.std.specs.Prelude.{◌≡◌, ◌+◌, ◌-◌, ◌<◌, ◌^◌, min};
 
 use std::marker::Model;
 
@@ -40,6 +40,19 @@ impl Steps {
             tried: 0,
             entered: 0,
             looked: 0,
+        }
+    }
+
+    /// What two searches did together. More than can be counted counts as much as can be.
+    pub(crate) fn plus(&self, other: &Steps) -> Steps
+        ensures tried { result.tried ≡ min (self.now.tried + other.now.tried) (2 ^ 128 - 1) }
+        ensures entered { result.entered ≡ min (self.now.entered + other.now.entered) (2 ^ 128 - 1) }
+        ensures looked { result.looked ≡ min (self.now.looked + other.now.looked) (2 ^ 128 - 1) }
+    {
+        Steps {
+            tried: self.tried.saturating_add(other.tried),
+            entered: self.entered.saturating_add(other.entered),
+            looked: self.looked.saturating_add(other.looked),
         }
     }
 

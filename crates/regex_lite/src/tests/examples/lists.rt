@@ -65,6 +65,17 @@ fn all_groups(rt: HostRuntime) -> Result<(), Fail> {
     Ok(())
 }
 
+/// At `RegexList::matches`.
+#[test]
+fn which(rt: HostRuntime) -> Result<(), Fail> {
+    let list = RegexList::new(rt.alloc(), &["[0-9]+", "[a-z]+", "sam"])?;
+    let set = list.matches("frodo 7")?;
+    assert!(rt; set.matched(0));
+    assert!(rt; set.matched(1));
+    assert!(rt; !set.matched(2));
+    Ok(())
+}
+
 /// At `RegexListBuilder`.
 #[test]
 fn builder(rt: HostRuntime) -> Result<(), Fail> {

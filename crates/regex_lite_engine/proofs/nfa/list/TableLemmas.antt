@@ -7,6 +7,7 @@ use Rattle.std.proofs.lemmas.Option.{slice_get-get_or, slice_get-map}
 use Rattle.regex_lite_syntax.specs.Tree.{Tree}
 use Rattle.regex_lite_engine.specs.Graph.Addresses.{Address}
 use Rattle.regex_lite_engine.specs.Graph.Places.{kept_back, kept_back_of, reading_count, reading_of}
+use Rattle.regex_lite_engine.specs.Graph.Parts.{HaveOwnParts}
 use Rattle.regex_lite_engine.specs.Graph.PlaceCounts.{whole_places, reading_places}
 use Rattle.regex_lite_engine.specs.Graph.Renumbered.{IsRenumbered}
 use Rattle.regex_lite_engine.specs.Graph.SideBySide.{AreEntries, AreRegular, arrows_of_all, places_of_all, side_by_side}
@@ -17,7 +18,7 @@ use Rattle.regex_lite_engine.specs.Nfa.Totals.{reading_of_all}
 use Rattle.regex_lite_engine.proofs.nfa.count.KeptBackLemmas.{kept_back_pattern}
 use Rattle.regex_lite_engine.proofs.nfa.count.ReadingCountLemmas.{reading_pattern}
 use Rattle.regex_lite_engine.proofs.nfa.count.TotalLemmas.{arrows_all_few, reading_all_few}
-use Rattle.regex_lite_engine.proofs.nfa.write.SeveralLemmas.{places_add_up, name_of_patterns, side_by_side_renumbered, are_entries}
+use Rattle.regex_lite_engine.proofs.nfa.write.SeveralLemmas.{places_add_up, name_of_patterns, side_by_side_renumbered, are_entries, own_parts}
 
 -- as many places read a character as in all patterns
 reading_adds_up : (trees : List Tree) (base : ℕ)
@@ -110,6 +111,13 @@ module _ (trees : List Tree) (regular : AreRegular trees) (places : List code.Pl
         subst (λ list. AreEntries trees name (map place_of places) list) (sym entries_are)
         (subst (λ table. AreEntries trees name table (patterns_entries trees 0)) (sym table_is)
         (are_entries trees regular))
+
+    -- each in a part of its own
+    pub parted : HaveOwnParts trees (map place_of places) entries
+    parted =
+        subst (λ list. HaveOwnParts trees (map place_of places) list) (sym entries_are)
+        (subst (λ table. HaveOwnParts trees table (patterns_entries trees 0)) (sym table_is)
+        (own_parts trees regular))
 
     pub entries_inside : All (λ entry. entry < length places) entries
     entries_inside k d less =

@@ -1,6 +1,7 @@
 -- Patterns that are laid out one behind another are the patterns written out side by side, with
 -- numbers in the place of addresses; and their places and arrows add up.
-use Rattle.std.proofs.Common.{◌≡◌, ◌<◌, ◌≤◌, ◌-◌, refl, sym, ap, subst, ◌∙◌, arith, inl, inr, ℕ, zero, suc, ◌+◌, List, [], ◌∷◌, ◌++◌, length, get_or, slice_get, length-append, Some, None, Option, map, option_map, nat_lt, true, false, if◌then◌else◌}
+use Rattle.std.proofs.Common.{◌≡◌, ◌<◌, ◌≤◌, ◌-◌, refl, sym, ap, subst, ◌∙◌, arith, inl, inr, ℕ, zero, suc, ◌+◌, List, [], ◌∷◌, ◌++◌, length, get_or, slice_get, take, drop, length-append, Some, None, Option, map, option_map, nat_lt, true, false, if◌then◌else◌}
+use Rattle.std.proofs.Math.Seq.{take-append_seam, drop-append-add}
 use Rattle.std.proofs.lemmas.Bool.{cases_lt}
 use Rattle.std.proofs.lemmas.Bool.Decides.{nat_tests}
 use Rattle.std.proofs.lemmas.List.Sums.{sum_by-cons}
@@ -12,6 +13,7 @@ use Rattle.regex_lite_engine.specs.Graph.Places.{Arrow, Place, complete, with_ar
 use Rattle.regex_lite_engine.specs.Graph.Addresses.{Address}
 use Rattle.regex_lite_engine.specs.Graph.WrittenOut.{written_out, start_address}
 use Rattle.regex_lite_engine.specs.Graph.PlaceCounts.{whole_places, whole_arrows}
+use Rattle.regex_lite_engine.specs.Graph.Parts.{HaveOwnParts, IsWithin, row_of}
 use Rattle.regex_lite_engine.specs.Graph.Stored.{LeadInto, LeadsInto, LeadsBelow}
 use Rattle.regex_lite_engine.specs.Graph.Renumbered.{arrow_count, arrows_of, IsRenumbered, IsNumberOf}
 use Rattle.regex_lite_engine.specs.Graph.SideBySide.{in_pattern, side_by_side, start_of, places_of_all, arrows_of_all, AreEntries}
@@ -250,6 +252,32 @@ located (tree ∷ trees) q less = elim (cases_lt q (whole_places tree)) [
       same = omega (arith, l.same, le);
     }
 
+-- the places of a pattern stand in a row
+row_is : (trees : List Tree) (base number : ℕ) (tree : Tree) → HasTree trees number tree
+    → row_of (patterns_table trees base) (before trees number) (whole_places tree)
+    ≡ pattern_table tree (base + before trees number)
+row_is [] base number tree there = absurd (none_there number tree there)
+row_is (own ∷ trees) base zero tree there =
+    let first = pattern_table own base in
+    let rest = patterns_table trees (base + whole_places own) in
+    let same : own ≡ tree = same_some there in
+    let many : whole_places tree ≡ length first
+    = omega (arith, ap whole_places same, length_pattern own base) in
+    let at : base ≡ base + 0 = omega arith in
+    ap (λ n. take n (first ++ rest)) many ∙ take-append_seam first rest
+    ∙ ap (λ t. pattern_table t base) same ∙ ap (pattern_table tree) at
+row_is (own ∷ trees) base (suc number) tree there =
+    let first = pattern_table own base in
+    let later = base + whole_places own in
+    let rest = patterns_table trees later in
+    let many : whole_places own + before trees number ≡ length first + before trees number
+    = omega (arith, length_pattern own base) in
+    let at : later + before trees number ≡ base + (whole_places own + before trees number)
+    = omega arith in
+    ap (λ n. take (whole_places tree) (drop n (first ++ rest))) many
+    ∙ ap (take (whole_places tree)) (drop-append-add first rest (before trees number))
+    ∙ row_is trees later number tree there ∙ ap (pattern_table tree) at
+
 same_before : (trees : List Tree) (k l x y : ℕ) → k ≡ l → x ≡ y
     → before trees k + x ≡ before trees l + y
 same_before trees k l x y e f = ap (λ n. before trees n + x) e ∙ ap (λ n. before trees l + n) f
@@ -470,3 +498,54 @@ module _ (trees : List Tree) (regular : (k : ℕ) (tree : Tree) → HasTree tree
           there,
           is_number number tree there entry (same_some (sym (entered trees 0 number tree there) ∙ e)),
         )
+
+    -- and each is entered in a part of its own
+    pub own_parts : HaveOwnParts trees table (patterns_entries trees 0)
+    own_parts number tree entry there at = record {
+      low = base;
+      is = record {
+        inside = omega (arith, many, fits_in trees number tree there);
+        entered = only_entry;
+        closed = closed;
+      };
+      arrows = ap (λ n. arrows_of (row_of table n (whole_places tree))) low
+          ∙ ap arrows_of (row_is trees 0 number tree there) ∙ arrows_pattern tree base;
+    }
+      where
+        base : ℕ
+        base = 0 + before trees number
+
+        low : base ≡ before trees number
+        low = omega arith
+
+        all : List Address
+        all = whole_addresses tree
+
+        addresses : length all ≡ whole_places tree
+        addresses = many_addresses number tree there
+
+        first_is : (pattern_layout tree base).1 ≡ entry
+        first_is = same_some (sym (entered trees 0 number tree there) ∙ at)
+
+        begins : Stands (numbering_of base all) (pattern_layout tree base).1 start_address
+        begins = pattern_start tree (regular number tree there) base
+
+        only_entry : (k e : ℕ) → slice_get (entry ∷ []) k ≡ Some e → IsWithin base (whole_places tree) e
+        only_entry zero e is =
+            let same = first_is ∙ same_some is in
+            (omega (arith, begins.1.0, same), omega (arith, begins.1.1, same, addresses))
+        only_entry (suc k) e is = absurd (not_there k is)
+          where
+            not_there : (k : ℕ) → slice_get {X = ℕ} [] k ≡ Some e → ⊥
+            not_there k is = cc
+
+        closed : (q : ℕ) (place : Place ℕ) → IsWithin base (whole_places tree) q
+            → slice_get table q ≡ Some place → LeadsInto (IsWithin base (whole_places tree)) place
+        closed q place (above, below) is =
+            let own : before trees number + (q - base) ≡ q = omega (arith, above) in
+            let few : q - base < whole_places tree = omega (arith, above, below) in
+            let in_pattern : slice_get (pattern_table tree base) (q - base) ≡ Some place
+            = sym (placed trees 0 number tree there (q - base) few) ∙ ap (slice_get table) own ∙ is in
+            leads_up base (base + length all) (base + whole_places tree) (omega (arith, addresses)) place
+            (is_at_number (numbering_of base all) (written_out tree) all (pattern_table tree base)
+            (pattern_is tree (regular number tree there) base) (q - base) place in_pattern).1

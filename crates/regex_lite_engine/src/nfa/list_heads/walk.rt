@@ -46,6 +46,24 @@ impl ListHeads {
         }
     }
 
+    /// Whether the pattern with this number may start between these characters.
+    pub(crate) fn may_start(
+        &self,
+        before: Option<char>,
+        first: char,
+        second: Option<char>,
+        number: usize,
+    ) -> bool
+        requires walkable { IsWalkable self.now }
+        requires number { number < self.now.count }
+        ensures { result ≡ may_start self.now before (Some first) second number }
+    {
+        let first = first_row(first);
+        let second = row_behind(first, second);
+        let word = self.word(before, first, second, number / 64);
+        word >> (number % 64) & 1 == 1
+    }
+
     /// Those of 64 patterns that may start, by the rows of both characters.
     fn word(&self, before: Option<char>, first: usize, second: usize, k: usize) -> u64
         requires walkable { IsWalkable self.now }

@@ -5,6 +5,7 @@ use Rattle.regex_lite_engine.specs.Graph.Renumbered.{arrows_of}
 use Rattle.regex_lite_engine.specs.Search.Bounds.{IsBoundedBy, characters_left}
 use Rattle.regex_lite_engine.specs.Search.Offsets.{position_at}
 use Rattle.regex_lite_engine.specs.Walk.Outcomes.{CanCount, IsNumberedEndOf}
+use Rattle.regex_lite_engine.specs.Walk.Searching.{IsBetween}
 use Rattle.regex_lite_engine.specs.Walk.Turns.{best_of}
 use Rattle.regex_lite_engine.proofs.pikevm.here.OffsetLemmas.{less_left}
 use Rattle.regex_lite_engine.proofs.pikevm.CountLemmas.{counted_at_first, still_counted}
@@ -148,3 +149,11 @@ returns-then-is_known-clause-own g c = λ begin len part.
     (chars a.haystack.now) s steps.tried steps.entered steps.looked) entries_are
     (bounded_within table (chars a.haystack.now) entries s w.q c.pass-here.new.self
     (omega (arith, low, later)) w.is.inside w.after begin len own))
+
+pub returns-then-is_known-clause-between : goal.returns-then-is_known-clause-between
+returns-then-is_known-clause-between g c =
+    let a = c.args in
+    let v = c.positions.invariant in
+    let w = c.pass-here.ensures.passes (position_at a.haystack.now a.start) v.p v.is v.under_way in
+    subst (λ t. IsBetween t c.pass-here.new.self) (c.pass-here.ensures.table ∙ v.table)
+    w.after.ready

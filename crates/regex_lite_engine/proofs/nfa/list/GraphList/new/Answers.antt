@@ -4,7 +4,7 @@ use Rattle.regex_lite_engine.specs.Graph.Renumbered.{arrows_of}
 use Rattle.regex_lite_engine.specs.Graph.SideBySide.{places_of_all}
 use Rattle.regex_lite_engine.specs.Graph.Stored.{StoredTable, places_of}
 use Rattle.regex_lite_engine.specs.Nfa.Layout.{patterns_table}
-use Rattle.regex_lite_engine.proofs.nfa.list.TableLemmas.{closed, name, written, entered, entries_inside, entry_for_each, few_entries}
+use Rattle.regex_lite_engine.proofs.nfa.list.TableLemmas.{closed, name, written, entered, entries_inside, parted, entry_for_each, few_entries}
 use Rattle.regex_lite_engine.proofs.nfa.starts.WayLemmas.{listed_heads}
 use Rattle.regex_lite_engine.proofs.nfa.write.SeveralLemmas.{arrows_add_up}
 use Rattle.regex_lite_engine.proofs.nfa.list.GraphList.new.Goals as goal
@@ -61,6 +61,7 @@ returns-clause-ok c =
       written = written trees regular places table_is;
       entries = entered trees regular places table_is entries entries_are;
       each_entry = ap length entries_are ∙ entry_for_each trees 0;
+      parts = parted trees regular places table_is entries entries_are;
       places = ap (λ (t : StoredTable). length t.places) c.new-table.ensures
           ∙ c.in_ok-places.ensures.length;
       arrows = ap (λ (t : StoredTable). t.arrows) c.new-table.ensures

@@ -1,20 +1,9 @@
-use Rattle.std.proofs.Common.{◌<◌, ◌≤◌, ◌∷◌, [], ℕ, zero, suc, Bool, true, false, length, if◌then◌else◌, arith}
+use Rattle.std.proofs.Common.{length}
 use Rattle.std.specs.Prelude.{chars}
-use Rattle.std.specs.List.{All}
-use Rattle.regex_lite_engine.specs.declared.pikevm.patterns.Start.{Start}
 use Rattle.regex_lite_engine.specs.Graph.Stored.{table_of}
+use Rattle.regex_lite_engine.proofs.pikevm.OneStartLemmas.{one_inside, one_at_most}
 use Rattle.regex_lite_engine.proofs.pikevm.TurnLemmas.{one_starts}
 use Rattle.regex_lite_engine.proofs.pikevm.one_pattern.OnePatternPatterns.come_to.Goals as goal
-
-one_inside : (n : ℕ) (start : Start) (may : Bool) → start.place < n
-    → All (λ start. start.place < n) (if may then start ∷ [] else [])
-one_inside n start false inside k d lt = absurd (omega (arith, lt))
-one_inside n start true inside zero d lt = inside
-one_inside n start true inside (suc k) d lt = absurd (omega (arith, lt))
-
-one_at_most : (start : Start) (may : Bool) → length (if may then start ∷ [] else []) ≤ 1
-one_at_most start false = omega arith
-one_at_most start true = omega arith
 
 pub returns-clause-inside : goal.returns-clause-inside
 returns-clause-inside c =

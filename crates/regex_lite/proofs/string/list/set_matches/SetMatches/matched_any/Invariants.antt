@@ -1,0 +1,6 @@
+use Rattle.std.proofs.Common.{◌≡◌, ◌<◌, ℕ, Some, slice_get, true}
+use Rattle.regex_lite.proofs.string.list.set_matches.SetMatches.matched_any.Given as goal
+
+abbrev pub invariant-loop-matched : goal.invariant-loop-matched
+invariant-loop-matched l =
+    (i : ℕ) → i < l.matched-index → slice_get l.self i ≡ Some true → ⊥

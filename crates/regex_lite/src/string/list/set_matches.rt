@@ -1,0 +1,86 @@
+//! What is told of each pattern of a list.
+ghost use Rattle.std.specs.Prelude.{◌≡◌, ◌<◌, ◌↔◌, ℕ, IfOk, IfErr, IsTrue, Some, false, length, slice_get, slice_index_or, true};
+ghost use Rattle.regex_lite_syntax.specs.Errors.{out_of_memory};
+
+use regex_lite_syntax::Error;
+use std::fmt;
+use std::marker::Model;
+
+/// Which of the patterns of a [`RegexList`](crate::RegexList) match, by their numbers.
+#[derive(Drop)]
+pub struct SetMatches {
+    /// By number, whether the pattern matches.
+    pub(super) matched: Vec<bool>,
+}
+
+impl Model for SetMatches {
+    ghost use Rattle.std.specs.Prelude.{Bool, List};
+
+    ghost Value = { List Bool };
+
+    ghost view = { λ set. set.matched.items };
+}
+
+impl SetMatches {
+    /// How many patterns the list has, whether they match or not.
+    pub fn len(&self) -> usize
+        ensures { result ≡ length self.now }
+    {
+        self.matched.len()
+    }
+
+    /// Whether the pattern with this number matches. `false` where no pattern has the number.
+    pub fn matched(&self, i: usize) -> bool
+        ensures { result ≡ slice_index_or self.now i false }
+    {
+        match self.matched.get(i) {
+            Some(matched) => *matched,
+            None => false,
+        }
+    }
+
+    /// Whether one of the patterns matches.
+    pub fn matched_any(&self) -> bool
+        ensures { IsTrue result ↔ ((i : ℕ) × (slice_get self.now i ≡ Some true)) }
+    {
+        for matched in &self.matched {
+            if *matched {
+                return true;
+            }
+        }
+        false
+    }
+
+    /// Whether each of the patterns matches. `true` where there is none.
+    pub fn matched_all(&self) -> bool
+        ensures { IsTrue result
+            ↔ ((i : ℕ) → i < length self.now → slice_get self.now i ≡ Some true) }
+    {
+        for matched in &self.matched {
+            if !*matched {
+                return false;
+            }
+        }
+        true
+    }
+
+    /// An equal set, of its own.
+    ///
+    /// # Errors
+    ///
+    /// `Memory` where a growth is refused.
+    pub fn try_clone(&self) -> Result<SetMatches, Error>
+        ensures ok { IfOk result (λ set. set ≡ self.now) }
+        ensures refused { IfErr result (λ error. error ≡ out_of_memory) }
+    {
+        let matched = self.matched.clone()?;
+        Ok(SetMatches { matched })
+    }
+}
+
+/// Writes by number whether each pattern matches.
+impl fmt::Debug for SetMatches {
+    fn fmt<W: fmt::Write>(&self, f: &mut fmt::Formatter<W>) -> fmt::Result {
+        f.debug_tuple("SetMatches").field(&self.matched).finish()
+    }
+}

@@ -1,0 +1,31 @@
+use Rattle.std.proofs.Common.{◌≡◌, ◌++◌, length, take, drop, ap, sym, subst, ◌∙◌, arith}
+use Rattle.std.specs.Prelude.{chars, false, IsTrue, slice_index_or}
+use Rattle.std.proofs.Math.Seq.{take-append_seam}
+use Rattle.regex_lite_engine.specs.Search.AnswerOfList.{TellsWhich}
+use Rattle.regex_lite_engine.specs.Search.Offsets.{search_start}
+use Rattle.regex_lite_engine.proofs.pikevm.ListOutcomeLemmas.{at_position}
+use Rattle.regex_lite_engine.proofs.nfa.list.GraphList.search_each.Goals as goal
+
+pub returns-clause-found : goal.returns-clause-found
+returns-clause-found c = λ trees regular is.
+    let haystack = c.args.haystack.now in
+    let found = c.search_all-steps.ensures.found trees regular is in
+    let told = c.search_all-steps.new.matched in
+    let all = found.all in
+    let each = is.each_entry in
+    let len : c.in_ok-matched.matched.len ≡ length told
+    = omega (arith, all, each, c.in_ok-matched.ensures.len, c.len.ensures.same, c.in_ok-matched.matched.ok) in
+    let same = ap (λ n. take n (told ++ drop (length told) c.in_ok-matched.matched.items)) len
+    ∙ take-append_seam told (drop (length told) c.in_ok-matched.matched.items) in
+    subst (λ list. TellsWhich trees (chars haystack) (search_start haystack c.args.start) list) (sym same)
+    (at_position trees c.args.self.now is haystack c.args.start (omega (arith, c.if-start-haystack.false))
+    (λ s. TellsWhich trees (chars haystack) s told) found)
+
+pub returns-clause-entered : goal.returns-clause-entered
+returns-clause-entered c = λ k told.
+    let new = c.search_all-steps.new.matched in
+    let len : c.in_ok-matched.matched.len ≡ length new
+    = omega (arith, c.search_all-steps.ensures.length, c.in_ok-matched.matched.ok) in
+    let same = ap (λ n. take n (new ++ drop (length new) c.in_ok-matched.matched.items)) len
+    ∙ take-append_seam new (drop (length new) c.in_ok-matched.matched.items) in
+    c.search_all-steps.ensures.entered k (subst (λ list. IsTrue (slice_index_or list k false)) same told)
