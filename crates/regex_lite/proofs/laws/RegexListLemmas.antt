@@ -1,5 +1,5 @@
 -- What is told of a list of patterns, of its patterns, and of a list of one or of none.
-use Rattle.std.proofs.Common.{◌≡◌, ◌≤◌, ◌*◌, ◌+◌, ◌↔◌, ◌∙◌, refl, sym, ap, subst, ℕ, zero, suc, List, [], ◌∷◌, Bool, true, false, IsTrue, is_some, Option, Some, None, option_map, option_and_then, chars, arith}
+use Rattle.std.proofs.Common.{◌≡◌, ◌≤◌, ◌*◌, ◌+◌, ◌↔◌, ◌∙◌, refl, sym, ap, subst, ℕ, zero, suc, List, [], ◌∷◌, Bool, IsTrue, is_some, Option, Some, None, option_map, option_and_then, chars, arith}
 use Rattle.std.proofs.lemmas.Bool.{false≢true}
 use Rattle.regex_lite_syntax.specs.Grammar.{IsTree}
 use Rattle.regex_lite_syntax.specs.Tree.{Tree}

@@ -1,5 +1,5 @@
 -- What is told by a search that goes on behind a match.
-use Rattle.std.proofs.Common.{◌≡◌, ◌<◌, ◌≤◌, ◌⊎◌, inl, inr, true, false, MatchBool, Bool, ℕ, suc, List, length, Option, Some, None, refl, sym, ap, subst, ◌∙◌, chars, IsUtf8, option_map, unwrap_or, arith}
+use Rattle.std.proofs.Common.{◌≡◌, ◌<◌, ◌≤◌, ◌⊎◌, inl, inr, true, false, MatchBool, Bool, ℕ, suc, List, Option, Some, None, refl, sym, ap, subst, ◌∙◌, chars, IsUtf8, option_map, unwrap_or, arith}
 use Rattle.std.specs.Prelude.{IsCharBoundary}
 use Rattle.std.proofs.lemmas.Bool.{cases_order}
 use Rattle.std.proofs.lemmas.Bool.Decides.{nat_tests}

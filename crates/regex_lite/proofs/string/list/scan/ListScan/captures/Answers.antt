@@ -1,4 +1,4 @@
-use Rattle.std.proofs.Common.{ℕ, IfOk, sym, subst}
+use Rattle.std.proofs.Common.{IfOk, sym, subst}
 use Rattle.regex_lite_engine.specs.Search.Answer.{Found}
 use Rattle.regex_lite.specs.ListAhead.{AreGroupsFoundInList}
 use Rattle.regex_lite.specs.ListScanning.{IsListMatchOfSearch, ListScanning}
