@@ -7,6 +7,7 @@ pub mod EndLemmas
 pub mod InStepLemmas
 pub mod InStepMatchLemmas
 pub mod ListOutcomeLemmas
+pub mod ListSkipLemmas
 pub mod MarkLemmas
 pub mod OfferLemmas
 pub mod OneStartLemmas

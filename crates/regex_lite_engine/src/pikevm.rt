@@ -13,6 +13,7 @@ mod list_matches;
 pub(crate) mod list_patterns;
 mod list_search;
 pub(crate) mod list_searcher;
+mod list_skip;
 pub(crate) mod memory;
 pub(crate) mod one_of_list;
 pub(crate) mod one_pattern;

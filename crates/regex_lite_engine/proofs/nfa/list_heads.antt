@@ -3,4 +3,5 @@ pub mod RowBitLemmas
 pub mod NumberLemmas
 pub mod IndexLemmas
 pub mod WalkLemmas
+pub mod PairLemmas
 pub mod TreeLemmas

@@ -61,13 +61,13 @@ get_drop zero bs = refl
 get_drop (suc k) [] = refl
 get_drop (suc k) (b ∷ bs) = get_drop k bs
 
-there : (cs : List ℕ) (i : ℕ) → i < length cs → (c : ℕ) × (slice_get cs i ≡ Some c)
+pub there : (cs : List ℕ) (i : ℕ) → i < length cs → (c : ℕ) × (slice_get cs i ≡ Some c)
 there [] i lt = absurd (omega (arith, lt))
 there (c ∷ cs) zero lt = (c, refl)
 there (c ∷ cs) (suc i) lt = there cs i (omega (arith, lt))
 
 -- a match can begin with a character if the scan stops at its first byte
-first_byte : (s : Starts) (bs : List ℕ) (i c : ℕ) → IsUtf8 bs → slice_get (chars bs) i ≡ Some c
+pub first_byte : (s : Starts) (bs : List ℕ) (i c : ℕ) → IsUtf8 bs → slice_get (chars bs) i ≡ Some c
     → i < length (chars bs) → offset (chars bs) i < length bs
     → begins_with s c ≡ stops_at s (slice_index bs (offset (chars bs) i))
 first_byte s bs i c u e within short = by_byte (cases_lt byte 128)
@@ -123,6 +123,22 @@ first_byte s bs i c u e within short = by_byte (cases_lt byte 128)
             let same = byte_from_char (drop at bs) (encodes (drop (suc i) (chars bs))) c rest lt in
             absurd (omega (arith, same, head, high, lt))
 
+-- an ASCII byte at the place of a character is that character
+pub ascii_there : (bs : List ℕ) (i : ℕ) → IsUtf8 bs → i < length (chars bs)
+    → offset (chars bs) i < length bs → slice_index bs (offset (chars bs) i) < 128
+    → slice_get (chars bs) i ≡ Some (slice_index bs (offset (chars bs) i))
+ascii_there bs i u within short ascii =
+    let at = offset (chars bs) i in
+    let own = there (chars bs) i within in
+    let rest : drop at bs ≡ encode own.0 ++ encodes (drop (suc i) (chars bs)) =
+    ap (drop at) (sym (encodes-chars bs u)) ∙ rest_at (chars bs) i
+    ∙ ap encodes (first_of i (chars bs) own.0 own.1) in
+    let head = get_drop at bs in
+    let some : 0 < length (drop at bs) = omega (arith, short, length-drop at bs) in
+    let same = char_from_byte (drop at bs) (encodes (drop (suc i) (chars bs))) own.0 rest
+    (omega (arith, ascii, head)) some in
+    own.1 ∙ ap Some (same ∙ head)
+
 -- where the scan stops, or at the end, one can begin
 pub stopped : (s : Starts) (bs : List ℕ) (q : ℕ) (y : Here) → IsUtf8 bs → IsHere (chars bs) q y
     → (y.at < length bs → stops_at s (slice_index bs y.at) ≡ true)
@@ -154,7 +170,7 @@ never_at s h p x is off may =
     let never = subst IsTrue off by_next in cc
 
 -- behind the haystack's start a match begins with a character of the set
-begins_later : (s : Starts) (h : Text) (i : ℕ) → (d : ℕ) × (slice_get h i ≡ Some d)
+pub begins_later : (s : Starts) (h : Text) (i : ℕ) → (d : ℕ) × (slice_get h i ≡ Some d)
     → (c : ℕ) × (slice_get h (suc i) ≡ Some c) × (begins_with s c ≡ false)
     → MayBegin s h (suc i) → ⊥
 begins_later s h i (d, behind) (c, ahead, off) may =
@@ -195,13 +211,13 @@ module _ (bs : List ℕ) (i : ℕ) (u : IsUtf8 bs) (within : i < length (chars b
       (omega (arith, ascii, head)) some in
       omega (arith, same, head, ascii)
 
-  next_at : offset (chars bs) (suc i) ≡ at + 1
+  pub next_at : offset (chars bs) (suc i) ≡ at + 1
   next_at =
       let test : nat_lt here.0 128 ≡ true = grind (arith, nat_tests, low) in
       let one : len_utf8 here.0 ≡ 1 = rw test refl in
       omega (arith, offset_next (chars bs) i here.0 here.1, one)
 
-  inside : suc i < length (chars bs)
+  pub inside : suc i < length (chars bs)
   inside = elim (cases_lt (suc i) (length (chars bs))) [
     | inl lt ↦ lt
     | inr le ↦

@@ -1,17 +1,18 @@
 -- Which of several patterns may start at a position, by the characters around it.
-use Rattle.std.specs.Prelude.{◌≡◌, ◌==◌, ◌+◌, ◌-◌, ◌*◌, ◌<◌, ◌≤◌, ℕ, suc, Bool, true, false, ◌&&◌, ◌||◌, nat_lt, if◌then◌else◌, List, filter, length, map, slice_get, Option, Some, None, is_none, IfSome}
+use Rattle.std.specs.Prelude.{◌≡◌, ◌==◌, ◌⊎◌, ◌+◌, ◌-◌, ◌*◌, ◌<◌, ◌≤◌, ℕ, suc, Bool, true, false, ◌&&◌, ◌||◌, nat_lt, if◌then◌else◌, List, filter, length, map, slice_get, slice_index, Option, Some, None, is_none}
 use Rattle.std.specs.Int.{bit_at}
-use Rattle.std.specs.List.{range_with_len}
+use Rattle.std.specs.List.{list_any, range_with_len}
 use Rattle.regex_lite_syntax.specs.AsciiMaps.{bit_of_words}
 use Rattle.regex_lite_syntax.specs.Text.{Text, before, after}
 use Rattle.regex_lite_syntax.specs.Tree.{Tree}
 use Rattle.regex_lite_engine.specs.declared.nfa.heads.Heads.{Heads}
 use Rattle.regex_lite_engine.specs.declared.nfa.list_heads.ListHeads.{ListHeads}
+use Rattle.regex_lite_engine.specs.declared.nfa.list_heads.ascii_set.AsciiSet.{AsciiSet}
 use Rattle.regex_lite_engine.specs.declared.nfa.list_heads.rows.Rows.{Rows}
 use Rattle.regex_lite_engine.specs.declared.nfa.starts.Starts.{Starts}
 use Rattle.regex_lite_engine.specs.Search.AnswerOfList.{HasTree}
 use Rattle.regex_lite_engine.specs.Nfa.Heads.{AreHeadsOfTree}
-use Rattle.regex_lite_engine.specs.Nfa.Starts.{begins_with, IsUnionOf}
+use Rattle.regex_lite_engine.specs.Nfa.Starts.{begins_with, stops_at, IsUnionOf}
 
 -- There are 129 rows for the first character, as many for the second, and one for the start of the
 -- haystack. All characters that are not ASCII have one row together
@@ -75,20 +76,54 @@ unfoldable pub set_from : (lowest word : ℕ) → List ℕ
 set_from lowest word =
     filter (λ number. bit_at word (number - lowest) == 1) (range_with_len lowest 64)
 
--- A match begins with what some pattern can begin with. Where the second character of each pattern
--- is known, it goes on with what is second in some pattern
-pub record IsUnionOfHeads (parts : List Heads) (any : Heads) : Type 0 where
-  pub first : IsUnionOf (map (λ part. part.first) parts) any.first
-  pub second : IfSome any.second (λ second. (seconds : List Starts)
-      × (map (λ part. part.second) parts ≡ map Some seconds) × IsUnionOf seconds second)
+-- the ASCII character with this code is in the set
+abbrev pub in_set : AsciiSet → (code : ℕ) → Bool
+in_set set code = bit_of_words set.words code == 1
+
+abbrev pub in_some_set : Option AsciiSet → (code : ℕ) → Bool
+in_some_set None code = false
+in_some_set (Some set) code = in_set set code
+
+-- a match of some pattern can begin with these two ASCII characters, as the index tells
+abbrev pub has_pair : ListHeads → (first second : ℕ) → Bool
+has_pair heads first second = in_some_set (slice_get heads.pairs.items first) second
+
+-- one that begins like this can begin with these two characters
+abbrev pub begins_with_pair : (first second : ℕ) → Heads → Bool
+begins_with_pair first second heads =
+    begins_with heads.first first && goes_on_with heads.second second
+
+-- the pairs of a pattern that begins like this are added
+pub record ArePairsWith (part : Heads) (before after : ListHeads) : Type 0 where
+  pub all : length after.pairs.items ≡ length before.pairs.items
+  pub each : (first second : ℕ) → first < 128 → second < 128 → has_pair after first second
+      ≡ (has_pair before first second || begins_with_pair first second part)
+
+-- both are ASCII characters with which none begins
+abbrev pub NeverBeginsWith : ListHeads → (first : ℕ) → (second : Option ℕ) → Type 0
+NeverBeginsWith heads first None = ⊥
+NeverBeginsWith heads first (Some second) =
+    (first < 128) × (second < 128) × (has_pair heads first second ≡ false)
+
+-- The byte at this offset tells that no match begins there, or it and the one behind it are two
+-- ASCII characters with which none begins
+abbrev pub IsPassedByAll : ListHeads → (bytes : List ℕ) → (at : ℕ) → Type 0
+IsPassedByAll heads bytes at =
+    (stops_at heads.any (slice_index bytes at) ≡ false)
+    ⊎ ((at + 1 < length bytes)
+    × NeverBeginsWith heads (slice_index bytes at) (Some (slice_index bytes (at + 1))))
 
 -- The index is that of the patterns with these heads, in the order of their numbers. A bit is set
--- where the pattern belongs in the row, and nowhere else
+-- where the pattern belongs in the row, and nowhere else. A match begins with what some pattern can
+-- begin with
 pub record IsIndexOf (parts : List Heads) (heads : ListHeads) : Type 0 where
   pub sized : IsSized heads.rows heads.count
   pub bits : (row number : ℕ) → row < row_count → number < 64 * heads.rows.width
       → has heads.rows row number ≡ one_belongs (slice_get parts number) row
-  pub any : IsUnionOfHeads parts heads.any
+  pub any : IsUnionOf (map (λ part. part.first) parts) heads.any
+  pub all_pairs : length heads.pairs.items ≡ 128
+  pub pairs : (first second : ℕ) → first < 128 → second < 128
+      → has_pair heads first second ≡ list_any (begins_with_pair first second) parts
 
 -- the parts are the heads of the trees, one by one
 pub record AreEachHeadsOf (trees : List Tree) (parts : List Heads) : Type 0 where
@@ -103,8 +138,13 @@ pub record AreHeadsOfTrees (trees : List Tree) (heads : ListHeads) : Type 0 wher
   pub count : heads.count ≡ length trees
   pub index : IsIndexOf parts heads
 
--- what the walk over the rows counts on: they have room for each pattern, and no bit of another
+-- What the walk over the rows counts on: they have room for each pattern, and no bit of another.
+-- None is in the rows of two ASCII characters with which no match begins
 pub record IsWalkable (heads : ListHeads) : Type 0 where
   pub sized : IsSized heads.rows heads.count
   pub none_behind : (row number : ℕ) → row < row_count → heads.count ≤ number
       → number < 64 * heads.rows.width → has heads.rows row number ≡ false
+  pub all_pairs : length heads.pairs.items ≡ 128
+  pub not_in_rows : (first second number : ℕ) → first < 128 → second < 128 → number < heads.count
+      → has_pair heads first second ≡ false → (has heads.rows (first_row first) number
+      && has heads.rows (second_row second) number) ≡ false

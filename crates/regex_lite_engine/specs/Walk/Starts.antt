@@ -8,6 +8,7 @@ use Rattle.regex_lite_engine.specs.declared.pikevm.patterns.Start.{Start}
 use Rattle.regex_lite_engine.specs.Graph.Places.{Place}
 use Rattle.regex_lite_engine.specs.Nfa.Heads.{NeverBegins}
 use Rattle.regex_lite_engine.specs.Nfa.ListHeads.{may_start_at, IsWalkable}
+use Rattle.regex_lite_engine.specs.Nfa.Starts.{MayBegin}
 use Rattle.regex_lite_engine.specs.Walk.Machine.{Thread}
 use Rattle.regex_lite_engine.specs.Walk.NumberedList.{IsEntry}
 use Rattle.regex_lite_engine.specs.Walk.Standing.{IsHere}
@@ -41,7 +42,7 @@ pub record AreListHeadsOf (table : List (Place ℕ)) (entries : List ℕ) (heads
   pub count : heads.count ≡ length entries
   pub walkable : IsWalkable heads
   -- of no pattern where none of all can begin
-  pub any : (haystack : Text) (p : ℕ) → NeverBegins heads.any haystack p
+  pub any : (haystack : Text) (p : ℕ) → (MayBegin heads.any haystack p → ⊥)
       → AreDeadAt table haystack entries p
   -- of none that may not start there
   pub each : (haystack : Text) (p number entry : ℕ) → IsEntry entries number entry

@@ -1,13 +1,12 @@
 //! The two characters with which a match of a pattern can begin.
-ghost use Rattle.std.specs.Prelude.{◌≡◌, ◌<◌, ◌≤◌, ◌⊎◌, ◌++◌, [], ◌∷◌, ℕ, Bool, List, Option, IfSome, None, false, map, length};
+ghost use Rattle.std.specs.Prelude.{◌≡◌, ◌<◌, ◌≤◌, ℕ, Bool, Option, IfSome, false, map, length};
 ghost use Rattle.regex_lite_syntax.specs.Text.{Text};
 ghost use Rattle.regex_lite_syntax.specs.Tree.{repetition, concat, alternation, trees};
 ghost use Rattle.regex_lite_syntax.specs.Tree.Matches.{Matches};
 ghost use Rattle.regex_lite_syntax.specs.Tree.Views.{tree_of};
 ghost use Rattle.regex_lite_engine.specs.declared.nfa.heads.Head.TheVariants.{One};
-ghost use Rattle.regex_lite_engine.specs.declared.nfa.heads.Heads.{Heads};
 ghost use Rattle.regex_lite_engine.specs.Nfa.Heads.{AreHeadsOfTree, AreSecondOfTree, IsCutOff, Reads, ReadsEach};
-ghost use Rattle.regex_lite_engine.specs.Nfa.ListHeads.{goes_on_with, IsUnionOfHeads};
+ghost use Rattle.regex_lite_engine.specs.Nfa.ListHeads.{goes_on_with};
 ghost use Rattle.regex_lite_engine.specs.Nfa.Starts.{IsGrown};
 
 use crate::nfa::starts::Starts;
@@ -44,40 +43,6 @@ impl Heads {
         Heads {
             first: Starts::of(hir),
             second: Starts::second_of(hir),
-        }
-    }
-
-    /// A match can begin nowhere.
-    pub(crate) fn nowhere() -> Heads
-        ensures { IsUnionOfHeads [] result }
-    {
-        Heads {
-            first: Starts::nowhere(),
-            second: Some(Starts::nowhere()),
-        }
-    }
-
-    /// Lets a match also begin where a match of another pattern can.
-    pub(crate) fn add(&mut self, other: &Heads)
-        ensures { (parts : List Heads) → IsUnionOfHeads parts self.old
-            → IsUnionOfHeads (parts ++ other.now ∷ []) self.new }
-    {
-        self.first.add_starts(&other.first);
-        match (&mut self.second, &other.second) {
-            (Some(second), Some(others)) => second.add_starts(others),
-            _ => self.second = None,
-        }
-    }
-
-    /// Forgets the second characters where they are too many.
-    pub(crate) fn keep_few(&mut self)
-        ensures first { self.new.first ≡ self.old.first }
-        ensures second { (self.new.second ≡ self.old.second) ⊎ (self.new.second ≡ None) }
-    {
-        if let Some(second) = &self.second {
-            if second.len() > MOST {
-                self.second = None;
-            }
         }
     }
 

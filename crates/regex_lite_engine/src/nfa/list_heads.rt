@@ -1,16 +1,21 @@
 //! Which of several patterns may start at a position, by the two characters there.
 //!
 //! A row of bits belongs to each first character, and to each second one, with a bit for each
-//! pattern. The patterns that may start at a position are in the rows of both characters there.
-ghost use Rattle.std.specs.Prelude.{◌≡◌, ◌<◌, ◌++◌, [], ◌∷◌, List, IfOk, length, map};
+//! pattern. The patterns that may start at a position are in the rows of both characters there. At
+//! most positions there is none, which a set of second characters for each first one tells at once.
+ghost use Rattle.std.specs.Prelude.{◌≡◌, ◌<◌, ◌++◌, [], ◌∷◌, ℕ, List, IfOk, length, map};
 ghost use Rattle.regex_lite_syntax.specs.Tree.Views.{tree_of};
 ghost use Rattle.regex_lite_engine.specs.declared.nfa.heads.Heads.{Heads};
-ghost use Rattle.regex_lite_engine.specs.Nfa.ListHeads.{AreHeadsOfTrees, IsIndexOf, IsSized, belongs, row_count};
+ghost use Rattle.regex_lite_engine.specs.Nfa.ListHeads.{goes_on_with, in_set, ArePairsWith, AreHeadsOfTrees, IsIndexOf, IsSized, belongs, row_count};
 
+mod ascii_set;
+mod pairs;
 mod rows;
 mod walk;
 
 use crate::nfa::heads::Heads;
+use crate::nfa::starts::Starts;
+use ascii_set::AsciiSet;
 use regex_lite_syntax::Hir;
 use rows::{AT_START, ROWS, Rows, SECOND};
 use std::alloc::{AllocError, Global};
@@ -19,10 +24,13 @@ use std::alloc::{AllocError, Global};
 #[derive(Drop)]
 pub(crate) struct ListHeads {
     /// Where a match of any of them can begin.
-    pub(crate) any: Heads,
+    pub(crate) any: Starts,
     /// How many patterns there are.
     pub(crate) count: usize,
     pub(crate) rows: Rows,
+    /// For each ASCII character with which a match of any of them can begin, those that can come
+    /// second.
+    pub(crate) pairs: Vec<AsciiSet>,
 }
 
 impl ListHeads {
@@ -38,7 +46,6 @@ impl ListHeads {
         for (number, hir) in hirs.iter().enumerate() {
             heads.add(number, &Heads::of(hir));
         }
-        heads.any.keep_few();
         Ok(heads)
     }
 
@@ -48,9 +55,10 @@ impl ListHeads {
         ensures none { IfOk result (λ heads. IsIndexOf [] heads) }
     {
         Ok(ListHeads {
-            any: Heads::nowhere(),
+            any: Starts::nowhere(),
             count,
             rows: Rows::blank(alloc, count)?,
+            pairs: vec![in alloc; AsciiSet::empty(); 128]?,
         })
     }
 
@@ -58,6 +66,7 @@ impl ListHeads {
     fn add(&mut self, number: usize, heads: &Heads)
         requires room { number < self.old.count }
         requires sized { IsSized self.old.rows self.old.count }
+        requires pairs { length self.old.pairs.items ≡ 128 }
         ensures count { self.new.count ≡ self.old.count }
         ensures sized { IsSized self.new.rows self.new.count }
         ensures added { (parts : List Heads) → length parts ≡ number → IsIndexOf parts self.old
@@ -68,8 +77,36 @@ impl ListHeads {
                 self.rows.set(row, number);
             }
         }
-        self.any.add(heads);
+        self.add_pairs(heads);
+        self.any.add_starts(&heads.first);
     }
+
+    /// Adds the pairs of characters with which a match of the pattern can begin.
+    fn add_pairs(&mut self, heads: &Heads)
+        requires { length self.old.pairs.items ≡ 128 }
+        ensures added { ArePairsWith heads.now self.old self.new }
+        ensures same { self.new ≡ record self.old { pairs = self.new.pairs } }
+    {
+        let second = second_of(heads);
+        for first in 0..128 {
+            if heads.first.begins_in(first) {
+                self.pairs[first] = self.pairs[first].union(second);
+            }
+        }
+    }
+}
+
+/// The ASCII characters that may come second.
+fn second_of(heads: &Heads) -> AsciiSet
+    ensures { (code : ℕ) → code < 128 → in_set result code ≡ goes_on_with heads.now.second code }
+{
+    let mut second = AsciiSet::empty();
+    for code in 0..128 {
+        if heads.goes_on_in(code) {
+            second = second.union(AsciiSet::just(code));
+        }
+    }
+    second
 }
 
 /// Whether a pattern that begins like this belongs in the row.

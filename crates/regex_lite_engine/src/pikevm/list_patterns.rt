@@ -10,8 +10,8 @@ ghost use Rattle.regex_lite_engine.specs.Walk.Starts.{AreListHeadsOf};
 use crate::nfa::list::GraphList;
 use crate::nfa::table::Table;
 use crate::pikevm::here::Here;
+use crate::pikevm::list_skip::pass_over_all;
 use crate::pikevm::patterns::{Patterns, Start};
-use crate::pikevm::skip::pass_over;
 use std::alloc::{AllocError, Global};
 
 /// Patterns, and those of them that may start at the position that was come to last.
@@ -57,7 +57,7 @@ impl<'g> Patterns for ListPatterns<'g> {
     }
 
     fn pass_over(&self, haystack: &str, here: Here) -> Here {
-        pass_over(&self.list.heads().any, None, haystack, here)
+        pass_over_all(self.list, haystack, here)
     }
 
     fn come_to(&mut self, haystack: &str, here: Here) {

@@ -1,6 +1,7 @@
 -- The index of several patterns with one pattern more, and what it tells of each.
-use Rattle.std.proofs.Common.{◌≡◌, ◌==◌, ℕ, zero, suc, refl, ◌+◌, ◌*◌, ◌<◌, ◌≤◌, ◌⊎◌, inl, inr, ◌&&◌, ◌||◌, Bool, true, false, List, [], ◌∷◌, ◌++◌, length, map, slice_get, Some, None, ap, sym, subst, ◌∙◌, arith}
-use Rattle.std.specs.Prelude.{IfSome}
+use Rattle.std.proofs.Common.{◌≡◌, ◌==◌, ℕ, zero, suc, refl, ◌+◌, ◌*◌, ◌<◌, ◌≤◌, ◌⊎◌, inl, inr, ◌-◌, ◌&&◌, ◌||◌, Bool, true, false, nat_lt, if◌then◌else◌, List, [], ◌∷◌, ◌++◌, length, slice_get, Option, Some, None, ap, sym, subst, ◌∙◌, arith}
+use Rattle.std.specs.Prelude.{MatchOption}
+use Rattle.std.specs.List.{list_any}
 use Rattle.std.proofs.lemmas.Bool.{cases_lt, cases_eq}
 use Rattle.std.proofs.lemmas.Bool.Decides.{nat_tests}
 use Rattle.std.proofs.lemmas.List.{length-append}
@@ -8,11 +9,9 @@ use Rattle.std.proofs.lemmas.Option.{slice_get_past, slice_get_within}
 use Rattle.regex_lite_syntax.specs.Tree.{Tree}
 use Rattle.regex_lite_engine.specs.declared.nfa.heads.Heads.{Heads}
 use Rattle.regex_lite_engine.specs.declared.nfa.list_heads.ListHeads.{ListHeads}
-use Rattle.regex_lite_engine.specs.declared.nfa.list_heads.rows.Rows.{Rows}
-use Rattle.regex_lite_engine.specs.declared.nfa.starts.Starts.{Starts}
 use Rattle.regex_lite_engine.specs.Nfa.Heads.{AreHeadsOfTree}
-use Rattle.regex_lite_engine.specs.Nfa.ListHeads.{AreEachHeadsOf, belongs, has, IsIndexOf, IsSized, IsWalkable, one_belongs}
-use Rattle.regex_lite_engine.specs.Nfa.Starts.{IsUnionOf}
+use Rattle.regex_lite_engine.specs.Nfa.ListHeads.{AreEachHeadsOf, begins_with_pair, belongs, column, first_row, goes_on_with, has, IsIndexOf, IsWalkable, one_belongs, second_row}
+use Rattle.regex_lite_engine.specs.Nfa.Starts.{begins_with}
 use Rattle.regex_lite_engine.proofs.pikevm.OptionLemmas.{same_some}
 
 pub get_before : {X : Type 0} (xs : List X) (x : X) (k : ℕ) → k < length xs
@@ -98,30 +97,16 @@ heads_of_more trees parts tree part w of_tree = record {
           | inr ge ↦ absurd (apart (omega (arith, lt, ge)))
         ]
 
--- an index with other heads of all
-pub index_with_any : (parts : List Heads) (heads after : ListHeads) → IsIndexOf parts heads
-    → after.rows ≡ heads.rows → after.count ≡ heads.count → after.any.first ≡ heads.any.first
-    → (after.any.second ≡ heads.any.second) ⊎ (after.any.second ≡ None) → IsIndexOf parts after
-index_with_any parts heads after w rows count first second = record {
-  sized = subst (λ z. IsSized z after.count) (sym rows)
-      (subst (IsSized heads.rows) (sym count) w.sized);
-  bits = λ row n row_in n_in. (
-      ap (λ z. has z row n) rows
-      ∙ w.bits row n row_in (subst (λ (z : Rows). n < 64 * z.width) rows n_in));
-  any = record {
-    first = subst (λ z. IsUnionOf (map (λ (p : Heads). p.first) parts) z) (sym first) w.any.first;
-    second = by_second second;
-  };
-}
-  where
-    Known : Starts → Type 0
-    Known second = (seconds : List Starts)
-        × (map (λ (p : Heads). p.second) parts ≡ map Some seconds) × IsUnionOf seconds second
+neither : (a b : Bool) → (a || b) ≡ false → (a ≡ false) × (b ≡ false)
+neither true b e = cc
+neither false b e = (refl, e)
 
-    by_second : (after.any.second ≡ heads.any.second) ⊎ (after.any.second ≡ None)
-        → IfSome after.any.second Known
-    by_second (inl same) = subst (λ o. IfSome o Known) (sym same) w.any.second
-    by_second (inr none) = subst (λ o. IfSome o Known) (sym none) tt
+-- what none of them does, this one doesn't
+none_does : {X : Type 0} (p : X → Bool) (xs : List X) (k : ℕ) → list_any p xs ≡ false
+    → MatchOption (slice_get xs k) (Unit {0}) (λ x. p x ≡ false)
+none_does p [] k none = tt
+none_does p (x ∷ xs) zero none = (neither (p x) (list_any p xs) none).0
+none_does p (x ∷ xs) (suc k) none = none_does p xs k (neither (p x) (list_any p xs) none).1
 
 -- an index can be walked over
 pub walkable : (parts : List Heads) (heads : ListHeads) → IsIndexOf parts heads
@@ -131,4 +116,42 @@ walkable parts heads w all = record {
   none_behind = λ row n row_in behind n_in. (
       w.bits row n row_in n_in
       ∙ ap (λ o. one_belongs o row) (slice_get_past parts n (omega (arith, behind, all))));
+  all_pairs = w.all_pairs;
+  not_in_rows = λ a b n a_in b_in n_in off. (
+      let room : n < 64 * heads.rows.width = omega (arith, n_in, w.sized.enough) in
+      let low : first_row a ≡ a = column_of a a_in in
+      let high : second_row b ≡ 129 + b = ap (λ k. 129 + k) (column_of b b_in) in
+      let first = w.bits (first_row a) n (omega (arith, low, a_in)) room in
+      let second = w.bits (second_row b) n (omega (arith, high, b_in)) room in
+      ap (λ z. z && has heads.rows (second_row b) n)
+      (first ∙ ap (one_belongs (slice_get parts n)) low)
+      ∙ ap (λ z. one_belongs (slice_get parts n) a && z)
+      (second ∙ ap (one_belongs (slice_get parts n)) high)
+      ∙ by_part a b a_in b_in (slice_get parts n)
+      (none_does (begins_with_pair a b) parts n (sym (w.pairs a b a_in b_in) ∙ off)));
 }
+  where
+    column_of : (c : ℕ) → c < 128 → column c ≡ c
+    column_of c lt =
+        let narrow : nat_lt c 128 ≡ true = grind (arith, nat_tests) in
+        ap (λ t. if t then c else 128) narrow
+
+    by_part : (a b : ℕ) → a < 128 → b < 128 → (o : Option Heads)
+        → MatchOption o (Unit {0}) (λ part. begins_with_pair a b part ≡ false)
+        → (one_belongs o a && one_belongs o (129 + b)) ≡ false
+    by_part a b a_in b_in None off = refl
+    by_part a b a_in b_in (Some part) off =
+        let low : nat_lt a 129 ≡ true = grind (arith, nat_tests) in
+        let high : nat_lt (129 + b) 129 ≡ false = grind (arith, nat_tests) in
+        let low_b : nat_lt (129 + b) 258 ≡ true = grind (arith, nat_tests) in
+        let back : 129 + b - 129 ≡ b = omega arith in
+        ap (λ t. (if t then begins_with part.first a
+        else (if nat_lt a 258 then goes_on_with part.second (a - 129) else part.first.at_start))
+        && belongs part (129 + b)) low
+        ∙ ap (λ t. begins_with part.first a && (if t then begins_with part.first (129 + b)
+        else (if nat_lt (129 + b) 258 then goes_on_with part.second (129 + b - 129)
+        else part.first.at_start))) high
+        ∙ ap (λ t. begins_with part.first a && (if t then goes_on_with part.second (129 + b - 129)
+        else part.first.at_start)) low_b
+        ∙ ap (λ k. begins_with part.first a && goes_on_with part.second k) back
+        ∙ off

@@ -1,6 +1,6 @@
 -- Where the index leaves a pattern out, its tree does not match.
-use Rattle.std.proofs.Common.{◌≡◌, ℕ, zero, suc, refl, ◌+◌, ◌-◌, ◌<◌, inl, inr, ◌&&◌, ◌||◌, Bool, true, false, IsTrue, List, [], ◌∷◌, length, map, nat_lt, if◌then◌else◌, slice_get, Option, Some, None, ap, sym, subst, ◌∙◌, arith}
-use Rattle.std.specs.Prelude.{IfSome, MatchOption, is_none, option_map}
+use Rattle.std.proofs.Common.{◌≡◌, ℕ, zero, suc, refl, ◌+◌, ◌-◌, ◌<◌, inl, inr, ◌&&◌, ◌||◌, Bool, true, false, IsTrue, List, [], ◌∷◌, length, map, nat_lt, if◌then◌else◌, slice_get, Option, Some, None, ap, sym, ◌∙◌, arith}
+use Rattle.std.specs.Prelude.{IfSome, is_none, option_map}
 use Rattle.std.specs.List.{list_any}
 use Rattle.std.proofs.lemmas.Bool.{cases_lt}
 use Rattle.std.proofs.lemmas.Bool.Decides.{nat_tests}
@@ -11,10 +11,9 @@ use Rattle.regex_lite_syntax.specs.Tree.Matches.{Matches}
 use Rattle.regex_lite_engine.specs.declared.nfa.heads.Heads.{Heads}
 use Rattle.regex_lite_engine.specs.declared.nfa.list_heads.ListHeads.{ListHeads}
 use Rattle.regex_lite_engine.specs.declared.nfa.starts.Starts.{Starts}
-use Rattle.regex_lite_engine.specs.Nfa.Heads.{AreHeadsOfTree, AreSecondOfTree, NeverBegins}
-use Rattle.regex_lite_engine.specs.Nfa.ListHeads.{belongs, column, first_row, goes_on_with, has, may_start, may_start_at, one_belongs, second_row, start_row, IsIndexOf, IsUnionOfHeads}
+use Rattle.regex_lite_engine.specs.Nfa.Heads.{AreHeadsOfTree, AreSecondOfTree}
+use Rattle.regex_lite_engine.specs.Nfa.ListHeads.{belongs, column, first_row, goes_on_with, has, may_start, may_start_at, one_belongs, second_row, start_row, IsIndexOf}
 use Rattle.regex_lite_engine.specs.Nfa.Starts.{begins_with, may_begin, IsGrown, IsUnionOf, MayBegin}
-use Rattle.regex_lite_engine.proofs.laws.search.NamedWayLemmas.{mapped_back}
 use Rattle.regex_lite_engine.proofs.nfa.starts.StartLemmas.{begins_as_one, may_grown}
 use Rattle.regex_lite_engine.proofs.pikevm.OptionLemmas.{not_there, same_some}
 
@@ -46,37 +45,16 @@ member_grown many all one k w there = record {
 }
 
 -- none of the patterns matches where none can begin
-pub none_matches : (parts : List Heads) (any part : Heads) (k : ℕ) → IsUnionOfHeads parts any
-    → slice_get parts k ≡ Some part → (tree : Tree) → AreHeadsOfTree tree part
-    → (haystack : Text) (i : ℕ) → NeverBegins any haystack i
-    → (j : ℕ) → Matches haystack tree i j → ⊥
-none_matches parts any part k w there tree of_tree h i (inl off) j m =
+pub none_matches : (parts : List Heads) (any : Starts) (part : Heads) (k : ℕ)
+    → IsUnionOf (map (λ (p : Heads). p.first) parts) any → slice_get parts k ≡ Some part
+    → (tree : Tree) → AreHeadsOfTree tree part → (haystack : Text) (i : ℕ)
+    → (MayBegin any haystack i → ⊥) → (j : ℕ) → Matches haystack tree i j → ⊥
+none_matches parts any part k w there tree of_tree h i off j m =
     let firsts = slice_get-map (λ (p : Heads). p.first) parts k
     ∙ ap (option_map (λ (p : Heads). p.first)) there in
-    off (may_grown part.first any.first h i
-    (member_grown (map (λ (p : Heads). p.first) parts) any.first part.first k w.first firsts)
+    off (may_grown part.first any h i
+    (member_grown (map (λ (p : Heads). p.first) parts) any part.first k w firsts)
     (of_tree.first h i j m))
-none_matches parts any part k w there tree of_tree h i (inr off) j m =
-    by_second any.second w.second off
-  where
-    Known : Starts → Type 0
-    Known second = (seconds : List Starts)
-        × (map (λ (p : Heads). p.second) parts ≡ map Some seconds) × IsUnionOf seconds second
-
-    seconds_at : slice_get (map (λ (p : Heads). p.second) parts) k ≡ Some part.second
-    seconds_at = slice_get-map (λ (p : Heads). p.second) parts k
-        ∙ ap (option_map (λ (p : Heads). p.second)) there
-
-    by_second : (o : Option Starts) → IfSome o Known
-        → MatchOption o ⊥ (λ second. ¬ (MayBegin second h (suc i))) → ⊥
-    by_second None known off = off
-    by_second (Some second) (seconds, same, union) off =
-        let own = mapped_back Some (slice_get seconds k) part.second
-        (sym (slice_get-map Some seconds k) ∙ ap (λ z. slice_get z k) (sym same) ∙ seconds_at) in
-        let told : AreSecondOfTree tree own.0 =
-        subst (λ o. IfSome o (AreSecondOfTree tree)) (sym own.2) of_tree.second in
-        off (may_grown own.0 second h (suc i) (member_grown seconds second own.0 k union own.1)
-        (told h i j m))
 
 -- a character that isn't ASCII begins as all such do
 begins_in_column : (s : Starts) (c : ℕ) → begins_with s (column c) ≡ begins_with s c

@@ -1,5 +1,5 @@
 -- The words of the rows, and the numbers of the patterns that may start.
-use Rattle.std.proofs.Common.{◌≡◌, ◌==◌, ℕ, zero, suc, refl, ◌+◌, ◌*◌, ◌-◌, ◌%◌, ◌<◌, ◌≤◌, ◌&&◌, ◌||◌, Bool, true, false, cond, List, ◌∷◌, ◌++◌, length, min, max, bit_and, bit_or, slice_index, Option, Some, None, ap, sym, ◌∙◌, arith}
+use Rattle.std.proofs.Common.{◌≡◌, ◌==◌, ℕ, zero, suc, refl, ◌+◌, ◌*◌, ◌-◌, ◌%◌, ◌<◌, ◌≤◌, ◌&&◌, ◌||◌, Bool, true, false, cond, List, [], ◌∷◌, ◌++◌, length, min, max, bit_and, bit_or, slice_index, Option, Some, None, ap, sym, ◌∙◌, arith}
 use Rattle.std.specs.Int.{bit_at}
 use Rattle.std.specs.List.{filter, range_with_len}
 use Rattle.std.specs.Prelude.{is_none, option_map, unwrap_or}
@@ -8,7 +8,7 @@ use Rattle.std.proofs.lemmas.List.{append-nil, length-append}
 use Rattle.std.proofs.lemmas.Nat.Bits.{bit_at-lt, bit_at_and, bit_at_or}
 use Rattle.regex_lite_engine.specs.declared.nfa.list_heads.ListHeads.{ListHeads}
 use Rattle.regex_lite_engine.specs.declared.nfa.list_heads.rows.Rows.{Rows}
-use Rattle.regex_lite_engine.specs.Nfa.ListHeads.{column, first_row, has, may_start, second_row, set_from, start_row, IsWalkable}
+use Rattle.regex_lite_engine.specs.Nfa.ListHeads.{column, first_row, has, may_start, second_row, set_from, start_row, IsWalkable, NeverBeginsWith}
 use Rattle.regex_lite_engine.proofs.nfa.list_heads.NumberLemmas.{filter_none, filter_parts, set_passes}
 use Rattle.regex_lite_engine.proofs.nfa.list_heads.RowBitLemmas.{word_of_bit}
 
@@ -119,6 +119,17 @@ none_starts_behind heads w b c second n low high = by_second second
         || (is_none b && has heads.rows start_row n))
         first_off
         ∙ start_off
+
+-- none is listed behind the haystack's start where no match begins with both characters
+pub none_listed : (heads : ListHeads) → IsWalkable heads → (b : Option ℕ) (c : ℕ)
+    (second : Option ℕ) → is_none b ≡ false → NeverBeginsWith heads c second
+    → filter (may_start heads b (Some c) second) (range_with_len 0 heads.count) ≡ []
+none_listed heads w b c None later never = absurd never
+none_listed heads w b c (Some d) later (c_in, d_in, off) =
+    filter_none (may_start heads b (Some c) (Some d)) 0 heads.count
+    (λ n low high. ap (λ z. z || (is_none b && has heads.rows start_row n))
+    (w.not_in_rows c d n c_in d_in (omega (arith, high)) off)
+    ∙ ap (λ z. z && has heads.rows start_row n) later)
 
 pub filter_at_most : (p : ℕ → Bool) (a n : ℕ) → length (filter p (range_with_len a n)) ≤ n
 filter_at_most p a zero = omega arith

@@ -25,6 +25,9 @@ impl ListHeads {
         ensures capacity { vec_capacity numbers.old ≤ vec_capacity numbers.new }
     {
         numbers.clear();
+        if before.is_some() && self.never_begins(first, second) {
+            return;
+        }
         let first = first_row(first);
         let second = row_behind(first, second);
         for k in 0..self.rows.width() {

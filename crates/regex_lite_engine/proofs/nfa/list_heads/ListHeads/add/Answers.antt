@@ -1,8 +1,25 @@
-use Rattle.std.proofs.Common.{◌≡◌, ◌==◌, ◌<◌, ◌≤◌, ◌*◌, ◌&&◌, ◌||◌, ℕ, true, nat_lt, length, ap, sym, subst, ◌∙◌, arith}
+use Rattle.std.proofs.Common.{◌≡◌, ◌==◌, ◌<◌, ◌≤◌, ◌*◌, ◌&&◌, ◌||◌, ◌∷◌, [], ℕ, true, map, nat_lt, length, slice_get, Vec, Global, ap, sym, subst, ◌∙◌, arith}
 use Rattle.std.proofs.lemmas.Bool.Decides.{nat_tests}
-use Rattle.regex_lite_engine.specs.Nfa.ListHeads.{belongs, has, IsUnionOfHeads}
+use Rattle.std.proofs.lemmas.List.{map-append}
+use Rattle.regex_lite_engine.specs.Nfa.ListHeads.{begins_with_pair, belongs, has, in_some_set, IsSized}
+use Rattle.regex_lite_engine.specs.Nfa.Starts.{IsUnion, IsUnionOf}
+use Rattle.regex_lite_engine.specs.declared.nfa.heads.Heads.{Heads}
+use Rattle.regex_lite_engine.specs.declared.nfa.list_heads.ListHeads.{ListHeads}
+use Rattle.regex_lite_engine.specs.declared.nfa.list_heads.rows.Rows.{Rows}
+use Rattle.regex_lite_engine.specs.declared.nfa.list_heads.ascii_set.AsciiSet.{AsciiSet}
+use Rattle.regex_lite_engine.proofs.nfa.heads.UnionLemmas.{any_with, union_with}
 use Rattle.regex_lite_engine.proofs.nfa.list_heads.IndexLemmas.{belongs_with}
 use Rattle.regex_lite_engine.proofs.nfa.list_heads.ListHeads.add.Goals as goal
+
+pub returns-clause-sized : goal.returns-clause-sized
+returns-clause-sized c =
+    let v = c.loop-row.invariant in
+    let w = c.requires.sized in
+    subst (λ (z : ListHeads). IsSized z.rows z.count) (sym c.add_pairs.ensures.same) (record {
+      all = v.all ∙ w.all ∙ ap (λ n. 259 * n) (sym v.width);
+      enough = omega (arith, w.enough, v.width, v.count);
+      few = omega (arith, w.few, v.width, v.count);
+    })
 
 pub returns-clause-added : goal.returns-clause-added
 returns-clause-added c parts all w =
@@ -10,21 +27,34 @@ returns-clause-added c parts all w =
     let old = c.args.self.now in
     let part = c.args.heads.now in
     let end = c.loop-row-test.false in
+    let rows_kept = ap (λ (z : ListHeads). z.rows) c.add_pairs.ensures.same in
+    let any_kept = ap (λ (z : ListHeads). z.any) c.add_pairs.ensures.same in
+    let added = c.add_pairs.ensures.added in
     record {
-      sized = record {
-        all = v.all ∙ w.sized.all ∙ ap (λ n. 259 * n) (sym v.width);
-        enough = omega (arith, w.sized.enough, v.width, v.count);
-        few = omega (arith, w.sized.few, v.width, v.count);
-      };
+      sized = returns-clause-sized c;
       bits = λ row n row_in n_in. (
-          let inside : n < 64 * old.rows.width = omega (arith, n_in, v.width) in
+          let inside : n < 64 * old.rows.width =
+          omega (arith, n_in, v.width, ap (λ (z : Rows). z.width) rows_kept) in
           let before : nat_lt row c.loop-row.row ≡ true = below row c.loop-row.row row_in end in
-          v.set row n inside
+          ap (λ z. has z row n) rows_kept
+          ∙ v.set row n inside
           ∙ ap (λ b. has old.rows row n || (n == c.args.number && (b && belongs part row))) before
           ∙ ap (λ k. has old.rows row n || (n == k && belongs part row)) (sym all)
           ∙ ap (λ b. b || (n == length parts && belongs part row)) (w.bits row n row_in inside)
           ∙ belongs_with parts part n row);
-      any = c.add.ensures parts (subst (IsUnionOfHeads parts) (sym v.any) w.any);
+      any = subst (λ many. IsUnionOf many c.add_starts.new.self)
+          (sym (map-append (λ (p : Heads). p.first) parts (part ∷ [])))
+          (union_with (map (λ (p : Heads). p.first) parts) old.any part.first c.add_starts.new.self
+          (subst (λ z. IsUnion z part.first c.add_starts.new.self) (any_kept ∙ v.any)
+          c.add_starts.ensures) w.any);
+      all_pairs = added.all ∙ ap (λ (z : Vec AsciiSet Global). length z.items) v.pairs
+          ∙ w.all_pairs;
+      pairs = λ a b a_in b_in. (
+          added.each a b a_in b_in
+          ∙ ap (λ z. z || begins_with_pair a b part)
+          (ap (λ (z : Vec AsciiSet Global). in_some_set (slice_get z.items a) b) v.pairs
+          ∙ w.pairs a b a_in b_in)
+          ∙ sym (any_with (begins_with_pair a b) parts part));
     }
   where
     below : (row end : ℕ) → row < 259 → 259 ≤ end → nat_lt row end ≡ true

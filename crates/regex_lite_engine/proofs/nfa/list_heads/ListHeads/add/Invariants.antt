@@ -11,6 +11,7 @@ invariant-loop-row l = record {
   all : length l.self.rows.words.items ≡ length l.fn.self.rows.words.items;
   count : l.self.count ≡ l.fn.self.count;
   any : l.self.any ≡ l.fn.self.any;
+  pairs : l.self.pairs ≡ l.fn.self.pairs;
   number : l.number ≡ l.fn.number;
   heads : l.heads ≡ l.fn.heads;
 }

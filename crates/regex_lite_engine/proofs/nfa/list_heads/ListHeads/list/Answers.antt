@@ -1,7 +1,7 @@
-use Rattle.std.proofs.Common.{◌≡◌, ◌*◌, ◌++◌, Some, ap, refl, sym, length, ◌∙◌, arith}
+use Rattle.std.proofs.Common.{◌≡◌, ◌*◌, ◌++◌, Some, not, ap, refl, sym, length, ◌∙◌, arith}
 use Rattle.std.specs.List.{filter, range_with_len}
 use Rattle.regex_lite_engine.specs.Nfa.ListHeads.{may_start, set_from}
-use Rattle.regex_lite_engine.proofs.nfa.list_heads.WalkLemmas.{all_words, fits_word, none_starts_behind, word_more, word_tells}
+use Rattle.regex_lite_engine.proofs.nfa.list_heads.WalkLemmas.{all_words, fits_word, none_listed, none_starts_behind, word_more, word_tells}
 use Rattle.regex_lite_engine.proofs.nfa.list_heads.ListHeads.list.Goals as goal
 
 pub add_set-requires-clause-room : goal.add_set-requires-clause-room
@@ -39,6 +39,13 @@ loop-k-preserved c =
       capacity = omega (arith, v.capacity, c.add_set.ensures.capacity);
       same = refl;
     }
+
+pub returns-then-never_begins-clause-listed : goal.returns-then-never_begins-clause-listed
+returns-then-never_begins-clause-listed c =
+    c.clear.ensures.items
+    ∙ sym (none_listed c.args.self.now c.requires.walkable c.args.before c.args.first c.args.second
+    (ap not (sym c.is_some.ensures ∙ c.if-is_some.true))
+    (c.never_begins.ensures c.if-never_begins.true))
 
 pub returns-clause-listed : goal.returns-clause-listed
 returns-clause-listed c =

@@ -2,8 +2,7 @@ use Rattle.std.proofs.Common.{◌≡◌, ◌+◌, ◌++◌, ◌∷◌, [], map, 
 use Rattle.std.proofs.lemmas.List.{length-map, length-take, map-append, take_more, take_all}
 use Rattle.regex_lite_syntax.specs.Tree.Views.{tree_of}
 use Rattle.regex_lite_engine.specs.Nfa.ListHeads.{AreEachHeadsOf, AreHeadsOfTrees}
-use Rattle.regex_lite_engine.specs.declared.nfa.list_heads.ListHeads.{ListHeads}
-use Rattle.regex_lite_engine.proofs.nfa.list_heads.IndexLemmas.{heads_of_more, index_with_any}
+use Rattle.regex_lite_engine.proofs.nfa.list_heads.IndexLemmas.{heads_of_more}
 use Rattle.regex_lite_engine.proofs.nfa.list_heads.ListHeads.of.Goals as goal
 
 pub add-requires-clause-room : goal.add-requires-clause-room
@@ -11,6 +10,9 @@ add-requires-clause-room c = omega (arith, c.loop-number.invariant.count, c.loop
 
 pub add-requires-clause-sized : goal.add-requires-clause-sized
 add-requires-clause-sized c = c.loop-number.invariant.so_far.2.sized
+
+pub add-requires-clause-pairs : goal.add-requires-clause-pairs
+add-requires-clause-pairs c = c.loop-number.invariant.so_far.2.all_pairs
 
 pub loop-number-preserved : goal.loop-number-preserved
 loop-number-preserved c =
@@ -43,16 +45,12 @@ pub returns : goal.returns
 returns c =
     let hirs = c.args.hirs.now in
     let v = c.loop-number.invariant in
-    let heads = c.loop-number.heads in
-    let after : ListHeads =
-    record { any = c.keep_few.new.self; count = heads.count; rows = heads.rows } in
     let all : take c.loop-number.number hirs ≡ hirs
     = take_all c.loop-number.number hirs (omega (arith, c.loop-number-test.false)) in
-    let told : AreHeadsOfTrees (map tree_of hirs) after = record {
+    let told : AreHeadsOfTrees (map tree_of hirs) c.loop-number.heads = record {
       parts = v.so_far.0;
       of_trees = subst (λ z. AreEachHeadsOf (map tree_of z) v.so_far.0) all v.so_far.1;
       count = v.count ∙ sym (length-map hirs tree_of);
-      index = index_with_any v.so_far.0 heads after v.so_far.2 refl refl c.keep_few.ensures.first
-          c.keep_few.ensures.second;
+      index = v.so_far.2;
     } in
     record { ok = told }
