@@ -1,5 +1,5 @@
-"""A repository with copies of our libraries, in which a test runs a program over them, and that
-program with which cases are replayed."""
+"""A repository with copies of our libraries, in which a test builds or runs a program over them,
+and that program with which cases are replayed."""
 
 import re
 import shlex
@@ -16,8 +16,10 @@ CALLER = 'caller'
 ENDING = '.txt'  # the gate refuses files of the language outside the crates
 SCRIPTS = ('rt', 'rtlib.py')
 MOST = 48 << 20  # bytes of cases at a time, since the kit hands on no more than 64 MiB
+# The kit's own interpreter would take hours, so the compiled program alone runs through.
+ONCE = ('--steps', '1')
 ENDED = re.compile(r'(\d+) passed, (\d+) failed\n\Z')  # the last line of the caller
-CLANG = '''#!/bin/sh
+OPTIMISING = '''#!/bin/sh
 set -eu
 left=$#
 while [ "$left" -gt 0 ]; do
@@ -28,6 +30,24 @@ while [ "$left" -gt 0 ]; do
     left=$((left - 1))
 done
 exec {clang} "$@"
+'''
+# Compiles once more, optimised and without the tests of each access to memory, to a file that is
+# kept.
+KEEPING = '''#!/bin/sh
+set -eu
+{clang} "$@"
+left=$#
+while [ "$left" -gt 0 ]; do
+    word=$1
+    shift
+    case $word in
+    -fsanitize=address) ;;
+    -O0) set -- "$@" -O2 ;;
+    *) set -- "$@" "$word" ;;
+    esac
+    left=$((left - 1))
+done
+exec {clang} "$@" -o {kept}
 '''
 
 
@@ -72,11 +92,10 @@ def link_all(source, target, but=()):
             (target / path.name).symlink_to(path)
 
 
-def lay_out_optimising_kit(target):
-    """Makes the folder a kit whose `rt try` has its programs optimised, and answers its `rt`. By
-    itself the kit has clang build them with `-O0`, and then they take some fifty times longer. All
-    tests that it puts in, of indices, of sums and of each access to memory, stay in. The rest of
-    the kit is linked to, but for the scripts that take the folder above them for the kit."""
+def lay_out_kit(target, compiler):
+    """Makes the folder a kit whose `rt try` compiles with this script, and answers its `rt`. The
+    rest of the kit is linked to, but for the scripts that take the folder above them for the
+    kit."""
     source = kit()
     link_all(source, target, ('bin', 'toolchain'))
     link_all(source / 'toolchain', target / 'toolchain', ('bin',))
@@ -85,10 +104,39 @@ def lay_out_optimising_kit(target):
     for name in SCRIPTS:
         shutil.copy2(source / 'bin' / name, target / 'bin' / name)
     clang = target / 'toolchain' / 'bin' / 'clang'
-    clang.write_text(CLANG.format(clang=shlex.quote(str(source / 'toolchain' / 'bin' / 'clang'))),
-                     encoding='utf-8')
+    clang.write_text(compiler, encoding='utf-8')
     clang.chmod(0o755)
     return target / 'bin' / 'rt'
+
+
+def kit_clang():
+    """The path of the kit's compiler, as a word of a script."""
+    return shlex.quote(str(kit() / 'toolchain' / 'bin' / 'clang'))
+
+
+def lay_out_optimising_kit(target):
+    """Makes the folder a kit whose `rt try` has its programs optimised, and answers its `rt`. By
+    itself the kit has clang build them with `-O0`, and then they take some fifty times longer. All
+    tests that it puts in, of indices, of sums and of each access to memory, stay in."""
+    return lay_out_kit(target, OPTIMISING.format(clang=kit_clang()))
+
+
+def build(repository, program, target):
+    """Builds a program of the repository without a proof, to be run by itself. All tests that `rt
+    try` puts in stay in but for those of each access to memory, since these bring an allocator of
+    their own."""
+    with tempfile.TemporaryDirectory() as folder:
+        kept = Path(folder) / f'{program}.o'
+        script = KEEPING.format(clang=kit_clang(), kept=shlex.quote(str(kept)))
+        rt = lay_out_kit(Path(folder) / 'kit', script)
+        done = run(repository, program, ONCE, rt=rt)
+        if not kept.is_file():
+            sys.exit(f'{program} is not built:\n{done.stdout[-4000:]}{done.stderr[-4000:]}')
+        code = kit() / 'c'
+        subprocess.run([kit() / 'bin' / 'rattle-link', '--target', 'x86_64-unknown-linux-gnu',
+                        '--toolchain', kit() / 'toolchain', '-o', target, kept,
+                        code / 'libos_c.a', code / 'liblibc_c.a'],
+                       check=True, stdout=subprocess.DEVNULL)
 
 
 def run(repository, program, options=(), given='', rt='rt'):
@@ -116,8 +164,7 @@ def replay(cases, seconds=600):
     """Runs the caller on these lines, for so many seconds at most at a time, passes on what it
     prints of failures, and prints how many cases passed and failed in all. The status is 0 where
     there is a case and none failed."""
-    # The kit's own interpreter would take hours, so the compiled program alone runs through.
-    options = ('--steps', '1', '--seconds', str(seconds))
+    options = (*ONCE, '--seconds', str(seconds))
     passed = failed = 0
     with tempfile.TemporaryDirectory() as folder:
         repository = Path(folder) / 'repository'
