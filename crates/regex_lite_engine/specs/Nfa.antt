@@ -4,5 +4,6 @@ pub mod Layout
 pub mod Starts
 pub mod Heads
 pub mod ListHeads
+pub mod Thirds
 pub mod Prefilter
 pub mod Totals

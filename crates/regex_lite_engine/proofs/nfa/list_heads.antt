@@ -5,3 +5,4 @@ pub mod IndexLemmas
 pub mod WalkLemmas
 pub mod PairLemmas
 pub mod TreeLemmas
+pub mod ThirdLemmas

@@ -13,6 +13,7 @@ use Rattle.regex_lite_engine.specs.declared.nfa.starts.Starts.{Starts}
 use Rattle.regex_lite_engine.specs.Search.AnswerOfList.{HasTree}
 use Rattle.regex_lite_engine.specs.Nfa.Heads.{AreHeadsOfTree}
 use Rattle.regex_lite_engine.specs.Nfa.Starts.{begins_with, stops_at, IsUnionOf}
+use Rattle.regex_lite_engine.specs.Nfa.Thirds.{may_go_on, AreMasksOf}
 
 -- There are 129 rows for the first character, as many for the second, and one for the start of the
 -- haystack. All characters that are not ASCII have one row together
@@ -70,6 +71,12 @@ may_start heads b (Some c) (Some d) number =
 abbrev pub may_start_at : ListHeads → Text → (p number : ℕ) → Bool
 may_start_at heads haystack p =
     may_start heads (before haystack p) (after haystack p) (after haystack (suc p))
+
+-- it may start there by the third character too, if there is one
+abbrev pub is_candidate_at : ListHeads → Text → (p : ℕ) → ℕ → Bool
+is_candidate_at heads haystack p = λ number.
+    may_start_at heads haystack p number
+    && may_go_on heads.thirds (after haystack (suc (suc p))) number
 
 -- the bits of a word that are set, the lowest of which has this number
 unfoldable pub set_from : (lowest word : ℕ) → List ℕ
@@ -137,6 +144,7 @@ pub record AreHeadsOfTrees (trees : List Tree) (heads : ListHeads) : Type 0 wher
   pub of_trees : AreEachHeadsOf trees parts
   pub count : heads.count ≡ length trees
   pub index : IsIndexOf parts heads
+  pub thirds : AreMasksOf trees heads.thirds.masks.items
 
 -- What the walk over the rows counts on: they have room for each pattern, and no bit of another.
 -- None is in the rows of two ASCII characters with which no match begins

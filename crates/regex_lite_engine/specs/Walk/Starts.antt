@@ -1,6 +1,6 @@
 -- Where a match can begin in a graph, and the positions that a search passes over.
-use Rattle.std.specs.Prelude.{◌≡◌, ◌≤◌, ◌<◌, ◌⊎◌, ℕ, false, List, [], None, length, slice_index}
-use Rattle.regex_lite_syntax.specs.Text.{Text}
+use Rattle.std.specs.Prelude.{◌≡◌, ◌≤◌, ◌<◌, ◌⊎◌, ℕ, suc, false, List, [], None, length, slice_index}
+use Rattle.regex_lite_syntax.specs.Text.{Text, after}
 use Rattle.regex_lite_engine.specs.declared.nfa.heads.Heads.{Heads}
 use Rattle.regex_lite_engine.specs.declared.nfa.list_heads.ListHeads.{ListHeads}
 use Rattle.regex_lite_engine.specs.declared.pikevm.here.Here.{Here}
@@ -9,6 +9,7 @@ use Rattle.regex_lite_engine.specs.Graph.Places.{Place}
 use Rattle.regex_lite_engine.specs.Nfa.Heads.{NeverBegins}
 use Rattle.regex_lite_engine.specs.Nfa.ListHeads.{may_start_at, IsWalkable}
 use Rattle.regex_lite_engine.specs.Nfa.Starts.{MayBegin}
+use Rattle.regex_lite_engine.specs.Nfa.Thirds.{may_go_on}
 use Rattle.regex_lite_engine.specs.Walk.Machine.{Thread}
 use Rattle.regex_lite_engine.specs.Walk.NumberedList.{IsEntry}
 use Rattle.regex_lite_engine.specs.Walk.Standing.{IsHere}
@@ -47,6 +48,10 @@ pub record AreListHeadsOf (table : List (Place ℕ)) (entries : List ℕ) (heads
   -- of none that may not start there
   pub each : (haystack : Text) (p number entry : ℕ) → IsEntry entries number entry
       → may_start_at heads haystack p number ≡ false → IsDeadAt table haystack entry p
+  -- nor of one that may not go on with the third character
+  pub third : (haystack : Text) (p number entry : ℕ) → IsEntry entries number entry
+      → may_go_on heads.thirds (after haystack (suc (suc p))) number ≡ false
+      → IsDeadAt table haystack entry p
 
 -- the pattern with this number, and the place where it is entered
 abbrev pub start_of : (entries : List ℕ) → (number : ℕ) → Start

@@ -1,8 +1,9 @@
-//! Which of several patterns may start at a position, by the two characters there.
+//! Which of several patterns may start at a position, by the characters that come next.
 //!
 //! A row of bits belongs to each first character, and to each second one, with a bit for each
 //! pattern. The patterns that may start at a position are in the rows of both characters there. At
 //! most positions there is none, which a set of second characters for each first one tells at once.
+//! Of those that are left most are none by the third character.
 ghost use Rattle.std.specs.Prelude.{◌≡◌, ◌<◌, ◌++◌, [], ◌∷◌, ℕ, List, IfOk, length, map};
 ghost use Rattle.regex_lite_syntax.specs.Tree.Views.{tree_of};
 ghost use Rattle.regex_lite_engine.specs.declared.nfa.heads.Heads.{Heads};
@@ -11,6 +12,7 @@ ghost use Rattle.regex_lite_engine.specs.Nfa.ListHeads.{goes_on_with, in_set, Ar
 mod ascii_set;
 mod pairs;
 mod rows;
+mod thirds;
 mod walk;
 
 use crate::nfa::heads::Heads;
@@ -19,6 +21,7 @@ use ascii_set::AsciiSet;
 use regex_lite_syntax::Hir;
 use rows::{AT_START, ROWS, Rows, SECOND};
 use std::alloc::{AllocError, Global};
+use thirds::Thirds;
 
 /// Which patterns may start at a position.
 #[derive(Drop)]
@@ -31,6 +34,8 @@ pub(crate) struct ListHeads {
     /// For each ASCII character with which a match of any of them can begin, those that can come
     /// second.
     pub(crate) pairs: Vec<AsciiSet>,
+    /// The characters that can come third in matches of each.
+    pub(crate) thirds: Thirds,
 }
 
 impl ListHeads {
@@ -46,7 +51,8 @@ impl ListHeads {
         for (number, hir) in hirs.iter().enumerate() {
             heads.add(number, &Heads::of(hir));
         }
-        Ok(heads)
+        let thirds = Thirds::of(alloc, hirs)?;
+        Ok(ListHeads { thirds, ..heads })
     }
 
     /// Room for so many patterns, none of which is known yet.
@@ -59,6 +65,7 @@ impl ListHeads {
             count,
             rows: Rows::blank(alloc, count)?,
             pairs: vec![in alloc; AsciiSet::empty(); 128]?,
+            thirds: Thirds::none(alloc),
         })
     }
 

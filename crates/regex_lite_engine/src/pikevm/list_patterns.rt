@@ -1,13 +1,16 @@
 //! Several patterns, which are searched for at once.
-ghost use Rattle.std.specs.Prelude.{◌≡◌, ◌^◌, ◌≤◌, ◌<◌, ℕ, All, IfOk, chars, filter, length, vec_capacity};
+ghost use Rattle.std.specs.Prelude.{◌≡◌, ◌^◌, ◌≤◌, ◌<◌, ℕ, suc, All, IfOk, chars, filter, length, vec_capacity};
 ghost use Rattle.std.specs.List.{range_with_len};
 ghost use Rattle.std.proofs.Props.{props};
+ghost use Rattle.regex_lite_syntax.specs.Text.{after};
 ghost use Rattle.regex_lite_engine.specs.Graph.StoredList.{table_of_list};
-ghost use Rattle.regex_lite_engine.specs.Nfa.ListHeads.{may_start_at};
+ghost use Rattle.regex_lite_engine.specs.Nfa.ListHeads.{is_candidate_at};
+ghost use Rattle.regex_lite_engine.specs.Nfa.Thirds.{may_go_on};
 ghost use Rattle.regex_lite_engine.specs.Walk.Standing.{IsHere};
 ghost use Rattle.regex_lite_engine.specs.Walk.Starts.{AreListHeadsOf};
 
 use crate::nfa::list::GraphList;
+use crate::nfa::list_heads::ListHeads;
 use crate::nfa::table::Table;
 use crate::pikevm::here::Here;
 use crate::pikevm::list_skip::pass_over_all;
@@ -82,7 +85,7 @@ fn list_starts(list: &GraphList, haystack: &str, here: Here, numbers: &mut Vec<u
     requires here { (p : ℕ) × IsHere (chars haystack.now) p here }
     requires room { length list.now.entries ≤ vec_capacity numbers.old }
     ensures listed { (p : ℕ) → IsHere (chars haystack.now) p here
-        → numbers.new.items ≡ filter (may_start_at list.now.heads (chars haystack.now) p)
+        → numbers.new.items ≡ filter (is_candidate_at list.now.heads (chars haystack.now) p)
         (range_with_len 0 (length list.now.entries)) }
     ensures capacity { vec_capacity numbers.old ≤ vec_capacity numbers.new }
     ensures heads { AreListHeadsOf (table_of_list list.now) list.now.entries list.now.heads }
@@ -95,8 +98,26 @@ fn list_starts(list: &GraphList, haystack: &str, here: Here, numbers: &mut Vec<u
     match here.after {
         None => heads.list_all(numbers),
         Some(first) => {
-            let second = here.next(haystack).after;
-            heads.list(here.before, first, second, numbers);
+            let second = here.next(haystack);
+            heads.list(here.before, first, second.after, numbers);
+            keep_by_third(heads, haystack, second, numbers);
         }
+    }
+}
+
+/// Leaves those of these patterns that may start by their third character too, which comes after
+/// the second here, if there is one.
+fn keep_by_third(heads: &ListHeads, haystack: &str, second: Here, numbers: &mut Vec<u32>)
+    requires { (p : ℕ) × IsHere (chars haystack.now) p second }
+    ensures kept { (p : ℕ) → IsHere (chars haystack.now) p second
+        → numbers.new.items ≡ filter (may_go_on heads.now.thirds (after (chars haystack.now) (suc p)))
+        numbers.old.items }
+    ensures capacity { vec_capacity numbers.old ≤ vec_capacity numbers.new }
+{
+    if numbers.is_empty() || second.after.is_none() {
+        return;
+    }
+    if let Some(third) = second.next(haystack).after {
+        heads.thirds.keep(third, numbers);
     }
 }

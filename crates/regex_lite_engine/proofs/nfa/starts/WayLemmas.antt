@@ -24,6 +24,7 @@ use Rattle.regex_lite_engine.specs.declared.nfa.heads.Heads.{Heads}
 use Rattle.regex_lite_engine.specs.declared.nfa.list_heads.ListHeads.{ListHeads}
 use Rattle.regex_lite_engine.specs.declared.nfa.starts.Starts.{Starts}
 use Rattle.regex_lite_engine.proofs.nfa.list_heads.IndexLemmas.{walkable}
+use Rattle.regex_lite_engine.proofs.nfa.list_heads.ThirdLemmas.{stuck_matches}
 use Rattle.regex_lite_engine.proofs.nfa.list_heads.TreeLemmas.{left_out_matches, none_matches, there_is}
 use Rattle.regex_lite_engine.proofs.laws.several.PartLemmas.{name_in_pattern, InPattern, part_of_list, entry_of_part}
 use Rattle.regex_lite_engine.proofs.nfa.write.RenumberingLemmas.{whole_names, renumbered, starts as starts_there}
@@ -96,6 +97,11 @@ listed_heads trees regular name table entries written are all heads w = record {
       (left_out_matches w.parts heads w.index part.0 number part.1
       (omega (arith, slice_get_within trees number own.0 own.1, w.count)) own.0
       (w.of_trees.each number own.0 part.0 own.1 part.1) haystack p off));
+  third = λ haystack p number entry is off. (
+      let own = own_tree number entry is in
+      dead number entry is haystack p
+      (stuck_matches heads.thirds number own.0 (λ mask at. w.thirds number own.0 mask own.1 at)
+      haystack p off));
 }
   where
     own_tree : (number entry : ℕ) → IsEntry entries number entry

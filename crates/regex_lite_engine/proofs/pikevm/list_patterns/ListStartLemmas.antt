@@ -1,15 +1,16 @@
 -- The patterns that may start at a position, as starts in the order of their numbers.
-use Rattle.std.proofs.Common.{◌≡◌, ℕ, zero, suc, refl, ◌+◌, ◌<◌, ◌≤◌, ◌⊎◌, inl, inr, Bool, true, false, cond, List, [], ◌∷◌, length, map, get_or, slice_index, ap, sym, subst, ◌∙◌, arith}
+use Rattle.std.proofs.Common.{◌≡◌, ℕ, zero, suc, refl, ◌+◌, ◌<◌, ◌≤◌, ◌⊎◌, inl, inr, ◌&&◌, Bool, true, false, cond, List, [], ◌∷◌, length, map, get_or, slice_index, ap, sym, subst, ◌∙◌, arith}
 use Rattle.std.specs.List.{All, filter, range_with_len}
 use Rattle.std.proofs.Math.ListN.{get_or-map}
 use Rattle.std.proofs.lemmas.Bool.{cases_lt, cases_eq}
 use Rattle.std.proofs.lemmas.List.{get_or_default, length-map}
 use Rattle.std.proofs.lemmas.Option.{get_or_from_slice_get, slice_get-get_or, slice_get_within}
-use Rattle.regex_lite_syntax.specs.Text.{Text}
+use Rattle.regex_lite_syntax.specs.Text.{Text, after}
 use Rattle.regex_lite_engine.specs.declared.nfa.list_heads.ListHeads.{ListHeads}
 use Rattle.regex_lite_engine.specs.declared.pikevm.patterns.Start.{Start}
 use Rattle.regex_lite_engine.specs.Graph.Places.{Place}
-use Rattle.regex_lite_engine.specs.Nfa.ListHeads.{may_start_at}
+use Rattle.regex_lite_engine.specs.Nfa.ListHeads.{is_candidate_at, may_start_at}
+use Rattle.regex_lite_engine.specs.Nfa.Thirds.{may_go_on}
 use Rattle.regex_lite_engine.specs.Walk.NumberedList.{IsEntry}
 use Rattle.regex_lite_engine.specs.Walk.Starts.{start_of, AreListHeadsOf}
 use Rattle.regex_lite_engine.specs.Walk.Turns.{AreFrom, AreStartsAt, IsAmong, IsDeadAt}
@@ -92,7 +93,7 @@ places_inside entries numbers end all inside k d lt =
 
 pub listed_start : (table : List (Place ℕ)) (haystack : Text) (entries : List ℕ) (heads : ListHeads)
     → AreListHeadsOf table entries heads → (p : ℕ) (numbers : List ℕ)
-    → numbers ≡ filter (may_start_at heads haystack p) (range_with_len 0 (length entries))
+    → numbers ≡ filter (is_candidate_at heads haystack p) (range_with_len 0 (length entries))
     → AreStartsAt table haystack entries p (map (start_of entries) numbers)
 listed_start table haystack entries heads w p numbers listed =
     subst (λ z. AreStartsAt table haystack entries p
@@ -102,16 +103,27 @@ listed_start table haystack entries heads w p numbers listed =
     })
   where
     test : ℕ → Bool
-    test = may_start_at heads haystack p
+    test = is_candidate_at heads haystack p
+
+    by_part : (number entry : ℕ) → IsEntry entries number entry → (a b : Bool)
+        → may_start_at heads haystack p number ≡ a
+        → may_go_on heads.thirds (after haystack (suc (suc p))) number ≡ b
+        → (a && b) ≡ false → IsDeadAt table haystack entry p
+    by_part number entry is false b by_two by_third off = w.each haystack p number entry is by_two
+    by_part number entry is true false by_two by_third off =
+        w.third haystack p number entry is by_third
+    by_part number entry is true true by_two by_third off = absurd cc
 
     by_test : (number entry : ℕ) → IsEntry entries number entry → (b : Bool) → test number ≡ b
         → IsAmong number entry
         (map (start_of entries)
-        (filter (may_start_at heads haystack p) (range_with_len 0 (length entries))))
+        (filter (is_candidate_at heads haystack p) (range_with_len 0 (length entries))))
         ⊎ IsDeadAt table haystack entry p
     by_test number entry is true may =
         let within = slice_get_within entries number entry is in
-        inl (among entries (may_start_at heads haystack p) 0 (length entries) number entry
+        inl (among entries (is_candidate_at heads haystack p) 0 (length entries) number entry
         (omega arith)
         (omega (arith, within)) may (get_or_from_slice_get entries number entry 0 is))
-    by_test number entry is false off = inr (w.each haystack p number entry is off)
+    by_test number entry is false off =
+        inr (by_part number entry is (may_start_at heads haystack p number)
+        (may_go_on heads.thirds (after haystack (suc (suc p))) number) refl refl off)

@@ -47,10 +47,19 @@ returns c =
     let v = c.loop-number.invariant in
     let all : take c.loop-number.number hirs ≡ hirs
     = take_all c.loop-number.number hirs (omega (arith, c.loop-number-test.false)) in
-    let told : AreHeadsOfTrees (map tree_of hirs) c.loop-number.heads = record {
+    let index = v.so_far.2 in
+    let told : AreHeadsOfTrees (map tree_of hirs)
+    (record c.loop-number.heads { thirds = c.in_ok-thirds.thirds }) = record {
       parts = v.so_far.0;
       of_trees = subst (λ z. AreEachHeadsOf (map tree_of z) v.so_far.0) all v.so_far.1;
       count = v.count ∙ sym (length-map hirs tree_of);
-      index = v.so_far.2;
+      index = record {
+        sized = index.sized;
+        bits = index.bits;
+        any = index.any;
+        all_pairs = index.all_pairs;
+        pairs = index.pairs;
+      };
+      thirds = c.in_ok-thirds.ensures;
     } in
     record { ok = told }

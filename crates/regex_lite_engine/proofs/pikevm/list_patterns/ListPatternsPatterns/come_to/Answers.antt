@@ -3,7 +3,7 @@ use Rattle.std.specs.Prelude.{chars}
 use Rattle.std.specs.List.{All}
 use Rattle.std.proofs.lemmas.List.{length-map}
 use Rattle.regex_lite_engine.specs.Graph.StoredList.{table_of_list}
-use Rattle.regex_lite_engine.specs.Nfa.ListHeads.{may_start_at}
+use Rattle.regex_lite_engine.specs.Nfa.ListHeads.{is_candidate_at}
 use Rattle.regex_lite_engine.specs.Walk.Starts.{start_of}
 use Rattle.regex_lite_engine.proofs.nfa.list_heads.WalkLemmas.{filter_at_most}
 use Rattle.regex_lite_engine.proofs.pikevm.list_patterns.ListStartLemmas.{all_below, listed_start, places_inside}
@@ -17,7 +17,7 @@ invariant_of-self c =
     record {
       room = omega (arith, c.args.self.now.room, told.capacity);
       inside = subst (All (λ number. number < n)) (sym (told.listed c.requires.0 c.requires.1))
-          (all_below (may_start_at list.heads (chars c.args.haystack.now) c.requires.0) 0 n n
+          (all_below (is_candidate_at list.heads (chars c.args.haystack.now) c.requires.0) 0 n n
           (omega arith));
     }
 
@@ -36,7 +36,7 @@ returns-clause-inside c =
     places_inside list.entries c.list_starts.new.numbers.items (length (table_of_list list))
     told.inside
     (subst (All (λ number. number < n)) (sym (told.listed c.requires.0 c.requires.1))
-    (all_below (may_start_at list.heads (chars c.args.haystack.now) c.requires.0) 0 n n
+    (all_below (is_candidate_at list.heads (chars c.args.haystack.now) c.requires.0) 0 n n
     (omega arith)))
 
 pub returns-clause-few : goal.returns-clause-few
@@ -46,5 +46,5 @@ returns-clause-few c =
     let mapped = length-map numbers (start_of list.entries) in
     let listed = ap length (c.list_starts.ensures.listed c.requires.0 c.requires.1) in
     let most = filter_at_most
-    (may_start_at list.heads (chars c.args.haystack.now) c.requires.0) 0 (length list.entries) in
+    (is_candidate_at list.heads (chars c.args.haystack.now) c.requires.0) 0 (length list.entries) in
     omega (arith, mapped, listed, most)
