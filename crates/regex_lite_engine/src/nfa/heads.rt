@@ -1,5 +1,5 @@
 //! The two characters with which a match of a pattern can begin.
-ghost use Rattle.std.specs.Prelude.{◌≡◌, ◌<◌, ◌≤◌, ℕ, Bool, Option, IfSome, false, map, length};
+ghost use Rattle.std.specs.Prelude.{◌≡◌, ◌<◌, ◌≤◌, ◌+◌, ℕ, Bool, Option, IfSome, IsTrue, false, map, length};
 ghost use Rattle.regex_lite_syntax.specs.Text.{Text};
 ghost use Rattle.regex_lite_syntax.specs.Tree.{repetition, concat, alternation, trees};
 ghost use Rattle.regex_lite_syntax.specs.Tree.Matches.{Matches};
@@ -54,6 +54,19 @@ impl Heads {
         match &self.second {
             None => true,
             Some(second) => second.begins_in(column),
+        }
+    }
+
+    /// Whether it is known at once that none of the sixteen ASCII characters from this one on comes
+    /// second.
+    pub(crate) fn goes_on_in_none_of_row(&self, code: usize) -> bool
+        requires { code < 128 }
+        ensures { IsTrue result → (code + 16 ≤ 128) × ((c : ℕ) → code ≤ c → c < code + 16
+            → goes_on_with self.now.second c ≡ false) }
+    {
+        match &self.second {
+            None => false,
+            Some(second) => second.begins_in_none_of_row(code),
         }
     }
 

@@ -4,7 +4,7 @@
 //! pattern. The patterns that may start at a position are in the rows of both characters there. At
 //! most positions there is none, which a set of second characters for each first one tells at once.
 //! Of those that are left most are none by the third character.
-ghost use Rattle.std.specs.Prelude.{◌≡◌, ◌<◌, ◌++◌, [], ◌∷◌, ℕ, List, IfOk, length, map};
+ghost use Rattle.std.specs.Prelude.{◌≡◌, ◌<◌, ◌≤◌, ◌+◌, ◌++◌, [], ◌∷◌, ℕ, List, IfOk, IsTrue, false, length, map};
 ghost use Rattle.regex_lite_syntax.specs.Tree.Views.{tree_of};
 ghost use Rattle.regex_lite_engine.specs.declared.nfa.heads.Heads.{Heads};
 ghost use Rattle.regex_lite_engine.specs.Nfa.ListHeads.{goes_on_with, in_set, ArePairsWith, AreHeadsOfTrees, IsIndexOf, IsSized, belongs, row_count};
@@ -79,10 +79,16 @@ impl ListHeads {
         ensures added { (parts : List Heads) → length parts ≡ number → IsIndexOf parts self.old
             → IsIndexOf (parts ++ heads.now ∷ []) self.new }
     {
-        for row in 0..ROWS {
+        let mut row = 0;
+        'rows: while row < ROWS {
+            if belongs_in_none(heads, row) {
+                row += 16;
+                continue;
+            }
             if belongs(heads, row) {
                 self.rows.set(row, number);
             }
+            row += 1;
         }
         self.add_pairs(heads);
         self.any.add_starts(&heads.first);
@@ -95,10 +101,16 @@ impl ListHeads {
         ensures same { self.new ≡ record self.old { pairs = self.new.pairs } }
     {
         let second = second_of(heads);
-        for first in 0..128 {
+        let mut first = 0;
+        'firsts: while first < 128 {
+            if heads.first.begins_in_none_of_row(first) {
+                first += 16;
+                continue;
+            }
             if heads.first.begins_in(first) {
                 self.pairs[first] = self.pairs[first].union(second);
             }
+            first += 1;
         }
     }
 }
@@ -108,12 +120,34 @@ fn second_of(heads: &Heads) -> AsciiSet
     ensures { (code : ℕ) → code < 128 → in_set result code ≡ goes_on_with heads.now.second code }
 {
     let mut second = AsciiSet::empty();
-    for code in 0..128 {
+    let mut code = 0;
+    'codes: while code < 128 {
+        if heads.goes_on_in_none_of_row(code) {
+            code += 16;
+            continue;
+        }
         if heads.goes_on_in(code) {
             second = second.union(AsciiSet::just(code));
         }
+        code += 1;
     }
     second
+}
+
+/// Whether it is known at once that a pattern that begins like this belongs in none of the sixteen
+/// rows from this one on.
+fn belongs_in_none(heads: &Heads, row: usize) -> bool
+    requires { row < row_count }
+    ensures { IsTrue result → (row + 16 ≤ row_count)
+        × ((r : ℕ) → row ≤ r → r < row + 16 → belongs heads.now r ≡ false) }
+{
+    if row < 128 {
+        return heads.first.begins_in_none_of_row(row);
+    }
+    if row >= SECOND && row < SECOND + 128 {
+        return heads.goes_on_in_none_of_row(row - SECOND);
+    }
+    false
 }
 
 /// Whether a pattern that begins like this belongs in the row.

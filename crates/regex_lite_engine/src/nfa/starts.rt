@@ -226,6 +226,16 @@ impl Starts {
         begins
     }
 
+    /// Whether it is known at once that no match begins with one of the sixteen ASCII characters
+    /// from this one on.
+    pub(crate) fn begins_in_none_of_row(&self, code: usize) -> bool
+        requires { code < 128 }
+        ensures { IsTrue result → (code + 16 ≤ 128)
+            × ((c : ℕ) → code ≤ c → c < code + 16 → begins_with self.now c ≡ false) }
+    {
+        code % 16 == 0 && !self.begins_in_row((code / 16) as u8)
+    }
+
     /// Whether a match can begin at the haystack's start, whatever comes next.
     pub(crate) fn at_start(&self) -> bool
         ensures { result ≡ self.now.at_start }

@@ -185,3 +185,25 @@ module _ (before : ℕ → ℕ → Bool) (part : Heads) (first : ℕ) where
         ∙ here_after b
         ∙ sym (ap (λ k. before k b || (nat_lt k (first + 1) && begins_with_pair k b part)) same)
   ]
+
+-- none of the sixteen first characters from this one on is that of a pair
+pub row_passed : (first a : ℕ) (before pair : Bool)
+    → (first ≤ a → a < first + 16 → pair ≡ false)
+    → (before || (nat_lt a first && pair)) ≡ (before || (nat_lt a (first + 16) && pair))
+row_passed first a before pair none = elim (cases_lt a first) [
+  | inl less ↦
+      let one : nat_lt a first ≡ true = grind (arith, nat_tests) in
+      let other : nat_lt a (first + 16) ≡ true = grind (arith, nat_tests) in
+      ap (λ b. before || (b && pair)) (one ∙ sym other)
+  | inr le ↦ elim (cases_lt a (first + 16)) [
+    | inl inside ↦
+        let one : nat_lt a first ≡ false = grind (arith, nat_tests) in
+        let other : nat_lt a (first + 16) ≡ true = grind (arith, nat_tests) in
+        ap (λ b. before || (b && pair)) one
+        ∙ sym (ap (λ b. before || (b && pair)) other ∙ ap (λ p. before || p) (none le inside))
+    | inr beyond ↦
+        let one : nat_lt a first ≡ false = grind (arith, nat_tests) in
+        let other : nat_lt a (first + 16) ≡ false = grind (arith, nat_tests) in
+        ap (λ b. before || (b && pair)) (one ∙ sym other)
+  ]
+]

@@ -13,7 +13,7 @@ use Rattle.regex_lite_engine.proofs.nfa.list_heads.ListHeads.add.Goals as goal
 
 pub returns-clause-sized : goal.returns-clause-sized
 returns-clause-sized c =
-    let v = c.loop-row.invariant in
+    let v = c.rows.invariant in
     let w = c.requires.sized in
     subst (λ (z : ListHeads). IsSized z.rows z.count) (sym c.add_pairs.ensures.same) (record {
       all = v.all ∙ w.all ∙ ap (λ n. 259 * n) (sym v.width);
@@ -23,10 +23,10 @@ returns-clause-sized c =
 
 pub returns-clause-added : goal.returns-clause-added
 returns-clause-added c parts all w =
-    let v = c.loop-row.invariant in
+    let v = c.rows.invariant in
     let old = c.args.self.now in
     let part = c.args.heads.now in
-    let end = c.loop-row-test.false in
+    let end = c.rows-test.false in
     let rows_kept = ap (λ (z : ListHeads). z.rows) c.add_pairs.ensures.same in
     let any_kept = ap (λ (z : ListHeads). z.any) c.add_pairs.ensures.same in
     let added = c.add_pairs.ensures.added in
@@ -35,7 +35,7 @@ returns-clause-added c parts all w =
       bits = λ row n row_in n_in. (
           let inside : n < 64 * old.rows.width =
           omega (arith, n_in, v.width, ap (λ (z : Rows). z.width) rows_kept) in
-          let before : nat_lt row c.loop-row.row ≡ true = below row c.loop-row.row row_in end in
+          let before : nat_lt row c.rows.row ≡ true = below row c.rows.row row_in end in
           ap (λ z. has z row n) rows_kept
           ∙ v.set row n inside
           ∙ ap (λ b. has old.rows row n || (n == c.args.number && (b && belongs part row))) before

@@ -3,18 +3,18 @@ use Rattle.std.proofs.lemmas.Option.{slice_get-get_or}
 use Rattle.std.proofs.lemmas.List.{length-set}
 use Rattle.regex_lite_engine.specs.declared.nfa.list_heads.ListHeads.{ListHeads}
 use Rattle.regex_lite_engine.specs.Nfa.ListHeads.{begins_with_pair, goes_on_with, has_pair, in_set}
-use Rattle.regex_lite_engine.proofs.nfa.list_heads.PairLemmas.{none_more, one_more}
+use Rattle.regex_lite_engine.proofs.nfa.list_heads.PairLemmas.{none_more, one_more, row_passed}
 use Rattle.regex_lite_engine.proofs.nfa.list_heads.ListHeads.add_pairs.Goals as goal
 use Rattle.regex_lite_engine.proofs.nfa.list_heads.ListHeads.add_pairs.Goals.{then-begins_in, else-begins_in}
 
-pub loop-first-preserved : goal.loop-first-preserved
-loop-first-preserved c =
-    let v = c.loop-first.invariant in
+pub firsts-preserved : goal.firsts-preserved
+firsts-preserved c =
+    let v = c.firsts.invariant in
     let old = c.args.self.now in
     let part = c.args.heads.now in
-    let first = c.loop-first.first in
-    let pairs = c.loop-first.self.pairs.items in
-    let inside : first < length pairs = omega (arith, v.all, c.requires, c.loop-first-test.true) in
+    let first = c.firsts.first in
+    let pairs = c.firsts.self.pairs.items in
+    let inside : first < length pairs = omega (arith, v.all, c.requires, c.firsts-test.true) in
     elim c.if-begins_in.branch [
       | then-begins_in w ↦
           let own = w.index.result.now in
@@ -35,7 +35,7 @@ loop-first-preserved c =
             all = ap (λ (z : ListHeads). length z.pairs.items) w.self-is
                 ∙ length-set pairs first new ∙ v.all;
             same = w.self-is
-                ∙ ap (λ p. record c.loop-first.self { pairs = p })
+                ∙ ap (λ p. record c.firsts.self { pairs = p })
                 (sym (ap (λ (z : ListHeads). z.pairs) w.self-is))
                 ∙ ap (λ (z : ListHeads). record z { pairs = c.if-begins_in.self.pairs }) v.same;
             heads = refl;
@@ -56,3 +56,19 @@ loop-first-preserved c =
             second = v.second;
           }
     ]
+
+pub firsts-preserved-then-begins_in_none_of_row : goal.firsts-preserved-then-begins_in_none_of_row
+firsts-preserved-then-begins_in_none_of_row c =
+    let v = c.firsts.invariant in
+    let part = c.args.heads.now in
+    let none = (c.begins_in_none_of_row.ensures c.if-begins_in_none_of_row.true).1 in
+    record {
+      each = λ a b a_in b_in. (
+          v.each a b a_in b_in
+          ∙ row_passed c.firsts.first a (has_pair c.args.self.now a b) (begins_with_pair a b part)
+          (λ low high. ap (λ z. z && goes_on_with part.second b) (none a low high)));
+      all = v.all;
+      same = v.same;
+      heads = refl;
+      second = v.second;
+    }
