@@ -1,13 +1,55 @@
-//! Laws of what searches tell, of lists, pieces and replacements, of escaped texts and of
-//! equality. Each function does nothing: its contract is the law.
+//! What this library is for, in two contracts, and laws of what searches tell, of lists, pieces and
+//! replacements, of escaped texts and of equality. A function of a law does nothing: its contract is
+//! the law.
 ghost use Rattle.std.specs.Cmp.{IsEquivalence};
+ghost use Rattle.regex_lite.specs.Headline.{Headline, ListHeadline};
 ghost use Rattle.regex_lite.specs.Laws.{EnoughGroupsTakePart, EscapedTextsAreRefusedForSize, EscapedTextsMatchThemselves, GroupsLieInside, MatchesAreTheirSpans, SearchesAgree};
 ghost use Rattle.regex_lite.specs.ListLaws.{MatchesAreApart, OneMatchList};
 ghost use Rattle.regex_lite.specs.MatchViews.{is_same_match};
 ghost use Rattle.regex_lite.specs.PieceLaws.{FixedTextIsTemplate, LentReplacersReplaceAlike, OnePieceList, PiecesAndMatches, WholeMatchesGiveHaystack};
 ghost use Rattle.regex_lite.specs.RegexListLaws.{EmptyListFindsNothing, ListAnswersAreAnswers, ListOfOneAnswersAsItsRegex, ListOfOneIsAcceptedAsItsRegex, ListSearchesAgree};
+ghost use Rattle.regex_lite.specs.Searches.{CanStartAt};
 
-use crate::Replacer;
+use crate::{Captures, Error, RegexBuilder, RegexListBuilder, Replacer, Steps};
+
+/// The whole promise of this library for one pattern, by public calls alone: the regex is built, and
+/// the counted search tells the groups of the match from the start on, and its cost.
+///
+/// Condition: the start is above the haystack's length or on a character boundary.
+///
+/// # Errors
+///
+/// Those of [`RegexBuilder::build`], and `Memory` where a growth is refused.
+pub fn headline<'h>(
+    builder: &RegexBuilder,
+    haystack: &'h str,
+    start: usize,
+) -> Result<(Option<Captures<'h>>, Steps), Error>
+    requires { CanStartAt haystack.now start }
+    ensures { Headline builder.now haystack.now start result }
+{
+    let regex = builder.build()?;
+    regex.captures_counted_at(haystack, start)
+}
+
+/// The same for several patterns at once. The answer has the number of the pattern that matches.
+///
+/// Condition: the start is above the haystack's length or on a character boundary.
+///
+/// # Errors
+///
+/// Those of [`RegexListBuilder::build`], and `Memory` where a growth is refused.
+pub fn list_headline<'h>(
+    builder: &RegexListBuilder,
+    haystack: &'h str,
+    start: usize,
+) -> Result<(Option<(usize, Captures<'h>)>, Steps), Error>
+    requires { CanStartAt haystack.now start }
+    ensures { ListHeadline builder.now.patterns haystack.now start result }
+{
+    let list = builder.build()?;
+    list.captures_counted_at(haystack, start)
+}
 
 /// The searches of a pattern in a haystack, from one offset on, agree on whether there is a match,
 /// and the match that is found is group 0.

@@ -1,0 +1,26 @@
+use Rattle.std.proofs.Common.{◌≡◌, inl, IfOk, sym, subst}
+use Rattle.regex_lite_syntax.specs.Errors.{out_of_memory}
+use Rattle.regex_lite.specs.Expression.{Expression, IsAccepted, IsDue}
+use Rattle.regex_lite.specs.Searches.{IsWithinCost, TellsGroups}
+use Rattle.regex_lite.proofs.laws.HeadlineLemmas.{of_error, on_ok}
+use Rattle.regex_lite.proofs.laws.headline.Goals as goal
+
+pub returns : goal.returns
+returns c =
+    let settings = c.args.builder.now in
+    let haystack = c.args.haystack.now in
+    let start = c.args.start in
+    let told = c.captures_counted_at.result in
+    let search = c.captures_counted_at.ensures in
+    let regex_is = c.in_ok-regex.ensures.ok in
+    record {
+      accepted = on_ok told (IsAccepted settings) c.in_ok-regex.ensures.accepted;
+      complete = of_error told (λ e. e ≡ out_of_memory) (λ e. IsAccepted settings → e ≡ out_of_memory)
+          (λ e is accepted. is) search.refused;
+      refused = of_error told (λ e. e ≡ out_of_memory) (λ e. IsDue settings e)
+          (λ e is. subst (IsDue settings) (sym is) (inl tt)) search.refused;
+      answer = subst (λ (re : Expression). IfOk told (λ t. TellsGroups re haystack start t.0))
+          regex_is search.found;
+      cost = subst (λ (re : Expression). IfOk told (λ t. IsWithinCost re haystack start t.1))
+          regex_is search.cost;
+    }

@@ -1,0 +1,28 @@
+use Rattle.std.proofs.Common.{◌≡◌, ◌⊎◌, inl, IfOk, List, subst}
+use Rattle.regex_lite_syntax.specs.Errors.{out_of_memory}
+use Rattle.regex_lite.specs.Expression.{Expression}
+use Rattle.regex_lite.specs.RegexList.{AreAccepted, IsDueToAll, IsDueToLowest}
+use Rattle.regex_lite.specs.RegexListSearches.{IsWithinListCost, TellsGroupsOfList}
+use Rattle.regex_lite.proofs.laws.HeadlineLemmas.{of_error, on_ok}
+use Rattle.regex_lite.proofs.laws.list_headline.Goals as goal
+
+pub returns : goal.returns
+returns c =
+    let all = c.args.builder.now.patterns in
+    let haystack = c.args.haystack.now in
+    let start = c.args.start in
+    let told = c.captures_counted_at.result in
+    let search = c.captures_counted_at.ensures in
+    let list_is = c.in_ok-list.ensures.ok in
+    record {
+      accepted = on_ok told (AreAccepted all) c.in_ok-list.ensures.accepted;
+      complete = of_error told (λ e. e ≡ out_of_memory) (λ e. AreAccepted all → e ≡ out_of_memory)
+          (λ e is accepted. is) search.refused;
+      refused = of_error told (λ e. e ≡ out_of_memory)
+          (λ e. (e ≡ out_of_memory) ⊎ (IsDueToLowest all e ⊎ IsDueToAll all e))
+          (λ e is. inl is) search.refused;
+      answer = subst (λ (list : List Expression).
+          IfOk told (λ t. TellsGroupsOfList list haystack start t.0)) list_is search.found;
+      cost = subst (λ (list : List Expression).
+          IfOk told (λ t. IsWithinListCost list haystack start t.1)) list_is search.cost;
+    }

@@ -1,0 +1,49 @@
+-- What this library is for, on one page: what is promised of a pattern that is built and searched
+-- for, from its characters to the groups of its match and what the search costs. The other files
+-- say what each word means.
+use Rattle.std.specs.Prelude.{◌≡◌, ◌⊎◌, ℕ, List, Option, Result, IfOk, IfErr, map}
+use Rattle.regex_lite_syntax.specs.declared.error.Error.{Error}
+use Rattle.regex_lite_syntax.specs.Errors.{out_of_memory}
+use Rattle.regex_lite_engine.specs.declared.pikevm.steps.Steps.{Steps}
+use Rattle.regex_lite.specs.Expression.{IsAccepted, IsDue, expression_of}
+use Rattle.regex_lite.specs.Groups.{Groups}
+use Rattle.regex_lite.specs.RegexList.{AreAccepted, IsDueToAll, IsDueToLowest}
+use Rattle.regex_lite.specs.RegexListSearches.{IsWithinListCost, TellsGroupsOfList}
+use Rattle.regex_lite.specs.Searches.{IsWithinCost, TellsGroups}
+use Rattle.regex_lite.specs.Settings.{Settings}
+
+-- of a pattern that is built under these settings and searched for in the haystack from this offset
+-- on
+pub record Headline (settings : Settings) (haystack : List ℕ) (start : ℕ)
+    (result : Result (Option Groups × Steps) Error) : Type 0 where
+  -- unless memory runs out, the pattern is accepted exactly where the grammar gives it a tree and
+  -- no limit is passed
+  pub accepted : IfOk result (λ _. IsAccepted settings)
+  pub complete : IfErr result (λ error. IsAccepted settings → error ≡ out_of_memory)
+  -- what an error says is so
+  pub refused : IfErr result (λ error. IsDue settings error)
+  -- the answer is the least start from which the tree matches, with the end and the groups of the
+  -- most preferred way from there that comes to no place twice at one position, or that there is
+  -- none
+  pub answer : IfOk result (λ told. TellsGroups (expression_of settings) haystack start told.0)
+  -- the search tried at most (arrows + 1) × (characters left + 1) places, entered no more than it
+  -- tried, and looked at most twice as often
+  pub cost : IfOk result (λ told. IsWithinCost (expression_of settings) haystack start told.1)
+
+-- the same of several patterns at once, each under its own settings
+pub record ListHeadline (all : List Settings) (haystack : List ℕ) (start : ℕ)
+    (result : Result (Option (ℕ × Groups) × Steps) Error) : Type 0 where
+  -- unless memory runs out, the patterns are accepted exactly where each is by itself and their
+  -- places together are fewer than 2^32
+  pub accepted : IfOk result (λ _. AreAccepted all)
+  pub complete : IfErr result (λ error. AreAccepted all → error ≡ out_of_memory)
+  -- what an error says is so of the lowest pattern that fails, or where none does of them all
+  pub refused : IfErr result (λ error.
+      (error ≡ out_of_memory) ⊎ (IsDueToLowest all error ⊎ IsDueToAll all error))
+  -- the answer is the least start of any pattern, the lowest number of a pattern that matches from
+  -- there, and that pattern's own groups, or that there is none
+  pub answer : IfOk result
+      (λ told. TellsGroupsOfList (map expression_of all) haystack start told.0)
+  -- the search tried at most (arrows + patterns) × (characters left + 1) places
+  pub cost : IfOk result
+      (λ told. IsWithinListCost (map expression_of all) haystack start told.1)
