@@ -1,5 +1,5 @@
 -- Which of several patterns may start at a position, by the characters around it.
-use Rattle.std.specs.Prelude.{◌≡◌, ◌==◌, ◌⊎◌, ◌+◌, ◌-◌, ◌*◌, ◌<◌, ◌≤◌, ℕ, suc, Bool, true, false, ◌&&◌, ◌||◌, nat_lt, if◌then◌else◌, List, filter, length, map, slice_get, slice_index, Option, Some, None, is_none}
+use Rattle.std.specs.Prelude.{◌≡◌, ◌==◌, ◌⊎◌, ◌+◌, ◌-◌, ◌*◌, ◌<◌, ◌≤◌, ℕ, suc, Bool, true, false, ◌&&◌, ◌||◌, nat_lt, not, if◌then◌else◌, List, filter, length, map, slice_get, slice_index, Option, Some, None, is_none}
 use Rattle.std.specs.Int.{bit_at}
 use Rattle.std.specs.List.{list_any, range_with_len}
 use Rattle.regex_lite_syntax.specs.AsciiMaps.{bit_of_words}
@@ -31,6 +31,11 @@ start_row = 258
 
 abbrev pub row_count : ℕ
 row_count = 259
+
+-- the row is one of so many from this one on, and its character passes the test
+abbrev pub is_in_column : (ℕ → Bool) → (base width row : ℕ) → Bool
+is_in_column test base width row =
+    not (nat_lt row base) && (nat_lt row (base + width) && test (row - base))
 
 -- the pattern with this number is in the row
 abbrev pub has : Rows → (row number : ℕ) → Bool

@@ -1,12 +1,11 @@
 //! The two characters with which a match of a pattern can begin.
-ghost use Rattle.std.specs.Prelude.{◌≡◌, ◌<◌, ◌≤◌, ◌+◌, ℕ, Bool, Option, IfSome, IsTrue, false, map, length};
+ghost use Rattle.std.specs.Prelude.{◌≡◌, ◌<◌, ◌≤◌, ℕ, Bool, Option, IfSome, false, map, length};
 ghost use Rattle.regex_lite_syntax.specs.Text.{Text};
 ghost use Rattle.regex_lite_syntax.specs.Tree.{repetition, concat, alternation, trees};
 ghost use Rattle.regex_lite_syntax.specs.Tree.Matches.{Matches};
 ghost use Rattle.regex_lite_syntax.specs.Tree.Views.{tree_of};
 ghost use Rattle.regex_lite_engine.specs.declared.nfa.heads.Head.TheVariants.{One};
 ghost use Rattle.regex_lite_engine.specs.Nfa.Heads.{AreHeadsOfTree, AreSecondOfTree, IsCutOff, Reads, ReadsEach};
-ghost use Rattle.regex_lite_engine.specs.Nfa.ListHeads.{goes_on_with};
 ghost use Rattle.regex_lite_engine.specs.Nfa.Starts.{IsGrown};
 
 use crate::nfa::starts::Starts;
@@ -43,30 +42,6 @@ impl Heads {
         Heads {
             first: Starts::of(hir),
             second: Starts::second_of(hir),
-        }
-    }
-
-    /// Whether the second character may be the ASCII character with this code, or at 128 one that
-    /// is not ASCII.
-    pub(crate) fn goes_on_in(&self, column: usize) -> bool
-        ensures { result ≡ goes_on_with self.now.second column }
-    {
-        match &self.second {
-            None => true,
-            Some(second) => second.begins_in(column),
-        }
-    }
-
-    /// Whether it is known at once that none of the sixteen ASCII characters from this one on comes
-    /// second.
-    pub(crate) fn goes_on_in_none_of_row(&self, code: usize) -> bool
-        requires { code < 128 }
-        ensures { IsTrue result → (code + 16 ≤ 128) × ((c : ℕ) → code ≤ c → c < code + 16
-            → goes_on_with self.now.second c ≡ false) }
-    {
-        match &self.second {
-            None => false,
-            Some(second) => second.begins_in_none_of_row(code),
         }
     }
 

@@ -4,10 +4,10 @@
 //! pattern. The patterns that may start at a position are in the rows of both characters there. At
 //! most positions there is none, which a set of second characters for each first one tells at once.
 //! Of those that are left most are none by the third character.
-ghost use Rattle.std.specs.Prelude.{◌≡◌, ◌<◌, ◌≤◌, ◌+◌, ◌++◌, [], ◌∷◌, ℕ, List, IfOk, IsTrue, false, length, map};
+ghost use Rattle.std.specs.Prelude.{◌≡◌, ◌==◌, ◌&&◌, ◌||◌, ◌<◌, ◌*◌, ◌++◌, [], ◌∷◌, ℕ, List, IfOk, length, map};
 ghost use Rattle.regex_lite_syntax.specs.Tree.Views.{tree_of};
 ghost use Rattle.regex_lite_engine.specs.declared.nfa.heads.Heads.{Heads};
-ghost use Rattle.regex_lite_engine.specs.Nfa.ListHeads.{goes_on_with, in_set, ArePairsWith, AreHeadsOfTrees, IsIndexOf, IsSized, belongs, row_count};
+ghost use Rattle.regex_lite_engine.specs.Nfa.ListHeads.{goes_on_with, has, in_set, ArePairsWith, AreHeadsOfTrees, IsIndexOf, IsSized, belongs, row_count};
 
 mod ascii_set;
 mod pairs;
@@ -19,7 +19,7 @@ use crate::nfa::heads::Heads;
 use crate::nfa::starts::Starts;
 use ascii_set::AsciiSet;
 use regex_lite_syntax::Hir;
-use rows::{AT_START, ROWS, Rows, SECOND};
+use rows::{AT_START, Rows, SECOND};
 use std::alloc::{AllocError, Global};
 use thirds::Thirds;
 
@@ -79,19 +79,29 @@ impl ListHeads {
         ensures added { (parts : List Heads) → length parts ≡ number → IsIndexOf parts self.old
             → IsIndexOf (parts ++ heads.now ∷ []) self.new }
     {
-        let mut row = 0;
-        'rows: while row < ROWS {
-            if belongs_in_none(heads, row) {
-                row += 16;
-                continue;
-            }
-            if belongs(heads, row) {
-                self.rows.set(row, number);
-            }
-            row += 1;
-        }
+        self.add_rows(number, heads);
         self.add_pairs(heads);
         self.any.add_starts(&heads.first);
+    }
+
+    /// Puts the pattern with this number into the rows of the characters with which it begins.
+    fn add_rows(&mut self, number: usize, heads: &Heads)
+        requires room { number < self.old.count }
+        requires sized { IsSized self.old.rows self.old.count }
+        ensures set { (r n : ℕ) → r < row_count → n < 64 * self.old.rows.width → has self.new.rows r n
+            ≡ (has self.old.rows r n || (n == number && belongs heads.now r)) }
+        ensures width { self.new.rows.width ≡ self.old.rows.width }
+        ensures all { length self.new.rows.words.items ≡ length self.old.rows.words.items }
+        ensures same { self.new ≡ record self.old { rows = self.new.rows } }
+    {
+        self.rows.set_each(0, &heads.first, number);
+        match &heads.second {
+            None => self.rows.set_all(SECOND, number),
+            Some(second) => self.rows.set_each(SECOND, second, number),
+        }
+        if heads.first.at_start() {
+            self.rows.set(AT_START, number);
+        }
     }
 
     /// Adds the pairs of characters with which a match of the pattern can begin.
@@ -119,47 +129,8 @@ impl ListHeads {
 fn second_of(heads: &Heads) -> AsciiSet
     ensures { (code : ℕ) → code < 128 → in_set result code ≡ goes_on_with heads.now.second code }
 {
-    let mut second = AsciiSet::empty();
-    let mut code = 0;
-    'codes: while code < 128 {
-        if heads.goes_on_in_none_of_row(code) {
-            code += 16;
-            continue;
-        }
-        if heads.goes_on_in(code) {
-            second = second.union(AsciiSet::just(code));
-        }
-        code += 1;
+    match &heads.second {
+        None => AsciiSet::all(),
+        Some(second) => AsciiSet::of(second),
     }
-    second
-}
-
-/// Whether it is known at once that a pattern that begins like this belongs in none of the sixteen
-/// rows from this one on.
-fn belongs_in_none(heads: &Heads, row: usize) -> bool
-    requires { row < row_count }
-    ensures { IsTrue result → (row + 16 ≤ row_count)
-        × ((r : ℕ) → row ≤ r → r < row + 16 → belongs heads.now r ≡ false) }
-{
-    if row < 128 {
-        return heads.first.begins_in_none_of_row(row);
-    }
-    if row >= SECOND && row < SECOND + 128 {
-        return heads.goes_on_in_none_of_row(row - SECOND);
-    }
-    false
-}
-
-/// Whether a pattern that begins like this belongs in the row.
-fn belongs(heads: &Heads, row: usize) -> bool
-    requires { row < row_count }
-    ensures { result ≡ belongs heads.now row }
-{
-    if row < SECOND {
-        return heads.first.begins_in(row);
-    }
-    if row < AT_START {
-        return heads.goes_on_in(row - SECOND);
-    }
-    heads.first.at_start()
 }

@@ -1,6 +1,9 @@
 //! Sets of ASCII characters.
-ghost use Rattle.std.specs.Prelude.{◌≡◌, ◌==◌, ◌&&◌, ◌||◌, ◌<◌, ℕ, false};
+ghost use Rattle.std.specs.Prelude.{◌≡◌, ◌==◌, ◌&&◌, ◌||◌, ◌<◌, ℕ, false, true};
 ghost use Rattle.regex_lite_engine.specs.Nfa.ListHeads.{in_set};
+ghost use Rattle.regex_lite_engine.specs.Nfa.Starts.{begins_with};
+
+use crate::nfa::starts::Starts;
 
 /// A set of ASCII characters, with a bit for each.
 #[derive(Clone, Copy)]
@@ -15,6 +18,34 @@ impl AsciiSet {
         ensures { (code : ℕ) → code < 128 → in_set result code ≡ false }
     {
         AsciiSet { words: [0; 2] }
+    }
+
+    /// The set that has all.
+    pub(crate) fn all() -> AsciiSet
+        ensures { (code : ℕ) → code < 128 → in_set result code ≡ true }
+    {
+        AsciiSet {
+            words: [u64::MAX; 2],
+        }
+    }
+
+    /// Those with which a match can begin.
+    pub(crate) fn of(starts: &Starts) -> AsciiSet
+        ensures { (code : ℕ) → code < 128 → in_set result code ≡ begins_with starts.now code }
+    {
+        let mut set = AsciiSet::empty();
+        let mut code = 0;
+        'codes: while code < 128 {
+            if starts.begins_in_none_of_row(code) {
+                code += 16;
+                continue;
+            }
+            if starts.begins_in(code) {
+                set = set.union(AsciiSet::just(code));
+            }
+            code += 1;
+        }
+        set
     }
 
     /// The set that has the character with this code alone.

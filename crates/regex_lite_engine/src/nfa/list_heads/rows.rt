@@ -1,7 +1,9 @@
 //! Rows of bits with a bit for each pattern.
-ghost use Rattle.std.specs.Prelude.{◌≡◌, ◌==◌, ◌&&◌, ◌||◌, ◌+◌, ◌*◌, ◌<◌, ℕ, IfOk, false, length, slice_index};
-ghost use Rattle.regex_lite_engine.specs.Nfa.ListHeads.{first_row, has, second_row, row_count, IsSized};
+ghost use Rattle.std.specs.Prelude.{◌≡◌, ◌==◌, ◌&&◌, ◌||◌, ◌+◌, ◌*◌, ◌<◌, ◌≤◌, ℕ, IfOk, false, length, slice_index, true};
+ghost use Rattle.regex_lite_engine.specs.Nfa.ListHeads.{first_row, has, is_in_column, second_row, row_count, IsSized};
+ghost use Rattle.regex_lite_engine.specs.Nfa.Starts.{begins_with};
 
+use crate::nfa::starts::Starts;
 use std::alloc::{AllocError, Global};
 
 /// A row for each ASCII character, and one for all others.
@@ -14,7 +16,7 @@ pub(crate) const SECOND: usize = COLUMNS;
 pub(crate) const AT_START: usize = 2 * COLUMNS;
 
 /// How many rows there are.
-pub(crate) const ROWS: usize = AT_START + 1;
+const ROWS: usize = AT_START + 1;
 
 /// A bit for each pattern in each row.
 #[derive(Drop)]
@@ -48,6 +50,45 @@ impl Rows {
         ensures all { length self.new.words.items ≡ length self.old.words.items }
     {
         self.words[row * self.width + number / 64] |= 1 << (number % 64);
+    }
+
+    /// Puts the pattern with this number into the row of each character with which a match can
+    /// begin, of the rows from this one on.
+    pub(crate) fn set_each(&mut self, base: usize, starts: &Starts, number: usize)
+        requires base { base + 129 ≤ row_count }
+        requires number { number < 64 * self.old.width }
+        requires all { length self.old.words.items ≡ row_count * self.old.width }
+        ensures set { (r n : ℕ) → n < 64 * self.old.width → has self.new r n
+            ≡ (has self.old r n || (n == number && is_in_column (begins_with starts.now) base 129 r)) }
+        ensures width { self.new.width ≡ self.old.width }
+        ensures all { length self.new.words.items ≡ length self.old.words.items }
+    {
+        let mut code = 0;
+        'codes: while code < COLUMNS {
+            if code < 128 && starts.begins_in_none_of_row(code) {
+                code += 16;
+                continue;
+            }
+            if starts.begins_in(code) {
+                self.set(base + code, number);
+            }
+            code += 1;
+        }
+    }
+
+    /// Puts it into the row of each character, of the rows from this one on.
+    pub(crate) fn set_all(&mut self, base: usize, number: usize)
+        requires base { base + 129 ≤ row_count }
+        requires number { number < 64 * self.old.width }
+        requires all { length self.old.words.items ≡ row_count * self.old.width }
+        ensures set { (r n : ℕ) → n < 64 * self.old.width → has self.new r n
+            ≡ (has self.old r n || (n == number && is_in_column (λ _. true) base 129 r)) }
+        ensures width { self.new.width ≡ self.old.width }
+        ensures all { length self.new.words.items ≡ length self.old.words.items }
+    {
+        for code in 0..COLUMNS {
+            self.set(base + code, number);
+        }
     }
 
     /// How many words a row has.
