@@ -67,7 +67,7 @@ fn build(how: &str, patterns: &[String]) -> Result<Built, Box<dyn Error>> {
 }
 
 impl Tally {
-    /// Adds all matches in the haystack: each search goes on where the last match ends, or behind
+    /// Adds all matches in the haystack: each search goes on where the last match ends, or after
     /// the next character where it is empty.
     fn add_all(&mut self, built: &Built, haystack: &str) {
         let mut coming = Vec::new();

@@ -55,7 +55,7 @@ fn main() -> Result<(), Box<dyn Error>> {
 }
 
 impl Tally {
-    /// Adds all matches in the haystack: each search goes on where the last match ends, or behind
+    /// Adds all matches in the haystack: each search goes on where the last match ends, or after
     /// the next character where it is empty.
     fn add_all(&mut self, call: Call, regex: &Regex, haystack: &str) {
         let mut at = 0;

@@ -15,7 +15,7 @@ use Rattle.regex_lite.specs.MatchViews.{span_of_match}
 use Rattle.regex_lite.specs.Scanning.{IsMatchWithSlots, Scanning}
 use Rattle.regex_lite.specs.Searches.{IsMatchOf, AreGroupsOf}
 
--- the matches of a haystack, which is given as its bytes, behind one that ended at this position,
+-- the matches of a haystack, which is given as its bytes, after one that ended at this position,
 -- up to a limit where there is one
 pub record Ahead : Type 0 where
   pub regex : Expression
@@ -40,7 +40,7 @@ AreFirstAhead a = AreSomeWithin a.regex (chars a.haystack) a.limit a.ended
 abbrev pub ComesNext : Ahead → Option Found → Type 0
 ComesNext a = IsNext a.regex (chars a.haystack) a.ended
 
--- what is ahead behind this match
+-- what is ahead after this match
 abbrev pub behind : Ahead → Found → Ahead
 behind a found = record a { limit = one_less a.limit; ended = Some found.end }
 

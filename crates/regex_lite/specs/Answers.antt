@@ -20,7 +20,7 @@ pub record AreLawful {A : Type 0} (found_of : A → Found) (haystack : Text)
   -- it is also found from any later position on up to its start
   pub further : (s p : ℕ) (answer : A) → s ≤ p → p ≤ (found_of answer).start
       → Answers s (Some answer) → Answers p (Some answer)
-  -- where there are answers, nothing is found behind the haystack's end
+  -- where there are answers, nothing is found after the haystack's end
   pub none_behind : (s p : ℕ) (answer : Option A) → Answers s answer → length haystack < p
       → Answers p None
   pub one : (s : ℕ) (a b : Option A) → Answers s a → Answers s b → a ≡ b

@@ -33,7 +33,7 @@ pub use Rattle.regex_lite_syntax.specs.Tree.Properties
 pub use Rattle.regex_lite_engine.specs.Graph.PlaceCounts
 pub use Rattle.regex_lite_engine.specs.Graph.Size
 pub use Rattle.regex_lite_engine.specs.Search
--- What every regex keeps, and what is told of answers and behind a match.
+-- What every regex keeps, and what is told of answers and after a match.
 pub mod Compiled
 pub mod CompiledList
 pub mod Slots

@@ -16,7 +16,7 @@ use Rattle.regex_lite.specs.MatchList.{AreWithinOfList, IsNextOfList, one_less}
 use Rattle.regex_lite.specs.MatchViews.{span_of_match}
 use Rattle.regex_lite.specs.Searches.{IsMatchOf}
 
--- the matches of a haystack, which is given as its bytes, behind one that ended at this position,
+-- the matches of a haystack, which is given as its bytes, after one that ended at this position,
 -- up to a limit where there is one
 pub record ListAhead : Type 0 where
   pub list : List Expression
@@ -37,7 +37,7 @@ AreListAhead a = AreWithinOfList a.list (chars a.haystack) a.limit a.ended
 abbrev pub ListComesNext : ListAhead → Option (ℕ × Found) → Type 0
 ListComesNext a = IsNextOfList a.list (chars a.haystack) a.ended
 
--- what is ahead behind this match
+-- what is ahead after this match
 abbrev pub list_behind : ListAhead → Found → ListAhead
 list_behind a found = record a { limit = one_less a.limit; ended = Some found.end }
 

@@ -16,7 +16,7 @@ abbrev pub IsAnswerOfPatterns : List Expression → Text → (s : ℕ) → Optio
 IsAnswerOfPatterns list haystack s answer =
     OfTrees list (λ trees. IsAnswerOfList trees haystack s answer)
 
--- how many matches may come behind one of so many, where there is a limit
+-- how many matches may come after one of so many, where there is a limit
 abbrev pub one_less : (limit : Option ℕ) → Option ℕ
 one_less limit = option_map (λ n. n - 1) limit
 
@@ -29,7 +29,7 @@ is_empty_answer found_of e (Some answer) =
 -- Searches of a haystack are known by their answers from each position on. What was found is a part
 -- of the answer
 module _ {A : Type 0} (found_of : A → Found) (Answers : (s : ℕ) → Option A → Type 0) where
-  -- What comes behind a match that ended at this position. It is the answer from there; but where
+  -- What comes after a match that ended at this position. It is the answer from there; but where
   -- that is empty right there, it is the answer from the next character. What comes first is the
   -- answer from the haystack's start
   abbrev pub IsNextAnswer : (ended : Option ℕ) → Option A → Type 0
@@ -39,7 +39,7 @@ module _ {A : Type 0} (found_of : A → Found) (Answers : (s : ℕ) → Option A
       × MatchBool (is_empty_answer found_of e from_end) (Answers (suc e) answer)
       (answer ≡ from_end)
 
-  -- these are all answers behind a match that ended there
+  -- these are all answers after a match that ended there
   abbrev pub AreAnswers : (ended : Option ℕ) → List A → Type 0
   AreAnswers ended [] = IsNextAnswer ended None
   AreAnswers ended (answer ∷ list) =
@@ -72,11 +72,11 @@ abbrev pub is_empty_at : (e : ℕ) → Option Found → Bool
 is_empty_at e found = is_empty_answer (λ own. own) e found
 
 module _ (re : Expression) (haystack : Text) where
-  -- what comes behind a match that ended at this position, or first
+  -- what comes after a match that ended at this position, or first
   abbrev pub IsNext : (ended : Option ℕ) → Option Found → Type 0
   IsNext ended found = IsNextAnswer (λ own. own) (IsAnswerOf re haystack) ended found
 
-  -- these are all matches behind one that ended there
+  -- these are all matches after one that ended there
   abbrev pub AreMatches : (ended : Option ℕ) → List Found → Type 0
   AreMatches ended list = AreAnswers (λ own. own) (IsAnswerOf re haystack) ended list
 
@@ -98,12 +98,12 @@ module _ (re : Expression) (haystack : Text) where
 -- So of searches for several patterns, whose answers are the number of a pattern and what was found
 -- of it. Where the next one is looked for has nothing to do with the numbers
 module _ (list : List Expression) (haystack : Text) where
-  -- what comes behind a match that ended at this position, or first
+  -- what comes after a match that ended at this position, or first
   abbrev pub IsNextOfList : (ended : Option ℕ) → Option (ℕ × Found) → Type 0
   IsNextOfList ended answer =
       IsNextAnswer (λ own. own.1) (IsAnswerOfPatterns list haystack) ended answer
 
-  -- these are all matches behind one that ended there
+  -- these are all matches after one that ended there
   abbrev pub AreMatchesOfList : (ended : Option ℕ) → List (ℕ × Found) → Type 0
   AreMatchesOfList ended answers =
       AreAnswers (λ own. own.1) (IsAnswerOfPatterns list haystack) ended answers

@@ -1,4 +1,4 @@
--- What a search tells that goes on behind a match.
+-- What a search tells that goes on after a match.
 use Rattle.std.specs.Prelude.{◌≡◌, ◌<◌, ℕ, suc, List, Option, Some, None, MatchOption, IsCharBoundary, chars, length, option_map}
 use Rattle.regex_lite_engine.specs.Search.Answer.{Found}
 use Rattle.regex_lite_engine.specs.Search.Offsets.{position_at}
@@ -10,7 +10,7 @@ use Rattle.regex_lite.specs.MatchViews.{span_of_match}
 use Rattle.regex_lite.specs.ListScanning.{IsListMatchWithSlots, span_of_listed}
 use Rattle.regex_lite.specs.Scanning.{IsMatchWithSlots}
 
--- what is told of the answer behind a match that ended at this offset, and has this span: nothing
+-- what is told of the answer after a match that ended at this offset, and has this span: nothing
 -- where there is none, and else what this says of it. It ends at the offset of its end, and further
 -- on
 module _ {A T : Type 0} (found_of : A → Found) (Answers : (s : ℕ) → Option A → Type 0)

@@ -67,7 +67,7 @@ FixedTextIsTemplate R =
     → new ≡ other
 
 -- where a replacer is lent, the relations between the states of what lends it are those of the one
--- behind it, and what it gives in the place of the matches is what that one gives
+-- after it, and what it gives in the place of the matches is what that one gives
 module _ {R : Type 0} (Fixed : R → Option (List ℕ) → R → Type 0)
     (Appends : R → Groups → (text : List ℕ) → Answer → R → Type 0) where
   abbrev pub LentReplacersReplaceAlike : Type 0 → Type 0

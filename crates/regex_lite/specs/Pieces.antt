@@ -14,7 +14,7 @@ use Rattle.regex_lite.specs.Ahead.{Ahead, AreAhead, ahead_of, most_left, whole}
 abbrev pub found_span : Text → Found → ℕ × ℕ
 found_span haystack found = offsets haystack (found.start, found.end)
 
--- what stands from this offset on before, between and behind the spans
+-- what stands from this offset on before, between and after the spans
 abbrev pub pieces : (haystack : List ℕ) → (from : ℕ) → (spans : List (ℕ × ℕ)) → List (List ℕ)
 pieces haystack from [] = drop from haystack ∷ []
 pieces haystack from (span ∷ spans) =

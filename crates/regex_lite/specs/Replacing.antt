@@ -21,7 +21,7 @@ Rests R reference Holds = follows_so R R reference.ghost_name none (λ _ _. ⊤)
 abbrev pub Begins : (text complete : List ℕ) → Type 0
 Begins text complete = (rest : List ℕ) × (complete ≡ text ++ rest)
 
--- with `Ok` the complete text was appended; and else a beginning of it, for want of memory
+-- with `Ok` the complete text was appended; and else a beginning of it, because memory runs out
 abbrev pub IsAppendedText : (complete text : List ℕ) → Answer → Type 0
 IsAppendedText complete text answer =
     MatchResult answer (λ _. text ≡ complete)

@@ -111,7 +111,7 @@ pub fn equality_is_an_equivalence<T: Eq>()
 
 /// The pattern that [`escape`](crate::escape) makes of a text has a tree under the default
 /// settings, and matches exactly where the text stands in the haystack. It is refused only as too
-/// large, by `Size` or `Places`, or for want of memory.
+/// large, by `Size` or `Places`, or because memory runs out.
 pub fn escaped_texts_match_themselves()
     ensures refused { EscapedTextsAreRefusedForSize }
     ensures matches { EscapedTextsMatchThemselves }

@@ -30,7 +30,7 @@ module _ (bytes : List ℕ) (utf8 : IsUtf8 bytes) where
       let own = position_is bytes at utf8 (boundary_at bytes p at utf8 (inside, is)) in
       same_position (chars bytes) (position_at bytes at) p own.0 inside (sym own.1 ∙ is)
 
-  -- behind a character stands the next position
+  -- after a character stands the next position
   pub next_position : (at c : ℕ) (rest : List ℕ) → IsCharBoundary bytes at
       → drop at bytes ≡ encode c ++ rest
       → IsCharBoundary bytes (at + len_utf8 c)

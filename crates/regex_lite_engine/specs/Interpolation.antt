@@ -19,8 +19,8 @@ is_name_character b = is_digit b || is_letter b || b == the "_"
 abbrev pub is_closing : ℕ → Bool
 is_closing b = b == the "}"
 
--- A reference in braces goes up to the next closing one. Here `after` stands behind its `$`, and
--- `rest` behind the reference.
+-- A reference in braces goes up to the next closing one. Here `after` stands after its `$`, and
+-- `rest` after the reference.
 pub record IsBraced (after name rest : List ℕ) : Type 0 where
   pub inner : List ℕ
   pub opens : after ≡ the "{" ∷ inner

@@ -69,7 +69,7 @@ abbrev pub IsBefore : List ℕ → List (List ℕ) → Type 0
 IsBefore way [] = Unit {0}
 IsBefore way (other ∷ ways) = IsPreferred way other × IsBefore way ways
 
--- these are ways from position i, each preferred to those behind it, and the entries are their ends
+-- these are ways from position i, each preferred to those after it, and the entries are their ends
 -- and marks
 abbrev pub AreRanked : Tree → Text → (i : ℕ) → List (List ℕ) → List Entry → Type 0
 AreRanked tree haystack i [] [] = Unit {0}

@@ -70,7 +70,7 @@ fn at_dollar<'t>(template: &'t str, after: &'t str) -> (Piece<'t>, &'t str)
     }
 }
 
-/// The name or the index behind a `$`, and what follows the reference.
+/// The name or the index after a `$`, and what follows the reference.
 fn find_cap_ref(after: &str) -> Option<(&str, &str)>
     ensures found { MatchOption result (HasNoReference after.now)
         (λ r. IsReference after.now r.0.now r.1.now) }

@@ -37,7 +37,7 @@ pub fn answers_are_matches()
 {}
 
 /// Where each pass of a repetition without a limit reads a character, the preference list is that
-/// of all ways from the position, each preferred to those behind it.
+/// of all ways from the position, each preferred to those after it.
 pub fn list_is_of_all_ways()
     ensures { ListIsOfAllWays }
 {}

@@ -55,7 +55,7 @@ pub record GroupsRefused (flags : Flags) (pattern : Text) : Type 0 where
       → PassesGroups groups
   pub without : (HasTree flags pattern → ⊥) → PassesGroups (openings pattern)
 
--- a refusal of this kind is due to the pattern. The want of memory is due to any
+-- a refusal of this kind is due to the pattern. That memory ran out is due to any
 abbrev pub IsDueToPattern : Flags → (nest_limit : ℕ) → Text → ErrorKind → Type 0
 IsDueToPattern flags nest_limit pattern Syntax = HasTree flags pattern → ⊥
 IsDueToPattern flags nest_limit pattern Nesting = NestingRefused flags nest_limit pattern

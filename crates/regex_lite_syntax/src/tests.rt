@@ -43,7 +43,7 @@ fn write_tree(out: &mut String, hir: &Hir) -> Result<(), Fail> {
     Ok(())
 }
 
-/// Writes trees in parentheses, behind a word.
+/// Writes trees in parentheses, after a word.
 #[cycle(tree)]
 fn write_trees(out: &mut String, word: &str, trees: &[Hir]) -> Result<(), Fail> {
     out.push_str(word)?;

@@ -51,7 +51,7 @@ follows : (spans : List (Option (ℕ × ℕ)))
 follows [] = refl
 follows (span ∷ spans) = refl
 
--- one more group was printed, behind what stands before it
+-- one more group was printed, after what stands before it
 pub line_goes_on : (printed before : List ℕ) (old new : List (Option (ℕ × ℕ)))
     (span : Option (ℕ × ℕ)) (line : List ℕ) → printed ++ separated before old ≡ line
     → old ≡ span ∷ new

@@ -28,7 +28,7 @@ module _ (re : Expression) (haystack : List ℕ) where
   within_none (Some (suc k)) ended (inl is) = absurd (cc)
   within_none (Some (suc k)) ended (inr comes) = comes
 
--- a match that was passed, and those behind it
+-- a match that was passed, and those after it
 pub ahead_more : (old new : Ahead) (found : Found) (list : List Found) → Passes old found new
     → AreAhead new list → AreAhead old (found ∷ list)
 ahead_more old new found list passes rest =

@@ -48,7 +48,7 @@ from_false : (P Q : Type 0) (b : Bool) → b ≡ false → MatchBool b P Q → Q
 from_false P Q true is q = cc
 from_false P Q false is q = q
 
--- behind a beginning of a text is one of a longer text
+-- after a beginning of a text is one of a longer text
 longer : (written text more : List ℕ) → Begins written text → Begins written (text ++ more)
 longer written text more begun =
     (begun.0 ++ more, ap (λ x. x ++ more) begun.1 ∙ append_assoc written begun.0 more)
@@ -173,7 +173,7 @@ pub error_is_not_ok : {T E : Type 0} (result : Result T E) → is_err result ≡
 error_is_not_ok (Ok value) = refl
 error_is_not_ok (Err error) = refl
 
--- one text behind another
+-- one text after another
 pub puts_more : (old mid new : Output) (held holds done : Option (List ℕ)) (first second : List ℕ)
     → Puts old held mid holds first → Puts mid holds new done second
     → Puts old held new done (first ++ second)

@@ -22,7 +22,7 @@ module _ (re : Expression) (haystack : List ℕ) where
       → PiecesFollow re haystack it []
   pieces_start it are = record { on = λ list left. (list, are list left, refl) }
 
-  -- the line of a piece that came is behind those before it
+  -- the line of a piece that came is after those before it
   pub pieces_more : (old new : Split) (printed piece : List ℕ) → PiecesFollow re haystack old printed
       → ((list : List (List ℕ)) → ArePiecesLeft new list → ArePiecesLeft old (piece ∷ list))
       → PiecesFollow re haystack new (printed ++ piece_line piece)

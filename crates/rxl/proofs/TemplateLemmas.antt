@@ -16,7 +16,7 @@ Expands old groups text answer new = IsAppendedTemplate old.now groups text answ
 abbrev IsFixed : Bor (List ℕ) → Option (List ℕ) → Bor (List ℕ) → Type 0
 IsFixed old fixed new = IsFixedText old.now fixed × (new ≡ old)
 
--- where a template is refused for one of the matches, that is for want of memory
+-- where a template is refused for one of the matches, that is because memory runs out
 refused_at : (template : Bor (List ℕ)) (list : List Groups) (error : Error)
     → IsRefusedAt IsFixed Expands template list error → error ≡ out_of_memory
 refused_at template [] error refused = absurd refused

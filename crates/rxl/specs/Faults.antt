@@ -32,8 +32,8 @@ abbrev pub IsReported : Fault → (before now : Option (List ℕ)) → Type 0
 IsReported fault before now =
     (written : List ℕ) × Begins written (line_of_fault fault) × Appends before now written
 
--- the first fault is reported as the second: as itself, or a refusal as the want of memory, where
--- there is none to tell of it
+-- the first fault is reported as the second: as itself, or a refusal as the out-of-memory error,
+-- where there is no memory to tell of it
 abbrev pub IsReportedAs : Fault → Fault → Type 0
 IsReportedAs (Refused error) named =
     (named ≡ Refused error) ⊎ (named ≡ Refused out_of_memory)
@@ -44,7 +44,7 @@ abbrev pub IsReadFault : Fault → Type 0
 IsReadFault fault = (fault ≡ Unreadable) ⊎ (fault ≡ Refused out_of_memory)
 
 -- what the fault says of a pattern that is asked about and of the input is so. A fault of the input
--- comes only where the pattern is accepted, and then no refusal comes but the want of memory
+-- comes only where the pattern is accepted, and then no refusal comes but the out-of-memory error
 abbrev pub IsQuestionFault : Fault → (pattern : List ℕ) → (input : Option (List ℕ)) → Type 0
 IsQuestionFault Usage pattern input = ⊥
 IsQuestionFault NotUtf8 pattern input =

@@ -20,7 +20,7 @@ pub record IsPrinted (before now : Option (List ℕ)) (output : Output) (text : 
   pub told : MatchBool output.has_failed (Begins written text)
       (text ≡ written ++ output.waiting.items)
 
--- the text is printed behind whatever was printed before
+-- the text is printed after whatever was printed before
 abbrev pub Puts : Output → (held : Option (List ℕ)) → Output → (holds : Option (List ℕ))
     → (text : List ℕ) → Type 0
 Puts old held new holds text =

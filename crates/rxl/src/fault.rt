@@ -38,7 +38,7 @@ impl Fault {
     }
 
     /// Writes the line that reports the fault. Where there is no memory to tell of a refusal, the
-    /// want of memory is reported.
+    /// out of memory is reported.
     ///
     /// # Errors
     ///

@@ -28,7 +28,7 @@ offsets_grow h p q le =
     subst (λ t. sum_by len_utf8 t ≤ offset h q) (take-take p q h le)
     (sum_by-take-le len_utf8 (take q h) p)
 
--- what stands before a match, the match, and what is behind it
+-- what stands before a match, the match, and what is after it
 pub cut_around : (hay : List ℕ) (e from : ℕ) (found : Found) (rest : List ℕ)
     → from ≡ offset (chars hay) e → StandsFrom e found
     → rest ≡ drop (offset (chars hay) found.end) hay

@@ -1,4 +1,4 @@
--- What comes next stands behind what came before, and is one.
+-- What comes next stands after what came before, and is one.
 use Rattle.std.proofs.Common.{◌≡◌, ◌≤◌, ℕ, zero, suc, List, [], ◌∷◌, Option, Some, None, unwrap_or, refl, ap, ◌∙◌, subst, arith}
 use Rattle.regex_lite_syntax.specs.Text.{Text}
 use Rattle.regex_lite_engine.specs.Search.Answer.{Found}
@@ -17,7 +17,7 @@ module _ {A : Type 0} (found_of : A → Found) (Answers : (s : ℕ) → Option A
   abbrev Within : (limit ended : Option ℕ) → List A → Type 0
   Within limit ended list = AreAnswersWithin found_of Answers limit ended list
 
-  -- the first of a list that is up to a limit, and those behind it
+  -- the first of a list that is up to a limit, and those after it
   pub first_within : (limit ended : Option ℕ) (answer : A) (list : List A)
       → Within limit ended (answer ∷ list)
       → IsNextAnswer found_of Answers ended (Some answer)
@@ -75,7 +75,7 @@ module _ (re : Expression) (haystack : Text) where
         whole = own.whole;
       }
 
-  -- the first of a list that is up to a limit, and those behind it
+  -- the first of a list that is up to a limit, and those after it
   pub within_first : (limit ended : Option ℕ) (found : Found) (list : List Found)
       → AreWithin re haystack limit ended (found ∷ list)
       → IsNext re haystack ended (Some found)

@@ -1,4 +1,4 @@
--- A pattern that is accepted is refused for want of memory alone.
+-- A pattern that is accepted is refused only if memory runs out.
 use Rattle.std.proofs.Common.{◌≡◌, inl, inr, Err, chars, refl, subst, arith}
 use Rattle.regex_lite_syntax.specs.declared.error.Error.{Error}
 use Rattle.regex_lite_syntax.specs.declared.error.LimitFault.TheVariants as limit

@@ -61,7 +61,7 @@ fewer_left (Some e) bytes span onward inside =
     let later = onward.1 in
     omega (arith, inside, later)
 
--- behind a match fewer are ahead
+-- after a match fewer are ahead
 pub fewer_behind : (limit now ended : Option ℕ) (bytes : ℕ) (span : ℕ × ℕ) → limit ≢ Some 0
     → IsOnward ended span → span.1 ≤ bytes
     → most_left now bytes (Some span.1) < most_left limit bytes ended

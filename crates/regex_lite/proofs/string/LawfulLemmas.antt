@@ -30,7 +30,7 @@ found_within tree haystack s found given is =
           (end_address, found.end) is.most_preferred.is_way.0 is.inside;
     }
 
--- behind the haystack's end nothing is found
+-- after the haystack's end nothing is found
 none_behind : (tree : Tree) (haystack : Text) (s : ℕ) → length haystack < s
     → IsAnswer tree haystack s None
 none_behind tree haystack s over (i, j, m) =

@@ -61,7 +61,7 @@ pub regular_trees : (list : List Expression) (trees : List Tree) → AreTrees li
 regular_trees list trees given = λ number tree there.
     regular_tree tree (pattern_tree list trees given number tree there)
 
--- a refusal is the want of memory, or the pattern isn't accepted
+-- a refusal is the out-of-memory error, or the pattern isn't accepted
 memory_or_not : (settings : Settings) (error : Refusal) → IsDue settings error
     → (error ≡ out_of_memory) ⊎ (IsAccepted settings → ⊥)
 memory_or_not settings out_of_memory due = inl refl
@@ -83,7 +83,7 @@ in_first (x ∷ xs) zero k own less there = absurd (omega (arith, less))
 in_first (x ∷ xs) (suc n) zero own less there = there
 in_first (x ∷ xs) (suc n) (suc k) own less there = in_first xs n k own (omega (arith, less)) there
 
--- the pattern behind those that are accepted is the lowest that fails, unless memory ran out
+-- the pattern after those that are accepted is the lowest that fails, unless memory ran out
 pub lowest_fails : (all : List Settings) (number : ℕ) (trees : List Tree) (settings : Settings)
     (error : Error) → AreAcceptedAs (take number all) trees
     → slice_get all number ≡ Some settings → IsDue settings error
@@ -108,7 +108,7 @@ lowest_fails all number trees settings error accepted there due =
         (in_first all number k other less is) in
         (own.0, own.2.0, own.2.1)
 
--- an accepted list is refused for want of memory alone
+-- an accepted list is refused only if memory runs out
 for_list_memory : (all : List Settings) (error : Error)
     → (error ≡ out_of_memory) ⊎ (IsDueToLowest all error ⊎ IsDueToAll all error)
     → AreAccepted all → error ≡ out_of_memory

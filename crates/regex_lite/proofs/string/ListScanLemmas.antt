@@ -28,7 +28,7 @@ use Rattle.regex_lite.proofs.string.NextLemmas.{next_answer}
 use Rattle.regex_lite.proofs.string.ScanLemmas.{whole_of_groups}
 use Rattle.regex_lite.proofs.string.ToldLemmas.{not_there, same_some}
 
--- behind a match fewer are ahead
+-- after a match fewer are ahead
 pub fewer_ahead_of_list : (old new : ListScanning) (span : ℕ × ℕ) → old.limit ≢ Some 0
     → new.haystack ≡ old.haystack → new.ended ≡ Some span.1 → IsOnward old.ended span
     → span.1 ≤ length old.haystack → most_list_ahead new < most_list_ahead old
@@ -49,7 +49,7 @@ same_ahead : (a b : List Expression) (h k : List ℕ) (l m e f : Option ℕ) →
     (record { list = b; haystack = k; limit = m; ended = f })
 same_ahead a b h k l m e f p q r s = rw (p, q, r, s) refl
 
--- what is told to come next came, where the scan stands behind it
+-- what is told to come next came, where the scan stands after it
 pub came_next : (old new : ListScanning) (told : ℕ × Match) → old.limit ≢ Some 0
     → TellsNextListMatch old.list old.haystack old.ended new.slots (Some told)
     → new.list ≡ old.list → new.haystack ≡ old.haystack → new.limit ≡ one_less old.limit

@@ -1,4 +1,4 @@
--- What is told by a search that goes on behind a match.
+-- What is told by a search that goes on after a match.
 use Rattle.std.proofs.Common.{◌≡◌, ◌<◌, ◌≤◌, ◌⊎◌, inl, inr, true, false, MatchBool, Bool, ℕ, suc, List, Option, Some, None, refl, sym, ap, subst, ◌∙◌, chars, IsUtf8, option_map, unwrap_or, arith}
 use Rattle.std.specs.Prelude.{IsCharBoundary}
 use Rattle.std.proofs.lemmas.Bool.{cases_order}
@@ -191,7 +191,7 @@ module _ {A T : Type 0} (found_of : A → Found) (bytes : List ℕ)
             let to = last.ordered in
             (omega (arith, own, same, from, less), omega (arith, own, same, from, to, less))
 
-    -- and finds nothing behind the end
+    -- and finds nothing after the end
     pub over_told : Empty at → IsNextOffset bytes at None → Tells (Some at) None
     over_told empty last =
         passed None empty

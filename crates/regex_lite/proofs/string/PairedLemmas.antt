@@ -29,7 +29,7 @@ module _ {A B : Type 0} (R : A → B → Type 0) where
   paired_back (x ∷ xs) (y ∷ ys) zero own (p, ps) there = (x, refl, rw (← same_some there) p)
   paired_back (x ∷ xs) (y ∷ ys) (suc k) own (p, ps) there = paired_back xs ys k own ps there
 
-  -- one more pair behind them
+  -- one more pair after them
   pub paired_more : (xs : List A) (ys : List B) (x : A) (y : B) → AllPaired R xs ys → R x y
       → AllPaired R (xs ++ (x ∷ [])) (ys ++ (y ∷ []))
   paired_more [] [] x y p r = (r, tt)

@@ -7,7 +7,7 @@ use Rattle.regex_lite.specs.Ahead.{Ahead, IsOver, Passes, whole}
 use Rattle.regex_lite.specs.Pieces.{ArePiecesWithin, IsCut, found_span, pieces}
 use Rattle.regex_lite.proofs.string.AheadLemmas.{ahead_cons, ahead_nil}
 
--- what stands before a match that was passed comes before the pieces behind it
+-- what stands before a match that was passed comes before the pieces after it
 pub cut_cons : (old new : Ahead) (from : ℕ) (found : Found) (span : ℕ × ℕ) (list : List (List ℕ))
     → Passes old found new → span ≡ found_span (chars old.haystack) found → IsCut new span.1 list
     → IsCut old from (slice_range old.haystack from span.0 ∷ list)

@@ -34,7 +34,7 @@ half (start ∷ end ∷ slots) =
     let more = half slots in
     omega (arith, more)
 
--- none is behind them
+-- none is after them
 pub no_span : (slots : List (Option ℕ)) (k : ℕ) → length slots / 2 ≤ k
     → None ≡ span_at (spans_of slots) k
 no_span slots k behind =

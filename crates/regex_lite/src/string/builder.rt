@@ -96,7 +96,7 @@ impl RegexBuilder {
 
     /// Whether `^` and `$` match at every line: the flag `m`.
     ///
-    /// `^` then matches also behind the end of a line, and `$` also before it. Without the flag `^`
+    /// `^` then matches also after the end of a line, and `$` also before it. Without the flag `^`
     /// matches only at the haystack's start and `$` only at its end, as `\A` and `\z` always do.
     ///
     /// ```

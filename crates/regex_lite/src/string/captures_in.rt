@@ -119,7 +119,7 @@ impl<T: Text> CapturesIn<T> {
         }
     }
 
-    /// The text of the first group from this index on that took part, and the index behind it.
+    /// The text of the first group from this index on that took part, and the index after it.
     fn next_text(&self, from: usize) -> (T, usize)
         requires { 0 < length (texts_from self.now from) }
         ensures { texts_from self.now from ≡ T.bytes result.0 ∷ texts_from self.now result.1 }

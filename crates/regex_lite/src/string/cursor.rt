@@ -41,7 +41,7 @@ impl<'h> Cursor<'h> {
         self.limit == Some(0)
     }
 
-    /// Behind this match.
+    /// After this match.
     pub fn behind(self, found: &Match<'h>) -> Cursor<'h>
         requires { haystack_of_match found.now ≡ self.haystack.now }
         ensures haystack { result.haystack.now ≡ self.entry.haystack.now }

@@ -46,7 +46,7 @@ impl<'r, 'h> GroupScan<'r, 'h> {
         Ok(GroupScan { scan, spare: None })
     }
 
-    /// The groups of the next match, if one may come. Behind a refusal none comes.
+    /// The groups of the next match, if one may come. After a refusal none comes.
     pub fn next(&mut self) -> Option<Result<Captures<'h>, Error>>
         ensures steps { GivesGroupsOf self.old result self.new }
         ensures fewer { IfSome result (λ _. most_ahead self.new < most_ahead self.old) }

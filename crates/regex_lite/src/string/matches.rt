@@ -42,7 +42,7 @@ impl<'h> Match<'h> {
         self.start
     }
 
-    /// The offset behind its last byte.
+    /// The offset after its last byte.
     pub fn end(&self) -> usize
         ensures { result ≡ (span_of_match self.now).1 }
     {

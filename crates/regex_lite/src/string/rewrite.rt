@@ -92,7 +92,7 @@ impl<'h> Rewrite<'h> {
         Ok(CowStr::Owned(self.text))
     }
 
-    /// Appends what stands before the next match, and goes on behind it.
+    /// Appends what stands before the next match, and goes on after it.
     fn pass(&mut self, start: usize, end: usize) -> Result<(), Error>
         requires lies_in { LiesIn self.old.haystack.now (start, end) }
         requires onward { IsOnward self.old.ended (start, end) }

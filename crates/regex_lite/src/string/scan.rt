@@ -130,7 +130,7 @@ impl<'r, 'h> Scan<'r, 'h> {
     }
 }
 
-/// The match behind the last one, or the first.
+/// The match after the last one, or the first.
 fn next_match<'h>(searcher: &mut Searcher<'_>, cursor: Cursor<'h>) -> Option<Match<'h>>
     requires { IsBehindAnswer searcher.old.regex cursor }
     ensures next { TellsNextMatch searcher.old.regex cursor.entry.haystack.now cursor.entry.ended
@@ -160,7 +160,7 @@ fn first_match<'h>(searcher: &mut Searcher<'_>, haystack: &'h str) -> Option<Mat
     searcher.find_at(haystack, 0)
 }
 
-/// The match behind one that ended at this offset.
+/// The match after one that ended at this offset.
 fn match_behind<'h>(searcher: &mut Searcher<'_>, haystack: &'h str, end: usize) -> Option<Match<'h>>
     requires { IsCharBoundary haystack.now end }
     ensures next { TellsNextMatch searcher.old.regex haystack.now (Some end) searcher.new.slots
@@ -177,7 +177,7 @@ fn match_behind<'h>(searcher: &mut Searcher<'_>, haystack: &'h str, end: usize) 
     match_behind_empty(searcher, haystack, end)
 }
 
-/// The match behind the empty one at this offset, which is the first from the next character on.
+/// The match after the empty one at this offset, which is the first from the next character on.
 fn match_behind_empty<'h>(
     searcher: &mut Searcher<'_>,
     haystack: &'h str,

@@ -12,7 +12,7 @@ impl Regex {
     /// What stands between the matches of [`Regex::find_iter`], from left to right.
     ///
     /// There is always one piece more than there are matches: a match at the start or at the end of
-    /// the haystack has an empty piece before or behind it.
+    /// the haystack has an empty piece before or after it.
     ///
     /// ```
     /// let regex = Regex::new(alloc, " *, *")?;

@@ -122,7 +122,7 @@ fn replaced_once(rt: HostRuntime) -> Result<(), Fail> {
     Ok(())
 }
 
-/// A replacer's own want of memory is handed on.
+/// A replacer's own out-of-memory error is handed on.
 #[test]
 fn own_want_of_memory(rt: HostRuntime) -> Result<(), Fail> {
     let regex = Regex::new(rt.alloc(), "a")?;

@@ -42,7 +42,7 @@ none_of_zeros n count =
         ∙ sym (ap (λ word. bit_at word (k % 64) == 1) (zero_at n (k / 64))
         ∙ ap (λ bit. bit == 1) (bit_at-zero (k % 64)))
 
--- words of zeros behind them change no bit
+-- words of zeros after them change no bit
 pub bits_before_zeros : (words : List ℕ) (n count : ℕ)
     → bits_of (words ++ replicate n 0) count ≡ bits_of words count
 bits_before_zeros words n count =

@@ -177,7 +177,7 @@ module _ (table : List (Place ℕ)) (haystack : Text) (s first from i : ℕ) (pa
         waits' rest waits,
       ))
 
-  -- where a character of the set comes next, the walk goes on behind it
+  -- where a character of the set comes next, the walk goes on after it
   walk_reads : (set : Set) (to : ℕ) → place_with table q ≡ with_arrows (go_reading set to ∷ [])
       → Walks row (read_on at set (after haystack p) to frames)
   walk_reads set to e = by_next (after haystack p) refl
@@ -255,7 +255,7 @@ module _ (table : List (Place ℕ)) (haystack : Text) (s first from i : ℕ) (pa
       (sym (set-set row slot (Some at) (slice_index_or row slot None) ∙ set-get_or row slot None))
       waits)
 
-  -- a slot behind the row is not kept
+  -- a slot after the row is not kept
   walk_past : (slot to : ℕ) → length row ≤ slot
       → place_with table q ≡ with_arrows (go_marking slot to ∷ [])
       → Walks row (explore to at ∷ frames)

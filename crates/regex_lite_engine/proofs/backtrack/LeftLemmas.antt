@@ -93,7 +93,7 @@ pair_earlier places first q at at' lt low later =
     let b = mul_comm (at' - first) places in
     omega (arith, lt, more, one, a, b)
 
--- and behind all pairs of an earlier one
+-- and after all pairs of an earlier one
 pair_later : (places first q at at' : ℕ) → first ≤ at' → at' < at
     → pair_number places first 0 at' + places ≤ pair_number places first q at
 pair_later places first q at at' low later =
@@ -142,7 +142,7 @@ module _ (table : List (Place ℕ)) (haystack : List ℕ) (utf8 : IsUtf8 haystac
     is_at : at ≡ offset (chars haystack) (position_at haystack at)
     is_at = (position_is haystack at utf8 edge).1
 
-    -- at a position behind the pair's
+    -- at a position after the pair's
     from_behind : (p n : ℕ) → position_at haystack at < p → p + n ≤ length (chars haystack) + 1
         → left_from table haystack f entered_now p n ≡ left_from table haystack f pairs p n
     from_behind p zero behind within = refl

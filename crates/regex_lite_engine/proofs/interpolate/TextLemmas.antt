@@ -11,7 +11,7 @@ use Rattle.regex_lite_engine.specs.Interpolation.{is_name_character, BeginsWith,
 name_is_ascii : (b : ℕ) → is_name_character b ≡ true → b < 128
 name_is_ascii b named = grind (arith, nat_tests)
 
--- behind the characters of a name is a character boundary
+-- after the characters of a name is a character boundary
 pub name_ends_cleanly : (t : List ℕ) (n : ℕ) → IsUtf8 t → n ≡ prefix_len is_name_character t → 0 < n → IsCharBoundary t n
 name_ends_cleanly t zero utf8 is some = absurd (omega arith)
 name_ends_cleanly t (suc k) utf8 is some =

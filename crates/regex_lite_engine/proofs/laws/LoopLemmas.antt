@@ -16,7 +16,7 @@ module _ {N : Type 0} (step : N → ℕ → Option N) where
   abbrev NeverBy : (node start : N) → List ℕ → Type 0
   NeverBy node start ks = (us vs : List ℕ) → ks ≡ us ++ vs → Leads N step start us node → ⊥
 
-  -- arrow k leads to `via`, and what is behind it leads on from there
+  -- arrow k leads to `via`, and what is after it leads on from there
   from_next : (us : List ℕ) (a via b : N) (k l : ℕ) → step a k ≡ Some via → k ≡ l
       → Leads N step a (l ∷ us) b → Leads N step via us b
   from_next us a via b k l s e (next, t, along) =

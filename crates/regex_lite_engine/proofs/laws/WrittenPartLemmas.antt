@@ -4,7 +4,7 @@ use Rattle.regex_lite_engine.specs.Graph.Places.{Place}
 use Rattle.regex_lite_engine.specs.Graph.Addresses.{Address, part}
 use Rattle.regex_lite_engine.specs.Graph.Repetitions.{Content}
 
--- behind the address the graph has what the row gives
+-- after the address the graph has what the row gives
 pub record HasRow (place : Address → Place Address) (pre : Address) (row : Address → Content)
     : Type 0 where
   pub at : (a : Address) {p : Place Address} → row a ≡ Some p → place (pre ++ a) ≡ p

@@ -44,7 +44,7 @@ module _ (place : Address → Place Address) (pre : Address) (greedy : Bool)
       let later = row_and_last_stand left (suc k) last exit rest behind (later_parts has) in
       ((next, stands (part pre k) next (first_part has), later.0), later.1)
 
-  -- what comes behind the copies
+  -- what comes after the copies
   has_rest : (left k last : ℕ) (exit : Address) (rest : ℕ → Address → Content)
       → last ≡ k + left → HasParts place pre k (copies left k exit rest)
       → HasParts place pre last rest

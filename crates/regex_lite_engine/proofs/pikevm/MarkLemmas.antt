@@ -59,7 +59,7 @@ slots_set haystack row marks slot p has k o e = by_case (got_after_set row slot 
     by_case (inr (d, f)) =
         has k o f ∙ sym (ap (λ z. option_map (offset haystack) (option_or z (marks k))) (marked_other slot p k d))
 
--- a slot behind the row
+-- a slot after the row
 pub slots_past : (haystack : Text) (row : Row) (marks : Marks) (slot p : ℕ) → length row ≤ slot
     → HasSlots haystack row marks → HasSlots haystack row (over (marked (Some slot) p) marks)
 slots_past haystack row marks slot p past has k o e =

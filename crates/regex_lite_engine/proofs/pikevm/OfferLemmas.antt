@@ -71,7 +71,7 @@ module _ (N : Type 0) (step : N → ℕ → Option N) where
   one_offer None w = []
   one_offer (Some m) w = (m, w) ∷ []
 
-  -- the arrows of n from the k-th on, behind the way w
+  -- the arrows of n from the k-th on, after the way w
   abbrev pub offers : N → List ℕ → ℕ → ℕ → List Offer
   offers n w zero k = []
   offers n w (suc c) k = one_offer (step n k) (w ++ k ∷ []) ++ offers n w c (suc k)

@@ -169,7 +169,7 @@ never_at s h p x is off may =
     let by_next = subst (λ o. IsTrue (may_begin s x.before o)) (sym is.ahead) by_last in
     let never = subst IsTrue off by_next in cc
 
--- behind the haystack's start a match begins with a character of the set
+-- after the haystack's start a match begins with a character of the set
 pub begins_later : (s : Starts) (h : Text) (i : ℕ) → (d : ℕ) × (slice_get h i ≡ Some d)
     → (c : ℕ) × (slice_get h (suc i) ≡ Some c) × (begins_with s c ≡ false)
     → MayBegin s h (suc i) → ⊥
@@ -189,7 +189,7 @@ whole bs u =
     take_all (length (chars bs)) (chars bs) (omega arith) in
     ap (sum_by len_utf8) all ∙ sym (length_encodes (chars bs)) ∙ ap length (encodes-chars bs u)
 
--- behind an ASCII character the next one begins at the next byte
+-- after an ASCII character the next one begins at the next byte
 module _ (bs : List ℕ) (i : ℕ) (u : IsUtf8 bs) (within : i < length (chars bs))
     (short : offset (chars bs) i + 1 < length bs)
     (ascii : slice_index bs (offset (chars bs) i) < 128) where

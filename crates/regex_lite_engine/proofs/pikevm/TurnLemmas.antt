@@ -354,7 +354,7 @@ pub no_starts : (starts : List Start) (at : ℕ → Told) (w : ℕ) (best : Best
 no_starts starts at w None ts e = omega (arith, e, length-append ts (begun at (replicate w None) starts), begun_length at (replicate w None) starts)
 no_starts starts at w (Some b) ts e = refl
 
--- a thread, or a start behind them
+-- a thread, or a start after them
 abbrev IsTakenUp : (starts : List Start) (at : ℕ → Told) (w : ℕ) (ts ways : List Thread) (k : ℕ) → Type 0
 IsTakenUp starts at w ts ways k = (k < length ts + length starts) × (thread_at ways k ≡ thread_at (ts ++ begun at (replicate w None) starts) k)
 

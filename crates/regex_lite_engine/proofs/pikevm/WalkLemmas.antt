@@ -105,7 +105,7 @@ module _ (table : List (Place ℕ)) (h : Text) where
         node_of : Thread → Node
         node_of t = (t.0, p)
 
-    -- one more behind
+    -- one more after it
     pub held_more : (p : ℕ) (f : ℕ → Thread) (k : ℕ) (os : List (Offer Node)) (o : Offer Node) → ThreadsHold table h s p f k os →
         o.0 ≡ ((f (k + length os)).0, p) → WayTold table h s (f (k + length os)).1 (f (k + length os)).2 o.0 o.1 → ThreadsHold table h s p f k (os ++ o ∷ [])
     held_more p f k [] o a at holds =

@@ -10,7 +10,7 @@ use Rattle.regex_lite_engine.specs.Search.Offsets.{position_at}
 use Rattle.regex_lite_engine.proofs.OffsetLemmas.{length_encodes}
 use Rattle.regex_lite_engine.proofs.pikevm.here.OffsetLemmas.{chars_cut}
 
--- those behind the start
+-- those after the start
 pub left_is : (bytes : List ℕ) (start : ℕ) → IsUtf8 bytes → IsCharBoundary bytes start → characters_left (chars bytes) (position_at bytes start) ≡ length (chars (drop start bytes))
 left_is bytes start utf8 edge =
     let both = ap length (chars_cut bytes start utf8 edge) ∙ length-append (chars (take start bytes)) (chars (drop start bytes)) in

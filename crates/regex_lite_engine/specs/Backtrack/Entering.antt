@@ -12,7 +12,7 @@ use Rattle.regex_lite_engine.specs.Backtrack.Machine.{Frame, explore, restore, o
 use Rattle.regex_lite_engine.specs.Walk.Machine.{Row}
 
 module _ (at : ℕ) where
-  -- where a character of the set comes next, the walk goes on behind it
+  -- where a character of the set comes next, the walk goes on after it
   abbrev pub read_on : Set → (next : Option ℕ) → (to : ℕ) → List Frame → List Frame
   read_on set None to frames = frames
   read_on set (Some c) to frames =
@@ -24,7 +24,7 @@ module _ (at : ℕ) where
       ((frames : List Frame) → onto told frames ≡ read_on set next to frames)
       × (completes told ≡ false)
 
-  -- the slot holds the offset, until the way is left. A slot behind the row is not kept
+  -- the slot holds the offset, until the way is left. A slot after the row is not kept
   abbrev pub Marks : (slot to : ℕ) → Row → List Frame → Row → List Frame → Type 0
   Marks slot to row frames row' frames' =
       ((slot < length row) × (row' ≡ slice_set row slot (Some at))

@@ -79,7 +79,7 @@ abbrev mutual
       copies least most * arrows body + own_arrows least most (nullable body)
   arrows (capture index name body) = arrows body + 2
   arrows (concat parts) = arrows_in parts
-  -- one to each branch and one behind the join
+  -- one to each branch and one after the join
   arrows (alternation branches) = arrows_in branches + count branches + 1
 
   pub arrows_in : Trees → ℕ

@@ -53,7 +53,7 @@ abbrev pub renamed : {A B : Type 0} → (name : A → B) → Place A → Place B
 renamed name complete = complete
 renamed name (with_arrows arrows) = with_arrows (map (renamed_arrow name) arrows)
 
--- the position behind a character of the set
+-- the position after a character of the set
 abbrev pub behind : Set → ℕ → Option ℕ → Option ℕ
 behind set i None = None
 behind set i (Some c) = if set c then Some (suc i) else None

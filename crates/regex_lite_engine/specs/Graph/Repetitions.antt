@@ -16,7 +16,7 @@ module _ (pre : Address) (greedy : Bool) (enter : Address → Address)
   next_copy zero k exit = exit
   next_copy (suc left) k exit = enter (part pre k)
 
-  -- copies in a row from copy k on, each leading to the next. Behind them `rest` goes on
+  -- copies in a row from copy k on, each leading to the next. After them `rest` goes on
   abbrev pub in_copies : (left k : ℕ) → (exit : Address) → (rest : ℕ → Address → Content)
       → ℕ → Address → Content
   in_copies zero k exit rest c a = rest c a
@@ -49,7 +49,7 @@ module _ (pre : Address) (greedy : Bool) (enter : Address → Address)
   nullable_star_row exit (suc zero ∷ a) = inside (part pre 0) (own pre 1) a
   nullable_star_row exit a = None
 
-  -- {n + 1,}: the choice behind the last copy is 0
+  -- {n + 1,}: the choice after the last copy is 0
   abbrev pub at_least_row : (n : ℕ) → (exit : Address) → Address → Content
   at_least_row n exit (zero ∷ zero ∷ []) = Some (choice greedy (enter (part pre n)) exit)
   at_least_row n exit (suc c ∷ a) = in_copies (suc n) 0 (own pre 0) no_place c a
@@ -72,7 +72,7 @@ module _ (pre : Address) (greedy : Bool) (enter : Address → Address)
   next_choice zero j = own pre 1
   next_choice (suc left) j = own pre (suc (suc j))
 
-  -- copies from copy k on, each behind a choice, the first of which is choice j
+  -- copies from copy k on, each after a choice, the first of which is choice j
   abbrev pub in_choices : (left k j : ℕ) → ℕ → Address → Content
   in_choices zero k j c a = None
   in_choices (suc left) k j zero a = inside (part pre k) (next_choice left (suc j)) a

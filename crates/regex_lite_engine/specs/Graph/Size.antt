@@ -49,7 +49,7 @@ pub record Fits (size_limit : ℕ) (tree : Tree) : Type 0 where
   pub places_fit : whole_places tree < 2 ^ 32
   pub slots_fit : greatest_index tree < 2 ^ 31
 
--- a refusal of this kind is due to a tree that is to be written out. The want of memory is due to
+-- a refusal of this kind is due to a tree that is to be written out. That memory ran out is due to
 -- any
 abbrev pub IsDueToTree : (size_limit : ℕ) → Tree → ErrorKind → Type 0
 IsDueToTree size_limit tree Size = size_limit < size tree

@@ -21,7 +21,7 @@ abbrev pub ReadsEach : Tree → Starts → Head → Type 0
 ReadsEach tree second head =
     (haystack : Text) (i j : ℕ) → Matches haystack tree i j → Reads second haystack i j head
 
--- each match of the tree reads one of these behind its first character
+-- each match of the tree reads one of these after its first character
 abbrev pub AreSecondOfTree : Tree → Starts → Type 0
 AreSecondOfTree tree second =
     (haystack : Text) (i j : ℕ) → Matches haystack tree i j → MayBegin second haystack (suc i)
@@ -30,19 +30,19 @@ pub record AreHeadsOfTree (tree : Tree) (heads : Heads) : Type 0 where
   pub first : AreStartsOfTree tree heads.first
   pub second : IfSome heads.second (AreSecondOfTree tree)
 
--- none can begin at the position: with its first character, or with the one behind it
+-- none can begin at the position: with its first character, or with the one after it
 abbrev pub NeverBegins : Heads → Text → ℕ → Type 0
 NeverBegins heads haystack i =
     (¬ (MayBegin heads.first haystack i))
     ⊎ MatchOption heads.second ⊥ (λ second. ¬ (MayBegin second haystack (suc i)))
 
--- behind the ASCII character at this offset stands a byte with which no second one begins
+-- after the ASCII character at this offset stands a byte with which no second one begins
 abbrev pub IsCutOff : Heads → (bytes : List ℕ) → (at : ℕ) → Type 0
 IsCutOff heads bytes at =
     MatchOption heads.second ⊥ (λ second. (at + 1 < length bytes) × (slice_index bytes at < 128)
     × (stops_at second (slice_index bytes (at + 1)) ≡ false))
 
--- the byte at this offset, or the one behind it, tells that none begins there
+-- the byte at this offset, or the one after it, tells that none begins there
 abbrev pub IsPassed : Heads → (bytes : List ℕ) → (at : ℕ) → Type 0
 IsPassed heads bytes at =
     (stops_at heads.first (slice_index bytes at) ≡ false) ⊎ IsCutOff heads bytes at

@@ -17,7 +17,7 @@ IsAdded old new entry written = (entry ≡ written.1) × (new ≡ old ++ written
 abbrev pub alone : Place ℕ → (base : ℕ) → Fragment
 alone place base = (place ∷ [], base)
 
--- the first part is written behind the rest, and entered
+-- the first part is written after the rest, and entered
 abbrev pub before : (rest first : Fragment) → Fragment
 before rest first = (rest.0 ++ first.0, first.1)
 
@@ -137,14 +137,14 @@ abbrev mutual
       let later = branches_layout rest (base + length first.0) exit in
       (first.0 ++ later.0, first.1 ∷ later.1)
 
--- the layout of a whole pattern, behind the place with this number where its match is complete
+-- the layout of a whole pattern, after the place with this number where its match is complete
 abbrev pub pattern_layout : Tree → (base : ℕ) → Fragment
 pattern_layout tree base = capture_layout 0 (layout tree) (base + 1) base
 
 abbrev pub pattern_table : Tree → (base : ℕ) → List (Place ℕ)
 pattern_table tree base = complete ∷ (pattern_layout tree base).0
 
--- patterns one behind another
+-- patterns one after another
 abbrev pub patterns_table : List Tree → (base : ℕ) → List (Place ℕ)
 patterns_table [] base = []
 patterns_table (tree ∷ trees) base =

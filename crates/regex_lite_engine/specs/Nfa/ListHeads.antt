@@ -117,7 +117,7 @@ NeverBeginsWith heads first None = ⊥
 NeverBeginsWith heads first (Some second) =
     (first < 128) × (second < 128) × (has_pair heads first second ≡ false)
 
--- The byte at this offset tells that no match begins there, or it and the one behind it are two
+-- The byte at this offset tells that no match begins there, or it and the one after it are two
 -- ASCII characters with which none begins
 abbrev pub IsPassedByAll : ListHeads → (bytes : List ℕ) → (at : ℕ) → Type 0
 IsPassedByAll heads bytes at =

@@ -17,7 +17,7 @@ IsOffset haystack p at = IsPosition haystack p × (at ≡ offset haystack p)
 abbrev pub position_at : (bytes : List ℕ) → ℕ → ℕ
 position_at bytes at = length (chars (take at bytes))
 
--- where a search begins that is asked for from this offset on: at its position, and behind all
+-- where a search begins that is asked for from this offset on: at its position, and after all
 -- positions where the offset is above the length
 abbrev pub search_start : (bytes : List ℕ) → ℕ → ℕ
 search_start bytes at = position_at bytes at + (at - length bytes)

@@ -9,11 +9,11 @@ use Rattle.regex_lite_engine.specs.declared.pikevm.cell.Side.TheVariants.{First,
 use Rattle.regex_lite_engine.specs.Walk.Beginnings.{Told, untold}
 use Rattle.regex_lite_engine.specs.Walk.Machine.{Row, Frame, explore, restore, Thread}
 
--- row k of rows of one width that lie one behind the other
+-- row k of rows of one width that lie one after the other
 abbrev pub row_at : (slots : Row) → (width k : ℕ) → Row
 row_at slots width k = take width (drop (k * width) slots)
 
--- slots of which those behind the last that was come to hold nothing
+-- slots of which those after the last that was come to hold nothing
 abbrev pub padded : Row → (size : ℕ) → Row
 padded slots size = slots ++ replicate (size - length slots) None
 
@@ -64,7 +64,7 @@ with_thread First place start cell =
 with_thread Second place start cell =
     record cell { second_place = place; second_start = start }
 
--- the number of a thread's row: that of the way that is followed is 0, and behind it those of both
+-- the number of a thread's row: that of the way that is followed is 0, and after it those of both
 -- lists take turns, so that few threads need only the first rows
 abbrev pub row_on : Side → (k : ℕ) → ℕ
 row_on First k = 2 * k + 1

@@ -42,7 +42,7 @@ ReadsOn true before after thread = Pushed before after thread
 ReadsOn false before after thread = Same before after
 
 -- the slot holds the offset until the branch is left, or for good where nothing else is left to do.
--- A slot behind the row is not kept
+-- A slot after the row is not kept
 abbrev pub SlotMarked : (at slot to : ℕ) → Row → List Frame → Row → List Frame → Type 0
 SlotMarked at slot to row frames row' frames' =
     ((slot < length row) × (row' ≡ slice_set row slot (Some at))

@@ -18,7 +18,7 @@ module _ (N : Type 0) where
   In n w [] = ⊥
   In n w (o ∷ os) = ((n ≡ o.0) × (w ≡ o.1)) ⊎ In n w os
 
-  -- each way is preferred to those behind it
+  -- each way is preferred to those after it
   abbrev pub Ordered : List (Offer N) → Type 0
   Ordered [] = Unit {0}
   Ordered (o ∷ os) = ((n : N) (w : List ℕ) → In n w os → IsPreferred o.1 w) × Ordered os

@@ -123,7 +123,7 @@ Begun starts told best before after =
     × ((blank : Row) × IsBlank blank × (after ≡ before ++ begun told blank starts)))
     ⊎ ((best ≡ None → ⊥) × (after ≡ before))
 
--- the threads, and the position's own starts behind them unless they are left out
+-- the threads, and the position's own starts after them unless they are left out
 abbrev pub with_starts : List Start → (told : ℕ → Told) → Best → (width : ℕ) → List Thread
     → List Thread
 with_starts starts told None width threads = threads ++ begun told (replicate width None) starts

@@ -63,7 +63,7 @@ pub fn enter(place: &Place, haystack: &str, at: usize, stack: &mut Stack) -> Onw
     }
 }
 
-/// Goes on behind the next character where it is this one.
+/// Goes on after the next character where it is this one.
 fn read_char(c: char, to: u32, haystack: &str, at: usize) -> Onward
     requires { IsCharBoundary haystack.now at }
     ensures { IsReadOn at (just c)
@@ -78,7 +78,7 @@ fn read_char(c: char, to: u32, haystack: &str, at: usize) -> Onward
     }
 }
 
-/// Goes on behind the next character where it is one of the set.
+/// Goes on after the next character where it is one of the set.
 fn read_class(set: &MappedClass, to: u32, haystack: &str, at: usize) -> Onward
     requires { IsCharBoundary haystack.now at }
     ensures { IsReadOn at (in_ranges set.now)
@@ -93,7 +93,7 @@ fn read_class(set: &MappedClass, to: u32, haystack: &str, at: usize) -> Onward
     }
 }
 
-/// The next character, and the offset behind it.
+/// The next character, and the offset after it.
 fn next_char(haystack: &str, at: usize) -> Option<(char, usize)>
     requires { IsCharBoundary haystack.now at }
     ensures { MatchOption result

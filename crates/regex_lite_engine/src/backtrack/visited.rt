@@ -9,14 +9,14 @@ use std::marker::Model;
 /// Where so many words are enough, the value holds them itself, and no memory is asked for.
 const FEW: usize = 64;
 
-/// Where a search comes behind the last word, so many are added.
+/// Where a search comes after the last word, so many are added.
 const BLOCK: usize = 16;
 
 /// A bit for each pair, in words of 64.
 #[derive(Drop)]
 enum Words {
     Few([u64; FEW]),
-    /// As many as a search has come to. There is room for all, and those behind the last are 0.
+    /// As many as a search has come to. There is room for all, and those after the last are 0.
     Many(Vec<u64>),
 }
 
@@ -113,7 +113,7 @@ fn set_bit(words: &mut [u64], k: usize) -> bool
     true
 }
 
-/// The same where the words may end before it: those behind the last are 0.
+/// The same where the words may end before it: those after the last are 0.
 fn set_bit_behind(words: &mut Vec<u64>, k: usize) -> bool
     requires { k < 64 * vec_capacity words.old }
     ensures fresh { (count : ℕ) → k < count

@@ -15,12 +15,12 @@ use regex_lite_syntax::Hir;
 #[derive(Drop)]
 pub(crate) struct Heads {
     pub(crate) first: Starts,
-    /// Those that come behind the first. There is none where a match may be shorter, and where one
+    /// Those that come after the first. There is none where a match may be shorter, and where one
     /// walk over the tree doesn't tell.
     pub(crate) second: Option<Starts>,
 }
 
-/// How many ASCII characters are looked for behind the first. Of more, one would mostly be there.
+/// How many ASCII characters are looked for after the first. Of more, one would mostly be there.
 const MOST: u8 = 16;
 
 /// What a part of a pattern reads at its beginning.
@@ -46,7 +46,7 @@ impl Heads {
     }
 
     /// Whether a match that begins with the character at this offset can go on, as far as the byte
-    /// behind it tells.
+    /// after it tells.
     pub(crate) fn may_go_on(&self, bytes: &[u8], at: usize) -> bool
         requires { at ≤ length bytes.now }
         ensures { result ≡ false → IsCutOff self.now bytes.now at }
@@ -54,7 +54,7 @@ impl Heads {
         let Some(second) = &self.second else {
             return true;
         };
-        // Behind an ASCII character the next one begins at once.
+        // After an ASCII character the next one begins at once.
         if bytes.len() - at < 2 || !bytes[at].is_ascii() {
             return true;
         }
@@ -104,7 +104,7 @@ impl Starts {
         }
     }
 
-    /// Adds those with which a pass of this body behind the first one begins, and tells what all
+    /// Adds those with which a pass of this body after the first one begins, and tells what all
     /// passes read together.
     fn add_passes(&mut self, head: Head, body: &Hir) -> Option<Head>
         ensures grown { IsGrown self.old self.new }
@@ -144,7 +144,7 @@ impl Starts {
         Some(head)
     }
 
-    /// Adds those of a part that comes behind one character, and tells what both read together.
+    /// Adds those of a part that comes after one character, and tells what both read together.
     fn add_behind_one(&mut self, part: &Hir) -> Head
         ensures grown { IsGrown self.old self.new }
         ensures reads { (haystack : Text) (i k j : ℕ) → Reads self.old haystack i k One

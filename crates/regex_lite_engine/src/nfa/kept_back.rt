@@ -8,7 +8,7 @@ use crate::nfa::place::Place;
 /// How much a search keeps back that enters each place once.
 #[derive(Clone, Copy)]
 pub(crate) struct KeptBack {
-    /// Without slots: the arrows behind the first of each place.
+    /// Without slots: the arrows after the first of each place.
     pub(crate) without_slots: usize,
     /// With slots also what each held before it is marked.
     pub(crate) with_slots: usize,

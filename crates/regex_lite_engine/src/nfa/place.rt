@@ -32,7 +32,7 @@ pub(crate) enum Place {
 const _: () = prove!(size_of::<Place>() == 32);
 
 impl Place {
-    /// How many arrows it has behind the first.
+    /// How many arrows it has after the first.
     pub(crate) fn other_arrows(&self) -> usize
         ensures { result ≡ kept_back_with 0 (place_of self.now) }
     {

@@ -1,5 +1,5 @@
 //! The characters with which a match of a pattern can begin: one walk over the tree, which takes no
-//! memory, and leaves out what lies behind a part that reads.
+//! memory, and leaves out what lies after a part that reads.
 ghost use Rattle.std.specs.Prelude.{◌≡◌, ◌≤◌, ◌<◌, ◌+◌, ◌*◌, [], ◌∷◌, ℕ, IsTrue, false, true, map, slice_index};
 ghost use Rattle.regex_lite_syntax.specs.Ranges.{in_ranges};
 ghost use Rattle.regex_lite_syntax.specs.Sets.{just, span};
@@ -136,7 +136,7 @@ impl Starts {
     {
         for range in set.ranges() {
             if !range.start.is_ascii() {
-                // Nor are those behind it.
+                // Nor are those after it.
                 self.add_char(range.start);
                 return;
             }

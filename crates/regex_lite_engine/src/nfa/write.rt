@@ -210,7 +210,7 @@ impl Writer {
         Ok(next)
     }
 
-    /// Writes alternatives: the join behind them, the branches in order, the choice. Answers the
+    /// Writes alternatives: the join after them, the branches in order, the choice. Answers the
     /// choice.
     #[cycle(write)]
     fn write_alternation(&mut self, branches: &[Hir], exit: u32) -> Result<u32, AllocError>
@@ -236,7 +236,7 @@ impl Writer {
 fn part_at(parts: &[Hir], i: usize) -> &Hir
     requires { i < length parts.now }
     ensures part { result.now ≡ slice_index_or parts.now i result.now }
-    // It takes no more than what is behind it leaves.
+    // It takes no more than what is after it leaves.
     ensures room { places (tree_of result.now)
         + places_in (trees (map tree_of (drop (i + 1) parts.now)))
         ≤ places_in (trees (map tree_of parts.now)) }

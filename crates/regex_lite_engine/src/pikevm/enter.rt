@@ -27,7 +27,7 @@ pub enum Onward {
 }
 
 /// Tells which place is the first that this one offers at this position. The others are put on the
-/// stack, and what it offers at the next position behind the threads there.
+/// stack, and what it offers at the next position after the threads there.
 pub fn enter<S: Beginning>(place: &Place, here: Here, start: S, memory: &mut Memory<S>) -> Onward
     requires room { length memory.old.frames + (kept_back (place_of place.now) + 1)
         ≤ length memory.old.rounds }
@@ -86,7 +86,7 @@ fn is_in_set(set: &MappedClass, after: Option<char>) -> bool
     }
 }
 
-/// Goes on behind the character, where it is read.
+/// Goes on after the character, where it is read.
 fn read_on<S: Beginning>(reads: bool, to: u32, start: S, memory: &mut Memory<S>)
     requires { length memory.old.next < memory.old.room }
     ensures reads { ReadsOn reads memory.old.next memory.new.next

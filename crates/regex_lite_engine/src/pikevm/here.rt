@@ -31,7 +31,7 @@ impl Here {
         }
     }
 
-    /// The place behind the next character.
+    /// The place after the next character.
     pub fn next(self, haystack: &str) -> Here
         requires { (p : ℕ) × IsHere (chars haystack.now) p self × IsSome self.after }
         ensures { (p : ℕ) → IsHere (chars haystack.now) p self

@@ -9,7 +9,7 @@ use std::marker::Model;
 /// So many rows of one width. All their memory is asked for at once, and none where the width is 0.
 #[derive(Drop)]
 pub struct Rows {
-    /// The rows one behind the other, up to the last that was come to: a search needs few of them,
+    /// The rows one after the other, up to the last that was come to: a search needs few of them,
     /// and to fill the others would cost more than a short search. They are as good as blank.
     slots: Vec<Slot>,
     width: usize,

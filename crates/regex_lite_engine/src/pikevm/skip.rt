@@ -34,7 +34,7 @@ pub fn pass_over(heads: &Heads, prefilter: Option<Prefilter>, haystack: &str, he
     Here::at(haystack, at)
 }
 
-/// Whether a match can begin here, with the byte behind the next character.
+/// Whether a match can begin here, with the byte after the next character.
 fn can_begin(heads: &Heads, bytes: &[u8], here: Here) -> bool
     requires { here.at ≤ length bytes.now }
     ensures first { IsTrue result → may_begin heads.now.first here.before here.after ≡ true }

@@ -69,8 +69,8 @@ impl<S: Beginning> Cache<S> {
         self.walk.memory.turn_over();
     }
 
-    /// Follows the threads of the position in order, and its own starts behind them, up to the
-    /// first that comes to a match: those behind it are less preferred.
+    /// Follows the threads of the position in order, and its own starts after them, up to the
+    /// first that comes to a match: those after it are less preferred.
     fn follow<P: Patterns>(&mut self, patterns: &P, here: Here)
         requires placed { IsPlaced (P.table patterns.now)
             (ways_at (P.starts patterns.now) (S.told_of here.at) self.old) self.old }
@@ -97,7 +97,7 @@ impl<S: Beginning> Cache<S> {
         }
     }
 
-    /// How many ways are followed: those of the threads and, behind them, the position's own
+    /// How many ways are followed: those of the threads and, after them, the position's own
     /// starts, if there is no match yet.
     fn ways<P: Patterns>(&self, patterns: &P) -> usize
         requires { length self.now.walk.memory.threads + length (P.starts patterns.now) < 2 ^ 64 }

@@ -23,7 +23,7 @@ pub struct Walk<S: Beginning> {
 }
 
 impl<S: Beginning> Walk<S> {
-    /// Takes up a thread of the position, or one of its own starts behind them: the row is that
+    /// Takes up a thread of the position, or one of its own starts after them: the row is that
     /// which is followed. Answers the place to explore, and what is kept of where the way began.
     pub fn take_up<P: Patterns>(&mut self, k: usize, patterns: &P, at: usize) -> (u32, S)
         requires { k < length self.old.memory.threads + length (P.starts patterns.now) }

@@ -85,7 +85,7 @@ fn walks_of(alloc: Global, graph: &Graph, times: usize) -> Result<(bool, bool), 
     Ok((search == depth, search == step))
 }
 
-/// Behind the haystack's end nothing is tried.
+/// After the haystack's end nothing is tried.
 #[test]
 fn above_the_length(rt: HostRuntime) -> Result<(), Fail> {
     let graph = graph_of(rt.alloc(), "a|")?;

@@ -58,7 +58,7 @@ not_held : (held : Bool) → (IsTrue held → ⊥) → held ≡ false
 not_held true never = absurd (never refl)
 not_held false never = refl
 
--- the ranges from one on that starts behind the character do not hold it
+-- the ranges from one on that starts after the character do not hold it
 pub held_before : (n : ℕ) (ranges : List ClassRange) (i c : ℕ) (d : ClassRange) → AreRuns n ranges
     → i < length ranges → c < (get_or ranges i d).start
     → in_ranges ranges c ≡ in_ranges (take i ranges) c
@@ -73,6 +73,6 @@ held_before n (r ∷ ranges) (suc i) c d runs inside behind =
     ap (λ held. span r.start r.end c || held)
     (held_before (next_character r.end + 1) ranges i c d runs.4 (omega (arith, inside)) behind)
 
--- what is not ASCII stands behind what is
+-- what is not ASCII stands after what is
 pub past_ascii : (c d : ℕ) → d < 128 → is_ascii c ≡ false → d < c
 past_ascii c d within past = grind (arith, nat_tests)

@@ -1,4 +1,4 @@
--- What a range behind the last run adds, joined to it or apart.
+-- What a range after the last run adds, joined to it or apart.
 use Rattle.std.proofs.Common.{◌≡◌, sym, ◌∙◌, ap, subst, ℕ, ◌+◌, ◌-◌, ◌<◌, ◌≤◌, ◌||◌, List, [], ◌∷◌, ◌++◌, IsTrue, arith, add-zero, All, nat_cmp, length, take, drop, get_or, slice_set}
 use Rattle.std.specs.Ordering.{ord_max}
 use Rattle.std.proofs.lemmas.Bool.Decides.{nat_tests}
@@ -17,7 +17,7 @@ max_above a b = grind (arith, nat_tests)
 abbrev pub until : ℕ → ClassRange → ClassRange
 until end r = record { start = r.start; end = end }
 
--- more runs behind the last
+-- more runs after the last
 pub runs_append : (n : ℕ) (a b : List ClassRange) (last : ClassRange) → AreRuns n (a ++ last ∷ []) → AreRuns (next_character last.end + 1) b
     → AreRuns n ((a ++ last ∷ []) ++ b)
 runs_append n [] b last p q = (p.0, p.1, p.2, p.3, q)

@@ -42,7 +42,7 @@ kind_of_just word_boundary c same = absurd (false≢true same)
 kind_of_just (hexadecimal digits) c same = absurd (false≢true same)
 kind_of_just refused c same = absurd (false≢true same)
 
--- behind a backslash each of the characters that are escaped is itself
+-- after a backslash each of the characters that are escaped is itself
 stands_for_itself : (c : ℕ) → is_meta_character c ≡ true → gives (one c) ≡ escape_kind c
 stands_for_itself c meta =
     kind_of_just (escape_kind c) c

@@ -27,7 +27,7 @@ named_once t r s w v a b =
     let past = opening_once t a.past b.past a.opens b.opens in
     written_once a.past r s w v a.called (subst (λ u. NameWritten u s v) (sym past) b.called)
 
--- behind what stands before a name, the name is all that is left to read
+-- after what stands before a name, the name is all that is left to read
 pub past_opening : (t past rest name : Text) → NameOpening t past → Named t rest name → NameWritten past rest name
 past_opening t past rest name opens named =
     subst (λ u. NameWritten u rest name) (opening_once t named.past past named.opens opens) named.called

@@ -118,7 +118,7 @@ counts_of flags t opened rest least most greedy e (counted o e' k n g) =
 counts_of flags t opened rest least most greedy e (counted_lazy o past e' k q g) =
     (past, subst (λ u. Counted flags.ignore_whitespace u past least most) (same_tail (sym e' ∙ e)) k)
 
--- a counted operator, where no `?` stands past the gap behind it
+-- a counted operator, where no `?` stands past the gap after it
 pub counted_greedy : (flags : Flags) (t opened rest u : Text) (least : ℕ) (most : Option ℕ) (greedy : Bool)
     → t ≡ the "{" ∷ opened → Counted flags.ignore_whitespace opened rest least most
     → WholeGap flags.ignore_whitespace rest u → (Begins (the "?") u → ⊥) → greedy ≡ greed flags false

@@ -1,4 +1,4 @@
--- Behind each part of a pattern are no more `(` than from its beginning on, and no other characters.
+-- After each part of a pattern are no more `(` than from its beginning on, and no other characters.
 use Rattle.std.proofs.Common.{inl, inr, ◌≡◌, refl, sym, ap, subst, ℕ, zero, suc, ◌+◌, ◌≤◌, Bool, true, false, ◌==◌, List, [], ◌∷◌, ◌++◌, Option, if◌then◌else◌, arith}
 use Rattle.std.specs.List.{count_by}
 use Rattle.std.proofs.lemmas.List.Sums.{sum_by-cons}

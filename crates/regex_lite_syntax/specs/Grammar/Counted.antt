@@ -1,4 +1,4 @@
--- Counted operators, from behind the brace that opens them.
+-- Counted operators, from after the brace that opens them.
 use Rattle.std.specs.Prelude.{◌≡◌, ◌⊎◌, ℕ, ◌^◌, ◌<◌, ◌≤◌, Bool, true, false, not, [], ◌∷◌, length, Option, Some, None, IsTrue}
 use Rattle.regex_lite_syntax.specs.Text.{Text, Begins, the}
 use Rattle.regex_lite_syntax.specs.Characters.{is_white_space, is_digit, number_of}

@@ -19,7 +19,7 @@ pub(crate) struct Times {
     pub(crate) most: Option<u32>,
 }
 
-/// Reads a counted operator from behind its opening brace on, and answers the index behind it.
+/// Reads a counted operator from after its opening brace on, and answers the index after it.
 pub(crate) fn read_counted(
     chars: &[char],
     at: usize,
@@ -55,7 +55,7 @@ pub(crate) fn read_counted(
     }
 }
 
-/// Reads the limit, if there is one, from behind the comma on, and the brace that closes.
+/// Reads the limit, if there is one, from after the comma on, and the brace that closes.
 fn read_limit(chars: &[char], at: usize, verbose: bool) -> Result<(usize, Option<u32>), SyntaxFault>
     requires { at ≤ length chars.now }
     ensures inside { IfOk result (λ r. (at < r.0) × (r.0 ≤ length chars.now)) }
@@ -122,7 +122,7 @@ fn skip_side(chars: &[char], at: usize, verbose: bool) -> usize
     end
 }
 
-/// The value of the digit past the gap at the index, with the index behind it.
+/// The value of the digit past the gap at the index, with the index after it.
 fn next_digit(chars: &[char], at: usize, verbose: bool) -> Option<(usize, u32)>
     requires { at ≤ length chars.now }
     ensures inside { IfSome result (λ r. (at < r.0) × (r.0 ≤ length chars.now)) }

@@ -10,7 +10,7 @@ use crate::error::SyntaxFault;
 use crate::flags::Flags;
 use crate::parse::read::is_at;
 
-/// Reads a group's head from behind its `?` on, up to the `:` or `)` that ends it. Answers the
+/// Reads a group's head from after its `?` on, up to the `:` or `)` that ends it. Answers the
 /// index of that and the flags as the head changes them.
 pub(crate) fn read_head(
     chars: &[char],

@@ -13,7 +13,7 @@ use std::alloc::{AllocError, Global};
 use std::rc::RcStr;
 use unicode::properties::{GeneralCategory, is_alphabetic};
 
-/// Where a name begins: the index behind `?P<` or `?<`, if one of them stands there.
+/// Where a name begins: the index after `?P<` or `?<`, if one of them stands there.
 pub(crate) fn skip_name_opening(chars: &[char], at: usize) -> Option<usize>
     requires { at ≤ length chars.now }
     ensures inside { IfSome result (λ start. (at < start) × (start ≤ length chars.now)) }
@@ -33,7 +33,7 @@ pub(crate) fn skip_name_opening(chars: &[char], at: usize) -> Option<usize>
     None
 }
 
-/// Reads a name from behind the `<` on, and answers the index behind the `>` that ends it.
+/// Reads a name from after the `<` on, and answers the index after the `>` that ends it.
 pub(crate) fn read_name(chars: &[char], at: usize) -> Result<usize, SyntaxFault>
     requires { at ≤ length chars.now }
     ensures inside { IfOk result (λ end. (at < end) × (end ≤ length chars.now)) }
@@ -62,7 +62,7 @@ pub(crate) fn read_name(chars: &[char], at: usize) -> Result<usize, SyntaxFault>
 }
 
 /// The fault of what stands at the index in a name's place and begins none: `(?<=` and `(?<!` open
-/// a look-around, but nothing behind `(?P<` does.
+/// a look-around, but nothing after `(?P<` does.
 fn fault_of_start(chars: &[char], at: usize) -> SyntaxFault
     requires { at ≤ length chars.now }
 {

@@ -63,7 +63,7 @@ impl RegexListBuilder {
         }
     }
 
-    /// Adds a pattern behind the others, under the settings that hold now.
+    /// Adds a pattern after the others, under the settings that hold now.
     ///
     /// # Errors
     ///

@@ -38,7 +38,7 @@ impl<'r, 'h> ListGroupScan<'r, 'h> {
         Ok(ListGroupScan { scan })
     }
 
-    /// The groups of the next match with the number of their pattern, if one may come. Behind a
+    /// The groups of the next match with the number of their pattern, if one may come. After a
     /// refusal none comes.
     pub fn next(&mut self) -> Option<Result<(usize, Captures<'h>), Error>>
         ensures steps { GivesListGroupsOf self.old result self.new }

@@ -125,7 +125,7 @@ impl<'r, 'h> ListScan<'r, 'h> {
     }
 }
 
-/// The match behind the last one, or the first.
+/// The match after the last one, or the first.
 fn next_match<'h>(searcher: &mut ListSearcher<'_>, cursor: Cursor<'h>) -> Option<(usize, Match<'h>)>
     requires { IsBehindListAnswer searcher.old.list cursor }
     ensures next { TellsNextListMatch searcher.old.list cursor.entry.haystack.now
@@ -156,7 +156,7 @@ fn first_match<'h>(searcher: &mut ListSearcher<'_>, haystack: &'h str) -> Option
     searcher.find_at(haystack, 0)
 }
 
-/// The match behind one that ended at this offset, whichever pattern that was of.
+/// The match after one that ended at this offset, whichever pattern that was of.
 fn match_behind<'h>(
     searcher: &mut ListSearcher<'_>,
     haystack: &'h str,
@@ -177,7 +177,7 @@ fn match_behind<'h>(
     match_behind_empty(searcher, haystack, end)
 }
 
-/// The match behind the empty one at this offset, which is the first from the next character on.
+/// The match after the empty one at this offset, which is the first from the next character on.
 fn match_behind_empty<'h>(
     searcher: &mut ListSearcher<'_>,
     haystack: &'h str,

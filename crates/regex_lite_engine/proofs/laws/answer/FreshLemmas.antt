@@ -102,7 +102,7 @@ module _ {N : Type 0} (one_or_two : (a b : N) → (a ≡ b) ⊎ (a ≢ b)) where
         let rest = fresh_short (without n left) m ks fresh in
         omega (arith, less, rest)
 
-    -- arrow k leads to m, and what is behind it leads on from there
+    -- arrow k leads to m, and what is after it leads on from there
     on_from : (us : List ℕ) (n m b : N) (k l : ℕ) → step n k ≡ Some m → k ≡ l
         → Leads N step n (l ∷ us) b → Leads N step m us b
     on_from us n m b k l s e (next, t, along) =

@@ -7,7 +7,7 @@ use Rattle.regex_lite_engine.specs.Search.PreferenceList.{Entry}
 use Rattle.regex_lite_engine.specs.SearchLaws.{IsBefore}
 use Rattle.regex_lite_engine.proofs.laws.InLemmas.{In}
 
--- the walks have these ends and marks, each preferred to those behind it
+-- the walks have these ends and marks, each preferred to those after it
 abbrev pub Rank : (Walk : List ℕ → ℕ → Type 0) → (List ℕ → Marks) → List (List ℕ) → List Entry → Type 0
 Rank Walk marks [] [] = Unit {0}
 Rank Walk marks [] (e ∷ list) = ⊥

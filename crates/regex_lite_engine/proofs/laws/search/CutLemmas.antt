@@ -18,7 +18,7 @@ pub both_empty : (a b : List ℕ) → a ++ b ≡ [] → (a ≡ []) × (b ≡ [])
 both_empty [] b e = (refl, e)
 both_empty (x ∷ a) b e = absurd cc
 
--- a list with a last number is cut behind it, or before it
+-- a list with a last number is cut after it, or before it
 pub cut_snoc : (a b c : List ℕ) (k : ℕ) → a ++ b ≡ c ++ k ∷ []
     → ((b ≡ []) × (a ≡ c ++ k ∷ [])) ⊎ ((d : List ℕ) × (b ≡ d ++ k ∷ []) × (a ++ d ≡ c))
 cut_snoc [] b c k e = inr (c, e, refl)

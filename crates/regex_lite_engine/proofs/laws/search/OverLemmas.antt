@@ -42,7 +42,7 @@ module _ {A : Type 0} (haystack : Text) (place : A → Place A) where
       let moved = subst (λ z. Leads (A × ℕ) (step haystack place) z b y) one q in
       inr (e, before_preferred a b next x y before p over moved)
 
--- behind one start
+-- after one start
 pub behind_start : (i : ℕ) (a b : List ℕ) → NotAfter (i ∷ a) (i ∷ b) → (a ≡ b) ⊎ Before a b
 behind_start i a b (inl e) = inl (same_tail e)
 behind_start i a b (inr (inl less)) = absurd (omega (arith, less))

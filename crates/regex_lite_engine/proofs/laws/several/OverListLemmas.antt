@@ -14,7 +14,7 @@ use Rattle.regex_lite_engine.proofs.laws.LeadsLemmas.{same_some, leads_to_one}
 use Rattle.regex_lite_engine.proofs.laws.search.OverLemmas.{before_preferred}
 use Rattle.regex_lite_engine.proofs.laws.search.SearchLawLemmas.{search_law}
 
--- a way behind two starts that are told alike
+-- a way after two starts that are told alike
 abbrev Later : (i k j l : ℕ) → (a b : List ℕ) → Type 0
 Later i k j l a b = (i < j) ⊎ ((i ≡ j) × ((k < l) ⊎ ((k ≡ l) × NotAfter a b)))
 

@@ -13,7 +13,7 @@ no_piece template rest piece empty (two_dollars cut is) = absurd (cc)
 no_piece template rest piece empty (reference after name cut refer is) = absurd (cc)
 no_piece template rest piece empty (one_dollar cut single none is) = absurd (cc)
 
--- the interpolation of what is left behind an element that is no `$`
+-- the interpolation of what is left after an element that is no `$`
 module _ (groups : GroupTexts) where
   from_nothing : (template text : List ℕ) → template ≡ [] → IsInterpolation groups template text → text ≡ []
   from_nothing template text empty (nothing is given) = given

@@ -17,7 +17,7 @@ reads_grown s t h i j One grown (inl one) = inl one
 reads_grown s t h i j One grown (inr second) = inr (may_grown s t h (suc i) grown second)
 reads_grown s t h i j More grown second = may_grown s t h (suc i) grown second
 
--- the passes behind the first begin where it ends, or read nothing
+-- the passes after the first begin where it ends, or read nothing
 pub passes_read : (least : ℕ) (most : Option ℕ) (greedy : Bool) (body : Tree) (s t : Starts)
     (passable : Bool) → 0 < least → IsGrown s t → ReadsEach body s One
     → BeginsOrPasses body t passable → ReadsEach (repetition least most greedy body) t One
@@ -55,7 +55,7 @@ pub of_more : (s : Starts) (h : Text) (i j : ℕ) (head : Head) → (head ≡ On
 of_more s h i j head (inl is) second = subst (Reads s h i j) (sym is) (inr second)
 of_more s h i j head (inr is) second = subst (Reads s h i j) (sym is) second
 
--- behind one part more
+-- after one part more
 pub part_read : (a : Tree) (rest : Trees) (s t : Starts) (before after : Head) (h : Text) (i j : ℕ)
     → ((k m : ℕ) → Reads s h i k before → Matches h a k m → Reads t h i m after)
     → (k : ℕ) × Reads s h i k before × Chain h (more a rest) k j

@@ -32,7 +32,7 @@ kept_at_branches (entry ∷ entries) =
     let size = length-map entries (λ (q : ℕ). go q) in
     omega (arith, size)
 
--- the next place, and those behind it
+-- the next place, and those after it
 pub next_left : (f : Place ℕ → ℕ) (places : List code.Place) (i : ℕ) (d : code.Place)
     → i < length places
     → sum_by f (map place_of (drop i places))

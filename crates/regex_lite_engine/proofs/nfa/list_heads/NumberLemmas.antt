@@ -33,7 +33,7 @@ filter_all p a (suc n) all =
     (all a)
     ∙ ap (λ rest. a ∷ rest) (filter_all p (a + 1) n all)
 
--- the least that passes comes first, and behind it come the others
+-- the least that passes comes first, and after it come the others
 pub filter_first : (p q : ℕ → Bool) (a n z : ℕ) → a ≤ z → z < a + n → p z ≡ true → q z ≡ false
     → ((k : ℕ) → a ≤ k → k < z → p k ≡ false)
     → ((k : ℕ) → a ≤ k → k < a + n → (k ≡ z → ⊥) → q k ≡ p k)

@@ -96,7 +96,7 @@ and_off false x e = refl
 column_in : (c : ℕ) → column c < 129
 column_in c = grind (arith, nat_tests)
 
--- no pattern is behind the last
+-- no pattern is after the last
 pub none_starts_behind : (heads : ListHeads) → IsWalkable heads → (b : Option ℕ) (c : ℕ)
     (second : Option ℕ) (n : ℕ) → heads.count ≤ n → n < 64 * heads.rows.width
     → may_start heads b (Some c) second n ≡ false
@@ -120,7 +120,7 @@ none_starts_behind heads w b c second n low high = by_second second
         first_off
         ∙ start_off
 
--- none is listed behind the haystack's start where no match begins with both characters
+-- none is listed after the haystack's start where no match begins with both characters
 pub none_listed : (heads : ListHeads) → IsWalkable heads → (b : Option ℕ) (c : ℕ)
     (second : Option ℕ) → is_none b ≡ false → NeverBeginsWith heads c second
     → filter (may_start heads b (Some c) second) (range_with_len 0 heads.count) ≡ []
@@ -143,7 +143,7 @@ filter_at_most p a (suc n) = one_more (p a) (filter p (range_with_len (a + 1) n)
 
 module _ (p : ℕ → Bool) (count width : ℕ) (enough : count ≤ 64 * width)
     (none : (n : ℕ) → count ≤ n → n < 64 * width → p n ≡ false) where
-  -- behind the last there is nothing to list
+  -- after the last there is nothing to list
   pub all_words : filter p (range_with_len 0 (64 * width)) ≡ filter p (range_with_len 0 count)
   all_words =
       let total : 64 * width ≡ count + (64 * width - count) = omega (arith, enough) in

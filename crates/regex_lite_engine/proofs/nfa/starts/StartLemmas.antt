@@ -157,7 +157,7 @@ held_before n (r ∷ ranges) (suc k) c none runs within behind e =
     true_last true e = refl
     true_last false e = e
 
--- the ranges behind one that is not ASCII aren't either
+-- the ranges after one that is not ASCII aren't either
 pub past_ascii_begin : (s : Starts) (ranges : List ClassRange) (k c : ℕ) (none : ClassRange)
     → AreRuns 0 ranges → k < length ranges → is_ascii (get_or ranges k none).start ≡ false
     → begins_with s (get_or ranges k none).start ≡ true
@@ -243,7 +243,7 @@ repetition_begins least most greedy body s passable result by_body by_least each
 
 module _ (a : Tree) (rest : Trees) (s t : Starts) (passable : Bool) (grown : IsGrown s t)
     (first : BeginsOrPasses a t passable) (h : Text) (i j : ℕ) where
-  -- behind one part more
+  -- after one part more
   pub part_more : MayBegin s h i ⊎ Chain h (more a rest) i j
       → MayBegin t h i ⊎ (IsTrue passable × Chain h rest i j)
   part_more (inl begins) = inl (may_grown s t h i grown begins)
@@ -252,7 +252,7 @@ module _ (a : Tree) (rest : Trees) (s t : Starts) (passable : Bool) (grown : IsG
     | inr (p, same) ↦ inr (p, subst (λ z. Chain h rest z j) (sym same) on)
   ]
 
-  -- behind one branch more
+  -- after one branch more
   pub branch_more : (before after : Bool) → (IsTrue before → IsTrue after)
       → (IsTrue passable → IsTrue after)
       → MayBegin s h i ⊎ ((IsTrue before × (i ≡ j)) ⊎ SomeBranch h (more a rest) i j)

@@ -38,7 +38,7 @@ module _ (pre : Address) (greedy : Bool) (enter : Address → Address)
       → inside (part pre k) exit a ≡ Some place → Among (suc k ∷ a) (in_part k list)
   listed_part k exit a place e = among_part k a list (all (part pre k) exit a place e)
 
-  -- an address in the copies, or behind them
+  -- an address in the copies, or after them
   listed_copies : (n k : ℕ) (after : Address) (rest : ℕ → Address → Content) (c : ℕ) (a : Address)
       (place : Place Address) → row n k after rest c a ≡ Some place
       → Among (suc (k + c) ∷ a) (copies n k) ⊎ ((d : ℕ) × (c ≡ n + d) × (rest d a ≡ Some place))
@@ -150,7 +150,7 @@ module _ (pre : Address) (greedy : Bool) (enter : Address → Address)
       ]
   listed_exactly (suc n) exit a place e = absurd (cc)
 
-  -- an address in the copies that are needed, or in the others behind them
+  -- an address in the copies that are needed, or in the others after them
   listed_needed : (n d c : ℕ) (a : Address) (place : Place Address)
       → row n 0 (own pre 2) (turns (suc d) n 0) c a ≡ Some place
       → Among (suc c ∷ a) (copies n 0) ⊎ Among (suc c ∷ a) (choices (suc d) n 0)

@@ -85,7 +85,7 @@ module _ (by : Numbering) where
       → InRow pre n xs
   row_first pre n xs ys row = (row_split pre n xs ys row).0
 
-  -- the addresses behind others that have their places
+  -- the addresses after others that have their places
   pub row_behind : (pre : Address) (n : ℕ) (content : Address → Content) (xs ys : List Address)
       (ps : List (Place ℕ)) → AreAt content xs ps → InRow pre n (xs ++ ys)
       → InRow pre (n + length ps) ys
@@ -110,7 +110,7 @@ module _ (by : Numbering) where
       let inner = b.inside (part pre k) after in
       (one.0, part_at content inner k b.list (b.layout base exit).0 e one.1)
 
-  -- a body in part k, written behind what it leads to
+  -- a body in part k, written after what it leads to
   pub fits_before : (b : Body) (pre after : Address) (k base : ℕ) (content : Address → Content)
       (later : List Address) (rest : Fragment)
       → ((a : Address) → content (suc k ∷ a) ≡ b.inside (part pre k) after a)
@@ -124,7 +124,7 @@ module _ (by : Numbering) where
       let one = fits_part b pre after k now rest.1 content e fits.0 row_here in
       (one.0, both_at content later here rest.0 (b.layout now rest.1).0 fits.1 one.1)
 
-  -- places with one more behind them
+  -- places with one more after them
   pub fits_last : (pre : Address) (base : ℕ) (content : Address → Content) (list : List Address)
       (a : Address) (ps : List (Place ℕ)) (p : Place ℕ) → AreAt content list ps → IsAt content a p
       → InRow pre base (list ++ a ∷ [])

@@ -1,4 +1,4 @@
--- Patterns that are laid out one behind another are the patterns written out side by side, with
+-- Patterns that are laid out one after another are the patterns written out side by side, with
 -- numbers in the place of addresses; and their places and arrows add up.
 use Rattle.std.proofs.Common.{◌≡◌, ◌<◌, ◌≤◌, ◌-◌, refl, sym, ap, subst, ◌∙◌, arith, inl, inr, ℕ, zero, suc, ◌+◌, List, [], ◌∷◌, ◌++◌, length, get_or, slice_get, take, drop, length-append, Some, None, Option, map, option_map, nat_lt, true, false, if◌then◌else◌}
 use Rattle.std.proofs.Math.Seq.{take-append_seam, drop-append-add}

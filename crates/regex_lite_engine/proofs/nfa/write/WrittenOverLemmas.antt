@@ -4,7 +4,7 @@ use Rattle.std.proofs.Math.Seq.{set-append_seam}
 use Rattle.regex_lite_engine.specs.Graph.Places.{Place, choice}
 use Rattle.regex_lite_engine.specs.Nfa.Layout.{Fragment, star_layout}
 
--- behind the old places another one takes the place of the empty one
+-- after the old places another one takes the place of the empty one
 seam : (old now behind : List (Place ℕ)) (n : ℕ) (empty other : Place ℕ) → n ≡ length old
     → now ≡ old ++ (empty ∷ behind) → set now n other ≡ old ++ (other ∷ behind)
 seam old now behind n empty other at is =

@@ -1,4 +1,4 @@
--- Rows that lie one behind the other.
+-- Rows that lie one after the other.
 use Rattle.std.proofs.Common.{◌≡◌, ℕ, zero, suc, ◌+◌, ◌-◌, ◌*◌, ◌<◌, ◌≤◌, ◌⊎◌, inl, inr, List, [], ◌∷◌, ◌++◌, length, map, take, drop, set, slice_index_or, Option, refl, sym, ap, subst, ◌∙◌, arith, length-drop}
 use Rattle.std.specs.List.{range_with_len}
 use Rattle.std.proofs.lemmas.List.{drop-append-le, take-append-le, drop-take, take-take, length-take-le, drop-set-lt}
@@ -67,7 +67,7 @@ module _ (slots mid : Row) (w n : ℕ) (long : length mid ≡ w) (short : n * w 
       drop_none (suc i) = refl
   drop_more i (suc j) (x ∷ xs) = let same : suc (j + i) ≡ suc j + i = omega arith in drop_more i j xs ∙ ap (λ z. drop z (x ∷ xs)) same
 
-  -- a row behind it
+  -- a row after it
   row_behind : (k : ℕ) → n < k → row_at written w k ≡ row_at slots w k
   row_behind k lt =
       let room : suc n * w ≤ k * w = mul-le-mul_right w (omega (arith, lt)) in

@@ -6,7 +6,7 @@ use crate::nfa::list_heads::ListHeads;
 
 impl ListHeads {
     /// Whether a match of any pattern can begin with the character at this offset, as far as its
-    /// first byte and the byte behind it tell.
+    /// first byte and the byte after it tell.
     pub(crate) fn may_begin_at(&self, bytes: &[u8], at: usize) -> bool
         requires pairs { length self.now.pairs.items ≡ 128 }
         requires inside { at < length bytes.now }

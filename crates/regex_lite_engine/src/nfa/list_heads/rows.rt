@@ -21,7 +21,7 @@ const ROWS: usize = AT_START + 1;
 /// A bit for each pattern in each row.
 #[derive(Drop)]
 pub(crate) struct Rows {
-    /// One row behind another, the lowest number first.
+    /// One row after another, the lowest number first.
     words: Vec<u64>,
     /// How many words a row has.
     width: usize,

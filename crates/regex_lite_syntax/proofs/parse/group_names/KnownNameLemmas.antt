@@ -115,7 +115,7 @@ set_with set more name updates bytes = go (bytes_eq (rc_str_bytes name) bytes) r
         (λ x y. (eq_by_cmp_equiv nat_list_cmp_total).congr bytes (rc_str_bytes x) (rc_str_bytes y))
         (λ x. apart (rc_str_bytes name) bytes (rc_str_bytes x) differs)
 
--- a set to which a name is added knows the names with this one behind them
+-- a set to which a name is added knows the names with this one after them
 pub knows_more : (set more : BTreeSet (RcStr Global)) (given : List (RcStr Global)) (key last : RcStr Global)
     → Knows set given → rc_str_bytes last ≡ rc_str_bytes key
     → ((bytes : List ℕ) → set_has_name more bytes

@@ -17,7 +17,7 @@ pub(crate) struct Opening {
 }
 
 impl Opening {
-    /// The fault of a pattern that ends behind this.
+    /// The fault of a pattern that ends after this.
     pub(crate) fn unclosed(self) -> SyntaxFault {
         if self.dash {
             SyntaxFault::ClassUnclosedAfterDash

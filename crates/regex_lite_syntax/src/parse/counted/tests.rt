@@ -4,10 +4,10 @@ use crate::error::SyntaxFault;
 use std::alloc::Global;
 use std::test::Fail;
 
-/// What is read of the text behind an opening brace: the end and the bounds, or a fault.
+/// What is read of the text after an opening brace: the end and the bounds, or a fault.
 type Read = Result<(usize, Times), SyntaxFault>;
 
-/// Whether this is read of the text behind an opening brace.
+/// Whether this is read of the text after an opening brace.
 fn gives(alloc: Global, text: &str, verbose: bool, wanted: Read) -> Result<bool, Fail> {
     let chars: Vec<char> = text.chars().collect(alloc)?;
     Ok(read_counted(&chars, 0, verbose) == wanted)

@@ -11,7 +11,7 @@ use crate::hir::look::Look;
 use crate::parse::gap::skip_gap;
 use crate::parse::read::{char_at, is_at};
 
-/// Reads which look `\b` is, from behind it on. A brace may begin a counted operator, which
+/// Reads which look `\b` is, from after it on. A brace may begin a counted operator, which
 /// doesn't belong to it.
 pub(super) fn read_word_boundary(
     chars: &[char],
@@ -36,7 +36,7 @@ pub(super) fn read_word_boundary(
     }
 }
 
-/// Reads a name from behind the opening brace on, and the brace that closes.
+/// Reads a name from after the opening brace on, and the brace that closes.
 fn read_name(chars: &[char], at: usize, verbose: bool) -> Result<(usize, Look), SyntaxFault>
     requires { at ≤ length chars.now }
     ensures inside { IfOk result (λ r. (at ≤ r.0) × (r.0 ≤ length chars.now)) }

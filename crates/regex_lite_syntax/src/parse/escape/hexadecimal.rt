@@ -11,7 +11,7 @@ use crate::parse::read::char_at;
 /// The number of the last character.
 const LAST: u32 = 0x10_FFFF;
 
-/// Reads a character by its number, from behind the letter that asks for so many digits on.
+/// Reads a character by its number, from after the letter that asks for so many digits on.
 pub(super) fn read_hexadecimal(
     chars: &[char],
     at: usize,
@@ -70,7 +70,7 @@ fn read_fixed(
     }
 }
 
-/// Reads the digits from behind an opening brace on, and the brace that closes.
+/// Reads the digits from after an opening brace on, and the brace that closes.
 fn read_braced(chars: &[char], at: usize, verbose: bool) -> Result<(usize, char), SyntaxFault>
     requires { at ≤ length chars.now }
     ensures inside { IfOk result (λ r. (at ≤ r.0) × (r.0 ≤ length chars.now)) }

@@ -6,10 +6,10 @@ use crate::hir::look::Look;
 use std::alloc::Global;
 use std::test::Fail;
 
-/// What is read of the text behind a backslash: the end and what it gives, or a fault.
+/// What is read of the text after a backslash: the end and what it gives, or a fault.
 type Read = Result<(usize, Primitive), SyntaxFault>;
 
-/// Whether this is read of the text behind a backslash.
+/// Whether this is read of the text after a backslash.
 fn gives(alloc: Global, text: &str, verbose: bool, wanted: Read) -> Result<bool, Fail> {
     let chars: Vec<char> = text.chars().collect(alloc)?;
     Ok(read_escape(&chars, 0, verbose) == wanted)

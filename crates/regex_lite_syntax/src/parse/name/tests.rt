@@ -4,7 +4,7 @@ use crate::error::SyntaxFault;
 use std::alloc::Global;
 use std::test::Fail;
 
-/// Texts from behind a `<` on, where the names end, and the names.
+/// Texts from after a `<` on, where the names end, and the names.
 const NAMES: [(&str, usize, &str); 8] = [
     ("_>z", 2, "_"),
     ("a>", 2, "a"),
@@ -24,7 +24,7 @@ fn read_names(rt: HostRuntime) -> Result<(), Fail> {
     Ok(())
 }
 
-/// Whether the text from behind a `<` on is this name, and ends there.
+/// Whether the text from after a `<` on is this name, and ends there.
 fn has_name(alloc: Global, text: &str, end: usize, wanted: &str) -> Result<bool, Fail> {
     let chars: Vec<char> = text.chars().collect(alloc)?;
     let Ok(found) = read_name(&chars, 0) else {
@@ -34,7 +34,7 @@ fn has_name(alloc: Global, text: &str, end: usize, wanted: &str) -> Result<bool,
     Ok(found == end && name.as_str() == wanted)
 }
 
-/// Texts from behind a `<` on, and the faults.
+/// Texts from after a `<` on, and the faults.
 static REFUSED: [(&str, SyntaxFault); 13] = [
     ("", SyntaxFault::MissingGroupName),
     (">z", SyntaxFault::EmptyGroupName),
@@ -60,7 +60,7 @@ fn refused_names(rt: HostRuntime) -> Result<(), Fail> {
     Ok(())
 }
 
-/// Why the text from behind a `<` on is refused, if it is.
+/// Why the text from after a `<` on is refused, if it is.
 fn fault_of_name(alloc: Global, text: &str) -> Result<Option<SyntaxFault>, Fail> {
     let chars: Vec<char> = text.chars().collect(alloc)?;
     Ok(read_name(&chars, 0).err())
@@ -84,7 +84,7 @@ fn look_around(rt: HostRuntime) -> Result<(), Fail> {
     Ok(())
 }
 
-/// Why the text from behind a `(` on is refused, if it is.
+/// Why the text from after a `(` on is refused, if it is.
 fn fault_of_group(alloc: Global, text: &str) -> Result<Option<SyntaxFault>, Fail> {
     let chars: Vec<char> = text.chars().collect(alloc)?;
     match skip_name_opening(&chars, 0) {
@@ -93,7 +93,7 @@ fn fault_of_group(alloc: Global, text: &str) -> Result<Option<SyntaxFault>, Fail
     }
 }
 
-/// Texts from behind a `(` on, and where the names begin.
+/// Texts from after a `(` on, and where the names begin.
 const OPENINGS: [(&str, Option<usize>); 12] = [
     ("?<a>", Some(2)),
     ("?P<a>", Some(3)),
