@@ -34,7 +34,7 @@ pub record IsReplacedBy (text : List ℕ) (a : Ahead) (new : List ℕ) : Type 0 
   pub replaced :
       new ≡ replaced_by text a.haystack 0 (map (found_span (chars a.haystack)) found)
 
--- A replacer is known by two relations: what it answers where it is asked for a fixed text, and
+-- A replacer is known by two relations: what it returns where it is asked for a fixed text, and
 -- what it appends for groups, and answers
 module _ {R : Type 0} (Fixed : R → Option (List ℕ) → R → Type 0)
     (Appends : R → Groups → List ℕ → Answer → R → Type 0) where

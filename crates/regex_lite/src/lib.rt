@@ -14,7 +14,7 @@
 //!
 //! The test `tests::examples::whole_crate` runs this example.
 //!
-//! Whatever takes memory is given the allocator, and answers an [`Error`] of the kind
+//! Whatever takes memory is given the allocator, and returns an [`Error`] of the kind
 //! [`ErrorKind::Memory`] where a growth is refused. No call panics.
 //!
 //! What a pattern means is stated in `specs/`: the grammar says which tree a pattern stands for,

@@ -143,7 +143,7 @@ impl Parser {
         self.below.len() > nest_limit as usize
     }
 
-    /// Reads what stands at the index, past the gap, and answers the index after it.
+    /// Reads what stands at the index, past the gap, and returns the index after it.
     fn step(&mut self, chars: &[char], at: usize) -> Result<usize, Error>
         requires inside { at < length chars.now }
         requires past_gap { EndsGap self.old.here.flags.ignore_whitespace (drop at chars.now) }

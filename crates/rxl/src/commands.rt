@@ -12,7 +12,7 @@ use regex_lite::{Captures, Error, Match, Regex, escape};
 use std::alloc::Global;
 use std::io::Write;
 
-/// Prints where the matches are, and answers whether there is one.
+/// Prints where the matches are, and returns whether there is one.
 pub(crate) fn print_matches<W: Write>(
     regex: &Regex,
     haystack: &str,
@@ -35,7 +35,7 @@ pub(crate) fn print_matches<W: Write>(
     Ok(has_match)
 }
 
-/// Prints where the groups of the matches are, and answers whether there is a match.
+/// Prints where the groups of the matches are, and returns whether there is a match.
 pub(crate) fn print_captures<W: Write>(
     regex: &Regex,
     haystack: &str,

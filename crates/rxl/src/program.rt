@@ -21,7 +21,7 @@ use std::alloc::Global;
 use std::io::{Read, Write};
 use std::str;
 
-/// Runs the program on its arguments, without the program's own name, and answers its exit
+/// Runs the program on its arguments, without the program's own name, and returns its exit
 /// status: 0 where what was asked for is found, 1 where it isn't there, and 2 after a fault, which
 /// is one line on `err`.
 ///

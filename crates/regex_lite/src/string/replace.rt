@@ -89,7 +89,7 @@ impl Regex {
     ///
     /// # Errors
     ///
-    /// `Memory` where a growth is refused, and the error that the replacer answers for one of the
+    /// `Memory` where a growth is refused, and the error that the replacer returns for one of the
     /// matches that are replaced. It may have been asked for some of them by then.
     pub fn replacen<'h, R: Replacer>(
         &self,

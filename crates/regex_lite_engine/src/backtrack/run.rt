@@ -13,7 +13,7 @@ use crate::backtrack::walk::Walk;
 use crate::pikevm::here::Here;
 use crate::pikevm::skip::pass_over;
 
-/// Goes from start to start, up to the first from which a way leads to a match. Answers where the
+/// Goes from start to start, up to the first from which a way leads to a match. Returns where the
 /// match starts and where it ends; its slots are those of the walk.
 pub fn run(walk: &mut Walk, graph: &Graph, haystack: &str, start: usize) -> Option<(usize, usize)>
     requires boundary { IsCharBoundary haystack.now start }

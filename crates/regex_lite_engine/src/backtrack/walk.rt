@@ -23,7 +23,7 @@ pub struct Walk {
 impl Walk {
     ghost use Rattle.regex_lite_engine.specs.Backtrack.Searching.{Explores, SlotsBelow, Unwinds};
 
-    /// Follows the ways from the start at this offset, the most preferred first. Answers where the
+    /// Follows the ways from the start at this offset, the most preferred first. Returns where the
     /// first of them that is a match ends.
     pub fn explore(&mut self, graph: &Graph, haystack: &str, start: usize) -> Option<usize>
         requires room { HasRoom (table_of graph.now) haystack.now self.old

@@ -100,7 +100,7 @@ impl Writer {
         Ok(Writer { alloc, places })
     }
 
-    /// Adds a place, and answers its number.
+    /// Adds a place, and returns its number.
     fn add(&mut self, place: Place) -> Result<u32, AllocError>
         requires { length self.old + 1 < 2 ^ 32 }
         ensures number { IfOk result (λ number. number ≡ length self.old) }
@@ -120,7 +120,7 @@ impl Writer {
     }
 
     /// Adds the places of a whole pattern: the one where its match is complete, and then the tree
-    /// with those of group 0 round it. Answers where it is entered.
+    /// with those of group 0 round it. Returns where it is entered.
     fn write_pattern(&mut self, hir: &Hir) -> Result<u32, AllocError>
         requires room { length self.old + whole_places (tree_of hir.now) < 2 ^ 32 }
         requires slots { greatest_index (tree_of hir.now) < 2 ^ 31 }
@@ -134,7 +134,7 @@ impl Writer {
         self.write_capture(0, hir, end)
     }
 
-    /// Adds the places of the tree, which lead on to `exit`, and answers where they are entered.
+    /// Adds the places of the tree, which lead on to `exit`, and returns where they are entered.
     #[cycle(write)]
     fn write(&mut self, hir: &Hir, exit: u32) -> Result<u32, AllocError>
         requires room { length self.old + places (tree_of hir.now) < 2 ^ 32 }
@@ -168,7 +168,7 @@ impl Writer {
         }
     }
 
-    /// Writes a group: the place that closes it, its body, the place that opens it. Answers the
+    /// Writes a group: the place that closes it, its body, the place that opens it. Returns the
     /// place where it is entered.
     #[cycle(write)]
     fn write_capture(&mut self, index: u32, body: &Hir, exit: u32) -> Result<u32, AllocError>
@@ -191,7 +191,7 @@ impl Writer {
         })
     }
 
-    /// Writes the parts of a concatenation, the last one first. Answers the place where the
+    /// Writes the parts of a concatenation, the last one first. Returns the place where the
     /// first is entered.
     #[cycle(write)]
     fn write_concat(&mut self, parts: &[Hir], exit: u32) -> Result<u32, AllocError>
@@ -210,7 +210,7 @@ impl Writer {
         Ok(next)
     }
 
-    /// Writes alternatives: the join after them, the branches in order, the choice. Answers the
+    /// Writes alternatives: the join after them, the branches in order, the choice. Returns the
     /// choice.
     #[cycle(write)]
     fn write_alternation(&mut self, branches: &[Hir], exit: u32) -> Result<u32, AllocError>

@@ -14,7 +14,7 @@ use crate::pikevm::turn::Cache;
 
 impl<S: Beginning> Cache<S> {
     /// Goes on from here to the next position at which there is something to do, and over it.
-    /// Answers that position.
+    /// Returns that position.
     pub fn pass<P: Patterns>(&mut self, patterns: &mut P, haystack: &str, here: Here) -> Here
         requires { (s p : ℕ) × IsHere (chars haystack.now) p here
             × CanCount (P.table patterns.old) (length (P.entries patterns.old))

@@ -17,7 +17,7 @@ impl<S: Beginning> Memory<S> {
         self.len
     }
 
-    /// Takes up a thread of the position: its row is that which is followed. Answers its place, and
+    /// Takes up a thread of the position: its row is that which is followed. Returns its place, and
     /// what is kept of where its way began.
     pub fn load(&mut self, k: usize) -> (u32, S)
         requires { k < length self.old.threads }

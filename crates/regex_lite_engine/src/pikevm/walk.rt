@@ -24,7 +24,7 @@ pub struct Walk<S: Beginning> {
 
 impl<S: Beginning> Walk<S> {
     /// Takes up a thread of the position, or one of its own starts after them: the row is that
-    /// which is followed. Answers the place to explore, and what is kept of where the way began.
+    /// which is followed. Returns the place to explore, and what is kept of where the way began.
     pub fn take_up<P: Patterns>(&mut self, k: usize, patterns: &P, at: usize) -> (u32, S)
         requires { k < length self.old.memory.threads + length (P.starts patterns.now) }
         ensures thread { thread_at (self.old.memory.threads

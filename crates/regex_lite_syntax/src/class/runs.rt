@@ -9,7 +9,7 @@ use super::ClassRange;
 use super::neighbours::next_char;
 use std::alloc::AllocError;
 
-/// Joins ranges whose starts are in order to runs that stand in front, and answers how many runs
+/// Joins ranges whose starts are in order to runs that stand in front, and returns how many runs
 /// there are.
 pub(crate) fn join_all(ranges: &mut [ClassRange]) -> usize
     requires { IsNonDecreasingBy (λ range. range.start) ranges.old }
@@ -23,7 +23,7 @@ pub(crate) fn join_all(ranges: &mut [ClassRange]) -> usize
     runs
 }
 
-/// Adds the range, which starts no earlier than any of the runs in front, and answers how many
+/// Adds the range, which starts no earlier than any of the runs in front, and returns how many
 /// there are then.
 fn join(ranges: &mut [ClassRange], runs: usize, range: ClassRange) -> usize
     requires inside { runs < length ranges.old }

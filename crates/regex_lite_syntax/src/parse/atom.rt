@@ -24,7 +24,7 @@ use crate::parse::bracket::read_class;
 use crate::parse::escape::{Primitive, read_escape};
 use std::alloc::{AllocError, Global};
 
-/// Reads the item that stands at the index, which is no group, and answers the index after it.
+/// Reads the item that stands at the index, which is no group, and returns the index after it.
 pub(crate) fn read_atom(
     alloc: Global,
     chars: &[char],

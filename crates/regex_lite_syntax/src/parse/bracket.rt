@@ -23,7 +23,7 @@ use opening::read_opening;
 use set::{class_of, push_item, push_opening};
 use std::alloc::Global;
 
-/// Reads a class from its opening bracket on, and answers the index after it and its set.
+/// Reads a class from its opening bracket on, and returns the index after it and its set.
 pub(crate) fn read_class(
     alloc: Global,
     chars: &[char],

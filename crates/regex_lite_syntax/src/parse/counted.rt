@@ -19,7 +19,7 @@ pub(crate) struct Times {
     pub(crate) most: Option<u32>,
 }
 
-/// Reads a counted operator from after its opening brace on, and answers the index after it.
+/// Reads a counted operator from after its opening brace on, and returns the index after it.
 pub(crate) fn read_counted(
     chars: &[char],
     at: usize,

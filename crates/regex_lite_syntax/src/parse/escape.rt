@@ -41,7 +41,7 @@ enum Meaning {
     Refused,
 }
 
-/// Reads an escape from after its backslash on, and answers the index after it.
+/// Reads an escape from after its backslash on, and returns the index after it.
 pub(crate) fn read_escape(
     chars: &[char],
     at: usize,

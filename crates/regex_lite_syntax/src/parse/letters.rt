@@ -10,7 +10,7 @@ use crate::error::SyntaxFault;
 use crate::flags::Flags;
 use crate::parse::read::is_at;
 
-/// Reads a group's head from after its `?` on, up to the `:` or `)` that ends it. Answers the
+/// Reads a group's head from after its `?` on, up to the `:` or `)` that ends it. Returns the
 /// index of that and the flags as the head changes them.
 pub(crate) fn read_head(
     chars: &[char],
@@ -44,7 +44,7 @@ fn other_head(chars: &[char], at: usize) -> Option<SyntaxFault>
     }
 }
 
-/// Reads flags up to the `:` or `)` that ends them. Answers the index of that and the flags as
+/// Reads flags up to the `:` or `)` that ends them. Returns the index of that and the flags as
 /// these change them.
 fn read_flags(chars: &[char], at: usize, old: Flags) -> Result<(usize, Flags), SyntaxFault>
     requires { at ≤ length chars.now }

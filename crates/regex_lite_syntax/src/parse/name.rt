@@ -33,7 +33,7 @@ pub(crate) fn skip_name_opening(chars: &[char], at: usize) -> Option<usize>
     None
 }
 
-/// Reads a name from after the `<` on, and answers the index after the `>` that ends it.
+/// Reads a name from after the `<` on, and returns the index after the `>` that ends it.
 pub(crate) fn read_name(chars: &[char], at: usize) -> Result<usize, SyntaxFault>
     requires { at ≤ length chars.now }
     ensures inside { IfOk result (λ end. (at < end) × (end ≤ length chars.now)) }

@@ -12,7 +12,7 @@ use regex_lite_syntax::Hir;
 use std::alloc::AllocError;
 
 impl Writer {
-    /// Adds the places of a repetition, which lead on to `exit`, and answers where they are
+    /// Adds the places of a repetition, which lead on to `exit`, and returns where they are
     /// entered.
     #[cycle(write)]
     pub(super) fn write_repetition(

@@ -32,7 +32,7 @@ pub(crate) enum Item {
     Range { start: char, end: char },
 }
 
-/// Reads an item, and answers the index after it. No `]` stands at the index.
+/// Reads an item, and returns the index after it. No `]` stands at the index.
 pub(crate) fn read_item(
     chars: &[char],
     at: usize,
@@ -86,7 +86,7 @@ fn operator_fault(chars: &[char], at: usize) -> Option<SyntaxFault>
     }
 }
 
-/// Reads one character or one escape, and answers the index after it.
+/// Reads one character or one escape, and returns the index after it.
 fn read_element(chars: &[char], at: usize, verbose: bool) -> Result<(usize, Primitive), SyntaxFault>
     requires inside { at < length chars.now }
     requires past_gap { EndsGap verbose (drop at chars.now) }
@@ -142,7 +142,7 @@ fn find_range_end(chars: &[char], at: usize, verbose: bool) -> Result<Option<usi
     }
 }
 
-/// Reads the end of a range that starts with this primitive, and answers the index after it.
+/// Reads the end of a range that starts with this primitive, and returns the index after it.
 fn read_range(
     chars: &[char],
     first: Primitive,

@@ -31,7 +31,7 @@ impl Opening {
     }
 }
 
-/// Reads what a class begins with, from its bracket on, and answers the index of what follows.
+/// Reads what a class begins with, from its bracket on, and returns the index of what follows.
 pub(crate) fn read_opening(chars: &[char], at: usize, verbose: bool) -> (usize, Opening)
     requires inside { at < length chars.now }
     requires begins { drop at chars.now ≡ the "[" ∷ drop (at + 1) chars.now }
@@ -53,7 +53,7 @@ pub(crate) fn read_opening(chars: &[char], at: usize, verbose: bool) -> (usize, 
     (start, opening)
 }
 
-/// Passes this character with the gap after it, and answers whether it stands there.
+/// Passes this character with the gap after it, and returns whether it stands there.
 fn take(chars: &[char], at: usize, c: char, verbose: bool) -> (usize, bool)
     requires inside { at ≤ length chars.now }
     requires past_gap { EndsGap verbose (drop at chars.now) }
@@ -68,7 +68,7 @@ fn take(chars: &[char], at: usize, c: char, verbose: bool) -> (usize, bool)
     }
 }
 
-/// Passes all dashes, each with the gap after it, and answers whether any stand there.
+/// Passes all dashes, each with the gap after it, and returns whether any stand there.
 fn take_dashes(chars: &[char], at: usize, verbose: bool) -> (usize, bool)
     requires inside { at ≤ length chars.now }
     requires past_gap { EndsGap verbose (drop at chars.now) }
