@@ -1,12 +1,14 @@
 //! What the patterns of a list take together.
-ghost use Rattle.std.specs.Prelude.{◌≡◌, ◌^◌, ◌≤◌, map, IfOk, IfErr};
+ghost use Rattle.std.specs.Prelude.{◌≡◌, ◌^◌, ◌*◌, ◌+◌, ◌≤◌, IfOk, IfErr};
 ghost use Rattle.regex_lite_syntax.specs.declared.error.LimitFault.TheVariants.{Places};
-ghost use Rattle.regex_lite_syntax.specs.Tree.Views.{tree_of};
-ghost use Rattle.regex_lite_engine.specs.Graph.SideBySide.{AreRegular, places_of_all};
-ghost use Rattle.regex_lite_engine.specs.Nfa.Totals.{AreTotalsOf};
+ghost use Rattle.regex_lite_syntax.specs.Tree.{Tree};
+ghost use Rattle.regex_lite_syntax.specs.Tree.Regular.{IsRegular};
+ghost use Rattle.regex_lite_engine.specs.Graph.PlaceCounts.{whole_places};
+ghost use Rattle.regex_lite_engine.specs.Nfa.Saturation.{AreCountsOf};
+ghost use Rattle.regex_lite_engine.specs.Nfa.Totals.{AreTotalsWith};
 
 use crate::nfa::count::Counts;
-use regex_lite_syntax::{Hir, LimitFault};
+use regex_lite_syntax::LimitFault;
 
 /// What whole patterns take together, where their places can be numbered.
 #[derive(Clone, Copy)]
@@ -17,38 +19,36 @@ pub(crate) struct Totals {
     pub(crate) reading: usize,
 }
 
-/// What no pattern at all takes.
-const NONE: Totals = Totals {
-    places: 0,
-    arrows: 0,
-    reading: 0,
-};
-
 impl Totals {
-    /// What the patterns of these trees take together.
+    /// What no pattern at all takes.
+    pub(crate) const NONE: Totals = Totals {
+        places: 0,
+        arrows: 0,
+        reading: 0,
+    };
+
+    /// What these patterns take with one more, which has these counts.
     ///
     /// # Errors
     ///
     /// `Places` where they have more places than can be numbered.
-    pub(crate) fn of(hirs: &[Hir]) -> Result<Totals, LimitFault>
-        requires { AreRegular (map tree_of hirs.now) }
-        ensures ok { IfOk result (λ totals. AreTotalsOf (map tree_of hirs.now) totals) }
-        ensures refused { IfErr result
-            (λ fault. (fault ≡ Places) × (2 ^ 32 ≤ places_of_all (map tree_of hirs.now))) }
+    pub(crate) fn with(self, counts: &Counts) -> Result<Totals, LimitFault>
+        requires counted { (tree : Tree) × IsRegular tree × AreCountsOf tree counts.now }
+        requires few_arrows { self.arrows ≤ 2 * self.places }
+        requires few_reading { self.reading ≤ self.places }
+        ensures ok { (tree : Tree) → IsRegular tree → AreCountsOf tree counts.now
+            → IfOk result (AreTotalsWith self tree) }
+        ensures refused { (tree : Tree) → AreCountsOf tree counts.now → IfErr result
+            (λ fault. (fault ≡ Places) × (2 ^ 32 ≤ self.places + whole_places tree)) }
     {
-        let mut totals = NONE;
-        for hir in hirs {
-            let counts = Counts::of(hir);
-            let own = counts.places.saturating_add(3);
-            let Ok(places) = u32::try_from(own.saturating_add(u64::from(totals.places))) else {
-                return Err(LimitFault::Places);
-            };
-            totals = Totals {
-                places,
-                arrows: totals.arrows + counts.arrows(),
-                reading: totals.reading + counts.reading(),
-            };
-        }
-        Ok(totals)
+        let own = counts.places.saturating_add(3);
+        let Ok(places) = u32::try_from(own.saturating_add(u64::from(self.places))) else {
+            return Err(LimitFault::Places);
+        };
+        Ok(Totals {
+            places,
+            arrows: self.arrows + counts.arrows(),
+            reading: self.reading + counts.reading(),
+        })
     }
 }

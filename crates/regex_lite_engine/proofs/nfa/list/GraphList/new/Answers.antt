@@ -15,7 +15,7 @@ write_all-requires-clause-slots c = λ k d less. (c.requires.fit k d less).1.slo
 pub new-table-requires-clause-closed : goal.new-table-requires-clause-closed
 new-table-requires-clause-closed c =
     let trees = map tree_of c.args.hirs.now in
-    let totals = c.in_ok-totals.ensures.ok in
+    let totals = c.in_ok-totals.ensures.totals in
     let few : places_of_all trees < 2 ^ 32 = omega (arith, totals.places) in
     closed trees c.requires.regular c.in_ok-places.places.items c.in_ok-places.ensures.written
     c.in_ok-totals.totals.arrows c.in_ok-totals.totals.reading few totals.arrows totals.reading
@@ -23,7 +23,7 @@ new-table-requires-clause-closed c =
 pub new-table-requires-clause-each_arrow : goal.new-table-requires-clause-each_arrow
 new-table-requires-clause-each_arrow c =
     ap arrows_of c.in_ok-places.ensures.written
-    ∙ arrows_add_up (map tree_of c.args.hirs.now) 0 ∙ sym c.in_ok-totals.ensures.ok.arrows
+    ∙ arrows_add_up (map tree_of c.args.hirs.now) 0 ∙ sym c.in_ok-totals.ensures.totals.arrows
 
 pub invariant_of-result : goal.invariant_of-result
 invariant_of-result c =
@@ -38,7 +38,7 @@ invariant_of-result c =
       omega (
         arith,
         few_entries trees regular places table_is entries entries_are,
-        c.in_ok-totals.ensures.ok.places,
+        c.in_ok-totals.ensures.totals.places,
       ),
       listed_heads trees regular (name trees regular places table_is)
           (places_of c.new-table.result) entries (written trees regular places table_is)
@@ -65,6 +65,6 @@ returns-clause-ok c =
       places = ap (λ (t : StoredTable). length t.places) c.new-table.ensures
           ∙ c.in_ok-places.ensures.length;
       arrows = ap (λ (t : StoredTable). t.arrows) c.new-table.ensures
-          ∙ c.in_ok-totals.ensures.ok.arrows;
+          ∙ c.in_ok-totals.ensures.totals.arrows;
       each_arrow = ap arrows_of table_is ∙ arrows_add_up trees 0;
     }

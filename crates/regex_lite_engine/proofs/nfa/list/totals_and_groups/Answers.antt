@@ -1,0 +1,78 @@
+use Rattle.std.proofs.Common.{◌≡◌, ◌<◌, ◌+◌, ◌^◌, ◌∷◌, [], ◌∙◌, ap, sym, subst, arith, List, Some, drop, length, length-append, map, slice_get}
+use Rattle.std.proofs.lemmas.List.Sums.{sum_by-cons}
+use Rattle.regex_lite_syntax.specs.Tree.Views.{tree_of}
+use Rattle.regex_lite_engine.specs.Graph.PlaceCounts.{whole_places, whole_arrows, reading_places}
+use Rattle.regex_lite_engine.specs.Graph.SideBySide.{places_of_all, arrows_of_all}
+use Rattle.regex_lite_engine.specs.Graph.StoredList.{StoredGroups, TellGroupsOf}
+use Rattle.regex_lite_engine.specs.Nfa.Totals.{reading_of_all}
+use Rattle.regex_lite_engine.proofs.nfa.count.TotalLemmas.{tree_there, trees_left}
+use Rattle.regex_lite_engine.proofs.nfa.list.GroupLemmas.{told_more}
+use Rattle.regex_lite_engine.proofs.nfa.list.totals_and_groups.Goals as goal
+
+pub with-requires-clause-counted : goal.with-requires-clause-counted
+with-requires-clause-counted c =
+    let k = c.loop-hir.hir-index in
+    let hir = c.hir-item.result in (
+      tree_of hir,
+      c.requires k (tree_of hir)
+          (tree_there c.args.hirs.now k hir c.loop-hir-test.true c.hir-item.is),
+      c.of-counts.ensures,
+    )
+
+pub of-requires-clause-few : goal.of-requires-clause-few
+of-requires-clause-few c =
+    let k = c.loop-hir.hir-index in
+    let hir = c.hir-item.result in
+    let regular = c.requires k (tree_of hir)
+    (tree_there c.args.hirs.now k hir c.loop-hir-test.true c.hir-item.is) in
+    let more = c.in_ok-totals.ensures.ok (tree_of hir) regular c.of-counts.ensures in
+    omega (arith, more.places)
+
+pub loop-hir-preserved : goal.loop-hir-preserved
+loop-hir-preserved c =
+    let hirs = c.args.hirs.now in
+    let trees = map tree_of hirs in
+    let k = c.loop-hir.hir-index in
+    let hir = c.hir-item.result in
+    let tree = tree_of hir in
+    let rest = map tree_of (drop (k + 1) hirs) in
+    let v = c.loop-hir.invariant in
+    let there = tree_there hirs k hir c.loop-hir-test.true c.hir-item.is in
+    let more = c.in_ok-totals.ensures.ok tree (c.requires k tree there) c.of-counts.ensures in
+    let left = trees_left hirs k hir c.loop-hir-test.true c.hir-item.is in
+    let before = c.loop-hir.groups.items in
+    let next : slice_get trees (length before) ≡ Some tree = ap (slice_get trees) v.all ∙ there in
+    let pushed = c.in_ok-push.ensures.items in
+    record {
+      places = omega (
+        arith,
+        more.places,
+        sum_by-cons whole_places tree rest,
+        ap places_of_all left,
+        v.places,
+      );
+      arrows = omega (
+        arith,
+        more.arrows,
+        sum_by-cons whole_arrows tree rest,
+        ap arrows_of_all left,
+        v.arrows,
+      );
+      reading = omega (
+        arith,
+        more.reading,
+        sum_by-cons reading_places tree rest,
+        ap reading_of_all left,
+        v.reading,
+      );
+      few_arrows = more.few_arrows;
+      few_reading = more.few_reading;
+      all = omega (
+        arith,
+        ap length pushed,
+        length-append before (c.in_ok-of.field-0 ∷ []),
+        v.all,
+      );
+      each = subst (λ groups. TellGroupsOf trees groups) (sym {A = List StoredGroups} pushed)
+          (told_more trees before tree c.in_ok-of.field-0 next c.in_ok-of.ensures v.each);
+    }

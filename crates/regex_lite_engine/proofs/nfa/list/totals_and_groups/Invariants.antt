@@ -1,0 +1,20 @@
+use Rattle.std.proofs.Common.{◌≡◌, ◌+◌, ◌*◌, ◌≤◌, drop, length, map}
+use Rattle.regex_lite_syntax.specs.Tree.Views.{tree_of}
+use Rattle.regex_lite_engine.specs.Graph.SideBySide.{places_of_all, arrows_of_all}
+use Rattle.regex_lite_engine.specs.Graph.StoredList.{TellGroupsOf}
+use Rattle.regex_lite_engine.specs.Nfa.Totals.{reading_of_all}
+use Rattle.regex_lite_engine.proofs.nfa.list.totals_and_groups.Given as goal
+
+-- with the patterns that are left these are the totals of all
+abbrev pub invariant-loop-hir : goal.invariant-loop-hir
+invariant-loop-hir l =
+    let left = map tree_of (drop l.hir-index l.hirs) in
+    let trees = map tree_of l.hirs in record {
+      places : l.totals.places + places_of_all left ≡ places_of_all trees;
+      arrows : l.totals.arrows + arrows_of_all left ≡ arrows_of_all trees;
+      reading : l.totals.reading + reading_of_all left ≡ reading_of_all trees;
+      few_arrows : l.totals.arrows ≤ 2 * l.totals.places;
+      few_reading : l.totals.reading ≤ l.totals.places;
+      all : length l.groups.items ≡ l.hir-index;
+      each : TellGroupsOf trees l.groups.items;
+    }
