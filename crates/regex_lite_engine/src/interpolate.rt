@@ -10,9 +10,6 @@ ghost use Rattle.regex_lite_syntax.specs.Characters.{number_of};
 ghost use Rattle.regex_lite_engine.specs.Interpolation.{BeginsWith, HasNoReference, IsReference, is_index, is_name_character, referred};
 ghost use Rattle.regex_lite_engine.specs.Interpolation.Pieces.{piece_of};
 
-#[cfg(test)]
-mod tests;
-
 /// A piece of a template.
 #[derive(Clone, Copy, PartialEq, Eq, Debug)]
 pub enum Piece<'t> {

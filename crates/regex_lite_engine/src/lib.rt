@@ -14,8 +14,6 @@ pub mod laws;
 mod nfa;
 mod pikevm;
 mod search;
-#[cfg(test)]
-mod tests;
 
 pub use nfa::Graph;
 pub use nfa::groups::Groups;

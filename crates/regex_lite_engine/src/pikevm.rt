@@ -29,8 +29,6 @@ pub(crate) mod skip;
 pub(crate) mod slot;
 mod stack;
 pub(crate) mod steps;
-#[cfg(test)]
-mod tests;
 mod threads;
 mod turn;
 mod walk;

@@ -7,9 +7,6 @@ ghost use Rattle.regex_lite_engine.specs.Search.Bounds.{characters_left};
 ghost use Rattle.regex_lite_engine.specs.Search.Offsets.{position_at};
 ghost use Rattle.regex_lite_engine.specs.Search.Outcomes.{IsOutcome, HasCost};
 
-#[cfg(test)]
-mod tests;
-
 use crate::Graph;
 use crate::pikevm::search::Outcome;
 use crate::pikevm::steps::Steps;

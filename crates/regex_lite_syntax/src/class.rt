@@ -10,8 +10,6 @@ pub(crate) mod letters;
 pub(crate) mod named;
 mod neighbours;
 mod runs;
-#[cfg(test)]
-mod tests;
 
 use ascii::map_of_ranges;
 use named::NamedSet;

@@ -13,8 +13,6 @@ mod flags;
 mod hir;
 pub mod laws;
 mod parse;
-#[cfg(test)]
-mod tests;
 
 pub use class::{Class, ClassRange};
 pub use error::{Error, ErrorKind, LimitFault, SyntaxFault};

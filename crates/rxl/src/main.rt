@@ -9,8 +9,6 @@ mod commands;
 mod fault;
 mod output;
 mod program;
-#[cfg(test)]
-mod tests;
 
 use fault::Fault;
 use program::run;

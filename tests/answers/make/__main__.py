@@ -55,7 +55,7 @@ LISTS = {
 }
 
 CRATES = ANSWERS / '../../crates'
-WALKS = CRATES / 'regex_lite_engine/src/search/tests/cases.rt'
+WALKS = CRATES / 'regex_lite_engine/tests/search/tests/cases.rt.txt'
 
 
 def picked_cases(files):

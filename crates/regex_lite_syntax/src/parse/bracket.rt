@@ -11,8 +11,6 @@ mod item;
 mod named;
 mod opening;
 mod set;
-#[cfg(test)]
-mod tests;
 
 use crate::class::{Class, ClassRange};
 use crate::error::Error;

@@ -5,9 +5,6 @@ ghost use Rattle.regex_lite_syntax.specs.Characters.{is_digit, digit_value};
 ghost use Rattle.regex_lite_syntax.specs.Grammar.Gaps.{Gap};
 ghost use Rattle.regex_lite_syntax.specs.Grammar.Counted.{WholeSide, Number, EndsNumber, Limit, Counted};
 
-#[cfg(test)]
-mod tests;
-
 use crate::error::SyntaxFault;
 use crate::parse::gap::{is_white_space_char, skip_gap};
 use crate::parse::read::char_at;

@@ -9,8 +9,6 @@ ghost use Rattle.regex_lite_syntax.specs.Parser.Readings.{primitive_of, escape_k
 
 mod boundary;
 mod hexadecimal;
-#[cfg(test)]
-mod tests;
 
 use crate::class::named::NamedSet;
 use crate::error::SyntaxFault;

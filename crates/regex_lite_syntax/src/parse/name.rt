@@ -4,9 +4,6 @@ ghost use Rattle.regex_lite_syntax.specs.Text.{Text};
 ghost use Rattle.regex_lite_syntax.specs.Grammar.GroupNames.{begins_name, continues_name, NameWritten, NameOpening, Named};
 ghost use Rattle.regex_lite_syntax.specs.Tree.Views.{text_of_name, names_of};
 
-#[cfg(test)]
-mod tests;
-
 use crate::error::SyntaxFault;
 use crate::parse::read::{char_at, is_at};
 use std::alloc::{AllocError, Global};

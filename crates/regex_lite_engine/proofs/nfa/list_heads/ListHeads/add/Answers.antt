@@ -1,12 +1,10 @@
-use Rattle.std.proofs.Common.{◌≡◌, ◌==◌, ◌<◌, ◌≤◌, ◌*◌, ◌&&◌, ◌||◌, ◌∷◌, [], ℕ, true, map, nat_lt, length, slice_get, Vec, Global, ap, sym, subst, ◌∙◌, arith}
-use Rattle.std.proofs.lemmas.Bool.Decides.{nat_tests}
+use Rattle.std.proofs.Common.{◌==◌, ◌<◌, ◌*◌, ◌&&◌, ◌||◌, ◌∷◌, [], map, length, ap, sym, subst, ◌∙◌, arith}
 use Rattle.std.proofs.lemmas.List.{map-append}
 use Rattle.regex_lite_engine.specs.Nfa.ListHeads.{begins_with_pair, belongs, has, has_pair, IsSized}
 use Rattle.regex_lite_engine.specs.Nfa.Starts.{IsUnion, IsUnionOf}
 use Rattle.regex_lite_engine.specs.declared.nfa.heads.Heads.{Heads}
 use Rattle.regex_lite_engine.specs.declared.nfa.list_heads.ListHeads.{ListHeads}
 use Rattle.regex_lite_engine.specs.declared.nfa.list_heads.rows.Rows.{Rows}
-use Rattle.regex_lite_engine.specs.declared.nfa.list_heads.ascii_set.AsciiSet.{AsciiSet}
 use Rattle.regex_lite_engine.proofs.nfa.heads.UnionLemmas.{any_with, union_with}
 use Rattle.regex_lite_engine.proofs.nfa.list_heads.IndexLemmas.{belongs_with}
 use Rattle.regex_lite_engine.proofs.nfa.list_heads.ListHeads.add.Goals as goal

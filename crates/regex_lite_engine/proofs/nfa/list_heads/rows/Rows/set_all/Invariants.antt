@@ -1,4 +1,4 @@
-use Rattle.std.proofs.Common.{◌≡◌, ◌==◌, ◌<◌, ◌*◌, ◌-◌, ◌&&◌, ◌||◌, ℕ, true, length}
+use Rattle.std.proofs.Common.{◌≡◌, ◌==◌, ◌<◌, ◌*◌, ◌&&◌, ◌||◌, ℕ, true, length}
 use Rattle.regex_lite_engine.specs.Nfa.ListHeads.{has, is_in_column}
 use Rattle.regex_lite_engine.proofs.nfa.list_heads.rows.Rows.set_all.Given as goal
 
