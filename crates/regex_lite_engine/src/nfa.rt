@@ -151,10 +151,10 @@ impl Graph {
     }
 
     /// What blocks of bytes are compared with before these.
-    pub(crate) fn prefilter(&self) -> Option<Prefilter>
-        ensures { IfSome result (IsPrefilterOf self.now.heads) }
+    pub(crate) fn prefilter(&self) -> &Option<Prefilter>
+        ensures { IfSome result.now (IsPrefilterOf self.now.heads) }
     {
-        self.prefilter
+        &self.prefilter
     }
 
     /// How many places there are.

@@ -19,9 +19,9 @@ const BLOCK: usize = 32;
 const NEAR: usize = 16;
 
 /// The next position from here on at which a match can begin, or the haystack's end.
-pub fn pass_over(heads: &Heads, prefilter: Option<Prefilter>, haystack: &str, here: Here) -> Here
+pub fn pass_over(heads: &Heads, prefilter: &Option<Prefilter>, haystack: &str, here: Here) -> Here
     requires here { (p : ℕ) × IsHere (chars haystack.now) p here }
-    requires prefilter { IfSome prefilter (IsPrefilterOf heads.now) }
+    requires prefilter { IfSome prefilter.now (IsPrefilterOf heads.now) }
     ensures passes { (p : ℕ) → IsHere (chars haystack.now) p here
         → PassesTo (NeverBegins heads.now (chars haystack.now)) (chars haystack.now) p result }
     ensures stops { may_begin heads.now.first result.before result.after ≡ true }
@@ -59,9 +59,9 @@ fn may_go_on(heads: &Heads, bytes: &[u8], at: usize) -> bool
 /// The first offset from this one on of a byte that tells of no passing, or the end.
 // Not inlined, since the loop of a search is so large that this one would lose its registers.
 #[inline(never)]
-fn next_offset(heads: &Heads, prefilter: Option<Prefilter>, bytes: &[u8], from: usize) -> usize
+fn next_offset(heads: &Heads, prefilter: &Option<Prefilter>, bytes: &[u8], from: usize) -> usize
     requires inside { from ≤ length bytes.now }
-    requires prefilter { IfSome prefilter (IsPrefilterOf heads.now) }
+    requires prefilter { IfSome prefilter.now (IsPrefilterOf heads.now) }
     ensures low { from ≤ result }
     ensures high { result ≤ length bytes.now }
     ensures passed { (k : ℕ) → from ≤ k → k < result → IsPassed heads.now bytes.now k }
@@ -80,9 +80,9 @@ fn next_offset(heads: &Heads, prefilter: Option<Prefilter>, bytes: &[u8], from: 
 
 /// The first offset from this one on, as far as the prefilter tells, of a byte with which a first
 /// character may begin, or the end.
-fn next_first(heads: &Heads, prefilter: Option<Prefilter>, bytes: &[u8], from: usize) -> usize
+fn next_first(heads: &Heads, prefilter: &Option<Prefilter>, bytes: &[u8], from: usize) -> usize
     requires inside { from ≤ length bytes.now }
-    requires prefilter { IfSome prefilter (IsPrefilterOf heads.now) }
+    requires prefilter { IfSome prefilter.now (IsPrefilterOf heads.now) }
     ensures low { from ≤ result }
     ensures high { result ≤ length bytes.now }
     ensures passed { (k : ℕ) → from ≤ k → k < result → IsPassed heads.now bytes.now k }
@@ -97,7 +97,7 @@ fn next_first(heads: &Heads, prefilter: Option<Prefilter>, bytes: &[u8], from: u
     if at < near {
         return at;
     }
-    let block = next_block(prefilter, bytes, near);
+    let block = next_block(*prefilter, bytes, near);
     next_stop(&heads.first, bytes, block, bytes.len())
 }
 
