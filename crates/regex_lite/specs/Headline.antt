@@ -40,8 +40,8 @@ pub record ListHeadline (all : List Settings) (haystack : List ℕ) (start : ℕ
   -- what an error says is so of the lowest pattern that fails, or where none does of them all
   pub refused : IfErr result (λ error.
       (error ≡ out_of_memory) ⊎ (IsDueToLowest all error ⊎ IsDueToAll all error))
-  -- the answer is the least start of any pattern, the lowest number of a pattern that matches from
-  -- there, and that pattern's own groups, or that there is none
+  -- the answer begins where the first match of any pattern does, and is that of the pattern with
+  -- the lowest number that matches from there, with its own groups; or there is none
   pub answer : IfOk result
       (λ told. TellsGroupsOfList (map expression_of all) haystack start told.0)
   -- the search tried at most (arrows + patterns) × (characters left + 1) places

@@ -1,7 +1,7 @@
--- Where to begin: Headline has the whole promise on one page. Expression says what is built, what is refused and what a regex tells, and
--- Searches what the searches tell. RegexList and RegexListSearches say the same of several patterns
--- at once. Templates says what a template gives for the groups of a match, and Escapes which
--- pattern is made of a text.
+-- Where to begin: Headline has the whole promise on one page. Expression says what is built, what
+-- is refused and what a regex tells, and Searches what the searches tell. RegexList and
+-- RegexListSearches say the same of several patterns at once. Templates says what a template gives
+-- for the groups of a match, and Escapes which pattern is made of a text.
 pub mod Headline
 pub mod Settings
 pub mod Expression

@@ -1,6 +1,6 @@
 //! What this library is for, in two contracts, and laws of what searches tell, of lists, pieces and
-//! replacements, of escaped texts and of equality. A function of a law does nothing: its contract is
-//! the law.
+//! replacements, of escaped texts and of equality. A function of a law does nothing: its contract
+//! is the law.
 ghost use Rattle.std.specs.Cmp.{IsEquivalence};
 ghost use Rattle.regex_lite.specs.Headline.{Headline, ListHeadline};
 ghost use Rattle.regex_lite.specs.Laws.{EnoughGroupsTakePart, EscapedTextsAreRefusedForSize, EscapedTextsMatchThemselves, GroupsLieInside, MatchesAreTheirSpans, SearchesAgree};
@@ -12,8 +12,8 @@ ghost use Rattle.regex_lite.specs.Searches.{CanStartAt};
 
 use crate::{Captures, Error, RegexBuilder, RegexListBuilder, Replacer, Steps};
 
-/// The whole promise of this library for one pattern, by public calls alone: the regex is built, and
-/// the counted search tells the groups of the match from the start on, and its cost.
+/// The whole promise of this library for one pattern, by public calls alone: the regex is built,
+/// and the counted search tells the groups of the match from the start on, and its cost.
 ///
 /// Condition: the start is above the haystack's length or on a character boundary.
 ///

@@ -88,7 +88,8 @@ impl ListHeads {
     fn add_rows(&mut self, number: usize, heads: &Heads)
         requires room { number < self.old.count }
         requires sized { IsSized self.old.rows self.old.count }
-        ensures set { (r n : ℕ) → r < row_count → n < 64 * self.old.rows.width → has self.new.rows r n
+        ensures set { (r n : ℕ) → r < row_count → n < 64 * self.old.rows.width
+            → has self.new.rows r n
             ≡ (has self.old.rows r n || (n == number && belongs heads.now r)) }
         ensures width { self.new.rows.width ≡ self.old.rows.width }
         ensures all { length self.new.rows.words.items ≡ length self.old.rows.words.items }

@@ -110,7 +110,8 @@ fn list_starts(list: &GraphList, haystack: &str, here: Here, numbers: &mut Vec<u
 fn keep_by_third(heads: &ListHeads, haystack: &str, second: Here, numbers: &mut Vec<u32>)
     requires { (p : ℕ) × IsHere (chars haystack.now) p second }
     ensures kept { (p : ℕ) → IsHere (chars haystack.now) p second
-        → numbers.new.items ≡ filter (may_go_on heads.now.thirds (after (chars haystack.now) (suc p)))
+        → numbers.new.items
+        ≡ filter (may_go_on heads.now.thirds (after (chars haystack.now) (suc p)))
         numbers.old.items }
     ensures capacity { vec_capacity numbers.old ≤ vec_capacity numbers.new }
 {

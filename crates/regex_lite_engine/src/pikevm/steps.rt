@@ -46,7 +46,8 @@ impl Steps {
     /// What two searches did together. More than can be counted counts as much as can be.
     pub(crate) fn plus(&self, other: &Steps) -> Steps
         ensures tried { result.tried ≡ min (self.now.tried + other.now.tried) (2 ^ 128 - 1) }
-        ensures entered { result.entered ≡ min (self.now.entered + other.now.entered) (2 ^ 128 - 1) }
+        ensures entered { result.entered
+            ≡ min (self.now.entered + other.now.entered) (2 ^ 128 - 1) }
         ensures looked { result.looked ≡ min (self.now.looked + other.now.looked) (2 ^ 128 - 1) }
     {
         Steps {

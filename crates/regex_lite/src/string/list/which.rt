@@ -12,8 +12,8 @@ use regex_lite_syntax::Error;
 impl RegexList {
     /// Which of the patterns match somewhere in the haystack.
     ///
-    /// Each pattern is searched for by itself, up to the first match that the search comes to, all in
-    /// the same memory.
+    /// Each pattern is searched for by itself, up to the first match that the search comes to, all
+    /// in the same memory.
     ///
     /// ```
     /// let list = RegexList::new(alloc, &["[0-9]+", "[a-z]+", "sam"])?;

@@ -59,7 +59,8 @@ impl Rows {
         requires number { number < 64 * self.old.width }
         requires all { length self.old.words.items ≡ row_count * self.old.width }
         ensures set { (r n : ℕ) → n < 64 * self.old.width → has self.new r n
-            ≡ (has self.old r n || (n == number && is_in_column (begins_with starts.now) base 129 r)) }
+            ≡ (has self.old r n
+            || (n == number && is_in_column (begins_with starts.now) base 129 r)) }
         ensures width { self.new.width ≡ self.old.width }
         ensures all { length self.new.words.items ≡ length self.old.words.items }
     {

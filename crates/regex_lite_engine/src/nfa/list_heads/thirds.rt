@@ -47,7 +47,8 @@ impl Thirds {
 
     /// Leaves those of these patterns that may have this third character.
     pub(crate) fn keep(&self, third: char, numbers: &mut Vec<u32>)
-        ensures kept { numbers.new.items ≡ filter (may_go_on self.now (Some third)) numbers.old.items }
+        ensures kept { numbers.new.items
+            ≡ filter (may_go_on self.now (Some third)) numbers.old.items }
         ensures capacity { vec_capacity numbers.new ≡ vec_capacity numbers.old }
     {
         numbers.retain(|number| self.may_go_on(*number, third));
