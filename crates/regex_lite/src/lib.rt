@@ -12,7 +12,7 @@
 //! regex.is_match("frodo")?; // false
 //! ```
 //!
-//! The test `tests::examples::whole_crate` runs this example.
+//! The test `examples::whole_crate` in tests/unit runs this example.
 //!
 //! Whatever takes memory is given the allocator, and returns an [`Error`] of the kind
 //! [`ErrorKind::Memory`] where a growth is refused. No call panics.
@@ -41,6 +41,3 @@ pub use string::{
     ListMatches, Match, Matches, NoExpand, Regex, RegexBuilder, RegexList, RegexListBuilder,
     ReplaceBy, Replacer, ReplacerRef, SetMatches, Split, SplitN, SubCaptureMatches, Text,
 };
-
-#[cfg(test)]
-mod tests;

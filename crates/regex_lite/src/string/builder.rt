@@ -28,7 +28,7 @@ use std::marker::Model;
 /// regex.is_match("ababc")?; // true
 /// ```
 ///
-/// The test `tests::examples::builder` runs this example.
+/// The test `examples::builder` in tests/unit runs this example.
 #[derive(Debug, Drop)]
 pub struct RegexBuilder {
     pub(super) alloc: Global,
@@ -84,7 +84,7 @@ impl RegexBuilder {
     /// assert!(rt; regex.is_match("FRODO")?);
     /// ```
     ///
-    /// The test `tests::examples::either_case` runs this example.
+    /// The test `examples::either_case` in tests/unit runs this example.
     pub fn case_insensitive(&mut self, yes: bool) -> &mut RegexBuilder
         ensures same_reference { result.ghost_name ≡ self.entry.ghost_name }
         ensures value { result.now ≡
@@ -104,7 +104,7 @@ impl RegexBuilder {
     /// assert!(rt; regex.is_match("frodo\nsam\n")?);
     /// ```
     ///
-    /// The test `tests::examples::every_line` runs this example.
+    /// The test `examples::every_line` in tests/unit runs this example.
     pub fn multi_line(&mut self, yes: bool) -> &mut RegexBuilder
         ensures same_reference { result.ghost_name ≡ self.entry.ghost_name }
         ensures value { result.now ≡
@@ -165,7 +165,7 @@ impl RegexBuilder {
     /// assert!(rt; regex.is_match("samwise")?);
     /// ```
     ///
-    /// The test `tests::examples::verbose` runs this example.
+    /// The test `examples::verbose` in tests/unit runs this example.
     pub fn ignore_whitespace(&mut self, yes: bool) -> &mut RegexBuilder
         ensures same_reference { result.ghost_name ≡ self.entry.ghost_name }
         ensures value { result.now ≡
@@ -187,7 +187,7 @@ impl RegexBuilder {
     /// assert!(rt; builder.nest_limit(3).build()?.is_match("c")?);
     /// ```
     ///
-    /// The test `tests::examples::depth` runs this example.
+    /// The test `examples::depth` in tests/unit runs this example.
     pub fn nest_limit(&mut self, limit: u32) -> &mut RegexBuilder
         ensures same_reference { result.ghost_name ≡ self.entry.ghost_name }
         ensures value { result.now ≡ record self.old { nest_limit = min limit (2 ^ 32 - 2) } }
@@ -209,7 +209,7 @@ impl RegexBuilder {
     /// assert!(rt; builder.size_limit(144).build()?.is_match("a")?);
     /// ```
     ///
-    /// The test `tests::examples::size` runs this example.
+    /// The test `examples::size` in tests/unit runs this example.
     pub fn size_limit(&mut self, limit: usize) -> &mut RegexBuilder
         ensures same_reference { result.ghost_name ≡ self.entry.ghost_name }
         ensures value { result.now ≡ record self.old { size_limit = limit } }

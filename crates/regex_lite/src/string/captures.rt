@@ -28,7 +28,7 @@ use std::ops::Deref;
 /// }
 /// ```
 ///
-/// The test `tests::examples::groups` runs this example.
+/// The test `examples::groups` in tests/unit runs this example.
 #[derive(Drop)]
 pub struct Captures<'h> {
     inner: CapturesIn<&'h str>,
@@ -97,7 +97,7 @@ impl<'h> Captures<'h> {
     /// }
     /// ```
     ///
-    /// The test `tests::examples::named_groups` runs this example.
+    /// The test `examples::named_groups` in tests/unit runs this example.
     pub fn name(&self, name: &str) -> Option<Match<'h>>
         ensures span { option_map span_of_match result ≡ named_span self.now name.now }
         ensures haystack { IfSome result (λ m. haystack_of_match m ≡ self.now.haystack) }
@@ -136,7 +136,7 @@ impl<'h> Captures<'h> {
     /// }
     /// ```
     ///
-    /// The test `tests::examples::group_texts` runs this example.
+    /// The test `examples::group_texts` in tests/unit runs this example.
     pub fn at(&self, i: usize) -> &'h str
         requires { IsSome (group_span self.now i) }
         ensures { Some result.now ≡ group_text self.now i }
@@ -160,7 +160,7 @@ impl<'h> Captures<'h> {
     /// }
     /// ```
     ///
-    /// The test `tests::examples::groups` makes this call.
+    /// The test `examples::groups` in tests/unit makes this call.
     pub fn at_name(&self, name: &str) -> &'h str
         requires { IsSome (named_span self.now name.now) }
         ensures { Some result.now ≡ named_text self.now name.now }

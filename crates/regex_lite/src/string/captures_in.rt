@@ -90,7 +90,7 @@ impl<T: Text> CapturesIn<T> {
     /// }
     /// ```
     ///
-    /// The test `tests::examples::extracted` runs this example.
+    /// The test `examples::extracted` in tests/unit runs this example.
     pub fn extract<const N: usize>(&self) -> (T, [T; N])
         requires { self.now.static_captures_len ≡ Some (N + 1) }
         ensures whole { Some (T.bytes result.0) ≡ group_text self.now 0 }

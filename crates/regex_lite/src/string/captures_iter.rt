@@ -23,7 +23,7 @@ impl Regex {
     /// }
     /// ```
     ///
-    /// The test `tests::examples::all_groups` runs this example.
+    /// The test `examples::all_groups` in tests/unit runs this example.
     ///
     /// # Errors
     ///

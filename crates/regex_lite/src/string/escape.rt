@@ -20,7 +20,7 @@ use std::alloc::Global;
 /// regex.is_match("it takes 325 or so days")?; // false
 /// ```
 ///
-/// The test `tests::examples::escaped` runs this example.
+/// The test `examples::escaped` in tests/unit runs this example.
 ///
 /// # Errors
 ///

@@ -25,7 +25,7 @@ impl<'h> Captures<'h> {
     /// }
     /// ```
     ///
-    /// The test `tests::examples::expanded` runs this example.
+    /// The test `examples::expanded` in tests/unit runs this example.
     ///
     /// # Errors
     ///

@@ -24,7 +24,7 @@ impl Regex {
     /// }
     /// ```
     ///
-    /// The test `tests::examples::all_matches` runs this example.
+    /// The test `examples::all_matches` in tests/unit runs this example.
     ///
     /// # Errors
     ///

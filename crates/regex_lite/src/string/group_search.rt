@@ -25,7 +25,7 @@ impl Regex {
     /// }
     /// ```
     ///
-    /// The test `tests::examples::captured` runs this example.
+    /// The test `examples::captured` in tests/unit runs this example.
     ///
     /// # Errors
     ///
@@ -76,7 +76,7 @@ impl Regex {
     /// locations.get(2); // Some((2, 4))
     /// ```
     ///
-    /// The test `tests::examples::read_groups` runs this example.
+    /// The test `examples::read_groups` in tests/unit runs this example.
     ///
     /// # Errors
     ///

@@ -65,7 +65,7 @@ impl RegexList {
     /// list.as_str(1); // Some("sam")
     /// ```
     ///
-    /// The test `tests::examples::lists::patterns` runs this example.
+    /// The test `examples::lists::patterns` in tests/unit runs this example.
     ///
     /// # Errors
     ///

@@ -22,7 +22,7 @@ use std::marker::Model;
 /// locations.get(2); // None
 /// ```
 ///
-/// The test `tests::examples::locations` runs this example.
+/// The test `examples::locations` in tests/unit runs this example.
 #[derive(Drop)]
 pub struct CaptureLocations {
     /// Slots 2k and 2k + 1 are the start and the end of group k.

@@ -80,7 +80,7 @@ impl<'h> Match<'h> {
     /// }
     /// ```
     ///
-    /// The test `tests::examples::matched_text` runs this example.
+    /// The test `examples::matched_text` in tests/unit runs this example.
     pub fn as_str(&self) -> &'h str
         ensures { result.now ≡ text_of_match self.now }
     {

@@ -19,7 +19,7 @@ impl Regex {
     /// Regex::new(alloc, "(a)(?<x>b)")?.captures_len(); // 3
     /// ```
     ///
-    /// The test `tests::examples::group_count` runs this example.
+    /// The test `examples::group_count` in tests/unit runs this example.
     pub fn captures_len(&self) -> usize
         ensures { OfTree self.now (λ tree. result ≡ captures_len tree) }
     {
@@ -36,7 +36,7 @@ impl Regex {
     /// names.nth(2); // Some(Some("x"))
     /// ```
     ///
-    /// The test `tests::examples::names` runs this example.
+    /// The test `examples::names` in tests/unit runs this example.
     pub fn capture_names(&self) -> CaptureNames<'_>
         ensures { OfTree self.now (AreNames (names_left result)) }
     {

@@ -44,7 +44,7 @@ impl Regex {
     /// regex.as_str(); // "a+"
     /// ```
     ///
-    /// The test `tests::examples::pattern` runs this example.
+    /// The test `examples::pattern` in tests/unit runs this example.
     ///
     /// # Errors
     ///
@@ -66,7 +66,7 @@ impl Regex {
     /// assert!(rt; regex.is_match("a")?);
     /// ```
     ///
-    /// The test `tests::examples::conversions` runs this example.
+    /// The test `examples::conversions` in tests/unit runs this example.
     pub fn from_str(alloc: Global, s: &str) -> Result<Regex, Error>
         ensures { Builds (default_settings s.now) result }
     {
@@ -80,7 +80,7 @@ impl Regex {
     /// assert!(rt; regex.is_match("a")?);
     /// ```
     ///
-    /// The test `tests::examples::conversions` runs this example.
+    /// The test `examples::conversions` in tests/unit runs this example.
     pub fn try_from(alloc: Global, s: &str) -> Result<Regex, Error>
         ensures { Builds (default_settings s.now) result }
     {
@@ -95,7 +95,7 @@ impl Regex {
     /// assert!(rt; regex.is_match("a")?);
     /// ```
     ///
-    /// The test `tests::examples::conversions` runs this example.
+    /// The test `examples::conversions` in tests/unit runs this example.
     pub fn try_from_string(alloc: Global, s: String) -> Result<Regex, Error>
         ensures { Builds (default_settings (string_bytes s)) result }
     {

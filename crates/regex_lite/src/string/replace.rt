@@ -25,7 +25,7 @@ impl Regex {
     /// regex.replace("7 of 9", "no. $0")?; // "no. 7 of 9"
     /// ```
     ///
-    /// The test `tests::examples::replacing::replaced_once` runs this example.
+    /// The test `examples::replacing::replaced_once` in tests/unit runs this example.
     pub fn replace<'h, R: Replacer>(&self, haystack: &'h str, rep: R) -> Result<CowStr<'h>, Error>
         requires { R.can_append rep }
         ensures replaced { IfOk result (λ text. IsReplacement R.fixed R.appends rep
@@ -49,7 +49,7 @@ impl Regex {
     /// regex.replace_all("ada lovelace", "$last, $first")?; // "lovelace, ada"
     /// ```
     ///
-    /// The test `tests::examples::replacing::replaced` runs this example.
+    /// The test `examples::replacing::replaced` in tests/unit runs this example.
     pub fn replace_all<'h, R: Replacer>(
         &self,
         haystack: &'h str,
@@ -80,7 +80,7 @@ impl Regex {
     /// regex.replacen("to be  or not", 2, "_")?; // "to_be_or not"
     /// ```
     ///
-    /// The test `tests::examples::replacing::replaced_within` runs this example.
+    /// The test `examples::replacing::replaced_within` in tests/unit runs this example.
     ///
     /// Condition: the replacer can append, which its ghost member `can_append` says. A
     /// [`ReplaceBy`](crate::ReplaceBy) can where its closure may be called on any groups, a

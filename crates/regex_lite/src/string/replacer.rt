@@ -82,7 +82,7 @@ impl<'a, R: Replacer> Replacer for ReplacerRef<'a, R> {
 /// regex.replace("5 dollars", NoExpand("$sum"))?; // "$sum"
 /// ```
 ///
-/// The test `tests::examples::replacing::not_expanded` runs this example.
+/// The test `examples::replacing::not_expanded` in tests/unit runs this example.
 #[derive(Clone, Copy, Debug)]
 pub struct NoExpand<'t>(pub &'t str);
 
@@ -112,7 +112,7 @@ impl<'t> Replacer for NoExpand<'t> {
 /// regex.replace_all("to be, or not", lengths)?; // "2 2, 2 3"
 /// ```
 ///
-/// The test `tests::examples::replacing::replaced_by_closure` runs this example.
+/// The test `examples::replacing::replaced_by_closure` in tests/unit runs this example.
 ///
 /// Condition: the closure may be called on any groups.
 #[derive(Drop)]

@@ -18,7 +18,7 @@ impl Regex {
     /// regex.is_match("a")?; // false
     /// ```
     ///
-    /// The test `tests::examples::search` runs this example.
+    /// The test `examples::search` in tests/unit runs this example.
     ///
     /// # Errors
     ///
@@ -64,7 +64,7 @@ impl Regex {
     /// }
     /// ```
     ///
-    /// The test `tests::examples::first_match` runs this example.
+    /// The test `examples::first_match` in tests/unit runs this example.
     ///
     /// # Errors
     ///
@@ -103,7 +103,7 @@ impl Regex {
     /// regex.shortest_match("aaaaa")?; // Some(1)
     /// ```
     ///
-    /// The test `tests::examples::least_end` runs this example.
+    /// The test `examples::least_end` in tests/unit runs this example.
     ///
     /// # Errors
     ///

@@ -21,7 +21,7 @@ impl Regex {
     /// }
     /// ```
     ///
-    /// The test `tests::examples::pieces` runs this example.
+    /// The test `examples::pieces` in tests/unit runs this example.
     ///
     /// # Errors
     ///
@@ -47,7 +47,7 @@ impl Regex {
     /// }
     /// ```
     ///
-    /// The test `tests::examples::first_pieces` runs this example.
+    /// The test `examples::first_pieces` in tests/unit runs this example.
     ///
     /// # Errors
     ///

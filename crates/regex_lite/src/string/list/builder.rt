@@ -24,7 +24,7 @@ use std::marker::Model;
 /// list.is_match("SAM")?; // false
 /// ```
 ///
-/// The test `tests::examples::lists::builder` runs this example.
+/// The test `examples::lists::builder` in tests/unit runs this example.
 #[derive(Debug, Drop)]
 pub struct RegexListBuilder {
     alloc: Global,

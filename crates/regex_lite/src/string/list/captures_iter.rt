@@ -23,7 +23,7 @@ impl RegexList {
     /// }
     /// ```
     ///
-    /// The test `tests::examples::lists::all_groups` runs this example.
+    /// The test `examples::lists::all_groups` in tests/unit runs this example.
     ///
     /// # Errors
     ///

@@ -25,7 +25,7 @@ impl RegexList {
     /// }
     /// ```
     ///
-    /// The test `tests::examples::lists::all_matches` runs this example.
+    /// The test `examples::lists::all_matches` in tests/unit runs this example.
     ///
     /// # Errors
     ///

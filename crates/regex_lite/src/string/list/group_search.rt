@@ -22,7 +22,7 @@ impl RegexList {
     /// }
     /// ```
     ///
-    /// The test `tests::examples::lists::captured` runs this example.
+    /// The test `examples::lists::captured` in tests/unit runs this example.
     ///
     /// # Errors
     ///

@@ -57,7 +57,7 @@ impl RegexList {
     /// }
     /// ```
     ///
-    /// The test `tests::examples::lists::first_match` runs this example.
+    /// The test `examples::lists::first_match` in tests/unit runs this example.
     ///
     /// # Errors
     ///

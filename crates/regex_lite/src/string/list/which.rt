@@ -23,7 +23,7 @@ impl RegexList {
     /// set.matched(2); // false
     /// ```
     ///
-    /// The test `tests::examples::lists::which` runs this example.
+    /// The test `examples::lists::which` in tests/unit runs this example.
     ///
     /// # Errors
     ///
