@@ -1,0 +1,204 @@
+/* Regular expressions for patterns and texts from strangers, for C and C++.
+ *
+ * A pattern of any kind is searched for in time that grows with the text alone: no pattern makes a
+ * search explode. What each call returns is proved; the file crates/regex_lite_c/src says what is
+ * proved of each, and README.md here has an example.
+ *
+ * Texts are bytes of UTF-8 with a length, and need no NUL at their end. Offsets count bytes. A
+ * match begins and ends between characters.
+ *
+ * WHAT A CALLER OWES. A call refuses, by a number, whatever it can see: bytes that are no UTF-8, an
+ * offset inside a character or above the length, a handle that holds nothing, an index that is too
+ * great, too little room. It can't see these, which are all that a caller has to take care of:
+ *
+ * 1. No pointer is null, also where a length is 0. A length is that of the memory at its pointer,
+ *    and below 2^63.
+ * 2. What a call writes to overlaps nothing else that the call is given.
+ * 3. A handle is begun by REGEX_LITE_NOTHING, changed by these calls alone and never copied.
+ *    Options are made by REGEX_LITE_DEFAULTS, and their flags are true or false.
+ * 4. A handle is used in one thread, from its building to its freeing. Different handles may be
+ *    used in different threads at once.
+ * 5. No call is made in a signal handler, nor in the forked child of a process with threads.
+ * 6. malloc, realloc and free are those of one allocator, and align to 16 bytes.
+ */
+#ifndef REGEX_LITE_H
+#define REGEX_LITE_H
+
+#include <stdbool.h>
+#include <stddef.h>
+#include <stdint.h>
+
+#ifdef __cplusplus
+extern "C" {
+#endif
+
+/* A handle: what holds a regex, or nothing. */
+typedef struct regex_lite {
+    void *place;
+} regex_lite;
+
+/* A handle that holds nothing. */
+#define REGEX_LITE_NOTHING {0}
+
+/* The settings under which a pattern is built. */
+typedef struct regex_lite_options {
+    bool case_insensitive;     /* letters match in either case: i */
+    bool multi_line;           /* ^ and $ match at every line: m */
+    bool dot_matches_new_line; /* . matches every character: s */
+    bool crlf;                 /* a carriage return ends a line too: R */
+    bool swap_greed;           /* greedy and lazy operators change places: U */
+    bool ignore_whitespace;    /* white space and comments are left out of the pattern: x */
+    uint32_t nest_limit;       /* how deep the pattern may nest */
+    size_t size_limit;         /* how large it may become, written out */
+} regex_lite_options;
+
+/* No flag, and the limits that the Rust crate has. */
+#define REGEX_LITE_DEFAULTS {false, false, false, false, false, false, 50, 10485760}
+
+/* A part of a text, from the offset of its first byte to that after its last. A group that took no
+ * part in a match has none: then both are 0. */
+typedef struct regex_lite_span {
+    bool is_there;
+    size_t start;
+    size_t end;
+} regex_lite_span;
+
+/* How far a walk over all matches of a text has come. */
+typedef struct regex_lite_walk {
+    bool is_begun;
+    size_t end;
+} regex_lite_walk;
+
+/* The start of a walk. */
+#define REGEX_LITE_START {false, 0}
+
+/* How matches are replaced. */
+typedef struct regex_lite_replacing {
+    size_t limit;    /* how many, from the first on; 0 stands for all */
+    bool is_literal; /* whether the template stands for itself, and a $ in it too */
+    size_t len;      /* how long the new text is: written by the call */
+} regex_lite_replacing;
+
+/* All matches, by what the template gives for their groups. */
+#define REGEX_LITE_ALL {0, false, 0}
+
+/* What a search cost, in places of the pattern written out. A number above 2^64 - 1 counts as
+ * that. */
+typedef struct regex_lite_cost {
+    uint64_t tried;   /* how often the search came to a place */
+    uint64_t entered; /* how often it entered one */
+    uint64_t looked;  /* how often it looked up what stands at one */
+} regex_lite_cost;
+
+/* What a call returns. Where it isn't REGEX_LITE_YES, nothing was written but what is said. */
+enum {
+    REGEX_LITE_NO = 0,            /* there is none */
+    REGEX_LITE_YES = 1,           /* there is one, and what is to be written was */
+    REGEX_LITE_NOTHING_HELD = 2,  /* the handle holds nothing */
+    REGEX_LITE_NOT_TEXT = 3,      /* the bytes are no UTF-8 */
+    REGEX_LITE_BAD_OFFSET = 4,    /* above the length, or inside a character */
+    REGEX_LITE_NO_ROOM = 5,       /* too little room: how much is needed was written */
+    REGEX_LITE_OUT_OF_MEMORY = 6, /* a request for memory was refused */
+    REGEX_LITE_NO_GROUP = 7,      /* no group has this index */
+    REGEX_LITE_SYNTAX = 10,       /* from here on of regex_lite_new: no such pattern */
+    REGEX_LITE_NESTING = 11,      /* deeper than the nest limit */
+    REGEX_LITE_GROUPS = 12,       /* more groups than can be numbered */
+    REGEX_LITE_SIZE = 13,         /* larger than the size limit */
+    REGEX_LITE_PLACES = 14,       /* more places than can be numbered */
+    REGEX_LITE_SLOTS = 15         /* more ends of groups than can be numbered */
+};
+
+/* Builds the regex of a pattern: REGEX_LITE_YES, and the handle holds it; else why not, and it
+ * holds nothing. What it held before is freed.
+ *
+ * What is wrong with a pattern is written to the message as far as that is said, and message_len is
+ * its length; a message that is longer than its room isn't written. No message has more than 100
+ * bytes. */
+uint32_t regex_lite_new(regex_lite *handle, const uint8_t *pattern, size_t pattern_len,
+                        const regex_lite_options *options, uint8_t *message, size_t message_room,
+                        size_t *message_len);
+
+/* Frees what the handle holds, if anything. */
+void regex_lite_free(regex_lite *handle);
+
+/* Writes the pattern: REGEX_LITE_YES, or REGEX_LITE_NO_ROOM. Its length is written either way. */
+uint32_t regex_lite_pattern(regex_lite *handle, uint8_t *room, size_t room_len, size_t *len);
+
+/* How many groups a match has, the whole match among them; 0 where nothing is held. */
+size_t regex_lite_groups(regex_lite *handle);
+
+/* How many groups at least take part in every match; 0 where that isn't known. */
+size_t regex_lite_static_groups(regex_lite *handle);
+
+/* Writes the name of a group: REGEX_LITE_YES or REGEX_LITE_NO_ROOM, with its length written either
+ * way; REGEX_LITE_NO where it has none, as the whole match has; or REGEX_LITE_NO_GROUP. */
+uint32_t regex_lite_group_name(regex_lite *handle, size_t index, uint8_t *room, size_t room_len,
+                               size_t *len);
+
+/* Writes the index of the group with a name: REGEX_LITE_YES, or REGEX_LITE_NO. */
+uint32_t regex_lite_group_index(regex_lite *handle, const uint8_t *name, size_t name_len,
+                                size_t *index);
+
+/* How many places the pattern has, written out, and how many arrows lead from place to place: a
+ * search tries at most (arrows + 1) * (characters + 1) places. 0 where nothing is held. */
+size_t regex_lite_places(regex_lite *handle);
+size_t regex_lite_arrows(regex_lite *handle);
+
+/* Whether the bytes are UTF-8. The calls below see to that themselves. */
+bool regex_lite_is_text(const uint8_t *bytes, size_t len);
+
+/* Whether the pattern matches somewhere from this offset on: REGEX_LITE_YES or REGEX_LITE_NO. Looks
+ * see the whole text: ^ doesn't match at the offset, unless that is 0. */
+uint32_t regex_lite_is_match(regex_lite *handle, const uint8_t *text, size_t len, size_t start);
+
+/* Writes the match that starts first from this offset on, of those the one that the pattern
+ * prefers: REGEX_LITE_YES, or REGEX_LITE_NO. */
+uint32_t regex_lite_find(regex_lite *handle, const uint8_t *text, size_t len, size_t start,
+                         regex_lite_span *span);
+
+/* The same, with what the search cost written too, where the answer is one of these two. */
+uint32_t regex_lite_find_counted(regex_lite *handle, const uint8_t *text, size_t len, size_t start,
+                                 regex_lite_span *span, regex_lite_cost *cost);
+
+/* Writes the least offset at which a match from this offset on ends. */
+uint32_t regex_lite_shortest(regex_lite *handle, const uint8_t *text, size_t len, size_t start,
+                             size_t *end);
+
+/* Writes the groups of the match that regex_lite_find writes, from the whole match on, and how many
+ * they are: REGEX_LITE_YES. With room for fewer it writes how many they are alone. */
+uint32_t regex_lite_captures(regex_lite *handle, const uint8_t *text, size_t len, size_t start,
+                             regex_lite_span *spans, size_t room, size_t *count);
+
+/* Writes the next matches of a text from left to right, as many as there is room for, and how many
+ * these are: REGEX_LITE_YES, or REGEX_LITE_NO where none is left. No two overlap.
+ *
+ * The walk is begun by REGEX_LITE_START, and goes on with the same handle and text. Each call reads
+ * the whole text once to see that it is UTF-8, so room for many matches is better. */
+uint32_t regex_lite_find_all(regex_lite *handle, const uint8_t *text, size_t len,
+                             regex_lite_walk *walk, regex_lite_span *spans, size_t room,
+                             size_t *count);
+
+/* Writes the groups of the matches that regex_lite_find_all writes, those of a match in a row, and
+ * how many matches these are: the groups of match i begin at i * regex_lite_groups. It writes as
+ * many as there is room for: REGEX_LITE_YES, REGEX_LITE_NO where none is left, or
+ * REGEX_LITE_NO_ROOM with room for fewer spans than a match has groups. */
+uint32_t regex_lite_captures_all(regex_lite *handle, const uint8_t *text, size_t len,
+                                 regex_lite_walk *walk, regex_lite_span *spans, size_t room,
+                                 size_t *count);
+
+/* Writes the text with its matches replaced, and its length to replacing->len: REGEX_LITE_YES, or
+ * REGEX_LITE_NO_ROOM with the length alone. In a template $1 or $name is a group, and $$ is a $. */
+uint32_t regex_lite_replace(regex_lite *handle, const uint8_t *text, size_t len,
+                            const uint8_t *replacement, size_t replacement_len,
+                            regex_lite_replacing *replacing, uint8_t *room, size_t room_len);
+
+/* Writes the pattern that means a text and nothing else, and its length: REGEX_LITE_YES, or
+ * REGEX_LITE_NO_ROOM with the length alone. */
+uint32_t regex_lite_escape(const uint8_t *text, size_t len, uint8_t *room, size_t room_len,
+                           size_t *pattern_len);
+
+#ifdef __cplusplus
+}
+#endif
+
+#endif

@@ -1,0 +1,99 @@
+/* Refuses each request for memory in turn, the first, then the second and so on: each call then
+ * returns what it returns with memory, or that it ran out of it, and nothing stays behind.
+ *
+ * It is linked with --wrap for malloc, realloc and free. */
+#include <regex_lite.h>
+#include <stdio.h>
+#include <stdlib.h>
+#include <string.h>
+
+#define TEXT(text) (const uint8_t *)(text), strlen(text)
+
+void *__real_malloc(size_t size);
+void *__real_realloc(void *old, size_t size);
+void __real_free(void *place);
+
+static long allowed; /* how many requests are still granted; below 0 all are */
+static long blocks;  /* how many blocks are in use */
+static long refused;
+
+static bool is_granted(void) {
+    if (allowed == 0) {
+        refused++;
+        return false;
+    }
+    if (allowed > 0) allowed--;
+    return true;
+}
+
+void *__wrap_malloc(size_t size) {
+    void *place = is_granted() ? __real_malloc(size) : NULL;
+    if (place != NULL) blocks++;
+    return place;
+}
+
+void *__wrap_realloc(void *old, size_t size) {
+    return is_granted() ? __real_realloc(old, size) : NULL;
+}
+
+void __wrap_free(void *place) {
+    if (place != NULL) blocks--;
+    __real_free(place);
+}
+
+/* Makes all calls that take memory, and returns how many returned what they shouldn't. */
+static int call_all(void) {
+    static const char text[] = "Mister Samwise, Sam";
+    regex_lite regex = REGEX_LITE_NOTHING;
+    regex_lite_options options = REGEX_LITE_DEFAULTS;
+    regex_lite_replacing all = REGEX_LITE_ALL;
+    regex_lite_walk walk = REGEX_LITE_START;
+    regex_lite_span spans[3];
+    regex_lite_cost cost;
+    uint8_t message[100], room[99];
+    uint32_t answers[9], others;
+    size_t n;
+    int wrong = 0;
+    answers[0] = regex_lite_new(&regex, TEXT("\\b(?<name>[Ss]am)(wise)?\\b"), &options, message,
+                                sizeof message, &n);
+    others = answers[0] == REGEX_LITE_YES ? REGEX_LITE_OUT_OF_MEMORY : REGEX_LITE_NOTHING_HELD;
+    answers[1] = regex_lite_is_match(&regex, TEXT(text), 0);
+    answers[2] = regex_lite_find(&regex, TEXT(text), 0, spans);
+    answers[3] = regex_lite_shortest(&regex, TEXT(text), 0, &n);
+    answers[4] = regex_lite_find_counted(&regex, TEXT(text), 0, spans, &cost);
+    answers[5] = regex_lite_captures(&regex, TEXT(text), 0, spans, 3, &n);
+    answers[6] = regex_lite_find_all(&regex, TEXT(text), &walk, spans, 3, &n);
+    answers[7] = regex_lite_replace(&regex, TEXT(text), TEXT("<$name>"), &all, room, sizeof room);
+    walk.is_begun = false;
+    answers[8] = regex_lite_captures_all(&regex, TEXT(text), &walk, spans, 3, &n);
+    for (int i = 0; i < 9; i++)
+        if (answers[i] != REGEX_LITE_YES &&
+            answers[i] != (i == 0 ? REGEX_LITE_OUT_OF_MEMORY : others)) {
+            printf("call %d: %u\n", i, (unsigned)answers[i]);
+            wrong++;
+        }
+    n = regex_lite_escape(TEXT("a.b"), room, sizeof room, &n);
+    if (n != REGEX_LITE_YES && n != REGEX_LITE_OUT_OF_MEMORY) wrong++;
+    regex_lite_free(&regex);
+    return wrong;
+}
+
+int main(void) {
+    long before = blocks, at;
+    for (at = 0;; at++) {
+        int wrong;
+        bool is_done;
+        refused = 0;
+        allowed = at;
+        wrong = call_all();
+        is_done = refused == 0;
+        allowed = -1;
+        if (wrong != 0 || blocks != before) {
+            printf("request %ld: %d wrong, %ld blocks left\n", at, wrong, blocks - before);
+            return 1;
+        }
+        if (is_done) break;
+    }
+    printf("refusals: each of %ld requests was refused, and nothing stayed behind\n", at);
+    return at < 10;
+}

@@ -1,0 +1,184 @@
+"""The library for C, and what its calls return."""
+
+from __future__ import annotations
+
+import ctypes
+import os
+import struct
+from ctypes import POINTER, byref, c_bool, c_char_p, c_size_t, c_uint32, c_void_p
+from pathlib import Path
+from typing import Callable, Iterator, List, Optional, Tuple
+
+NO, YES, NOTHING_HELD, NOT_TEXT, BAD_OFFSET, NO_ROOM, OUT_OF_MEMORY, NO_GROUP = range(8)
+LONGEST_MESSAGE = 100
+Span = Optional[Tuple[int, int]]
+
+
+class Handle(ctypes.Structure):
+    """What holds a regex, or nothing."""
+
+    _fields_ = [('place', c_void_p)]
+
+
+class Options(ctypes.Structure):
+    """The settings under which a pattern is built."""
+
+    _fields_ = [('case_insensitive', c_bool), ('multi_line', c_bool),
+                ('dot_matches_new_line', c_bool), ('crlf', c_bool), ('swap_greed', c_bool),
+                ('ignore_whitespace', c_bool), ('nest_limit', c_uint32), ('size_limit', c_size_t)]
+
+
+class CSpan(ctypes.Structure):
+    """A part of a text, in bytes."""
+
+    _fields_ = [('is_there', c_bool), ('start', c_size_t), ('end', c_size_t)]
+
+
+class Walk(ctypes.Structure):
+    """How far a walk over the matches of a text has come."""
+
+    _fields_ = [('is_begun', c_bool), ('end', c_size_t)]
+
+
+class Replacing(ctypes.Structure):
+    """How matches are replaced, and how long the new text is."""
+
+    _fields_ = [('limit', c_size_t), ('is_literal', c_bool), ('len', c_size_t)]
+
+
+class error(Exception):
+    """A pattern is refused. `msg` says why, and `number` is that of the library."""
+
+    def __init__(self, msg: str, pattern: str, number: int) -> None:
+        super().__init__(msg)
+        self.msg = msg
+        self.pattern = pattern
+        self.number = number
+
+
+def _load() -> ctypes.PyDLL:
+    """The shared object: that which REGEX_LITE_LIBRARY names, or that beside this file.
+
+    Its calls keep the interpreter's lock, so that no two threads are in one regex at once."""
+    beside = Path(__file__).with_name('libregex_lite.so')
+    return ctypes.PyDLL(os.environ.get('REGEX_LITE_LIBRARY', str(beside)))
+
+
+_LIBRARY = _load()
+_TEXT = [c_char_p, c_size_t]
+_ROOM = [c_void_p, c_size_t, POINTER(c_size_t)]
+
+
+def _call(name: str, result: object, *arguments: object) -> Callable[..., int]:
+    """A function of the library."""
+    function = getattr(_LIBRARY, f'regex_lite_{name}')
+    function.restype = result
+    function.argtypes = list(arguments)
+    return function  # type: ignore[no-any-return]
+
+
+_HANDLE = POINTER(Handle)
+_new = _call('new', c_uint32, _HANDLE, *_TEXT, POINTER(Options), *_ROOM)
+_free = _call('free', None, _HANDLE)
+_groups = _call('groups', c_size_t, _HANDLE)
+_group_name = _call('group_name', c_uint32, _HANDLE, c_size_t, *_ROOM)
+_captures = _call('captures', c_uint32, _HANDLE, *_TEXT, c_size_t, POINTER(CSpan), c_size_t,
+                  POINTER(c_size_t))
+_find_all = _call('find_all', c_uint32, _HANDLE, *_TEXT, POINTER(Walk), POINTER(CSpan), c_size_t,
+                  POINTER(c_size_t))
+_captures_all = _call('captures_all', c_uint32, _HANDLE, *_TEXT, POINTER(Walk), POINTER(CSpan),
+                      c_size_t, POINTER(c_size_t))
+_replace = _call('replace', c_uint32, _HANDLE, *_TEXT, *_TEXT, POINTER(Replacing), c_void_p,
+                 c_size_t)
+_escape = _call('escape', c_uint32, *_TEXT, *_ROOM)
+
+
+def _checked(answer: int) -> bool:
+    """Whether there is something, where the call isn't refused."""
+    if answer == OUT_OF_MEMORY:
+        raise MemoryError
+    if answer > YES:
+        raise ValueError(f'the library refuses this: {answer}')
+    return answer == YES
+
+
+def _unpacked(spans: ctypes.Array[CSpan], count: int) -> Iterator[Tuple[bool, int, int]]:
+    """The first spans, field by field: much faster than by the fields of each."""
+    return struct.iter_unpack('@?NN', memoryview(spans).cast('B')[:count * ctypes.sizeof(CSpan)])
+
+
+def encoded(text: str) -> bytes:
+    """The text in UTF-8. One with a lone surrogate has no such form."""
+    if not isinstance(text, str):
+        raise TypeError(f'a str is wanted, not {type(text).__name__}')
+    return text.encode()
+
+
+class Regex:
+    """A regex of the library, which is freed with this object."""
+
+    def __init__(self, pattern: str, options: Options) -> None:
+        self._handle = Handle()
+        raw, length = encoded(pattern), c_size_t()
+        message = ctypes.create_string_buffer(LONGEST_MESSAGE)
+        answer = _new(self._handle, raw, len(raw), options, message, LONGEST_MESSAGE, length)
+        if answer == OUT_OF_MEMORY:
+            raise MemoryError
+        if answer != YES:
+            raise error(message.raw[:length.value].decode(), pattern, answer)
+        self.groups = _groups(self._handle)
+        self._spans = CSpan * self.groups
+
+    def __del__(self) -> None:
+        _free(self._handle)
+
+    def name(self, index: int) -> Optional[str]:
+        """The name of a group, where it has one."""
+        length = c_size_t()
+        answer = _group_name(self._handle, index, ctypes.create_string_buffer(1), 0, length)
+        if answer != NO_ROOM:
+            return None
+        room = ctypes.create_string_buffer(length.value)
+        _checked(_group_name(self._handle, index, room, length.value, length))
+        return room.raw.decode()
+
+    def captures(self, text: bytes, start: int) -> Optional[List[Span]]:
+        """The spans of the groups of the first match from there on, in bytes of UTF-8."""
+        spans, count = self._spans(), c_size_t()
+        if not _checked(_captures(self._handle, text, len(text), start, spans, len(spans), count)):
+            return None
+        return [(start, end) if is_there else None
+                for is_there, start, end in _unpacked(spans, count.value)]
+
+    def next_spans(self, text: bytes, walk: Walk, room: int) -> List[Tuple[int, int]]:
+        """The spans of the next matches, at most so many, and none at the end."""
+        spans, count = (CSpan * room)(), c_size_t()
+        _checked(_find_all(self._handle, text, len(text), walk, spans, room, count))
+        return [(start, end) for _, start, end in _unpacked(spans, count.value)]
+
+
+    def next_captures(self, text: bytes, walk: Walk, room: int) -> List[List[Span]]:
+        """The spans of the groups of the next matches, at most so many, and none at the end."""
+        spans, count = (CSpan * (room * self.groups))(), c_size_t()
+        _checked(_captures_all(self._handle, text, len(text), walk, spans, len(spans), count))
+        found = [(start, end) if is_there else None
+                 for is_there, start, end in _unpacked(spans, count.value * self.groups)]
+        return [found[i:i + self.groups] for i in range(0, len(found), self.groups)]
+
+    def replaced(self, text: bytes, new: bytes, limit: int) -> bytes:
+        """The text with its first matches replaced by another, or all where the limit is 0."""
+        how, size = Replacing(limit, True, 0), 2 * len(text) + len(new)
+        room = ctypes.create_string_buffer(size)
+        answer = _replace(self._handle, text, len(text), new, len(new), how, room, size)
+        if answer == NO_ROOM:
+            room = ctypes.create_string_buffer(how.len)
+            answer = _replace(self._handle, text, len(text), new, len(new), how, room, how.len)
+        _checked(answer)
+        return room.raw[:how.len]
+
+
+def escaped(text: bytes) -> bytes:
+    """The pattern that means this text."""
+    room, length = ctypes.create_string_buffer(2 * len(text) + 1), c_size_t()
+    _checked(_escape(text, len(text), room, len(room), byref(length)))
+    return room.raw[:length.value]

@@ -1,0 +1,138 @@
+"""The calls of the module. The values that are expected are those of `re`, or of its documents."""
+
+import re
+import unittest
+
+import regex_lite
+
+
+class Searches(unittest.TestCase):
+    """What a search returns."""
+
+    def test_groups(self):
+        found = regex_lite.search(r'(?P<key>[a-z]+)=(\d+)?', 'width=')
+        self.assertEqual(found.group(), 'width=')
+        self.assertEqual(found.group('key'), 'width')
+        self.assertEqual(found.group(0, 1, 2), ('width=', 'width', None))
+        self.assertEqual(found.groups(), ('width', None))
+        self.assertEqual(found.groups(''), ('width', ''))
+        self.assertEqual(found.groupdict(), {'key': 'width'})
+        self.assertEqual(found['key'], found[1])
+        self.assertEqual((found.span('key'), found.start(2), found.end(2)), ((0, 5), -1, -1))
+        self.assertEqual(found.string, 'width=')
+        self.assertEqual(found.expand(r'\g<key>: \1'), 'width: width')
+        for wrong in (3, -1, 'value'):
+            self.assertRaises(IndexError, found.group, wrong)
+
+    def test_offsets_count_characters(self):
+        for text in ('b52', 'üb52ü', '€€b52', '😀b52😀'):
+            found = regex_lite.search(r'\d+', text)
+            self.assertEqual(found.span(), re.search(r'\d+', text).span())
+            self.assertEqual(found.group(), '52')
+
+    def test_start(self):
+        pattern = regex_lite.compile('a')
+        self.assertEqual(pattern.search('üaba', 2).span(), (3, 4))
+        self.assertIsNone(pattern.search('aba', 3))
+        self.assertIsNone(regex_lite.compile('^b').search('ab', 1))
+
+    def test_hostile_patterns(self):
+        for pattern in ('(a*)*b', '(a|a)*b', '(a|aa)+b', '(?:a?){30}a{30}b'):
+            self.assertIsNone(regex_lite.search(pattern, 'a' * 1000))
+
+    def test_none(self):
+        self.assertIsNone(regex_lite.search('x', 'abc'))
+
+    def test_pattern(self):
+        pattern = regex_lite.compile('(a)(?P<x>b)', regex_lite.I | regex_lite.M)
+        self.assertEqual((pattern.groups, pattern.groupindex), (2, {'x': 2}))
+        self.assertEqual(pattern.flags, regex_lite.IGNORECASE | regex_lite.MULTILINE)
+        self.assertEqual(pattern.pattern, '(a)(?P<x>b)')
+        self.assertIs(regex_lite.compile(pattern), pattern)
+        self.assertEqual(repr(regex_lite.compile('a')), "regex_lite.compile('a')")
+        self.assertEqual(repr(regex_lite.search('a', 'ba')),
+                         "<regex_lite.Match object; span=(1, 2), match='a'>")
+
+    def test_flags(self):
+        self.assertTrue(regex_lite.search('A', 'a', regex_lite.IGNORECASE))
+        self.assertTrue(regex_lite.search('^b', 'a\nb', regex_lite.MULTILINE))
+        self.assertTrue(regex_lite.search('a.b', 'a\nb', regex_lite.DOTALL))
+        self.assertTrue(regex_lite.search('a b', 'ab', regex_lite.VERBOSE))
+        for name in ('IGNORECASE', 'MULTILINE', 'DOTALL', 'VERBOSE', 'I', 'M', 'S', 'X'):
+            self.assertEqual(getattr(regex_lite, name), int(getattr(re, name)))
+        self.assertRaises(ValueError, regex_lite.compile, 'a', re.ASCII)
+
+
+class Refusals(unittest.TestCase):
+    """What is refused, and how."""
+
+    def test_pattern(self):
+        with self.assertRaises(regex_lite.error) as caught:
+            regex_lite.compile('a(b')
+        self.assertEqual(caught.exception.msg, "found open group without closing ')'")
+        self.assertEqual(caught.exception.pattern, 'a(b')
+
+    def test_limits(self):
+        self.assertRaises(regex_lite.error, regex_lite.compile, '((a))', nest_limit=1)
+        self.assertRaises(regex_lite.error, regex_lite.compile, 'a', size_limit=143)
+        self.assertTrue(regex_lite.compile('a', size_limit=144).search('a'))
+
+    def test_types(self):
+        self.assertRaises(TypeError, regex_lite.search, 'a', b'a')
+        self.assertRaises(TypeError, regex_lite.compile, b'a')
+        self.assertRaises(UnicodeEncodeError, regex_lite.search, 'a', '\ud800')
+
+    def test_templates(self):
+        self.assertRaises(IndexError, regex_lite.sub, 'a', r'\1', 'a')
+        self.assertRaises(IndexError, regex_lite.sub, 'a', r'\g<x>', 'a')
+        self.assertRaises(ValueError, regex_lite.sub, 'a', r'\q', 'a')
+
+
+class Lists(unittest.TestCase):
+    """All matches, and what is made of them. Each is compared with `re`."""
+
+    CASES = [(r'\d+', 'b52 and b53'), (r'(\d)(\d)?', '1 23 4'), ('(a)|b', 'abba'),
+             ('(?P<x>[a-z])=', 'ü=a=b='), ('€', 'a€b€c'), ('x', ''), (', *', 'a,b,  c')]
+
+    def test_findall(self):
+        for pattern, text in self.CASES:
+            self.assertEqual(regex_lite.findall(pattern, text), re.findall(pattern, text))
+
+    def test_finditer(self):
+        for pattern, text in self.CASES:
+            ours = [(m.span(), m.groups()) for m in regex_lite.finditer(pattern, text)]
+            theirs = [(m.span(), m.groups()) for m in re.finditer(pattern, text)]
+            self.assertEqual(ours, theirs)
+
+    def test_many_matches(self):
+        text = 'ab12' * 30000
+        self.assertEqual(regex_lite.findall('[0-9]', text), ['1', '2'] * 30000)
+        self.assertEqual(sum(1 for _ in regex_lite.finditer('([a-z])', text)), 60000)
+
+    def test_split(self):
+        for pattern, text in self.CASES:
+            for most in (0, 1, 2):
+                self.assertEqual(regex_lite.split(pattern, text, most),
+                                 re.split(pattern, text, maxsplit=most))
+
+    def test_sub(self):
+        for pattern, text in self.CASES:
+            for new in ('-', '', '$1', r'<\g<0>>', r'\n\\'):
+                for count in (0, 1):
+                    self.assertEqual(regex_lite.sub(pattern, new, text, count),
+                                     re.sub(pattern, new, text, count=count))
+                    self.assertEqual(regex_lite.subn(pattern, new, text, count),
+                                     re.subn(pattern, new, text, count=count))
+
+    def test_sub_by_function(self):
+        self.assertEqual(regex_lite.sub(r'\w+', lambda m: m.group().upper(), 'to be'), 'TO BE')
+        self.assertEqual(regex_lite.sub('(a)(b)?', r'\2\1', 'ab a'), 'ba a')
+
+    def test_escape(self):
+        for text in ('3.5 (or so)', 'a\\b', 'ü$', ''):
+            found = regex_lite.search(regex_lite.escape(text), f'x{text}x')
+            self.assertEqual(found.group(), text)
+
+
+if __name__ == '__main__':
+    unittest.main()

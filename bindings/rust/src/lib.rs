@@ -1,0 +1,355 @@
+//! Regular expressions for patterns and texts from strangers: a safe crate over the library for C,
+//! whose calls are proved.
+//!
+//! ```
+//! use regex_lite_proved::Regex;
+//!
+//! let regex = Regex::new(r"(?i)\bsam(?<rest>\w*)")?;
+//! let caps = regex.captures("Mister Samwise")?.unwrap();
+//! assert_eq!(caps.name("rest"), Some("wise"));
+//! assert_eq!(regex.replace_all("Sam, Samwise", "<$0>")?, "<Sam>, <Samwise>");
+//! # Ok::<(), regex_lite_proved::Error>(())
+//! ```
+
+mod raw;
+
+use std::cell::UnsafeCell;
+use std::fmt;
+use std::ops::Range;
+
+/// Why a call is refused.
+#[derive(Clone, Debug, PartialEq, Eq)]
+pub enum Error {
+    /// The pattern is refused: the number of regex_lite.h, and what is wrong.
+    Pattern(u32, String),
+    /// The offset is above the text's length, or inside a character.
+    BadOffset,
+    /// A request for memory was refused.
+    OutOfMemory,
+}
+
+impl fmt::Display for Error {
+    fn fmt(&self, f: &mut fmt::Formatter<'_>) -> fmt::Result {
+        match self {
+            Error::Pattern(_, message) => f.write_str(message),
+            Error::BadOffset => f.write_str("the offset is not between two characters"),
+            Error::OutOfMemory => f.write_str("out of memory"),
+        }
+    }
+}
+
+impl std::error::Error for Error {}
+
+/// The settings under which a pattern is built. The default has no flag.
+#[derive(Clone, Copy, Debug)]
+pub struct Options {
+    /// Letters match in either case.
+    pub case_insensitive: bool,
+    /// `^` and `$` match at every line.
+    pub multi_line: bool,
+    /// `.` matches every character.
+    pub dot_matches_new_line: bool,
+    /// A carriage return ends a line too.
+    pub crlf: bool,
+    /// Greedy and lazy operators change places.
+    pub swap_greed: bool,
+    /// White space and comments are left out of the pattern.
+    pub ignore_whitespace: bool,
+    /// How deep the pattern may nest.
+    pub nest_limit: u32,
+    /// How large the pattern may become.
+    pub size_limit: usize,
+}
+
+impl Default for Options {
+    fn default() -> Options {
+        Options {
+            case_insensitive: false,
+            multi_line: false,
+            dot_matches_new_line: false,
+            crlf: false,
+            swap_greed: false,
+            ignore_whitespace: false,
+            nest_limit: 50,
+            size_limit: 10_485_760,
+        }
+    }
+}
+
+/// A pattern that is ready to be searched for. It stays in its thread, as the handle of C does.
+pub struct Regex {
+    handle: UnsafeCell<raw::Handle>,
+    groups: usize,
+}
+
+impl Regex {
+    /// The regex of a pattern under the default settings.
+    pub fn new(pattern: &str) -> Result<Regex, Error> {
+        Regex::with_options(pattern, Options::default())
+    }
+
+    /// The regex of a pattern under these settings.
+    pub fn with_options(pattern: &str, options: Options) -> Result<Regex, Error> {
+        let options = raw::Options {
+            case_insensitive: options.case_insensitive,
+            multi_line: options.multi_line,
+            dot_matches_new_line: options.dot_matches_new_line,
+            crlf: options.crlf,
+            swap_greed: options.swap_greed,
+            ignore_whitespace: options.ignore_whitespace,
+            nest_limit: options.nest_limit,
+            size_limit: options.size_limit,
+        };
+        let mut message = [0; 100];
+        let mut len = 0;
+        let mut regex = Regex {
+            handle: UnsafeCell::new(raw::Handle::nothing()),
+            groups: 0,
+        };
+        // SAFETY: all pointers are to live memory of these lengths, and nothing overlaps.
+        let answer = unsafe {
+            raw::regex_lite_new(
+                regex.handle.get(),
+                pattern.as_ptr(),
+                pattern.len(),
+                &options,
+                message.as_mut_ptr(),
+                message.len(),
+                &mut len,
+            )
+        };
+        match answer {
+            raw::YES => {
+                // SAFETY: the handle is this regex's own.
+                regex.groups = unsafe { raw::regex_lite_groups(regex.handle.get()) };
+                Ok(regex)
+            }
+            raw::OUT_OF_MEMORY => Err(Error::OutOfMemory),
+            number => {
+                let message = String::from_utf8_lossy(&message[..len.min(message.len())]);
+                Err(Error::Pattern(number, message.into_owned()))
+            }
+        }
+    }
+
+    /// How many groups a match has, the whole match among them.
+    pub fn captures_len(&self) -> usize {
+        self.groups
+    }
+
+    /// Whether the pattern matches somewhere.
+    pub fn is_match(&self, text: &str) -> Result<bool, Error> {
+        let handle = self.handle.get();
+        // SAFETY: the handle is this regex's own, and the text is live.
+        is_yes(unsafe { raw::regex_lite_is_match(handle, text.as_ptr(), text.len(), 0) })
+    }
+
+    /// The first match.
+    pub fn find<'t>(&self, text: &'t str) -> Result<Option<Match<'t>>, Error> {
+        self.find_at(text, 0)
+    }
+
+    /// The first match that starts at this offset or later.
+    pub fn find_at<'t>(&self, text: &'t str, start: usize) -> Result<Option<Match<'t>>, Error> {
+        let handle = self.handle.get();
+        let mut span = raw::Span::default();
+        // SAFETY: as above; the span overlaps nothing.
+        let answer = unsafe {
+            raw::regex_lite_find(handle, text.as_ptr(), text.len(), start, &mut span)
+        };
+        Ok(is_yes(answer)?.then(|| Match::new(text, span)))
+    }
+
+    /// The groups of the first match.
+    pub fn captures<'t>(&self, text: &'t str) -> Result<Option<Captures<'_, 't>>, Error> {
+        self.captures_at(text, 0)
+    }
+
+    /// The groups of the first match that starts at this offset or later.
+    pub fn captures_at<'t>(
+        &self,
+        text: &'t str,
+        start: usize,
+    ) -> Result<Option<Captures<'_, 't>>, Error> {
+        let mut spans = vec![raw::Span::default(); self.groups];
+        let mut count = 0;
+        // SAFETY: as above.
+        let answer = unsafe {
+            raw::regex_lite_captures(
+                self.handle.get(),
+                text.as_ptr(),
+                text.len(),
+                start,
+                spans.as_mut_ptr(),
+                spans.len(),
+                &mut count,
+            )
+        };
+        let regex = self;
+        Ok(is_yes(answer)?.then_some(Captures { regex, text, spans }))
+    }
+
+    /// All matches, from left to right.
+    pub fn find_all<'t>(&self, text: &'t str) -> Result<Vec<Match<'t>>, Error> {
+        let mut walk = raw::Walk::default();
+        let mut spans = vec![raw::Span::default(); 4096];
+        let mut found = Vec::new();
+        loop {
+            let mut count = 0;
+            // SAFETY: as above; the walk goes on with the same regex and text.
+            let answer = unsafe {
+                raw::regex_lite_find_all(
+                    self.handle.get(),
+                    text.as_ptr(),
+                    text.len(),
+                    &mut walk,
+                    spans.as_mut_ptr(),
+                    spans.len(),
+                    &mut count,
+                )
+            };
+            if !is_yes(answer)? {
+                return Ok(found);
+            }
+            found.extend(spans[..count].iter().map(|span| Match::new(text, *span)));
+        }
+    }
+
+    /// The text with all matches replaced by what the template gives for their groups.
+    pub fn replace_all(&self, text: &str, template: &str) -> Result<String, Error> {
+        self.replacen(text, 0, template)
+    }
+
+    /// The text with its first matches replaced, or all where the limit is 0.
+    pub fn replacen(&self, text: &str, limit: usize, template: &str) -> Result<String, Error> {
+        let mut replacing = raw::Replacing {
+            limit,
+            is_literal: false,
+            len: 0,
+        };
+        written(text.len(), |room| {
+            // SAFETY: as above; the room overlaps nothing.
+            let answer = unsafe {
+                raw::regex_lite_replace(
+                    self.handle.get(),
+                    text.as_ptr(),
+                    text.len(),
+                    template.as_ptr(),
+                    template.len(),
+                    &mut replacing,
+                    room.as_mut_ptr(),
+                    room.len(),
+                )
+            };
+            (answer, replacing.len)
+        })
+    }
+
+    /// The index of the group with this name.
+    fn index_of(&self, name: &str) -> Option<usize> {
+        let mut index = 0;
+        let handle = self.handle.get();
+        // SAFETY: as above.
+        let answer = unsafe {
+            raw::regex_lite_group_index(handle, name.as_ptr(), name.len(), &mut index)
+        };
+        (answer == raw::YES).then_some(index)
+    }
+}
+
+impl Drop for Regex {
+    fn drop(&mut self) {
+        // SAFETY: the handle is this regex's own, and is not used again.
+        unsafe { raw::regex_lite_free(self.handle.get()) }
+    }
+}
+
+/// A match: a part of the text.
+#[derive(Clone, Copy, Debug, PartialEq, Eq)]
+pub struct Match<'t> {
+    text: &'t str,
+    start: usize,
+    end: usize,
+}
+
+impl<'t> Match<'t> {
+    fn new(text: &'t str, span: raw::Span) -> Match<'t> {
+        Match {
+            text,
+            start: span.start,
+            end: span.end,
+        }
+    }
+
+    /// Its two offsets, in bytes.
+    pub fn range(&self) -> Range<usize> {
+        self.start..self.end
+    }
+
+    /// What matched.
+    pub fn as_str(&self) -> &'t str {
+        &self.text[self.range()]
+    }
+}
+
+/// The groups of a match.
+pub struct Captures<'r, 't> {
+    regex: &'r Regex,
+    text: &'t str,
+    spans: Vec<raw::Span>,
+}
+
+impl<'r, 't> Captures<'r, 't> {
+    /// What the group with this index matched, if it is there and took part.
+    pub fn get(&self, index: usize) -> Option<Match<'t>> {
+        let span = self.spans.get(index).filter(|span| span.is_there)?;
+        Some(Match::new(self.text, *span))
+    }
+
+    /// The text of the group with this name, if it is there and took part.
+    pub fn name(&self, name: &str) -> Option<&'t str> {
+        let found = self.get(self.regex.index_of(name)?)?;
+        Some(found.as_str())
+    }
+}
+
+/// The pattern that means this text and nothing else.
+pub fn escape(text: &str) -> Result<String, Error> {
+    let mut len = 0;
+    written(2 * text.len(), |room| {
+        // SAFETY: all pointers are to live memory of these lengths, and nothing overlaps.
+        let answer = unsafe {
+            raw::regex_lite_escape(
+                text.as_ptr(),
+                text.len(),
+                room.as_mut_ptr(),
+                room.len(),
+                &mut len,
+            )
+        };
+        (answer, len)
+    })
+}
+
+/// The text that a call writes to the room that it is lent, and whose length it returns too: at
+/// first to room for so many bytes, and then for as many as it needs.
+fn written(first: usize, mut call: impl FnMut(&mut [u8]) -> (u32, usize)) -> Result<String, Error> {
+    let mut room = vec![0; first];
+    let (mut answer, mut len) = call(&mut room);
+    if answer == raw::NO_ROOM {
+        room.resize(len, 0);
+        (answer, len) = call(&mut room);
+    }
+    is_yes(answer)?;
+    room.truncate(len);
+    Ok(String::from_utf8(room).expect("the library writes UTF-8"))
+}
+
+/// Whether the answer is yes, where the call isn't refused.
+fn is_yes(answer: u32) -> Result<bool, Error> {
+    match answer {
+        raw::OUT_OF_MEMORY => Err(Error::OutOfMemory),
+        raw::BAD_OFFSET => Err(Error::BadOffset),
+        answer => Ok(answer == raw::YES),
+    }
+}

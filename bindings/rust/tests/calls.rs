@@ -1,0 +1,69 @@
+//! The calls of the crate. The values that are expected are those of the Rust crate.
+
+use regex_lite_proved::{escape, Error, Options, Regex};
+
+#[test]
+fn searches() -> Result<(), Error> {
+    let regex = Regex::new("sam|samwise")?;
+    assert!(regex.is_match("mr samwise")?);
+    assert!(!regex.is_match("frodo")?);
+    assert_eq!(regex.find("mr samwise")?.map(|m| m.range()), Some(3..6));
+    assert_eq!(regex.find_at("mr samwise", 4)?, None);
+    assert_eq!(regex.find_at("ü", 1), Err(Error::BadOffset));
+    assert_eq!(regex.find_at("ü", 3), Err(Error::BadOffset));
+    Ok(())
+}
+
+#[test]
+fn groups() -> Result<(), Error> {
+    let regex = Regex::new("(?<key>[a-z]+)=([0-9]+)?")?;
+    assert_eq!(regex.captures_len(), 3);
+    let caps = regex.captures("#width=")?.unwrap();
+    assert_eq!(caps.get(0).map(|m| m.as_str()), Some("width="));
+    assert_eq!(caps.name("key"), Some("width"));
+    assert_eq!(caps.name("value"), None);
+    assert_eq!(caps.get(2), None);
+    assert_eq!(caps.get(3), None);
+    assert!(regex.captures("width")?.is_none());
+    Ok(())
+}
+
+#[test]
+fn all_matches() -> Result<(), Error> {
+    let ranges = |pattern: &str, text: &str| -> Result<Vec<_>, Error> {
+        let found = Regex::new(pattern)?.find_all(text)?;
+        Ok(found.iter().map(|m| m.range()).collect())
+    };
+    assert_eq!(ranges("a*", "baac")?, [0..0, 1..3, 4..4]);
+    assert_eq!(ranges("x", "abc")?, []);
+    assert_eq!(ranges("[0-9]", &"ab12".repeat(5000))?.len(), 10000);
+    Ok(())
+}
+
+#[test]
+fn new_texts() -> Result<(), Error> {
+    let regex = Regex::new("(?<first>[a-z]+) (?<last>[a-z]+)")?;
+    assert_eq!(regex.replace_all("ada lovelace", "$last, $1")?, "lovelace, ada");
+    let letters = Regex::new("[a-z]")?;
+    assert_eq!(letters.replacen("abc", 2, "<$0>")?, "<a><b>c");
+    assert_eq!(letters.replace_all("abc", "wide")?, "widewidewide");
+    assert_eq!(escape("3.5 (or so)")?, r"3\.5 \(or so\)");
+    Ok(())
+}
+
+#[test]
+fn settings_and_refusals() -> Result<(), Error> {
+    let options = Options {
+        case_insensitive: true,
+        ..Options::default()
+    };
+    assert!(Regex::with_options("SAM", options)?.is_match("sam")?);
+    let message = "found open group without closing ')'".to_string();
+    assert_eq!(Regex::new("a(b").err(), Some(Error::Pattern(10, message)));
+    let small = Options {
+        size_limit: 143,
+        ..Options::default()
+    };
+    assert!(Regex::with_options("a", small).is_err());
+    Ok(())
+}

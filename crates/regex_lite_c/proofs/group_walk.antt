@@ -1,0 +1,2 @@
+-- lemmas that the proofs of walks over groups share
+pub mod GroupWalkLemmas

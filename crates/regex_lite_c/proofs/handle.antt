@@ -1,0 +1,2 @@
+-- lemmas that the proofs of handles share
+pub mod HandleLemmas

@@ -1,0 +1,2 @@
+-- lemmas that the proofs of walks share
+pub mod WalkLemmas

@@ -1,0 +1,35 @@
+-- The numbers that calls return.
+use Rattle.std.specs.Prelude.{◌≡◌, ◌⊎◌, ◌↔◌, ◌≤◌, ℕ, List, IsUtf8, IsCharBoundary}
+use Rattle.regex_lite_syntax.specs.declared.error.ErrorKind.{ErrorKind}
+use Rattle.regex_lite_syntax.specs.declared.error.ErrorKind.TheVariants as kind
+use Rattle.regex_lite_c.specs.declared.answer.TheConstants.{NO, YES, NOT_TEXT, BAD_OFFSET, OUT_OF_MEMORY, SYNTAX, NESTING, GROUPS, SIZE, PLACES, SLOTS, REPLACE}
+
+-- the number of a refusal of a pattern
+abbrev pub number_of : ErrorKind → ℕ
+number_of kind.Syntax = SYNTAX
+number_of kind.Nesting = NESTING
+number_of kind.Groups = GROUPS
+number_of kind.Size = SIZE
+number_of kind.Places = PLACES
+number_of kind.Slots = SLOTS
+number_of kind.Memory = OUT_OF_MEMORY
+number_of kind.Replace = REPLACE
+
+-- the bytes can't be searched from this offset on, for the reason with this number
+abbrev pub IsRefusedText : (bytes : List ℕ) → (start : ℕ) → (answer : ℕ) → Type 0
+IsRefusedText bytes start answer =
+    ((answer ≡ NOT_TEXT) × (IsUtf8 bytes → ⊥))
+    ⊎ ((answer ≡ BAD_OFFSET) × IsUtf8 bytes × (IsCharBoundary bytes start → ⊥))
+
+-- the bytes are refused, and the offset, where that is due, and only there
+pub record RefusesText (bytes : List ℕ) (start answer : ℕ) : Type 0 where
+  pub not_text : (answer ≡ NOT_TEXT) ↔ (IsUtf8 bytes → ⊥)
+  pub bad_offset : (answer ≡ BAD_OFFSET) ↔ (IsUtf8 bytes × (IsCharBoundary bytes start → ⊥))
+
+-- what a search of these bytes from this offset on returns, where 1 says the one and 0 the other
+pub record IsSearchAnswer (bytes : List ℕ) (start answer : ℕ) (yes no : Type 0) : Type 0 where
+  pub found : answer ≡ YES → yes
+  pub none : answer ≡ NO → no
+  pub refused : RefusesText bytes start answer
+  pub one_of : (answer ≤ YES) ⊎ ((answer ≡ NOT_TEXT) ⊎ ((answer ≡ BAD_OFFSET)
+      ⊎ (answer ≡ OUT_OF_MEMORY)))

@@ -1,0 +1,36 @@
+-- What is returned, held and written where a regex is to be built.
+use Rattle.std.specs.Prelude.{◌≡◌, ◌≢◌, ◌<◌, ◌≤◌, ◌⊎◌, ◌↔◌, ◌++◌, ℕ, List, Option, Some, None, IsUtf8, drop, length}
+use Rattle.regex_lite_syntax.specs.Errors.{Refusal, kind_of, text_of}
+use Rattle.regex_lite.specs.Expression.{Expression, IsAccepted, IsDue, expression_of}
+use Rattle.regex_lite.specs.Settings.{Settings}
+use Rattle.regex_lite_c.specs.Answers.{number_of}
+use Rattle.regex_lite_c.specs.declared.answer.TheConstants.{YES, NOT_TEXT, OUT_OF_MEMORY}
+
+-- a message was written to the room for it, or where that is too small, nothing; and its length was
+-- told. Or memory ran out for it, and its length counts as 0
+abbrev pub IsMessage : (text old new : List ℕ) → (len : ℕ) → Type 0
+IsMessage text old new len =
+    ((len ≡ 0) × (new ≡ old))
+    ⊎ ((len ≡ length text)
+    × (length text ≤ length old → new ≡ text ++ drop (length text) old)
+    × (length old < length text → new ≡ old))
+
+-- the pattern is refused by this number, with the text of this refusal, which is due
+abbrev pub IsRefusedBy : Settings → (answer : ℕ) → (old new : List ℕ) → (len : ℕ) → Type 0
+IsRefusedBy settings answer old new len =
+    (error : Refusal) × IsDue settings error × (answer ≡ number_of (kind_of error))
+    × IsMessage (text_of error) old new len
+
+-- what is returned where a regex is to be built under these settings, whose pattern may be any
+-- bytes, and what is held then; and the room for a message before and after
+pub record IsBuildAnswer (settings : Settings) (answer : ℕ) (held : Option Expression)
+    (old new : List ℕ) (len : ℕ) : Type 0 where
+  pub built : answer ≡ YES → held ≡ Some (expression_of settings)
+  pub accepted : answer ≡ YES → IsAccepted settings
+  pub nothing : answer ≢ YES → held ≡ None
+  pub not_text : (answer ≡ NOT_TEXT) ↔ (IsUtf8 settings.pattern → ⊥)
+  pub refused : answer ≢ YES → IsUtf8 settings.pattern → IsRefusedBy settings answer old new len
+  -- where the pattern has a tree and passes no limit, only memory can be wanting
+  pub complete : answer ≢ YES → IsUtf8 settings.pattern → IsAccepted settings
+      → answer ≡ OUT_OF_MEMORY
+  pub no_message : (IsUtf8 settings.pattern → answer ≡ YES) → (len ≡ 0) × (new ≡ old)

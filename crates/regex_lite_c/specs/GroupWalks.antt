@@ -1,0 +1,58 @@
+-- What is told of the groups of all matches of a text, some at a time.
+use Rattle.std.specs.Prelude.{◌≡◌, ◌≢◌, ◌⊎◌, ◌<◌, ◌≤◌, ◌++◌, ℕ, List, [], ◌∷◌, chars, Option, Some, None, flat_map, length, unwrap_or}
+use Rattle.regex_lite_engine.specs.Search.Answer.{Found}
+use Rattle.regex_lite.specs.Ahead.{Ahead, AreGroupsFound, ComesNext, after}
+use Rattle.regex_lite.specs.Expression.{Expression}
+use Rattle.regex_lite.specs.Groups.{Groups, whole_span}
+use Rattle.regex_lite.specs.MatchList.{AreFirst}
+use Rattle.regex_lite.specs.Replacements.{AreGroupsOfEach}
+use Rattle.regex_lite_c.specs.Answers.{RefusesText}
+use Rattle.regex_lite_c.specs.Spans.{AreWritten}
+use Rattle.regex_lite_c.specs.Walks.{ended_of}
+use Rattle.regex_lite_c.specs.declared.answer.TheConstants.{NO, YES, NOT_TEXT, BAD_OFFSET, NO_ROOM, OUT_OF_MEMORY}
+use Rattle.regex_lite_c.specs.declared.types.Span.{Span}
+use Rattle.regex_lite_c.specs.declared.types.Walk.{Walk}
+
+-- the spans of all these groups in a row
+abbrev pub spans_of_all : List Groups → List (Option (ℕ × ℕ))
+spans_of_all groups = flat_map (λ own. own.spans) groups
+
+-- the groups of so many matches, the first of those ahead, were written to the front of the room,
+-- and the walk goes on where the last of these matches ends
+pub record AreGroupsListed (a : Ahead) (walk : Walk) (old new : List Span) (count : ℕ) : Type 0 where
+  pub list : List Found
+  pub are_first : AreFirst a.regex (chars a.haystack) count a.ended list
+  pub number : count ≡ length list
+  pub front : List Groups
+  pub last : Groups
+  pub each : AreGroupsOfEach a.regex a.haystack list (front ++ (last ∷ []))
+  pub written : AreWritten (spans_of_all (front ++ (last ∷ []))) old new
+  pub end : ended_of walk ≡ Some (whole_span last).1
+
+-- there is a next match, and the room is too small for its groups
+abbrev pub IsWithoutRoom : Ahead → (room : ℕ) → Type 0
+IsWithoutRoom a room =
+    (found : Found) × (groups : Groups) × ComesNext a (Some found)
+    × AreGroupsFound a.regex a.haystack found groups × (room < length groups.spans)
+
+-- what is returned where groups are written as long as there is room
+pub record IsFilled (a : Ahead) (old_walk walk : Walk) (old new : List Span) (count answer : ℕ)
+    : Type 0 where
+  pub found : answer ≡ YES → AreGroupsListed a walk old new count × (0 < count)
+  pub none : answer ≡ NO → ComesNext a None
+  pub no_room : answer ≡ NO_ROOM → IsWithoutRoom a (length old)
+  pub same : answer ≢ YES → (walk ≡ old_walk) × (new ≡ old) × (count ≡ 0)
+  pub one_of : (answer ≤ YES) ⊎ ((answer ≡ OUT_OF_MEMORY) ⊎ (answer ≡ NO_ROOM))
+
+-- what is returned where a walk over the groups of this text's matches goes on
+pub record IsGroupWalkAnswer (re : Expression) (bytes : List ℕ) (old_walk walk : Walk)
+    (old new : List Span) (count answer : ℕ) : Type 0 where
+  pub found : answer ≡ YES
+      → AreGroupsListed (after re bytes (ended_of old_walk)) walk old new count × (0 < count)
+  pub none : answer ≡ NO → ComesNext (after re bytes (ended_of old_walk)) None
+  pub no_room : answer ≡ NO_ROOM
+      → IsWithoutRoom (after re bytes (ended_of old_walk)) (length old)
+  pub same : answer ≢ YES → (walk ≡ old_walk) × (new ≡ old) × (count ≡ 0)
+  pub refused : RefusesText bytes (unwrap_or (ended_of old_walk) 0) answer
+  pub one_of : (answer ≤ YES) ⊎ ((answer ≡ NOT_TEXT) ⊎ ((answer ≡ BAD_OFFSET)
+      ⊎ ((answer ≡ OUT_OF_MEMORY) ⊎ (answer ≡ NO_ROOM))))

@@ -1,0 +1,50 @@
+-- What a caller's spans stand for.
+use Rattle.std.specs.Prelude.{◌≡◌, ◌≢◌, ◌⊎◌, ◌+◌, ◌<◌, ◌≤◌, ℕ, List, Option, Some, None, cond, chars, length, option_map, slice_get}
+use Rattle.regex_lite.specs.Expression.{Expression}
+use Rattle.regex_lite.specs.Groups.{Groups}
+use Rattle.regex_lite.specs.Searches.{TellsAnswer, TellsGroups, offsets}
+use Rattle.regex_lite_c.specs.Answers.{RefusesText}
+use Rattle.regex_lite_c.specs.declared.answer.TheConstants.{NO, YES, NOT_TEXT, BAD_OFFSET, NO_ROOM, OUT_OF_MEMORY}
+use Rattle.regex_lite_c.specs.declared.types.Span.{Span}
+
+-- where a part starts and ends, where there is one
+abbrev pub span_of : Span → Option (ℕ × ℕ)
+span_of span = cond span.is_there (Some (span.start, span.end)) None
+
+-- what is told of a search for the pattern from this offset on is where its match starts and ends
+abbrev pub TellsSpan : Expression → (haystack : List ℕ) → (start : ℕ) → Option (ℕ × ℕ) → Type 0
+TellsSpan re haystack start told =
+    TellsAnswer (λ tree found span. span ≡ offsets (chars haystack) (found.start, found.end))
+    re haystack start told
+
+-- these were written to the front of the caller's spans, and nothing after them
+pub record AreWritten (told : List (Option (ℕ × ℕ))) (old new : List Span) : Type 0 where
+  pub each : (k : ℕ) → k < length told → option_map span_of (slice_get new k) ≡ slice_get told k
+  pub rest : (k : ℕ) → length told ≤ k → slice_get new k ≡ slice_get old k
+
+-- these were written from this index on, and nothing before and after them
+pub record AreWrittenAt (at : ℕ) (told : List (Option (ℕ × ℕ))) (old new : List Span)
+    : Type 0 where
+  pub each : (k : ℕ) → k < length told
+      → option_map span_of (slice_get new (at + k)) ≡ slice_get told k
+  pub rest : (k : ℕ) → (k < at) ⊎ (at + length told ≤ k) → slice_get new k ≡ slice_get old k
+
+-- these are the groups of the match that starts first from this offset on, so many
+abbrev pub AreFirstGroups : Expression → (haystack : List ℕ) → (start : ℕ) → (count : ℕ) → Groups
+    → Type 0
+AreFirstGroups re haystack start count groups =
+    TellsGroups re haystack start (Some groups) × (count ≡ length groups.spans)
+
+-- what is returned where the groups of a match are searched for
+pub record IsGroupsAnswer (re : Expression) (bytes : List ℕ) (start : ℕ) (old new : List Span)
+    (old_count count answer : ℕ) : Type 0 where
+  pub found : answer ≡ YES → (groups : Groups)
+      × AreFirstGroups re bytes start count groups × AreWritten groups.spans old new
+  pub no_room : answer ≡ NO_ROOM → (groups : Groups)
+      × AreFirstGroups re bytes start count groups × (length old < count)
+  pub none : answer ≡ NO → TellsGroups re bytes start None
+  pub same : answer ≢ YES → new ≡ old
+  pub same_count : answer ≢ YES → answer ≢ NO_ROOM → count ≡ old_count
+  pub refused : RefusesText bytes start answer
+  pub one_of : (answer ≤ YES) ⊎ ((answer ≡ NOT_TEXT) ⊎ ((answer ≡ BAD_OFFSET)
+      ⊎ ((answer ≡ OUT_OF_MEMORY) ⊎ (answer ≡ NO_ROOM))))

@@ -1,0 +1,46 @@
+-- What is told of all matches of a text, some at a time.
+use Rattle.std.specs.Prelude.{◌≡◌, ◌≢◌, ◌⊎◌, ◌<◌, ◌≤◌, ℕ, suc, List, Option, Some, None, cond, chars, length, map, option_map, slice_get, unwrap_or}
+use Rattle.regex_lite_engine.specs.Search.Answer.{Found}
+use Rattle.regex_lite.specs.Ahead.{Ahead, ComesNext, after}
+use Rattle.regex_lite.specs.Expression.{Expression}
+use Rattle.regex_lite.specs.MatchList.{AreFirst}
+use Rattle.regex_lite.specs.Pieces.{found_span}
+use Rattle.regex_lite_c.specs.Answers.{RefusesText}
+use Rattle.regex_lite_c.specs.Spans.{AreWritten}
+use Rattle.regex_lite_c.specs.declared.answer.TheConstants.{NO, YES, NOT_TEXT, BAD_OFFSET, NO_ROOM, OUT_OF_MEMORY}
+use Rattle.regex_lite_c.specs.declared.types.Span.{Span}
+use Rattle.regex_lite_c.specs.declared.types.Walk.{Walk}
+
+-- where the last match ended, if there was one
+abbrev pub ended_of : Walk → Option ℕ
+ended_of walk = cond walk.is_begun (Some walk.end) None
+
+-- where a match starts and ends, as it is written
+abbrev pub told_of : (haystack : List ℕ) → Found → Option (ℕ × ℕ)
+told_of haystack found = Some (found_span (chars haystack) found)
+
+-- these are the first of the matches ahead, as many as there is room for, or all where they are
+-- fewer; and they were written to the front of the room
+pub record AreListed (a : Ahead) (old new : List Span) (count : ℕ) : Type 0 where
+  pub list : List Found
+  pub are_first : AreFirst a.regex (chars a.haystack) (length old) a.ended list
+  pub number : count ≡ length list
+  pub written : AreWritten (map (told_of a.haystack) list) old new
+
+-- the walk goes on where the last of so many spans ends
+pub record GoesOnAfter (spans : List Span) (count : ℕ) (walk : Walk) : Type 0 where
+  pub some : 0 < count
+  pub end : (k : ℕ) → suc k ≡ count → option_map (λ span. span.end) (slice_get spans k)
+      ≡ ended_of walk
+
+-- what is returned where a walk over the matches of this text goes on
+pub record IsWalkAnswer (re : Expression) (bytes : List ℕ) (old_walk walk : Walk)
+    (old new : List Span) (count answer : ℕ) : Type 0 where
+  pub found : answer ≡ YES
+      → AreListed (after re bytes (ended_of old_walk)) old new count × GoesOnAfter new count walk
+  pub none : answer ≡ NO → ComesNext (after re bytes (ended_of old_walk)) None
+  pub same : answer ≢ YES → (walk ≡ old_walk) × (new ≡ old) × (count ≡ 0)
+  pub no_room : answer ≡ NO_ROOM → length old ≡ 0
+  pub refused : RefusesText bytes (unwrap_or (ended_of old_walk) 0) answer
+  pub one_of : (answer ≤ YES) ⊎ ((answer ≡ NOT_TEXT) ⊎ ((answer ≡ BAD_OFFSET)
+      ⊎ ((answer ≡ OUT_OF_MEMORY) ⊎ (answer ≡ NO_ROOM))))

@@ -1,0 +1,67 @@
+//! The numbers that calls return.
+ghost use Rattle.std.specs.Prelude.{◌≡◌};
+ghost use Rattle.regex_lite_syntax.specs.Errors.{kind_of};
+ghost use Rattle.regex_lite_c.specs.Answers.{number_of};
+
+use regex_lite::{Error, ErrorKind};
+
+/// There is none.
+pub(crate) const NO: u32 = 0;
+
+/// There is one, and where something is written, all of it was.
+pub(crate) const YES: u32 = 1;
+
+/// The handle holds nothing.
+pub(crate) const NOTHING_HELD: u32 = 2;
+
+/// The bytes are no UTF-8.
+pub(crate) const NOT_TEXT: u32 = 3;
+
+/// The offset is above the text's length or inside a character.
+pub(crate) const BAD_OFFSET: u32 = 4;
+
+/// The room is too small. How much is needed was written, and nothing else.
+pub(crate) const NO_ROOM: u32 = 5;
+
+/// A growth was refused.
+pub(crate) const OUT_OF_MEMORY: u32 = 6;
+
+/// There is no group with this index.
+pub(crate) const NO_GROUP: u32 = 7;
+
+/// The grammar has no tree for the pattern.
+pub(crate) const SYNTAX: u32 = 10;
+
+/// The pattern passes the limit on nesting.
+pub(crate) const NESTING: u32 = 11;
+
+/// The pattern has more groups than can be numbered.
+pub(crate) const GROUPS: u32 = 12;
+
+/// The pattern passes the size limit.
+pub(crate) const SIZE: u32 = 13;
+
+/// The pattern has more places than can be numbered.
+pub(crate) const PLACES: u32 = 14;
+
+/// A group's slots can't be numbered.
+pub(crate) const SLOTS: u32 = 15;
+
+/// A replacer refused. No call here returns it, since no replacer of a caller is asked.
+pub(crate) const REPLACE: u32 = 16;
+
+/// The number of a refusal.
+pub(crate) fn number_of(error: &Error) -> u32
+    ensures { result ≡ number_of (kind_of error.now) }
+{
+    match error.kind() {
+        ErrorKind::Syntax => SYNTAX,
+        ErrorKind::Nesting => NESTING,
+        ErrorKind::Groups => GROUPS,
+        ErrorKind::Size => SIZE,
+        ErrorKind::Places => PLACES,
+        ErrorKind::Slots => SLOTS,
+        ErrorKind::Memory => OUT_OF_MEMORY,
+        ErrorKind::Replace => REPLACE,
+    }
+}

@@ -1,0 +1,110 @@
+//! Regexes: how one is built and freed.
+ghost use Rattle.std.specs.Prelude.{◌≡◌, ◌-◌, ◌^◌, None, IfOk, IfErr, length, min};
+ghost use Rattle.regex_lite_syntax.specs.Errors.{out_of_memory, text_of};
+ghost use Rattle.regex_lite.specs.Expression.{Builds, IsAccepted, IsDue, expression_of};
+ghost use Rattle.regex_lite_c.specs.Building.{IsBuildAnswer, IsMessage};
+ghost use Rattle.regex_lite_c.specs.Options.{flags_of, settings_of};
+
+use crate::answer::{NOT_TEXT, YES, number_of};
+use crate::handle::Handle;
+use crate::room;
+use crate::types::Options;
+use regex_lite::{Error, Regex, RegexBuilder};
+use std::alloc::Global;
+
+/// Builds the regex of a pattern: 1, and the handle holds it; else why not, and it holds nothing.
+///
+/// What was held before is freed. The text of a refusal is written to the room for a message, if it
+/// has room enough, and how long it is; else the length is 0.
+#[unsafe(no_mangle)]
+pub extern "C" fn regex_lite_new(
+    alloc: Global,
+    handle: &mut Handle,
+    pattern: &[u8],
+    options: &Options,
+    message: &mut [u8],
+    message_len: &mut usize,
+) -> u32
+    ensures { IsBuildAnswer (settings_of pattern.now options.now) result handle.new.value
+        message.old message.new message_len.new }
+{
+    let _freed = handle.take(alloc);
+    *message_len = 0;
+    let Ok(pattern) = std::str::from_utf8(pattern) else {
+        return NOT_TEXT;
+    };
+    match built(alloc, pattern, options) {
+        Ok(regex) => {
+            handle.put(regex);
+            YES
+        }
+        Err(error) => {
+            write_message(alloc, &error, message, message_len);
+            number_of(&error)
+        }
+    }
+}
+
+/// Frees what is held, if anything is.
+#[unsafe(no_mangle)]
+pub extern "C" fn regex_lite_free(alloc: Global, handle: &mut Handle)
+    ensures { handle.new.value ≡ None }
+{
+    drop(handle.take(alloc));
+}
+
+/// The regex of this pattern under these options, on the heap.
+fn built(alloc: Global, pattern: &str, options: &Options) -> Result<Box<Regex, Global>, Error>
+    ensures ok { IfOk result
+        (λ regex. regex.value ≡ expression_of (settings_of pattern.now options.now)) }
+    ensures accepted { IfOk result (λ _. IsAccepted (settings_of pattern.now options.now)) }
+    ensures refused { IfErr result (IsDue (settings_of pattern.now options.now)) }
+    ensures complete { IfErr result
+        (λ error. IsAccepted (settings_of pattern.now options.now) → error ≡ out_of_memory) }
+{
+    let regex = regex_of(alloc, pattern, options)?;
+    Ok(Box::new(alloc, regex)?)
+}
+
+/// The regex of this pattern under these options.
+fn regex_of(alloc: Global, pattern: &str, options: &Options) -> Result<Regex, Error>
+    ensures { Builds (settings_of pattern.now options.now) result }
+{
+    let mut builder = RegexBuilder::new(alloc, pattern)?;
+    set_flags(&mut builder, options);
+    set_limits(&mut builder, options);
+    builder.build()
+}
+
+/// Sets the flags of these options.
+fn set_flags(builder: &mut RegexBuilder, options: &Options)
+    ensures { builder.new ≡ record builder.old { flags = flags_of options.now } }
+{
+    builder.case_insensitive(options.case_insensitive);
+    builder.multi_line(options.multi_line);
+    builder.dot_matches_new_line(options.dot_matches_new_line);
+    builder.crlf(options.crlf);
+    builder.swap_greed(options.swap_greed);
+    builder.ignore_whitespace(options.ignore_whitespace);
+}
+
+/// Sets the limits of these options.
+fn set_limits(builder: &mut RegexBuilder, options: &Options)
+    ensures { builder.new ≡ record builder.old {
+      nest_limit = min options.now.nest_limit (2 ^ 32 - 2);
+      size_limit = options.now.size_limit;
+    } }
+{
+    builder.nest_limit(options.nest_limit);
+    builder.size_limit(options.size_limit);
+}
+
+/// Writes the error's text to the room, and how long it is.
+fn write_message(alloc: Global, error: &Error, message: &mut [u8], len: &mut usize)
+    requires { len.old ≡ 0 }
+    ensures { IsMessage (text_of error.now) message.old message.new len.new }
+{
+    if let Ok(text) = format!(in alloc; "{error}") {
+        room::write(text.as_str().as_bytes(), message, len);
+    }
+}

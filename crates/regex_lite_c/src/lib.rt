@@ -1,0 +1,25 @@
+//! Regular expressions for programs in C, and in each language that calls C.
+//!
+//! A caller keeps a [`Handle`](handle::Handle): one pointer, null at first. Each call is given the
+//! place of the handle, and leaves in it what was there, but for those that build and free. Texts
+//! and arrays stay the caller's: no call keeps a pointer to one.
+//!
+//! Where a call returns a number, it is one of `answer`: 1 for yes, 0 for no, and else why it
+//! refused. A text that is no UTF-8, a bad offset or index, and a handle that holds nothing are
+//! refused, and need no care of the caller. The contract of each call says what the call of
+//! `regex_lite` below it returns, by bytes, numbers and spans. bindings/c/regex_lite.h says the
+//! same for callers in C.
+#![tactic(auto)]
+
+mod answer;
+mod build;
+mod group_walk;
+mod groups;
+mod handle;
+mod properties;
+mod replace;
+mod room;
+mod search;
+mod text;
+mod types;
+mod walk;

@@ -1,0 +1,192 @@
+//! What a regex tells of its pattern and its groups.
+ghost use Rattle.std.specs.Prelude.{◌≡◌, IfSome, MatchOption, None, option_map, slice_get, unwrap_or};
+ghost use Rattle.regex_lite_syntax.specs.Tree.Properties.{captures_len, static_captures_len};
+ghost use Rattle.regex_lite_engine.specs.Graph.PlaceCounts.{whole_arrows, whole_places};
+ghost use Rattle.regex_lite.specs.CaptureNames.{names_left};
+ghost use Rattle.regex_lite.specs.Expression.{OfTree};
+ghost use Rattle.regex_lite.specs.Groups.{index_of, is_named};
+ghost use Rattle.regex_lite_c.specs.Names.{IsIndexAnswer, IsNameAnswer};
+ghost use Rattle.regex_lite_c.specs.Rooms.{IsWritten};
+
+use crate::answer::{NO, NO_GROUP, NOTHING_HELD, YES};
+use crate::handle::Handle;
+use crate::room;
+use regex_lite::{CaptureNames, Regex};
+use std::alloc::Global;
+
+/// Writes the pattern to the room: 1.
+#[unsafe(no_mangle)]
+pub extern "C" fn regex_lite_pattern(
+    alloc: Global,
+    handle: &mut Handle,
+    room: &mut [u8],
+    len: &mut usize,
+) -> u32
+    ensures same { handle.new.value ≡ handle.old.value }
+    ensures nothing_held { handle.old.value ≡ None
+        → (result ≡ NOTHING_HELD) × (room.new ≡ room.old) × (len.new ≡ len.old) }
+    ensures answer { IfSome handle.old.value (λ re.
+        IsWritten re.pattern room.old room.new len.new result) }
+{
+    let Some(regex) = handle.take(alloc) else {
+        return NOTHING_HELD;
+    };
+    let answer = room::write(regex.as_str().as_bytes(), room, len);
+    handle.put(regex);
+    answer
+}
+
+/// How many groups a match tells of, the whole match among them; 0 where nothing is held.
+#[unsafe(no_mangle)]
+pub extern "C" fn regex_lite_groups(alloc: Global, handle: &mut Handle) -> usize
+    ensures same { handle.new.value ≡ handle.old.value }
+    ensures counted { MatchOption handle.old.value (result ≡ 0)
+        (λ re. OfTree re (λ tree. result ≡ captures_len tree)) }
+{
+    let Some(regex) = handle.take(alloc) else {
+        return 0;
+    };
+    let count = regex.captures_len();
+    handle.put(regex);
+    count
+}
+
+/// How many groups at least take part in every match, the whole match among them; 0 where that
+/// isn't known, or nothing is held.
+#[unsafe(no_mangle)]
+pub extern "C" fn regex_lite_static_groups(alloc: Global, handle: &mut Handle) -> usize
+    ensures same { handle.new.value ≡ handle.old.value }
+    ensures known { MatchOption handle.old.value (result ≡ 0)
+        (λ re. OfTree re (λ tree. result ≡ unwrap_or (static_captures_len tree) 0)) }
+{
+    let Some(regex) = handle.take(alloc) else {
+        return 0;
+    };
+    let known = regex.static_captures_len().unwrap_or(0);
+    handle.put(regex);
+    known
+}
+
+/// How many places the pattern has when it is written out; 0 where nothing is held.
+#[unsafe(no_mangle)]
+pub extern "C" fn regex_lite_places(alloc: Global, handle: &mut Handle) -> usize
+    ensures same { handle.new.value ≡ handle.old.value }
+    ensures counted { MatchOption handle.old.value (result ≡ 0)
+        (λ re. OfTree re (λ tree. result ≡ whole_places tree)) }
+{
+    let Some(regex) = handle.take(alloc) else {
+        return 0;
+    };
+    let count = regex.places();
+    handle.put(regex);
+    count
+}
+
+/// How many arrows lead from place to place in the pattern written out; 0 where nothing is held.
+#[unsafe(no_mangle)]
+pub extern "C" fn regex_lite_arrows(alloc: Global, handle: &mut Handle) -> usize
+    ensures same { handle.new.value ≡ handle.old.value }
+    ensures counted { MatchOption handle.old.value (result ≡ 0)
+        (λ re. OfTree re (λ tree. result ≡ whole_arrows tree)) }
+{
+    let Some(regex) = handle.take(alloc) else {
+        return 0;
+    };
+    let count = regex.arrows();
+    handle.put(regex);
+    count
+}
+
+/// Writes the name of the group with this index to the room: 1, or 0 where the group has no name.
+#[unsafe(no_mangle)]
+pub extern "C" fn regex_lite_group_name(
+    alloc: Global,
+    handle: &mut Handle,
+    index: usize,
+    room: &mut [u8],
+    len: &mut usize,
+) -> u32
+    ensures same { handle.new.value ≡ handle.old.value }
+    ensures nothing_held { handle.old.value ≡ None
+        → (result ≡ NOTHING_HELD) × (room.new ≡ room.old) × (len.new ≡ len.old) }
+    ensures answer { IfSome handle.old.value (λ re.
+        IsNameAnswer re index room.old room.new len.old len.new result) }
+{
+    let Some(regex) = handle.take(alloc) else {
+        return NOTHING_HELD;
+    };
+    let answer = group_name(&regex, index, room, len);
+    handle.put(regex);
+    answer
+}
+
+/// Writes the name of this group.
+fn group_name(regex: &Regex, index: usize, room: &mut [u8], len: &mut usize) -> u32
+    ensures { IsNameAnswer regex.now index room.old room.new len.old len.new result }
+{
+    match name_in(regex.capture_names(), index) {
+        Some(Some(name)) => room::write(name.as_bytes(), room, len),
+        Some(None) => NO,
+        None => NO_GROUP,
+    }
+}
+
+/// The name with this index.
+fn name_in<'r>(mut names: CaptureNames<'r>, index: usize) -> Option<Option<&'r str>>
+    ensures { option_map (option_map (λ name. name.now)) result
+        ≡ slice_get (names_left names.entry) index }
+{
+    names.nth(index)
+}
+
+/// The index of the group with this name: 1 with the index written, or 0 where no group has it.
+#[unsafe(no_mangle)]
+pub extern "C" fn regex_lite_group_index(
+    alloc: Global,
+    handle: &mut Handle,
+    name: &[u8],
+    index: &mut usize,
+) -> u32
+    ensures same { handle.new.value ≡ handle.old.value }
+    ensures nothing_held { handle.old.value ≡ None
+        → (result ≡ NOTHING_HELD) × (index.new ≡ index.old) }
+    ensures answer { IfSome handle.old.value (λ re.
+        IsIndexAnswer re name.now index.old index.new result) }
+{
+    let Some(regex) = handle.take(alloc) else {
+        return NOTHING_HELD;
+    };
+    let answer = group_index(&regex, name, index);
+    handle.put(regex);
+    answer
+}
+
+/// The index of this group.
+fn group_index(regex: &Regex, name: &[u8], index: &mut usize) -> u32
+    ensures { IsIndexAnswer regex.now name.now index.old index.new result }
+{
+    match index_in(regex.capture_names(), name) {
+        Some(i) => {
+            *index = i;
+            YES
+        }
+        None => NO,
+    }
+}
+
+/// The index of this name.
+fn index_in(mut names: CaptureNames<'_>, name: &[u8]) -> Option<usize>
+    ensures { result ≡ index_of (names_left names.entry) name.now }
+{
+    names.position(|own| is_named(own, name))
+}
+
+/// Whether these bytes are the group's name.
+fn is_named(own: Option<&str>, name: &[u8]) -> bool
+    ensures { result ≡ is_named name.now (option_map (λ text. text.now) own.entry) }
+{
+    match own {
+        Some(own) => own.as_bytes() == name,
+        None => false,
+    }
+}

@@ -1,0 +1,195 @@
+//! Searches in a text of the caller.
+ghost use Rattle.std.specs.Prelude.{◌≡◌, ◌≢◌, ◌<◌, ◌≤◌, ◌↔◌, IfSome, Some, None};
+ghost use Rattle.regex_lite.specs.Searches.{MatchesFrom, TellsEnd};
+ghost use Rattle.regex_lite_c.specs.Answers.{IsSearchAnswer};
+ghost use Rattle.regex_lite_c.specs.Costs.{IsCostOfSearch};
+ghost use Rattle.regex_lite_c.specs.Spans.{TellsSpan, span_of};
+
+use crate::answer::{NO, NOTHING_HELD, OUT_OF_MEMORY, YES};
+use crate::handle::Handle;
+use crate::text::text_from;
+use crate::types::{Cost, Span};
+use regex_lite::Regex;
+use std::alloc::Global;
+
+/// Whether the pattern matches somewhere from this offset on: 1 or 0.
+#[unsafe(no_mangle)]
+pub extern "C" fn regex_lite_is_match(
+    alloc: Global,
+    handle: &mut Handle,
+    text: &[u8],
+    start: usize,
+) -> u32
+    ensures same { handle.new.value ≡ handle.old.value }
+    ensures nothing_held { (result ≡ NOTHING_HELD) ↔ (handle.old.value ≡ None) }
+    ensures answer { IfSome handle.old.value (λ re. IsSearchAnswer text.now start result
+        (MatchesFrom re text.now start) (MatchesFrom re text.now start → ⊥)) }
+{
+    let Some(regex) = handle.take(alloc) else {
+        return NOTHING_HELD;
+    };
+    let answer = is_match(&regex, text, start);
+    handle.put(regex);
+    answer
+}
+
+/// Whether this regex matches there.
+fn is_match(regex: &Regex, text: &[u8], start: usize) -> u32
+    ensures answer { IsSearchAnswer text.now start result
+        (MatchesFrom regex.now text.now start) (MatchesFrom regex.now text.now start → ⊥) }
+    ensures held { result ≢ NOTHING_HELD }
+{
+    let text = match text_from(text, start) {
+        Ok(text) => text,
+        Err(refusal) => return refusal,
+    };
+    match regex.is_match_at(text, start) {
+        Ok(true) => YES,
+        Ok(false) => NO,
+        Err(_) => OUT_OF_MEMORY,
+    }
+}
+
+/// The match that starts first from this offset on: 1 with its span written, or 0.
+#[unsafe(no_mangle)]
+pub extern "C" fn regex_lite_find(
+    alloc: Global,
+    handle: &mut Handle,
+    text: &[u8],
+    start: usize,
+    span: &mut Span,
+) -> u32
+    ensures same { handle.new.value ≡ handle.old.value }
+    ensures nothing_held { (result ≡ NOTHING_HELD) ↔ (handle.old.value ≡ None) }
+    ensures answer { IfSome handle.old.value (λ re. IsSearchAnswer text.now start result
+        (TellsSpan re text.now start (span_of span.new)) (TellsSpan re text.now start None)) }
+    ensures written { result ≢ YES → span.new ≡ span.old }
+{
+    let Some(regex) = handle.take(alloc) else {
+        return NOTHING_HELD;
+    };
+    let answer = find(&regex, text, start, span);
+    handle.put(regex);
+    answer
+}
+
+/// Where this regex matches first.
+fn find(regex: &Regex, text: &[u8], start: usize, span: &mut Span) -> u32
+    ensures answer { IsSearchAnswer text.now start result
+        (TellsSpan regex.now text.now start (span_of span.new))
+        (TellsSpan regex.now text.now start None) }
+    ensures held { result ≢ NOTHING_HELD }
+    ensures written { result ≢ YES → span.new ≡ span.old }
+{
+    let text = match text_from(text, start) {
+        Ok(text) => text,
+        Err(refusal) => return refusal,
+    };
+    match regex.find_at(text, start) {
+        Ok(Some(found)) => {
+            *span = Span::of(&found);
+            YES
+        }
+        Ok(None) => NO,
+        Err(_) => OUT_OF_MEMORY,
+    }
+}
+
+/// The same, with what the search cost written too, where there is an answer.
+#[unsafe(no_mangle)]
+pub extern "C" fn regex_lite_find_counted(
+    alloc: Global,
+    handle: &mut Handle,
+    text: &[u8],
+    start: usize,
+    span: &mut Span,
+    cost: &mut Cost,
+) -> u32
+    ensures same { handle.new.value ≡ handle.old.value }
+    ensures nothing_held { (result ≡ NOTHING_HELD) ↔ (handle.old.value ≡ None) }
+    ensures answer { IfSome handle.old.value (λ re. IsSearchAnswer text.now start result
+        (TellsSpan re text.now start (span_of span.new)) (TellsSpan re text.now start None)) }
+    ensures cost { result ≤ YES
+        → IfSome handle.old.value (λ re. IsCostOfSearch re text.now start cost.new) }
+    ensures written { result ≢ YES → span.new ≡ span.old }
+    ensures same_cost { YES < result → cost.new ≡ cost.old }
+{
+    let Some(regex) = handle.take(alloc) else {
+        return NOTHING_HELD;
+    };
+    let answer = find_counted(&regex, text, start, span, cost);
+    handle.put(regex);
+    answer
+}
+
+/// Where this regex matches first, and what it cost to know that.
+fn find_counted(regex: &Regex, text: &[u8], start: usize, span: &mut Span, cost: &mut Cost) -> u32
+    ensures answer { IsSearchAnswer text.now start result
+        (TellsSpan regex.now text.now start (span_of span.new))
+        (TellsSpan regex.now text.now start None) }
+    ensures held { result ≢ NOTHING_HELD }
+    ensures cost { result ≤ YES → IsCostOfSearch regex.now text.now start cost.new }
+    ensures written { result ≢ YES → span.new ≡ span.old }
+    ensures same_cost { YES < result → cost.new ≡ cost.old }
+{
+    let text = match text_from(text, start) {
+        Ok(text) => text,
+        Err(refusal) => return refusal,
+    };
+    let Ok(told) = regex.find_counted_at(text, start) else {
+        return OUT_OF_MEMORY;
+    };
+    *cost = Cost::of(told.1);
+    match told.0 {
+        Some(found) => {
+            *span = Span::of(&found);
+            YES
+        }
+        None => NO,
+    }
+}
+
+/// The least end of any match that starts at this offset or later: 1 with it written, or 0.
+#[unsafe(no_mangle)]
+pub extern "C" fn regex_lite_shortest(
+    alloc: Global,
+    handle: &mut Handle,
+    text: &[u8],
+    start: usize,
+    end: &mut usize,
+) -> u32
+    ensures same { handle.new.value ≡ handle.old.value }
+    ensures nothing_held { (result ≡ NOTHING_HELD) ↔ (handle.old.value ≡ None) }
+    ensures answer { IfSome handle.old.value (λ re. IsSearchAnswer text.now start result
+        (TellsEnd re text.now start (Some end.new)) (TellsEnd re text.now start None)) }
+    ensures written { result ≢ YES → end.new ≡ end.old }
+{
+    let Some(regex) = handle.take(alloc) else {
+        return NOTHING_HELD;
+    };
+    let answer = shortest(&regex, text, start, end);
+    handle.put(regex);
+    answer
+}
+
+/// Where a match of this regex ends first.
+fn shortest(regex: &Regex, text: &[u8], start: usize, end: &mut usize) -> u32
+    ensures answer { IsSearchAnswer text.now start result
+        (TellsEnd regex.now text.now start (Some end.new))
+        (TellsEnd regex.now text.now start None) }
+    ensures held { result ≢ NOTHING_HELD }
+    ensures written { result ≢ YES → end.new ≡ end.old }
+{
+    let text = match text_from(text, start) {
+        Ok(text) => text,
+        Err(refusal) => return refusal,
+    };
+    match regex.shortest_match_at(text, start) {
+        Ok(Some(least)) => {
+            *end = least;
+            YES
+        }
+        Ok(None) => NO,
+        Err(_) => OUT_OF_MEMORY,
+    }
+}

@@ -1,0 +1,143 @@
+//! What a caller passes beside texts.
+ghost use Rattle.std.specs.Prelude.{◌≡◌, ◌-◌, ◌^◌, Some, min, option_map};
+ghost use Rattle.regex_lite.specs.MatchViews.{span_of_match};
+ghost use Rattle.regex_lite_c.specs.Costs.{IsCostOf};
+ghost use Rattle.regex_lite_c.specs.Spans.{span_of};
+ghost use Rattle.regex_lite_c.specs.Walks.{ended_of};
+
+use regex_lite::{Match, Steps};
+
+/// The settings under which a pattern is built.
+#[repr(C)]
+#[derive(Drop)]
+pub struct Options {
+    /// Letters match in either case: the flag `i`.
+    pub case_insensitive: bool,
+    /// `^` and `$` match at every line: the flag `m`.
+    pub multi_line: bool,
+    /// `.` matches every character: the flag `s`.
+    pub dot_matches_new_line: bool,
+    /// A carriage return ends a line too: the flag `R`.
+    pub crlf: bool,
+    /// Greedy and lazy operators change places: the flag `U`.
+    pub swap_greed: bool,
+    /// White space and comments are left out of the pattern: the flag `x`.
+    pub ignore_whitespace: bool,
+    /// How deep the pattern may nest.
+    pub nest_limit: u32,
+    /// How large the pattern may become.
+    pub size_limit: usize,
+}
+
+/// A part of a text, or a group that took no part.
+#[repr(C)]
+#[derive(Clone, Copy)]
+pub struct Span {
+    /// Whether there is one. Where there is none, both offsets are 0.
+    pub is_there: bool,
+    /// The offset of its first byte.
+    pub start: usize,
+    /// The offset after its last byte.
+    pub end: usize,
+}
+
+impl Span {
+    /// That of a match.
+    pub(crate) fn of(found: &Match<'_>) -> Span
+        ensures { span_of result ≡ Some (span_of_match found.now) }
+    {
+        Span {
+            is_there: true,
+            start: found.start(),
+            end: found.end(),
+        }
+    }
+
+    /// That of a group, if it took part.
+    pub(crate) fn of_group(group: Option<Match<'_>>) -> Span
+        ensures { span_of result ≡ option_map span_of_match group.entry }
+    {
+        match group {
+            Some(found) => Span::of(&found),
+            None => Span {
+                is_there: false,
+                start: 0,
+                end: 0,
+            },
+        }
+    }
+}
+
+/// What a search cost, in places of the pattern written out. A number above 2^64 - 1 counts as
+/// that.
+#[repr(C)]
+#[derive(Clone, Copy)]
+pub struct Cost {
+    /// How often the search came to a place.
+    pub tried: u64,
+    /// How often it entered one.
+    pub entered: u64,
+    /// How often it looked up what stands at one.
+    pub looked: u64,
+}
+
+impl Cost {
+    /// That of these steps.
+    pub(crate) fn of(steps: Steps) -> Cost
+        ensures { IsCostOf steps result }
+    {
+        Cost {
+            tried: capped(steps.tried()),
+            entered: capped(steps.entered()),
+            looked: capped(steps.looked()),
+        }
+    }
+}
+
+/// The number, or the greatest that fits.
+fn capped(n: u128) -> u64
+    ensures { result ≡ min n (2 ^ 64 - 1) }
+{
+    if n < 1 << 64 { n as u64 } else { u64::MAX }
+}
+
+/// How matches are replaced, and how long the new text is.
+#[repr(C)]
+#[derive(Clone, Copy)]
+pub struct Replacing {
+    /// How many matches are replaced at most: the first ones. 0 stands for all.
+    pub limit: usize,
+    /// Whether the template stands for itself, and a `$` in it too.
+    pub is_literal: bool,
+    /// How many bytes the new text has, which a call writes.
+    pub len: usize,
+}
+
+/// How far a walk over the matches of a text has come.
+#[repr(C)]
+#[derive(Clone, Copy)]
+pub struct Walk {
+    /// Whether a match was found yet.
+    pub is_begun: bool,
+    /// Where the last one ended.
+    pub end: usize,
+}
+
+impl Walk {
+    /// Where the last match ended, if there was one.
+    pub(crate) fn ended(&self) -> Option<usize>
+        ensures { result ≡ ended_of self.now }
+    {
+        if self.is_begun { Some(self.end) } else { None }
+    }
+
+    /// After the match with this span.
+    pub(crate) fn after(span: &Span) -> Walk
+        ensures { ended_of result ≡ Some span.now.end }
+    {
+        Walk {
+            is_begun: true,
+            end: span.end,
+        }
+    }
+}
