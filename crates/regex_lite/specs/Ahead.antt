@@ -28,6 +28,15 @@ abbrev pub whole : Expression → (haystack : List ℕ) → (limit : Option ℕ)
 whole re haystack limit =
     record { regex = re; haystack = haystack; limit = limit; ended = None }
 
+-- those after a match that ended at this offset, or all
+abbrev pub after : Expression → (haystack : List ℕ) → (ended : Option ℕ) → Ahead
+after re haystack ended = record {
+  regex = re;
+  haystack = haystack;
+  limit = None;
+  ended = option_map (position_at haystack) ended;
+}
+
 -- these are the matches ahead
 abbrev pub AreAhead : Ahead → List Found → Type 0
 AreAhead a = AreWithin a.regex (chars a.haystack) a.limit a.ended

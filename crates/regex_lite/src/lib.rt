@@ -33,6 +33,7 @@ pub mod laws;
 mod owner;
 mod string;
 
+pub use owner::Unboxed;
 pub use regex_lite_engine::Steps;
 pub use regex_lite_syntax::{Error, ErrorKind};
 pub use string::escape::escape;

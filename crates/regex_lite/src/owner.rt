@@ -8,3 +8,4 @@ mod shared;
 mod unboxed;
 
 pub(crate) use shared::Shared;
+pub use unboxed::Unboxed;

@@ -1,4 +1,5 @@
 -- lemmas that several proofs here share
+pub mod AgainLemmas
 pub mod BlockLemmas
 pub mod BoundLemmas
 pub mod CountLemmas

@@ -13,4 +13,5 @@ pub mod TemplateLaws
 -- rests on it.
 pub mod Nfa
 pub mod Walk
+pub mod LazyDfa
 pub mod Backtrack

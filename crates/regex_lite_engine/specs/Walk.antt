@@ -10,6 +10,7 @@ pub mod Cells
 pub mod InStep
 pub mod Walking
 pub mod Entering
+pub mod Again
 pub mod Room
 pub mod Turns
 pub mod Searching

@@ -11,6 +11,7 @@
 mod backtrack;
 pub mod interpolate;
 pub mod laws;
+mod lazy_dfa;
 mod nfa;
 mod pikevm;
 mod search;

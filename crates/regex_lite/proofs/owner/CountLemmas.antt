@@ -35,7 +35,7 @@ use denote.Struct.Lending.{lent_at_shr_laws}
 use Rattle.std.proofs.RcSteps.{word, word_ty, cell}
 use Rattle.std.specs.Rc.Ownership.{counter_at}
 use Rattle.regex_lite.specs.Owner.Ownership.{top, stands_for, is_stored, count_at, only_one, value_place, lends, owned}
-use Rattle.regex_lite.proofs.owner.PointerLemmas.{Word, word_had, word_made, reads, read}
+use Rattle.regex_lite.proofs.PointerLemmas.{Word, word_had, word_made, reads, read}
 
 abbrev pub Id : Type 0
 Id = ℕ × ℕ

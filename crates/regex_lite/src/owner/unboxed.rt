@@ -6,11 +6,14 @@ use std::alloc::Allocator;
 use std::marker::Model;
 
 /// The place of a value on the heap, and the right to free it. It stands for the value's box while
-/// there is none.
-pub(super) struct Unboxed<T, A: Allocator> {
-    pub(super) ptr: *mut T,
-    pub(super) alloc: A,
-    pub(super) ghost value: { T },
+/// there is none, as where C holds the place.
+pub struct Unboxed<T, A: Allocator> {
+    /// Where the value is.
+    pub ptr: *mut T,
+    /// What frees the place.
+    pub alloc: A,
+    /// The value.
+    pub ghost value: { T },
 }
 
 impl<T, A: Allocator> Model for Unboxed<T, A> {
@@ -20,7 +23,7 @@ impl<T, A: Allocator> Model for Unboxed<T, A> {
 
 impl<T: Drop, A: Allocator> Unboxed<T, A> {
     /// The value of this box.
-    pub(super) fn of(boxed: Box<T, A>) -> Unboxed<T, A>
+    pub fn of(boxed: Box<T, A>) -> Unboxed<T, A>
         ensures { result.value ≡ boxed.value }
     {
         let (ptr, alloc) = Box::into_raw_with_allocator(boxed);
@@ -28,7 +31,7 @@ impl<T: Drop, A: Allocator> Unboxed<T, A> {
     }
 
     /// The box again.
-    pub(super) fn into_box(self) -> Box<T, A>
+    pub fn into_box(self) -> Box<T, A>
         ensures { result.value ≡ self.value }
     {
         let Unboxed { ptr, alloc } = self;

@@ -1,7 +1,7 @@
 //! The groups of all matches of a haystack, match after match.
-ghost use Rattle.std.specs.Prelude.{◌≡◌, None, IfOk, IfErr};
+ghost use Rattle.std.specs.Prelude.{◌≡◌, None, IfOk, IfErr, IsCharBoundary, unwrap_or};
 ghost use Rattle.regex_lite_syntax.specs.Errors.{out_of_memory};
-ghost use Rattle.regex_lite.specs.Ahead.{groups_ahead_of, whole};
+ghost use Rattle.regex_lite.specs.Ahead.{after, groups_ahead_of, whole};
 
 use crate::string::captures::Captures;
 use crate::string::group_scan::GroupScan;
@@ -38,6 +38,29 @@ impl Regex {
         ensures refused { IfErr result (λ error. error ≡ out_of_memory) }
     {
         CaptureMatches::new(self, haystack, None)
+    }
+
+    /// The groups of all matches that [`Regex::find_iter_after`] gives.
+    ///
+    /// Condition: the offset is on a character boundary of the haystack.
+    ///
+    /// # Errors
+    ///
+    /// `Memory` where a growth is refused, also by an item, which then is the last.
+    pub fn captures_iter_after<'r, 'h>(
+        &'r self,
+        haystack: &'h str,
+        ended: Option<usize>,
+    ) -> Result<CaptureMatches<'r, 'h>, Error>
+        requires { IsCharBoundary haystack.now (unwrap_or ended 0) }
+        ensures ahead { IfOk result
+            (λ it. groups_ahead_of it ≡ after self.now haystack.now ended) }
+        ensures begins { IfOk result (λ it. it.scan.ended ≡ ended) }
+        ensures refused { IfErr result (λ error. error ≡ out_of_memory) }
+    {
+        Ok(CaptureMatches {
+            scan: GroupScan::after(self, haystack, ended)?,
+        })
     }
 }
 

@@ -34,6 +34,23 @@ impl<'h> Cursor<'h> {
         }
     }
 
+    /// After a match that ended at this offset, or at the start where there was none. All that
+    /// follow may come.
+    pub fn after(haystack: &'h str, ended: Option<usize>) -> Cursor<'h>
+        requires { IsCharBoundary haystack.now (unwrap_or ended 0) }
+        ensures haystack { result.haystack.now ≡ haystack.now }
+        ensures ended { result.ended ≡ ended }
+        ensures was_empty { result.was_empty ≡ false }
+        ensures limit { result.limit ≡ None }
+    {
+        Cursor {
+            haystack,
+            ended,
+            was_empty: false,
+            limit: None,
+        }
+    }
+
     /// Whether no more may come.
     pub fn is_over(self) -> bool
         ensures { IsTrue result ↔ (self.entry.limit ≡ Some 0) }

@@ -1,7 +1,7 @@
 //! The matches of a haystack, one after another.
-ghost use Rattle.std.specs.Prelude.{◌≡◌, None, IfOk, IfErr};
+ghost use Rattle.std.specs.Prelude.{◌≡◌, None, IfOk, IfErr, IsCharBoundary, unwrap_or};
 ghost use Rattle.regex_lite_syntax.specs.Errors.{out_of_memory};
-ghost use Rattle.regex_lite.specs.Ahead.{ahead_of, whole};
+ghost use Rattle.regex_lite.specs.Ahead.{after, ahead_of, whole};
 
 use crate::string::matches::Match;
 use crate::string::regex::Regex;
@@ -35,6 +35,38 @@ impl Regex {
         ensures refused { IfErr result (λ error. error ≡ out_of_memory) }
     {
         Matches::new(self, haystack, None)
+    }
+
+    /// The matches that [`Regex::find_iter`] gives after one that ended at this offset; `None`
+    /// stands for its start. So a list of matches can be gone on with.
+    ///
+    /// Condition: the offset is on a character boundary of the haystack.
+    ///
+    /// ```
+    /// let regex = Regex::new(alloc, "a*")?;
+    /// for found in regex.find_iter_after("aabaa", Some(2))? {
+    ///     found.range(); // 3..5
+    /// }
+    /// ```
+    ///
+    /// The test `examples::later_matches` in tests/unit runs this example.
+    ///
+    /// # Errors
+    ///
+    /// `Memory` where a growth is refused. The items take no memory, and are never refused.
+    pub fn find_iter_after<'r, 'h>(
+        &'r self,
+        haystack: &'h str,
+        ended: Option<usize>,
+    ) -> Result<Matches<'r, 'h>, Error>
+        requires { IsCharBoundary haystack.now (unwrap_or ended 0) }
+        ensures ahead { IfOk result (λ it. ahead_of it ≡ after self.now haystack.now ended) }
+        ensures begins { IfOk result (λ it. it.scan.ended ≡ ended) }
+        ensures refused { IfErr result (λ error. error ≡ out_of_memory) }
+    {
+        Ok(Matches {
+            scan: Scan::after(self, haystack, ended, 0)?,
+        })
     }
 }
 

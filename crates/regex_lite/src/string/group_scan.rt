@@ -1,8 +1,8 @@
 //! Goes over a haystack from match to match, with the groups of each.
-ghost use Rattle.std.specs.Prelude.{◌≡◌, ◌<◌, None, IfOk, IfErr, IfSome};
+ghost use Rattle.std.specs.Prelude.{◌≡◌, ◌<◌, None, IfOk, IfErr, IfSome, IsCharBoundary, unwrap_or};
 ghost use Rattle.regex_lite_syntax.specs.Errors.{out_of_memory};
 ghost use Rattle.regex_lite.specs.Compiled.{AreOfRegex};
-ghost use Rattle.regex_lite.specs.Ahead.{GivesGroupsOf, ahead, most_ahead, whole};
+ghost use Rattle.regex_lite.specs.Ahead.{GivesGroupsOf, after, ahead, most_ahead, whole};
 
 use crate::string::captures::Captures;
 use crate::string::regex::Regex;
@@ -43,6 +43,21 @@ impl<'r, 'h> GroupScan<'r, 'h> {
         ensures refused { IfErr result (λ error. error ≡ out_of_memory) }
     {
         let scan = Scan::new(regex, haystack, limit, regex.kept_slots())?;
+        Ok(GroupScan { scan, spare: None })
+    }
+
+    /// After a match that ended at this offset, with all that follow still to come.
+    pub fn after(
+        regex: &'r Regex,
+        haystack: &'h str,
+        ended: Option<usize>,
+    ) -> Result<GroupScan<'r, 'h>, Error>
+        requires { IsCharBoundary haystack.now (unwrap_or ended 0) }
+        ensures ahead { IfOk result (λ scan. ahead scan ≡ after regex.now haystack.now ended) }
+        ensures begins { IfOk result (λ scan. scan.ended ≡ ended) }
+        ensures refused { IfErr result (λ error. error ≡ out_of_memory) }
+    {
+        let scan = Scan::after(regex, haystack, ended, regex.kept_slots())?;
         Ok(GroupScan { scan, spare: None })
     }
 

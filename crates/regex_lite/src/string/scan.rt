@@ -1,8 +1,8 @@
 //! Goes over a haystack from match to match.
-ghost use Rattle.std.specs.Prelude.{◌≡◌, ◌<◌, Some, None, IfOk, IfErr, IfSome, IsCharBoundary, length};
+ghost use Rattle.std.specs.Prelude.{◌≡◌, ◌<◌, Some, None, IfOk, IfErr, IfSome, IsCharBoundary, length, unwrap_or};
 ghost use Rattle.regex_lite_syntax.specs.Errors.{out_of_memory};
 ghost use Rattle.regex_lite_engine.specs.Search.Answer.{Found};
-ghost use Rattle.regex_lite.specs.Ahead.{AreGroupsFound, GivesMatchWithSlots, ahead, most_ahead, whole};
+ghost use Rattle.regex_lite.specs.Ahead.{AreGroupsFound, GivesMatchWithSlots, after, ahead, most_ahead, whole};
 ghost use Rattle.regex_lite.specs.Compiled.{AreOfRegex};
 ghost use Rattle.regex_lite.specs.NextMatch.{IsNextOffset, TellsNextMatch};
 ghost use Rattle.regex_lite.specs.Scanning.{HasSlotsForGroups, IsAnswerIfEmpty, IsBehindAnswer, IsEmptyFrom, IsMatchOfSearch};
@@ -57,8 +57,28 @@ impl<'r, 'h> Scan<'r, 'h> {
         ensures refused { IfErr result (λ error. error ≡ out_of_memory) }
     {
         Ok(Scan {
-            searcher: Searcher::new(regex, slots)?,
+            searcher: Searcher::new(regex, slots, haystack.len())?,
             cursor: Cursor::start(haystack, limit),
+        })
+    }
+
+    /// After a match that ended at this offset, with so many slots for a match. All that follow are
+    /// still to come.
+    pub fn after(
+        regex: &'r Regex,
+        haystack: &'h str,
+        ended: Option<usize>,
+        slots: usize,
+    ) -> Result<Scan<'r, 'h>, Error>
+        requires { IsCharBoundary haystack.now (unwrap_or ended 0) }
+        ensures ahead { IfOk result (λ scan. ahead scan ≡ after regex.now haystack.now ended) }
+        ensures begins { IfOk result (λ scan. scan.ended ≡ ended) }
+        ensures slots { IfOk result (λ scan. length scan.slots ≡ slots) }
+        ensures refused { IfErr result (λ error. error ≡ out_of_memory) }
+    {
+        Ok(Scan {
+            searcher: Searcher::new(regex, slots, haystack.len())?,
+            cursor: Cursor::after(haystack, ended),
         })
     }
 

@@ -38,14 +38,15 @@ impl<'r> Model for Searcher<'r> {
 }
 
 impl<'r> Searcher<'r> {
-    /// The regex with memory for its searches, whose matches have so many slots.
-    pub fn new(regex: &'r Regex, slots: usize) -> Result<Searcher<'r>, Error>
+    /// The regex with memory for its searches in haystacks of about so many bytes, whose matches
+    /// have so many slots.
+    pub fn new(regex: &'r Regex, slots: usize, bytes: usize) -> Result<Searcher<'r>, Error>
         ensures regex { IfOk result (λ searcher. searcher.regex ≡ regex.now) }
         ensures slots { IfOk result (λ searcher. length searcher.slots ≡ slots) }
         ensures refused { IfErr result (λ error. error ≡ out_of_memory) }
     {
         let graph = &regex.compiled.graph;
-        let inner = regex_lite_engine::Searcher::new(regex.alloc, graph, slots)?;
+        let inner = regex_lite_engine::Searcher::new(regex.alloc, graph, slots, bytes)?;
         Ok(Searcher { regex, inner })
     }
 

@@ -6,6 +6,7 @@ use Rattle.regex_lite_engine.specs.declared.pikevm.here.Here.{Here}
 use Rattle.regex_lite_engine.specs.Search.Bounds.{StepCounts}
 use Rattle.regex_lite_engine.specs.declared.pikevm.walk.Walk.{Walk}
 use Rattle.regex_lite_engine.specs.Graph.Places.{Place, kept_back, kept_back_of}
+use Rattle.regex_lite_engine.specs.Walk.Again.{AreAlike, all_retold}
 use Rattle.regex_lite_engine.specs.Walk.InStep.{Offer}
 use Rattle.regex_lite_engine.specs.Walk.Machine.{Row, Frame, explore, Thread, thread_at, State}
 use Rattle.regex_lite_engine.specs.Walk.Room.{IsFit, HasRoom, Explores, WalksTo, due_tries, due_entries}
@@ -149,6 +150,14 @@ module _ (table : List (Place ℕ)) {S : Type 0} (w w1 : Walk S) (q : ℕ) (em :
         stepped table here now f n r0 t0 b0 k w1.memory.rounds w2.memory.rounds w1.memory.next w2.memory.next q i w1.memory.row w2.memory.row (explore q ∷ w1.memory.frames) done below at same_frames
         (same_walk (λ r n' t s. StepsTo table here now f n r0 t0 b0 k r t b0) steps)
         (subst (λ z. WalksTo table here i z w1.memory.rounds w1.memory.row (explore q ∷ w1.memory.frames) w1.memory.next w2.memory.rounds w2.memory.row [] w2.memory.next done) round_now explored.walks)
+
+    pub stepped_again : (f : ℕ → Thread) (n : ℕ) (r0 : List ℕ) (t0 : List Thread) (b0 : Best) (k : ℕ) (tell : Told → Told) (there : Here) → AreAlike table here there → k < n → f k ≡ (q, tell i, []) →
+        StepsTo table there now f n r0 t0 b0 k w.memory.rounds (all_retold tell w.memory.next) b0 →
+        StepsTo table there now f n r0 t0 b0 (if done then n else k + 1) w2.memory.rounds (all_retold tell w2.memory.next) (if done then Some (tell i, there.at, []) else b0)
+    stepped_again f n r0 t0 b0 k tell there alike below at steps =
+        stepped table there now f n r0 t0 b0 k w1.memory.rounds w2.memory.rounds (all_retold tell w1.memory.next) (all_retold tell w2.memory.next) q (tell i) [] [] (explore q ∷ w1.memory.frames) done below at same_frames
+        (same_walk (λ r n' t s. StepsTo table there now f n r0 t0 b0 k r (all_retold tell t) b0) steps)
+        (subst (λ z. WalksTo table there (tell i) z w1.memory.rounds [] (explore q ∷ w1.memory.frames) (all_retold tell w1.memory.next) w2.memory.rounds [] [] (all_retold tell w2.memory.next) done) round_now (explored.again tell there alike))
 
     pub spent_walk : (due k : ℕ) → due_tries table w.memory.rounds now [] w.memory.next w.steps.tried ≤ due + k → due_tries table w2.memory.rounds now [] w2.memory.next w2.steps.tried ≤ due + (k + 1)
     spent_walk due k so_far =

@@ -36,7 +36,7 @@ sum_lone [] = refl
 sum_lone (x ∷ table) = let more = sum_lone table in omega (arith, more, sum_by-cons lone x table)
 
 pub fit_first : (table : List (Place ℕ)) (memory memory' : State) (best : BestState) (tried entered looked : ℕ) →
-    IsReady table memory best tried entered looked → memory' ≡ record memory { now = memory.now + 1 } →
+    IsReady table memory best tried entered looked → memory' ≡ record memory { now = memory.now + 1; ready = memory'.ready } →
     tried + arrows_of table < 2 ^ 127 → entered + length table < 2 ^ 127 → IsFit table memory'.rounds memory'.now memory'.row [] memory'.room memory'.next tried entered looked
 fit_first table memory memory' best tried entered looked ready em few fewe =
     let rounds = memory'.rounds in let now = memory'.now in

@@ -10,10 +10,12 @@ use Rattle.regex_lite_engine.specs.declared.pikevm.here.Here.{Here}
 use Rattle.regex_lite_engine.specs.Graph.Places.{Place, with_arrows, kept_back, reading_count}
 use Rattle.regex_lite_engine.specs.Graph.Renumbered.{arrow_count}
 use Rattle.regex_lite_engine.specs.Graph.Stored.{LeadsBelow, place_of}
+use Rattle.regex_lite_engine.specs.Walk.Again.{all_retold}
 use Rattle.regex_lite_engine.specs.Walk.Entering.{completes, Enters}
 use Rattle.regex_lite_engine.specs.Walk.Machine.{Row, Frame, explore, restore, unwound, Thread, thread_at}
-use Rattle.regex_lite_engine.specs.Walk.Room.{left_of, lone, weight, due_tries, due_entries, explores, FramesBelow, IsFit, WalksTo, Went}
+use Rattle.regex_lite_engine.specs.Walk.Room.{left_of, lone, weight, due_tries, due_entries, explores, FramesBelow, IsFit, WalksTo, WalksAgain, Went}
 use Rattle.regex_lite_engine.specs.Walk.Walking.{IsWalking}
+use Rattle.regex_lite_engine.proofs.pikevm.AgainLemmas.{entered_again}
 use Rattle.regex_lite_engine.proofs.pikevm.EnterLemmas.{walk_enters}
 use Rattle.regex_lite_engine.proofs.pikevm.OptionLemmas.{not_there, same_some}
 use Rattle.regex_lite_engine.proofs.pikevm.WalkLemmas.{walk_seen, walk_restored}
@@ -41,6 +43,7 @@ went_seen table here i now rounds rounds' row q fs room t tried entered looked f
         looked_entered = fit.looked_entered;
       };
       walks = λ h p is s first last from f k n best w. walk_seen table h s first last p from now i f k n (thread_at t) (length t) best rounds row q fs (omega (arith, all, lt)) was w;
+      again = λ tell there alike h p is s first last from f k n best w. walk_seen table h s first last p from now (tell i) f k n (thread_at (all_retold tell t)) (length (all_retold tell t)) best rounds [] q fs (omega (arith, all, lt)) was w;
       less = λ d. omega arith;
       cleared = λ d. cc;
       spent = omega arith;
@@ -67,6 +70,7 @@ went_restored table here i now rounds row slot old fs room t tried entered looke
         looked_entered = fit.looked_entered;
       };
       walks = λ h p is s first last from f k n best w. walk_restored table h s first last p from now i f k n (thread_at t) (length t) best rounds row slot old fs w;
+      again = λ tell there alike h p is s first last from f k n best w. walk_restored table h s first last p from now (tell i) f k n (thread_at (all_retold tell t)) (length (all_retold tell t)) best rounds [] slot old fs w;
       less = λ d. omega arith;
       cleared = λ d. cc;
       spent = omega arith;
@@ -111,6 +115,7 @@ went_entered table here i now rounds rounds' row row' q x fs fs' fs'' room t t' 
         looked_entered = omega (arith, looked_entered);
       };
       walks = walks_on done ef enters;
+      again = λ tell there alike. entered_again table here there i tell now rounds rounds' row row' q x fs fs' fs'' t t' done short new er at (alike q (place_of x) at) enters ef;
       less = λ d. (let same : length fs'' ≡ length fs' = (ap length ef ∙ ap (λ b. length (if b then [] else fs')) d) in omega (arith, work_left, few1, same));
       cleared = λ d. ef ∙ ap (λ b. if b then [] else fs') d;
       spent = omega (arith, arrows_left, few0, ends);
@@ -168,6 +173,7 @@ goes_on onward.Complete d = absurd (d refl)
 pub record IsUnder (table : List (Place ℕ)) (here : Here) (i : Told) (now : ℕ) (rounds : List ℕ) (row : Row) (frames : List Frame) (t : List Thread) (tried entered : ℕ)
     (rounds' : List ℕ) (row' : Row) (frames' : List Frame) (t' : List Thread) (tried' entered' : ℕ) : Type 0 where
   pub walks : WalksTo table here i now rounds row frames t rounds' row' frames' t' false
+  pub again : WalksAgain table here i now rounds frames t rounds' frames' t' false
   pub spent : due_tries table rounds' now frames' t' tried' ≤ due_tries table rounds now frames t tried
   pub spent_entries : due_entries table rounds' now entered' ≤ due_entries table rounds now entered
 
@@ -181,12 +187,12 @@ pub went_back : (table : List (Place ℕ)) (here : Here) (i : Told) (now : ℕ) 
     IsFit table rounds now row fs room t tried entered looked → IsBack table here i now rounds row fs (unwound row fs) room t tried entered looked
 went_back table here i now rounds row [] room t tried entered looked fit = record {
   fit = fit;
-  under = record { walks = λ h p is s first last from f k n best w. w; spent = omega arith; spent_entries = omega arith };
+  under = record { walks = λ h p is s first last from f k n best w. w; again = λ tell there alike h p is s first last from f k n best w. w; spent = omega arith; spent_entries = omega arith };
   few = omega arith;
 }
 went_back table here i now rounds row (explore q ∷ fs) room t tried entered looked fit = record {
   fit = fit;
-  under = record { walks = λ h p is s first last from f k n best w. w; spent = omega arith; spent_entries = omega arith };
+  under = record { walks = λ h p is s first last from f k n best w. w; again = λ tell there alike h p is s first last from f k n best w. w; spent = omega arith; spent_entries = omega arith };
   few = omega arith;
 }
 went_back table here i now rounds row (restore slot old ∷ fs) room t tried entered looked fit =
@@ -198,6 +204,7 @@ went_back table here i now rounds row (restore slot old ∷ fs) room t tried ent
       fit = more.fit;
       under = record {
         walks = λ h p is s first last from f k n best w. more.under.walks h p is s first last from f k n best (one.walks h p is s first last from f k n best w);
+        again = λ tell there alike h p is s first last from f k n best w. more.under.again tell there alike h p is s first last from f k n best (one.again tell there alike h p is s first last from f k n best w);
         spent = omega (arith, spent, spent_more);
         spent_entries = omega (arith, entries, entries_more);
       };
@@ -217,6 +224,23 @@ under_back table here i now rounds row fs t tried entered rounds1 row1 fs1 t1 tr
     let entries = under.spent_entries in let entries1 = went.spent_entries in let entries2 = back.under.spent_entries in
     record {
       walks = λ h p is s first last from f k n best w. back.under.walks h p is s first last from f k n best (went.walks h p is s first last from f k n best (under.walks h p is s first last from f k n best w));
+      again = λ tell there alike h p is s first last from f k n best w. back.under.again tell there alike h p is s first last from f k n best (went.again tell there alike h p is s first last from f k n best (under.again tell there alike h p is s first last from f k n best w));
       spent = omega (arith, spent, spent1, spent2);
       spent_entries = omega (arith, entries, entries1, entries2);
+    }
+
+-- so far, then a place
+pub under_more : (table : List (Place ℕ)) (here : Here) (i : Told) (now : ℕ) (rounds : List ℕ) (row : Row) (fs : List Frame) (t : List Thread) (tried entered : ℕ)
+    (rounds1 : List ℕ) (row1 : Row) (fs1 : List Frame) (t1 : List Thread) (tried1 entered1 : ℕ)
+    (rounds2 : List ℕ) (row2 : Row) (fs2 : List Frame) (room : ℕ) (t2 : List Thread) (tried2 entered2 looked2 : ℕ) →
+    IsUnder table here i now rounds row fs t tried entered rounds1 row1 fs1 t1 tried1 entered1 →
+    Went table here i now rounds1 row1 fs1 t1 tried1 entered1 rounds2 row2 fs2 room t2 tried2 entered2 looked2 false →
+    IsUnder table here i now rounds row fs t tried entered rounds2 row2 fs2 t2 tried2 entered2
+under_more table here i now rounds row fs t tried entered rounds1 row1 fs1 t1 tried1 entered1 rounds2 row2 fs2 room t2 tried2 entered2 looked2 under went =
+    let spent = under.spent in let spent1 = went.spent in let entries = under.spent_entries in let entries1 = went.spent_entries in
+    record {
+      walks = λ h p is s first last from f k n best w. went.walks h p is s first last from f k n best (under.walks h p is s first last from f k n best w);
+      again = λ tell there alike h p is s first last from f k n best w. went.again tell there alike h p is s first last from f k n best (under.again tell there alike h p is s first last from f k n best w);
+      spent = omega (arith, spent, spent1);
+      spent_entries = omega (arith, entries, entries1);
     }

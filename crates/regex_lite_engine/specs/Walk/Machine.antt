@@ -1,5 +1,5 @@
 -- What a search keeps while it goes over one position.
-use Rattle.std.specs.Prelude.{ℕ, List, [], ◌∷◌, Option, slice_index_or, slice_set}
+use Rattle.std.specs.Prelude.{ℕ, Bool, List, [], ◌∷◌, Option, slice_index_or, slice_set}
 use Rattle.regex_lite_engine.specs.Walk.Beginnings.{Told, untold}
 
 -- the offset that each slot holds
@@ -40,6 +40,8 @@ pub record State : Type 0 where
   pub next : List Thread
   -- how many threads there may be in each list
   pub room : ℕ
+  -- whether there is a cell for each place
+  pub ready : Bool
 
 -- what the store of the best match stands for: what is told of its start, and the offset of its
 -- end; its row, or that of an earlier match

@@ -7,6 +7,7 @@ use Rattle.regex_lite_engine.specs.declared.pikevm.here.Here.{Here}
 use Rattle.regex_lite_engine.specs.declared.pikevm.walk.Walk.{Walk}
 use Rattle.regex_lite_engine.specs.Graph.Places.{Place, kept_back, reading_count, reading_of}
 use Rattle.regex_lite_engine.specs.Graph.Renumbered.{arrow_count}
+use Rattle.regex_lite_engine.specs.Walk.Again.{AreAlike, all_retold}
 use Rattle.regex_lite_engine.specs.Walk.Machine.{Row, Frame, explore, restore, Thread, thread_at, State}
 use Rattle.regex_lite_engine.specs.Walk.Standing.{IsHere}
 use Rattle.regex_lite_engine.specs.Walk.Walking.{Best, IsWalking}
@@ -78,6 +79,14 @@ module _ (table : List (Place ℕ)) where
       (if done then n else k) n (thread_at next') (length next')
       (if done then Some (i, here.at, row') else best)
 
+  -- the same from wherever it looks the same, with something else told
+  abbrev pub WalksAgain : Here → (i : Told) → (now : ℕ) → (rounds : List ℕ) → List Frame
+      → List Thread → (rounds' : List ℕ) → List Frame → List Thread → (done : Bool) → Type 0
+  WalksAgain here i now rounds frames next rounds' frames' next' done =
+      (tell : Told → Told) (there : Here) → AreAlike table here there
+      → WalksTo there (tell i) now rounds [] frames (all_retold tell next) rounds' [] frames'
+      (all_retold tell next') done
+
   -- a frame was taken off, or all of them where a match is complete
   pub record Went (here : Here) (i : Told) (now : ℕ) (rounds : List ℕ) (row : Row)
       (frames : List Frame)
@@ -86,6 +95,7 @@ module _ (table : List (Place ℕ)) where
       (done : Bool) : Type 0 where
     pub fit : IsFit rounds' now row' frames' room next' tried' entered' looked'
     pub walks : WalksTo here i now rounds row frames next rounds' row' frames' next' done
+    pub again : WalksAgain here i now rounds frames next rounds' frames' next' done
     pub less : done ≡ false → work rounds' now frames' < work rounds now frames
     pub cleared : done ≡ true → frames' ≡ []
     pub spent :
@@ -112,6 +122,8 @@ module _ (table : List (Place ℕ)) where
       (frames : List Frame) (done : Bool) : Type 0 where
     pub walks : WalksTo here i walk.memory.now walk.memory.rounds walk.memory.row frames
         walk.memory.next walk'.memory.rounds walk'.memory.row [] walk'.memory.next done
+    pub again : WalksAgain here i walk.memory.now walk.memory.rounds frames walk.memory.next
+        walk'.memory.rounds [] walk'.memory.next done
     pub spent :
         due_tries walk'.memory.rounds walk.memory.now [] walk'.memory.next walk'.steps.tried
         ≤ due_tries walk.memory.rounds walk.memory.now frames walk.memory.next walk.steps.tried

@@ -1,21 +1,30 @@
 -- What a search works in, as one value.
-use Rattle.std.specs.Prelude.{◌≡◌, ◌+◌, ◌^◌, ◌≤◌, ◌<◌, ℕ, List, [], length}
+use Rattle.std.specs.Prelude.{◌≡◌, ◌+◌, ◌^◌, ◌≤◌, ◌<◌, ℕ, Bool, true, false, List, [], None, length}
+use Rattle.regex_lite_syntax.specs.Text.{Text}
 use Rattle.regex_lite_engine.specs.declared.pikevm.here.Here.{Here}
 use Rattle.regex_lite_engine.specs.declared.pikevm.patterns.Start.{Start}
 use Rattle.regex_lite_engine.specs.declared.pikevm.turn.Cache.{Cache}
 use Rattle.regex_lite_engine.specs.Graph.Parts.{row_of}
 use Rattle.regex_lite_engine.specs.Graph.Places.{Place, kept_back_of}
 use Rattle.regex_lite_engine.specs.Graph.Renumbered.{arrows_of}
-use Rattle.regex_lite_engine.specs.Walk.Beginnings.{Told}
+use Rattle.regex_lite_engine.specs.Walk.Again.{AreAlike, all_retold, best_again}
+use Rattle.regex_lite_engine.specs.Walk.Beginnings.{Told, Tells}
 use Rattle.regex_lite_engine.specs.Walk.Machine.{Thread, thread_at}
 use Rattle.regex_lite_engine.specs.Walk.Room.{KeepsPosition, ThreadsBelow, due_tries, due_entries}
-use Rattle.regex_lite_engine.specs.Walk.Turns.{best_of, with_starts, StepsTo, IsReady}
+use Rattle.regex_lite_engine.specs.Walk.Standing.{IsHere}
+use Rattle.regex_lite_engine.specs.Walk.Turns.{best_of, with_starts, AreStartsAt, IsComing, StepsTo, IsReady}
+use Rattle.regex_lite_engine.specs.Walk.Walking.{Best}
 
 -- the ways that are followed at a position: its threads, and its own starts
 abbrev pub ways_at : {S : Type 0} → List Start → (told : ℕ → Told) → Cache S → List Thread
 ways_at starts told cache =
     with_starts starts told (best_of cache.best) (length cache.walk.memory.row)
     cache.walk.memory.threads
+
+-- there is a match that was complete there, or that of before
+abbrev pub IsHit : (hit : Bool) → (before after : Best) → Type 0
+IsHit true before after = after ≡ None → ⊥
+IsHit false before after = after ≡ before
 
 module _ (table : List (Place ℕ)) where
   -- between two positions
@@ -53,6 +62,32 @@ module _ (table : List (Place ℕ)) where
     pub stack_empty : cache'.walk.memory.frames ≡ []
     pub kept : KeepsPosition cache.walk.memory cache'.walk.memory
     pub best_width : length cache'.best.row ≡ length cache.best.row
+
+  -- they would be wherever it looks the same, whatever is told of where the ways began
+  abbrev pub FollowsAgain : {S : Type 0} → Here → (ways : List Thread) → Cache S → Cache S
+      → (hit : Bool) → Type 0
+  FollowsAgain here ways cache cache' hit =
+      (tell : Told → Told) (there : Here) (best : Best) → AreAlike table here there
+      → StepsTo table there cache.walk.memory.now (thread_at (all_retold tell ways)) (length ways)
+      cache.walk.memory.rounds (all_retold tell cache.walk.memory.next) best (length ways)
+      cache'.walk.memory.rounds (all_retold tell cache'.walk.memory.next)
+      (best_again tell there.at hit (best_of cache'.best) best)
+
+  -- a turn holds again wherever it looks the same and the same starts suffice, as long as there is a
+  -- match in both or in neither
+  abbrev pub TurnsAgain : {S : Type 0} → List Start → Here → (told : ℕ → Told) → Cache S → Cache S
+      → (hit : Bool) → Type 0
+  TurnsAgain starts here told cache cache' hit =
+      (tell : Told → Told) (there : Here) (best : Best) → AreAlike table here there
+      → ((number : ℕ) → Tells (tell (told number)) there.at number)
+      → (best ≡ None → best_of cache.best ≡ None) → (best_of cache.best ≡ None → best ≡ None)
+      → (haystack : Text) (entries : List ℕ) (p first last : ℕ) → IsHere haystack p there
+      → first ≤ p → p ≤ last → AreStartsAt table haystack entries p starts
+      → IsComing table haystack entries first last p (all_retold tell cache.walk.memory.threads)
+      best
+      → IsComing table haystack entries first last (p + 1)
+      (all_retold tell cache'.walk.memory.threads)
+      (best_again tell there.at hit (best_of cache'.best) best)
 
   -- a position has cost no more than what is in this part of the table, and so many starts
   pub record SpendsWithin {S : Type 0} (low len starts : ℕ) (cache cache' : Cache S) : Type 0 where

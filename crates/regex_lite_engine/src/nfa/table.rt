@@ -1,12 +1,15 @@
 //! Numbered places in a table: what the graph of one pattern and that of several have in common.
-ghost use Rattle.std.specs.Prelude.{◌≡◌, ◌+◌, ◌^◌, ◌<◌, length, map, slice_get, sum_by, Some};
+ghost use Rattle.std.specs.Prelude.{◌≡◌, ◌+◌, ◌^◌, ◌<◌, length, map, slice_get, sum_by, IfOk, IfSome, Some};
 ghost use Rattle.regex_lite_engine.specs.Graph.Places.{kept_back_of, kept_back_with, reading_of};
 ghost use Rattle.regex_lite_engine.specs.Graph.Renumbered.{arrows_of};
+ghost use Rattle.regex_lite_engine.specs.LazyDfa.Intervals.{AreIntervalsOf};
 ghost use Rattle.regex_lite_engine.specs.Graph.Stored.{IsClosed, LeadsBelow, place_of, places_of};
 
+use crate::lazy_dfa::classes::Classes;
 use crate::nfa::kept_back::KeptBack;
 use crate::nfa::place::Place;
 use crate::pikevm::steps::Steps;
+use std::alloc::{AllocError, Global};
 use std::marker::Model;
 
 /// The places of a graph by number. Their arrows lead to places of the table.
@@ -70,6 +73,13 @@ impl Table {
     {
         steps.count_look();
         &self.places[place as usize]
+    }
+
+    /// The classes of characters that its places don't tell apart; none where there are too many.
+    pub(crate) fn classes(&self, alloc: Global) -> Result<Option<Classes>, AllocError>
+        ensures { IfOk result (λ made. IfSome made (AreIntervalsOf self.now.places)) }
+    {
+        Classes::of(alloc, &self.places)
     }
 
     /// How many places there are.

@@ -1,5 +1,5 @@
 //! One place entered: what its arrows offer.
-ghost use Rattle.std.specs.Prelude.{◌≡◌, ◌+◌, ◌^◌, ◌≤◌, ◌<◌, ◌∷◌, ℕ, length};
+ghost use Rattle.std.specs.Prelude.{◌≡◌, ◌+◌, ◌^◌, ◌≤◌, ◌<◌, ◌∷◌, ℕ, length, true};
 ghost use Rattle.regex_lite_syntax.specs.Ranges.{in_ranges};
 ghost use Rattle.regex_lite_syntax.specs.Sets.{just};
 ghost use Rattle.regex_lite_engine.specs.Graph.Places.{kept_back};
@@ -28,10 +28,16 @@ pub enum Onward {
 
 /// Tells which place is the first that this one offers at this position. The others are put on the
 /// stack, and what it offers at the next position after the threads there.
-pub fn enter<S: Beginning>(place: &Place, here: Here, start: S, memory: &mut Memory<S>) -> Onward
+pub fn enter<S: Beginning, const READY: bool>(
+    place: &Place,
+    here: Here,
+    start: S,
+    memory: &mut Memory<S>,
+) -> Onward
     requires room { length memory.old.frames + (kept_back (place_of place.now) + 1)
         ≤ length memory.old.rounds }
     requires next_room { length memory.old.next < memory.old.room }
+    requires ready { READY ≡ true → memory.old.ready ≡ true }
     ensures entered { Enters here (S.told start) place.now memory.old.row memory.old.frames
         memory.old.next memory.new.row (onto result memory.new.frames) memory.new.next
         (completes result) }
@@ -43,9 +49,11 @@ pub fn enter<S: Beginning>(place: &Place, here: Here, start: S, memory: &mut Mem
 {
     match place {
         Place::Empty { to } => return Onward::To(*to),
-        Place::Char { c, to } => read_on(is_read(*c, here.after), *to, start, memory),
+        Place::Char { c, to } => {
+            read_on::<S, READY>(is_read(*c, here.after), *to, start, memory);
+        }
         Place::Class { to, set } => {
-            read_on(is_in_set(set, here.after), *to, start, memory);
+            read_on::<S, READY>(is_in_set(set, here.after), *to, start, memory);
         }
         Place::Look { look, to } => {
             if look.holds(here.before, here.after) {
@@ -53,14 +61,14 @@ pub fn enter<S: Beginning>(place: &Place, here: Here, start: S, memory: &mut Mem
             }
         }
         Place::Slot { slot, to } => {
-            mark(*slot, here.at, memory);
+            mark::<S, READY>(*slot, here.at, memory);
             return Onward::To(*to);
         }
         Place::Choice { first, second } => {
-            memory.push(Frame::Explore(*second));
+            memory.push::<READY>(Frame::Explore(*second));
             return Onward::To(*first);
         }
-        Place::Branches(entries) => memory.push_all(entries),
+        Place::Branches(entries) => memory.push_all::<READY>(entries),
         Place::Match => return Onward::Complete,
     }
     Onward::Back
@@ -87,21 +95,23 @@ fn is_in_set(set: &MappedClass, after: Option<char>) -> bool
 }
 
 /// Goes on after the character, where it is read.
-fn read_on<S: Beginning>(reads: bool, to: u32, start: S, memory: &mut Memory<S>)
-    requires { length memory.old.next < memory.old.room }
+fn read_on<S: Beginning, const READY: bool>(reads: bool, to: u32, start: S, memory: &mut Memory<S>)
+    requires room { length memory.old.next < memory.old.room }
+    requires ready { READY ≡ true → memory.old.ready ≡ true }
     ensures reads { ReadsOn reads memory.old.next memory.new.next
         (to, S.told start, memory.old.row) }
     ensures same { memory.new ≡ record memory.old { next = memory.new.next } }
 {
     if reads {
-        memory.push_next(to, start);
+        memory.push_next::<READY>(to, start);
     }
 }
 
 /// Marks the slot, if it is kept.
-fn mark<S: Beginning>(slot: u32, at: usize, memory: &mut Memory<S>)
+fn mark<S: Beginning, const READY: bool>(slot: u32, at: usize, memory: &mut Memory<S>)
     requires room { length memory.old.frames < length memory.old.rounds }
     requires small { at + 1 < 2 ^ 64 }
+    requires ready { READY ≡ true → memory.old.ready ≡ true }
     ensures marked { (to : ℕ) → SlotMarked at slot to memory.old.row memory.old.frames
         memory.new.row (explore to ∷ memory.new.frames) }
     ensures same { memory.new
@@ -112,7 +122,7 @@ fn mark<S: Beginning>(slot: u32, at: usize, memory: &mut Memory<S>)
         // Where nothing else is left to do, nobody asks what the slot held.
         if !memory.is_done() {
             let old = row[slot as usize];
-            memory.push(Frame::Restore { slot, old });
+            memory.push::<READY>(Frame::Restore { slot, old });
         }
         memory.put(slot, Slot::marked(at));
     }

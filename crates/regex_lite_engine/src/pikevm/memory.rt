@@ -1,5 +1,5 @@
 //! All that a search works in.
-ghost use Rattle.std.specs.Prelude.{◌≡◌, ◌+◌, ◌*◌, ◌^◌, ◌≤◌, ◌<◌, [], ℕ, IfOk, length, map, slice_index, slice_set};
+ghost use Rattle.std.specs.Prelude.{◌≡◌, ◌+◌, ◌*◌, ◌^◌, ◌≤◌, ◌<◌, [], ℕ, IfOk, length, map, slice_index, slice_set, vec_capacity};
 ghost use Rattle.regex_lite_engine.specs.Walk.Cells.{round_in};
 
 use crate::pikevm::beginning::Beginning;
@@ -13,19 +13,28 @@ use std::marker::Model;
 /// characters.
 const MOST_ROUNDS: u64 = 1 << 63;
 
+/// So many cells are made ready at once: they cost less than to make them ready one after another.
+const FEW: usize = 32;
+
 /// The working memory of a search. It is asked for by one request, or by two where slots are kept.
 #[derive(Drop)]
 pub struct Memory<S: Beginning> {
-    /// One for each place of the graph.
+    /// One for each place of the graph from `low` on. There is room for all, and those that a search
+    /// doesn't come to are not written: it needs few of them where the text is short.
     pub(super) cells: Vec<Cell<S>>,
+    /// The places below this one have no cell yet, and were not entered. The graph is written from
+    /// its end, so that a search begins with the highest.
+    pub(super) low: usize,
+    /// There is a cell for each place, so that a search has nothing to test.
+    pub(super) ready: bool,
     /// The row of the way that is followed, and those of the threads of both lists.
     pub(super) rows: Rows,
     /// How many threads each list has room for.
     pub(super) room: usize,
     /// The places that were entered in this round are those entered at this position.
     pub(super) round: u64,
-    /// The frames lie from here to the end, the next one first.
-    pub(super) top: usize,
+    /// How many frames there are. They lie in the first cells, the next one last.
+    pub(super) depth: usize,
     /// The list of the position's threads. That of the next position's is the other.
     pub(super) side: Side,
     pub(super) len: usize,
@@ -33,25 +42,26 @@ pub struct Memory<S: Beginning> {
 }
 
 impl<S: Beginning> Model for Memory<S> {
-    ghost use Rattle.std.specs.Prelude.{map};
+    ghost use Rattle.std.specs.Prelude.{vec_capacity};
     ghost use Rattle.regex_lite_engine.specs.Walk.Machine.{State};
-    ghost use Rattle.regex_lite_engine.specs.Walk.Cells.{round_in, frames_in, nth_row, threads_on, other, HoldTogether};
+    ghost use Rattle.regex_lite_engine.specs.Walk.Cells.{rounds_in, frames_in, nth_row, threads_on, other, HoldTogether};
 
     ghost Value = { State };
 
     ghost view = { λ memory. record {
-      rounds = map round_in memory.cells.items;
+      rounds = rounds_in memory.low memory.cells.items;
       now = memory.round;
-      frames = frames_in memory.cells.items memory.top;
+      frames = frames_in memory.cells.items memory.depth;
       row = nth_row memory.rows 0;
       threads = threads_on S.told memory.side memory.cells.items memory.rows memory.room memory.len;
       next = threads_on S.told (other memory.side) memory.cells.items memory.rows memory.room
           memory.next_len;
       room = memory.room;
+      ready = memory.ready;
     } };
 
-    ghost invariant = { λ memory. HoldTogether memory.cells.items memory.rows memory.room
-        memory.top memory.len memory.next_len };
+    ghost invariant = { λ memory. HoldTogether memory.cells.items (vec_capacity memory.cells)
+        memory.low memory.ready memory.rows memory.room memory.depth memory.len memory.next_len };
 }
 
 impl<S: Beginning> Memory<S> {
@@ -74,14 +84,17 @@ impl<S: Beginning> Memory<S> {
     {
         let count = room.checked_mul(2).ok_or(AllocError)?;
         let count = count.checked_add(1).ok_or(AllocError)?;
-        let cells = vec![in alloc; Cell::blank(); places]?;
+        let cells = cells_for(alloc, places)?;
         let rows = Rows::blank(alloc, count, width)?;
+        let low = places - cells.len();
         Ok(Memory {
             cells,
+            low,
+            ready: low == 0,
             rows,
             room,
             round: 0,
-            top: places,
+            depth: 0,
             side: Side::First,
             len: 0,
             next_len: 0,
@@ -107,7 +120,7 @@ impl<S: Beginning> Memory<S> {
             clear_rounds(&mut self.cells);
             self.round = 0;
         }
-        self.top = self.cells.len();
+        self.depth = 0;
         self.len = 0;
         self.next_len = 0;
     }
@@ -135,10 +148,25 @@ impl<S: Beginning> Memory<S> {
     }
 }
 
+/// Cells for so many places, and none of them ready where there are more than a few.
+fn cells_for<S: Beginning>(alloc: Global, places: usize) -> Result<Vec<Cell<S>>, AllocError>
+    ensures few { IfOk result (λ cells. length cells.items ≤ places) }
+    ensures room { IfOk result (λ cells. places ≤ vec_capacity cells) }
+    ensures old { IfOk result (λ cells. (q : ℕ)
+        → slice_index (map round_in cells.items) q ≤ 0) }
+{
+    if places <= FEW {
+        let cells = vec![in alloc; Cell::blank(); places]?;
+        return Ok(cells);
+    }
+    Vec::with_capacity(alloc, places)
+}
+
 /// Forgets in which rounds the places were entered.
 fn clear_rounds<S: Beginning>(cells: &mut Vec<Cell<S>>)
     ensures rounds { (q : ℕ) → slice_index (map round_in cells.new.items) q ≤ 0 }
     ensures length { length cells.new.items ≡ length cells.old.items }
+    ensures capacity { vec_capacity cells.new ≡ vec_capacity cells.old }
 {
     'cells: for k in 0..cells.len() {
         cells[k].entered = 0;

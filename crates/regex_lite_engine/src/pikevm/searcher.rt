@@ -9,6 +9,8 @@ ghost use Rattle.regex_lite_engine.specs.Walk.Outcomes.{IsFresh};
 ghost use Rattle.regex_lite_engine.specs.Walk.Searching.{IsBetween};
 
 use crate::Graph;
+use crate::lazy_dfa::automaton::LazyDfa;
+use crate::lazy_dfa::remembering::pays;
 use crate::pikevm::beginning::Beginning;
 use crate::pikevm::cache_for;
 use crate::pikevm::one_pattern::OnePattern;
@@ -23,10 +25,14 @@ use std::marker::Model;
 pub struct Searcher<'g> {
     graph: &'g Graph,
     cache: Cache<usize>,
+    /// What is remembered of the turns of earlier searches, where that pays.
+    dfa: Option<LazyDfa>,
 }
 
 impl<'g> Model for Searcher<'g> {
+    ghost use Rattle.std.specs.Prelude.{length};
     ghost use Rattle.regex_lite_engine.specs.Graph.Stored.{table_of};
+    ghost use Rattle.regex_lite_engine.specs.LazyDfa.Remembering.{IsRemembering};
     ghost use Rattle.regex_lite_engine.specs.Search.Searching.{Searching};
     ghost use Rattle.regex_lite_engine.specs.Walk.Outcomes.{IsCountable};
     ghost use Rattle.regex_lite_engine.specs.Walk.Searching.{IsBetween};
@@ -39,26 +45,39 @@ impl<'g> Model for Searcher<'g> {
     } };
 
     ghost invariant = { λ searcher. IsBetween (table_of searcher.graph.now) searcher.cache
-        × IsCountable (table_of searcher.graph.now) };
+        × IsCountable (table_of searcher.graph.now)
+        × IsRemembering searcher.graph.now (length searcher.cache.best.row) searcher.dfa };
 }
 
 impl<'g> Searcher<'g> {
-    /// A searcher of this graph, whose matches have so many slots. All the memory of its searches
-    /// is asked for here.
+    /// A searcher of this graph, whose matches have so many slots, for haystacks of about so many
+    /// bytes. All the memory that its searches need is asked for here. Without slots and in long
+    /// haystacks its searches remember their turns, unless the memory for that is refused: the
+    /// answers are the same.
     ///
     /// # Errors
     ///
-    /// Where a growth is refused.
-    pub fn new(alloc: Global, graph: &'g Graph, slots: usize) -> Result<Searcher<'g>, AllocError>
+    /// Where a growth is refused without which it can't search.
+    pub fn new(
+        alloc: Global,
+        graph: &'g Graph,
+        slots: usize,
+        bytes: usize,
+    ) -> Result<Searcher<'g>, AllocError>
         ensures graph { IfOk result (λ searcher. searcher.graph ≡ graph.now) }
         ensures slots { IfOk result (λ searcher. length searcher.slots ≡ slots) }
     {
         let cache = cache_for(alloc, graph.table(), slots)?;
-        Ok(Searcher { graph, cache })
+        let dfa = if slots == 0 && pays(graph, bytes) {
+            LazyDfa::for_graph(alloc, graph)
+        } else {
+            None
+        };
+        Ok(Searcher { graph, cache, dfa })
     }
 
     /// Where the most preferred match starts and ends, from the least start at or after this
-    /// offset. It takes no memory, and [`Searcher::slots`] has the slots of the match.
+    /// offset. It needs no memory, and [`Searcher::slots`] has the slots of the match.
     ///
     /// Condition: the start is above the haystack's length or on a character boundary.
     pub fn search(&mut self, haystack: &str, start: usize) -> Option<(usize, usize)>
@@ -72,6 +91,9 @@ impl<'g> Searcher<'g> {
             return None;
         }
         restart(&mut self.cache);
+        if let Some(dfa) = &mut self.dfa {
+            return dfa.find(self.graph, &mut self.cache, haystack, start);
+        }
         let mut pattern = OnePattern {
             graph: self.graph,
             may_start: false,

@@ -1,5 +1,5 @@
 //! What a walk still has to do at a position, last put first out.
-ghost use Rattle.std.specs.Prelude.{◌≡◌, ◌↔◌, ◌+◌, ◌≤◌, ◌<◌, ◌++◌, [], ◌∷◌, ℕ, IsTrue, MatchOption, length, map};
+ghost use Rattle.std.specs.Prelude.{◌≡◌, ◌↔◌, ◌+◌, ◌≤◌, ◌<◌, ◌++◌, [], ◌∷◌, ℕ, IsTrue, MatchOption, length, map, true};
 ghost use Rattle.regex_lite_engine.specs.Walk.Cells.{frame_of};
 ghost use Rattle.regex_lite_engine.specs.Walk.Machine.{explore, unwound};
 ghost use Rattle.regex_lite_engine.specs.Walk.Room.{FramesBelow};
@@ -7,26 +7,30 @@ ghost use Rattle.regex_lite_engine.specs.Walk.Room.{FramesBelow};
 use crate::pikevm::beginning::Beginning;
 use crate::pikevm::cell::Frame;
 use crate::pikevm::memory::Memory;
+use crate::pikevm::ready::provide;
 
 impl<S: Beginning> Memory<S> {
     /// Puts the frame on top.
-    pub fn push(&mut self, frame: Frame)
-        requires { length self.old.frames < length self.old.rounds }
+    pub fn push<const READY: bool>(&mut self, frame: Frame)
+        requires room { length self.old.frames < length self.old.rounds }
+        requires ready { READY ≡ true → self.old.ready ≡ true }
         ensures { self.new
             ≡ record self.old { frames = frame_of frame ∷ self.old.frames } }
     {
-        self.top -= 1;
-        self.cells[self.top].frame = frame;
+        provide::<S, READY>(&mut self.cells, &mut self.low, self.depth);
+        self.cells[self.depth].frame = frame;
+        self.depth += 1;
     }
 
     /// Puts all these places on it, the first on top.
-    pub fn push_all(&mut self, places: &[u32])
-        requires { length places.now + length self.old.frames ≤ length self.old.rounds }
+    pub fn push_all<const READY: bool>(&mut self, places: &[u32])
+        requires room { length places.now + length self.old.frames ≤ length self.old.rounds }
+        requires ready { READY ≡ true → self.old.ready ≡ true }
         ensures { self.new
             ≡ record self.old { frames = map explore places.now ++ self.old.frames } }
     {
         for i in (0..places.len()).rev() {
-            self.push(Frame::Explore(places[i]));
+            self.push::<READY>(Frame::Explore(places[i]));
         }
     }
 
@@ -37,12 +41,11 @@ impl<S: Beginning> Memory<S> {
             (λ frame. (self.old.frames ≡ frame_of frame ∷ self.new.frames)
             × (self.new ≡ record self.old { frames = self.new.frames })) }
     {
-        if self.top == self.cells.len() {
+        if self.depth == 0 {
             return None;
         }
-        let frame = self.cells[self.top].frame;
-        self.top += 1;
-        Some(frame)
+        self.depth -= 1;
+        Some(self.cells[self.depth].frame)
     }
 
     /// Takes frames off, up to the next place, and answers it. Each slot that was marked since then
@@ -70,13 +73,13 @@ impl<S: Beginning> Memory<S> {
     pub fn is_done(&self) -> bool
         ensures { IsTrue result ↔ (self.now.frames ≡ []) }
     {
-        self.top == self.cells.len()
+        self.depth == 0
     }
 
     /// Drops all frames.
     pub fn drop_frames(&mut self)
         ensures { self.new ≡ record self.old { frames = [] } }
     {
-        self.top = self.cells.len();
+        self.depth = 0;
     }
 }

@@ -1,12 +1,13 @@
 //! Where a search goes on at a position and at the next: places in the order of their preference,
 //! each with where its way began and with a row of slots.
-ghost use Rattle.std.specs.Prelude.{◌≡◌, ◌+◌, ◌^◌, ◌<◌, ◌++◌, [], ◌∷◌, None, length, replicate};
+ghost use Rattle.std.specs.Prelude.{◌≡◌, ◌+◌, ◌^◌, ◌<◌, ◌++◌, [], ◌∷◌, None, length, replicate, true};
 ghost use Rattle.regex_lite_engine.specs.Walk.Cells.{row_on};
 ghost use Rattle.regex_lite_engine.specs.Walk.Machine.{thread_at};
 
 use crate::pikevm::beginning::Beginning;
 use crate::pikevm::cell::Side;
 use crate::pikevm::memory::Memory;
+use crate::pikevm::ready::provide;
 
 impl<S: Beginning> Memory<S> {
     /// How many threads the position has.
@@ -29,6 +30,15 @@ impl<S: Beginning> Memory<S> {
         self.cells[k].thread(self.side)
     }
 
+    /// The place of a thread of the position, and what is kept of where its way began.
+    pub fn thread(&self, k: usize) -> (u32, S)
+        requires { k < length self.now.threads }
+        ensures place { result.0 ≡ (thread_at self.now.threads k).0 }
+        ensures start { S.told result.1 ≡ (thread_at self.now.threads k).1 }
+    {
+        self.cells[k].thread(self.side)
+    }
+
     /// Begins a way with nothing marked.
     pub fn clear_row(&mut self)
         ensures { self.new ≡ record self.old { row = replicate (length self.old.row) None } }
@@ -37,8 +47,9 @@ impl<S: Beginning> Memory<S> {
     }
 
     /// Adds a thread to the next position, with the row that is followed.
-    pub fn push_next(&mut self, place: u32, start: S)
-        requires { length self.old.next < self.old.room }
+    pub fn push_next<const READY: bool>(&mut self, place: u32, start: S)
+        requires room { length self.old.next < self.old.room }
+        requires ready { READY ≡ true → self.old.ready ≡ true }
         ensures { self.new ≡ record self.old {
           next = self.old.next
               ++ (place, S.told start, self.old.row) ∷ [];
@@ -47,6 +58,7 @@ impl<S: Beginning> Memory<S> {
         let side = self.side.other();
         let k = self.next_len;
         self.rows.copy(0, row_of(side, k));
+        provide::<S, READY>(&mut self.cells, &mut self.low, k);
         self.cells[k].put_thread(side, place, start);
         self.next_len = k + 1;
     }

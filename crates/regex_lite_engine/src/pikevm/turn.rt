@@ -24,10 +24,11 @@ impl<S: Beginning> Cache<S> {
     ghost use Rattle.regex_lite_engine.specs.Walk.Room.{HasRoom};
     ghost use Rattle.regex_lite_engine.specs.Walk.Turns.{AreStartsAt, EndsAt, IsComing};
     ghost use Rattle.regex_lite_engine.specs.Graph.Parts.{IsOwnPart};
-    ghost use Rattle.regex_lite_engine.specs.Walk.Searching.{ways_at, IsPlaced, Follows, IsBetween, SpendsWithin};
+    ghost use Rattle.regex_lite_engine.specs.Walk.Searching.{ways_at, IsPlaced, Follows, FollowsAgain, IsHit, TurnsAgain, IsBetween, SpendsWithin};
 
-    /// Goes over the position. Its own starts come last, and only while there is no match.
-    pub fn turn<P: Patterns>(&mut self, patterns: &P, here: Here)
+    /// Goes over the position. Its own starts come last, and only while there is no match. Returns
+    /// whether a match is complete there.
+    pub fn turn<P: Patterns>(&mut self, patterns: &P, here: Here) -> bool
         requires ready { IsBetween (P.table patterns.now) self.old }
         requires inside { All (λ start. start.place < length (P.table patterns.now))
             (P.starts patterns.now) }
@@ -46,6 +47,9 @@ impl<S: Beginning> Cache<S> {
             self.old.walk.memory.threads (best_of self.old.best)
             → IsComing (P.table patterns.now) haystack entries first last (p + 1)
             self.new.walk.memory.threads (best_of self.new.best) }
+        ensures again { TurnsAgain (P.table patterns.now) (P.starts patterns.now) here
+            (S.told_of here.at) self.old self.new result }
+        ensures hit { IsHit result (best_of self.old.best) (best_of self.new.best) }
         ensures ends { EndsAt here.at (best_of self.old.best) (best_of self.new.best) }
         ensures width { length self.new.best.row ≡ length self.old.best.row }
         ensures tries { self.new.walk.steps.tried + length self.new.walk.memory.threads
@@ -65,13 +69,14 @@ impl<S: Beginning> Cache<S> {
         ensures round { self.new.walk.memory.now ≡ self.old.walk.memory.now + 1 }
     {
         self.walk.memory.begin_round();
-        self.follow(patterns, here);
+        let hit = self.follow(patterns, here);
         self.walk.memory.turn_over();
+        hit
     }
 
     /// Follows the threads of the position in order, and its own starts after them, up to the
-    /// first that comes to a match: those after it are less preferred.
-    fn follow<P: Patterns>(&mut self, patterns: &P, here: Here)
+    /// first that comes to a match: those after it are less preferred. Returns whether one does.
+    fn follow<P: Patterns>(&mut self, patterns: &P, here: Here) -> bool
         requires placed { IsPlaced (P.table patterns.now)
             (ways_at (P.starts patterns.now) (S.told_of here.at) self.old) self.old }
         requires inside { All (λ start. start.place < length (P.table patterns.now))
@@ -81,6 +86,10 @@ impl<S: Beginning> Cache<S> {
             < 2 ^ 64 }
         ensures followed { Follows (P.table patterns.now) here
             (ways_at (P.starts patterns.now) (S.told_of here.at) self.old) self.old self.new }
+        ensures again { FollowsAgain (P.table patterns.now) here
+            (ways_at (P.starts patterns.now) (S.told_of here.at) self.old) self.old self.new
+            result }
+        ensures hit { IsHit result (best_of self.old.best) (best_of self.new.best) }
         ensures room { HasRoom (P.table patterns.now) self.new.walk [] }
         ensures ends { EndsAt here.at (best_of self.old.best) (best_of self.new.best) }
         ensures kept { best_of self.new.best ≡ None → best_of self.old.best ≡ None }
@@ -92,9 +101,10 @@ impl<S: Beginning> Cache<S> {
             let (place, start) = self.walk.take_up(k, patterns, here.at);
             if self.walk.explore(place, patterns, here, start) {
                 self.best.set(start, here.at, self.walk.memory.row());
-                return;
+                return true;
             }
         }
+        false
     }
 
     /// How many ways are followed: those of the threads and, after them, the position's own

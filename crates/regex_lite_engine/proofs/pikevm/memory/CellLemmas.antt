@@ -1,8 +1,8 @@
 -- What a change of one cell changes.
-use Rattle.std.proofs.Common.{◌≡◌, ℕ, zero, suc, ◌+◌, ◌-◌, ◌*◌, ◌<◌, ◌≤◌, ◌⊎◌, List, [], ◌∷◌, length, map, drop, set, slice_index, slice_index_or, inl, inr, refl, sym, ap, ◌∙◌, arith}
+use Rattle.std.proofs.Common.{◌≡◌, ℕ, Bool, zero, suc, ◌+◌, ◌-◌, ◌*◌, ◌<◌, ◌≤◌, ◌⊎◌, List, [], ◌∷◌, ◌++◌, length, map, take, reverse, set, slice_index, slice_index_or, inl, inr, refl, sym, ap, ◌∙◌, arith}
 use Rattle.std.specs.List.{AllByRecursion}
 use Rattle.std.proofs.Math.Seq.{map-set_same}
-use Rattle.std.proofs.lemmas.List.{map-set, drop-set, length-map}
+use Rattle.std.proofs.lemmas.List.{map-set, length-map, length-reverse, length-take-le, reverse-append, take_more, take_more_set}
 use Rattle.regex_lite_engine.specs.declared.pikevm.cell.Cell.{Cell}
 use Rattle.regex_lite_engine.specs.declared.pikevm.cell.Frame as code
 use Rattle.regex_lite_engine.specs.declared.pikevm.cell.Side.{Side}
@@ -67,44 +67,39 @@ row_other Second j k lt e = omega (arith, lt, e)
 pub not_told : {S X : Type 0} (f : Cell S → X) (cells : List (Cell S)) (i : ℕ) (x y : Cell S) → x ≡ slice_index_or cells i x → f y ≡ f x → map f (set cells i y) ≡ map f cells
 not_told f cells i x y is e = map-set_same f cells i y x (e ∙ ap f is)
 
+pub told_at : {S X : Type 0} (f : Cell S → X) (d : X) (cells : List (Cell S)) (k : ℕ) (x : Cell S) → k < length cells → x ≡ slice_index_or cells k x → slice_index_or (map f cells) k d ≡ f x
+told_at f d [] k x lt is = absurd (omega (arith, lt))
+told_at f d (y ∷ cells) zero x lt is = ap f (sym is)
+told_at f d (y ∷ cells) (suc k) x lt is = told_at f d cells k x (omega (arith, lt)) is
+
 -- the frames
-pub frame_put : {S : Type 0} (cells : List (Cell S)) (top : ℕ) (y : Cell S) → 0 < top → top ≤ length cells → frames_in (set cells (top - 1) y) (top - 1) ≡ frame_in y ∷ frames_in cells top
-frame_put cells top y some fits =
-    let next : top - 1 + 1 ≡ top = omega (arith, some) in
-    ap (drop (top - 1)) (map-set frame_in cells (top - 1) y)
-    ∙ drop-set (map frame_in cells) (top - 1) (frame_in y) (omega (arith, some, fits, length-map cells frame_in))
-    ∙ ap (λ n. frame_in y ∷ drop n (map frame_in cells)) next
+pub frame_put : {S : Type 0} (cells : List (Cell S)) (depth : ℕ) (y : Cell S) → depth < length cells → frames_in (set cells depth y) (depth + 1) ≡ frame_in y ∷ frames_in cells depth
+frame_put cells depth y fits =
+    ap (λ fs. reverse (take (depth + 1) fs)) (map-set frame_in cells depth y)
+    ∙ ap reverse (take_more_set (map frame_in cells) depth (frame_in y) (omega (arith, fits, length-map cells frame_in)))
+    ∙ reverse-append (take depth (map frame_in cells)) (frame_in y ∷ [])
 
-pub frame_taken : {S : Type 0} (cells : List (Cell S)) (top : ℕ) (x : Cell S) → top < length cells → x ≡ slice_index_or cells top x → frames_in cells top ≡ frame_in x ∷ frames_in cells (top + 1)
-frame_taken [] top x lt is = absurd (omega (arith, lt))
-frame_taken (y ∷ cells) zero x lt is = ap (λ z. frame_in z ∷ map frame_in cells) (sym is)
-frame_taken (y ∷ cells) (suc top) x lt is =
-    let next : suc (top + 1) ≡ suc top + 1 = omega arith in
-    frame_taken cells top x (omega (arith, lt)) is ∙ ap (λ n. frame_in x ∷ drop n (map frame_in (y ∷ cells))) next
+pub frame_taken : {S : Type 0} (cells : List (Cell S)) (depth : ℕ) (x : Cell S) → 0 < depth → depth ≤ length cells → x ≡ slice_index_or cells (depth - 1) x → frames_in cells depth ≡ frame_in x ∷ frames_in cells (depth - 1)
+frame_taken cells depth x some fits is =
+    let last : depth ≡ depth - 1 + 1 = omega (arith, some) in let lt : depth - 1 < length cells = omega (arith, some, fits) in
+    ap (λ n. reverse (take n (map frame_in cells))) last
+    ∙ ap reverse (take_more (map frame_in cells) (depth - 1) (frame_in x) (omega (arith, lt, length-map cells frame_in)))
+    ∙ ap (λ f. reverse (take (depth - 1) (map frame_in cells) ++ f ∷ [])) (told_at frame_in (frame_in x) cells (depth - 1) x lt is)
+    ∙ reverse-append (take (depth - 1) (map frame_in cells)) (frame_in x ∷ [])
 
-pub frames_long : {S : Type 0} (cells : List (Cell S)) (top : ℕ) → top ≤ length cells → length (frames_in cells top) + top ≡ length cells
-frames_long [] zero le = refl
-frames_long [] (suc top) le = absurd (omega (arith, le))
-frames_long (y ∷ cells) zero le = omega (arith, length-map cells frame_in)
-frames_long (y ∷ cells) (suc top) le = omega (arith, frames_long cells top (omega (arith, le)))
+pub frames_long : {S : Type 0} (cells : List (Cell S)) (depth : ℕ) → depth ≤ length cells → length (frames_in cells depth) ≡ depth
+frames_long cells depth le = length-reverse (take depth (map frame_in cells)) ∙ length-take-le depth (map frame_in cells) (omega (arith, le, length-map cells frame_in))
 
-pub no_frames : {S : Type 0} (cells : List (Cell S)) (top : ℕ) → top ≡ length cells → frames_in cells top ≡ []
-no_frames cells top e = none (frames_in cells top) (omega (arith, frames_long cells top (omega (arith, e)), e))
-  where
-    none : (fs : List Frame) → length fs ≡ 0 → fs ≡ []
-    none [] e = refl
-    none (f ∷ fs) e = absurd (omega (arith, e))
-
-abbrev state : List ℕ → ℕ → List Frame → Row → List Thread → List Thread → ℕ → State
-state rounds now frames row threads next room = record { rounds = rounds; now = now; frames = frames; row = row; threads = threads; next = next; room = room }
+abbrev state : List ℕ → ℕ → List Frame → Row → List Thread → List Thread → ℕ → Bool → State
+state rounds now frames row threads next room ready = record { rounds = rounds; now = now; frames = frames; row = row; threads = threads; next = next; room = room; ready = ready }
 
 -- states with the same parts
-pub state_is : (a b : State) → a.rounds ≡ b.rounds → a.now ≡ b.now → a.frames ≡ b.frames → a.row ≡ b.row → a.threads ≡ b.threads → a.next ≡ b.next → a.room ≡ b.room → a ≡ b
-state_is a b rounds now frames row threads next room =
-    ap (λ z. state z a.now a.frames a.row a.threads a.next a.room) rounds ∙ ap (λ z. state b.rounds z a.frames a.row a.threads a.next a.room) now
-    ∙ ap (λ z. state b.rounds b.now z a.row a.threads a.next a.room) frames ∙ ap (λ z. state b.rounds b.now b.frames z a.threads a.next a.room) row
-    ∙ ap (λ z. state b.rounds b.now b.frames b.row z a.next a.room) threads ∙ ap (λ z. state b.rounds b.now b.frames b.row b.threads z a.room) next
-    ∙ ap (λ z. state b.rounds b.now b.frames b.row b.threads b.next z) room
+pub state_is : (a b : State) → a.rounds ≡ b.rounds → a.now ≡ b.now → a.frames ≡ b.frames → a.row ≡ b.row → a.threads ≡ b.threads → a.next ≡ b.next → a.room ≡ b.room → a.ready ≡ b.ready → a ≡ b
+state_is a b rounds now frames row threads next room ready =
+    ap (λ z. state z a.now a.frames a.row a.threads a.next a.room a.ready) rounds ∙ ap (λ z. state b.rounds z a.frames a.row a.threads a.next a.room a.ready) now
+    ∙ ap (λ z. state b.rounds b.now z a.row a.threads a.next a.room a.ready) frames ∙ ap (λ z. state b.rounds b.now b.frames z a.threads a.next a.room a.ready) row
+    ∙ ap (λ z. state b.rounds b.now b.frames b.row z a.next a.room a.ready) threads ∙ ap (λ z. state b.rounds b.now b.frames b.row b.threads z a.room a.ready) next
+    ∙ ap (λ z. state b.rounds b.now b.frames b.row b.threads b.next z a.ready) room ∙ ap (λ z. state b.rounds b.now b.frames b.row b.threads b.next b.room z) ready
 
 -- what a cell without threads of its own change keeps of its threads
 pub with_round : {S : Type 0} (s : Side) (x : Cell S) (round : ℕ) → (place_on s (record x { entered = round }) ≡ place_on s x) × (start_on s (record x { entered = round }) ≡ start_on s x)
@@ -114,11 +109,6 @@ with_round Second x round = (refl, refl)
 pub with_frame : {S : Type 0} (s : Side) (x : Cell S) (frame : code.Frame) → (place_on s (record x { frame = frame }) ≡ place_on s x) × (start_on s (record x { frame = frame }) ≡ start_on s x)
 with_frame First x frame = (refl, refl)
 with_frame Second x frame = (refl, refl)
-
-pub told_at : {S X : Type 0} (f : Cell S → X) (d : X) (cells : List (Cell S)) (k : ℕ) (x : Cell S) → k < length cells → x ≡ slice_index_or cells k x → slice_index_or (map f cells) k d ≡ f x
-told_at f d [] k x lt is = absurd (omega (arith, lt))
-told_at f d (y ∷ cells) zero x lt is = ap f (sym is)
-told_at f d (y ∷ cells) (suc k) x lt is = told_at f d cells k x (omega (arith, lt)) is
 
 -- cells that were cloned from one of which nothing is known
 pub clones_blank : {S : Type 0} (More : Cell S → Type 0) (x : Cell S) → x.entered ≡ 0 → (cells : List (Cell S)) → AllByRecursion (λ y. (y ≡ x) ⊎ ((y.entered ≡ x.entered) × More y)) cells →

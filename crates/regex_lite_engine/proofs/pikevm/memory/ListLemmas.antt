@@ -30,16 +30,16 @@ first_row_alone told s cells rows room n row =
     (λ k low lt. (let a : nth_row (set rows 0 row) (row_on s k) ≡ nth_row rows (row_on s k) = get_or-set_other rows 0 (row_on s k) row [] (row_behind_first s room k) in cc))
 
 module _ {S : Type 0} (told : S → Told) (s : Side) (cells : List (Cell S)) (rows : List Row) (room n place : ℕ) (start : S) (x : Cell S) (row : Row) (is : x ≡ slice_index_or cells n x)
-    (lt : n < room) (fits : room ≤ length cells) (all : length rows ≡ 2 * room + 1) where
+    (lt : n < room) (fits : n < length cells) (all : length rows ≡ 2 * room + 1) where
   -- the list has a thread more
   pub thread_added : threads_on told s (set cells n (with_thread s place start x)) (set rows (row_on s n) row) room (n + 1) ≡ threads_on told s cells rows room n ++ (place, told start, row) ∷ []
   thread_added =
       let c2 = set cells n (with_thread s place start x) in let r2 = set rows (row_on s n) row in
       let last : thread_on told s c2 r2 room n ≡ (place, told start, row) = (
       let p : slice_index (map (place_on s) c2) n ≡ place = ap (λ ps. slice_index ps n) (map-set (place_on s) cells n (with_thread s place start x))
-      ∙ get_or-set_same (map (place_on s) cells) n (place_on s (with_thread s place start x)) 0 (omega (arith, lt, fits, length-map cells (place_on s))) ∙ own_place place start x s in
+      ∙ get_or-set_same (map (place_on s) cells) n (place_on s (with_thread s place start x)) 0 (omega (arith, fits, length-map cells (place_on s))) ∙ own_place place start x s in
       let t : slice_index_or (map (start_told told s) c2) n untold ≡ told start = ap (λ ps. slice_index_or ps n untold) (map-set (start_told told s) cells n (with_thread s place start x))
-      ∙ get_or-set_same (map (start_told told s) cells) n (start_told told s (with_thread s place start x)) untold (omega (arith, lt, fits, length-map cells (start_told told s))) ∙ ap told (own_start place start x s) in
+      ∙ get_or-set_same (map (start_told told s) cells) n (start_told told s (with_thread s place start x)) untold (omega (arith, fits, length-map cells (start_told told s))) ∙ ap told (own_start place start x s) in
       let r : nth_row r2 (row_on s n) ≡ row = get_or-set_same rows (row_on s n) row [] (omega (arith, row_fits s room n lt, all)) in
       cc
       ) in
@@ -83,7 +83,7 @@ threads_kept told s cells rows room n i x y is same =
 -- a thread is added to the list s
 module _ {S : Type 0} (told : S → Told) (s t : Side) (apart : t ≡ other s) (cells : List (Cell S)) (rows rows' : List Row) (room n m place : ℕ) (start : S) (x y : Cell S) (row : Row)
     (is : x ≡ slice_index_or cells n x) (written : y ≡ with_thread s place start x) (copied : rows' ≡ set rows (row_on s n) row)
-    (lt : n < room) (le : m ≤ room) (fits : room ≤ length cells) (all : length rows ≡ 2 * room + 1) where
+    (lt : n < room) (le : m ≤ room) (fits : n < length cells) (all : length rows ≡ 2 * room + 1) where
   pub rounds_stay : map round_in (set cells n y) ≡ map round_in cells
   rounds_stay = not_told round_in cells n x y is (ap round_in written ∙ same_round place start x s)
 

@@ -1,4 +1,5 @@
 use Rattle.std.proofs.Common.{◌≡◌, ℕ, ◌<◌, ◌≤◌, length, map, slice_index}
+use Rattle.std.specs.Prelude.{vec_capacity}
 use Rattle.regex_lite_engine.specs.Walk.Cells.{round_in}
 use Rattle.regex_lite_engine.proofs.pikevm.memory.clear_rounds.Given as goal
 
@@ -6,4 +7,5 @@ abbrev pub invariant-cells : goal.invariant-cells
 invariant-cells g l = record {
   cleared : (q : ℕ) → q < l.k → slice_index (map round_in l.cells.items) q ≤ 0;
   same : length l.cells.items ≡ length l.fn.cells.items;
+  capacity : vec_capacity l.cells ≡ vec_capacity l.fn.cells;
 }

@@ -51,7 +51,7 @@ use Rattle.std.proofs.VecSteps.Shapes.{after, head, inside}
 use Rattle.std.proofs.RcSteps.{word, word_ty, word-Good, first_Good}
 use Rattle.std.proofs.ResultValues.{ok_of, err_of}
 use Rattle.regex_lite.specs.Owner.Ownership.{top, stands_for, lends, value_place}
-use Rattle.regex_lite.proofs.owner.PointerLemmas.{Word}
+use Rattle.regex_lite.proofs.PointerLemmas.{Word}
 use Rattle.regex_lite.proofs.owner.CountLemmas.{lent, value, static, fills, lent_out, lent_back, opens, shuts, more, counted, says_n, handle_made}
 use Rattle.regex_lite.specs.contracts.owner.counted.Counted as C
 use Rattle.regex_lite.specs.contracts.owner.counted.Counted.another as F

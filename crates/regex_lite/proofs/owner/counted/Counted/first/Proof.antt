@@ -28,9 +28,9 @@ use Rattle.std.proofs.RcSteps.{word, word-Good}
 use Rattle.std.specs.contracts.alloc.Global as Heap
 use Rattle.std.specs.contracts.impls.GlobalAllocator.TheImpl as HeapImpl
 use Rattle.std.proofs.alloc.Global.TheLaws as HeapLaws
-use Rattle.regex_lite.proofs.owner.UnboxedLemmas.{Unboxed, both, both_good, unboxed_had}
+use Rattle.regex_lite.proofs.UnboxedLemmas.{Unboxed, both, both_good, unboxed_had}
 use Rattle.regex_lite.proofs.owner.CountLemmas.{Id, handle}
-use Rattle.regex_lite.proofs.owner.PointerLemmas.{word_made}
+use Rattle.regex_lite.proofs.PointerLemmas.{word_made}
 use Rattle.regex_lite.proofs.owner.BlockLemmas.{starts}
 use Rattle.regex_lite.specs.contracts.owner.counted.Block as Block
 use Rattle.regex_lite.specs.contracts.owner.counted.Counted as C

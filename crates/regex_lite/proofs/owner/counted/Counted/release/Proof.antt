@@ -53,7 +53,7 @@ use mir.Raw.{raw as bare}
 use denote.Memory.{part_at}
 use base.Fraction.{full_share}
 use Rattle.regex_lite.specs.Owner.Ownership.{frees}
-use Rattle.regex_lite.proofs.owner.UnboxedLemmas.{Unboxed, both, both_good, unboxed_made}
+use Rattle.regex_lite.proofs.UnboxedLemmas.{Unboxed, both, both_good, unboxed_made}
 use Rattle.regex_lite.proofs.owner.CountLemmas.{value, opens, shuts, less, counted, says_n, handle_had}
 use Rattle.regex_lite.proofs.owner.BlockLemmas.{ends_at_ptr}
 use Rattle.regex_lite.specs.contracts.owner.counted.Block as Block

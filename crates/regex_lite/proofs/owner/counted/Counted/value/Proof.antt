@@ -40,7 +40,7 @@ use contract.Running.{tables, tables_of}
 use Rattle.std.proofs.VecSteps.Shapes.{after}
 use Rattle.std.proofs.RcSteps.{word, word_ty}
 use Rattle.regex_lite.specs.Owner.Ownership.{lends, owned, value_place, only_one}
-use Rattle.regex_lite.proofs.owner.PointerLemmas.{Word, reads, read}
+use Rattle.regex_lite.proofs.PointerLemmas.{Word, reads, read}
 use Rattle.regex_lite.proofs.owner.CountLemmas.{key, S, lent}
 use Rattle.regex_lite.specs.contracts.owner.counted.Counted as C
 use Rattle.regex_lite.specs.contracts.owner.counted.Counted.value as F

@@ -23,7 +23,7 @@ use denote.Param.{param, layouts}
 use denote.Triple.Walked.{Stays, stay_dropped, walk_of, Goes-dropped}
 use Rattle.std.proofs.RcSteps.{word, word-Good}
 use Rattle.std.proofs.raw_atomic.Walks.{proved_at, leaves}
-use Rattle.regex_lite.proofs.owner.PointerLemmas.{word_made}
+use Rattle.regex_lite.proofs.PointerLemmas.{word_made}
 use Rattle.regex_lite.specs.contracts.owner.lasting.Lasting as lasting
 use Rattle.regex_lite.specs.contracts.owner.lasting.Lasting.of.{ended, clauses}
 use Rattle.regex_lite.specs.contracts.owner.lasting.Lasting.of.Key.{name as #self}

@@ -38,7 +38,7 @@ use contract.Running.{tables, tables_of}
 use Rattle.std.proofs.VecSteps.Shapes.{after}
 use Rattle.std.proofs.RcSteps.{word, word_ty}
 use Rattle.regex_lite.specs.Owner.Ownership.{lent_for_ever}
-use Rattle.regex_lite.proofs.owner.PointerLemmas.{Word, reads, read}
+use Rattle.regex_lite.proofs.PointerLemmas.{Word, reads, read}
 use Rattle.regex_lite.specs.contracts.owner.lasting.Lasting as C
 use Rattle.regex_lite.specs.contracts.owner.lasting.Lasting.value as F
 use Rattle.regex_lite.specs.contracts.owner.lasting.Lasting.value.Key.{name as #self}

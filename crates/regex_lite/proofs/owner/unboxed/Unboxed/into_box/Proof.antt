@@ -33,7 +33,7 @@ use Rattle.std.proofs.BoxSteps.Steps.{box_out, box_in}
 use Rattle.std.proofs.raw_atomic.Walks.{proved_at, leaves}
 use Rattle.std.specs.contracts.boxed.Box.from_raw as callee
 use Rattle.std.proofs.boxed.Box.from_raw.Met.{met}
-use Rattle.regex_lite.proofs.owner.UnboxedLemmas.{Unboxed, both, both_good, unboxed_had}
+use Rattle.regex_lite.proofs.UnboxedLemmas.{Unboxed, both, both_good, unboxed_had}
 use Rattle.regex_lite.specs.contracts.owner.unboxed.Unboxed.into_box.{ended, clauses}
 use Rattle.regex_lite.specs.contracts.owner.unboxed.Unboxed.into_box.Key.{name as #self}
 use Rattle.regex_lite.proofs.owner.unboxed.Unboxed.into_box.Statement.{statement}

@@ -32,7 +32,7 @@ use Rattle.std.proofs.BoxSteps.Steps.{box_out, box_in}
 use Rattle.std.proofs.raw_atomic.Walks.{proved_at, leaves}
 use Rattle.std.specs.contracts.boxed.Box.into_raw_with_allocator as callee
 use Rattle.std.proofs.boxed.Box.into_raw_with_allocator.Met.{met}
-use Rattle.regex_lite.proofs.owner.UnboxedLemmas.{both, both_good, owned_at, lies, unboxed_made}
+use Rattle.regex_lite.proofs.UnboxedLemmas.{both, both_good, owned_at, lies, unboxed_made}
 use Rattle.regex_lite.specs.contracts.owner.unboxed.Unboxed.of.{ended, clauses}
 use Rattle.regex_lite.specs.contracts.owner.unboxed.Unboxed.of.Key.{name as #self}
 use Rattle.regex_lite.proofs.owner.unboxed.Unboxed.of.Statement.{statement}

@@ -3,6 +3,8 @@ use Rattle.std.specs.Prelude.{chars, false, IsTrue, slice_index_or}
 use Rattle.std.proofs.Math.Seq.{take-append_seam}
 use Rattle.regex_lite_engine.specs.Search.AnswerOfList.{TellsWhich}
 use Rattle.regex_lite_engine.specs.Search.Offsets.{search_start}
+use Rattle.regex_lite_engine.specs.Graph.SideBySide.{places_of_all, tries_of_all}
+use Rattle.regex_lite_engine.specs.Search.Bounds.{IsBoundedBy}
 use Rattle.regex_lite_engine.proofs.pikevm.ListOutcomeLemmas.{at_position}
 use Rattle.regex_lite_engine.proofs.nfa.list.GraphList.search_each.Goals as goal
 
@@ -29,3 +31,12 @@ returns-clause-entered c = λ k told.
     let same = ap (λ n. take n (new ++ drop (length new) c.in_ok-matched.matched.items)) len
     ∙ take-append_seam new (drop (length new) c.in_ok-matched.matched.items) in
     c.search_all-steps.ensures.entered k (subst (λ list. IsTrue (slice_index_or list k false)) same told)
+
+pub returns-clause-cost : goal.returns-clause-cost
+returns-clause-cost c = λ trees is.
+    let haystack = c.args.haystack.now in
+    let steps = c.search_all-steps.result in
+    at_position trees c.args.self.now is haystack c.args.start (omega (arith, c.if-start-haystack.false))
+    (λ s. IsBoundedBy (places_of_all trees) (tries_of_all trees) (chars haystack) s
+    steps.tried steps.entered steps.looked)
+    (c.search_all-steps.ensures.cost trees is)

@@ -8,8 +8,8 @@ use Rattle.regex_lite_engine.proofs.pikevm.memory.Memory.is_done.Goals as goal
 pub returns : goal.returns
 returns g c =
     let i = c.self.inside in
-    let long = frames_long i.cells.items i.top c.self.invariant.frames_fit in
+    let long = frames_long i.cells.items i.depth c.self.invariant.frames_fit in
     let held = ap (λ (z : State). length z.frames) c.self.view_is in (
-      (λ yes. nil_from_length c.args.self.now.frames (grind (arith, nat_tests, long, held, yes, c.len.ensures))),
-      (λ none. (let empty = ap length none in grind (arith, nat_tests, long, held, empty, c.len.ensures))),
+      (λ yes. nil_from_length c.args.self.now.frames (grind (arith, nat_tests, long, held, yes))),
+      (λ none. (let empty = ap length none in grind (arith, nat_tests, long, held, empty))),
     )

@@ -10,26 +10,25 @@ use Rattle.regex_lite_engine.proofs.pikevm.memory.Memory.load.Goals as goal
 pub row_of-requires : goal.row_of-requires
 row_of-requires g c =
     let i = c.self.inside in let m = c.args.self.now in let v = c.self.view_is in let fit = c.self.invariant in
-    let lt : c.args.k < i.len = omega (arith, c.requires, threads_long g.S.Beginning.told i.side i.cells.items i.rows i.room i.len, ap (λ (z : State). length z.threads) v) in let k_fits : c.args.k < i.room = omega (arith, lt, fit.threads_fit) in
-    omega (arith, row_fits i.side i.room c.args.k k_fits, fit.cells_fit, i.cells.ok.0, i.cells.small)
+    let lt : c.args.k < i.len = omega (arith, c.requires, threads_long g.S.Beginning.told i.side i.cells.items i.rows i.room i.len, ap (λ (z : State). length z.threads) v) in let short : c.args.k < length i.cells.items = omega (arith, lt, fit.threads_fit) in
+    omega (arith, row_fits i.side (length i.cells.items) c.args.k short, i.cells.ok.0, i.cells.small)
 
 pub copy-requires-clause-from : goal.copy-requires-clause-from
 copy-requires-clause-from g c =
     let i = c.self.inside in let m = c.args.self.now in let v = c.self.view_is in let fit = c.self.invariant in
-    let lt : c.args.k < i.len = omega (arith, c.requires, threads_long g.S.Beginning.told i.side i.cells.items i.rows i.room i.len, ap (λ (z : State). length z.threads) v) in let k_fits : c.args.k < i.room = omega (arith, lt, fit.threads_fit) in
+    let lt : c.args.k < i.len = omega (arith, c.requires, threads_long g.S.Beginning.told i.side i.cells.items i.rows i.room i.len, ap (λ (z : State). length z.threads) v) in let k_fits : c.args.k < i.room = omega (arith, lt, fit.threads_few) in
     omega (arith, row_fits i.side i.room c.args.k k_fits, fit.rows_fit, c.row_of.ensures)
 
 pub index-requires : goal.index-requires
 index-requires g c =
     let i = c.self.inside in let m = c.args.self.now in let v = c.self.view_is in let fit = c.self.invariant in
-    let lt : c.args.k < i.len = omega (arith, c.requires, threads_long g.S.Beginning.told i.side i.cells.items i.rows i.room i.len, ap (λ (z : State). length z.threads) v) in let k_fits : c.args.k < i.room = omega (arith, lt, fit.threads_fit) in
-    omega (arith, k_fits, fit.cells_fit, i.cells.ok.0)
+    let lt : c.args.k < i.len = omega (arith, c.requires, threads_long g.S.Beginning.told i.side i.cells.items i.rows i.room i.len, ap (λ (z : State). length z.threads) v) in omega (arith, lt, fit.threads_fit, i.cells.ok.0)
 
 pub returns-clause-thread : goal.returns-clause-thread
 returns-clause-thread g c =
     let i = c.self.inside in let m = c.args.self.now in let v = c.self.view_is in let fit = c.self.invariant in
-    let lt : c.args.k < i.len = omega (arith, c.requires, threads_long g.S.Beginning.told i.side i.cells.items i.rows i.room i.len, ap (λ (z : State). length z.threads) v) in let k_fits : c.args.k < i.room = omega (arith, lt, fit.threads_fit) in
-    let x = c.index.result.now in let short : c.args.k < length i.cells.items = omega (arith, k_fits, fit.cells_fit) in
+    let lt : c.args.k < i.len = omega (arith, c.requires, threads_long g.S.Beginning.told i.side i.cells.items i.rows i.room i.len, ap (λ (z : State). length z.threads) v) in
+    let x = c.index.result.now in let short : c.args.k < length i.cells.items = omega (arith, lt, fit.threads_fit) in
     let some : 0 < length i.rows = omega (arith, fit.rows_fit) in
     let row : nth_row c.copy.new.self 0 ≡ nth_row i.rows (row_on i.side c.args.k) = ap (λ z. nth_row z 0) c.copy.ensures.copied ∙ get_or-set_same i.rows 0 (nth_row i.rows c.row_of.result) [] some ∙ ap (nth_row i.rows) c.row_of.ensures in
     let place = told_at (place_on i.side) 0 i.cells.items c.args.k x short c.index.ensures in
@@ -44,4 +43,4 @@ returns-clause-same g c =
     let written = nth_row i.rows c.row_of.result in
     let threads = ap (λ z. threads_on g.S.Beginning.told i.side i.cells.items z i.room i.len) c.copy.ensures.copied ∙ first_row_alone g.S.Beginning.told i.side i.cells.items i.rows i.room i.len written ∙ (ap (λ (z : State). z.threads) v) in
     let next = ap (λ z. threads_on g.S.Beginning.told (other i.side) i.cells.items z i.room i.next_len) c.copy.ensures.copied ∙ first_row_alone g.S.Beginning.told (other i.side) i.cells.items i.rows i.room i.next_len written ∙ (ap (λ (z : State). z.next) v) in
-    state_is _ _ (ap (λ (z : State). z.rounds) v) (ap (λ (z : State). z.now) v) (ap (λ (z : State). z.frames) v) refl threads next (ap (λ (z : State). z.room) v)
+    state_is _ _ (ap (λ (z : State). z.rounds) v) (ap (λ (z : State). z.now) v) (ap (λ (z : State). z.frames) v) refl threads next (ap (λ (z : State). z.room) v) (ap (λ (z : State). z.ready) v)

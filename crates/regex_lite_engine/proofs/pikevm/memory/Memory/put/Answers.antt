@@ -14,4 +14,4 @@ returns g c =
     let row = ap (λ z. nth_row z 0) c.put.ensures ∙ get_or-set_same i.rows 0 written [] some ∙ ap (λ z. set z c.args.slot c.args.held) (ap (λ (z : State). z.row) v) in
     let threads = ap (λ z. threads_on g.S.Beginning.told i.side i.cells.items z i.room i.len) c.put.ensures ∙ first_row_alone g.S.Beginning.told i.side i.cells.items i.rows i.room i.len written ∙ (ap (λ (z : State). z.threads) v) in
     let next = ap (λ z. threads_on g.S.Beginning.told (other i.side) i.cells.items z i.room i.next_len) c.put.ensures ∙ first_row_alone g.S.Beginning.told (other i.side) i.cells.items i.rows i.room i.next_len written ∙ (ap (λ (z : State). z.next) v) in
-    state_is _ _ (ap (λ (z : State). z.rounds) v) (ap (λ (z : State). z.now) v) (ap (λ (z : State). z.frames) v) row threads next (ap (λ (z : State). z.room) v)
+    state_is _ _ (ap (λ (z : State). z.rounds) v) (ap (λ (z : State). z.now) v) (ap (λ (z : State). z.frames) v) row threads next (ap (λ (z : State). z.room) v) (ap (λ (z : State). z.ready) v)

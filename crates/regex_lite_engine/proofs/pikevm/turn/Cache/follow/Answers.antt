@@ -1,14 +1,16 @@
-use Rattle.std.proofs.Common.{◌≡◌, ℕ, ◌+◌, ◌^◌, ◌<◌, List, length, replicate, [], ◌++◌, None, if◌then◌else◌, Some, sym, ap, subst, ◌∙◌, arith}
+use Rattle.std.proofs.Common.{◌≡◌, ℕ, ◌+◌, ◌^◌, ◌<◌, List, length, replicate, [], ◌++◌, None, if◌then◌else◌, Some, true, sym, ap, subst, ◌∙◌, arith}
 use Rattle.regex_lite_engine.specs.declared.pikevm.walk.Walk.{Walk}
 use Rattle.regex_lite_engine.specs.Search.Bounds.{StaysCounted}
+use Rattle.regex_lite_engine.specs.Walk.Again.{all_retold, best_again, retold}
 use Rattle.regex_lite_engine.specs.Walk.Beginnings.{Told}
 use Rattle.regex_lite_engine.specs.Walk.Machine.{Row, State, BestState, Thread, thread_at}
 use Rattle.regex_lite_engine.specs.Walk.Room.{due_tries, KeepsPosition}
 use Rattle.regex_lite_engine.specs.Walk.Searching.{ways_at}
 use Rattle.regex_lite_engine.specs.Walk.Turns.{begun, best_of, StepsTo}
 use Rattle.regex_lite_engine.specs.Walk.Walking.{Best}
+use Rattle.regex_lite_engine.proofs.pikevm.AgainLemmas.{thread_retold}
 use Rattle.regex_lite_engine.proofs.pikevm.CountLemmas.{still_counted}
-use Rattle.regex_lite_engine.proofs.pikevm.StepLemmas.{room_pushed, stepped_walk, spent_walk, entries_walk}
+use Rattle.regex_lite_engine.proofs.pikevm.StepLemmas.{room_pushed, stepped_again, stepped_walk, spent_walk, entries_walk}
 use Rattle.regex_lite_engine.proofs.pikevm.TurnLemmas.{begun_below, start_begun, start_taken}
 use Rattle.regex_lite_engine.proofs.pikevm.turn.Cache.follow.Goals as goal
 
@@ -69,6 +71,10 @@ ways-preserved g c =
       steps = subst (λ d. StepsTo (g.P.Patterns.table a.patterns.now) a.here i.now (thread_at ws) (length ws) i.rounds i.next (best_of a.self.now.best)
           (if d then length ws else c.ways.k + 1) c.explore.new.self.memory.rounds c.explore.new.self.memory.next (if d then Some (start, a.here.at, c.explore.new.self.memory.row) else best_of a.self.now.best)) c.if-explore.false
           (stepped_walk (g.P.Patterns.table a.patterns.now) w w1 q em up.steps a.here i.now v.kept.round c.explore.new.self start c.explore.result more.explored (thread_at ws) (length ws) i.rounds i.next (best_of a.self.now.best) c.ways.k lt at v.steps);
+      again = λ tell there b0 alike. subst (λ d. StepsTo (g.P.Patterns.table a.patterns.now) there i.now (thread_at (all_retold tell ws)) (length ws) i.rounds (all_retold tell i.next) b0
+          (if d then length ws else c.ways.k + 1) c.explore.new.self.memory.rounds (all_retold tell c.explore.new.self.memory.next) (if d then Some (tell start, there.at, []) else b0)) c.if-explore.false
+          (stepped_again (g.P.Patterns.table a.patterns.now) w w1 q em up.steps a.here i.now v.kept.round c.explore.new.self start c.explore.result more.explored (thread_at (all_retold tell ws)) (length ws) i.rounds (all_retold tell i.next) b0 c.ways.k
+          tell there alike lt (thread_retold tell ws c.ways.k lt ∙ ap (retold tell) at) (v.again tell there b0 alike));
       best = v.best;
       kept = kept;
       spent = spent_walk (g.P.Patterns.table a.patterns.now) w w1 q em up.steps a.here i.now v.kept.round c.explore.new.self start c.explore.result more.explored due c.ways.k v.spent;
@@ -113,3 +119,35 @@ returns-then-explore-clause-followed g c =
       kept = kept;
       best_width = c.set.ensures.width ∙ ap (λ (b : BestState). length b.row) v.best;
     }
+
+pub returns-then-explore-clause-again : goal.returns-then-explore-clause-again
+returns-then-explore-clause-again g c = λ tell there b0 alike.
+    let a = c.args in let i = a.self.now.walk.memory in let w = c.ways.self.walk in let v = c.ways.invariant in let up = c.take_up-place.ensures in
+    let q : ℕ = c.take_up-place.result.0 in let start : Told = g.S.Beginning.told c.take_up-place.result.1 in let w1 : Walk g.row.S.Denot = record { memory = c.take_up-place.new.self.memory; steps = c.take_up-place.new.self.steps } in
+    let ws = ways_at (g.P.Patterns.starts a.patterns.now) (g.S.Beginning.told_of a.here.at) a.self.now in
+    let lt : c.ways.k < length ws = (let t = c.ways-test.true in let e = c.ways-k-end.ensures (g.S.Beginning.told_of a.here.at) in omega (arith, t, e)) in
+    let em = up.memory ∙ ap (λ fs. record w.memory { row = w1.memory.row; frames = fs }) v.empty in
+    let more = c.explore.ensures in
+    let taken = start_taken (g.P.Patterns.starts a.patterns.now) (g.S.Beginning.told_of a.here.at) (length i.row) (best_of a.self.now.best) i.threads c.ways.k lt in
+    let at : thread_at ws c.ways.k ≡ (q, start, w1.memory.row) =
+    taken.1 ∙ ap (λ ts. thread_at (ts ++ begun (g.S.Beginning.told_of a.here.at) (replicate (length i.row) None) (g.P.Patterns.starts a.patterns.now)) c.ways.k) (sym v.kept.threads)
+    ∙ ap (λ n. thread_at (w.memory.threads ++ begun (g.S.Beginning.told_of a.here.at) (replicate n None) (g.P.Patterns.starts a.patterns.now)) c.ways.k) (sym v.kept.row)
+    ∙ up.thread in
+    let found : best_of c.set.new.self ≡ Some (start, a.here.at, c.explore.new.self.memory.row) =
+    c.set.ensures.found ∙ ap (λ (r : Row). as_best start a.here.at r) c.row.ensures in
+    subst (λ z. StepsTo (g.P.Patterns.table a.patterns.now) there i.now (thread_at (all_retold tell ws)) (length ws) i.rounds (all_retold tell i.next) b0
+    (length ws) c.explore.new.self.memory.rounds (all_retold tell c.explore.new.self.memory.next) (best_again tell there.at true z b0)) (sym found)
+    (subst (λ d. StepsTo (g.P.Patterns.table a.patterns.now) there i.now (thread_at (all_retold tell ws)) (length ws) i.rounds (all_retold tell i.next) b0
+    (if d then length ws else c.ways.k + 1) c.explore.new.self.memory.rounds (all_retold tell c.explore.new.self.memory.next) (if d then Some (tell start, there.at, []) else b0)) c.if-explore.true
+    (stepped_again (g.P.Patterns.table a.patterns.now) w w1 q em up.steps a.here i.now v.kept.round c.explore.new.self start c.explore.result more.explored (thread_at (all_retold tell ws)) (length ws) i.rounds (all_retold tell i.next) b0 c.ways.k
+    tell there alike lt (thread_retold tell ws c.ways.k lt ∙ ap (retold tell) at) (v.again tell there b0 alike)))
+
+pub returns-clause-again : goal.returns-clause-again
+returns-clause-again g c = λ tell there b0 alike.
+    let a = c.args in let i = a.self.now.walk.memory in let v = c.ways.invariant in
+    let ws = ways_at (g.P.Patterns.starts a.patterns.now) (g.S.Beginning.told_of a.here.at) a.self.now in
+    let e = c.ways-k-end.ensures (g.S.Beginning.told_of a.here.at) in
+    let t = c.ways-test.false in let far = c.ways.far-k in
+    let all : c.ways.k ≡ length ws = omega (arith, t, e, far) in
+    subst (λ z. StepsTo (g.P.Patterns.table a.patterns.now) there i.now (thread_at (all_retold tell ws)) (length ws) i.rounds (all_retold tell i.next) b0
+    z c.ways.self.walk.memory.rounds (all_retold tell c.ways.self.walk.memory.next) b0) all (v.again tell there b0 alike)

@@ -1,9 +1,13 @@
 use Rattle.std.proofs.Common.{◌≡◌, ◌+◌, ◌≤◌, length, []}
+use Rattle.regex_lite_engine.specs.declared.pikevm.here.Here.{Here}
 use Rattle.regex_lite_engine.specs.Search.Bounds.{StaysCounted}
+use Rattle.regex_lite_engine.specs.Walk.Again.{AreAlike, all_retold}
+use Rattle.regex_lite_engine.specs.Walk.Beginnings.{Told}
 use Rattle.regex_lite_engine.specs.Walk.Machine.{thread_at}
 use Rattle.regex_lite_engine.specs.Walk.Room.{HasRoom, KeepsPosition, due_tries, due_entries}
 use Rattle.regex_lite_engine.specs.Walk.Searching.{ways_at}
 use Rattle.regex_lite_engine.specs.Walk.Turns.{best_of, StepsTo}
+use Rattle.regex_lite_engine.specs.Walk.Walking.{Best}
 use Rattle.regex_lite_engine.proofs.pikevm.turn.Cache.follow.Given as goal
 
 abbrev pub invariant-ways : goal.invariant-ways
@@ -11,6 +15,9 @@ invariant-ways g l = record {
   room : HasRoom (g.P.Patterns.table l.patterns) l.self.walk [];
   steps : StepsTo (g.P.Patterns.table l.patterns) l.here l.initial.self.walk.memory.now (thread_at (ways_at (g.P.Patterns.starts l.patterns) (g.S.Beginning.told_of l.here.at) l.initial.self)) (length (ways_at (g.P.Patterns.starts l.patterns) (g.S.Beginning.told_of l.here.at) l.initial.self)) l.initial.self.walk.memory.rounds
       l.initial.self.walk.memory.next (best_of l.initial.self.best) l.k l.self.walk.memory.rounds l.self.walk.memory.next (best_of l.initial.self.best);
+  again : (tell : Told → Told) (there : Here) (best : Best) → AreAlike (g.P.Patterns.table l.patterns) l.here there →
+      StepsTo (g.P.Patterns.table l.patterns) there l.initial.self.walk.memory.now (thread_at (all_retold tell (ways_at (g.P.Patterns.starts l.patterns) (g.S.Beginning.told_of l.here.at) l.initial.self))) (length (ways_at (g.P.Patterns.starts l.patterns) (g.S.Beginning.told_of l.here.at) l.initial.self))
+      l.initial.self.walk.memory.rounds (all_retold tell l.initial.self.walk.memory.next) best l.k l.self.walk.memory.rounds (all_retold tell l.self.walk.memory.next) best;
   best : l.self.best ≡ l.initial.self.best;
   kept : KeepsPosition l.initial.self.walk.memory l.self.walk.memory;
   spent : due_tries (g.P.Patterns.table l.patterns) l.self.walk.memory.rounds l.initial.self.walk.memory.now [] l.self.walk.memory.next l.self.walk.steps.tried

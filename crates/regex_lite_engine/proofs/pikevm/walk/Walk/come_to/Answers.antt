@@ -16,14 +16,14 @@ returns-then-not-insert-clause-taken g c =
     let a = c.args in let w = a.self.now in let m = w.memory in let n = c.insert.new.self in
     subst (λ (s : StepCounts). Went (places_of a.table.now) a.here (g.S.Beginning.told a.start) m.now m.rounds m.row (explore a.place ∷ m.frames) m.next w.steps.tried w.steps.entered n.rounds n.row n.frames n.room n.next s.tried s.entered s.looked false) (sym c.count_try.ensures)
     (subst (λ (z : State). Went (places_of a.table.now) a.here (g.S.Beginning.told a.start) m.now m.rounds m.row (explore a.place ∷ m.frames) m.next w.steps.tried w.steps.entered z.rounds z.row z.frames z.room z.next (w.steps.tried + 1) w.steps.entered w.steps.looked false) (sym c.insert.ensures.added)
-    (went_seen (places_of a.table.now) a.here (g.S.Beginning.told a.start) m.now m.rounds (slice_set m.rounds a.place m.now) m.row a.place m.frames m.room m.next w.steps.tried w.steps.entered w.steps.looked c.requires
+    (went_seen (places_of a.table.now) a.here (g.S.Beginning.told a.start) m.now m.rounds (slice_set m.rounds a.place m.now) m.row a.place m.frames m.room m.next w.steps.tried w.steps.entered w.steps.looked c.requires.room
     (was_met _ _ c.insert.result (search rules) c.insert.ensures.fresh.1) refl))
 
 pub enter-onward-requires-clause-room : goal.enter-onward-requires-clause-room
 enter-onward-requires-clause-room g c =
-    let a = c.args in let m = a.self.now.memory in let all = c.requires.all_seen in let room = c.requires.stack_room in
+    let a = c.args in let m = a.self.now.memory in let all = c.requires.room.all_seen in let room = c.requires.room.stack_room in
     let left = left_room kept_back m.now m.rounds (places_of a.table.now) a.place (place_of c.look-found.result.now)
-    (got_place a.table.now.places a.place c.look-found.result.now c.look-found.ensures.found) (let lt = c.requires.frames_below.0 in omega (arith, all, lt))
+    (got_place a.table.now.places a.place c.look-found.result.now c.look-found.ensures.found) (let lt = c.requires.room.frames_below.0 in omega (arith, all, lt))
     (c.insert.ensures.fresh.0 (search rules)) in
     let long = length-set m.rounds a.place m.now in
     subst (λ (z : State). length z.frames + (kept_back (place_of c.look-found.result.now) + 1) ≤ length z.rounds) (sym c.insert.ensures.added)
@@ -40,7 +40,7 @@ returns-in-Complete-clause-taken g c =
     (subst (λ (z : State). Went (places_of a.table.now) a.here (g.S.Beginning.told a.start) m.now m.rounds m.row (explore a.place ∷ m.frames) m.next w.steps.tried w.steps.entered z.rounds z.row z.frames z.room z.next (w.steps.tried + 1) (w.steps.entered + 1) (w.steps.looked + 1) true) (sym c.drop_frames.ensures)
     (subst (λ room. Went (places_of a.table.now) a.here (g.S.Beginning.told a.start) m.now m.rounds m.row (explore a.place ∷ m.frames) m.next w.steps.tried w.steps.entered e.rounds e.row [] room e.next (w.steps.tried + 1) (w.steps.entered + 1) (w.steps.looked + 1) true) (sym (ap (λ (z : State). z.room) same))
     (went_entered (places_of a.table.now) a.here (g.S.Beginning.told a.start) m.now m.rounds e.rounds m.row e.row a.place c.look-found.result.now m.frames e.frames [] m.room m.next e.next w.steps.tried w.steps.entered w.steps.looked
-    true (subst (λ z. LeadsBelow z (place_of c.look-found.result.now)) (sym size) c.look-found.ensures.inside) c.requires (c.insert.ensures.fresh.0 (search rules)) (ap (λ (z : State). z.rounds) same)
+    true (subst (λ z. LeadsBelow z (place_of c.look-found.result.now)) (sym size) c.look-found.ensures.inside) c.requires.room (c.insert.ensures.fresh.0 (search rules)) (ap (λ (z : State). z.rounds) same)
     (got_place a.table.now.places a.place c.look-found.result.now c.look-found.ensures.found)
     (subst (λ (o : code.Onward). Enters a.here (g.S.Beginning.told a.start) c.look-found.result.now m.row m.frames m.next e.row (onto o e.frames) e.next (completes o)) c.in-Complete.is
     (subst (λ (z : State). Enters a.here (g.S.Beginning.told a.start) c.look-found.result.now z.row z.frames z.next e.row (onto c.enter-onward.result e.frames) e.next (completes c.enter-onward.result)) c.insert.ensures.added c.enter-onward.ensures.entered))
@@ -56,7 +56,7 @@ returns-in_default-clause-taken g c =
     subst (λ (s : StepCounts). Went (places_of a.table.now) a.here (g.S.Beginning.told a.start) m.now m.rounds m.row (explore a.place ∷ m.frames) m.next w.steps.tried w.steps.entered e.rounds e.row left e.room e.next s.tried s.entered s.looked done) (sym steps)
     (subst (λ room. Went (places_of a.table.now) a.here (g.S.Beginning.told a.start) m.now m.rounds m.row (explore a.place ∷ m.frames) m.next w.steps.tried w.steps.entered e.rounds e.row left room e.next (w.steps.tried + 1) (w.steps.entered + 1) (w.steps.looked + 1) done) (sym (ap (λ (z : State). z.room) same))
     (went_entered (places_of a.table.now) a.here (g.S.Beginning.told a.start) m.now m.rounds e.rounds m.row e.row a.place c.look-found.result.now m.frames left left m.room m.next e.next w.steps.tried w.steps.entered w.steps.looked
-    done (subst (λ z. LeadsBelow z (place_of c.look-found.result.now)) (sym size) c.look-found.ensures.inside) c.requires (c.insert.ensures.fresh.0 (search rules)) (ap (λ (z : State). z.rounds) same)
+    done (subst (λ z. LeadsBelow z (place_of c.look-found.result.now)) (sym size) c.look-found.ensures.inside) c.requires.room (c.insert.ensures.fresh.0 (search rules)) (ap (λ (z : State). z.rounds) same)
     (got_place a.table.now.places a.place c.look-found.result.now c.look-found.ensures.found)
     (subst (λ (z : State). Enters a.here (g.S.Beginning.told a.start) c.look-found.result.now z.row z.frames z.next e.row left e.next done) c.insert.ensures.added c.enter-onward.ensures.entered)
     (sym (ap (λ b. if b then [] else left) (goes_on o c.in_default.not-Complete)))))

@@ -1,10 +1,10 @@
-use Rattle.std.proofs.Common.{◌∷◌}
+use Rattle.std.proofs.Common.{◌≡◌, ◌∷◌}
 use Rattle.regex_lite_engine.specs.Graph.Stored.{places_of}
 use Rattle.regex_lite_engine.specs.Search.Bounds.{StaysCounted}
 use Rattle.regex_lite_engine.specs.Walk.Machine.{explore}
 use Rattle.regex_lite_engine.specs.Walk.Room.{HasRoom, KeepsPosition, work}
 use Rattle.regex_lite_engine.proofs.pikevm.WentLemmas.{IsUnder}
-use Rattle.regex_lite_engine.proofs.pikevm.walk.Walk.explore_in.Given as goal
+use Rattle.regex_lite_engine.proofs.pikevm.walk.Walk.explore_from.Given as goal
 
 abbrev pub invariant-places : goal.invariant-places
 invariant-places g l = record {
@@ -14,6 +14,7 @@ invariant-places g l = record {
       l.self.memory.rounds l.self.memory.row (explore l.place ∷ l.self.memory.frames) l.self.memory.next l.self.steps.tried l.self.steps.entered;
   kept : KeepsPosition l.initial.self.memory l.self.memory;
   counts : StaysCounted l.initial.self.steps l.self.steps;
+  ready : l.self.memory.ready ≡ l.initial.self.memory.ready;
 }
 
 abbrev pub decreases-places : goal.decreases-places

@@ -1,10 +1,10 @@
-use Rattle.std.proofs.Common.{◌∷◌, ◌≡◌, ◌<◌, [], false, refl, sym, ap, subst, ◌∙◌, arith}
+use Rattle.std.proofs.Common.{◌∷◌, ◌≡◌, ◌<◌, List, [], false, true, refl, sym, ap, subst, ◌∙◌, arith}
 use Rattle.regex_lite_engine.specs.Graph.Stored.{places_of}
-use Rattle.regex_lite_engine.specs.Walk.Machine.{explore, State}
-use Rattle.regex_lite_engine.specs.Walk.Room.{IsFit, Went, work}
+use Rattle.regex_lite_engine.specs.Walk.Machine.{explore, Frame, State}
+use Rattle.regex_lite_engine.specs.Walk.Room.{explores, IsFit, WalksAgain, WalksTo, Went, work}
 use Rattle.regex_lite_engine.proofs.pikevm.CountLemmas.{still_counted}
-use Rattle.regex_lite_engine.proofs.pikevm.WentLemmas.{went_back, under_back, IsBack, IsUnder}
-use Rattle.regex_lite_engine.proofs.pikevm.walk.Walk.explore_in.Goals as goal
+use Rattle.regex_lite_engine.proofs.pikevm.WentLemmas.{went_back, under_back, under_more, IsBack, IsUnder}
+use Rattle.regex_lite_engine.proofs.pikevm.walk.Walk.explore_from.Goals as goal
 
 pub returns-in-None-clause-explored : goal.returns-in-None-clause-explored
 returns-in-None-clause-explored g c =
@@ -19,7 +19,7 @@ returns-in-None-clause-explored g c =
     (under_back (places_of a.table.now) a.here (g.S.Beginning.told a.start) m.now m.rounds m.row (explore a.first ∷ m.frames) m.next i.steps.tried i.steps.entered
     w.memory.rounds w.memory.row (explore c.places.place ∷ w.memory.frames) w.memory.next w.steps.tried w.steps.entered
     y.rounds y.row y.frames y.room y.next x.steps.tried x.steps.entered x.steps.looked (n.row, []) v.under went back) in
-    record { walks = under.walks; spent = under.spent; spent_entries = under.spent_entries }
+    record { walks = under.walks; again = under.again; spent = under.spent; spent_entries = under.spent_entries }
 
 pub places-smaller : goal.places-smaller
 places-smaller g c =
@@ -56,4 +56,46 @@ places-preserved g c =
         row = c.next_place.ensures.width ∙ c.in-Back.ensures.kept.row ∙ v.kept.row;
       };
       counts = still_counted i.steps w.steps x.steps v.counts c.in-Back.ensures.counts;
+      ready = ap (λ (z : State). z.ready) c.next_place.ensures.same ∙ c.in-Back.ensures.ready ∙ v.ready;
+    }
+
+pub returns-in-Complete-clause-explored : goal.returns-in-Complete-clause-explored
+returns-in-Complete-clause-explored g c =
+    let a = c.args in let i = a.self.now in let m = i.memory in let w = c.places.self in let v = c.places.invariant in let x = c.come_to.new.self in let y = x.memory in
+    let went : Went (places_of a.table.now) a.here (g.S.Beginning.told a.start) m.now w.memory.rounds w.memory.row (explore c.places.place ∷ w.memory.frames) w.memory.next w.steps.tried w.steps.entered
+    y.rounds y.row y.frames y.room y.next x.steps.tried x.steps.entered x.steps.looked true =
+    subst (λ z. Went (places_of a.table.now) a.here (g.S.Beginning.told a.start) z w.memory.rounds w.memory.row (explore c.places.place ∷ w.memory.frames) w.memory.next w.steps.tried w.steps.entered
+    y.rounds y.row y.frames y.room y.next x.steps.tried x.steps.entered x.steps.looked true) v.kept.round c.in-Complete.ensures.taken in
+    let none : y.frames ≡ [] = went.cleared refl in
+    let spent = v.under.spent in let entries = v.under.spent_entries in let spent1 = went.spent in let entries1 = went.spent_entries in
+    record {
+      walks = subst (λ (z : List Frame). WalksTo (places_of a.table.now) a.here (g.S.Beginning.told a.start) m.now m.rounds m.row (explore a.first ∷ m.frames) m.next y.rounds y.row z y.next true) none
+          (λ h p is s first last from f k n best u. went.walks h p is s first last from f k n best (v.under.walks h p is s first last from f k n best u));
+      again = subst (λ (z : List Frame). WalksAgain (places_of a.table.now) a.here (g.S.Beginning.told a.start) m.now m.rounds (explore a.first ∷ m.frames) m.next y.rounds z y.next true) none
+          (λ tell there alike h p is s first last from f k n best u. went.again tell there alike h p is s first last from f k n best (v.under.again tell there alike h p is s first last from f k n best u));
+      spent = omega (arith, spent, spent1, ap (λ (z : List Frame). explores z) none);
+      spent_entries = omega (arith, entries, entries1);
+    }
+
+pub places-preserved-in-To : goal.places-preserved-in-To
+places-preserved-in-To g c =
+    let a = c.args in let i = a.self.now in let m = i.memory in let w = c.places.self in let v = c.places.invariant in let x = c.come_to.new.self in let y = x.memory in
+    let went : Went (places_of a.table.now) a.here (g.S.Beginning.told a.start) m.now w.memory.rounds w.memory.row (explore c.places.place ∷ w.memory.frames) w.memory.next w.steps.tried w.steps.entered
+    y.rounds y.row (explore c.in-To.next ∷ y.frames) y.room y.next x.steps.tried x.steps.entered x.steps.looked false =
+    subst (λ z. Went (places_of a.table.now) a.here (g.S.Beginning.told a.start) z w.memory.rounds w.memory.row (explore c.places.place ∷ w.memory.frames) w.memory.next w.steps.tried w.steps.entered
+    y.rounds y.row (explore c.in-To.next ∷ y.frames) y.room y.next x.steps.tried x.steps.entered x.steps.looked false) v.kept.round c.in-To.ensures.taken in
+    let round : y.now ≡ m.now = c.in-To.ensures.kept.round ∙ v.kept.round in
+    record {
+      room = subst (λ z. IsFit (places_of a.table.now) y.rounds z y.row (explore c.in-To.next ∷ y.frames) y.room y.next x.steps.tried x.steps.entered x.steps.looked) (sym round) went.fit;
+      under = under_more (places_of a.table.now) a.here (g.S.Beginning.told a.start) m.now m.rounds m.row (explore a.first ∷ m.frames) m.next i.steps.tried i.steps.entered
+          w.memory.rounds w.memory.row (explore c.places.place ∷ w.memory.frames) w.memory.next w.steps.tried w.steps.entered
+          y.rounds y.row (explore c.in-To.next ∷ y.frames) y.room y.next x.steps.tried x.steps.entered x.steps.looked v.under went;
+      kept = record {
+        round = round;
+        threads = c.in-To.ensures.kept.threads ∙ v.kept.threads;
+        room = c.in-To.ensures.kept.room ∙ v.kept.room;
+        row = c.in-To.ensures.kept.row ∙ v.kept.row;
+      };
+      counts = still_counted i.steps w.steps x.steps v.counts c.in-To.ensures.counts;
+      ready = c.in-To.ensures.ready ∙ v.ready;
     }

@@ -1,0 +1,11 @@
+use Rattle.std.proofs.Common.{[], ap, ◌∙◌}
+use Rattle.regex_lite_engine.specs.LazyDfa.Automaton.{Automaton}
+use Rattle.regex_lite_engine.proofs.lazy_dfa.AutomatonLemmas.{seen_cut}
+use Rattle.regex_lite_engine.proofs.lazy_dfa.automaton.LazyDfa.drop_pending.Goals as goal
+
+pub returns : goal.returns
+returns c =
+    let i = c.self.inside in
+    let v = c.self.invariant in
+    seen_cut i.classes i.states.items i.used i.ways.items v.0 v.1 c.truncate.new.self.items c.truncate.ensures.items
+    ∙ ap (λ (z : Automaton). record z { pending = [] }) c.self.view_is

@@ -1,0 +1,120 @@
+use Rattle.std.proofs.Common.{rules, ◌∷◌, [], ap, subst, ◌∙◌, arith}
+use Rattle.std.specs.Prelude.{chars}
+use Rattle.std.proofs.lemmas.List.{nil_from_length}
+use Rattle.regex_lite_engine.specs.Graph.Stored.{table_of}
+use Rattle.regex_lite_engine.specs.Search.Offsets.{position_at}
+use Rattle.regex_lite_engine.specs.Walk.Outcomes.{IsBestOutcomeOf, with_start_kept}
+use Rattle.regex_lite_engine.specs.Walk.Turns.{best_at, best_of}
+use Rattle.regex_lite_engine.proofs.lazy_dfa.RunLemmas.{begun_on, own_first, turned_from}
+use Rattle.regex_lite_engine.proofs.pikevm.EndLemmas.{ended_all, over_at}
+use Rattle.regex_lite_engine.proofs.pikevm.here.OffsetLemmas.{at_most}
+use Rattle.regex_lite_engine.proofs.lazy_dfa.automaton.LazyDfa.find.Goals as goal
+
+pub positions-init : goal.positions-init
+positions-init c =
+    let s = position_at c.args.haystack.now c.args.start in
+    let fresh = c.requires.fresh in
+    record {
+      remembers = c.requires.remembers;
+      none_pending = c.requires.none_pending;
+      stands = record {
+        p = s;
+        is = c.at-here.ensures.here;
+        on = begun_on (table_of c.args.graph.now) (chars c.args.haystack.now) (c.args.graph.now.start ∷ []) s c.args.cache.now fresh c.requires.width;
+        first = omega arith;
+        own = own_first c.at-here.result.at c.args.cache.now.walk.memory.threads fresh.no_threads;
+        state = tt;
+      };
+    }
+
+pub go_over-hit-requires : goal.go_over-hit-requires
+go_over-hit-requires c =
+    let s = position_at c.args.haystack.now c.args.start in
+    let idle = c.at_idle-at.ensures.stands s c.positions.invariant.stands in
+    let stands = c.in_default.ensures.stands s idle in
+    (s, stands.p, stands.is, c.requires.counts, stands.on)
+
+pub returns-then-is_over-clause-found : goal.returns-then-is_over-clause-found
+returns-then-is_over-clause-found c =
+    let s = position_at c.args.haystack.now c.args.start in
+    let idle = c.at_idle-at.ensures.stands s c.positions.invariant.stands in
+    let stands = c.in_default.ensures.stands s idle in
+    let on = c.go_over-hit.ensures.on s stands.p stands.is stands.on in
+    let cache = c.go_over-hit.new.self in
+    let row = nil_from_length cache.best.row (on.ready.best_width ∙ on.width) in
+    let best = c.span.ensures ∙ ap (λ row. with_start_kept (best_at c.span.result row)) row in
+    subst (IsBestOutcomeOf (table_of c.args.graph.now) (chars c.args.haystack.now) (c.args.graph.now.start ∷ []) s) best
+    (ended_all (table_of c.args.graph.now) (chars c.args.haystack.now) (c.args.graph.now.start ∷ []) s stands.p cache.walk.memory.threads (best_of cache.best) stands.on.low stands.is.inside
+    (over_at (chars c.args.haystack.now) stands.p c.look_ahead.new.at.here stands.is (c.is_over.ensures.over (search rules))) on.coming)
+
+pub returns-then-is_over-clause-between : goal.returns-then-is_over-clause-between
+returns-then-is_over-clause-between c =
+    let s = position_at c.args.haystack.now c.args.start in
+    let idle = c.at_idle-at.ensures.stands s c.positions.invariant.stands in
+    let stands = c.in_default.ensures.stands s idle in
+    let on = c.go_over-hit.ensures.on s stands.p stands.is stands.on in
+    on.ready
+
+pub returns-then-is_over-clause-width : goal.returns-then-is_over-clause-width
+returns-then-is_over-clause-width c =
+    let s = position_at c.args.haystack.now c.args.start in
+    let idle = c.at_idle-at.ensures.stands s c.positions.invariant.stands in
+    let stands = c.in_default.ensures.stands s idle in
+    let on = c.go_over-hit.ensures.on s stands.p stands.is stands.on in
+    on.width
+
+pub learn_at-at-requires-clause-between : goal.learn_at-at-requires-clause-between
+learn_at-at-requires-clause-between c =
+    let s = position_at c.args.haystack.now c.args.start in
+    let idle = c.at_idle-at.ensures.stands s c.positions.invariant.stands in
+    let stands = c.in_default.ensures.stands s idle in
+    (c.go_over-hit.ensures.on s stands.p stands.is stands.on).ready
+
+pub learn_at-at-requires-clause-turned : goal.learn_at-at-requires-clause-turned
+learn_at-at-requires-clause-turned c =
+    let s = position_at c.args.haystack.now c.args.start in
+    let idle = c.at_idle-at.ensures.stands s c.positions.invariant.stands in
+    let stands = c.in_default.ensures.stands s idle in
+    let at = c.look_ahead.new.at in
+    turned_from (table_of c.args.graph.now) c.args.graph.now.start c.at_idle-at.new.self at.state at.first at.here c.go_over-hit.result c.look_ahead.new.cache c.go_over-hit.new.self stands.state
+    c.go_over-hit.ensures.again c.go_over-hit.ensures.hit stands.own
+
+pub on-at-requires-clause-first : goal.on-at-requires-clause-first
+on-at-requires-clause-first c =
+    let s = position_at c.args.haystack.now c.args.start in
+    let idle = c.at_idle-at.ensures.stands s c.positions.invariant.stands in
+    let stands = c.in_default.ensures.stands s idle in
+    stands.first
+
+pub on-at-requires-clause-on : goal.on-at-requires-clause-on
+on-at-requires-clause-on c =
+    let s = position_at c.args.haystack.now c.args.start in
+    let idle = c.at_idle-at.ensures.stands s c.positions.invariant.stands in
+    let stands = c.in_default.ensures.stands s idle in
+    let on = c.go_over-hit.ensures.on s stands.p stands.is stands.on in
+    (s, stands.p, stands.is, on)
+
+pub positions-smaller : goal.positions-smaller
+positions-smaller c =
+    let s = position_at c.args.haystack.now c.args.start in
+    let idle = c.at_idle-at.ensures.stands s c.positions.invariant.stands in
+    let stands = c.in_default.ensures.stands s idle in
+    let on = c.go_over-hit.ensures.on s stands.p stands.is stands.on in
+    let next = c.on-at.ensures.stands s stands.p stands.is on in
+    let most = at_most c.args.haystack.now next.p c.on-at.result.here c.utf8.haystack next.is in
+    let later = c.on-at.ensures.later in
+    let ahead = c.look_ahead.ensures.later in
+    let passed = c.at_idle-at.ensures.later in
+    omega (arith, most, later, ahead, passed)
+
+pub positions-preserved : goal.positions-preserved
+positions-preserved c =
+    let s = position_at c.args.haystack.now c.args.start in
+    let idle = c.at_idle-at.ensures.stands s c.positions.invariant.stands in
+    let stands = c.in_default.ensures.stands s idle in
+    let on = c.go_over-hit.ensures.on s stands.p stands.is stands.on in
+    record {
+      remembers = c.learn_at-at.ensures.remembers;
+      none_pending = c.learn_at-at.ensures.none_pending;
+      stands = c.on-at.ensures.stands s stands.p stands.is on;
+    }

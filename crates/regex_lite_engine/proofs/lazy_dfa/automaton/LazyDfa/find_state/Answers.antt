@@ -1,0 +1,23 @@
+use Rattle.std.proofs.Common.{rules, ◌≡◌, ap, sym, ◌∙◌, map, slice_get, slice_index_or, refl}
+use Rattle.regex_lite_engine.specs.declared.lazy_dfa.state.StoredState.{StoredState}
+use Rattle.regex_lite_engine.specs.LazyDfa.Automaton.{Automaton}
+use Rattle.regex_lite_engine.specs.LazyDfa.Stored.{hit_in, state_in, way_in}
+use Rattle.regex_lite_engine.proofs.lazy_dfa.AutomatonLemmas.{state_at}
+use Rattle.regex_lite_engine.proofs.lazy_dfa.automaton.LazyDfa.find_state.Goals as goal
+
+pub returns-then-are_same : goal.returns-then-are_same
+returns-then-are_same c =
+    let i = c.self.inside in
+    let like = c.if-is_like.ensures in
+    let found : StoredState = c.index-state.result.now in
+    let stored : slice_index_or i.states.items c.states.y found ≡ found = search rules in
+    let at = sym (ap (λ (z : Automaton). slice_get z.states c.states.y) c.self.view_is)
+    ∙ state_at i.states.items i.ways.items c.states.y found (search rules) in
+    record {
+      state = state_in i.ways.items (slice_index_or i.states.items c.states.y found);
+      is = at;
+      ways = sym (c.ways.ensures _ at) ∙ ap (map way_in) (c.if-are_same.ensures refl) ∙ c.pending.ensures;
+      searching = ap (λ (s : StoredState). s.searching) stored ∙ like.searching refl;
+      before = ap (λ (s : StoredState). s.before) stored ∙ like.before refl;
+      hit = ap (λ (s : StoredState). hit_in s.hit) stored ∙ ap hit_in (like.hit refl);
+    }

@@ -1,0 +1,37 @@
+use Rattle.std.proofs.Common.{◌∷◌, [], ◌++◌, drop, map, ap, sym, ◌∙◌}
+use Rattle.regex_lite_engine.specs.declared.lazy_dfa.state.StoredWay.{StoredWay}
+use Rattle.regex_lite_engine.specs.LazyDfa.Automaton.{Automaton}
+use Rattle.regex_lite_engine.specs.LazyDfa.Stored.{way_in}
+use Rattle.regex_lite_engine.proofs.lazy_dfa.AutomatonLemmas.{not_so, seen, seen_pushed}
+use Rattle.regex_lite_engine.proofs.lazy_dfa.automaton.LazyDfa.push_way.Goals as goal
+use Rattle.regex_lite_engine.proofs.lazy_dfa.automaton.LazyDfa.push_way.Goals.{in-Ok, in-Err}
+
+pub returns-clause-pushed : goal.returns-clause-pushed
+returns-clause-pushed c = λ told.
+    let i = c.self.inside in
+    let v = c.self.invariant in
+    let way : StoredWay = record { place = c.args.place; is_first = c.args.is_first } in
+    elim c.match-push.branch [
+      | in-Ok w ↦
+          seen_pushed i.classes i.states.items i.used i.ways.items v.0 v.1 way c.push.new.self.items w.in-Ok.ensures.items
+          ∙ ap (λ (z : Automaton). record z { pending = z.pending ++ way_in way ∷ [] }) c.self.view_is
+      | in-Err w ↦ absurd (not_so (sym told ∙ w.result-is))
+    ]
+
+pub returns-clause-same : goal.returns-clause-same
+returns-clause-same c =
+    let i = c.self.inside in
+    let v = c.self.invariant in
+    let way : StoredWay = record { place = c.args.place; is_first = c.args.is_first } in
+    elim c.match-push.branch [
+      | in-Ok w ↦
+          seen_pushed i.classes i.states.items i.used i.ways.items v.0 v.1 way c.push.new.self.items w.in-Ok.ensures.items
+          ∙ ap (λ (z : Automaton). record z { pending = z.pending ++ way_in way ∷ [] }) c.self.view_is
+          ∙ ap (λ more. record c.args.self.now { pending = more })
+          (sym (ap (λ (z : Automaton). z.pending) (seen_pushed i.classes i.states.items i.used i.ways.items v.0 v.1 way c.push.new.self.items w.in-Ok.ensures.items)
+          ∙ ap (λ (z : Automaton). z.pending ++ way_in way ∷ []) c.self.view_is))
+      | in-Err w ↦
+          ap (λ items. seen i.classes i.states.items i.used items) w.in-Err.ensures.items ∙ c.self.view_is
+          ∙ ap (λ more. record c.args.self.now { pending = more })
+          (sym (ap (λ items. map way_in (drop i.used items)) w.in-Err.ensures.items ∙ ap (λ (z : Automaton). z.pending) c.self.view_is))
+    ]

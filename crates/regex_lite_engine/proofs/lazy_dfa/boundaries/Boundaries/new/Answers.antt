@@ -1,0 +1,20 @@
+use Rattle.std.proofs.Common.{◌∷◌, [], length, slice_index, sym, ap, subst, ◌∙◌, arith}
+use Rattle.std.proofs.lemmas.List.{length-append}
+use Rattle.regex_lite_engine.specs.LazyDfa.Intervals.{IsBoundary, character_bounds}
+use Rattle.regex_lite_engine.proofs.lazy_dfa.BoundaryLemmas.{added_boundary, next_there, still_boundary}
+use Rattle.regex_lite_engine.proofs.lazy_dfa.boundaries.Boundaries.new.Goals as goal
+
+pub bounds-preserved : goal.bounds-preserved
+bounds-preserved c =
+    let before = c.bounds.all.items in
+    let added = slice_index character_bounds c.bounds.k in
+    let items = c.in_ok-push.ensures.items in
+    let more = length-append before (added ∷ []) in
+    let count = c.bounds.invariant.count in
+    record {
+      count = ap length items ∙ (let n = more in omega (arith, n, count));
+      first = next_there character_bounds before c.push.new.self.items c.bounds.k c.bounds-test.true
+          (λ b is. subst (λ bs. IsBoundary bs b) (sym items) (still_boundary before (added ∷ []) b is))
+          c.bounds.invariant.first
+          (subst (λ bs. IsBoundary bs added) (sym items) (added_boundary before added));
+    }

@@ -1,0 +1,10 @@
+use Rattle.std.proofs.Common.{◌≡◌, length}
+use Rattle.regex_lite_engine.specs.LazyDfa.Intervals.{character_bounds}
+use Rattle.regex_lite_engine.proofs.lazy_dfa.BoundaryLemmas.{AreFirst}
+use Rattle.regex_lite_engine.proofs.lazy_dfa.boundaries.Boundaries.new.Given as goal
+
+abbrev pub invariant-bounds : goal.invariant-bounds
+invariant-bounds l = record {
+  count : length l.all.items ≡ l.k;
+  first : AreFirst character_bounds l.k l.all.items;
+}

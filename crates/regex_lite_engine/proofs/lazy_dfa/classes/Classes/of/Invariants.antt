@@ -1,0 +1,11 @@
+use Rattle.std.proofs.Common.{◌≡◌, ◌<◌, ℕ, All, Some, slice_get}
+use Rattle.regex_lite_engine.specs.declared.nfa.place.Place.{Place}
+use Rattle.regex_lite_engine.specs.LazyDfa.Intervals.{IsBoundary, IsBoundedPlace, character_bounds}
+use Rattle.regex_lite_engine.proofs.lazy_dfa.classes.Classes.of.Given as goal
+
+abbrev pub invariant-places : goal.invariant-places
+invariant-places l = record {
+  each : (k : ℕ) (place : Place) → k < l.q → slice_get l.places k ≡ Some place
+      → IsBoundedPlace l.bounds place;
+  characters : All (IsBoundary l.bounds.boundaries) character_bounds;
+}

@@ -1,0 +1,8 @@
+use Rattle.std.proofs.Common.{◌≡◌, ◌<◌, ℕ, true, slice_index_or}
+use Rattle.regex_lite_engine.specs.declared.lazy_dfa.state.StoredWay.{StoredWay}
+use Rattle.regex_lite_engine.proofs.lazy_dfa.find.may_take_up.Given as goal
+
+-- those before this one began there
+abbrev pub invariant-ways : goal.invariant-ways
+invariant-ways l = (j : ℕ) (d : StoredWay) → j < l.k
+    → (slice_index_or l.ways j d).is_first ≡ true

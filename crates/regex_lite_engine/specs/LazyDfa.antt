@@ -1,0 +1,10 @@
+-- What the functions of the lazy automaton promise one another.
+pub mod Boundaries
+pub mod Intervals
+pub mod Automaton
+pub mod Stored
+pub mod Extending
+pub mod Scanning
+pub mod Learning
+pub mod Running
+pub mod Remembering

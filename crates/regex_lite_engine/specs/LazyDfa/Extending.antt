@@ -1,0 +1,23 @@
+-- How the lazy automaton gets more states.
+use Rattle.std.specs.Prelude.{◌≡◌, ◌<◌, ℕ, Bool, List, Option, Some, slice_get, slice_index}
+use Rattle.regex_lite_engine.specs.declared.lazy_dfa.side.Side.{Side}
+use Rattle.regex_lite_engine.specs.LazyDfa.Automaton.{Automaton, Origin, State, Way, most_classes, unknown}
+
+-- the state with this number has these ways and properties
+pub record IsState (automaton : Automaton) (y : ℕ) (all : List Way) (goes_on : Bool)
+    (side : Side) (last : Option Origin) : Type 0 where
+  pub state : State
+  pub is : slice_get automaton.states y ≡ Some state
+  pub ways : state.ways ≡ all
+  pub searching : state.searching ≡ goes_on
+  pub before : state.before ≡ side
+  pub hit : state.hit ≡ last
+
+-- all states are there still, and no turn is known from a new one
+pub record Extends (old new : Automaton) : Type 0 where
+  pub intervals : new.intervals ≡ old.intervals
+  pub kept : (x : ℕ) (state : State) → slice_get old.states x ≡ Some state
+      → slice_get new.states x ≡ Some state
+  pub fresh : (x : ℕ) (state : State) → slice_get new.states x ≡ Some state
+      → (slice_get old.states x ≡ Some state → ⊥)
+      → (state.ways ≡ old.pending) × ((class : ℕ) → class < most_classes → slice_index state.next class ≡ unknown)

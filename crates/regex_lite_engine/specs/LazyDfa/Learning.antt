@@ -1,0 +1,43 @@
+-- What is known of a search whose turns are remembered.
+use Rattle.std.specs.Prelude.{◌≡◌, ℕ, Bool, true, List, [], ◌∷◌, slice_get, Option, Some}
+use Rattle.regex_lite_syntax.specs.Text.{Text}
+use Rattle.regex_lite_engine.specs.declared.pikevm.here.Here.{Here}
+use Rattle.regex_lite_engine.specs.declared.pikevm.patterns.Start.{Start}
+use Rattle.regex_lite_engine.specs.declared.pikevm.turn.Cache.{Cache}
+use Rattle.regex_lite_engine.specs.Graph.Places.{Place}
+use Rattle.regex_lite_engine.specs.LazyDfa.Automaton.{Automaton, State, Suits, ways_of}
+use Rattle.regex_lite_engine.specs.LazyDfa.Intervals.{side_of}
+use Rattle.regex_lite_engine.specs.Walk.Beginnings.{Told, Tells}
+use Rattle.regex_lite_engine.specs.Walk.Machine.{Thread}
+use Rattle.regex_lite_engine.specs.Walk.Searching.{IsHit, TurnsAgain}
+use Rattle.regex_lite_engine.specs.Walk.Standing.{IsHere}
+use Rattle.regex_lite_engine.specs.Walk.Turns.{best_of, AreStartsAt}
+
+-- the position's own start is the first where there is no thread, and else another
+abbrev pub IsFirst : (first at : ℕ) → List Thread → Type 0
+IsFirst first at [] = first ≡ at
+IsFirst first at (thread ∷ threads) = first ≡ at → ⊥
+
+-- the search is in this state, after this character
+pub record IsIn {S : Type 0} (automaton : Automaton) (x : ℕ) (first : ℕ) (before : Option ℕ)
+    (cache : Cache S) : Type 0 where
+  pub state : State
+  pub is_state : slice_get automaton.states x ≡ Some state
+  pub ways : ways_of first cache.walk.memory.threads ≡ state.ways
+  pub suits : Suits state.searching (best_of cache.best)
+  pub sees : automaton.intervals.looks ≡ true → side_of before ≡ state.before
+
+-- the search that is now in the cache has taken a turn from this state
+pub record HasTurned {S : Type 0} (table : List (Place ℕ)) (entries : List ℕ)
+    (automaton : Automaton) (x first : ℕ) (here : Here) (hit : Bool) (now : Cache S) : Type 0 where
+  pub before : Cache S
+  pub starts : List Start
+  pub told : ℕ → Told
+  pub is_in : IsIn automaton x first here.before before
+  pub again : TurnsAgain table starts here told before now hit
+  pub is_hit : IsHit hit (best_of before.best) (best_of now.best)
+  pub tells : (number : ℕ) → Tells (told number) here.at number
+  pub is_first : IsFirst first here.at before.walk.memory.threads
+  -- these starts suffice wherever they do
+  pub suffice : (haystack : Text) (p : ℕ) (there : Here) → IsHere haystack p there
+      → AreStartsAt table haystack entries p starts

@@ -1,0 +1,54 @@
+-- A search that remembers its turns and goes by those that it remembers.
+use Rattle.std.specs.Prelude.{◌≡◌, ◌+◌, ◌-◌, ◌*◌, ◌^◌, ◌≤◌, ◌<◌, ℕ, List, [], MatchOption, None, Some, length, slice_index}
+use Rattle.regex_lite_syntax.specs.Text.{Text}
+use Rattle.regex_lite_engine.specs.declared.lazy_dfa.run.Progress.{Progress}
+use Rattle.regex_lite_engine.specs.declared.lazy_dfa.state.StoredWay.{StoredWay}
+use Rattle.regex_lite_engine.specs.declared.pikevm.turn.Cache.{Cache}
+use Rattle.regex_lite_engine.specs.Graph.Places.{Place}
+use Rattle.regex_lite_engine.specs.Graph.Renumbered.{arrows_of}
+use Rattle.regex_lite_engine.specs.LazyDfa.Automaton.{Automaton}
+use Rattle.regex_lite_engine.specs.LazyDfa.Learning.{IsFirst, IsIn}
+use Rattle.regex_lite_engine.specs.Walk.Machine.{Thread}
+use Rattle.regex_lite_engine.specs.Walk.Searching.{IsBetween}
+use Rattle.regex_lite_engine.specs.Walk.Standing.{IsHere}
+use Rattle.regex_lite_engine.specs.Walk.Turns.{best_of, IsComing}
+
+module _ (table : List (Place ℕ)) (haystack : Text) (entries : List ℕ) (s : ℕ) where
+  -- a search from position s on has come to position p
+  pub record IsOnItsWay {S : Type 0} (p : ℕ) (cache : Cache S) : Type 0 where
+    pub low : s ≤ p
+    pub ready : IsBetween table cache
+    pub coming : IsComing table haystack entries s (length haystack) p cache.walk.memory.threads
+        (best_of cache.best)
+    pub tries :
+        cache.walk.steps.tried + length cache.walk.memory.threads
+        ≤ (arrows_of table + length entries) * (p - s)
+    pub entries_left : cache.walk.steps.entered ≤ length table * (p - s)
+    pub rounds : cache.walk.memory.now < 2 ^ 63 + (p - s)
+    pub width : length cache.walk.memory.row ≡ 0
+
+  -- that is where it stands, and its state, if that is known
+  pub record Stands {S : Type 0} (automaton : Automaton) (at : Progress) (cache : Cache S) : Type 0 where
+    pub p : ℕ
+    pub is : IsHere haystack p at.here
+    pub on : IsOnItsWay p cache
+    pub first : at.first ≤ at.here.at
+    pub own : IsFirst at.first at.here.at cache.walk.memory.threads
+    pub state : MatchOption at.state (Unit {0})
+        (λ x. IsIn automaton x at.first at.here.before cache)
+
+-- the thread of a way that began at the first start
+abbrev pub started_at : (first : ℕ) → StoredWay → Thread
+started_at first way = (way.place, record { at = Some first; number = None }, [])
+
+-- the memory and the counts are as before, but for what there is to go on from
+pub record GoesOnWith {S : Type 0} (old new : Cache S) : Type 0 where
+  pub steps : new.walk.steps ≡ old.walk.steps
+  pub rounds : length new.walk.memory.rounds ≡ length old.walk.memory.rounds
+  pub now : new.walk.memory.now < 2 ^ 63
+  pub entered : (q : ℕ) → slice_index new.walk.memory.rounds q ≤ new.walk.memory.now
+  pub room : new.walk.memory.room ≡ old.walk.memory.room
+  pub row : length new.walk.memory.row ≡ length old.walk.memory.row
+  pub frames : new.walk.memory.frames ≡ []
+  pub next : new.walk.memory.next ≡ []
+  pub best_row : length new.best.row ≡ length old.best.row

@@ -1,0 +1,12 @@
+//! A lazy automaton: it remembers the turns that searches have taken, so that later ones take them
+//! by a look-up.
+pub(crate) mod automaton;
+pub(crate) mod boundaries;
+pub(crate) mod classes;
+pub(crate) mod find;
+pub(crate) mod learn;
+pub(crate) mod remembering;
+pub(crate) mod run;
+pub(crate) mod scan;
+pub(crate) mod side;
+pub(crate) mod state;

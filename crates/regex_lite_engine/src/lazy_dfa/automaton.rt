@@ -1,0 +1,186 @@
+//! What a lazy automaton remembers.
+ghost use Rattle.std.specs.Prelude.{◌≡◌, ◌+◌, ◌≤◌, ◌<◌, ◌++◌, ◌∷◌, [], ℕ, IfOk, IfSome, Some, length, map, slice_get, slice_set, true};
+ghost use Rattle.regex_lite_engine.specs.LazyDfa.Automaton.{State, unknown};
+ghost use Rattle.regex_lite_engine.specs.LazyDfa.Extending.{Extends, IsState};
+ghost use Rattle.regex_lite_engine.specs.LazyDfa.Stored.{hit_in, way_in};
+
+use crate::lazy_dfa::classes::Classes;
+use crate::lazy_dfa::side::Side;
+use crate::lazy_dfa::state::{Hit, StoredState, StoredWay, are_same};
+use std::alloc::{AllocError, Global};
+use std::marker::Model;
+
+/// No more states than these are kept.
+const MOST_STATES: usize = 128;
+
+/// Nor more ways in all of them.
+const MOST_WAYS: usize = 3072;
+
+/// Stands where no turn is remembered.
+pub(super) const UNKNOWN: u16 = 0xFFFF;
+
+/// Classes of characters, and the states that searches have come to. All its memory is asked for at
+/// once: where it is full, it remembers no more.
+#[derive(Drop)]
+pub(crate) struct LazyDfa {
+    pub(super) classes: Classes,
+    pub(super) states: Vec<StoredState>,
+    /// The ways of all states, and after them those of one that is to come.
+    ways: Vec<StoredWay>,
+    /// How many of them the states have.
+    used: usize,
+}
+
+impl Model for LazyDfa {
+    ghost use Rattle.std.specs.Prelude.{◌≤◌, length, map, drop, vec_capacity};
+    ghost use Rattle.regex_lite_engine.specs.LazyDfa.Automaton.{Automaton};
+    ghost use Rattle.regex_lite_engine.specs.LazyDfa.Stored.{LieWithin, state_in, way_in};
+
+    ghost Value = { Automaton };
+
+    ghost view = { λ dfa. record {
+      intervals = dfa.classes;
+      states = map (state_in dfa.ways.items) dfa.states.items;
+      pending = map way_in (drop dfa.used dfa.ways.items);
+    } };
+
+    ghost invariant = { λ dfa. LieWithin dfa.used dfa.states.items
+        × (dfa.used ≤ length dfa.ways.items) × (length dfa.states.items ≤ 128) };
+}
+
+impl LazyDfa {
+    /// One that remembers nothing yet.
+    pub(crate) fn new(alloc: Global, classes: Classes) -> Result<LazyDfa, AllocError>
+        ensures intervals { IfOk result (λ dfa. dfa.intervals ≡ classes) }
+        ensures states { IfOk result (λ dfa. dfa.states ≡ []) }
+        ensures pending { IfOk result (λ dfa. dfa.pending ≡ []) }
+    {
+        let states = Vec::with_capacity(alloc, MOST_STATES)?;
+        let ways = Vec::with_capacity(alloc, MOST_WAYS)?;
+        Ok(LazyDfa {
+            classes,
+            states,
+            ways,
+            used: 0,
+        })
+    }
+
+    /// Adds a way to those of the state that is to come. Returns whether there was room.
+    pub(crate) fn push_way(&mut self, place: u32, is_first: bool) -> bool
+        ensures pushed { result ≡ true → self.new ≡ record self.old {
+          pending = self.old.pending
+              ++ way_in (record { place = place; is_first = is_first }) ∷ [];
+        } }
+        ensures same { self.new ≡ record self.old { pending = self.new.pending } }
+    {
+        if self.ways.len() >= MOST_WAYS {
+            return false;
+        }
+        match self.ways.push(StoredWay { place, is_first }) {
+            Ok(()) => true,
+            Err(_) => false,
+        }
+    }
+
+    /// Forgets the ways of the state that was to come.
+    pub(crate) fn drop_pending(&mut self)
+        ensures { self.new ≡ record self.old { pending = [] } }
+    {
+        self.ways.truncate(self.used);
+    }
+
+    /// The state that has the pending ways and these properties, if it is there or there is room
+    /// for it.
+    pub(crate) fn settle(&mut self, searching: bool, before: Side, hit: Hit) -> Option<u16>
+        ensures state { IfSome result (λ y.
+            IsState self.new y self.old.pending searching before (hit_in hit)) }
+        ensures extends { Extends self.old self.new }
+        ensures none_pending { self.new.pending ≡ [] }
+    {
+        if let Some(y) = self.find_state(searching, before, hit) {
+            self.drop_pending();
+            return Some(y);
+        }
+        let y = self.states.len();
+        if y >= MOST_STATES || !self.add(searching, before, hit) {
+            self.drop_pending();
+            return None;
+        }
+        Some(y as u16)
+    }
+
+    /// The state that has the pending ways and these properties.
+    fn find_state(&self, searching: bool, before: Side, hit: Hit) -> Option<u16>
+        ensures { IfSome result (λ y.
+            IsState self.now y self.now.pending searching before (hit_in hit)) }
+    {
+        let len = self.pending().len();
+        'states: for y in 0..self.states.len() {
+            let state = &self.states[y];
+            // Most states are told apart by how many ways they have.
+            if state.len == len
+                && state.is_like(searching, before, hit)
+                && are_same(self.ways(y), self.pending())
+            {
+                return Some(y as u16);
+            }
+        }
+        None
+    }
+
+    /// Lets a state have the pending ways. Returns whether there was memory.
+    fn add(&mut self, searching: bool, before: Side, hit: Hit) -> bool
+        requires { length self.old.states < 128 }
+        ensures state { result ≡ true → IsState self.new (length self.old.states)
+            self.old.pending searching before (hit_in hit) }
+        ensures extends { Extends self.old self.new }
+        ensures none_pending { result ≡ true → self.new.pending ≡ [] }
+    {
+        let state = StoredState {
+            from: self.used,
+            len: self.ways.len() - self.used,
+            searching,
+            before,
+            hit,
+            next: [UNKNOWN; 128],
+        };
+        match self.states.push(state) {
+            Ok(()) => {
+                self.used = self.ways.len();
+                true
+            }
+            Err(_) => false,
+        }
+    }
+
+    /// Remembers where a turn leads.
+    pub(crate) fn remember(&mut self, x: u16, class: usize, y: u16)
+        requires state { x < length self.old.states }
+        requires class { class < 128 }
+        ensures { (state : State) → slice_get self.old.states x ≡ Some state
+            → self.new ≡ record self.old {
+              states = slice_set self.old.states x
+                  (record state { next = slice_set state.next class y });
+            } }
+    {
+        let state = &mut self.states[x as usize];
+        state.next[class] = y;
+    }
+
+    /// The ways of the state.
+    pub(super) fn ways(&self, y: usize) -> &[StoredWay]
+        requires { y < length self.now.states }
+        ensures { (state : State) → slice_get self.now.states y ≡ Some state
+            → map way_in result.now ≡ state.ways }
+    {
+        let StoredState { from, len, .. } = self.states[y];
+        &self.ways[from..from + len]
+    }
+
+    /// Those of the state that is to come.
+    fn pending(&self) -> &[StoredWay]
+        ensures { map way_in result.now ≡ self.now.pending }
+    {
+        &self.ways[self.used..]
+    }
+}

@@ -1,0 +1,130 @@
+//! The characters at which what places read begins and ends.
+ghost use Rattle.std.specs.Prelude.{◌≡◌, ◌≤◌, ◌<◌, ◌+◌, All, IfOk, true, length};
+ghost use Rattle.regex_lite_engine.specs.LazyDfa.Intervals.{AreBounded, IsBoundary, IsBoundedPlace, character_bounds, look_bounds};
+ghost use Rattle.regex_lite_engine.specs.LazyDfa.Boundaries.{Grows};
+
+use crate::nfa::place::Place;
+use regex_lite_syntax::ClassRange;
+use std::alloc::{AllocError, Global};
+use std::marker::Model;
+
+/// No more boundaries than these are kept, so that an interval has a number of few bits.
+const MOST: usize = 125;
+
+/// What isn't a character is apart from what is: the surrogates, and what is after the last.
+const CHARACTER_BOUNDS: [u32; 3] = [0xD800, 0xE000, 0x11_0000];
+
+/// What looks tell apart: line feeds, carriage returns, and the runs of word characters.
+const LOOK_BOUNDS: [u32; 12] = [10, 11, 13, 14, 48, 58, 65, 91, 95, 96, 97, 123];
+
+/// Where the intervals begin, but for the lowest.
+#[derive(Drop)]
+pub(crate) struct Boundaries {
+    /// In the order in which they were added, each once.
+    all: Vec<u32>,
+    /// Whether some place looks at its neighbours.
+    looks: bool,
+}
+
+impl Model for Boundaries {
+    ghost use Rattle.std.specs.Prelude.{◌≡◌, ◌≤◌, All, true, length};
+    ghost use Rattle.regex_lite_engine.specs.LazyDfa.Intervals.{Intervals, IsBoundary, look_bounds};
+
+    ghost Value = { Intervals };
+
+    ghost view = { λ bounds. record { boundaries = bounds.all.items; looks = bounds.looks } };
+
+    ghost invariant = { λ bounds. (length bounds.all.items ≤ 125)
+        × (bounds.looks ≡ true → All (IsBoundary bounds.all.items) look_bounds) };
+}
+
+impl Boundaries {
+    /// Those of all characters alone.
+    pub(crate) fn new(alloc: Global) -> Result<Boundaries, AllocError>
+        ensures { IfOk result (λ bounds. All (IsBoundary bounds.boundaries) character_bounds) }
+    {
+        let mut all = Vec::with_capacity(alloc, MOST)?;
+        'bounds: for k in 0..CHARACTER_BOUNDS.len() {
+            all.push(CHARACTER_BOUNDS[k])?;
+        }
+        Ok(Boundaries { all, looks: false })
+    }
+
+    /// Where they lie, and whether some place looks at its neighbours.
+    pub(crate) fn into_parts(self) -> (Vec<u32>, bool)
+        ensures boundaries { result.0.items ≡ self.boundaries }
+        ensures looks { result.1 ≡ self.looks }
+        ensures few { length result.0.items ≤ 125 }
+        ensures sides { result.1 ≡ true → All (IsBoundary result.0.items) look_bounds }
+    {
+        let Boundaries { all, looks } = self;
+        (all, looks)
+    }
+
+    /// Adds those of what the place reads. Returns whether there was room for them.
+    pub(crate) fn add_place(&mut self, place: &Place) -> bool
+        ensures bounded { result ≡ true → IsBoundedPlace self.new place.now }
+        ensures grows { Grows self.old self.new }
+    {
+        match place {
+            Place::Char { c, .. } => self.add(*c as u32) && self.add(*c as u32 + 1),
+            Place::Class { set, .. } => self.add_ranges(set.ranges()),
+            Place::Look { .. } => self.add_looks(),
+            _ => true,
+        }
+    }
+
+    /// Adds those of the ranges.
+    fn add_ranges(&mut self, ranges: &[ClassRange]) -> bool
+        ensures bounded { result ≡ true → AreBounded self.new.boundaries ranges.now }
+        ensures grows { Grows self.old self.new }
+    {
+        'bounds: for i in (0..ranges.len()).rev() {
+            let ClassRange { start, end } = ranges[i];
+            if !self.add(start as u32) || !self.add(end as u32 + 1) {
+                return false;
+            }
+        }
+        true
+    }
+
+    /// Adds those of what looks tell apart.
+    fn add_looks(&mut self) -> bool
+        ensures looks { result ≡ true → self.new.looks ≡ true }
+        ensures grows { Grows self.old self.new }
+    {
+        'bounds: for k in 0..LOOK_BOUNDS.len() {
+            if !self.add(LOOK_BOUNDS[k]) {
+                return false;
+            }
+        }
+        self.looks = true;
+        true
+    }
+
+    /// Lets an interval begin at this number.
+    #[tactic(auto, using(crate::proofs::lazy_dfa::BoundaryLemmas::still_boundary, crate::proofs::lazy_dfa::BoundaryLemmas::added_boundary, crate::proofs::lazy_dfa::BoundaryLemmas::all_still))]
+    fn add(&mut self, bound: u32) -> bool
+        ensures added { result ≡ true → IsBoundary self.new.boundaries bound }
+        ensures grows { Grows self.old self.new }
+        ensures looks { self.new.looks ≡ self.old.looks }
+    {
+        if is_among(&self.all, bound) {
+            return true;
+        }
+        self.all.len() < MOST && self.all.push(bound).is_ok()
+    }
+}
+
+/// Whether an interval begins at this number.
+#[tactic(auto, using(crate::proofs::lazy_dfa::BoundaryLemmas::boundary_at))]
+fn is_among(boundaries: &[u32], bound: u32) -> bool
+    ensures { result ≡ true → IsBoundary boundaries.now bound }
+{
+    'bounds: for k in 0..boundaries.len() {
+        if boundaries[k] == bound {
+            return true;
+        }
+    }
+    false
+}

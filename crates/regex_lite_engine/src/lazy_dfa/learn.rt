@@ -1,0 +1,114 @@
+//! Turns of a search, remembered.
+ghost use Rattle.std.specs.Prelude.{◌≡◌, ◌∷◌, [], ◌<◌, ◌≤◌, ◌++◌, ℕ, IfSome, Some, length, map, slice_get, true};
+ghost use Rattle.regex_lite_engine.specs.Graph.Stored.{table_of};
+ghost use Rattle.regex_lite_engine.specs.LazyDfa.Automaton.{FitsTable, Remembers, State, hit_of, searching_after, ways_of};
+ghost use Rattle.regex_lite_engine.specs.LazyDfa.Intervals.{side_of};
+ghost use Rattle.regex_lite_engine.specs.LazyDfa.Learning.{HasTurned, IsIn};
+ghost use Rattle.regex_lite_engine.specs.LazyDfa.Stored.{hit_in};
+ghost use Rattle.regex_lite_engine.specs.Walk.Searching.{IsBetween};
+ghost use Rattle.regex_lite_engine.specs.Walk.Turns.{best_of};
+
+use crate::Graph;
+use crate::lazy_dfa::automaton::LazyDfa;
+use crate::lazy_dfa::side::Side;
+use crate::lazy_dfa::state::Hit;
+use crate::pikevm::here::Here;
+use crate::pikevm::memory::Memory;
+use crate::pikevm::turn::Cache;
+
+/// A turn that a search has taken: from which state, with which first start, and where. A match
+/// was complete there, or not.
+#[derive(Clone, Copy)]
+pub(crate) struct Taken {
+    pub state: u16,
+    pub first: usize,
+    pub here: Here,
+    pub hit: bool,
+}
+
+impl LazyDfa {
+    /// Remembers the turn by which the search has come to what the cache has now. Returns the state
+    /// that it is in, where there is room for it.
+    pub(crate) fn learn(&mut self, graph: &Graph, taken: Taken, cache: &Cache<usize>) -> Option<u16>
+        requires remembers { Remembers graph.now.places (graph.now.start ∷ []) self.old }
+        requires turned { HasTurned (table_of graph.now) (graph.now.start ∷ []) self.old
+            taken.state taken.first taken.here taken.hit cache.now }
+        requires between { IsBetween (table_of graph.now) cache.now }
+        requires none_pending { self.old.pending ≡ [] }
+        ensures remembers { Remembers graph.now.places (graph.now.start ∷ []) self.new }
+        ensures state { IfSome result (λ y.
+            IsIn self.new y taken.first taken.here.after cache.now) }
+        ensures none_pending { self.new.pending ≡ [] }
+    {
+        if !self.gather(&cache.walk.memory, taken.first) {
+            self.drop_pending();
+            return None;
+        }
+        let hit = hit_told(taken, cache);
+        let searching = self.searching_after(taken.state, hit);
+        let before = self.side(taken.here.after);
+        let y = self.settle(searching, before, hit)?;
+        let class = self.classes.class(taken.here.after);
+        self.remember(taken.state, class, y);
+        Some(y)
+    }
+
+    /// Lets the threads of the position be the ways of a state that is to come. Returns whether
+    /// there was room.
+    fn gather(&mut self, memory: &Memory<usize>, first: usize) -> bool
+        ensures gathered { result ≡ true → self.new ≡ record self.old {
+          pending = self.old.pending ++ ways_of first memory.now.threads;
+        } }
+        ensures same { self.new ≡ record self.old { pending = self.new.pending } }
+    {
+        'threads: for k in 0..memory.threads() {
+            let (place, start) = memory.thread(k);
+            if !self.push_way(place, start == first) {
+                return false;
+            }
+        }
+        true
+    }
+
+    /// Whether there is no match yet after a turn from this state.
+    fn searching_after(&self, x: u16, hit: Hit) -> bool
+        requires { x < length self.now.states }
+        ensures { (state : State) → slice_get self.now.states x ≡ Some state
+            → result ≡ searching_after (hit_in hit) state.searching }
+    {
+        match hit {
+            Hit::Nowhere => self.states[x as usize].searching,
+            Hit::AtFirst | Hit::AtLater => false,
+        }
+    }
+
+    /// What looks see of the character, if there are looks.
+    pub(super) fn side(&self, c: Option<char>) -> Side
+        ensures { self.now.intervals.looks ≡ true → result ≡ side_of c }
+    {
+        if self.classes.looks() {
+            Side::of(c)
+        } else {
+            Side::of(None)
+        }
+    }
+}
+
+/// Where the way began by which the turn completed a match.
+fn hit_told(taken: Taken, cache: &Cache<usize>) -> Hit
+    ensures { hit_in result ≡ hit_of taken.first taken.hit (best_of cache.now.best) }
+{
+    if !taken.hit {
+        return Hit::Nowhere;
+    }
+    match cache.best.span() {
+        None => Hit::Nowhere,
+        Some((start, _)) => {
+            if start == taken.first {
+                Hit::AtFirst
+            } else {
+                Hit::AtLater
+            }
+        }
+    }
+}

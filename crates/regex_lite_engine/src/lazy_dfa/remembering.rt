@@ -1,0 +1,46 @@
+//! Whether a searcher remembers its turns.
+ghost use Rattle.std.specs.Prelude.{◌≡◌, ◌∷◌, [], IfOk, IfSome};
+ghost use Rattle.regex_lite_engine.specs.LazyDfa.Automaton.{Remembers};
+ghost use Rattle.regex_lite_engine.specs.LazyDfa.Remembering.{RemembersAll};
+
+use crate::Graph;
+use crate::lazy_dfa::automaton::LazyDfa;
+use std::alloc::{AllocError, Global};
+
+/// From so many bytes on it pays to remember turns.
+const LONG: usize = 1000;
+
+/// From so many on it pays where most characters are passed over before a match begins.
+const LONG_BETWEEN_MATCHES: usize = 4096;
+
+/// Whether it pays to remember the turns of searches that go over so many bytes. By measure it
+/// doesn't where the first character of a match is looked for anyway and nothing branches after it.
+pub(crate) fn pays(graph: &Graph, bytes: usize) -> bool {
+    if graph.prefilter().is_none() {
+        return bytes >= LONG;
+    }
+    bytes >= LONG_BETWEEN_MATCHES && graph.arrows() >= graph.places()
+}
+
+impl LazyDfa {
+    /// One for this graph, which remembers nothing yet. None where there are too many classes, or
+    /// where a growth is refused: turns are then taken anew.
+    pub(crate) fn for_graph(alloc: Global, graph: &Graph) -> Option<LazyDfa>
+        ensures { IfSome result (RemembersAll graph.now) }
+    {
+        match LazyDfa::of(alloc, graph) {
+            Ok(made) => made,
+            Err(_) => None,
+        }
+    }
+
+    /// [`LazyDfa::for_graph`], or that a growth was refused.
+    fn of(alloc: Global, graph: &Graph) -> Result<Option<LazyDfa>, AllocError>
+        ensures { IfOk result (λ made. IfSome made (RemembersAll graph.now)) }
+    {
+        let Some(classes) = graph.table().classes(alloc)? else {
+            return Ok(None);
+        };
+        Ok(Some(LazyDfa::new(alloc, classes)?))
+    }
+}

@@ -1,0 +1,190 @@
+//! Searches that go on by remembered turns, without a try.
+ghost use Rattle.std.specs.Prelude.{◌≡◌, ◌↔◌, ◌+◌, ◌<◌, ◌≤◌, ◌⊎◌, ◌∷◌, [], ℕ, IfSome, IsSome, IsTrue, None, Some, chars, length, slice_get, true};
+ghost use Rattle.regex_lite_syntax.specs.Text.{Text};
+ghost use Rattle.regex_lite_engine.specs.Graph.Stored.{table_of};
+ghost use Rattle.regex_lite_engine.specs.LazyDfa.Automaton.{IsEmptyState, Remembers, State};
+ghost use Rattle.regex_lite_engine.specs.LazyDfa.Intervals.{side_of};
+ghost use Rattle.regex_lite_engine.specs.LazyDfa.Scanning.{best_told, IsIdleAt, IsScanning, LedTo, ScansTo};
+ghost use Rattle.regex_lite_engine.specs.Walk.Standing.{IsHere};
+
+use crate::Graph;
+use crate::lazy_dfa::automaton::{LazyDfa, UNKNOWN};
+use crate::lazy_dfa::side::Side;
+use crate::lazy_dfa::state::Hit;
+use crate::pikevm::here::Here;
+use crate::pikevm::one_pattern::OnePattern;
+use crate::pikevm::patterns::Patterns;
+
+/// Where a search stands that goes by remembered turns.
+#[derive(Clone, Copy)]
+pub(crate) struct Standing {
+    pub here: Here,
+    pub state: u16,
+    /// The first start, where some ways of the state began.
+    pub first: usize,
+    /// Where the last match that was found starts and ends.
+    pub best: Option<(usize, usize)>,
+}
+
+/// How far remembered turns lead.
+#[derive(Clone, Copy)]
+pub(crate) enum Scanned {
+    /// To the answer.
+    Found(Option<(usize, usize)>),
+    /// To a turn that isn't known, or that completes a match of which the start isn't known; and
+    /// to the last position before it at which there was nothing to go on from.
+    Stuck { at: Standing, idle: Option<Here> },
+}
+
+impl LazyDfa {
+    /// Goes on while turns are remembered.
+    pub(crate) fn scan(&self, graph: &Graph, haystack: &str, from: Standing) -> Scanned
+        requires remembers { Remembers graph.now.places (graph.now.start ∷ []) self.now }
+        requires scanning { (low p : ℕ) × IsScanning (table_of graph.now) (graph.now.start ∷ [])
+            (chars haystack.now) low p self.now from }
+        ensures { (low p : ℕ) → IsScanning (table_of graph.now) (graph.now.start ∷ [])
+            (chars haystack.now) low p self.now from
+            → ScansTo (table_of graph.now) (graph.now.start ∷ []) (chars haystack.now) low p
+            self.now result }
+    {
+        let mut at = from;
+        let mut idle = None;
+        'positions: loop {
+            let Some(on) = self.skip(graph, haystack, at, &mut idle) else {
+                return Scanned::Stuck { at, idle };
+            };
+            let Some((to, best)) = self.step(graph, on) else {
+                return Scanned::Stuck { at: on, idle };
+            };
+            if self.is_over(on.here, to, best) {
+                return Scanned::Found(best);
+            }
+            at = self.go_on(haystack, on, to, best);
+        }
+    }
+
+    /// Where there is nothing to go on from and no match, goes on to the next position at which one
+    /// can begin. None where no state is known for that.
+    fn skip(
+        &self,
+        graph: &Graph,
+        haystack: &str,
+        at: Standing,
+        idle: &mut Option<Here>,
+    ) -> Option<Standing>
+        requires scanning { (low p : ℕ) × IsScanning (table_of graph.now) (graph.now.start ∷ [])
+            (chars haystack.now) low p self.now at }
+        ensures on { (low p : ℕ) → IsScanning (table_of graph.now) (graph.now.start ∷ [])
+            (chars haystack.now) low p self.now at
+            → IfSome result (λ on. (q : ℕ) × (p ≤ q) × IsScanning (table_of graph.now)
+            (graph.now.start ∷ []) (chars haystack.now) low q self.now on) }
+        ensures idle { (low p : ℕ) → IsScanning (table_of graph.now) (graph.now.start ∷ [])
+            (chars haystack.now) low p self.now at
+            → (idle.new ≡ idle.old) ⊎ IfSome idle.new (IsIdleAt (table_of graph.now)
+            (graph.now.start ∷ []) (chars haystack.now) low p) }
+    {
+        if at.best.is_some() || !self.is_empty(at.state) {
+            return Some(at);
+        }
+        let pattern = OnePattern {
+            graph,
+            may_start: false,
+        };
+        let here = pattern.pass_over(haystack, at.here);
+        *idle = Some(here);
+        let state = self.empty_state(here.before)?;
+        Some(Standing {
+            here,
+            state,
+            first: here.at,
+            best: None,
+        })
+    }
+
+    /// The state without ways in which a match is searched for after this character.
+    pub(crate) fn empty_state(&self, before: Option<char>) -> Option<u16>
+        ensures { IfSome result (λ x. IsEmptyState self.now x before) }
+    {
+        let side = Side::of(before);
+        'states: for x in 0..self.states.len() {
+            let state = &self.states[x];
+            if state.len == 0 && state.searching && self.sees_alike(state.before, side) {
+                return Some(x as u16);
+            }
+        }
+        None
+    }
+
+    /// Whether looks, if there are any, see the same of both.
+    fn sees_alike(&self, side: Side, other: Side) -> bool
+        ensures { result ≡ true → self.now.intervals.looks ≡ true → side ≡ other }
+    {
+        !self.classes.looks() || side.is(other)
+    }
+
+    /// Whether the state has no ways.
+    fn is_empty(&self, x: u16) -> bool
+        requires { x < length self.now.states }
+        ensures { (state : State) → slice_get self.now.states x ≡ Some state
+            → IsTrue result ↔ (state.ways ≡ []) }
+    {
+        self.states[x as usize].len == 0
+    }
+
+    /// Where the turn from here leads, and the match that is the last then. None where that isn't
+    /// known.
+    fn step(&self, graph: &Graph, at: Standing) -> Option<(u16, Option<(usize, usize)>)>
+        requires remembers { Remembers graph.now.places (graph.now.start ∷ []) self.now }
+        requires state { at.state < length self.now.states }
+        ensures { (haystack : Text) (low p : ℕ) → IsScanning (table_of graph.now)
+            (graph.now.start ∷ []) haystack low p self.now at
+            → IfSome result (λ told. LedTo (table_of graph.now) (graph.now.start ∷ []) haystack low
+            p self.now at told.0 told.1) }
+    {
+        let class = self.classes.class(at.here.after);
+        let to = self.states[at.state as usize].next[class];
+        if to == UNKNOWN {
+            return None;
+        }
+        match self.states[to as usize].hit {
+            Hit::Nowhere => Some((to, at.best)),
+            Hit::AtFirst => Some((to, Some((at.first, at.here.at)))),
+            Hit::AtLater => None,
+        }
+    }
+
+    /// Whether nothing is left to do after the turn.
+    fn is_over(&self, here: Here, to: u16, best: Option<(usize, usize)>) -> bool
+        requires { to < length self.now.states }
+        ensures over { (state : State) → slice_get self.now.states to ≡ Some state
+            → IsTrue result → (here.after ≡ None)
+            ⊎ (¬ (best_told best ≡ None) × (state.ways ≡ [])) }
+        ensures at_end { here.after ≡ None → IsTrue result }
+    {
+        if here.after.is_none() {
+            return true;
+        }
+        best.is_some() && self.is_empty(to)
+    }
+
+    /// Goes on to the next position.
+    fn go_on(&self, haystack: &str, at: Standing, to: u16, best: Option<(usize, usize)>) -> Standing
+        requires here { (p : ℕ) × IsHere (chars haystack.now) p at.here × IsSome at.here.after }
+        requires state { to < length self.now.states }
+        ensures here { (p : ℕ) → IsHere (chars haystack.now) p at.here
+            → IsHere (chars haystack.now) (p + 1) result.here }
+        ensures same { result ≡ record result { state = to; best = best } }
+        ensures first { (state : State) → slice_get self.now.states to ≡ Some state
+            → ((state.ways ≡ []) × (result.first ≡ result.here.at))
+            ⊎ (¬ (state.ways ≡ []) × (result.first ≡ at.first)) }
+    {
+        let here = at.here.next(haystack);
+        let first = if self.is_empty(to) { here.at } else { at.first };
+        Standing {
+            here,
+            state: to,
+            first,
+            best,
+        }
+    }
+}

@@ -1,0 +1,76 @@
+//! The states of a lazy automaton.
+ghost use Rattle.std.specs.Prelude.{◌≡◌, true};
+ghost use Rattle.regex_lite_engine.specs.LazyDfa.Stored.{way_in};
+
+use crate::lazy_dfa::side::Side;
+
+/// A place to go on from, and whether the way to it began at the first start.
+#[derive(Clone, Copy)]
+pub(crate) struct StoredWay {
+    pub place: u32,
+    pub is_first: bool,
+}
+
+/// Where the way began by which a match was complete.
+#[derive(Clone, Copy)]
+pub(crate) enum Hit {
+    /// None was.
+    Nowhere,
+    AtFirst,
+    AtLater,
+}
+
+/// Between two characters of whatever haystack: what a search goes on with.
+#[derive(Clone, Copy)]
+pub(crate) struct StoredState {
+    /// Where its ways begin in the list of all, and how many they are.
+    pub from: usize,
+    pub len: usize,
+    /// Whether there is no match yet.
+    pub searching: bool,
+    /// What looks see of the character before.
+    pub before: Side,
+    /// Whether a match was complete at the last position.
+    pub hit: Hit,
+    /// Where turns lead, by the class of the next character.
+    pub next: [u16; 128],
+}
+
+/// Whether the ways are the same.
+pub(crate) fn are_same(ways: &[StoredWay], others: &[StoredWay]) -> bool
+    ensures { result ≡ true → ways.now ≡ others.now }
+{
+    if ways.len() != others.len() {
+        return false;
+    }
+    'ways: for k in 0..ways.len() {
+        if ways[k].place != others[k].place || ways[k].is_first != others[k].is_first {
+            return false;
+        }
+    }
+    true
+}
+
+impl StoredState {
+    /// Whether it has these properties, whatever its ways.
+    pub(crate) fn is_like(&self, searching: bool, before: Side, hit: Hit) -> bool
+        ensures searching { result ≡ true → self.now.searching ≡ searching }
+        ensures before { result ≡ true → self.now.before ≡ before }
+        ensures hit { result ≡ true → self.now.hit ≡ hit }
+    {
+        self.searching == searching && self.before.is(before) && self.hit.is(hit)
+    }
+}
+
+impl Hit {
+    /// Whether they are the same.
+    pub(crate) fn is(self, other: Hit) -> bool
+        ensures { result ≡ true → self ≡ other }
+    {
+        match self {
+            Hit::Nowhere => matches!(other, Hit::Nowhere),
+            Hit::AtFirst => matches!(other, Hit::AtFirst),
+            Hit::AtLater => matches!(other, Hit::AtLater),
+        }
+    }
+}

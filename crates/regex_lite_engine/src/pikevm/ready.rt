@@ -1,0 +1,134 @@
+//! Cells are made ready when a search comes to them.
+ghost use Rattle.std.specs.Prelude.{◌≡◌, ◌+◌, ◌-◌, ◌≤◌, ◌<◌, ◌++◌, length, map, take, drop, replicate, true, vec_capacity};
+ghost use Rattle.regex_lite_engine.specs.Walk.Cells.{round_in, without_round, MakesReady};
+
+use crate::pikevm::beginning::Beginning;
+use crate::pikevm::cell::Cell;
+
+/// So many are made ready at first.
+const FIRST: usize = 16;
+
+/// Where no more are left than so many for each position that was gone over, they are made ready at
+/// once: from then on a search has nothing to test.
+const FEW_A_ROUND: u64 = 4;
+
+/// Makes all cells ready where few are left beside so many rounds, and tells whether all are.
+#[inline(never)]
+pub(super) fn is_rest_ready<S: Beginning>(
+    cells: &mut Vec<Cell<S>>,
+    low: &mut usize,
+    rounds: u64,
+) -> bool
+    requires room { low.old + length cells.old.items ≤ vec_capacity cells.old }
+    ensures made { MakesReady low.old cells.old.items low.new cells.new.items }
+    ensures ready { result ≡ true → low.new ≡ 0 }
+    ensures capacity { vec_capacity cells.old ≤ vec_capacity cells.new }
+{
+    if *low as u64 > rounds.saturating_mul(FEW_A_ROUND) {
+        return false;
+    }
+    if *low > 0 {
+        *low = make_ready(cells, *low, *low + cells.len());
+    }
+    true
+}
+
+/// Lets the cell of this place be ready, and returns its number. `READY` says that all are.
+pub(super) fn reach<S: Beginning, const READY: bool>(
+    cells: &mut Vec<Cell<S>>,
+    low: &mut usize,
+    place: usize,
+) -> usize
+    requires place { place < low.old + length cells.old.items }
+    requires room { low.old + length cells.old.items ≤ vec_capacity cells.old }
+    requires ready { READY ≡ true → low.old ≡ 0 }
+    ensures made { MakesReady low.old cells.old.items low.new cells.new.items }
+    ensures number { low.new + result ≡ place }
+    ensures capacity { vec_capacity cells.old ≤ vec_capacity cells.new }
+{
+    if READY {
+        return place;
+    }
+    reach_place(cells, low, place);
+    place - *low
+}
+
+/// Lets the cell of this place be ready.
+fn reach_place<S: Beginning>(cells: &mut Vec<Cell<S>>, low: &mut usize, place: usize)
+    requires place { place < low.old + length cells.old.items }
+    requires room { low.old + length cells.old.items ≤ vec_capacity cells.old }
+    ensures made { MakesReady low.old cells.old.items low.new cells.new.items }
+    ensures ready { low.new ≤ place }
+    ensures capacity { vec_capacity cells.old ≤ vec_capacity cells.new }
+{
+    if place < *low {
+        *low = make_ready(cells, *low, *low + cells.len() - place);
+    }
+}
+
+/// Lets the cell with this number be ready. `READY` says that all are.
+pub(super) fn provide<S: Beginning, const READY: bool>(
+    cells: &mut Vec<Cell<S>>,
+    low: &mut usize,
+    k: usize,
+)
+    requires number { k < low.old + length cells.old.items }
+    requires next { k ≤ length cells.old.items }
+    requires room { low.old + length cells.old.items ≤ vec_capacity cells.old }
+    requires ready { READY ≡ true → low.old ≡ 0 }
+    ensures made { MakesReady low.old cells.old.items low.new cells.new.items }
+    ensures ready { k < length cells.new.items }
+    ensures capacity { vec_capacity cells.old ≤ vec_capacity cells.new }
+{
+    if !READY && k == cells.len() {
+        *low = make_ready(cells, *low, k + 1);
+    }
+}
+
+/// Makes at least so many cells ready, and as many as were ready again, so that a long search seldom
+/// comes here. Returns the place below which there are none.
+// Not inlined, so that a search has no more than the test in its loop.
+#[inline(never)]
+fn make_ready<S: Beginning>(cells: &mut Vec<Cell<S>>, low: usize, count: usize) -> usize
+    requires more { length cells.old.items < count }
+    requires places { count ≤ low + length cells.old.items }
+    requires room { low + length cells.old.items ≤ vec_capacity cells.old }
+    ensures made { MakesReady low cells.old.items result cells.new.items }
+    ensures ready { count ≤ length cells.new.items }
+    ensures capacity { vec_capacity cells.old ≤ vec_capacity cells.new }
+{
+    let ready = cells.len();
+    let all = low + ready;
+    let more = count.max(2 * ready).max(FIRST).min(all) - ready;
+    fill(cells, ready + more, Cell::blank());
+    raise(cells, more);
+    low - more
+}
+
+/// Lets so many cells be there, the new ones blank. There is room for them.
+fn fill<S: Beginning>(cells: &mut Vec<Cell<S>>, count: usize, blank: Cell<S>)
+    requires more { length cells.old.items ≤ count }
+    requires room { count ≤ vec_capacity cells.old }
+    ensures filled { cells.new.items
+        ≡ cells.old.items ++ replicate (count - length cells.old.items) blank }
+    ensures capacity { vec_capacity cells.old ≤ vec_capacity cells.new }
+{
+    let _ = cells.resize(count, blank);
+}
+
+/// Moves the rounds up by so many cells, over the last ones, which have none.
+fn raise<S: Beginning>(cells: &mut Vec<Cell<S>>, by: usize)
+    requires some { 0 < by }
+    requires few { by ≤ length cells.old.items }
+    requires blank { drop (length cells.old.items - by) (map round_in cells.old.items)
+        ≡ replicate by 0 }
+    ensures raised { map round_in cells.new.items ≡ replicate by 0
+        ++ take (length cells.old.items - by) (map round_in cells.old.items) }
+    ensures kept { map without_round cells.new.items ≡ map without_round cells.old.items }
+    ensures capacity { vec_capacity cells.new ≡ vec_capacity cells.old }
+{
+    'cells: for k in (0..cells.len() - by).rev() {
+        cells[k + by].entered = cells[k].entered;
+        cells[k].entered = 0;
+    }
+}
