@@ -1,5 +1,5 @@
-"""English words and a text of them, made of stems with what English puts before and behind them. So
-letters follow each other about as often as in English, and each run has the same words."""
+"""English words and a text of them, made of stems with English prefixes and endings, so that
+letters follow each other about as often as in English. Each run has the same words."""
 
 from workloads import Dice, of_parts
 
@@ -9,7 +9,7 @@ COMMON = ('the the the of of and and to to in in a a is it that for on with as w
           'their what up out there only into some than other then will now these two may like '
           'time no such each first over how after also her his she him them us me my our').split()
 
-# Verbs and nouns of which others are made.
+# Verbs and nouns from which others are made.
 STEMS = (
     'act add adjust aim alarm align allot amend anchor answer appear argue arm arrest ask attack '
     'attend award back bag balance band bank bar bargain bark base beam bear beat bed begin bend '
@@ -66,20 +66,20 @@ STEMS = (
     'wood wool work world worry worth wound wrap wreck write yard yellow yield young zeal zone'
 ).split()
 
-BEFORE = ('',) * 24 + ('un', 'out', 'over')
-BEHIND = ('', 's', 'ed', 'ing', 'er', 'ers', 'ly', 'ness', 'able', 'ful', 'less', 'ment', 'ish',
-          'y', 'ings', 'fully')
+PREFIXES = ('',) * 24 + ('un', 'out', 'over')
+ENDINGS = ('', 's', 'ed', 'ing', 'er', 'ers', 'ly', 'ness', 'able', 'ful', 'less', 'ment', 'ish',
+           'y', 'ings', 'fully')
 
 
-def word(dice):
-    """A word of a stem."""
-    return dice.one_of(BEFORE) + dice.one_of(STEMS) + dice.one_of(BEHIND)
+def word(dice: Dice) -> str:
+    """A word that is made from a stem."""
+    return dice.one_of(PREFIXES) + dice.one_of(STEMS) + dice.one_of(ENDINGS)
 
 
-def words(count):
-    """So many words of four letters or more, each another one."""
+def words(count: int) -> list[str]:
+    """As many different words of four letters or more."""
     dice = Dice(9)
-    found = {}
+    found: dict[str, None] = {}
     while len(found) < count:
         one = word(dice)
         if len(one) >= 4:
@@ -87,7 +87,7 @@ def words(count):
     return list(found)
 
 
-def sentence(dice):
+def sentence(dice: Dice) -> str:
     """Some words with a capital letter and a full stop, and perhaps a comma or a number."""
     chosen = [dice.one_of(COMMON) if dice.roll(10) < 7 else word(dice)
               for _ in range(6 + dice.roll(16))]

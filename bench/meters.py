@@ -1,4 +1,4 @@
-"""What a run costs: instructions, the most memory in use, requests for memory, and time."""
+"""The cost of a run: instructions, peak memory, requests for memory, and time."""
 
 import os
 import re
@@ -6,13 +6,14 @@ import subprocess
 import sys
 import tempfile
 import time
+from collections.abc import Sequence
 
 TIME_LIMIT = 1200  # seconds a run
 NAME = os.path.basename(sys.argv[0])
 ENVIRONMENT = {'PATH': os.environ.get('PATH', os.defpath), 'LC_ALL': 'C'}
 
 
-def run(command, text):
+def run(command: Sequence[str], text: str) -> tuple[int, str, str]:
     """The status of a command, its standard output and its standard error."""
     try:
         done = subprocess.run(command, input=text.encode(), env=ENVIRONMENT, timeout=TIME_LIMIT,
@@ -22,8 +23,8 @@ def run(command, text):
     return done.returncode, done.stdout.decode(), done.stderr.decode(errors='replace')
 
 
-def account(tool, options, command, text):
-    """What a tool of valgrind writes to its files about a run of the command, each in turn."""
+def account(tool: str, options: Sequence[str], command: Sequence[str], text: str) -> list[str]:
+    """The contents of the files that a tool of valgrind writes about a run of the command."""
     with tempfile.TemporaryDirectory() as folder:
         file = os.path.join(folder, 'account')
         _, _, fault = run(['valgrind', f'--tool={tool}', f'--{tool}-out-file={file}', *options,
@@ -39,12 +40,12 @@ def account(tool, options, command, text):
     return written
 
 
-def instructions(command, text):
+def instructions(command: Sequence[str], text: str) -> int:
     """The instructions of a run."""
     return sum(parts(command, text, []))
 
 
-def instructions_until(function, command, text):
+def instructions_until(function: str, command: Sequence[str], text: str) -> tuple[int, int]:
     """The instructions of a run up to the first call of a function, and those of the whole run."""
     counted = parts(command, text, [f'--dump-before={function}'])
     if len(counted) < 2:
@@ -52,27 +53,36 @@ def instructions_until(function, command, text):
     return counted[0], sum(counted)
 
 
-def parts(command, text, options):
-    """The instructions of the parts of a run that callgrind tells apart."""
+def parts(command: Sequence[str], text: str, options: Sequence[str]) -> list[int]:
+    """The instructions of the parts of a run that callgrind separates."""
     written = account('callgrind', options, command, text)
-    return [int(re.search(r'(?m)^totals: (\d+)', part)[1]) for part in written]
+    return [number_in(r'(?m)^totals: (\d+)', part) for part in written]
 
 
-def peak(command, text):
-    """The most bytes of the heap that are in use at once, with those that the C library adds."""
+def number_in(pattern: str, account: str) -> int:
+    """The number in what valgrind writes, which is group 1 of the pattern."""
+    found = re.search(pattern, account)
+    if not found:
+        sys.exit(f'{NAME}: valgrind wrote no number: {account[-500:]}')
+    return int(found[1].replace(',', ''))
+
+
+def peak(command: Sequence[str], text: str) -> int:
+    """The most bytes of the heap that are in use at once, including those that the C library
+    adds."""
     written, = account('massif', ['--peak-inaccuracy=0.0'], command, text)
     sizes = re.findall(r'mem_heap_B=(\d+)\nmem_heap_extra_B=(\d+)', written)
     return max(int(bytes_asked) + int(extra) for bytes_asked, extra in sizes)
 
 
-def requests(command, text):
+def requests(command: Sequence[str], text: str) -> int:
     """How often a run asks for memory."""
-    _, _, told = run(['valgrind', '--tool=memcheck', '--leak-check=no', '--undef-value-errors=no',
-                      *command], text)
-    return int(re.search(r'total heap usage: ([\d,]+) allocs', told)[1].replace(',', ''))
+    _, _, written = run(['valgrind', '--tool=memcheck', '--leak-check=no',
+                         '--undef-value-errors=no', *command], text)
+    return number_in(r'total heap usage: ([\d,]+) allocs', written)
 
 
-def seconds(command, text, tries):
+def seconds(command: Sequence[str], text: str, tries: int) -> float:
     """The least time that a run takes, of this many runs."""
     times = []
     for _ in range(tries):

@@ -1,5 +1,7 @@
 """The patterns that bench/compile measures."""
 
+from collections.abc import Callable, Iterable
+
 OCTET = r'(?:25[0-5]|2[0-4]\d|1\d\d|[1-9]?\d)'
 
 SMALL = [
@@ -22,34 +24,34 @@ TYPICAL = [
 ]
 
 
-def word(number):
-    """A word of 6 letters, another one for each number below 26 to the 4th."""
+def word(number: int) -> str:
+    """A word of 6 letters, different for each number below 26 to the 4th."""
     letters = [chr(ord('a') + number * 7919 // 26 ** place % 26) for place in range(4)]
     return 'w' + ''.join(letters) + 'n'
 
 
-def words(count):
+def words(count: int) -> str:
     """An alternation of this many words."""
     return '|'.join(word(number) for number in range(count))
 
 
-def ranges(order):
+def ranges(order: Iterable[int]) -> str:
     """A class with a range of two characters for each number, and a gap after each."""
     base = 0x3400
     return '[' + ''.join(f'{chr(base + 4 * n)}-{chr(base + 4 * n + 1)}' for n in order) + ']'
 
 
-def ranges_in_order(count):
+def ranges_in_order(count: int) -> str:
     """A class whose ranges rise."""
     return ranges(range(count))
 
 
-def ranges_mixed(count):
+def ranges_mixed(count: int) -> str:
     """A class with the same ranges in a mixed order."""
     return ranges(n * 1237 % count for n in range(count))
 
 
-def row(count):
+def row(count: int) -> str:
     """A row of 4 items, three with an operator, written this many times."""
     return r'x[0-9a-f]+\s*(?:y|z)?' * count
 
@@ -81,21 +83,21 @@ COUNTED = [
 ]
 
 
-def named_groups(count):
+def named_groups(count: int) -> str:
     """This many groups in a row, each with a name of its own."""
     return ''.join(f'(?<n{number}>a)' for number in range(count))
 
 
-def by_four(least):
+def by_four(least: int) -> tuple[int, int, int]:
     """Three sizes, each 4 times the one before."""
     return least, 4 * least, 16 * least
 
 
-# From the smallest to the largest that the default size limit and an argument admit, roughly.
+# From small sizes to roughly the largest that the default size limit and an argument admit.
 BY_TEN = (100, 1_000, 10_000)
 
 # The families: a name, the shape of its members and their sizes.
-FAMILIES = [
+FAMILIES: list[tuple[str, Callable[[int], str], tuple[int, int, int]]] = [
     ('words', words, by_four(100)),
     ('ranges in order', ranges_in_order, by_four(300)),
     ('ranges mixed', ranges_mixed, by_four(300)),

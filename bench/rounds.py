@@ -1,20 +1,34 @@
-"""What the rounds of a job cost, ours beside those of others.
+"""The cost of the rounds of a job, ours and those of others.
 
-A job has a text and a command that starts a program with it: the program reads the text, works as
-many rounds as it is told, and writes what came out. So what a run costs beyond a run without a
-round is the cost of the rounds.
+A job has a text and a command that starts a program with it: the program reads the text, works the
+given number of rounds, and writes its results. So the cost of the rounds is that of a run less that
+of a run without a round.
 """
 
 import sys
+from collections.abc import Callable, Sequence
+from typing import Protocol
 
 import meters
 from tables import Numbers
 
-ROUNDS = 100  # of a run that is timed, unless fewer are asked for
-TRIES = 5  # of which the quickest counts
+ROUNDS = 100  # of a run that is timed, unless fewer are given
+TRIES = 5  # of which the fastest counts
+Meter = Callable[[Sequence[str], str], float]  # what a run of a command on a text costs
 
 
-def check(programs, job):
+class Job(Protocol):
+    """A text, and the command that starts a program with it."""
+
+    @property
+    def text(self) -> str:
+        """The text."""
+
+    def command(self, program: str, rounds: int) -> list[str]:
+        """The command that starts a program with this number of rounds."""
+
+
+def check(programs: Sequence[str], job: Job) -> str:
     """Ends the program unless all do the same."""
     ours, *others = [meters.run(job.command(program, 1), job.text) for program in programs]
     if ours[0] != 0 or any(other != ours for other in others):
@@ -23,32 +37,32 @@ def check(programs, job):
     return ours[1]
 
 
-def beyond_setup(meter, programs, job, rounds=1):
-    """By how much the meter tells more of these rounds than of none."""
-    told = [[meter(job.command(program, count), job.text) for count in (rounds, 0)]
+def beyond_setup(meter: Meter, programs: Sequence[str], job: Job, rounds: int = 1) -> Numbers:
+    """The meter's reading for these rounds, less that for none."""
+    readings = [[meter(job.command(program, count), job.text) for count in (rounds, 0)]
             for program in programs]
-    return Numbers(*(some - none for some, none in told))
+    return Numbers(*(some - none for some, none in readings))
 
 
-def instructions(programs, job):
-    """The instructions of a round, after a look at what comes out."""
+def instructions(programs: Sequence[str], job: Job) -> Numbers:
+    """The instructions of a round, after a comparison of the results."""
     check(programs, job)
     return beyond_setup(meters.instructions, programs, job)
 
 
-def peak(programs, job):
-    """The most memory of a round in use at once, besides the text and what was built before."""
+def peak(programs: Sequence[str], job: Job) -> Numbers:
+    """The peak memory of a round, besides the text and what was built before."""
     return beyond_setup(meters.peak, programs, job)
 
 
-def requests(programs, job):
+def requests(programs: Sequence[str], job: Job) -> Numbers:
     """How often a round asks for memory."""
     return beyond_setup(meters.requests, programs, job)
 
 
-def microseconds(programs, job, rounds=ROUNDS):
+def microseconds(programs: Sequence[str], job: Job, rounds: int = ROUNDS) -> Numbers:
     """The time of a round."""
-    def least(command, text):
+    def least(command: Sequence[str], text: str) -> float:
         return 1e6 / rounds * meters.seconds(command, text, TRIES)
 
     return beyond_setup(least, programs, job, rounds)

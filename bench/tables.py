@@ -1,35 +1,36 @@
-"""Tables of numbers of ours beside those of others."""
+"""Tables of our numbers and those of others."""
 
-from typing import NamedTuple
+from collections.abc import Iterable, Sequence
+from typing import NamedTuple, Optional
 
 RATIOS = ['ratio', 'ratio to regex']
 
 
 class Numbers(NamedTuple):
-    """A number of ours, the same of upstream's, and that of the crate `regex` if it takes part."""
+    """Our number, upstream's, and that of the crate `regex` if it takes part."""
     ours: float
     upstream: float
-    regex: float = None
+    regex: Optional[float] = None
 
-    def ratios(self):
-        """Ours divided by each other one, as text."""
+    def ratios(self) -> list[str]:
+        """Our number divided by each of the others, as text."""
         return [ratio(self.ours, other) for other in self[1:] if other is not None]
 
-    def fields(self):
+    def fields(self) -> list[str]:
         """Ours, upstream's, and the ratios, as text."""
         return [f'{self.ours:,.0f}', f'{self.upstream:,.0f}', *self.ratios()]
 
-    def head(self):
-        """What stands above these fields."""
+    def head(self) -> list[str]:
+        """The titles of these fields."""
         return ['ours', "upstream's", *RATIOS[:len(self.ratios())]]
 
 
-def ratio(one, other):
+def ratio(one: float, other: float) -> str:
     """The first number divided by the second, as text."""
     return f'{one / other:.2f}' if other > 0 else '-'
 
 
-def table(head, lines):
+def table(head: list[str], lines: list[list[str]]) -> None:
     """Prints lines of fields as a table, whose first column is text and whose others numbers."""
     widths = [max(len(fields[n]) for fields in [head] + lines) for n in range(len(head))]
     rule = ['-' * widths[0]] + ['-' * (width - 1) + ':' for width in widths[1:]]
@@ -40,15 +41,20 @@ def table(head, lines):
     print(flush=True)
 
 
-def growth_table(families):
-    """Prints a table of families, each its members' names and numbers, smallest first."""
-    lines = []
+def growth_table(families: Iterable[Sequence[tuple[str, Numbers]]]) -> None:
+    """Prints a table of families, each given by its members' names and numbers, smallest first."""
+    lines: list[list[str]] = []
+    head: list[str] = []
     for members in families:
-        before = None
+        before: Optional[Numbers] = None
         for name, numbers in members:
-            growth = [ratio(*sizes) for sizes in zip(numbers[:2], before)] if before else ['', '']
+            growth = ['', '']
+            if before:
+                growth = [ratio(numbers.ours, before.ours),
+                          ratio(numbers.upstream, before.upstream)]
             ours, upstream, *ratios = numbers.fields()
             lines.append([name, ours, growth[0], upstream, growth[1], *ratios])
             before = numbers
-    ours, upstream, *ratios = before.head()
+            head = numbers.head()
+    ours, upstream, *ratios = head
     table(['family, size', ours, 'growth', upstream, 'growth', *ratios], lines)

@@ -1,47 +1,55 @@
 """The texts that are searched, and the searches that bench/search measures, with their goals.
 
-All texts are made up here, from numbers that follow one another by a fixed rule, so each run of the
+All texts are generated here, from a fixed sequence of pseudorandom numbers, so each run of the
 measurement has the same ones.
 """
 
-from typing import NamedTuple
+from collections.abc import Callable, Sequence
+from typing import NamedTuple, TypeVar
 
 KB = 1024
 SIZES = (16 * KB, 32 * KB, 64 * KB)  # bytes of a text
 SHORT = 20  # bytes of a short text
 
+T = TypeVar('T')
+Text = Callable[[int], str]  # a text of each size
+
 
 class Dice:
-    """Numbers that look as if they came by chance, and are the same each time."""
+    """Pseudorandom numbers, which are the same each time."""
 
-    def __init__(self, seed):
+    def __init__(self, seed: int) -> None:
         self.state = seed
 
-    def roll(self, sides):
+    def roll(self, sides: int) -> int:
         """A number below this one."""
         self.state = (self.state * 6364136223846793005 + 1442695040888963407) % 2 ** 64
         return (self.state >> 33) % sides
 
-    def one_of(self, things):
+    def one_of(self, things: Sequence[T]) -> T:
         """One of these."""
         return things[self.roll(len(things))]
 
 
-def word(dice, letters=('bdfghklmnprstvw', 'aeiou', 'lnrst')):
+# First sounds, vowels and last sounds.
+LATIN = ('bdfghklmnprstvw', 'aeiou', 'lnrst')
+CYRILLIC = ('бвгджзклмнпрст', 'аеиоуыюя', 'лнрст')
+
+
+def word(dice: Dice, letters: tuple[str, str, str] = LATIN) -> str:
     """A word of one to four syllables, made of first sounds, vowels and last sounds."""
     first, vowels, last = letters
     syllables = [dice.one_of(first) + dice.one_of(vowels) for _ in range(1 + dice.roll(4))]
     return ''.join(syllables) + (dice.one_of(last) if dice.roll(2) else '')
 
 
-CYRILLIC = ('бвгджзклмнпрст', 'аеиоуыюя', 'лнрст')
-# Some begin with a letter that no other word has, some with a common one.
+# Some begin with a letter that no other word has, some with a common letter.
 RARE = 'fugaxotal'
 EIGHT = ['jubzato', 'xeroman', 'cyqunel', 'zimarot', 'mavutho', 'wekzidor', 'ghanilo', 'pqoren']
 
 
-def sentence(dice):
-    """Some words with a capital letter and a full stop; few of them are of a kind of their own."""
+def sentence(dice: Dice) -> str:
+    """Some words with a capital letter and a full stop; a few sentences have a special word."""
     words = [word(dice) for _ in range(5 + dice.roll(12))]
     at = dice.roll(len(words))
     kind = dice.roll(24)
@@ -56,17 +64,17 @@ def sentence(dice):
     return ' '.join(words).capitalize() + dice.one_of(['. ', '. ', '! ', '.\n'])
 
 
-def cyrillic_sentence(dice):
+def cyrillic_sentence(dice: Dice) -> str:
     """Some words in Cyrillic letters, with a capital one and a full stop."""
     return ' '.join(word(dice, CYRILLIC) for _ in range(5 + dice.roll(12))).capitalize() + '. '
 
 
-def address(dice):
+def address(dice: Dice) -> str:
     """An IPv4 address and a port."""
     return '10.{}.{}.{}:{}'.format(*(dice.roll(256) for _ in range(3)), 1024 + dice.roll(60_000))
 
 
-MESSAGES = [
+MESSAGES: list[Callable[[Dice], str]] = [
     lambda dice: f'connection from {address(dice)} closed after {dice.roll(900)} ms',
     lambda dice: f'GET /api/v{1 + dice.roll(3)}/{word(dice)}/{dice.roll(9000)} '
                  f'{dice.one_of([200, 200, 200, 204, 404, 503])} took {dice.roll(2500)} ms',
@@ -79,12 +87,12 @@ MESSAGES = [
 PLACES = ['net', 'store', 'http', 'auth']
 
 
-def date(dice):
+def date(dice: Dice) -> str:
     """A day of one of five years."""
     return f'{2020 + dice.roll(5)}-{1 + dice.roll(12):02}-{1 + dice.roll(28):02}'
 
 
-def log_line(dice):
+def log_line(dice: Dice) -> str:
     """A line of a log: when, how bad, where, what."""
     stamp = f'{date(dice)}T{dice.roll(24):02}:{dice.roll(60):02}'
     level = dice.one_of(['INFO'] * 12 + ['DEBUG'] * 5 + ['WARN'] * 2 + ['ERROR'])
@@ -92,32 +100,32 @@ def log_line(dice):
     return f'{stamp} {level} [{place}] {dice.one_of(MESSAGES)(dice)}\n'
 
 
-def record(dice):
-    """A line of 20 to 100 bytes with five fields; about each eighth is a remark instead."""
+def record(dice: Dice) -> str:
+    """A line of 20 to 100 bytes with five fields; about one in eight is a remark instead."""
     size = SHORT + dice.roll(81)
     last = ' '.join(word(dice) for _ in range(size // 2))
     first = f'{word(dice)[:4]} {dice.roll(100)}.{dice.roll(10)} [{dice.one_of(PLACES)}] '
     return ((first if dice.roll(8) else '# ') + last)[:size] + '\n'
 
 
-def dated_line(dice):
-    """A line of some words; in about three of four, one of them is a date."""
+def dated_line(dice: Dice) -> str:
+    """A line of some words; in about three of four, one of the words is a date."""
     words = [word(dice) for _ in range(5 + dice.roll(10))]
     if dice.roll(4):
         words[dice.roll(len(words))] = date(dice)
     return ' '.join(words) + '\n'
 
 
-def short_line(dice):
-    """A line of a short text, of which about every second has a name with a number."""
+def short_line(dice: Dice) -> str:
+    """A line of a short text; about every second has a name with a number."""
     mark = dice.one_of('- ')
     text = f'{word(dice)} {word(dice)}{mark}{dice.roll(1000)} {word(dice)} {word(dice)}'
     return text[:SHORT].ljust(SHORT, '.') + '\n'
 
 
-def of_parts(part, seed):
-    """A shape of texts that are made of such parts, as many as a size has room for."""
-    def text(size):
+def of_parts(part: Callable[[Dice], str], seed: int) -> Text:
+    """Texts that are made of such parts, as many as fit into a size."""
+    def text(size: int) -> str:
         dice = Dice(seed)
         parts = []
         room = size
@@ -159,8 +167,8 @@ class Workload(NamedTuple):
     goal: float  # of the ratio to upstream
     call: str  # find or captures
     unit: str  # the text, or its lines
-    patterns: list
-    text: object  # for each size
+    patterns: list[str]
+    text: Text
 
 
 WORKLOADS = [
@@ -190,20 +198,20 @@ class Family(NamedTuple):
     """Searches of one shape in three sizes, each twice the one before."""
     name: str
     call: str
-    sizes: tuple
-    pattern: object  # for each size
-    text: object  # for each size
+    sizes: tuple[int, int, int]
+    pattern: Callable[[int], str]  # for each size
+    text: Text
 
 
-def nest(depth):
-    """As many loops inside one another, and what isn't there."""
+def nest(depth: int) -> str:
+    """As many nested loops, and then a letter that isn't there."""
     pattern = 'a'
     for _ in range(depth):
         pattern = f'(?:{pattern}|b)*'
     return pattern + 'c'
 
 
-def by_two(least):
+def by_two(least: int) -> tuple[int, int, int]:
     """Three sizes, each twice the one before."""
     return least, 2 * least, 4 * least
 

@@ -1,5 +1,5 @@
-"""A repository with copies of our libraries, in which a test builds or runs a program over them,
-and that program with which cases are replayed."""
+"""A temporary repository with copies of our libraries, in which a test builds or runs a program
+that uses them, and the program with which cases are replayed."""
 
 import re
 import shlex
@@ -7,7 +7,9 @@ import shutil
 import subprocess
 import sys
 import tempfile
+from collections.abc import Iterator, Mapping, Sequence
 from pathlib import Path
+from typing import NamedTuple, Union
 
 TOP = Path(__file__).resolve().parent.parent
 LIBRARIES = ('regex_lite_syntax', 'regex_lite_engine', 'regex_lite')
@@ -15,8 +17,8 @@ PARTS = ('src', 'specs', 'proofs')
 CALLER = 'caller'
 ENDING = '.txt'  # the gate refuses files of the language outside the crates
 SCRIPTS = ('rt', 'rtlib.py')
-MOST = 48 << 20  # bytes of cases at a time, since the kit hands on no more than 64 MiB
-# The kit's own interpreter would take hours, so the compiled program alone runs through.
+MOST = 48 << 20  # bytes of cases at a time, since the kit passes on no more than 64 MiB
+# The kit's own interpreter would take hours, so only the compiled program runs to its end.
 ONCE = ('--steps', '1')
 ENDED = re.compile(r'(\d+) passed, (\d+) failed\n\Z')  # the last line of the caller
 OPTIMISING = '''#!/bin/sh
@@ -31,8 +33,7 @@ while [ "$left" -gt 0 ]; do
 done
 exec {clang} "$@"
 '''
-# Compiles once more, optimised and without the tests of each access to memory, to a file that is
-# kept.
+# Compiles once more, optimised and without the checks of memory accesses, to a file that is kept.
 KEEPING = '''#!/bin/sh
 set -eu
 {clang} "$@"
@@ -51,9 +52,25 @@ exec {clang} "$@" -o {kept}
 '''
 
 
-def program_files(program):
-    """The files of a program of these tests, by their paths in the repository, and that which lists
-    its crates."""
+class Answer(NamedTuple):
+    """How a run ends, and what it has written."""
+
+    status: int
+    out: bytes
+    err: bytes
+
+    def __str__(self) -> str:
+        words = [f'status {self.status}']
+        if self.out:
+            words.append(f'output {self.out[:200]!r}')
+        if self.err:
+            words.append(f'error {self.err[:200]!r}')
+        return ' and '.join(words)
+
+
+def program_files(program: str) -> dict[str, str]:
+    """The files of a program of these tests, by their paths in the repository, and the file that
+    lists its crates."""
     crates = [line for line in (TOP / 'crates.txt').read_text(encoding='utf-8').splitlines()
               if line.partition(':')[0] in LIBRARIES]
     found = {'crates.txt': '\n'.join([*crates, f'{program}: regex_lite', ''])}
@@ -67,7 +84,7 @@ def program_files(program):
     return found
 
 
-def lay_out(repository, files):
+def lay_out(repository: Path, files: Mapping[str, str]) -> None:
     """Writes the files, by their paths, beside copies of our libraries."""
     for name in LIBRARIES:
         for part in PARTS:
@@ -78,24 +95,23 @@ def lay_out(repository, files):
         file.write_text(text, encoding='utf-8')
 
 
-def kit():
+def kit() -> Path:
     """The folder of the kit."""
     page = subprocess.run(['rt', 'doc'], check=True, stdout=subprocess.PIPE, encoding='utf-8')
     return Path(page.stdout.strip()).parent
 
 
-def link_all(source, target, but=()):
-    """Links what is in the one folder into the other, but for these."""
+def link_all(source: Path, target: Path, but: Sequence[str] = ()) -> None:
+    """Links the contents of one folder into the other, except these."""
     target.mkdir(parents=True)
     for path in source.iterdir():
         if path.name not in but:
             (target / path.name).symlink_to(path)
 
 
-def lay_out_kit(target, compiler):
-    """Makes the folder a kit whose `rt try` compiles with this script, and answers its `rt`. The
-    rest of the kit is linked to, but for the scripts that take the folder above them for the
-    kit."""
+def lay_out_kit(target: Path, compiler: str) -> Path:
+    """Makes the folder a kit whose `rt try` compiles with this script, and returns its `rt`. The
+    rest of the kit is linked, except the scripts that take the folder above them for the kit."""
     source = kit()
     link_all(source, target, ('bin', 'toolchain'))
     link_all(source / 'toolchain', target / 'toolchain', ('bin',))
@@ -109,29 +125,28 @@ def lay_out_kit(target, compiler):
     return target / 'bin' / 'rt'
 
 
-def kit_clang():
+def kit_clang() -> str:
     """The path of the kit's compiler, as a word of a script."""
     return shlex.quote(str(kit() / 'toolchain' / 'bin' / 'clang'))
 
 
-def lay_out_optimising_kit(target):
-    """Makes the folder a kit whose `rt try` has its programs optimised, and answers its `rt`. By
-    itself the kit has clang build them with `-O0`, and then they take some fifty times longer. All
-    tests that it puts in, of indices, of sums and of each access to memory, stay in."""
+def lay_out_optimising_kit(target: Path) -> Path:
+    """Makes the folder a kit whose `rt try` optimises its programs, and returns its `rt`. By
+    default the kit has clang build them with `-O0`, and then they take about fifty times as long.
+    All checks that it inserts, of indices, of sums and of memory accesses, remain."""
     return lay_out_kit(target, OPTIMISING.format(clang=kit_clang()))
 
 
-def build(repository, program, target):
-    """Builds a program of the repository without a proof, to be run by itself. All tests that `rt
-    try` puts in stay in but for those of each access to memory, since these bring an allocator of
-    their own."""
+def build(repository: Path, program: str, target: Path) -> None:
+    """Builds a program of the repository without a proof, to be run directly. The checks that `rt
+    try` inserts remain, except those of memory accesses, since these bring their own allocator."""
     with tempfile.TemporaryDirectory() as folder:
         kept = Path(folder) / f'{program}.o'
         script = KEEPING.format(clang=kit_clang(), kept=shlex.quote(str(kept)))
         rt = lay_out_kit(Path(folder) / 'kit', script)
         done = run(repository, program, ONCE, rt=rt)
         if not kept.is_file():
-            sys.exit(f'{program} is not built:\n{done.stdout[-4000:]}{done.stderr[-4000:]}')
+            sys.exit(f'{program} was not built:\n{done.stdout[-4000:]}{done.stderr[-4000:]}')
         code = kit() / 'c'
         subprocess.run([kit() / 'bin' / 'rattle-link', '--target', 'x86_64-unknown-linux-gnu',
                         '--toolchain', kit() / 'toolchain', '-o', target, kept,
@@ -139,7 +154,8 @@ def build(repository, program, target):
                        check=True, stdout=subprocess.DEVNULL)
 
 
-def run(repository, program, options=(), given='', rt='rt'):
+def run(repository: Path, program: str, options: Sequence[str] = (), given: str = '',
+        rt: Union[str, Path] = 'rt') -> subprocess.CompletedProcess[str]:
     """Builds and runs a program of the repository by `rt try`, which proves nothing, with this
     standard input. Its status is the program's own where the program ends."""
     return subprocess.run([rt, 'try', *options], cwd=repository / 'crates' / program, check=False,
@@ -147,9 +163,10 @@ def run(repository, program, options=(), given='', rt='rt'):
                           encoding='utf-8')
 
 
-def parts(cases):
-    """The lines of the cases in lists of so many bytes at most."""
-    part, size = [], 0
+def parts(cases: str) -> Iterator[list[str]]:
+    """The lines of the cases, in lists of at most MOST bytes."""
+    part: list[str] = []
+    size = 0
     for line in cases.split('\n')[:-1]:
         length = len(line.encode()) + 1
         if part and size + length > MOST:
@@ -160,9 +177,9 @@ def parts(cases):
     yield part
 
 
-def replay(cases, seconds=600):
-    """Runs the caller on these lines, for so many seconds at most at a time, passes on what it
-    prints of failures, and prints how many cases passed and failed in all. The status is 0 where
+def replay(cases: str, seconds: int = 600) -> int:
+    """Runs the caller on these lines, each time for at most this many seconds, passes on the
+    failures that it prints, and prints how many cases passed and failed in all. The status is 0 if
     there is a case and none failed."""
     options = (*ONCE, '--seconds', str(seconds))
     passed = failed = 0

@@ -1,10 +1,10 @@
-//! The same over the Rust crate, which has no list: main.rt says what.
+//! The program of main.rt.txt over the Rust crate, which has no list.
 
 use regex_lite::{Match, Regex};
 use std::error::Error;
 use std::{env, io};
 
-/// What is built of the patterns.
+/// What is built from the patterns.
 enum Built {
     Nothing,
     Loop(Vec<Regex>),
@@ -26,7 +26,7 @@ fn main() -> Result<(), Box<dyn Error>> {
     let rounds = rounds.parse::<u32>()?;
     let patterns: Vec<String> = words.collect();
     let built = build(&how, &patterns)?;
-    // Read last: the text takes more memory than is needed for a moment while patterns are built.
+    // Read last: the text takes more memory than building the patterns needs temporarily.
     let text = io::read_to_string(io::stdin())?;
     let haystacks = if unit == "lines" {
         text.lines().collect()
@@ -47,7 +47,7 @@ fn main() -> Result<(), Box<dyn Error>> {
     Ok(())
 }
 
-/// Builds of the patterns what the word says.
+/// Builds from the patterns what the word says.
 fn build(how: &str, patterns: &[String]) -> Result<Built, Box<dyn Error>> {
     match how {
         "none" => Ok(Built::Nothing),
@@ -68,7 +68,7 @@ fn build(how: &str, patterns: &[String]) -> Result<Built, Box<dyn Error>> {
 
 impl Tally {
     /// Adds all matches in the haystack: each search goes on where the last match ends, or after
-    /// the next character where it is empty.
+    /// the next character if that is empty.
     fn add_all(&mut self, built: &Built, haystack: &str) {
         let mut coming = Vec::new();
         if let Built::Loop(regexes) = built {
@@ -105,8 +105,8 @@ impl Tally {
     }
 }
 
-/// The match with the least start, of the lowest regex that has one there. The coming match of each
-/// regex is kept, and a regex is only asked anew where that begins before the offset.
+/// The match with the least start, of the lowest regex that has one there. The next match of each
+/// regex is kept, and a regex is searched again only if that begins before the offset.
 fn least<'h>(
     regexes: &[Regex],
     coming: &mut [Option<Match<'h>>],

@@ -1,13 +1,13 @@
-//! The same over the Rust crate: main.rt says what.
+//! The program of main.rt.txt over the Rust crate.
 
 use regex_lite::Regex;
 use std::error::Error;
 use std::{env, io};
 
-/// How far apart the bytes of a replaced text are that are looked at.
+/// The distance between the bytes of a replaced text that are sampled.
 const APART: usize = 61;
 
-/// What the calls have answered.
+/// What the calls have returned.
 struct Tally {
     items: u64,
     sum: u64,

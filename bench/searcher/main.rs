@@ -1,4 +1,4 @@
-//! The same over the Rust crate: main.rt says what.
+//! The program of main.rt.txt over the Rust crate.
 
 use regex_lite::{Match, Regex};
 use std::error::Error;
@@ -32,7 +32,7 @@ fn main() -> Result<(), Box<dyn Error>> {
     for pattern in words {
         regexes.push(Regex::new(&pattern)?);
     }
-    // Read last: the text takes more memory than is needed for a moment while a pattern is built.
+    // Read last: the text takes more memory than building a pattern needs temporarily.
     let text = io::read_to_string(io::stdin())?;
     let haystacks = if unit == "lines" {
         text.lines().collect()
@@ -56,7 +56,7 @@ fn main() -> Result<(), Box<dyn Error>> {
 
 impl Tally {
     /// Adds all matches in the haystack: each search goes on where the last match ends, or after
-    /// the next character where it is empty.
+    /// the next character if that is empty.
     fn add_all(&mut self, call: Call, regex: &Regex, haystack: &str) {
         let mut at = 0;
         while at <= haystack.len() {
@@ -78,7 +78,7 @@ impl Tally {
         }
     }
 
-    /// Adds the match from the index on and answers it.
+    /// Adds the match from the index on and returns it.
     fn add_match<'h>(&mut self, regex: &Regex, haystack: &'h str, at: usize) -> Option<Match<'h>> {
         let found = regex.find_at(haystack, at)?;
         self.matches += 1;

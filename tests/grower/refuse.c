@@ -1,16 +1,16 @@
 /* Refuses a request for memory, and fails reads and writes, of the program that it is loaded into.
 
-   It stands before the C library, by LD_PRELOAD, and needs no header. A program can speak to it: a
-   request for so many bytes as nobody else asks for is a message, and whether it is granted is the
-   answer (library.rt.txt has the other end). For the program that ONLY names, which does not know
-   of it, the environment says what is to fail:
+   It is loaded before the C library, by LD_PRELOAD, and needs no header. A program can talk to it:
+   a request for a number of bytes that nothing else makes is a message, and whether it is granted
+   is the answer (library.rt.txt has the other end). For the program that ONLY names, which does not
+   know about it, the environment says what has to fail:
 
    REFUSE=N     the Nth request for memory is refused
-   ONWARD=1     and so is each behind one that is refused, until none is to be
+   ONWARD=1     and so is each one after it, until no request is to be refused
    FAIL=D:K     each read or write of the descriptor D from the Kth on fails
-   BYTEWISE=1   a read or a write moves one byte at most
-   TELL=D       at the end the number of requests, and that of the blocks that were not given back,
-                are written to the descriptor D */
+   BYTEWISE=1   a read or a write moves at most one byte
+   TELL=D       at the end the number of requests, and that of the blocks that were not freed, are
+                written to the descriptor D */
 
 typedef unsigned long size_t;
 typedef long ssize_t;
@@ -41,7 +41,7 @@ extern void free(void *);
 extern ssize_t read(int, void *, size_t);
 extern ssize_t write(int, const void *, size_t);
 
-/* What the environment says, where it is meant for this program. */
+/* The setting in the environment, if it is meant for this program. */
 static const char *setting(const char *name) {
     const char *only = getenv("ONLY");
     return only && !strcmp(only, program_invocation_short_name) ? getenv(name) : 0;
@@ -109,9 +109,9 @@ void free(void *block) {
 static int fails(int descriptor) {
     static long calls;
     const char *text = setting("FAIL");
-    char *behind;
-    if (!text || strtol(text, &behind, 10) != descriptor) return 0;
-    if (++calls < strtol(behind + 1, 0, 10)) return 0;
+    char *colon;
+    if (!text || strtol(text, &colon, 10) != descriptor) return 0;
+    if (++calls < strtol(colon + 1, 0, 10)) return 0;
     *__errno_location() = 5; /* EIO */
     return 1;
 }
@@ -134,7 +134,7 @@ __attribute__((constructor)) static void begin(void) {
     is_onward = number_of("ONWARD") == 1;
 }
 
-__attribute__((destructor)) static void tell(void) {
+__attribute__((destructor)) static void report(void) {
     long descriptor = number_of("TELL");
     if (descriptor >= 0) dprintf(descriptor, "%ld %ld\n", requests, blocks);
 }

@@ -1,52 +1,24 @@
-"""What searches answer, by the definitions: the least start at which the relation holds, and the
+"""The answers of searches, by the definitions: the least start at which the relation holds, and the
 end and the groups of the most preferred way from there."""
 
-import itertools
-from typing import NamedTuple
+from collections.abc import Collection
+from typing import NamedTuple, Optional
 
-from characters import Neighbours
-from grammar import parsed
-from preference import Preference
-from relation import Relation
-from trees import groups, has_reading_loops, static_number
-from ways import WrittenOut
-
-
-class Haystack:
-    """A haystack by its positions, one before each character and one at the end."""
-
-    def __init__(self, text):
-        self.text = text
-        self.numbers = [ord(c) for c in text]
-        self.offsets = [0, *itertools.accumulate(len(c.encode()) for c in text)]
-        self.sides = [Neighbours(*pair) for pair in zip([None, *text], [*text, None])]
-
-    def __len__(self):
-        return len(self.text)
-
-    def reads(self, members, i):
-        """Whether the next character is one of these."""
-        return i < len(self.numbers) and members(self.numbers[i])
-
-    def sees(self, look, i):
-        """Whether the look holds at the position."""
-        return self.sides[i].hold(look)
+from .grammar import parsed
+from .haystack import Haystack
+from .preference import Preference
+from .relation import Relation
+from .trees import groups, has_reading_loops, static_number
+from .ways import Marks, WrittenOut
 
 
 class Found(NamedTuple):
-    """The positions of a match: for each group where it starts and ends, or None."""
+    """The positions of a match: where it starts and ends, and the same for each of its groups that
+    takes part."""
 
-    spans: tuple
-
-    @property
-    def start(self):
-        """Where the match starts."""
-        return self.spans[0][0]
-
-    @property
-    def end(self):
-        """Where the match ends."""
-        return self.spans[0][1]
+    start: int
+    end: int
+    spans: tuple[Optional[tuple[int, int]], ...]
 
 
 class Differ(Exception):
@@ -56,19 +28,19 @@ class Differ(Exception):
 class Regex:
     """A pattern under flags."""
 
-    def __init__(self, pattern, flags):
+    def __init__(self, pattern: str, flags: Collection[str]) -> None:
         self.tree = parsed(pattern, flags)
         self.groups = groups(self.tree)
         self.written_out = WrittenOut(self.tree)
         self.names = {group.name: group.number for group in self.groups if group.name}
         self.length = 1 + max((group.number for group in self.groups), default=0)
 
-    def static_length(self):
+    def static_length(self) -> Optional[int]:
         """How many groups take part in each match, the whole match counted too, or None."""
         number = static_number(self.tree)
         return None if number is None else number + 1
 
-    def name_list(self):
+    def name_list(self) -> str:
         """The names of all groups, with a dash for one without a name."""
         names = {number: name for name, number in self.names.items()}
         return ' '.join(names.get(number, '-') for number in range(self.length))
@@ -77,12 +49,12 @@ class Regex:
 class Search:
     """The searches of a regex in a haystack."""
 
-    def __init__(self, regex, text):
+    def __init__(self, regex: Regex, text: str) -> None:
         self.regex = regex
         self.haystack = Haystack(text)
         self.relation = Relation(self.haystack)
 
-    def from_position(self, s):
+    def from_position(self, s: int) -> Optional[Found]:
         """The answer of a search from position s, or None."""
         for i in range(s, len(self.haystack) + 1):
             ends = self.relation.ends(self.regex.tree, i)
@@ -90,7 +62,7 @@ class Search:
                 return self.preferred(i, ends)
         return None
 
-    def preferred(self, i, ends):
+    def preferred(self, i: int, ends: Collection[int]) -> Found:
         """The most preferred match from position i, where matches end at these positions."""
         end, marks = next(self.regex.written_out.ways(self.haystack, i))
         if end not in ends:
@@ -99,18 +71,18 @@ class Search:
             listed = Preference(self.haystack, self.relation).entries(self.regex.tree, i, {})
             if next(listed) != (end, {slot: at for slot, at in marks.items() if slot > 1}):
                 raise Differ('the list and the ways do not begin alike')
-        spans = [(marks.get(2 * k), marks.get(2 * k + 1)) for k in range(self.regex.length)]
-        return Found(tuple(None if None in span else span for span in spans))
+        return Found(i, end, tuple(span_of(marks, k) for k in range(self.regex.length)))
 
-    def least_end(self, s):
+    def least_end(self, s: int) -> Optional[int]:
         """The least position at which a match from position s or a later one ends, or None."""
         starts = range(s, len(self.haystack) + 1)
         ends = (j for i in starts for j in self.relation.ends(self.regex.tree, i))
         return min(ends, default=None)
 
-    def matches(self):
+    def matches(self) -> list[Found]:
         """All matches, one after another. An empty match at the end of the last is passed over."""
-        found, at, last = [], 0, None
+        found: list[Found] = []
+        at, last = 0, None
         while at <= len(self.haystack):
             match = self.from_position(at)
             if match is None:
@@ -121,3 +93,9 @@ class Search:
             found.append(match)
             at = last = match.end
         return found
+
+
+def span_of(marks: Marks, group: int) -> Optional[tuple[int, int]]:
+    """Where the group starts and ends by these marks."""
+    start, end = marks.get(2 * group), marks.get(2 * group + 1)
+    return None if start is None or end is None else (start, end)

@@ -1,23 +1,32 @@
-"""Small new cases with what the definitions say of them, as lines that the caller reads."""
+"""Small new cases with their answers by the definitions, as lines that the caller reads."""
 
 import itertools
+from collections.abc import Iterable, Iterator
+from functools import partial
+from typing import NamedTuple
 
-import lists
-import searches
-import whole
-from answers import Differ, Regex, Search
-from calls import Calls
-from cursor import Refused
-from data import escaped
-from dice import Dice
-from grammar import NEST_LIMIT, Nested, Undecided
-from judge import Found
-from ways import TooLarge
+from answers.make import lists, searches, whole
+from answers.make.data import escaped
+from answers.make.dice import Dice
+from answers.make.judge import Case, Found
 
-LONGEST = 400  # characters of a pattern, since the interpreter calls itself for what is nested
+from .answers import Differ, Regex, Search
+from .calls import Calls
+from .cursor import Refused
+from .grammar import NEST_LIMIT, Nested, Undecided
+from .ways import TooLarge
+
+LONGEST = 400  # characters of a pattern, since the interpreter recurses on nested patterns
 
 
-def found(search, start):
+class Drawn(NamedTuple):
+    """A pattern, and what makes the lines of its cases."""
+
+    pattern: str
+    lines: 'partial[list[str]]'
+
+
+def found(search: Search, start: int) -> Found:
     """What a search finds from the offset, as the list of searches has it."""
     regex, haystack, match, least = search.regex, search.haystack, None, None
     if start <= haystack.offsets[-1]:
@@ -28,47 +37,49 @@ def found(search, start):
     return Found(groups, shortest, regex.static_length(), regex.name_list())
 
 
-def flags_of(letters):
+def flags_of(letters: str) -> frozenset[str]:
     """The flags of a field."""
     return frozenset(letters) - {'-'}
 
 
-def search_lines(dice):
+def search_lines(dice: Dice) -> Iterator[Drawn]:
     """The lines of a pattern and its haystacks, each from some starts."""
     for _, letters, pattern, asked in searches.generated(dice):
-        yield searched, letters, pattern, dict.fromkeys(asked)
+        yield Drawn(pattern, partial(searched, letters, pattern, dict.fromkeys(asked)))
 
 
-def searched(letters, pattern, asked):
+def searched(letters: str, pattern: str, asked: Iterable[tuple[str, int]]) -> list[str]:
+    """The lines of searches in haystacks, each from a start."""
     regex = Regex(pattern, flags_of(letters))
     made = {text: Search(regex, text) for text, _ in asked}
     return [searches.line_of((letters, pattern, text, start), found(made[text], start))
             for text, start in asked]
 
 
-def list_lines(dice):
-    """The lines of all calls that answer by all matches, on one haystack."""
+def list_lines(dice: Dice) -> Iterator[Drawn]:
+    """The lines of all calls over all matches, on one haystack."""
     for cases in lists.generated(dice):
         first = cases[0]
         template = next(case.template for case in cases if case.template is not None)
-        expand = lists.Case('expand', None, *first[2:5], template)
-        yield listed, first.flags, first.pattern, [*cases, expand]
+        expand = first._replace(call='expand', limit=None, template=template)
+        yield Drawn(first.pattern, partial(listed, first.flags, first.pattern, [*cases, expand]))
 
 
-def listed(letters, pattern, cases):
+def listed(letters: str, pattern: str, cases: list[Case]) -> list[str]:
+    """The lines of these calls on one haystack."""
     calls = Calls(Search(Regex(pattern, flags_of(letters)), cases[0].haystack))
-    return [lists.line_of(case, getattr(calls, case.call)(case.limit, case.template))
+    return [lists.line_of(case, getattr(calls, case.call)(case.limit or 0, case.template or ''))
             for case in cases]
 
 
-def whole_lines(dice):
+def whole_lines(dice: Dice) -> Iterator[Drawn]:
     """The lines of a pattern that may have no tree, with its haystacks."""
     for _, pattern, near, far, _ in whole.generated(dice):
-        yield accepted, '-', pattern, dict.fromkeys((near, far))
+        yield Drawn(pattern, partial(accepted, '-', pattern, dict.fromkeys((near, far))))
 
 
-def accepted(letters, pattern, texts):
-    """Whether the pattern is accepted, and where it is, where it matches."""
+def accepted(letters: str, pattern: str, texts: Iterable[str]) -> list[str]:
+    """Whether the pattern is accepted and, if so, where it matches."""
     try:
         return searched(letters, pattern, [(text, 0) for text in texts])
     except Refused:
@@ -78,19 +89,20 @@ def accepted(letters, pattern, texts):
     return ['\t'.join([outcome, letters, '-', escaped(pattern), '']) + '\n']
 
 
-def lines(seed, number):
-    """The lines of so many patterns of the seed, and how many were passed over as too large."""
+def lines(seed: int, number: int) -> tuple[list[str], int]:
+    """The lines of as many patterns from the seed, and how many were skipped as too large."""
     makers = [make(Dice(f'interpret {make.__name__} {seed}'))
               for make in (search_lines, list_lines, whole_lines)]
-    made, passed_over = [], 0
+    made: list[str] = []
+    skipped = 0
     for maker in itertools.islice(itertools.cycle(makers), number):
-        say, letters, pattern, asked = next(maker)
+        drawn = next(maker)
         try:
-            if len(pattern) > LONGEST:
+            if len(drawn.pattern) > LONGEST:
                 raise TooLarge
-            made += say(letters, pattern, asked)
+            made += drawn.lines()
         except (TooLarge, Undecided):
-            passed_over += 1
+            skipped += 1
         except Differ as trouble:
-            raise SystemExit(f'{letters} {pattern!r} {asked!r}: {trouble}') from trouble
-    return made, passed_over
+            raise SystemExit(f'{drawn.lines.args!r}: {trouble}') from trouble
+    return made, skipped

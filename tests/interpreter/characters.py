@@ -1,40 +1,43 @@
 """Sets of characters, each as a function that says of a character's number whether it is in it."""
 
-from typing import NamedTuple
+from collections.abc import Callable, Sequence
+from typing import NamedTuple, Optional
+
+Members = Callable[[int], bool]
 
 
-def among(text):
+def among(text: str) -> Members:
     """The set of the characters of the text."""
     members = frozenset(map(ord, text))
     return lambda number: number in members
 
 
-def between(first, last):
+def between(first: int, last: int) -> Members:
     """The set of all characters from the one number to the other."""
     return lambda number: first <= number <= last
 
 
-def union(sets):
+def union(sets: Sequence[Members]) -> Members:
     """What is in one of the sets."""
     return lambda number: any(members(number) for members in sets)
 
 
-def without(members):
+def without(members: Members) -> Members:
     """The set of all other characters."""
     return lambda number: not members(number)
 
 
-def in_either_case(members):
+def in_either_case(members: Members) -> Members:
     """The set with the other case of each of its ASCII letters."""
     return lambda number: members(number) or is_letter(number) and members(number ^ 0x20)
 
 
-def is_letter(number):
+def is_letter(number: int) -> bool:
     """Whether this is the number of an ASCII letter."""
     return 0x41 <= number & ~0x20 <= 0x5A
 
 
-def everything(number):
+def everything(number: int) -> bool:
     """The set of all characters."""
     return True
 
@@ -78,20 +81,25 @@ WHITE_SPACE = frozenset(map(chr, (
 class Neighbours(NamedTuple):
     """A position of a haystack: what stands before it and after it. At the ends that is None."""
 
-    before: object
-    after: object
+    before: Optional[str]
+    after: Optional[str]
 
-    def are_words(self):
+    def are_words(self) -> tuple[bool, bool]:
         """Whether each of the two is a word character."""
-        return tuple(c is not None and WORD(ord(c)) for c in self)
+        return is_word(self.before), is_word(self.after)
 
-    def hold(self, name):
+    def hold(self, name: str) -> bool:
         """Whether the look of this name holds there."""
         return LOOKS[name](self, *self.are_words())
 
 
+def is_word(character: Optional[str]) -> bool:
+    """Whether this is a word character, and not an end of the haystack."""
+    return character is not None and WORD(ord(character))
+
+
 # When each look holds, by the neighbours and by whether each is a word character.
-LOOKS = {
+LOOKS: dict[str, Callable[[Neighbours, bool, bool], bool]] = {
     'start': lambda at, front, back: at.before is None,
     'end': lambda at, front, back: at.after is None,
     'line start': lambda at, front, back: at.before in (None, '\n'),

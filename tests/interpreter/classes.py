@@ -1,17 +1,18 @@
 """Bracketed classes."""
 
 import re
+from typing import Union
 
-from characters import NAMED, among, between, in_either_case, union, without
-from cursor import Refused
-from escapes import escape
-from trees import Look, Read
+from .characters import NAMED, Members, among, between, in_either_case, union, without
+from .cursor import Cursor, Refused
+from .escapes import escape
+from .trees import Look, Read
 
 OF_NAME = re.compile(r'\[:(\^?)([a-z]+):\]')
 
 
-def bracketed(reader):
-    """The set of a class, behind its opening bracket."""
+def bracketed(reader: Cursor) -> Members:
+    """The set of a class, after its opening bracket."""
     reader.gap()
     is_negated = reader.take('^')
     sets = openers(reader)
@@ -24,9 +25,9 @@ def bracketed(reader):
     return without(members) if is_negated else members
 
 
-def openers(reader):
+def openers(reader: Cursor) -> list[Members]:
     """The dashes, or else the bracket, that stand first and for themselves."""
-    sets = []
+    sets: list[Members] = []
     reader.gap()
     while reader.take('-'):
         sets.append(among('-'))
@@ -37,7 +38,7 @@ def openers(reader):
     return sets
 
 
-def item(reader):
+def item(reader: Cursor) -> Members:
     """The set of one item."""
     if any(reader.stands(pair) for pair in ('&&', '--', '~~')):
         raise Refused('an operation on sets')
@@ -55,7 +56,7 @@ def item(reader):
     return between(ord(first), ord(last))
 
 
-def named(reader):
+def named(reader: Cursor) -> Members:
     """A set by its name in brackets and colons."""
     found = OF_NAME.match(reader.pattern, reader.at)
     if not found or found[2] not in NAMED:
@@ -64,7 +65,7 @@ def named(reader):
     return without(NAMED[found[2]]) if found[1] else NAMED[found[2]]
 
 
-def end_or_set(reader):
+def end_or_set(reader: Cursor) -> Union[str, Members]:
     """One character, or the set of an escape."""
     if not reader.take('\\'):
         return reader.next()
@@ -74,7 +75,7 @@ def end_or_set(reader):
     return meant.members if isinstance(meant, Read) else meant
 
 
-def begins_range(reader):
+def begins_range(reader: Cursor) -> bool:
     """Whether a dash comes next that stands between two ends."""
     place = reader.at
     is_between = False

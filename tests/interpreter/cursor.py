@@ -1,6 +1,9 @@
 """A place in a pattern, and what can be read there."""
 
-from characters import WHITE_SPACE
+from collections.abc import Collection
+from typing import Optional
+
+from .characters import WHITE_SPACE
 
 GAP = WHITE_SPACE | {'#'}
 
@@ -12,52 +15,52 @@ class Refused(Exception):
 class Cursor:
     """What is left of a pattern, and the flags that hold there."""
 
-    def __init__(self, pattern, flags):
+    def __init__(self, pattern: str, flags: Collection[str]) -> None:
         self.pattern = pattern
         self.at = 0
         self.flags = frozenset(flags)
 
-    def is_over(self):
+    def is_over(self) -> bool:
         """Whether nothing is left."""
         return self.at == len(self.pattern)
 
     @property
-    def ahead(self):
+    def ahead(self) -> str:
         """The next character, where there is one, or an empty text."""
         return self.pattern[self.at:self.at + 1]
 
-    def stands(self, text):
+    def stands(self, text: str) -> bool:
         """Whether this text is next."""
         return self.pattern.startswith(text, self.at)
 
-    def take(self, text):
-        """Passes over the text where it is next, and tells whether it is."""
+    def take(self, text: str) -> bool:
+        """Skips the text if it is next, and returns whether it was."""
         is_there = self.stands(text)
         self.at += len(text) * is_there
         return is_there
 
-    def expect(self, text):
-        """Passes over the text, which has to be next."""
+    def expect(self, text: str) -> None:
+        """Skips the text, which has to be next."""
         if not self.take(text):
             raise Refused(f'{text} is missing')
 
-    def next(self):
-        """Passes over the next character, which has to be there."""
+    def next(self) -> str:
+        """Returns the next character, which has to be there, and skips it."""
         if self.is_over():
-            raise Refused('the pattern breaks off')
+            raise Refused('the pattern ends too early')
         self.at += 1
         return self.pattern[self.at - 1]
 
-    def until(self, end):
-        """Passes over a text and what ends it, and answers the text."""
+    def until(self, end: str) -> str:
+        """Skips a text and what ends it, and returns the text."""
         text, found, _ = self.pattern[self.at:].partition(end)
         if not found:
-            raise Refused('the pattern breaks off')
+            raise Refused('the pattern ends too early')
         self.at += len(text) + len(end)
         return text
 
-    def gap(self):
-        """Passes over white space and comments, in verbose mode alone."""
+    def gap(self) -> None:
+        """Skips white space and comments, in verbose mode only."""
         while 'x' in self.flags and self.ahead in GAP:
             if self.take('#'):
                 comment, _, _ = self.pattern[self.at:].partition('\n')
@@ -65,15 +68,15 @@ class Cursor:
             else:
                 self.at += 1
 
-    def white_space(self):
-        """Passes over white space in any mode, and in verbose mode over comments too."""
+    def white_space(self) -> None:
+        """Skips white space in any mode, and in verbose mode comments too."""
         while self.ahead in WHITE_SPACE:
             self.at += 1
         self.gap()
 
-    def digits(self, among, most=None):
-        """Passes over all digits that are next, or so many at most, with gaps behind each, and
-        answers them."""
+    def digits(self, among: str, most: Optional[int] = None) -> str:
+        """Skips all digits that are next, or at most this many, each with the gap after it, and
+        returns them."""
         digits = ''
         while len(digits) != most and self.ahead and self.ahead in among:
             digits += self.next()

@@ -1,8 +1,10 @@
 """What a backslash begins."""
 
-from characters import LETTERS
-from cursor import Refused
-from trees import Look, Read
+from typing import Union
+
+from .characters import LETTERS
+from .cursor import Cursor, Refused
+from .trees import Look, Read
 
 CHARACTERS = {'a': '\a', 'f': '\f', 't': '\t', 'n': '\n', 'r': '\r', 'v': '\v'}
 LOOKS = {'A': 'start', 'z': 'end', 'b': 'word', 'B': 'no word', '<': 'word start', '>': 'word end'}
@@ -12,8 +14,8 @@ LENGTHS = {'x': 2, 'u': 4, 'U': 8}
 HEXADECIMAL = '0123456789abcdefABCDEF'
 
 
-def escape(reader):
-    """A character, a set or a look, behind its backslash."""
+def escape(reader: Cursor) -> Union[str, Read, Look]:
+    """A character, a set or a look, after its backslash."""
     letter = reader.next()
     if letter in CHARACTERS:
         return CHARACTERS[letter]
@@ -30,8 +32,8 @@ def escape(reader):
     return letter
 
 
-def by_number(reader, length):
-    """A character by its number, which has so many digits where it stands without braces."""
+def by_number(reader: Cursor, length: int) -> str:
+    """A character by its number, which has this many digits if it has no braces."""
     reader.gap()
     if reader.take('{'):
         reader.gap()
@@ -47,14 +49,14 @@ def by_number(reader, length):
     return chr(number)
 
 
-def boundary(reader):
+def boundary(reader: Cursor) -> str:
     """The look of a `\\b` before a brace, which is a name in the braces or stands before a counted
     operator."""
     brace = reader.at
     reader.expect('{')
     reader.gap()
     if reader.is_over():
-        raise Refused('the pattern breaks off')
+        raise Refused('the pattern ends too early')
     if not (reader.ahead == '-' or reader.ahead.isascii() and reader.ahead.isalpha()):
         reader.at = brace
         return 'word'

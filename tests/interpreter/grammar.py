@@ -1,16 +1,18 @@
-"""The grammar: which tree a pattern has under some flags. docs/SYNTAX.md tells it in words."""
+"""The grammar: which tree a pattern has under some flags. docs/SYNTAX.md describes it in words."""
 
 import unicodedata
+from collections.abc import Collection
+from typing import Optional
 
-import classes
-import escapes
-from characters import among, everything, in_either_case, is_letter, without
-from cursor import Cursor, Refused
-from trees import Alternation, Concat, Empty, Group, Look, Read, Repeat, depth
+from . import classes, escapes
+from .characters import Members, among, everything, in_either_case, is_letter, without
+from .cursor import Cursor, Refused
+from .trees import Alternation, Concat, Empty, Group, Look, Read, Repeat, Tree, depth
 
 NEST_LIMIT = 50
 GREATEST = 2**32 - 1
 FLAGS = 'imsRUx'
+COUNTS = {'?': (0, 1), '*': (0, None), '+': (1, None)}  # the least and the most passes
 
 
 class Nested(Exception):
@@ -18,10 +20,10 @@ class Nested(Exception):
 
 
 class Undecided(Exception):
-    """Whether the pattern has a tree can't be told here."""
+    """Whether the pattern has a tree can't be decided here."""
 
 
-def parsed(pattern, flags):
+def parsed(pattern: str, flags: Collection[str]) -> Tree:
     """The tree of the pattern under these flags of the builder."""
     reader = Grammar(pattern, flags)
     tree = reader.alternatives()
@@ -35,22 +37,22 @@ def parsed(pattern, flags):
 class Grammar(Cursor):
     """Reads a pattern from left to right."""
 
-    def __init__(self, pattern, flags):
+    def __init__(self, pattern: str, flags: Collection[str]) -> None:
         super().__init__(pattern, flags)
         self.count = 0
-        self.names = set()
+        self.names: set[str] = set()
         self.level = self.deepest = 0
 
-    def alternatives(self):
+    def alternatives(self) -> Tree:
         """Branches up to the end of the pattern, or to the `)` of the group."""
         branches = [self.branch()]
         while self.take('|'):
             branches.append(self.branch())
         return branches[0] if len(branches) == 1 else Alternation(tuple(branches))
 
-    def branch(self):
+    def branch(self) -> Tree:
         """Items, operators and directives."""
-        parts = []
+        parts: list[Tree] = []
         self.gap()
         while not self.is_over() and self.ahead not in '|)':
             if self.ahead in '?*+{':
@@ -67,7 +69,7 @@ class Grammar(Cursor):
             return parts[0] if parts else Empty()
         return Concat(tuple(parts))
 
-    def leaf(self):
+    def leaf(self) -> Tree:
         """An item of which no item is a part."""
         if self.take('['):
             return Read(classes.bracketed(self))
@@ -82,26 +84,26 @@ class Grammar(Cursor):
             return self.character(meant) if isinstance(meant, str) else meant
         return self.character(self.next())
 
-    def character(self, character):
+    def character(self, character: str) -> Read:
         """A character outside of classes."""
         members = among(character)
         is_either = 'i' in self.flags and is_letter(ord(character))
         return Read(in_either_case(members) if is_either else members)
 
-    def dot(self):
+    def dot(self) -> Members:
         """What a dot stands for."""
         if 's' in self.flags:
             return everything
         return without(among('\r\n' if 'R' in self.flags else '\n'))
 
-    def line(self, side):
+    def line(self, side: str) -> str:
         """The look of `^` or `$`."""
         if 'm' not in self.flags:
             return side
         return f'{"CRLF" if "R" in self.flags else "line"} {side}'
 
-    def after_parenthesis(self):
-        """The group behind its opening parenthesis, or None for a directive."""
+    def after_parenthesis(self) -> Optional[Tree]:
+        """The group after its opening parenthesis, or None for a directive."""
         outside = self.flags
         number = name = None
         self.gap()
@@ -124,13 +126,13 @@ class Grammar(Cursor):
         self.level -= 1
         return body if number is None else Group(number, name, body)
 
-    def names_group(self):
+    def names_group(self) -> bool:
         """Takes the `<` before a name."""
         if any(self.stands(head) for head in ('=', '!', '<=', '<!')):
             raise Refused('look-around')
         return self.take('<')
 
-    def name(self):
+    def name(self) -> str:
         """The name of a group, up to its `>`."""
         name = self.until('>')
         if not name or not is_name(name) or name in self.names:
@@ -138,8 +140,8 @@ class Grammar(Cursor):
         self.names.add(name)
         return name
 
-    def changed_flags(self):
-        """The flags behind `(?`, and whether they are a directive."""
+    def changed_flags(self) -> tuple[frozenset[str], bool]:
+        """The flags after `(?`, and whether they are a directive."""
         letters = ''
         while not self.is_over() and self.ahead not in ':)':
             letters += self.next()
@@ -152,13 +154,13 @@ class Grammar(Cursor):
         on, _, off = letters.partition('-')
         return frozenset(self.flags - set(off) | set(on)) - {'u'}, end == ')'
 
-    def repetition(self, body):
+    def repetition(self, body: Tree) -> Tree:
         """The operator that stands here, on this body."""
         if self.take('{'):
             least, most = self.counts()
             self.gap()
         else:
-            least, most = {'?': (0, 1), '*': (0, None), '+': (1, None)}[self.next()]
+            least, most = COUNTS[self.next()]
         is_lazy = self.take('?')
         if most == 0:
             return Empty()
@@ -166,9 +168,10 @@ class Grammar(Cursor):
             return body
         return Repeat(least, most, is_lazy == ('U' in self.flags), body)
 
-    def counts(self):
-        """The numbers of a counted operator behind its brace."""
-        least = most = self.number()
+    def counts(self) -> tuple[int, Optional[int]]:
+        """The numbers of a counted operator after its brace."""
+        least = self.number()
+        most: Optional[int] = least
         if self.take(','):
             self.gap()
             most = None if self.stands('}') else self.number()
@@ -177,7 +180,7 @@ class Grammar(Cursor):
             raise Refused('a range of counts in the wrong order')
         return least, most
 
-    def number(self):
+    def number(self) -> int:
         """A number with white space on both sides."""
         self.white_space()
         digits = self.digits('0123456789')
@@ -187,16 +190,16 @@ class Grammar(Cursor):
         return int(digits)
 
 
-def is_name(name):
+def is_name(name: str) -> bool:
     """Whether the text can be the name of a group."""
     return can_begin(name[0]) and all(
         can_begin(c) or c in '.[]' or unicodedata.category(c) in ('Nd', 'Nl', 'No')
         for c in name[1:])
 
 
-def can_begin(character):
-    """Whether a name can begin with the character. Python tells of letters, and no more of what is
-    alphabetic."""
+def can_begin(character: str) -> bool:
+    """Whether a name can begin with the character. Python knows letters, but not all
+    characters that are alphabetic."""
     category = unicodedata.category(character)
     if category in ('Mn', 'Mc', 'So', 'Cn'):
         raise Undecided

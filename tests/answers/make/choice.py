@@ -1,9 +1,11 @@
 """The choice among generated cases, by a table of quotas."""
 
 import itertools
+from collections.abc import Iterable, Iterator, Sequence
+from typing import Optional, Union
 
-from data import faults_of, line_of
-from judge import ask
+from .data import faults_of, line_of
+from .judge import ask
 
 UNCLOSED = "found open group without closing ')'"
 UNOPENED = "found closing ')' without matching '('"
@@ -41,7 +43,7 @@ FAMILIES = {
 }
 
 # And how many refusals: a family, which texts it has, and the number for each of these.
-REFUSED = {
+REFUSED: dict[str, list[tuple[str, Iterable[str], int]]] = {
     'plain-grammar': [('plain', STRUCTURE['plain-grammar'], 220)],
     'flags-and-classes': [
         ('broken', STRUCTURE['flags-and-classes'], 50),
@@ -54,13 +56,19 @@ REFUSED = {
     ],
 }
 
+# A family, a pattern, two haystacks, and the text by which the pattern is to be refused, which is
+# empty for no refusal, and None if only the judge knows.
+Row = tuple[str, str, str, str, Optional[str]]
+Chosen = tuple[str, str, str, str]  # a row that is chosen, without the text
+Kind = tuple[Union[str, int], ...]  # of a case
 
-def quotas_of(name):
+
+def quotas_of(name: str) -> dict[Kind, int]:
     """How many cases of each kind are kept in a list. The kind of a refusal is its family and its
     text. The kind of any other case is its family, its status and the status of the same pattern
     on the empty haystack."""
-    kinds = list(itertools.product((0, 1), repeat=2))
-    quotas = {
+    kinds = [(status, on_empty) for status in (0, 1) for on_empty in (0, 1)]
+    quotas: dict[Kind, int] = {
         (family, *kind): number
         for family, numbers in FAMILIES[name].items()
         for kind, number in zip(kinds, numbers) if number
@@ -71,17 +79,16 @@ def quotas_of(name):
     return quotas
 
 
-def chosen_rows(judge, rows, count, structure):
-    """So many rows from the front, but for those with a changed pattern that is refused or with a
+def chosen_rows(judge: str, rows: Iterator[Row], count: int,
+                structure: Sequence[str]) -> list[Chosen]:
+    """The first rows, as many, except those with a changed pattern that is refused or with a
     broken one that isn't refused by one of the texts in `structure`.
 
-    A row is a family, a pattern, two haystacks, and the text by which the pattern is to be refused,
-    an empty text, or None where the judge alone tells. Only changed and broken patterns may be
-    answered otherwise. A row that is chosen leaves the text out."""
-    rows = list(itertools.islice(rows, count))
-    answers = ask(judge, [(pattern, '') for _, pattern, *_ in rows])
+    Only for changed and broken patterns the answer may differ from what their rows say."""
+    asked = list(itertools.islice(rows, count))
+    answers = ask(judge, [(pattern, '') for _, pattern, *_ in asked])
     chosen = []
-    for (family, pattern, near, far, wanted), (_, text) in zip(rows, answers):
+    for (family, pattern, near, far, wanted), (_, text) in zip(asked, answers):
         if family == 'changed' and text or family == 'broken' and text not in structure:
             continue
         if wanted not in (None, text) and family != 'broken':
@@ -90,11 +97,11 @@ def chosen_rows(judge, rows, count, structure):
     return chosen
 
 
-def kept_lines(judge, rows, quotas, seen):
+def kept_lines(judge: str, rows: list[Chosen], quotas: dict[Kind, int],
+               seen: set[object]) -> list[str]:
     """The lines of the first cases of each kind, as many as its quota says.
 
-    A row is a family, a pattern and two haystacks. Patterns and cases in `seen` are left out, and
-    what is kept is added."""
+    Patterns and cases in `seen` are left out, and what is kept is added."""
     cases = [(pattern, haystack) for _, pattern, *texts in rows for haystack in ('', *texts)]
     answers = iter(ask(judge, cases))
     left = dict(quotas)
@@ -103,7 +110,9 @@ def kept_lines(judge, rows, quotas, seen):
         on_empty, _ = next(answers)
         for haystack in haystacks:
             status, text = next(answers)
-            kind = (family, text) if text else (family, status, on_empty)
+            kind: Kind = (family, status, on_empty)
+            if text:
+                kind = family, text
             if kind not in left:
                 raise SystemExit(f'unexpected answer to {pattern!r}: {kind}')
             # A pattern that is refused needs one case alone.

@@ -1,6 +1,11 @@
 """Dice, and small changes of a text."""
 
 import random
+from collections.abc import Sequence
+from typing import TypeVar
+
+T = TypeVar('T')
+S = TypeVar('S', str, list[str])  # a text, or its parts
 
 OPERATORS = ('?', '*', '+', '*', '+', '??', '*?', '+?')
 
@@ -11,17 +16,17 @@ ROUNDS = {'?': (0, 0, 1, 1, 2), '*': (0, 1, 2, 3), '+': (0, 1, 1, 1, 2, 3)}
 class Dice(random.Random):
     """Choices made with random() alone, the one method whose sequence Python keeps for a seed."""
 
-    def below(self, count):
+    def below(self, count: int) -> int:
         return int(self.random() * count)
 
-    def pick(self, things):
+    def pick(self, things: Sequence[T]) -> T:
         return things[self.below(len(things))]
 
-    def chance(self, probability):
+    def chance(self, probability: float) -> bool:
         return self.random() < probability
 
 
-def edited(dice, text, pieces):
+def edited(dice: Dice, text: S, pieces: Sequence[S]) -> S:
     """The text with one change: something taken out, put in, replaced, swapped, cut or doubled."""
     at = dice.below(len(text) + 1)
     change = dice.below(6)
@@ -38,11 +43,11 @@ def edited(dice, text, pieces):
     return text[:at] + text[max(0, at - 6):]
 
 
-def edited_often(dice, text, pieces):
+def edited_often(dice: Dice, text: str, pieces: Sequence[str]) -> str:
     for _ in range(dice.pick((1, 1, 2, 3))):
         text = edited(dice, text, pieces)
     return text
 
 
-def noise(dice, letters):
+def noise(dice: Dice, letters: str) -> str:
     return ''.join(dice.pick(letters + '\nz') for _ in range(dice.pick((0, 0, 1, 2, 4))))

@@ -1,27 +1,27 @@
 """The list of texts and their escapes."""
 
-from data import escaped, rows_of
-from dice import Dice
-from judge import answers
-from leaves import ALPHABETS
+from .data import escaped, rows_of
+from .dice import Dice
+from .judge import answers
+from .leaves import ALPHABETS
 
-SEED = 5  # another than those of the other lists
+SEED = 5  # different from those of the other lists
 
 TEXTS = 400  # generated ones
 MARKS = tuple('\\.+*?()|[]{}^$#&-~')
 
 
-def generated(dice):
+def generated(dice: Dice) -> str:
     """A text of marks that are escaped and of other characters."""
     letters = dice.pick(ALPHABETS)
     count = dice.pick((1, 2, 3, 4, 6, 10, 20))
     return ''.join(dice.pick(dice.pick((MARKS, letters))) for _ in range(count))
 
 
-def lines(judge):
+def lines(judge: str) -> list[str]:
     """The lines of the list."""
     dice = Dice(SEED)
     texts = [text for text, in rows_of('escapes')] + [generated(dice) for _ in range(TEXTS)]
     fields = [escaped(text) for text in dict.fromkeys(texts)]
-    told = answers(judge, [f'escape\t-\t{field}\n' for field in fields])
-    return [f'{field}\t{answer[len("ok:"):]}\n' for field, answer in zip(fields, told)]
+    given = answers(judge, [f'escape\t-\t{field}\n' for field in fields])
+    return [f'{field}\t{answer[len("ok:"):]}\n' for field, answer in zip(fields, given)]

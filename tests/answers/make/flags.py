@@ -1,13 +1,13 @@
 """Patterns with flags and classes."""
 
 import re
+from collections.abc import Iterator, Sequence
 
-from choice import STRUCTURE
-from data import faults_of
-from dice import OPERATORS, ROUNDS, edited, edited_often, noise
-from leaves import (
-    ALPHABETS, LINE_ENDS, LOOKING, MIXED, Directive, Group, Leaf, Maker,
-)
+from .choice import STRUCTURE
+from .data import faults_of
+from .dice import OPERATORS, Dice, edited, edited_often, noise
+from .leaves import (ALPHABETS, LINE_ENDS, LOOKING, MIXED, Directive, Group, Item, Leaf, Maker,
+                     Tree, sample)
 
 LONGEST = 80  # characters of a generated pattern
 
@@ -49,7 +49,7 @@ FRAMES = (
 )
 
 
-def is_outside(pattern):
+def is_outside(pattern: str) -> bool:
     """Whether the pattern has a counted operator, a group that captures or the flag letter x."""
     at = 0
     while at < len(pattern):
@@ -60,9 +60,9 @@ def is_outside(pattern):
     return False
 
 
-def tokens_of(tree):
+def tokens_of(tree: Tree) -> list[str]:
     """The parts of the tree's pattern: whole leaves, heads, operators, `)` and `|`."""
-    tokens = []
+    tokens: list[str] = []
     for number, branch in enumerate(tree):
         if number > 0:
             tokens.append('|')
@@ -75,28 +75,11 @@ def tokens_of(tree):
     return tokens
 
 
-def pattern_of(tree):
+def pattern_of(tree: Tree) -> str:
     return ''.join(tokens_of(tree))
 
 
-def sample(dice, tree):
-    """A text that the tree often matches."""
-    branch = dice.pick(tree)
-    return ''.join(sample_piece(dice, item, operators) for item, operators in branch)
-
-
-def sample_piece(dice, item, operators):
-    if isinstance(item, Directive):
-        return ''
-    if operators:
-        rounds = dice.pick(ROUNDS[operators[-1][0]])
-        return ''.join(sample_piece(dice, item, operators[:-1]) for _ in range(rounds))
-    if isinstance(item, Group):
-        return sample(dice, item.tree)
-    return dice.pick(item.samples or ('',))
-
-
-def near_of(tree):
+def near_of(tree: Tree) -> str:
     """Characters on which some leaf of the tree may make a difference."""
     return ''.join(
         near_of(item.tree) if isinstance(item, Group) else getattr(item, 'near', '')
@@ -104,7 +87,7 @@ def near_of(tree):
     )
 
 
-def haystacks(dice, tree):
+def haystacks(dice: Dice, tree: Tree) -> tuple[str, str]:
     """A text that the tree often matches, perhaps with something round it, and a changed form."""
     near = sample(dice, tree)[:40]
     letters = near_of(tree) or 'ab'
@@ -120,20 +103,20 @@ def haystacks(dice, tree):
     return near, edited_often(dice, near, [*letters, *LINE_ENDS, 'a', '-', 'é', '💩'])
 
 
-def framed(dice, item, operators=()):
+def framed(dice: Dice, item: Item, operators: Sequence[str] = ()) -> Tree:
     """A tree of this item with its operators, between two others."""
     front, back = dice.pick(FRAMES)
     return [[(front, []), (item, list(operators)), (back, [])]]
 
 
-def under_flags(dice, tree, probability, choices):
+def under_flags(dice: Dice, tree: Tree, probability: float, choices: Sequence[str]) -> Tree:
     """The tree, perhaps with a directive before it."""
     if dice.chance(probability):
         tree[0].insert(0, (Directive(f'(?{dice.pick(choices)})'), []))
     return tree
 
 
-def mixed(dice):
+def mixed(dice: Dice) -> Tree:
     """A tree of leaves of all kinds."""
     maker = Maker(dice, dice.pick(ALPHABETS), MIXED)
     tree = maker.tree(dice.below(4), dice.pick((0.15, 0.3, 0.6)))
@@ -142,14 +125,14 @@ def mixed(dice):
     return under_flags(dice, tree, 0.35, ('i', 'i', 'i', 'is', 's', 'R', 'mR', 'U', 'i-u'))
 
 
-def classes(dice):
+def classes(dice: Dice) -> Tree:
     """A tree with one class."""
     maker = Maker(dice, dice.pick(ALPHABETS), MIXED)
     tree = framed(dice, maker.bracketed(), maker.operators(0.25))
     return under_flags(dice, tree, 0.35, ('i', 'i', 'i-s', 's', 'U'))
 
 
-def looks(dice):
+def looks(dice: Dice) -> Tree:
     """A tree with many looks at words and lines."""
     maker = Maker(dice, WORDS_AND_LINES, LOOKING)
     tree = maker.tree(dice.below(3), dice.pick((0.1, 0.3)))
@@ -158,7 +141,7 @@ def looks(dice):
     return under_flags(dice, tree, 0.7, ('m', 'm', 'mR', 'mR', 'mR', 'R', 'ms', 'mRs', 'sR'))
 
 
-def both_cases(dice):
+def both_cases(dice: Dice) -> Tree:
     """A tree with one class under i that has a run over letters of both cases."""
     maker = Maker(dice, dice.pick(('ab', 'aAzZ', 'kK', '@`[{', 'é☃')), MIXED)
     tree = framed(dice, maker.both_cases(), maker.operators(0.15))
@@ -167,7 +150,7 @@ def both_cases(dice):
     return under_flags(dice, tree, 1, ('i', 'i', 'si', 'i-m'))
 
 
-def with_fault(dice):
+def with_fault(dice: Dice) -> tuple[str, str]:
     """A text of a refusal, and a pattern with one fault, which has this text."""
     text, places = dice.pick(FAULTS_OF_ITEMS)
     tree = mixed(dice)
@@ -184,8 +167,8 @@ def with_fault(dice):
     return text, pattern_of(tree)
 
 
-def generated(dice):
-    """Makes rows without end: a family, a pattern and two haystacks, and for a faulty pattern the
+def generated(dice: Dice) -> Iterator[tuple[str, str, str, str, str]]:
+    """Makes endless rows: a family, a pattern and two haystacks, and for a faulty pattern the
     text of its refusal."""
     while True:
         kind = dice.random()

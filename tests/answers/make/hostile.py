@@ -1,20 +1,21 @@
-"""The hostile patterns, whose last field says what the judge answers: the status that a program
-owes for each of a pattern's haystacks."""
+"""The hostile patterns, whose last field has the judge's answers: the status with which a
+program has to end for each of a pattern's haystacks."""
 
 import resource
+from collections.abc import Iterator
 
-from data import ANSWERS, escaped, expanded, unescaped
-from judge import answers, meaning
-from settings import outcome, question
+from .data import ANSWERS, escaped, expanded, unescaped
+from .judge import answers, meaning
+from .settings import outcome, question
 
 PATH = ANSWERS.parent / 'hostile.tsv'
-# A small pattern searches the first of these depth first. The last has so many characters that each
-# search goes by ordered sets, whatever its pattern.
+# A small pattern searches the first of these depth first. The last is so long that each
+# search uses ordered sets, whatever its pattern.
 SHORT, LONG = 30, 10_000  # bytes of haystacks
 MANY = 66_000  # characters
 
 
-def haystacks(text):
+def haystacks(text: str) -> list[str]:
     """The haystacks of a field."""
     if '«' in text or not text:
         return [expanded(text)]
@@ -22,14 +23,14 @@ def haystacks(text):
     return [text * (SHORT // size), text * (LONG // size), text * (MANY // len(text) + 1)]
 
 
-def rows():
+def rows() -> Iterator[list[str]]:
     """Each line of the list by its fields, and its titles by one."""
     for line in PATH.read_text(encoding='utf-8').splitlines():
         yield [line] if line.startswith('# ') else line.split('\t')
 
 
-def check_outcomes(judge, hostile):
-    """Ends the program unless each pattern comes to what its row says of it."""
+def check_outcomes(judge: str, hostile: list[list[str]]) -> None:
+    """Ends the program unless each pattern has the outcome that its row says."""
     asked = [question(flags, limit, '-', expanded(unescaped(pattern)))
              for _, flags, limit, pattern, *_ in hostile]
     for row, answer in zip(hostile, answers(judge, asked)):
@@ -37,8 +38,8 @@ def check_outcomes(judge, hostile):
             raise SystemExit(f'wrong among the hostile patterns: {row!r}: {answer}')
 
 
-def statuses(judge, row):
-    """The status for each haystack, or a dash where a nest limit is set, which no program takes."""
+def statuses(judge: str, row: list[str]) -> str:
+    """The status for each haystack, or a dash if a nest limit is set, which no program takes."""
     wanted, flags, limit, pattern, text, *_ = row
     if limit != '-':
         return '-'
@@ -47,13 +48,13 @@ def statuses(judge, row):
     cases = [(expanded(unescaped(pattern)), haystack) for haystack in haystacks(unescaped(text))]
     asked = [f'is-match\t{flags}\t{escaped(pattern)}\t{escaped(haystack)}\n'
              for pattern, haystack in cases]
-    told = answers(judge, asked)
-    return ' '.join(str(meaning(case, answer)[0]) for case, answer in zip(cases, told))
+    given = answers(judge, asked)
+    return ' '.join(str(meaning(case, answer)[0]) for case, answer in zip(cases, given))
 
 
-def lines(judge):
+def lines(judge: str) -> list[str]:
     """The lines of the list."""
-    # The judge calls itself for what is nested.
+    # The judge recurses on nested patterns.
     _, most = resource.getrlimit(resource.RLIMIT_STACK)
     resource.setrlimit(resource.RLIMIT_STACK, (most, most))
     found = list(rows())

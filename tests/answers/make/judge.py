@@ -1,17 +1,31 @@
-"""The judge, which says what the Rust crate answers."""
+"""The judge, which says what the Rust crate returns."""
 
 import re
 import subprocess
+from collections.abc import Sequence
 from typing import NamedTuple, Optional
 
-from data import escaped, unescaped
+from .data import escaped, unescaped
 
 # The judge's words for the calls that search from a start, and for those that ask of a pattern.
 SEARCHES = ('captures-at', 'find-at', 'is-match-at', 'shortest-at')
 PROPERTIES = ('static-len', 'names')
 
+SearchCase = tuple[str, str, str, int]  # flags, a pattern, a haystack and a start
 
-def answers(judge, questions):
+
+class Case(NamedTuple):
+    """A call, and what it is given. None stands where it takes no limit or no template."""
+
+    call: str
+    limit: Optional[int]
+    flags: str
+    pattern: str
+    haystack: str
+    template: Optional[str]
+
+
+def answers(judge: str, questions: Sequence[str]) -> list[str]:
     """The judge's answers to these lines, one for each."""
     done = subprocess.run(
         [judge, 'batch'], input=''.join(questions).encode(), stdout=subprocess.PIPE, check=True
@@ -22,16 +36,16 @@ def answers(judge, questions):
     return lines
 
 
-def ask(judge, cases):
-    """The judge's answers to pairs of pattern and haystack, as pairs: the exit status that a
-    program owes, and the text of a refusal or an empty text."""
+def ask(judge: str, cases: Sequence[tuple[str, str]]) -> list[tuple[int, str]]:
+    """The judge's answers to pairs of pattern and haystack, as pairs: the exit status with
+    which a program has to end, and the text of a refusal or an empty text."""
     questions = [
         f'is-match\t-\t{escaped(pattern)}\t{escaped(haystack)}\n' for pattern, haystack in cases
     ]
     return [meaning(case, answer) for case, answer in zip(cases, answers(judge, questions))]
 
 
-def meaning(case, answer):
+def meaning(case: tuple[str, str], answer: str) -> tuple[int, str]:
     if answer == 'ok:true':
         return 0, ''
     if answer == 'ok:false':
@@ -52,41 +66,40 @@ class Found(NamedTuple):
     names: str
 
     @property
-    def end(self):
+    def end(self) -> Optional[int]:
         """Where the preferred match ends."""
         if self.groups is None:
             return None
         return int(self.groups.partition(' ')[0].partition('..')[2])
 
 
-def found(judge, cases):
-    """What the judge finds in these cases, each of which is flags, a pattern, a haystack and a
-    start."""
-    questions = []
+def found(judge: str, cases: Sequence[SearchCase]) -> list[Found]:
+    """What the judge finds in these cases."""
+    questions: list[str] = []
     for flags, pattern, text, start in cases:
         rest = f'{flags}\t{escaped(pattern)}\t{escaped(text)}\n'
         questions += [f'{call}:{start}\t{rest}' for call in SEARCHES]
         questions += [f'{call}\t{rest}' for call in PROPERTIES]
-    told = answers(judge, questions)
+    given = answers(judge, questions)
     count = len(SEARCHES) + len(PROPERTIES)
-    return [meant(case, told[count * at:count * (at + 1)]) for at, case in enumerate(cases)]
+    return [meant(case, given[count * at:count * (at + 1)]) for at, case in enumerate(cases)]
 
 
-def meant(case, told):
+def meant(case: SearchCase, given: list[str]) -> Found:
     """What these answers mean. All searches of the judge have to agree."""
-    if not all(answer.startswith('ok:') for answer in told):
-        raise SystemExit(f'unexpected answers to {case!r}: {told}')
-    groups, whole, is_match, shortest, static, names = (answer[3:] for answer in told)
+    if not all(answer.startswith('ok:') for answer in given):
+        raise SystemExit(f'unexpected answers to {case!r}: {given}')
+    groups, whole, is_match, shortest, static, names = (answer[3:] for answer in given)
     agree = groups.partition(' ')[0] == whole and is_match == ('true' if groups else 'false')
     if not agree or bool(shortest) != bool(groups):
-        raise SystemExit(f'answers to {case!r} that disagree: {told}')
-    number = re.fullmatch(r'None|Some\((\d+)\)', static)[1]
+        raise SystemExit(f'answers to {case!r} that disagree: {given}')
+    number = static.removeprefix('Some(').removesuffix(')')
     return Found(groups or None, int(shortest) if shortest else None,
-                 int(number) if number else None, unescaped(names))
+                 None if number == 'None' else int(number), unescaped(names))
 
 
-def told(judge, cases):
-    """What the judge tells of these cases of the list of lists."""
+def list_answers(judge: str, cases: Sequence[Case]) -> list[str]:
+    """The judge's answers to these cases of the list of lists."""
     words = {'captures_iter': 'captures'}
     texts = []
     for case, answer in zip(cases, answers(judge, [
@@ -100,8 +113,8 @@ def told(judge, cases):
     return texts
 
 
-def check_spans(judge, listed):
-    """Ends the program unless the judge finds just the matches whose groups it told."""
+def check_spans(judge: str, listed: list[tuple[Case, str]]) -> None:
+    """Ends the program unless the judge finds exactly the matches whose groups it returned."""
     found_there = answers(judge, [question('find', case) for case, _ in listed])
     for (case, groups), spans in zip(listed, found_there):
         whole = [line.partition(' ')[0] for line in groups.splitlines()]
@@ -109,7 +122,7 @@ def check_spans(judge, listed):
             raise SystemExit(f'answers to {case!r} that disagree: {groups!r} and {spans}')
 
 
-def question(word, case):
+def question(word: str, case: Case) -> str:
     """A line that asks the judge by this word for such a case."""
     head = word if case.limit is None else f'{word}:{case.limit}'
     rest = (case.flags, case.pattern, case.haystack, case.template or '')

@@ -1,9 +1,11 @@
 """Trees of generated patterns with flags and classes, and their leaves."""
 
+import re
 import string
-from typing import NamedTuple
+from collections.abc import Sequence
+from typing import NamedTuple, Union
 
-from dice import OPERATORS
+from .dice import OPERATORS, ROUNDS, Dice
 
 # A generated pattern has its characters from one of these.
 ALPHABETS = (
@@ -60,16 +62,12 @@ LOOKS = (
 )
 
 
-# A generated tree is a list of branches. A branch is a list of pairs: a leaf, a group or a
-# directive, and the list of the operators after it.
-
-
 class Leaf(NamedTuple):
     """An item without branches: how it is written, some texts that it matches if no flag is set,
     and characters on which it may make a difference."""
 
     text: str
-    samples: tuple
+    samples: tuple[str, ...]
     near: str = ''
 
 
@@ -77,7 +75,7 @@ class Group(NamedTuple):
     """A group, with what it begins with."""
 
     head: str
-    tree: list
+    tree: 'Tree'
 
 
 class Directive(NamedTuple):
@@ -86,7 +84,14 @@ class Directive(NamedTuple):
     text: str
 
 
-def character_at(number):
+# A generated tree is a list of branches. A branch is a list of pairs: an item and the operators
+# after it.
+Item = Union[Leaf, Group, Directive]
+Branch = list[tuple[Item, list[str]]]
+Tree = list[Branch]
+
+
+def character_at(number: int) -> str:
     """The character with this number, or near it. Just above U+D7FF this is U+E000, and just below
     U+E000 it is U+D7FF."""
     if 0xD800 <= number <= 0xDFFF:
@@ -94,7 +99,7 @@ def character_at(number):
     return chr(min(max(number, 0), 0x10FFFF))
 
 
-def hexadecimal(dice, character):
+def hexadecimal(dice: Dice, character: str) -> str:
     """The character by its number, in one of the forms that can hold it."""
     number = ord(character)
     digits = f'{number:x}' if dice.chance(0.5) else f'{number:X}'
@@ -106,7 +111,7 @@ def hexadecimal(dice, character):
     return dice.pick(forms)
 
 
-def written(dice, character, special):
+def written(dice: Dice, character: str, special: set[str]) -> str:
     """The character as it may stand in a pattern, where these are special."""
     if character == '\0' or dice.chance(0.12):
         return hexadecimal(dice, character)
@@ -118,7 +123,7 @@ def written(dice, character, special):
     return character
 
 
-def some_flags(dice):
+def some_flags(dice: Dice) -> str:
     """Flags as they stand in a group's head."""
     letters = list('imsRUu')
     chosen = [letters.pop(dice.below(len(letters))) for _ in range(dice.pick((1, 1, 2, 3)))]
@@ -130,12 +135,12 @@ def some_flags(dice):
 class Maker:
     """Makes trees whose characters come from some letters, and whose leaves are of some kinds."""
 
-    def __init__(self, dice, letters, kinds):
+    def __init__(self, dice: Dice, letters: str, kinds: Sequence[str]) -> None:
         self.dice = dice
         self.letters = letters
         self.kinds = kinds
 
-    def tree(self, depth, stacking):
+    def tree(self, depth: int, stacking: float) -> Tree:
         """A tree whose groups are nested at most `depth` deep. After an item, and after each
         operator, one more operator stands with the probability `stacking`."""
         branches = [self.branch(depth, stacking)]
@@ -143,9 +148,9 @@ class Maker:
             branches.append(self.branch(depth, stacking))
         return branches
 
-    def branch(self, depth, stacking):
+    def branch(self, depth: int, stacking: float) -> Branch:
         dice = self.dice
-        branch = []
+        branch: Branch = []
         for _ in range(dice.pick((0, 1, 1, 2, 2, 3))):
             if branch and isinstance(branch[-1][0], Directive) and dice.chance(0.5):
                 break
@@ -160,49 +165,50 @@ class Maker:
                 branch.append((self.leaf(), self.operators(stacking)))
         return branch
 
-    def has_item(self, branch):
+    def has_item(self, branch: Branch) -> bool:
         return any(not isinstance(item, Directive) for item, _ in branch)
 
-    def operators(self, stacking):
-        operators = []
+    def operators(self, stacking: float) -> list[str]:
+        operators: list[str] = []
         while len(operators) < 4 and self.dice.chance(stacking):
             operators.append(self.dice.pick(OPERATORS))
         return operators
 
-    def leaf(self):
-        return getattr(self, self.dice.pick(self.kinds))()
+    def leaf(self) -> Leaf:
+        made: Leaf = getattr(self, self.dice.pick(self.kinds))()
+        return made
 
-    def character(self):
+    def character(self) -> Leaf:
         character = self.dice.pick(self.letters)
         text = written(self.dice, character, SPECIAL)
         return Leaf(text, (character,), character + character.swapcase())
 
-    def letter_set(self):
+    def letter_set(self) -> Leaf:
         letter = self.dice.pick(tuple(LETTER_SETS))
         inside, outside = LETTER_SETS[letter]
         return Leaf(f'\\{letter}', tuple(inside), inside + outside)
 
-    def dot(self):
+    def dot(self) -> Leaf:
         return Leaf('.', tuple('a\n\r💩'), '\n\r')
 
-    def look(self):
+    def look(self) -> Leaf:
         return Leaf(self.dice.pick(LOOKS), ('',), '\n\ra- ')
 
-    def line_look(self):
+    def line_look(self) -> Leaf:
         return Leaf(self.dice.pick('^$'), ('',), '\n\ra')
 
-    def look_between(self):
+    def look_between(self) -> Leaf:
         """A look between two characters."""
         look = self.dice.pick((self.look, self.line_look, self.line_look))()
         front, back = self.character(), self.character()
         text = front.text + look.text + back.text
         return Leaf(text, (front.samples[0] + back.samples[0],), '\n\ra-')
 
-    def line_end(self):
+    def line_end(self) -> Leaf:
         text = self.dice.pick(LINE_ENDS)
         return Leaf(''.join(NAMED[character] for character in text), (text,), '\n\r')
 
-    def bracketed(self):
+    def bracketed(self) -> Leaf:
         """A class."""
         dice = self.dice
         items = [self.class_item() for _ in range(dice.pick((1, 1, 2, 2, 3, 4)))]
@@ -215,7 +221,7 @@ class Maker:
         text = '[' + caret + opening + ''.join(item[0] for item in items) + closing + ']'
         return Leaf(text, tuple(samples), inside + outside)
 
-    def class_item(self):
+    def class_item(self) -> tuple[str, str, str]:
         """An item of a class as it is written, some characters in it, and some others."""
         dice = self.dice
         kind = dice.random()
@@ -234,14 +240,14 @@ class Maker:
             return f'[:^{name}:]', outside, inside
         return f'[:{name}:]', inside, outside
 
-    def ends(self):
+    def ends(self) -> Sequence[str]:
         """The ends of a range, in any order."""
         if self.dice.chance(0.5):
             return self.dice.pick(RANGES)
         first = self.dice.pick(self.letters)
         return first, character_at(ord(first) + self.dice.below(6))
 
-    def class_range(self, first, last):
+    def class_range(self, first: str, last: str) -> tuple[str, str, str]:
         """A range, or one character where both ends are the same."""
         text = written(self.dice, first, SPECIAL_IN_CLASS)
         if first != last or self.dice.chance(0.05):
@@ -250,7 +256,7 @@ class Maker:
         outside = character_at(ord(first) - 1) + character_at(ord(last) + 1)
         return text, first + middle + last, outside
 
-    def both_cases(self):
+    def both_cases(self) -> Leaf:
         """A class with a run of characters that has letters of both cases."""
         dice = self.dice
         first, last = dice.pick('AMQWXYYZZZ@0!'), dice.pick('aaabbcmyz{é')
@@ -268,6 +274,33 @@ class Maker:
             text += self.class_item()[0]
         caret = '^' if dice.chance(0.3) else ''
         return Leaf(f'[{caret}{text}]', tuple(swapped), string.ascii_letters + '@[`{')
+
+
+def sample(dice: Dice, tree: Tree) -> str:
+    """A text that the tree often matches."""
+    branch = dice.pick(tree)
+    return ''.join(sample_piece(dice, item, operators) for item, operators in branch)
+
+
+def sample_piece(dice: Dice, item: Item, operators: list[str]) -> str:
+    """A text of an item with these operators."""
+    if isinstance(item, Directive):
+        return ''
+    if operators:
+        times = rounds(dice, operators[-1])
+        return ''.join(sample_piece(dice, item, operators[:-1]) for _ in range(times))
+    if isinstance(item, Group):
+        return sample(dice, item.tree)
+    return dice.pick(item.samples or ('',))
+
+
+def rounds(dice: Dice, operator: str) -> int:
+    """How often a sample repeats the operator's item, sometimes once too often or too rarely."""
+    if operator[0] != '{':
+        return dice.pick(ROUNDS[operator[0]])
+    numbers = [int(number) for number in re.findall(r'\d+', operator)]
+    least, most = numbers[0], numbers[-1]
+    return max(0, dice.pick((least, least, most, most, (least + most) // 2, most + 1, least - 1)))
 
 
 MIXED = ('character',) * 5 + ('bracketed',) * 2 + ('look', 'line_look', 'letter_set', 'dot')

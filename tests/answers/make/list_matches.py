@@ -1,14 +1,16 @@
-"""The list of all matches of several patterns, one after another. Each is what the judge answers to
-a search for several patterns from where the last one ended, as pattern_lists.py asks it; an empty
-match that ends where the last one did is passed over, and the search begins again a character on."""
+"""The list of all matches of several patterns, one after another. Each is what the judge finds for
+several patterns from where the last match ended, as pattern_lists.py asks it. An empty match that
+ends where the last one did is passed over, and the search begins again one character later."""
 
 import itertools
+from collections.abc import Sequence
+from typing import Optional
 
-from data import escaped, rows_of
-from dice import Dice
-from pattern_lists import answers_of, first_of, generated, span
+from .data import escaped, rows_of
+from .dice import Dice
+from .pattern_lists import answers_of, first_of, generated, span
 
-SEED = 8  # another than those of the other lists and of the sizes
+SEED = 8  # different from those of the other lists and of the sizes
 WORD = 'list matches'  # the first field of each line
 CASES = 8_000  # how many generated cases the judge is asked about
 
@@ -20,37 +22,42 @@ QUOTAS = {
     ('more patterns', False): 240, ('more patterns', True): 180,
 }
 
+Case = tuple[tuple[str, ...], str]  # the patterns of a list and a haystack
+Match = tuple[int, str]  # the number of a pattern and the spans of its groups
 
-def behind(text, end):
+
+def next_offset(text: str, end: int) -> Optional[int]:
     """The offset after the character that begins at this one, or None at the text's end."""
     rest = text.encode()[end:].decode()
     return end + len(rest[0].encode()) if rest else None
 
 
-def all_matches(judge, cases):
-    """For each case, of patterns and a text, its matches: the number of the pattern and the groups."""
-    matches = [[] for _ in cases]
-    asked = {index: (0, None) for index in range(len(cases))}  # where to search, and the last end
+def all_matches(judge: str, cases: Sequence[Case]) -> list[list[Match]]:
+    """The matches of each case."""
+    matches: list[list[Match]] = [[] for _ in cases]
+    # Where to search in each case, and where its last match ended.
+    asked: dict[int, tuple[int, Optional[int]]] = {index: (0, None) for index in range(len(cases))}
     while asked:
         indices = sorted(asked)
-        founds = answers_of(judge, [(*cases[index], asked[index][0]) for index in indices])
+        founds = answers_of(judge, [(cases[index][0], cases[index][1], asked[index][0])
+                                    for index in indices])
         asked, before = {}, asked
         for index, found in zip(indices, founds):
-            number, one = first_of(found)
-            if number is None:
+            answer = first_of(found)
+            if answer is None:
                 continue
-            start, end = span(one)
+            start, end = span(answer.groups)
             if start == end == before[index][1]:
-                at = behind(cases[index][1], end)
+                at = next_offset(cases[index][1], end)
                 if at is not None:
                     asked[index] = at, None
                 continue
-            matches[index].append((number, one.groups))
+            matches[index].append((answer.number, answer.groups))
             asked[index] = end, end
     return matches
 
 
-def shape_of(matches):
+def shape_of(matches: list[Match]) -> tuple[str, bool]:
     """The shape of the matches, one of QUOTAS."""
     numbers = {number for number, _ in matches}
     spans = [groups.partition(' ')[0].split('..') for _, groups in matches]
@@ -58,14 +65,14 @@ def shape_of(matches):
     return word, any(start == end for start, end in spans)
 
 
-def line_of(case, matches):
-    """A case and its answer as a line of the list: the matches stand in lines of their own."""
+def line_of(case: Case, matches: list[Match]) -> str:
+    """A case and its answer as a line of the list: each match has a line of its own."""
     patterns, text = case
-    told = ''.join(f'{number}: {groups}\n' for number, groups in matches)
-    return '\t'.join([WORD, escaped(text), escaped(told), *map(escaped, patterns)]) + '\n'
+    listed = ''.join(f'{number}: {groups}\n' for number, groups in matches)
+    return '\t'.join([WORD, escaped(text), escaped(listed), *map(escaped, patterns)]) + '\n'
 
 
-def lines(judge):
+def lines(judge: str) -> list[str]:
     """The lines of the list: those of the cases picked by hand, and then of generated ones."""
     picked = [(tuple(patterns), text)
               for name in ('pattern-lists', 'list-matches') for text, *patterns in rows_of(name)]

@@ -1,22 +1,24 @@
-"""The list of calls that answer by all matches: with the groups of each, with the pieces between
+"""The list of calls over all matches: with the groups of each, with the pieces between
 them, and with replaced texts; and of templates, expanded by the groups of the first match."""
 
 import itertools
 import re
-from typing import NamedTuple, Optional
+from collections.abc import Iterable, Iterator, Mapping, Sequence
+from typing import Optional
 
-from data import escaped, rows_of
-from dice import Dice
-from judge import told
-from searches import drawn, is_fit
-from whole import sample
+from .data import escaped, rows_of
+from .dice import Dice
+from .judge import Case, list_answers
+from .leaves import Tree, sample
+from .searches import SearchMaker, drawn, is_fit
 
-SEED = 4  # another than those of the other lists
+SEED = 4  # different from those of the other lists
 
 PATTERNS = 14_000  # how many generated patterns the judge is asked about
 TEXT = 60  # characters of a haystack
-LIMITS = {'splitn': range(5), 'replacen': range(4)}  # of generated cases
-PICKED_LIMITS = {'splitn': (*range(5), 2**64 - 1), 'replacen': (*range(4), 9)}
+Limits = Mapping[str, Sequence[int]]  # of the calls that take one
+LIMITS: Limits = {'splitn': range(5), 'replacen': range(4)}  # of generated cases
+PICKED_LIMITS: Limits = {'splitn': (*range(5), 2**64 - 1), 'replacen': (*range(4), 9)}
 
 # How many cases of generated patterns are kept: of each call where there is no match, one match,
 # more, where all are empty, and where empty ones stand beside others. `splitn, cut` and `replacen,
@@ -37,21 +39,10 @@ PIECES = ('$$', '$', '${', '${}', '}', '$$$', '$x', '${x}', '${ 1}', '${+1}', '$
           '${☃}', '$-', '\n', ' ', '_', '1', 'é', '💩')
 
 
-class Case(NamedTuple):
-    """A call, and what it is given. None stands where it takes no limit or no template."""
-
-    call: str
-    limit: Optional[int]
-    flags: str
-    pattern: str
-    haystack: str
-    template: Optional[str]
-
-
-def texts(dice, maker, tree):
+def texts(dice: Dice, maker: SearchMaker, tree: Tree) -> tuple[str, str]:
     """Two haystacks: one of several texts that the tree often matches, mostly with something
     between them, and one of random characters."""
-    def some(counts):
+    def some(counts: Sequence[int]) -> str:
         return ''.join(dice.pick(maker.letters) for _ in range(dice.pick(counts)))
 
     between = dice.pick(((0,), (0, 1), (0, 1, 2), (1, 2, 3)))
@@ -61,7 +52,7 @@ def texts(dice, maker, tree):
     return near[:TEXT], some((0, 1, 2, 3, 4, 6, 8, 12))
 
 
-def template(dice, letters, pattern):
+def template(dice: Dice, letters: str, pattern: str) -> str:
     """A template, in most cases with references to groups of the pattern."""
     names = re.findall(r'\(\?P?<([^>]+)>', pattern) or ['n']
     pieces = []
@@ -80,17 +71,19 @@ def template(dice, letters, pattern):
     return ''.join(pieces)
 
 
-def asked(flags, pattern, haystack, limits, replacement):
+def asked(flags: str, pattern: str, haystack: str, limits: Limits, replacement: str) -> list[Case]:
     """The calls on a haystack, with these limits and this replacement."""
-    calls = [('captures_iter', None, None), ('split', None, None)]
+    calls: list[tuple[str, Optional[int], Optional[str]]] = [
+        ('captures_iter', None, None), ('split', None, None),
+    ]
     for call, some in limits.items():
         text = replacement if call == 'replacen' else None
         calls += [(call, limit, text) for limit in some]
     return [Case(call, limit, flags, pattern, haystack, text) for call, limit, text in calls]
 
 
-def generated(dice):
-    """Makes lists of cases without end, each of a pattern, flags and a haystack."""
+def generated(dice: Dice) -> Iterator[list[Case]]:
+    """Makes endless lists of cases, each of a pattern, flags and a haystack."""
     while True:
         _, flags, pattern, maker, tree = drawn(dice)
         for haystack in texts(dice, maker, tree):
@@ -100,8 +93,8 @@ def generated(dice):
                 yield asked(flags, pattern, haystack, limits, replacement)
 
 
-def shape_of(matches):
-    """The shape of the matches that `captures_iter` answers, one of SHAPES."""
+def shape_of(matches: str) -> str:
+    """The shape of the matches that `captures_iter` gives, one of SHAPES."""
     spans = [line.partition(' ')[0].split('..') for line in matches.splitlines()]
     empty = [start == end for start, end in spans]
     if not spans:
@@ -111,25 +104,25 @@ def shape_of(matches):
     return 'one' if len(spans) == 1 else 'more'
 
 
-def kind_of(case, matches):
+def kind_of(case: Case, matches: str) -> tuple[str, str]:
     """The kind of a case, by the matches of its pattern in its haystack."""
     count = len(matches.splitlines())
     # The limit of `splitn` is one on pieces, which are one more than the matches, and that of
     # `replacen` is none where it is 0.
     cut = {'splitn': case.limit is not None and case.limit <= count,
-           'replacen': bool(case.limit) and case.limit < count}
+           'replacen': 0 < (case.limit or 0) < count}
     return case.call + ', cut' * cut.get(case.call, False), shape_of(matches)
 
 
-def kept_lines(judge, rows, picked):
+def kept_lines(judge: str, rows: Iterable[list[Case]], picked: set[Case]) -> list[str]:
     """The lines of the first cases of each kind, as many as its quota says, without those in
     `picked`."""
     left = {(kind, shape): number for kind, numbers in QUOTAS.items()
             for shape, number in zip(SHAPES, numbers)}
     cases = [case for row in rows for case in row]
     lines = []
-    matches = None
-    for case, answer in zip(cases, told(judge, cases)):
+    matches = ''
+    for case, answer in zip(cases, list_answers(judge, cases)):
         if case.call == 'captures_iter':
             matches = answer
         kind = kind_of(case, matches)
@@ -142,7 +135,7 @@ def kept_lines(judge, rows, picked):
     return lines
 
 
-def picked_cases():
+def picked_cases() -> list[Case]:
     """The cases picked by hand: the calls on each haystack, with all limits and the template, which
     is expanded too."""
     return list(dict.fromkeys(
@@ -153,22 +146,22 @@ def picked_cases():
     ))
 
 
-def line_of(case, answer):
+def line_of(case: Case, answer: str) -> str:
     """A case and its answer as a line of the list."""
     fields = ['-' if field is None else escaped(str(field)) for field in (*case, answer)]
     return '\t'.join(fields) + '\n'
 
 
-def lines(judge):
+def lines(judge: str) -> list[str]:
     """The lines of the list."""
     picked = picked_cases()
-    made = [line_of(case, answer) for case, answer in zip(picked, told(judge, picked))]
+    made = [line_of(case, answer) for case, answer in zip(picked, list_answers(judge, picked))]
     rows = itertools.islice(generated(Dice(SEED)), 2 * PATTERNS)
     return made + kept_lines(judge, rows, set(picked))
 
 
-def fresh(judge, seed, count):
-    """So many lines of generated cases of another seed, without any choice among their kinds."""
+def fresh(judge: str, seed: int, count: int) -> list[str]:
+    """As many lines of generated cases from another seed, without any choice among their kinds."""
     rows = itertools.chain.from_iterable(generated(Dice(seed)))
     cases = list(itertools.islice(dict.fromkeys(itertools.islice(rows, 2 * count)), count))
-    return [line_of(case, answer) for case, answer in zip(cases, told(judge, cases))]
+    return [line_of(case, answer) for case, answer in zip(cases, list_answers(judge, cases))]

@@ -1,31 +1,30 @@
 """The list of long haystacks, many groups and many matches. Its lines are those of searches and of
 lists, with runs of one character written by their length."""
 
-import lists
-import searches
-from data import expanded, packed, rows_of
-from judge import found, told
+from . import lists, searches
+from .data import expanded, packed, rows_of
+from .judge import Case, found, list_answers
 
 LIMITS = {'splitn': (2, 5, 9), 'replacen': (0, 4, 9)}
-BEHIND = 4097  # which of its characters a haystack is searched from besides its first
+FAR = 4097  # which of its characters a haystack is searched from besides its first
 NEAR = (1, 9)  # and how many characters before its end
 
 
-def picked():
+def picked() -> list[tuple[str, str, str, str]]:
     """Flags, a pattern, a template and a haystack of each row."""
     return [(flags, pattern, template, expanded(haystack))
             for flags, pattern, template, *haystacks in rows_of('long') for haystack in haystacks]
 
 
-def starts(haystack):
+def starts(haystack: str) -> list[int]:
     """Where a haystack is searched from: its start, near its end, and far from both."""
     offsets = searches.bounds(haystack)
     last = len(offsets) - 1
-    places = [min(BEHIND, last), *(last - back for back in NEAR if back <= last)]
+    places = [min(FAR, last), *(last - back for back in NEAR if back <= last)]
     return sorted({0, *(offsets[place] for place in places)})
 
 
-def lines(judge):
+def lines(judge: str) -> list[str]:
     """The lines of the list."""
     rows = picked()
     asked = [(flags, pattern, haystack, start) for flags, pattern, _, haystack in rows
@@ -33,6 +32,6 @@ def lines(judge):
     made = [searches.line_of(case, answer) for case, answer in zip(asked, found(judge, asked))]
     cases = [case for flags, pattern, template, haystack in rows for case in (
         *lists.asked(flags, pattern, haystack, LIMITS, template),
-        lists.Case('expand', None, flags, pattern, haystack, template))]
-    made += [lists.line_of(case, answer) for case, answer in zip(cases, told(judge, cases))]
+        Case('expand', None, flags, pattern, haystack, template))]
+    made += [lists.line_of(case, answer) for case, answer in zip(cases, list_answers(judge, cases))]
     return [packed(line) for line in made]

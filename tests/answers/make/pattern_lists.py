@@ -1,19 +1,22 @@
 """The list of searches for several patterns at once: which of them is found, where, and with which
 groups. The judge searches for each pattern by itself; of what it finds the least start is taken,
-and where several patterns have it the lowest of these."""
+and if several patterns have it, the lowest of these."""
 
 import itertools
+from collections.abc import Iterator, Sequence
 from typing import NamedTuple, Optional
 
-from data import escaped, rows_of
-from dice import Dice
-from flags import WORDS_AND_LINES
-from judge import found
-from leaves import ALPHABETS, SPECIAL, Leaf
-from searches import FAMILIES, FEW, SearchMaker, bounds, is_fit, starts
-from whole import Writer, sample
+from .data import escaped, rows_of
+from .dice import Dice
+from .flags import WORDS_AND_LINES
+from .judge import Found, found
+from .leaves import ALPHABETS, SPECIAL, Leaf, Tree, sample
+from .searches import FAMILIES, FEW, SearchMaker, bounds, is_fit, starts
+from .whole import Writer
 
-SEED = 6  # another than those of the other lists and of the sizes
+Case = tuple[tuple[str, ...], str, int]  # the patterns of a list, a haystack and a start
+
+SEED = 6  # different from those of the other lists and of the sizes
 WORD = 'list'  # the first field of each line
 TRIAL = 'list trial'  # and of a line without an answer
 
@@ -43,27 +46,28 @@ class Part(NamedTuple):
     """A pattern of a list, and the tree of texts that it often matches."""
 
     pattern: str
-    tree: list
+    tree: Tree
 
 
 class Answer(NamedTuple):
-    """The number of the pattern that is found, and what the judge finds by it."""
+    """The number of the pattern that is found, the spans of its groups and their names."""
 
-    number: Optional[int]
-    found: object
+    number: int
+    groups: str
+    names: str
 
 
-def leaf(pattern, text):
+def leaf(pattern: str, text: str) -> Part:
     """A pattern that matches this text."""
     return Part(pattern, [[(Leaf(pattern, (text,)), [])]])
 
 
-def literal(text):
+def literal(text: str) -> Part:
     """The pattern that matches just this text."""
     return leaf(''.join('\\' + sign if sign in SPECIAL else sign for sign in text), text)
 
 
-def fresh(dice, letters):
+def fresh(dice: Dice, letters: str) -> Part:
     """A pattern of one of the families of searches, of these letters, under flags of its own."""
     family = FAMILIES[dice.pick(tuple(FAMILIES))]
     maker = SearchMaker(dice, family)
@@ -75,7 +79,7 @@ def fresh(dice, letters):
     return Part(f'(?{flags}){pattern}' if flags else pattern, tree)
 
 
-def kin(dice, parts, letters):
+def kin(dice: Dice, parts: list[Part], letters: str) -> Part:
     """A pattern that competes with another one of the list for the same texts."""
     other = dice.pick(parts)
     kind = dice.random()
@@ -93,15 +97,15 @@ def kin(dice, parts, letters):
     return leaf(dice.pick(EMPTY if kind < 0.86 else WIDE), '')
 
 
-def is_long(dice, part):
+def is_long(dice: Dice, part: Part) -> bool:
     """Whether the texts that the pattern often matches are hardly ever empty."""
     return all(sample(dice, part.tree) for _ in range(4))
 
 
-def parts_of_list(dice, letters):
+def parts_of_list(dice: Dice, letters: str) -> list[Part]:
     """The patterns of a list. In most lists few of them match the empty text, since such a pattern
     matches at each start."""
-    parts = []
+    parts: list[Part] = []
     count = dice.pick(SIZES)
     relation = dice.pick((0.2, 0.5, 0.8))
     empty = dice.pick((0, 0, 0.1, 1))
@@ -114,12 +118,12 @@ def parts_of_list(dice, letters):
     return [parts.pop(dice.below(len(parts))) for _ in range(count)]
 
 
-def haystacks(dice, parts, letters):
+def haystacks(dice: Dice, parts: list[Part], letters: str) -> tuple[str, str]:
     """Two texts: one of several texts that some of the patterns often match, mostly with something
     round them, and one of random characters."""
     signs = letters + dice.pick(('', '', '~', 'zé', '.~~~'))
 
-    def some(counts):
+    def some(counts: Sequence[int]) -> str:
         return ''.join(dice.pick(signs) for _ in range(dice.pick(counts)))
 
     between = dice.pick(((0,), (0, 1), (0, 1, 2), (1, 2, 3)))
@@ -129,8 +133,8 @@ def haystacks(dice, parts, letters):
     return near[:TEXT], some((0, 1, 2, 4, 6, 8, 12))
 
 
-def generated(dice):
-    """Makes cases without end: a list's patterns, a haystack and a start."""
+def generated(dice: Dice) -> Iterator[Case]:
+    """Makes endless cases: a list's patterns, a haystack and a start."""
     while True:
         letters = dice.pick(dice.pick((FEW, FEW, ALPHABETS, (WORDS_AND_LINES,))))
         parts = parts_of_list(dice, letters)
@@ -139,52 +143,53 @@ def generated(dice):
                 yield tuple(part.pattern for part in parts), text, start
 
 
-def first_of(founds):
-    """The answer, of what the judge finds by each pattern."""
-    starting = [(span(one)[0], number) for number, one in enumerate(founds) if one.groups]
-    if not starting:
-        return Answer(None, None)
-    _, number = min(starting)
-    return Answer(number, founds[number])
+def first_of(founds: list[Found]) -> Optional[Answer]:
+    """The answer, of what the judge finds by each pattern, or None if no pattern matches."""
+    answers = [Answer(number, one.groups, one.names)
+               for number, one in enumerate(founds) if one.groups]
+    if not answers:
+        return None
+    return min(answers, key=lambda it: (span(it.groups)[0], it.number))
 
 
-def span(one):
-    """The span of what is found."""
-    start, _, end = one.groups.partition(' ')[0].partition('..')
+def span(groups: str) -> tuple[int, int]:
+    """The span of the whole match, which stands first among those of its groups."""
+    start, _, end = groups.partition(' ')[0].partition('..')
     return int(start), int(end)
 
 
-def answers_of(judge, cases):
+def answers_of(judge: str, cases: Sequence[Case]) -> list[list[Found]]:
     """For each case what the judge finds by each of its patterns."""
-    told = iter(found(judge, [('-', pattern, text, start)
+    found_by_each = iter(found(judge, [('-', pattern, text, start)
                               for patterns, text, start in cases for pattern in patterns]))
-    return [list(itertools.islice(told, len(patterns))) for patterns, _, _ in cases]
+    return [list(itertools.islice(found_by_each, len(patterns))) for patterns, _, _ in cases]
 
 
-def shape_of(case, founds):
+def shape_of(case: Case, founds: list[Found]) -> str:
     """The shape of a case, one of QUOTAS."""
     _, text, start = case
     if start > len(text.encode()):
         return 'above'
-    number, one = first_of(founds)
-    if number is None:
+    answer = first_of(founds)
+    if answer is None:
         return 'none'
-    spans = {other: span(told) for other, told in enumerate(founds) if told.groups}
+    number = answer.number
+    spans = {other: span(one.groups) for other, one in enumerate(founds) if one.groups}
     ending = min(spans, key=lambda other: (spans[other][1], other))
-    is_shared = any(other != number and at[0] == span(one)[0] for other, at in spans.items())
+    is_shared = any(other != number and at[0] == spans[number][0] for other, at in spans.items())
     if ending != number:
-        is_same = spans[ending][0] == span(one)[0]
+        is_same = spans[ending][0] == spans[number][0]
         return 'ends first, same start' if is_same else 'ends first, later start'
     if is_shared:
         return 'same start'
     return 'later pattern' if number > min(spans) else 'other match'
 
 
-def kept_lines(judge, cases, picked):
+def kept_lines(judge: str, cases: list[Case], picked: set[Case]) -> list[str]:
     """The lines of the first cases of each shape, as many as its quota says, without those that
     were picked by hand."""
-    left = {(shape, is_behind): count for shape, counts in QUOTAS.items()
-            for is_behind, count in zip((False, True), counts)}
+    left = {(shape, is_later): count for shape, counts in QUOTAS.items()
+            for is_later, count in zip((False, True), counts)}
     lines = []
     for case, founds in zip(cases, answers_of(judge, cases)):
         kind = shape_of(case, founds), case[2] > 0
@@ -197,25 +202,23 @@ def kept_lines(judge, cases, picked):
     return lines
 
 
-def picked_cases():
+def picked_cases() -> list[Case]:
     """The cases picked by hand: each haystack at each offset of a character, at its length, and at
-    the next number. In a row the patterns stand behind the haystack."""
+    the next number. In a row the patterns come after the haystack."""
     return [(tuple(patterns), text, start) for text, *patterns in rows_of('pattern-lists')
             for start in (*bounds(text), len(text.encode()) + 1)]
 
 
-def line_of(case, answer):
+def line_of(case: Case, answer: Optional[Answer]) -> str:
     """A case and its answer as a line of the list."""
     patterns, text, start = case
-    fields = [WORD, escaped(text), str(start)]
-    if answer.number is None:
-        fields += ['-', '-', '-']
-    else:
-        fields += [str(answer.number), answer.found.groups, escaped(answer.found.names)]
-    return '\t'.join([*fields, *map(escaped, patterns)]) + '\n'
+    fields = ['-', '-', '-']
+    if answer is not None:
+        fields = [str(answer.number), answer.groups, escaped(answer.names)]
+    return '\t'.join([WORD, escaped(text), str(start), *fields, *map(escaped, patterns)]) + '\n'
 
 
-def lines(judge):
+def lines(judge: str) -> list[str]:
     """The lines of the list."""
     picked = picked_cases()
     made = [line_of(case, first_of(founds))
@@ -224,8 +227,8 @@ def lines(judge):
     return made + kept_lines(judge, cases, set(picked))
 
 
-def fresh_lines(judge, seed, count):
-    """So many lines of generated cases of another seed, without any choice among their shapes."""
+def fresh_lines(judge: str, seed: int, count: int) -> list[str]:
+    """As many lines of generated cases from another seed, without any choice among their shapes."""
     cases = list(dict.fromkeys(itertools.islice(generated(Dice(seed)), 2 * count)))[:count]
     return [line_of(case, first_of(founds))
             for case, founds in zip(cases, answers_of(judge, cases))]

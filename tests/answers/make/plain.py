@@ -1,8 +1,10 @@
 """Patterns of the plain grammar: characters, branches, plain groups and three operators."""
 
 import re
+from collections.abc import Iterator
+from typing import Union
 
-from dice import OPERATORS, ROUNDS, edited_often, noise
+from .dice import OPERATORS, ROUNDS, Dice, edited_often, noise
 
 # What begins another rule than those of the small grammar. A NUL can't stand in an argument.
 OUTSIDE = re.compile(r'[\\.^$\[{\0]|\((?!\?:)')
@@ -21,9 +23,12 @@ TOKENS = ('(?:', '(?:', ')', ')', '|', '|', '?', '*', '+', '??', '*?', 'a', 'b',
 
 # A generated tree is a list of branches. A branch is a list of pairs: an item and the list of the
 # operators after it. An item is a character or, for a group, again a tree.
+Item = Union[str, 'Tree']
+Branch = list[tuple[Item, list[str]]]
+Tree = list[Branch]
 
 
-def make_tree(dice, letters, depth, stacking):
+def make_tree(dice: Dice, letters: str, depth: int, stacking: float) -> Tree:
     """A tree whose groups are nested at most `depth` deep. After an item, and after each operator,
     one more operator stands with the probability `stacking`, up to four in a row."""
     branches = [make_branch(dice, letters, depth, stacking)]
@@ -32,57 +37,57 @@ def make_tree(dice, letters, depth, stacking):
     return branches
 
 
-def make_branch(dice, letters, depth, stacking):
-    branch = []
+def make_branch(dice: Dice, letters: str, depth: int, stacking: float) -> Branch:
+    branch: Branch = []
     for _ in range(dice.pick((0, 1, 1, 2, 2, 3))):
         if depth > 0 and dice.chance(0.4):
-            item = make_tree(dice, letters, depth - 1, stacking)
+            item: Item = make_tree(dice, letters, depth - 1, stacking)
         else:
             item = dice.pick(letters)
-        operators = []
+        operators: list[str] = []
         while len(operators) < 4 and dice.chance(stacking):
             operators.append(dice.pick(OPERATORS))
         branch.append((item, operators))
     return branch
 
 
-def framed(dice, tree, letters):
+def framed(dice: Dice, tree: Tree, letters: str) -> Tree:
     """The tree, often between characters: what matches the empty haystack matches everywhere."""
     if dice.chance(0.25):
         return tree
     front, back = (dice.pick(('', 'x', 'y', dice.pick(letters))) for _ in range(2))
-    return [[(item, []) for item in (front, tree, back)]]
+    return [[(front, []), (tree, []), (back, [])]]
 
 
-def pattern_of(tree):
+def pattern_of(tree: Tree) -> str:
     """The tree as a pattern."""
     return '|'.join(
         ''.join(piece_text(item, operators) for item, operators in branch) for branch in tree
     )
 
 
-def piece_text(item, operators):
+def piece_text(item: Item, operators: list[str]) -> str:
     body = item if isinstance(item, str) else f'(?:{pattern_of(item)})'
     return body + ''.join(operators)
 
 
-def sample(dice, tree):
+def sample(dice: Dice, tree: Tree) -> str:
     """A text that the tree often matches. It needn't: of operators next to each other the pattern
     may make others, and some rounds are wrong."""
     branch = dice.pick(tree)
     return ''.join(sample_piece(dice, item, operators) for item, operators in branch)
 
 
-def sample_piece(dice, item, operators):
+def sample_piece(dice: Dice, item: Item, operators: list[str]) -> str:
     if operators:
         rounds = dice.pick(ROUNDS[operators[-1][0]])
         return ''.join(sample_piece(dice, item, operators[:-1]) for _ in range(rounds))
     return item if isinstance(item, str) else sample(dice, item)
 
 
-def generated(dice):
-    """Makes rows without end: a family, a pattern and two haystacks, one that may be matched and a
-    changed form of it. Whether the pattern is refused the judge alone tells."""
+def generated(dice: Dice) -> Iterator[tuple[str, str, str, str, None]]:
+    """Makes endless rows: a family, a pattern and two haystacks, one that may be matched and a
+    changed form of it. Only the judge knows whether the pattern is refused."""
     while True:
         letters = dice.pick(ALPHABETS)
         tree = make_tree(dice, letters, dice.below(4), dice.pick((0.2, 0.4, 0.7)))

@@ -1,17 +1,18 @@
 """The list of runs of the program: all its commands, with what they write and how they end."""
 
 import subprocess
+from collections.abc import Iterable
 
-from data import bytes_of, escaped, rows_of, text_of
+from .data import bytes_of, escaped, rows_of, text_of
 
 COMMANDS = ('is-match', 'find', 'captures', 'split')
 
 
-def asked():
+def asked() -> Iterable[tuple[str, ...]]:
     """The runs, each as its standard input and its arguments: those picked by hand, and each
     pattern that was picked for the list of lists and needs no flags, with its first haystack and
     all commands."""
-    runs = [(given, *arguments) for given, *arguments in rows_of('runs')]
+    runs: list[tuple[str, ...]] = [(given, *arguments) for given, *arguments in rows_of('runs')]
     for flags, pattern, replacement, haystack, *_ in rows_of('lists'):
         if flags == '-':
             runs += [(haystack, command, pattern) for command in COMMANDS]
@@ -19,7 +20,7 @@ def asked():
     return dict.fromkeys(runs)
 
 
-def line_of(judge, given, *arguments):
+def line_of(judge: str, given: str, *arguments: str) -> str:
     """A run and what the judge does as a line of the list."""
     done = subprocess.run([judge, *map(bytes_of, arguments)], input=bytes_of(given), check=False,
                           stdout=subprocess.PIPE, stderr=subprocess.PIPE)
@@ -27,6 +28,6 @@ def line_of(judge, given, *arguments):
     return '\t'.join([str(done.returncode), *map(escaped, texts)]) + '\n'
 
 
-def lines(judge):
+def lines(judge: str) -> list[str]:
     """The lines of the list."""
     return [line_of(judge, *run) for run in asked()]

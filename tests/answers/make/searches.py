@@ -3,16 +3,21 @@
 
 import itertools
 import re
-from typing import NamedTuple
+from collections.abc import Iterator, Sequence
+from typing import NamedTuple, Union
 
-from data import escaped, rows_of
-from dice import Dice
-from flags import WORDS_AND_LINES, near_of
-from judge import found
-from leaves import ALPHABETS, LOOKING, MIXED, Group
-from whole import NUMBER, WholeMaker, Writer, sample
+from .data import escaped, rows_of
+from .dice import Dice
+from .flags import WORDS_AND_LINES, near_of
+from .judge import Found, SearchCase, found
+from .leaves import ALPHABETS, LOOKING, MIXED, Group, Tree, sample
+from .whole import NUMBER, WholeMaker, Writer
 
-SEED = 3  # another than those of the other lists and of the sizes
+# A family, flags, a pattern, and haystacks with starts in them.
+Row = tuple[str, str, str, list[tuple[str, int]]]
+Kind = Union[str, tuple[str, int, bool]]  # of a case
+
+SEED = 3  # different from those of the other lists and of the sizes
 
 PATTERNS = 16_000  # how many generated patterns the judge is asked about
 LONGEST = 72  # characters of a generated pattern
@@ -37,14 +42,14 @@ class Family(NamedTuple):
     follow each other, operators follow each other, operators are counted and groups capture; how
     deep groups are nested; and the flags that a builder may turn on."""
 
-    leaves: tuple
-    letters: tuple
+    leaves: tuple[str, ...]
+    letters: tuple[str, ...]
     branching: float
-    stacking: tuple
+    stacking: tuple[float, ...]
     counting: float
     capturing: float
-    depths: tuple
-    flags: tuple
+    depths: tuple[int, ...]
+    flags: tuple[str, ...]
 
 
 FLAGS = ('i', 'm', 's', 'R', 'U', 'U', 'x', 'iU', 'mR', 'sx', 'Ux', 'imsRUx')
@@ -78,18 +83,18 @@ QUOTAS = {
 class SearchMaker(WholeMaker):
     """Makes trees of a family."""
 
-    def __init__(self, dice, family):
+    def __init__(self, dice: Dice, family: Family) -> None:
         super().__init__(dice, dice.pick(family.letters), family.capturing, family.counting)
         self.kinds = family.leaves
         self.branching = family.branching
 
-    def tree(self, depth, stacking):
+    def tree(self, depth: int, stacking: float) -> Tree:
         branches = [self.branch(depth, stacking)]
         while len(branches) < 4 and self.dice.chance(self.branching):
             branches.append(self.branch(depth, stacking))
         return branches
 
-    def whole(self, depth, stacking):
+    def whole(self, depth: int, stacking: float) -> Tree:
         """A tree, or in half of the cases some groups in a row, which compete for the text."""
         if depth == 0 or self.dice.chance(0.5):
             return self.tree(depth, stacking)
@@ -99,12 +104,12 @@ class SearchMaker(WholeMaker):
         ]]
 
 
-def haystacks(dice, maker, tree):
+def haystacks(dice: Dice, maker: SearchMaker, tree: Tree) -> tuple[str, str]:
     """Two texts: one that the tree often matches more than once, perhaps with something round it,
     and one of characters on which the tree may make a difference."""
     letters = maker.letters + near_of(tree)[:12]
 
-    def some(counts):
+    def some(counts: Sequence[int]) -> str:
         return ''.join(dice.pick(letters) for _ in range(dice.pick(counts)))
 
     near = sample(dice, tree)[:TEXT]
@@ -117,12 +122,12 @@ def haystacks(dice, maker, tree):
     return near, some((1, 2, 3, 4, 4, 6, 8, 12))
 
 
-def bounds(text):
+def bounds(text: str) -> list[int]:
     """The offsets of the text's characters, and its length, in bytes of UTF-8."""
     return [0, *itertools.accumulate(len(character.encode()) for character in text)]
 
 
-def starts(dice, text):
+def starts(dice: Dice, text: str) -> list[int]:
     """Some starts in the text: 0, two others, and seldom one above the length."""
     *_, length = offsets = bounds(text)
     chosen = {0, dice.pick(offsets), dice.pick(offsets)}
@@ -131,7 +136,7 @@ def starts(dice, text):
     return sorted(chosen)
 
 
-def is_fit(pattern):
+def is_fit(pattern: str) -> bool:
     """Whether the pattern is neither too long nor too large."""
     product = 1
     for number in NUMBER.findall(re.sub(r'\s|#[^\n]*\n', '', pattern)):
@@ -139,7 +144,7 @@ def is_fit(pattern):
     return len(pattern) <= LONGEST and product <= LARGEST and '\0' not in pattern
 
 
-def drawn(dice):
+def drawn(dice: Dice) -> tuple[str, str, str, SearchMaker, Tree]:
     """A family, flags, a pattern, and the maker and the tree that it is of."""
     name = dice.pick(tuple(FAMILIES))
     family = FAMILIES[name]
@@ -150,8 +155,8 @@ def drawn(dice):
     return name, letters, ''.join(writer.parts(tree)), maker, tree
 
 
-def generated(dice):
-    """Makes rows without end: a family, flags, a pattern, and haystacks with starts in them."""
+def generated(dice: Dice) -> Iterator[Row]:
+    """Makes endless rows: a family, flags, a pattern, and haystacks with starts in them."""
     while True:
         name, letters, pattern, maker, tree = drawn(dice)
         asked = [(text, start) for text in haystacks(dice, maker, tree)
@@ -160,9 +165,11 @@ def generated(dice):
             yield name, letters, pattern, asked
 
 
-def chosen_cases(rows, count):
-    """The cases of so many rows, each after its family. No flags and pattern come twice."""
-    seen, cases = set(), []
+def chosen_cases(rows: Iterator[Row], count: int) -> list[tuple[str, SearchCase]]:
+    """The cases of the first rows, as many, each with its family. No pattern with its flags comes
+    twice."""
+    seen: set[tuple[str, str]] = set()
+    cases: list[tuple[str, SearchCase]] = []
     for name, letters, pattern, asked in itertools.islice(rows, count):
         if (letters, pattern) not in seen:
             seen.add((letters, pattern))
@@ -170,14 +177,14 @@ def chosen_cases(rows, count):
     return cases
 
 
-def other_preference(case):
-    """The case with greedy operators for lazy ones, and the other way round."""
-    letters, *rest = case
+def other_preference(case: SearchCase) -> SearchCase:
+    """The case with greedy operators for lazy ones, and vice versa."""
+    letters, pattern, text, start = case
     swapped = letters.replace('U', '') if 'U' in letters else letters.replace('-', '') + 'U'
-    return (swapped or '-', *rest)
+    return swapped or '-', pattern, text, start
 
 
-def kind_of(name, case, answer, other):
+def kind_of(name: str, case: SearchCase, answer: Found, other: Found) -> Kind:
     """The kind of a case, by its family and by the answers to it and under the other preference."""
     _, _, text, start = case
     if start > len(text.encode()):
@@ -186,10 +193,11 @@ def kind_of(name, case, answer, other):
     return name, 2 if answer.groups is None else 0 if is_other else 1, start > 0
 
 
-def kept_lines(judge, cases, picked):
+def kept_lines(judge: str, cases: list[tuple[str, SearchCase]],
+               picked: set[tuple[str, str]]) -> list[str]:
     """The lines of the first cases of each kind, as many as its quota says, without those whose
     flags and pattern are in `picked`."""
-    left = {
+    left: dict[Kind, int] = {
         (name, *kind): number for name, numbers in QUOTAS.items()
         for kind, number in zip(itertools.product(range(3), (False, True)), numbers)
     }
@@ -208,7 +216,7 @@ def kept_lines(judge, cases, picked):
     return lines
 
 
-def picked_cases():
+def picked_cases() -> list[SearchCase]:
     """The cases picked by hand: each haystack at each offset of a character, at its length, and at
     the next number."""
     rows = rows_of('searches')
@@ -221,7 +229,7 @@ def picked_cases():
     ]
 
 
-def line_of(case, answer):
+def line_of(case: SearchCase, answer: Found) -> str:
     """A case and its answer as a line of the list."""
     letters, pattern, text, start = case
     groups = '-' if answer.groups is None else answer.groups
@@ -232,7 +240,7 @@ def line_of(case, answer):
     return '\t'.join(map(str, fields)) + '\n'
 
 
-def lines(judge):
+def lines(judge: str) -> list[str]:
     """The lines of the list."""
     picked = picked_cases()
     made = [line_of(case, answer) for case, answer in zip(picked, found(judge, picked))]
@@ -240,7 +248,7 @@ def lines(judge):
     return made + kept_lines(judge, asked, {case[:2] for case in picked})
 
 
-def fresh(judge, seed, count):
-    """So many lines of generated cases of another seed, without any choice among their kinds."""
+def fresh(judge: str, seed: int, count: int) -> list[str]:
+    """As many lines of generated cases from another seed, without any choice among their kinds."""
     cases = [case for _, case in chosen_cases(generated(Dice(seed)), count)][:count]
     return [line_of(case, answer) for case, answer in zip(cases, found(judge, cases))]

@@ -1,8 +1,10 @@
-"""The list of what becomes of patterns under flags and limits."""
+"""The list of outcomes for patterns under flags and limits."""
 
-import sizes
-from data import escaped, expanded, packed, rows_of
-from judge import answers
+from collections.abc import Iterator
+
+from . import sizes
+from .data import escaped, expanded, packed, rows_of
+from .judge import answers
 
 # Each text of a refusal that is not the grammar's, with its kind.
 KINDS = {
@@ -11,8 +13,8 @@ KINDS = {
 }
 
 
-def question(flags, nest, size, pattern):
-    """A line that asks the judge what becomes of the pattern. No row has both limits."""
+def question(flags: str, nest: str, size: str, pattern: str) -> str:
+    """A line that asks the judge for the outcome of the pattern. No row has both limits."""
     word = 'build'
     if nest != '-':
         word = f'nest:{nest}'
@@ -21,7 +23,7 @@ def question(flags, nest, size, pattern):
     return '\t'.join([word, flags, escaped(pattern)]) + '\n'
 
 
-def outcome(row, answer):
+def outcome(row: object, answer: str) -> tuple[str, str]:
     """The kind and the text of a refusal, or `built` and `-`."""
     word, _, text = answer.partition(':')
     if word == 'ok' and not text:
@@ -31,17 +33,17 @@ def outcome(row, answer):
     raise SystemExit(f'unexpected answer to {row!r}: {answer}')
 
 
-def at_their_sizes(judge):
+def at_their_sizes(judge: str) -> Iterator[list[str]]:
     """Each pattern whose size is known, under that limit and under one less."""
     for flags, pattern, size in sizes.rows(judge):
         for limit in (size, size - 1):
             yield [flags, '-', str(limit), pattern]
 
 
-def lines(judge):
+def lines(judge: str) -> list[str]:
     """The lines of the list."""
     found = [[*row[:3], expanded(row[3])] for row in rows_of('settings')]
     found += at_their_sizes(judge)
-    told = answers(judge, [question(*row) for row in found])
+    given = answers(judge, [question(*row) for row in found])
     return [packed('\t'.join([*map(escaped, row), *outcome(row, answer)]) + '\n')
-            for row, answer in zip(found, told)]
+            for row, answer in zip(found, given)]

@@ -1,7 +1,9 @@
-"""Patterns with haystacks, on which a test of the engine compares its two walks with one another.
-They are of the list of searches. The test needs no answers."""
+"""Patterns with haystacks, on which a test of the engine compares its two walks.
+They come from the list of searches. The test needs no answers."""
 
-PATTERNS = 560  # about 2,000 cases of the list have one of so many patterns
+from collections.abc import Collection, Iterable
+
+PATTERNS = 560  # about 2,000 cases of the list have one of these patterns
 WIDEST = 100  # characters of a line of the test
 
 HEAD = """\
@@ -14,15 +16,15 @@ pub(super) const CASES: &str = "\\
 END = '";\n'
 
 
-def lines(searches):
+def lines(searches: Iterable[str]) -> list[str]:
     """The lines of a constant with patterns of the list, chosen evenly, and all their haystacks."""
     fit = [line_of(*row) for row in rows_of(searches) if is_fit(*row)]
     return [HEAD, *(fit[at * len(fit) // PATTERNS] for at in range(PATTERNS)), END]
 
 
-def rows_of(searches):
+def rows_of(searches: Iterable[str]) -> Iterable[tuple[str, Collection[str]]]:
     """Each pattern for which no flags are turned on, and its haystacks, as the list writes them."""
-    rows = {}
+    rows: dict[str, dict[str, None]] = {}
     for line in searches:
         flags, pattern, haystack, *_ = line.split('\t')
         if flags == '-':
@@ -30,14 +32,14 @@ def rows_of(searches):
     return rows.items()
 
 
-def line_of(pattern, haystacks):
+def line_of(pattern: str, haystacks: Iterable[str]) -> str:
     """The line of a pattern. The escapes of the list are those of a literal too."""
     text = ';'.join((pattern, *haystacks)).replace('"', '\\"')
     return f'%{text}\\\n'
 
 
-def is_fit(pattern, haystacks):
-    """Whether the line is short, and the marks of its parts stand nowhere else."""
+def is_fit(pattern: str, haystacks: Collection[str]) -> bool:
+    """Whether the line is short, and its separators occur nowhere else in it."""
     line = line_of(pattern, haystacks)
     are_marks = line.count('%') == 1 and line.count(';') == len(haystacks)
     return are_marks and len(line) <= WIDEST

@@ -1,12 +1,14 @@
 """Patterns of the whole grammar: groups, names, counted operators and verbose mode too."""
 
 import re
+from collections.abc import Iterator
 
-from data import faults_of
-from dice import OPERATORS, ROUNDS, edited, edited_often, noise
-from flags import FAULTS_OF_ITEMS, IGNORES_CASE, framed, is_outside, near_of
-from leaves import ALPHABETS, LINE_ENDS, MIXED, Directive, Group, Leaf, Maker, some_flags
-from choice import MISSING_COUNTED
+from .choice import MISSING_COUNTED
+from .data import faults_of
+from .dice import OPERATORS, Dice, edited, edited_often, noise
+from .flags import FAULTS_OF_ITEMS, IGNORES_CASE, framed, is_outside, near_of
+from .leaves import (ALPHABETS, LINE_ENDS, MIXED, Branch, Directive, Group, Item, Leaf, Maker, Tree,
+                     sample, some_flags)
 
 LONGEST = 160  # characters of a generated pattern, unless it is nested too deeply
 LARGEST = 1000  # the product of all counts of a pattern is at most this
@@ -35,15 +37,15 @@ class WholeMaker(Maker):
     """Makes trees of all rules. Its rows are the more likely to have groups that capture the
     greater `capturing` is, and counted operators the greater `counting` is."""
 
-    def __init__(self, dice, letters, capturing, counting):
+    def __init__(self, dice: Dice, letters: str, capturing: float, counting: float) -> None:
         super().__init__(dice, letters, MIXED)
         self.capturing = capturing
         self.counting = counting
         self.names = list(NAMES)
 
-    def branch(self, depth, stacking):
+    def branch(self, depth: int, stacking: float) -> Branch:
         dice = self.dice
-        branch = []
+        branch: Branch = []
         for _ in range(dice.pick((0, 1, 1, 2, 2, 3))):
             if dice.chance(0.06):
                 branch.append((Directive(f'(?{self.flags()})'), []))
@@ -54,7 +56,7 @@ class WholeMaker(Maker):
                 branch.append((self.leaf(), self.operators(stacking)))
         return branch
 
-    def head(self):
+    def head(self) -> str:
         dice = self.dice
         if not dice.chance(self.capturing):
             return f'(?{self.flags()}:' if dice.chance(0.4) else '(?:'
@@ -63,15 +65,15 @@ class WholeMaker(Maker):
             return f'{dice.pick(("(?", "(?P"))}<{name}>'
         return '('
 
-    def flags(self):
+    def flags(self) -> str:
         flags = some_flags(self.dice)
         if not self.dice.chance(0.2):
             return flags
         return self.dice.pick(('x', 'x-', '-x')) + flags.replace('-', '')
 
-    def operators(self, stacking):
+    def operators(self, stacking: float) -> list[str]:
         dice = self.dice
-        operators = []
+        operators: list[str] = []
         while len(operators) < 3 and dice.chance(stacking):
             if dice.chance(self.counting):
                 operators.append(dice.pick(COUNTS) + dice.pick(('', '', '?')))
@@ -84,19 +86,19 @@ class Writer:
     """Writes trees as parts of patterns, with gaps where the flag x is set, each of which stands
     with the probability `gaps`."""
 
-    def __init__(self, dice, gaps, verbose):
+    def __init__(self, dice: Dice, gaps: float, verbose: bool) -> None:
         self.dice = dice
         self.gaps = gaps
         self.verbose = verbose
 
-    def gap(self):
+    def gap(self) -> str:
         if self.verbose and self.dice.chance(self.gaps):
             return self.dice.pick(GAPS)
         return ''
 
-    def parts(self, tree):
+    def parts(self, tree: Tree) -> list[str]:
         """The parts of the tree's pattern: whole leaves, heads, operators, `)` and `|`."""
-        parts = []
+        parts: list[str] = []
         for number, branch in enumerate(tree):
             if number > 0:
                 parts.append(self.gap() + '|')
@@ -105,7 +107,7 @@ class Writer:
                 parts += [self.gap() + self.operator(operator) for operator in operators]
         return parts
 
-    def item(self, item):
+    def item(self, item: Item) -> list[str]:
         if isinstance(item, Leaf):
             return [self.gap() + self.leaf(item.text)]
         gap = self.gap()
@@ -121,16 +123,16 @@ class Writer:
         self.verbose = outside
         return [head, *inside]
 
-    def leaf(self, text):
+    def leaf(self, text: str) -> str:
         """The leaf with gaps, and so that its White_Space and `#` stand for themselves."""
         if not self.verbose:
             return text
         return ''.join(for_itself(word) + self.gap() for word in WORD.findall(text))
 
-    def operator(self, text):
+    def operator(self, text: str) -> str:
         if text[0] != '{':
             return text
-        out = []
+        out: list[str] = []
         for word in re.findall(r'\d+|.', text):
             if self.verbose:
                 out += [character + self.gap() for character in word]
@@ -141,40 +143,14 @@ class Writer:
         return ''.join(out)
 
 
-def for_itself(word):
+def for_itself(word: str) -> str:
     """The character as it stands for itself under x too."""
     if not word.isspace() and word != '#':
         return word
     return '\\' + word if word in ' #' else f'\\x{{{ord(word):X}}}'
 
 
-def sample(dice, tree):
-    """A text that the tree often matches."""
-    branch = dice.pick(tree)
-    return ''.join(sample_piece(dice, item, operators) for item, operators in branch)
-
-
-def sample_piece(dice, item, operators):
-    if isinstance(item, Directive):
-        return ''
-    if operators:
-        times = rounds(dice, operators[-1])
-        return ''.join(sample_piece(dice, item, operators[:-1]) for _ in range(times))
-    if isinstance(item, Group):
-        return sample(dice, item.tree)
-    return dice.pick(item.samples or ('',))
-
-
-def rounds(dice, operator):
-    """How often a sample repeats the operator's item, sometimes once too often or too rarely."""
-    if operator[0] != '{':
-        return dice.pick(ROUNDS[operator[0]])
-    numbers = [int(number) for number in re.findall(r'\d+', operator)]
-    least, most = numbers[0], numbers[-1]
-    return max(0, dice.pick((least, least, most, most, (least + most) // 2, most + 1, least - 1)))
-
-
-def haystacks(dice, tree, pattern):
+def haystacks(dice: Dice, tree: Tree, pattern: str) -> tuple[str, str]:
     """A text that the tree often matches, perhaps with something round it, and a changed form."""
     near = sample(dice, tree)[:60]
     letters = near_of(tree) or 'ab'
@@ -190,7 +166,7 @@ def haystacks(dice, tree, pattern):
     return near, edited_often(dice, near, [*letters, *LINE_ENDS, 'a', '#', ' ', 'é', '💩'])
 
 
-def tree_of(dice, capturing, counting):
+def tree_of(dice: Dice, capturing: float, counting: float) -> Tree:
     maker = WholeMaker(dice, dice.pick(ALPHABETS), capturing, counting)
     tree = maker.tree(dice.below(4), dice.pick((0.2, 0.35, 0.6)))
     if dice.chance(0.75):
@@ -198,7 +174,7 @@ def tree_of(dice, capturing, counting):
     return tree
 
 
-def written(dice, tree, verbose):
+def written(dice: Dice, tree: Tree, verbose: bool) -> tuple[list[str], Writer]:
     """The parts of the tree's pattern, perhaps in verbose mode from the start, and its writer."""
     head = f'(?{dice.pick(("x", "x", "x", "xi", "x-s", "sx"))})' if verbose else ''
     writer = Writer(dice, dice.pick((0.05, 0.15, 0.4)), verbose)
@@ -206,7 +182,7 @@ def written(dice, tree, verbose):
     return [head, *parts] if head else parts, writer
 
 
-def with_fault(dice, tree, verbose):
+def with_fault(dice: Dice, tree: Tree, verbose: bool) -> tuple[str, str]:
     """A text of a refusal, and a pattern with one fault, which has this text. No fault is taken
     that may be another under x."""
     text, places = dice.pick(FAULTS_OF_ITEMS + NEW_FAULTS * 3)
@@ -226,8 +202,8 @@ def with_fault(dice, tree, verbose):
     return text, ''.join(parts).replace(mark, fault)
 
 
-def generated(dice):
-    """Makes rows without end: a family, a pattern and two haystacks, and for a faulty pattern the
+def generated(dice: Dice) -> Iterator[tuple[str, str, str, str, str]]:
+    """Makes endless rows: a family, a pattern and two haystacks, and for a faulty pattern the
     text of its refusal."""
     while True:
         family, capturing, counting, verbose = shape(dice)
@@ -247,7 +223,7 @@ def generated(dice):
             yield family, pattern, near, far, text
 
 
-def shape(dice):
+def shape(dice: Dice) -> tuple[str, float, float, bool]:
     """A family, how often its trees have groups that capture and counts, and whether x is on."""
     kind = dice.random()
     if kind < 0.19:
@@ -263,13 +239,13 @@ def shape(dice):
     return 'broken' if kind < 0.91 else 'faulty', 0.5, 0.4, dice.chance(0.4)
 
 
-def has_new_rule(pattern, text):
+def has_new_rule(pattern: str, text: str) -> bool:
     """Whether the pattern, refused with this text, is in neither of the earlier grammars. They
     have no limit on nesting either."""
     return is_outside(pattern) or text == NESTING
 
 
-def is_fit(pattern, text):
+def is_fit(pattern: str, text: str) -> bool:
     """Whether the pattern has a new rule and is neither too long nor too large."""
     if '\0' in pattern or ends_in_braces(pattern) or not has_new_rule(pattern, text):
         return False
@@ -278,9 +254,9 @@ def is_fit(pattern, text):
     product = 1
     for number in NUMBER.findall(re.sub(r'\s|#[^\n]*\n', '', pattern)):
         product *= max(1, int(number))
-    return text or product <= LARGEST
+    return bool(text) or product <= LARGEST
 
 
-def ends_in_braces(pattern):
+def ends_in_braces(pattern: str) -> bool:
     """Whether the pattern ends with a gap after a brace or a comma."""
     return re.search(r'[{,](?:\s|#[^\n]*)+\Z', pattern) is not None
