@@ -7,9 +7,11 @@ import shutil
 import subprocess
 import sys
 import tempfile
-from collections.abc import Iterator, Mapping, Sequence
+from collections.abc import Iterable, Iterator, Mapping, Sequence
 from pathlib import Path
 from typing import NamedTuple, Union
+
+Change = tuple[str, str, str]  # the path of a file, what stands once in it, and what is to stand there
 
 TOP = Path(__file__).resolve().parent.parent
 LIBRARIES = ('regex_lite_syntax', 'regex_lite_engine', 'regex_lite')
@@ -177,15 +179,26 @@ def parts(cases: str) -> Iterator[list[str]]:
     yield part
 
 
-def replay(cases: str, seconds: int = 600) -> int:
+def change(repository: Path, changes: Iterable[Change]) -> None:
+    """Makes each change in a file of the repository, once."""
+    for path, old, new in changes:
+        file = repository / path
+        text, count = re.subn(old, new, file.read_text(encoding='utf-8'), flags=re.DOTALL)
+        if count != 1:
+            sys.exit(f'{path} has {count} places like {old}, and not one')
+        file.write_text(text, encoding='utf-8')
+
+
+def replay(cases: str, seconds: int = 600, changes: Sequence[Change] = ()) -> int:
     """Runs the caller on these lines, each time for at most this many seconds, passes on the
-    failures that it prints, and prints how many cases passed and failed in all. The status is 0 if
-    there is a case and none failed."""
+    failures that it prints, and prints how many cases passed and failed in all. The libraries are
+    changed before. The status is 0 if there is a case and none failed."""
     options = (*ONCE, '--seconds', str(seconds))
     passed = failed = 0
     with tempfile.TemporaryDirectory() as folder:
         repository = Path(folder) / 'repository'
         lay_out(repository, program_files(CALLER))
+        change(repository, changes)
         rt = lay_out_optimising_kit(Path(folder) / 'kit')
         for part in parts(cases):
             done = run(repository, CALLER, options, ''.join(f'{line}\n' for line in part), rt)

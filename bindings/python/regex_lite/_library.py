@@ -5,9 +5,9 @@ from __future__ import annotations
 import ctypes
 import os
 import struct
-from ctypes import POINTER, byref, c_bool, c_char_p, c_size_t, c_uint32, c_void_p
+from ctypes import POINTER, byref, c_bool, c_char_p, c_size_t, c_uint32, c_uint64, c_void_p
 from pathlib import Path
-from typing import Callable, Iterator, List, Optional, Tuple
+from typing import Any, Callable, Iterator, List, Optional, Tuple
 
 NO, YES, NOTHING_HELD, NOT_TEXT, BAD_OFFSET, NO_ROOM, OUT_OF_MEMORY, NO_GROUP = range(8)
 LONGEST_MESSAGE = 100
@@ -46,6 +46,12 @@ class Replacing(ctypes.Structure):
     _fields_ = [('limit', c_size_t), ('is_literal', c_bool), ('len', c_size_t)]
 
 
+class Cost(ctypes.Structure):
+    """What a search cost."""
+
+    _fields_ = [('tried', c_uint64), ('entered', c_uint64), ('looked', c_uint64)]
+
+
 class error(Exception):
     """A pattern is refused. `msg` says why, and `number` is that of the library."""
 
@@ -81,6 +87,10 @@ _HANDLE = POINTER(Handle)
 _new = _call('new', c_uint32, _HANDLE, *_TEXT, POINTER(Options), *_ROOM)
 _free = _call('free', None, _HANDLE)
 _groups = _call('groups', c_size_t, _HANDLE)
+_places = _call('places', c_size_t, _HANDLE)
+_arrows = _call('arrows', c_size_t, _HANDLE)
+_find_counted = _call('find_counted', c_uint32, _HANDLE, *_TEXT, c_size_t, POINTER(CSpan),
+                      POINTER(Cost))
 _group_name = _call('group_name', c_uint32, _HANDLE, c_size_t, *_ROOM)
 _captures = _call('captures', c_uint32, _HANDLE, *_TEXT, c_size_t, POINTER(CSpan), c_size_t,
                   POINTER(c_size_t))
@@ -102,7 +112,7 @@ def _checked(answer: int) -> bool:
     return answer == YES
 
 
-def _unpacked(spans: ctypes.Array[CSpan], count: int) -> Iterator[Tuple[bool, int, int]]:
+def _unpacked(spans: ctypes.Array[CSpan], count: int) -> Iterator[Tuple[Any, ...]]:
     """The first spans, field by field: much faster than by the fields of each."""
     return struct.iter_unpack('@?NN', memoryview(spans).cast('B')[:count * ctypes.sizeof(CSpan)])
 
@@ -127,6 +137,8 @@ class Regex:
         if answer != YES:
             raise error(message.raw[:length.value].decode(), pattern, answer)
         self.groups = _groups(self._handle)
+        self.places = _places(self._handle)
+        self.arrows = _arrows(self._handle)
         self._spans = CSpan * self.groups
 
     def __del__(self) -> None:
@@ -156,6 +168,19 @@ class Regex:
         _checked(_find_all(self._handle, text, len(text), walk, spans, room, count))
         return [(start, end) for _, start, end in _unpacked(spans, count.value)]
 
+    def count(self, text: bytes, walk: Walk) -> int:
+        """How many matches are left, which are walked over."""
+        room, count, total = 4096, c_size_t(), 0
+        spans = (CSpan * room)()
+        while _checked(_find_all(self._handle, text, len(text), walk, spans, room, count)):
+            total += count.value
+        return total
+
+    def tried(self, text: bytes) -> int:
+        """How many places a search for the first match tries."""
+        span, cost = CSpan(), Cost()
+        _checked(_find_counted(self._handle, text, len(text), 0, span, cost))
+        return int(cost.tried)
 
     def next_captures(self, text: bytes, walk: Walk, room: int) -> List[List[Span]]:
         """The spans of the groups of the next matches, at most so many, and none at the end."""
@@ -165,9 +190,10 @@ class Regex:
                  for is_there, start, end in _unpacked(spans, count.value * self.groups)]
         return [found[i:i + self.groups] for i in range(0, len(found), self.groups)]
 
-    def replaced(self, text: bytes, new: bytes, limit: int) -> bytes:
-        """The text with its first matches replaced by another, or all where the limit is 0."""
-        how, size = Replacing(limit, True, 0), 2 * len(text) + len(new)
+    def replaced(self, text: bytes, new: bytes, limit: int, is_literal: bool = True) -> bytes:
+        """The text with its first matches replaced, or all if the limit is 0, by another text or
+        by what it gives as a template, where `$1` is a group."""
+        how, size = Replacing(limit, is_literal, 0), 2 * len(text) + len(new)
         room = ctypes.create_string_buffer(size)
         answer = _replace(self._handle, text, len(text), new, len(new), how, room, size)
         if answer == NO_ROOM:

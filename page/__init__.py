@@ -1,0 +1,1 @@
+"""A page on which to try patterns, served on this machine alone."""

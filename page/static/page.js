@@ -1,0 +1,157 @@
+// Asks what the pattern finds whenever a field changes, and draws what comes back. All that is
+// typed is put into the page as text, never as markup.
+'use strict';
+
+const MOST_MARKED = 50000;  // characters of the text in which matches are marked
+const MOST_CELL = 200;      // characters of a group that the table shows
+const MOST_BYTES = 2 << 20; // of a request
+const COLOURS = 5;
+
+const field = (name) => document.getElementById(name);
+const pattern = field('pattern');
+const text = field('text');
+const replacement = field('replacement');
+const marks = field('marks');
+
+const number = (value) => value.toLocaleString('en');
+const counted = (value, noun) => `${number(value)} ${noun}${value === 1 ? '' : 's'}`;
+
+function element(kind, name, content) {
+  const made = document.createElement(kind);
+  if (name) made.className = name;
+  made.textContent = content;
+  return made;
+}
+
+// The parts of a match, each with the last group that it is in: groups may overlap where a loop
+// has left one from an earlier pass.
+function parts(groups) {
+  const taken = groups.filter((group) => group !== null);
+  const ends = [...new Set(taken.flat())].sort((a, b) => a - b);
+  return ends.slice(1).map((end, i) => {
+    const start = ends[i];
+    const last = groups.findLastIndex((group) => group && group[0] <= start && end <= group[1]);
+    return { start, end, group: last };
+  });
+}
+
+function drawMarks(haystack, matches) {
+  const drawn = document.createDocumentFragment();
+  let at = 0;
+  matches.forEach((groups, i) => {
+    const [start, end] = groups[0];
+    if (end > MOST_MARKED) return;
+    drawn.append(haystack.slice(at, start));
+    if (start === end) drawn.append(element('span', 'empty', ''));
+    for (const part of parts(groups)) {
+      const whole = i % 2 === 0 ? 'match' : 'other';
+      const name = part.group === 0 ? whole : `group${(part.group - 1) % COLOURS + 1}`;
+      drawn.append(element('span', name, haystack.slice(part.start, part.end)));
+    }
+    at = end;
+  });
+  // A line feed at the end has a line of its own in the field above.
+  drawn.append(haystack.slice(at, Math.max(at, MOST_MARKED)), '\n');
+  marks.replaceChildren(drawn);
+  marks.scrollTop = text.scrollTop;
+}
+
+function cell(haystack, group, bytes, index) {
+  const made = document.createElement('td');
+  if (group === null) {
+    made.append(element('small', '', 'took no part'));
+    return made;
+  }
+  const [start, end] = group;
+  const shown = haystack.slice(start, Math.min(end, start + MOST_CELL));
+  const name = index === 0 ? 'match' : `group${(index - 1) % COLOURS + 1}`;
+  const cut = end - start > MOST_CELL ? '…' : '';
+  made.append(element('span', name, shown + cut), ' ', element('small', '', `${bytes[0]}..${bytes[1]}`));
+  return made;
+}
+
+function drawTable(haystack, { names = [], matches = [], spans = [] }) {
+  const head = document.createElement('tr');
+  ['', ...names].forEach((name, i) => {
+    const title = ['#', 'match'][i] ?? (name === null ? `${i - 1}` : `${i - 1} ${name}`);
+    const made = element('th', '', title);
+    made.scope = 'col';
+    head.append(made);
+  });
+  const rows = matches.map((groups, i) => {
+    const row = document.createElement('tr');
+    const made = element('th', '', `${i + 1}`);
+    made.scope = 'row';
+    row.append(made, ...groups.map((group, k) => cell(haystack, group, spans[i][k], k)));
+    return row;
+  });
+  field('matches').tHead.replaceChildren(...(names.length > 0 ? [head] : []));
+  field('matches').tBodies[0].replaceChildren(...rows);
+}
+
+function summary(answer, haystack) {
+  const notes = [counted(answer.count, 'match').replace('matchs', 'matches')];
+  if (answer.count > answer.matches.length) {
+    notes.push(`the first ${number(answer.matches.length)} are shown`);
+  }
+  if (haystack.length > MOST_MARKED) {
+    notes.push(`marked in the first ${number(MOST_MARKED)} characters`);
+  }
+  return notes.join(', ');
+}
+
+function cost(answer) {
+  const share = `${number(answer.tried)} of at most ${number(answer.bound)} tries`;
+  return `The first search made ${share}. The pattern has ${counted(answer.places, 'place')} and `
+    + `${counted(answer.arrows, 'arrow')}.`;
+}
+
+function show(question, answer) {
+  const isRefused = 'refusal' in answer;
+  pattern.setAttribute('aria-invalid', isRefused);
+  field('refusal').textContent = isRefused ? answer.refusal : '';
+  field('summary').textContent = isRefused ? '' : summary(answer, question.text);
+  field('cost').textContent = isRefused ? '' : cost(answer);
+  const replaced = isRefused ? '' : answer.replaced;
+  field('replaced').textContent = replaced ?? '';
+  field('replaced-note').textContent = replaced === null ? 'The replaced text may be too long.'
+    : answer.is_cut ? `These are its first ${number(replaced.length)} characters.` : '';
+  drawMarks(question.text, answer.matches ?? []);
+  drawTable(question.text, answer);
+}
+
+function asked() {
+  const flags = [...document.querySelectorAll('input[name="flag"]:checked')];
+  return { pattern: pattern.value, flags: flags.map((flag) => flag.value).join(''),
+    text: text.value, replacement: replacement.value };
+}
+
+async function answerTo(question) {
+  const body = new Blob([JSON.stringify(question)], { type: 'application/json' });
+  if (body.size > MOST_BYTES) return { refusal: 'pattern and text have over 2 MB' };
+  try {
+    return await (await fetch('search', { method: 'POST', body })).json();
+  } catch {
+    return { refusal: 'the server of this page does not answer' };
+  }
+}
+
+// One question at a time: what changes meanwhile is asked after the answer.
+let isWaiting = false;
+let hasChanged = false;
+async function ask() {
+  hasChanged = true;
+  if (isWaiting) return;
+  isWaiting = true;
+  while (hasChanged) {
+    hasChanged = false;
+    const question = asked();
+    show(question, await answerTo(question));
+  }
+  isWaiting = false;
+}
+
+field('form').addEventListener('input', ask);
+field('form').addEventListener('submit', (event) => event.preventDefault());
+text.addEventListener('scroll', () => { marks.scrollTop = text.scrollTop; });
+ask();

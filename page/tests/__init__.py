@@ -1,0 +1,1 @@
+"""Tests of the page: its server's answers, and the page in a browser."""
