@@ -1,4 +1,4 @@
--- Laws of what searches for several patterns tell.
+-- Laws of what searches for several patterns return.
 use Rattle.std.specs.Prelude.{◌≡◌, ◌↔◌, ℕ, List, [], ◌∷◌, Bool, IsTrue, Option, Some, None, is_some, option_map, option_and_then, slice_get}
 use Rattle.regex_lite_engine.specs.declared.pikevm.steps.Steps.{Steps}
 use Rattle.regex_lite.specs.declared.string.matches.Match.{Match}
@@ -10,17 +10,18 @@ use Rattle.regex_lite.specs.RegexListSearches.{AnyMatches, IsWithinListCost, Tel
 use Rattle.regex_lite.specs.Searches.{IsWithinCost, MatchesFrom, TellsGroups, TellsMatch}
 use Rattle.regex_lite.specs.Settings.{Settings}
 
--- what is told of the only pattern of a list
+-- a result for the only pattern of a list, with its number
 abbrev pub of_the_only : {A : Type 0} → Option A → Option (ℕ × A)
 of_the_only told = option_map (λ own. (0, own)) told
 
--- the list tells what its only pattern tells, and nothing else
+-- a search of the list returns what that of its only pattern returns, and nothing else
 pub record TellsAlike {A : Type 0} (alone : Option A → Type 0) (listed : Option (ℕ × A) → Type 0)
     : Type 0 where
   pub same : (told : Option A) → alone told ↔ listed (of_the_only told)
   pub only : (told : Option (ℕ × A)) → listed told → (own : Option A) × (told ≡ of_the_only own)
 
--- each search of a list of one pattern answers as that of the pattern's regex, within the same cost
+-- each search of a list of one pattern returns what that of the pattern's regex returns, within the
+-- same cost
 pub record AnswersAsItsRegex (re : Expression) (haystack : List ℕ) (start : ℕ) : Type 0 where
   pub is_match : MatchesFrom re haystack start ↔ AnyMatches (re ∷ []) haystack start
   pub match : TellsAlike (TellsMatch re haystack start) (TellsMatchOfList (re ∷ []) haystack start)
@@ -33,12 +34,12 @@ abbrev pub ListOfOneAnswersAsItsRegex : Type 0
 ListOfOneAnswersAsItsRegex =
     (re : Expression) (haystack : List ℕ) (start : ℕ) → AnswersAsItsRegex re haystack start
 
--- it is accepted exactly where the pattern is
+-- a list of one pattern is accepted exactly if the pattern is
 abbrev pub ListOfOneIsAcceptedAsItsRegex : Type 0
 ListOfOneIsAcceptedAsItsRegex =
     (settings : Settings) → IsAccepted settings ↔ AreAccepted (settings ∷ [])
 
--- no search of an empty list finds anything, and each tries no place
+-- no search of an empty list finds anything or tries a place
 pub record FindsNothing (haystack : List ℕ) (start : ℕ) : Type 0 where
   pub is_match : AnyMatches [] haystack start → ⊥
   pub match : (told : Option (ℕ × Match))
@@ -50,7 +51,7 @@ pub record FindsNothing (haystack : List ℕ) (start : ℕ) : Type 0 where
 abbrev pub EmptyListFindsNothing : Type 0
 EmptyListFindsNothing = (haystack : List ℕ) (start : ℕ) → FindsNothing haystack start
 
--- what is found is what the search for the pattern with the number tells
+-- what a search of a list finds is what the search for the pattern with that number finds
 abbrev pub ListAnswersAreAnswers : Type 0
 ListAnswersAreAnswers =
     (list : List Expression) (haystack : List ℕ) (start number : ℕ)
@@ -60,7 +61,7 @@ ListAnswersAreAnswers =
     → (re : Expression) × (slice_get list number ≡ Some re)
     × TellsGroups re haystack start (Some groups))
 
--- a search for whether one of the patterns matches, one for the match and one for its groups agree
+-- the searches for whether a pattern matches, for the match and for its groups agree
 pub record AgreeOnList (found : Bool) (m : Option (ℕ × Match)) (groups : Option (ℕ × Groups))
     : Type 0 where
   pub with_match : is_some m ≡ found
@@ -71,7 +72,7 @@ pub record AgreeOnList (found : Bool) (m : Option (ℕ × Match)) (groups : Opti
   pub whole : option_map (λ told. span_of_match told.1) m
       ≡ option_and_then (λ told. group_span told.1 0) groups
 
--- those for one list, in one haystack and from one offset on, do
+-- the searches of one list in one haystack, from one offset on, agree
 abbrev pub ListSearchesAgree : Type 0
 ListSearchesAgree =
     (list : List Expression) (haystack : List ℕ) (start : ℕ) (found : Bool)

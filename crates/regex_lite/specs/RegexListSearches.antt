@@ -1,4 +1,4 @@
--- What searches for several patterns tell, by offsets.
+-- What searches for several patterns return, by offsets.
 use Rattle.std.specs.Prelude.{◌≡◌, ℕ, Bool, List, Option, Some, None, chars, slice_get}
 use Rattle.regex_lite_syntax.specs.Text.{Text}
 use Rattle.regex_lite_syntax.specs.Tree.{Tree}
@@ -18,16 +18,15 @@ abbrev pub AnyMatches : List Expression → (haystack : List ℕ) → (start : �
 AnyMatches list haystack start =
     OfTrees list (λ trees. AnyMatchesFrom trees (chars haystack) (search_start haystack start))
 
--- of each pattern, by its number, it is told whether it matches from some position at or after this
--- offset
+-- for each pattern, by its number, whether it matches from some position at or after this offset
 abbrev pub TellsWhichMatch : List Expression → (haystack : List ℕ) → (start : ℕ)
     → (matched : List Bool) → Type 0
 TellsWhichMatch list haystack start matched =
     OfTrees list (λ trees.
     TellsWhich trees (chars haystack) (search_start haystack start) matched)
 
--- what is told of the answer of a search from position s on: nothing where there is none, and else
--- the number of the pattern, and what this says of what is found of its tree
+-- what a search from position s on returns: `None` if there is no match, and otherwise the number
+-- of the pattern and a value of which `says` holds for its tree and what is found
 abbrev pub TellsOfList : {A : Type 0} → (says : Tree → Found → A → Type 0)
     → List Tree → Text → (s : ℕ) → Option (ℕ × A) → Type 0
 TellsOfList says trees haystack s None = IsAnswerOfList trees haystack s None
@@ -35,20 +34,20 @@ TellsOfList says trees haystack s (Some told) =
     (found : Found) × (answer : IsFoundInList trees haystack s told.0 found)
     × says answer.tree found told.1
 
--- so of a search for the patterns from this offset on
+-- the same for a search for the patterns from this offset on
 abbrev pub TellsAnswerOfList : {A : Type 0} → (says : Tree → Found → A → Type 0)
     → List Expression → (haystack : List ℕ) → (start : ℕ) → Option (ℕ × A) → Type 0
 TellsAnswerOfList says list haystack start told =
     OfTrees list (λ trees.
     TellsOfList says trees (chars haystack) (search_start haystack start) told)
 
--- what is told is the match, with the number of its pattern
+-- the search returns the match, with the number of its pattern
 abbrev pub TellsMatchOfList : List Expression → (haystack : List ℕ) → (start : ℕ)
     → Option (ℕ × Match) → Type 0
 TellsMatchOfList list haystack start told =
     TellsAnswerOfList (λ tree. IsMatchOf haystack) list haystack start told
 
--- what is told are the groups, with the number of their pattern
+-- the search returns the groups, with the number of their pattern
 abbrev pub TellsGroupsOfList : List Expression → (haystack : List ℕ) → (start : ℕ)
     → Option (ℕ × Groups) → Type 0
 TellsGroupsOfList list haystack start told =
@@ -60,7 +59,7 @@ pub record AreOfPattern (list : List Expression) (told : ℕ × Groups) : Type 0
   pub numbered : slice_get list told.0 ≡ Some re
   pub of_match : AreOfMatch re told.1
 
--- the search did no more than the places and the arrows of the patterns written out allow
+-- the search did no more than the places and arrows of the written-out patterns allow
 abbrev pub IsWithinListCost : List Expression → (haystack : List ℕ) → (start : ℕ) → Steps → Type 0
 IsWithinListCost list haystack start steps =
     OfTrees list (λ trees. HasCostOfList trees haystack start steps)

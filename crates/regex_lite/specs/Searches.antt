@@ -1,4 +1,4 @@
--- What searches tell, by offsets.
+-- What searches return, by offsets.
 use Rattle.std.specs.Prelude.{◌≡◌, ◌<◌, ◌≤◌, ◌⊎◌, ℕ, zero, suc, List, [], ◌∷◌, Option, Some, None, IsSome, IsCharBoundary, chars, length, option_map}
 use Rattle.regex_lite_syntax.specs.Text.{Text}
 use Rattle.regex_lite_syntax.specs.Tree.{Tree}
@@ -13,12 +13,12 @@ use Rattle.regex_lite.specs.Expression.{Expression, OfTree, AreNames}
 use Rattle.regex_lite.specs.Groups.{Groups, group_span}
 use Rattle.regex_lite.specs.MatchViews.{haystack_of_match, span_of_match}
 
--- what every search asks of its start, in a haystack that is given as its bytes: it is above the
+-- the condition of every search on its start, for a haystack given as bytes: the start is above the
 -- length or on a character boundary
 abbrev pub CanStartAt : (haystack : List ℕ) → (start : ℕ) → Type 0
 CanStartAt haystack start = (length haystack < start) ⊎ IsCharBoundary haystack start
 
--- what a search that writes to locations asks of them: they have no more groups than the regex
+-- the condition of a search that writes to locations: they have no more groups than the regex
 abbrev pub CanRead : Expression → (locations : List (Option (ℕ × ℕ))) → Type 0
 CanRead re locations = OfTree re (λ tree. length locations ≤ captures_len tree)
 
@@ -31,39 +31,39 @@ MatchesFrom re haystack start =
 abbrev pub offsets : Text → ℕ × ℕ → ℕ × ℕ
 offsets haystack positions = (offset haystack positions.0, offset haystack positions.1)
 
--- the spans, as offsets, of so many groups from this index on
+-- the spans, as offsets, of this number of groups from this index on
 abbrev pub spans_from : Text → Marks → (first count : ℕ) → List (Option (ℕ × ℕ))
 spans_from haystack marks first zero = []
 spans_from haystack marks first (suc count) =
     option_map (offsets haystack) (span marks first) ∷ spans_from haystack marks (suc first) count
 
--- what is told of the answer of a search from position s on: nothing where there is none, and else
--- what this says of what is found
+-- what a search from position s on returns: `None` if there is no match, and otherwise a value of
+-- which `says` holds for what is found
 abbrev pub TellsOf : {A : Type 0} → (says : Found → A → Type 0)
     → Tree → Text → (s : ℕ) → Option A → Type 0
 TellsOf says tree haystack s None = IsAnswer tree haystack s None
 TellsOf says tree haystack s (Some told) =
     (found : Found) × IsAnswer tree haystack s (Some found) × says found told
 
--- so of a search for the pattern from this offset on
+-- the same for a search for the pattern from this offset on
 abbrev pub TellsAnswer : {A : Type 0} → (says : Tree → Found → A → Type 0)
     → Expression → (haystack : List ℕ) → (start : ℕ) → Option A → Type 0
 TellsAnswer says re haystack start told =
     OfTree re (λ tree.
     TellsOf (says tree) tree (chars haystack) (search_start haystack start) told)
 
--- the match is that which was found in the haystack
+-- the match is the one that was found in the haystack
 pub record IsMatchOf (bytes : List ℕ) (found : Found) (m : Match) : Type 0 where
   pub haystack : haystack_of_match m ≡ bytes
   pub span : span_of_match m ≡ offsets (chars bytes) (found.start, found.end)
 
--- what is told is the match
+-- the search returns the match
 abbrev pub TellsMatch : Expression → (haystack : List ℕ) → (start : ℕ) → Option Match → Type 0
 TellsMatch re haystack start told =
     TellsAnswer (λ tree. IsMatchOf haystack) re haystack start told
 
--- the groups are those of what was found, each with its span and its name, and there are as many as
--- the tree has. Group 0 took part
+-- the groups are those of what was found, each with its span and its name, and as many as the tree
+-- has; group 0 took part
 pub record AreGroupsOf (tree : Tree) (bytes : List ℕ) (found : Found) (groups : Groups)
     : Type 0 where
   pub haystack : groups.haystack ≡ bytes
@@ -72,7 +72,7 @@ pub record AreGroupsOf (tree : Tree) (bytes : List ℕ) (found : Found) (groups 
   pub static_captures : groups.static_captures_len ≡ static_captures_len tree
   pub whole : IsSome (group_span groups 0)
 
--- what is told are the groups
+-- the search returns the groups
 abbrev pub TellsGroups : Expression → (haystack : List ℕ) → (start : ℕ) → Option Groups → Type 0
 TellsGroups re haystack start told =
     TellsAnswer (λ tree. AreGroupsOf tree haystack) re haystack start told
@@ -83,11 +83,11 @@ pub record AreOfMatch (re : Expression) (groups : Groups) : Type 0 where
   pub start : ℕ
   pub told : TellsGroups re haystack start (Some groups)
 
--- the groups of each match tell this number of those that at least take part
+-- the groups of each match have this as the number of groups that are known to take part
 pub record IsStaticNumber (re : Expression) (known : Option ℕ) : Type 0 where
   pub each : (groups : Groups) → AreOfMatch re groups → groups.static_captures_len ≡ known
 
--- what is told is the match, of which these are the first groups
+-- the search returns the match, and these are the spans of its first groups
 abbrev pub TellsLocations : Expression → (haystack : List ℕ) → (start : ℕ)
     → List (Option (ℕ × ℕ)) → Option Match → Type 0
 TellsLocations re haystack start spans told =
@@ -95,10 +95,10 @@ TellsLocations re haystack start spans told =
     × (spans ≡ spans_from (chars haystack) found.marks 0 (length spans)))
     re haystack start told
 
--- what is told is where the match ends that ends first
+-- the search returns the end of the match that ends first
 abbrev pub TellsEnd : Expression → (haystack : List ℕ) → (start : ℕ) → Option ℕ → Type 0
 TellsEnd re haystack start told = OfTree re (λ tree. IsEndOutcome tree haystack start told)
 
--- the search did no more than the places and the arrows of the pattern written out allow
+-- the search did no more than the places and arrows of the written-out pattern allow
 abbrev pub IsWithinCost : Expression → (haystack : List ℕ) → (start : ℕ) → Steps → Type 0
 IsWithinCost re haystack start steps = OfTree re (λ tree. HasCost tree haystack start steps)

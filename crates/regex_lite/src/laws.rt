@@ -1,6 +1,6 @@
-//! What this library is for, in two contracts, and laws of what searches tell, of lists, pieces and
-//! replacements, of escaped texts and of equality. A function of a law does nothing: its contract
-//! is the law.
+//! What this library is for, in two contracts, and laws of what searches return, of lists, pieces
+//! and replacements, of escaped texts and of equality. The function of a law does nothing: its
+//! contract is the law.
 ghost use Rattle.std.specs.Cmp.{IsEquivalence};
 ghost use Rattle.regex_lite.specs.Headline.{Headline, ListHeadline};
 ghost use Rattle.regex_lite.specs.Laws.{EnoughGroupsTakePart, EscapedTextsAreRefusedForSize, EscapedTextsMatchThemselves, GroupsLieInside, MatchesAreTheirSpans, SearchesAgree};
@@ -13,13 +13,13 @@ ghost use Rattle.regex_lite.specs.Searches.{CanStartAt};
 use crate::{Captures, Error, RegexBuilder, RegexListBuilder, Replacer, Steps};
 
 /// The whole promise of this library for one pattern, by public calls alone: the regex is built,
-/// and the counted search tells the groups of the match from the start on, and its cost.
+/// and the counted search returns the groups of the match at or after the start, and its cost.
 ///
 /// Condition: the start is above the haystack's length or on a character boundary.
 ///
 /// # Errors
 ///
-/// Those of [`RegexBuilder::build`], and `Memory` where a growth is refused.
+/// Those of [`RegexBuilder::build`], and `Memory` if memory runs out.
 pub fn headline<'h>(
     builder: &RegexBuilder,
     haystack: &'h str,
@@ -32,13 +32,13 @@ pub fn headline<'h>(
     regex.captures_counted_at(haystack, start)
 }
 
-/// The same for several patterns at once. The answer has the number of the pattern that matches.
+/// The same for several patterns at once. The result has the number of the pattern that matches.
 ///
 /// Condition: the start is above the haystack's length or on a character boundary.
 ///
 /// # Errors
 ///
-/// Those of [`RegexListBuilder::build`], and `Memory` where a growth is refused.
+/// Those of [`RegexListBuilder::build`], and `Memory` if memory runs out.
 pub fn list_headline<'h>(
     builder: &RegexListBuilder,
     haystack: &'h str,
@@ -57,68 +57,67 @@ pub fn searches_agree()
     ensures { SearchesAgree }
 {}
 
-/// The groups that a search tells lie inside the match, on character boundaries. At least as many
-/// of them took part as the regex tells of every match.
+/// The groups that a search returns lie inside the match, on character boundaries. At least as many
+/// of them took part as `static_captures_len` says of every match.
 pub fn groups_lie_inside()
     ensures inside { GroupsLieInside }
     ensures enough { EnoughGroupsTakePart }
 {}
 
-/// The matches of a haystack don't overlap, their ends strictly grow, and they are at most one
-/// more than its characters. A haystack has one list of them.
+/// The matches in a haystack don't overlap, their ends increase strictly, and there is at most one
+/// more of them than there are characters. A haystack has one list of matches.
 pub fn matches_are_apart()
     ensures apart { MatchesAreApart }
     ensures one_list { OneMatchList }
 {}
 
-/// The pieces of a haystack are one more than its matches, and pieces and matches in turn give the
+/// A haystack has one more piece than it has matches, and pieces and matches in turn give the
 /// haystack. It has one list of pieces.
 pub fn pieces_and_matches_are_the_haystack()
     ensures between { PiecesAndMatches }
     ensures one_list { OnePieceList }
 {}
 
-/// Matches that are replaced by the template `$0` stay as they are. Here `R` is any text, by the
-/// relations that each of them has as a replacer.
+/// Replacing each match by the template `$0` changes nothing. Here `R` is any text used as a
+/// replacer.
 pub fn whole_matches_give_the_haystack<R>()
     ensures { WholeMatchesGiveHaystack R }
 {}
 
-/// Where a text has no `$`, replacing each match by the text as it stands gives the same as
-/// replacing it by what the text gives as a template. Here `R` is as above.
+/// For a text without `$`, replacing each match by the text itself gives the same as using the text
+/// as a template. Here `R` is as above.
 pub fn fixed_text_is_template<R>()
     ensures { FixedTextIsTemplate R }
 {}
 
-/// A replacer that is lent replaces as it does itself. Here `L` is what lends it, as a
-/// `ReplacerRef` does.
+/// A borrowed replacer behaves as the replacer itself. Here `L` is the type that borrows it, such
+/// as `ReplacerRef`.
 pub fn lent_replacers_replace_alike<L, R: Replacer>()
     ensures { LentReplacersReplaceAlike R.fixed R.appends L }
 {}
 
-/// Equality of matches is an equivalence: two are equal exactly where the texts of their haystacks
-/// are, and their starts and their ends.
+/// Equality of matches is an equivalence: two are equal exactly if the texts of their haystacks,
+/// their starts and their ends are equal.
 pub fn matches_are_equal_by_text_and_span()
     ensures equivalence { IsEquivalence is_same_match }
     ensures by_text { MatchesAreTheirSpans }
 {}
 
-/// Equality of any values for which there is one, [`Error`](crate::Error) among them, is an
-/// equivalence.
+/// Equality is an equivalence for every type that has it, such as [`Error`](crate::Error).
 pub fn equality_is_an_equivalence<T: Eq>()
     ensures { IsEquivalence T.eq }
 {}
 
 /// The pattern that [`escape`](crate::escape) makes of a text has a tree under the default
-/// settings, and matches exactly where the text stands in the haystack. It is refused only as too
+/// settings, and matches exactly where the text occurs in the haystack. It is refused only as too
 /// large, by `Size` or `Places`, or because memory runs out.
 pub fn escaped_texts_match_themselves()
     ensures refused { EscapedTextsAreRefusedForSize }
     ensures matches { EscapedTextsMatchThemselves }
 {}
 
-/// A list of one pattern is accepted exactly where the pattern is, and each of its searches answers
-/// as that of the pattern's [`Regex`](crate::Regex), within the same cost.
+/// A list of one pattern is accepted exactly if the pattern is, and each of its searches returns
+/// what that of the pattern's [`Regex`](crate::Regex) returns, within the same cost.
 pub fn list_of_one_answers_as_its_regex()
     ensures accepted { ListOfOneIsAcceptedAsItsRegex }
     ensures answers { ListOfOneAnswersAsItsRegex }
@@ -129,8 +128,8 @@ pub fn empty_list_finds_nothing()
     ensures { EmptyListFindsNothing }
 {}
 
-/// What a search for several patterns finds is what the search for the pattern with the answered
-/// number tells, from the same offset on.
+/// What a search for several patterns finds is what the search for the pattern with the returned
+/// number finds from the same offset on.
 pub fn list_answers_are_answers()
     ensures { ListAnswersAreAnswers }
 {}

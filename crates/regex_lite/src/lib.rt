@@ -20,7 +20,7 @@
 //! What a pattern means is stated in `specs/`: the grammar says which tree a pattern stands for,
 //! and the match relation says which parts of a haystack a tree matches.
 //!
-//! A [`RegexList`] holds several patterns, which are searched for at once: it answers which of them
+//! A [`RegexList`] holds several patterns, which are searched for at once: it finds which of them
 //! matches first, and where.
 //!
 //! A [`RegexBuilder`] has the pattern read and written out by the two crates below; what it builds

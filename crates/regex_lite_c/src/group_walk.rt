@@ -12,8 +12,8 @@ use regex_lite::{CaptureMatches, Regex};
 use std::alloc::Global;
 
 /// The groups of the next matches of a text, as many as there is room for: 1 with the spans of each
-/// match in a row, from the whole match on, or 0 where none is left. How many matches these are is
-/// told, and the walk goes on after the last of them.
+/// match in a row, from the whole match on, or 0 where none is left. The number of these matches is
+/// written too, and the walk goes on after the last of them.
 ///
 /// They are the matches of `regex_lite_find_all`. Where memory runs out after some of them, these
 /// are written.

@@ -10,7 +10,7 @@ use regex_lite::{Captures, Regex};
 use std::alloc::Global;
 
 /// The groups of the match that starts first from this offset on: 1 with their spans written, from
-/// the whole match on, or 0. With a match, how many groups there are is told either way.
+/// the whole match on, or 0. With a match, the number of groups is written either way.
 #[unsafe(no_mangle)]
 pub extern "C" fn regex_lite_captures(
     alloc: Global,

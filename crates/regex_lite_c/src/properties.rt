@@ -1,4 +1,4 @@
-//! What a regex tells of its pattern and its groups.
+//! What a regex says of its pattern and its groups.
 ghost use Rattle.std.specs.Prelude.{◌≡◌, IfSome, MatchOption, None, option_map, slice_get, unwrap_or};
 ghost use Rattle.regex_lite_syntax.specs.Tree.Properties.{captures_len, static_captures_len};
 ghost use Rattle.regex_lite_engine.specs.Graph.PlaceCounts.{whole_arrows, whole_places};
@@ -36,7 +36,7 @@ pub extern "C" fn regex_lite_pattern(
     answer
 }
 
-/// How many groups a match tells of, the whole match among them; 0 where nothing is held.
+/// The number of groups of a match, including the whole match; 0 if the handle holds nothing.
 #[unsafe(no_mangle)]
 pub extern "C" fn regex_lite_groups(alloc: Global, handle: &mut Handle) -> usize
     ensures same { handle.new.value ≡ handle.old.value }

@@ -12,7 +12,7 @@ use regex_lite::{Error, NoExpand, Regex};
 use std::alloc::Global;
 use std::borrow::CowStr;
 
-/// Writes the text with its matches replaced to the room: 1. The new text's length is told by
+/// Writes the text with its matches replaced to the room: 1. The new text's length is written to
 /// `replacing` either way.
 #[unsafe(no_mangle)]
 pub extern "C" fn regex_lite_replace(

@@ -11,7 +11,8 @@ use regex_lite::{Matches, Regex};
 use std::alloc::Global;
 
 /// The next matches of a text, as many as there is room for: 1 with their spans written, or 0 where
-/// none is left. How many were written is told, and the walk goes on after the last of them.
+/// none is left. The number of matches written is stored too, and the walk goes on after the last
+/// of them.
 ///
 /// They are the matches of one text from left to right, of which no two overlap: after a match the
 /// next is looked for where it ended, and where that would be an empty match at that very place,

@@ -2,7 +2,7 @@
 //!
 //! [`Graph::new`] counts a tree, tests it against the limits and writes it out as numbered places
 //! with ordered arrows (`nfa`). [`Graph::search`] goes over a haystack's bytes along the arrows,
-//! counts its [`Steps`] and tells an [`Outcome`]: depth first where there is little to keep
+//! counts its [`Steps`] and returns an [`Outcome`]: depth first where there is little to keep
 //! (`backtrack`), and else position by position (`pikevm`). `interpolate` cuts a template into its
 //! pieces. `laws` holds what is true of the definitions alone: of matches, ways, answers and
 //! templates.

@@ -186,7 +186,7 @@ impl Graph {
         self.table.reading()
     }
 
-    /// How much a search with so many slots keeps back that enters each place once.
+    /// How much a search with this number of slots keeps for later if it enters each place once.
     pub(crate) fn kept_back(&self, slots: usize) -> usize
         ensures { result ≡ sum_by (kept_back_with slots) (table_of self.now) }
     {

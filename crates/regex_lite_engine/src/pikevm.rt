@@ -43,7 +43,7 @@ use steps::Steps;
 use turn::Cache;
 use walk::Walk;
 
-/// All the memory of a search that keeps so many slots, asked for before its first step.
+/// All the memory of a search that keeps this number of slots, asked for before its first step.
 pub(crate) fn cache_for<S: Beginning>(
     alloc: Global,
     table: &Table,

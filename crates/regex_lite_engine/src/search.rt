@@ -12,17 +12,17 @@ use crate::pikevm::search::Outcome;
 use crate::pikevm::steps::Steps;
 use std::alloc::{AllocError, Global};
 
-/// A search of at most so many pairs of a place and a position goes depth first. It keeps a bit of
-/// each, and has room for a frame.
+/// A search of at most this number of pairs of a place and a position goes depth first. It keeps a
+/// bit for each, and has room for a frame.
 const MOST_PAIRS: usize = 262_144;
 
-/// Characters are counted in parts of so many bytes. The count of a part fits in a byte, so that a
-/// machine can add up many at once, and a part is whole blocks of 32 bytes.
+/// Characters are counted in parts of this number of bytes. The count of a part fits in a byte, so
+/// that a machine can add many at once, and a part consists of whole blocks of 32 bytes.
 const PART: usize = 224;
 
 impl Graph {
-    /// The most preferred match from the least start at or after this offset, with so many slots,
-    /// and what the search did.
+    /// The most preferred match from the least start at or after this offset, with this number of
+    /// slots, and what the search did.
     ///
     /// Condition: the start is above the haystack's length or on a character boundary.
     ///

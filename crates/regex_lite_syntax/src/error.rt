@@ -1,6 +1,6 @@
 //! Why a pattern is refused: the kinds of refusal and the text of each.
 //!
-//! A text of a syntax fault stands in one place, `SyntaxFault::text`, so that it tells which rule
+//! A text of a syntax fault stands in one place, `SyntaxFault::text`, so that it shows which rule
 //! of the grammar a pattern broke.
 ghost use Rattle.std.specs.Prelude.{◌≡◌, Some};
 ghost use Rattle.regex_lite_syntax.specs.Errors.{kind_of, text_of, syntax_error, too_deep, too_many_groups, passed_limit, out_of_memory, refused_replacement};

@@ -2,8 +2,8 @@
 //!
 //! [`Hir::parse`] reads a pattern's characters under the [`Flags`] of a [`Config`] and gives its
 //! tree, [`Hir`], or an [`Error`]. The module `parse` has a reader for each construct and keeps the
-//! open groups on a stack of its own; `class` makes the sets that a tree holds, `hir` tells what a
-//! tree says of itself, and `error` names each way of refusing. `laws` holds what is true of the
+//! open groups on a stack of its own; `class` makes the sets that a tree holds, `hir` has the
+//! properties of a tree, and `error` names each way of refusing. `laws` holds what is true of the
 //! definitions alone.
 #![tactic(auto)]
 

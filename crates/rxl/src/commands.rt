@@ -80,8 +80,8 @@ pub(crate) fn print_pieces<W: Write>(
     Ok(true)
 }
 
-/// Prints the haystack with what the template gives in the place of each match, and answers
-/// whether there is a match.
+/// Prints the haystack with each match replaced by the template, and returns whether there is a
+/// match.
 pub(crate) fn print_replaced<W: Write>(
     regex: &Regex,
     haystack: &str,

@@ -37,8 +37,8 @@ impl Fault {
         }
     }
 
-    /// Writes the line that reports the fault. Where there is no memory to tell of a refusal, the
-    /// out of memory is reported.
+    /// Writes the line that reports the fault. If there is no memory to describe a refusal, the
+    /// line reports that memory ran out.
     ///
     /// # Errors
     ///

@@ -51,14 +51,14 @@ pub(crate) fn run<R: Read, O: Write, E: Write>(
         Ok(true) => 0,
         Ok(false) => 1,
         Err(fault) => {
-            // Where this fails too, the status is all that is left to tell.
+            // If this fails too, only the status can report it.
             let _ = fault.report(alloc, err);
             2
         }
     }
 }
 
-/// Writes the answer to what the arguments ask, and tells whether it was found.
+/// Runs the command that the arguments ask for, and returns whether something was found.
 fn print_answer<R: Read, W: Write>(
     alloc: Global,
     args: &[&str],

@@ -58,7 +58,7 @@ impl<'h> Deref for Captures<'h> {
 impl<'h> Captures<'h> {
     ghost use Rattle.regex_lite.specs.MatchViews.{spans_to_come, haystack_of_match, span_of_match};
 
-    /// The groups that these slots hold, of the pattern that the source tells of.
+    /// The groups in these slots, of the pattern that the source names.
     pub(super) fn new(haystack: &'h str, slots: Vec<Option<usize>>, source: Source) -> Captures<'h>
         requires { AreGroups (groups_of haystack.now slots.items source) }
         ensures { result ≡ groups_of haystack.now slots.items source }
@@ -124,7 +124,7 @@ impl<'h> Captures<'h> {
 
     /// The text of the group with this index.
     ///
-    /// Condition: the group is there and took part, as [`Captures::get`] tells.
+    /// Condition: the group is there and took part, as [`Captures::get`] shows.
     ///
     /// ```
     /// let regex = Regex::new(alloc, "(a+)(b+)?")?;
@@ -149,7 +149,7 @@ impl<'h> Captures<'h> {
 
     /// The text of the group with this name.
     ///
-    /// Condition: the group is there and took part, as [`Captures::name`] tells.
+    /// Condition: the group is there and took part, as [`Captures::name`] shows.
     ///
     /// ```
     /// let regex = Regex::new(alloc, "(?<key>[a-z]+)=")?;

@@ -55,7 +55,7 @@ impl<T: Text> Model for CapturesIn<T> {
 }
 
 impl<T: Text> CapturesIn<T> {
-    /// The groups that these slots hold, of the pattern that the source tells of.
+    /// The groups in these slots, of the pattern that the source names.
     pub(super) fn new(haystack: T, slots: Vec<Option<usize>>, source: Source) -> Self
         requires { AreGroups (groups_of (T.bytes haystack) slots.items source) }
         ensures { result ≡ groups_of (T.bytes haystack) slots.items source }
@@ -78,7 +78,7 @@ impl<T: Text> CapturesIn<T> {
 
     /// The text of the whole match, and those of the first N other groups that took part, by index.
     ///
-    /// Condition: the regex tells by `static_captures_len` that N + 1 groups at least take part in
+    /// Condition: `static_captures_len` of the regex says that at least N + 1 groups take part in
     /// each of its matches.
     ///
     /// ```

@@ -1,4 +1,4 @@
-//! Searches that tell what they cost.
+//! Searches that return their cost.
 ghost use Rattle.std.specs.Prelude.{◌≡◌, ◌<◌, ◌↔◌, IfOk, IfErr, IfSome, IsTrue};
 ghost use Rattle.regex_lite_syntax.specs.Errors.{out_of_memory};
 ghost use Rattle.regex_lite.specs.Searches.{AreOfMatch, CanStartAt, IsWithinCost, MatchesFrom, TellsEnd, TellsGroups, TellsMatch};
@@ -14,7 +14,7 @@ use regex_lite_syntax::Error;
 /// Each search tries places of the pattern written out at most so often: one more than its arrows,
 /// times one more than the characters from the start to the haystack's end. It enters places at
 /// most so often: the places, times one more than those characters. [`Regex::places`] and
-/// [`Regex::arrows`] tell how many there are. A search from above the length tries none, and one
+/// [`Regex::arrows`] return how many there are. A search from above the length tries none, and one
 /// that finds something has entered a place.
 impl Regex {
     /// [`Regex::is_match_at`], and what the search cost.

@@ -11,7 +11,7 @@ use regex_lite_syntax::Error;
 use std::fmt;
 use std::marker::Model;
 
-/// A scan whose slots tell all groups of its matches, and groups that were given back to it.
+/// A scan whose slots hold all groups of its matches, and groups that were given back to it.
 #[derive(Drop)]
 pub(super) struct GroupScan<'r, 'h> {
     scan: Scan<'r, 'h>,

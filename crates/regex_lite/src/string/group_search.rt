@@ -12,9 +12,9 @@ use crate::string::regex::Regex;
 use regex_lite_syntax::Error;
 
 impl Regex {
-    /// The groups of the match that [`Regex::find`] answers.
+    /// The groups of the match that [`Regex::find`] returns.
     ///
-    /// A group that takes part more than once tells of the last time.
+    /// For a group that takes part more than once, the last time counts.
     ///
     /// ```
     /// let regex = Regex::new(alloc, "([a-z]+)(?:=([0-9]+))?")?;
@@ -38,7 +38,7 @@ impl Regex {
         self.captures_at(haystack, 0)
     }
 
-    /// The groups of the match that [`Regex::find_at`] answers.
+    /// The groups of the match that [`Regex::find_at`] returns.
     ///
     /// Looks see the whole haystack, as they do in [`Regex::is_match_at`].
     ///
@@ -61,7 +61,7 @@ impl Regex {
         Ok(found)
     }
 
-    /// The match that [`Regex::find`] answers, with its groups written to the locations.
+    /// The match that [`Regex::find`] returns, with its groups written to the locations.
     ///
     /// As many groups are written as the locations have. Without a match, or refused, the locations
     /// stay as they were.
@@ -98,7 +98,7 @@ impl Regex {
         self.captures_read_at(locs, haystack, 0)
     }
 
-    /// The match that [`Regex::find_at`] answers, with its groups written to the locations.
+    /// The match that [`Regex::find_at`] returns, with its groups written to the locations.
     ///
     /// As many groups are written as the locations have. Without a match, or refused, the locations
     /// stay as they were. Looks see the whole haystack, as they do in [`Regex::is_match_at`].

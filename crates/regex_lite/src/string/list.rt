@@ -31,9 +31,9 @@ use std::marker::Model;
 /// Several patterns that are ready to be searched for at once. They are numbered from 0 on, in
 /// their order.
 ///
-/// A search goes over the haystack once, whatever the number of patterns. It tells the match that
-/// starts first, and of the patterns that match there the one with the lowest number.
-/// [`RegexList::matches`] alone, which tells of each pattern whether it matches, goes over the
+/// A search goes over the haystack once, whatever the number of patterns. It finds the match that
+/// starts first and, among the patterns that match there, the one with the lowest number. Only
+/// [`RegexList::matches`], which returns for each pattern whether it matches, goes over the
 /// haystack once for each.
 ///
 /// Clones share what was built, so a clone costs little. It always succeeds.

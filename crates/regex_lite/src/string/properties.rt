@@ -1,4 +1,4 @@
-//! What a regex tells of its groups and of its pattern written out.
+//! What a regex says of its groups and of its pattern written out.
 ghost use Rattle.std.specs.Prelude.{◌≡◌, ◌*◌, ◌^◌, ◌<◌, ℕ};
 ghost use Rattle.regex_lite_syntax.specs.Tree.Properties.{captures_len, static_captures_len};
 ghost use Rattle.regex_lite_engine.specs.Graph.PlaceCounts.{whole_places, whole_arrows};
@@ -10,7 +10,7 @@ use crate::string::capture_names::CaptureNames;
 use crate::string::regex::Regex;
 
 impl Regex {
-    /// How many groups a match tells of, the whole match among them.
+    /// The number of groups of a match, including the whole match.
     ///
     /// This is one more than the greatest index of a group that is left: groups under `{0}` are
     /// numbered, but fall out.

@@ -84,7 +84,7 @@ impl Regex {
     ///
     /// Condition: the replacer can append, which its ghost member `can_append` says. A
     /// [`ReplaceBy`](crate::ReplaceBy) can where its closure may be called on any groups, a
-    /// [`ReplacerRef`](crate::ReplacerRef) where the replacer behind it can, and a text or a
+    /// [`ReplacerRef`](crate::ReplacerRef) if the replacer that it borrows can, and a text or a
     /// [`NoExpand`](crate::NoExpand) always.
     ///
     /// # Errors

@@ -28,8 +28,8 @@ pub trait Replacer: Drop {
     ///
     /// # Errors
     ///
-    /// What the replacer answers: the provided ones only `Memory`, where a growth is refused, and
-    /// a [`ReplaceBy`] that of its closure.
+    /// Those of the replacer: the provided ones return only `Memory`, if memory runs out, and a
+    /// [`ReplaceBy`] returns that of its closure.
     fn replace_append(&mut self, caps: &Captures<'_>, dst: &mut String) -> Result<(), Error>
         requires { can_append self.old }
         ensures appended { (text : List ℕ)

@@ -43,8 +43,8 @@ impl<'r, 'h> Model for Scan<'r, 'h> {
 }
 
 impl<'r, 'h> Scan<'r, 'h> {
-    /// At the start of the haystack, with so many slots for a match. All matches are still to come,
-    /// or as many of them as the limit says.
+    /// At the start of the haystack, with this number of slots for a match. All matches are still
+    /// to come, or as many of them as the limit says.
     pub fn new(
         regex: &'r Regex,
         haystack: &'h str,
@@ -62,8 +62,8 @@ impl<'r, 'h> Scan<'r, 'h> {
         })
     }
 
-    /// After a match that ended at this offset, with so many slots for a match. All that follow are
-    /// still to come.
+    /// After a match that ended at this offset, with this number of slots for a match. All that
+    /// follow are still to come.
     pub fn after(
         regex: &'r Regex,
         haystack: &'h str,

@@ -96,7 +96,7 @@ impl Regex {
 
     /// The offset at which a match can be known first: the least end of any match.
     ///
-    /// It needn't be the end of the match that [`Regex::find`] answers.
+    /// It needn't be the end of the match that [`Regex::find`] returns.
     ///
     /// ```
     /// let regex = Regex::new(alloc, "a+")?;

@@ -38,8 +38,8 @@ impl<'r> Model for Searcher<'r> {
 }
 
 impl<'r> Searcher<'r> {
-    /// The regex with memory for its searches in haystacks of about so many bytes, whose matches
-    /// have so many slots.
+    /// The regex, with memory for searches in haystacks of about `bytes` bytes, whose matches have
+    /// `slots` slots.
     pub fn new(regex: &'r Regex, slots: usize, bytes: usize) -> Result<Searcher<'r>, Error>
         ensures regex { IfOk result (λ searcher. searcher.regex ≡ regex.now) }
         ensures slots { IfOk result (λ searcher. length searcher.slots ≡ slots) }

@@ -15,8 +15,8 @@ impl Regex {
         2 * self.compiled.graph.capture_names().len()
     }
 
-    /// How many slots a search for the groups keeps. Where the whole match is the only group, its
-    /// span tells them: then the search keeps none, and takes no longer than one for the match.
+    /// How many slots a search for the groups keeps. If the whole match is the only group, its span
+    /// is enough: then the search keeps none, and takes no longer than one for the match.
     pub(super) fn kept_slots(&self) -> usize
         ensures { OfTree self.now (λ tree. result ≡ kept_slots (captures_len tree)) }
     {

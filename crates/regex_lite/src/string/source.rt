@@ -15,7 +15,7 @@ enum Finder {
     Listed(Shared<CompiledList>, usize),
 }
 
-/// What tells the names of the groups of one pattern.
+/// Where the names of the groups of one pattern are found.
 #[derive(Drop)]
 pub(super) struct Source {
     finder: Finder,

@@ -37,8 +37,8 @@ impl Regex {
         })
     }
 
-    /// The pieces of [`Regex::split`] where they are at most so many, and else so many, of which
-    /// the last is the rest of the haystack as it is. A limit of 0 gives none.
+    /// The pieces of [`Regex::split`] if there are at most `limit`; otherwise the first `limit` - 1
+    /// of them, and then the rest of the haystack as it is. A limit of 0 gives none.
     ///
     /// ```
     /// let regex = Regex::new(alloc, " ")?;
@@ -108,7 +108,7 @@ impl<'r, 'h> Iterator for Split<'r, 'h> {
 
 impl<'r, 'h> FusedIterator for Split<'r, 'h> {}
 
-/// At most so many pieces of a haystack: an iterator that [`Regex::splitn`] makes.
+/// At most a given number of pieces of a haystack: the iterator that [`Regex::splitn`] returns.
 ///
 /// After the last piece it gives `None`, and goes on giving it. The pieces borrow the haystack
 /// alone, and outlive the iterator and the regex.

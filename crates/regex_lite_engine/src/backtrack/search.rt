@@ -1,4 +1,4 @@
-//! A search that goes depth first, from its working memory to what it tells.
+//! A search that goes depth first, from its working memory to its outcome.
 ghost use Rattle.std.specs.Prelude.{◌≡◌, ◌≤◌, ◌<◌, IfOk, IfSome, IsCharBoundary, length};
 ghost use Rattle.regex_lite_syntax.specs.Tree.{Tree};
 ghost use Rattle.regex_lite_syntax.specs.Tree.Regular.{IsRegular};
@@ -19,7 +19,7 @@ use crate::pikevm::steps::Steps;
 use std::alloc::{AllocError, Global};
 
 impl Graph {
-    /// What [`Graph::search`] answers, found depth first.
+    /// What [`Graph::search`] returns, found depth first.
     pub(crate) fn search_depth_first(
         &self,
         alloc: Global,
@@ -42,8 +42,8 @@ impl Graph {
         Ok((outcome_of(found, stack), steps))
     }
 
-    /// All the memory of a search from this offset that keeps so many slots, asked for before its
-    /// first step.
+    /// All the memory of a search from this offset that keeps this number of slots, asked for
+    /// before its first step.
     fn walk_for(
         &self,
         alloc: Global,

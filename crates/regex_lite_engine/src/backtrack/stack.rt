@@ -28,7 +28,7 @@ impl Model for Stack {
 }
 
 impl Stack {
-    /// No frames, and no slot of so many is marked.
+    /// No frames, and none of the slots is marked.
     pub fn blank(alloc: Global, room: usize, slots: usize) -> Result<Stack, AllocError>
         ensures frames { IfOk result (λ stack. stack.frames ≡ []) }
         ensures row { IfOk result (λ stack. stack.row ≡ replicate slots None) }

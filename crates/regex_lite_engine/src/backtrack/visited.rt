@@ -6,26 +6,25 @@ ghost use Rattle.regex_lite_engine.specs.Backtrack.Machine.{pair_number, was_ent
 use std::alloc::{AllocError, Global};
 use std::marker::Model;
 
-/// Where so many words are enough, the value holds them itself, and no memory is asked for.
+/// Up to this number of words are held in the value itself, without an allocation.
 const FEW: usize = 64;
 
-/// Where a search comes after the last word, so many are added.
+/// How many words are added when a search goes past the last one.
 const BLOCK: usize = 16;
 
 /// A bit for each pair, in words of 64.
 #[derive(Drop)]
 enum Words {
     Few([u64; FEW]),
-    /// As many as a search has come to. There is room for all, and those after the last are 0.
+    /// As many as a search has reached. There is capacity for all; those after the last count as 0.
     Many(Vec<u64>),
 }
 
-/// Whether each pair was entered. It is never emptied: a pair that a search has left is of no use
-/// to what comes later.
+/// Which pairs were entered. It is never cleared: entering a pair again cannot help a search.
 #[derive(Drop)]
 pub struct Visited {
     words: Words,
-    /// How many pairs there are.
+    /// The number of pairs.
     count: usize,
     places: usize,
     /// The offset of the first pairs.
@@ -49,7 +48,7 @@ impl Model for Visited {
 }
 
 impl Visited {
-    /// None yet of the pairs of so many places, from the first offset to the last.
+    /// No pair entered yet, for this number of places and the offsets from `first` to `last`.
     pub fn none(
         alloc: Global,
         places: usize,
@@ -64,7 +63,7 @@ impl Visited {
     {
         let columns = (last - first).checked_add(1).ok_or(AllocError)?;
         let count = places.checked_mul(columns).ok_or(AllocError)?;
-        // They are made in this place, since a function that gave them back would copy them.
+        // Made here, since a function that returned them would copy them.
         let words = if count <= 64 * FEW {
             Words::Few([0; FEW])
         } else {
@@ -78,7 +77,7 @@ impl Visited {
         })
     }
 
-    /// Adds the pair, and tells whether it is new.
+    /// Adds the pair, and returns whether it is new.
     pub fn insert(&mut self, place: u32, at: usize) -> bool
         requires first { self.old.first ≤ at }
         requires inside { pair_number self.old.places self.old.first place at
@@ -97,7 +96,7 @@ impl Visited {
     }
 }
 
-/// Sets bit `k`, and tells whether it was not set before.
+/// Sets bit `k`, and returns whether it was clear before.
 fn set_bit(words: &mut [u64], k: usize) -> bool
     requires { k < 64 * length words.old }
     ensures fresh { (count : ℕ) → k < count
@@ -113,7 +112,7 @@ fn set_bit(words: &mut [u64], k: usize) -> bool
     true
 }
 
-/// The same where the words may end before it: those after the last are 0.
+/// As `set_bit`, for words that may end before bit `k`: the missing ones count as 0.
 fn set_bit_behind(words: &mut Vec<u64>, k: usize) -> bool
     requires { k < 64 * vec_capacity words.old }
     ensures fresh { (count : ℕ) → k < count
@@ -129,7 +128,7 @@ fn set_bit_behind(words: &mut Vec<u64>, k: usize) -> bool
     set_bit(words, k)
 }
 
-/// Lets so many words be there, if there are fewer. There is room for them.
+/// Extends the words with zeros to length `end`, if they are shorter. There is capacity for them.
 fn fill_to(words: &mut Vec<u64>, end: usize)
     requires { end ≤ vec_capacity words.old }
     ensures items { words.new.items

@@ -117,7 +117,7 @@ impl LazyDfa {
         let len = self.pending().len();
         'states: for y in 0..self.states.len() {
             let state = &self.states[y];
-            // Most states are told apart by how many ways they have.
+            // Most states differ in how many ways they have.
             if state.len == len
                 && state.is_like(searching, before, hit)
                 && are_same(self.ways(y), self.pending())

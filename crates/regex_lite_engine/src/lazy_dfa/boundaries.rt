@@ -14,7 +14,7 @@ const MOST: usize = 125;
 /// What isn't a character is apart from what is: the surrogates, and what is after the last.
 const CHARACTER_BOUNDS: [u32; 3] = [0xD800, 0xE000, 0x11_0000];
 
-/// What looks tell apart: line feeds, carriage returns, and the runs of word characters.
+/// What looks distinguish: line feeds, carriage returns, and the runs of word characters.
 const LOOK_BOUNDS: [u32; 12] = [10, 11, 13, 14, 48, 58, 65, 91, 95, 96, 97, 123];
 
 /// Where the intervals begin, but for the lowest.
@@ -88,7 +88,7 @@ impl Boundaries {
         true
     }
 
-    /// Adds those of what looks tell apart.
+    /// Adds those of what looks distinguish.
     fn add_looks(&mut self) -> bool
         ensures looks { result ≡ true → self.new.looks ≡ true }
         ensures grows { Grows self.old self.new }

@@ -1,4 +1,4 @@
-//! Classes of characters that no place of a graph tells apart.
+//! Classes of characters that no place of a graph distinguishes.
 ghost use Rattle.std.specs.Prelude.{◌≡◌, ◌+◌, ◌≤◌, ◌<◌, ℕ, IfOk, IfSome, length, slice_index};
 ghost use Rattle.regex_lite_engine.specs.LazyDfa.Intervals.{AreIntervalsOf, class_of, interval_of};
 
@@ -34,7 +34,8 @@ impl Model for Classes {
 }
 
 impl Classes {
-    /// Those that these places don't tell apart; none where there would be too many.
+    /// The classes of characters that these places don't distinguish; none if there would be too
+    /// many.
     pub(crate) fn of(alloc: Global, places: &[Place]) -> Result<Option<Classes>, AllocError>
         ensures { IfOk result (λ made. IfSome made (AreIntervalsOf places.now)) }
     {

@@ -257,7 +257,7 @@ impl LazyDfa {
             at.here = stuck.here;
             return;
         }
-        // The offset fits, since no haystack has so many bytes.
+        // The offset fits: no haystack has as many bytes.
         at.until = stuck.here.at + 1;
         if let Some(here) = idle {
             if here.at > at.here.at {

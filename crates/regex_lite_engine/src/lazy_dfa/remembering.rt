@@ -7,14 +7,14 @@ use crate::Graph;
 use crate::lazy_dfa::automaton::LazyDfa;
 use std::alloc::{AllocError, Global};
 
-/// From so many bytes on it pays to remember turns.
+/// From this number of bytes on it pays to remember turns.
 const LONG: usize = 1000;
 
-/// From so many on it pays where most characters are passed over before a match begins.
+/// From this number on it pays where most characters are passed over before a match begins.
 const LONG_BETWEEN_MATCHES: usize = 4096;
 
-/// Whether it pays to remember the turns of searches that go over so many bytes. By measure it
-/// doesn't where the first character of a match is looked for anyway and nothing branches after it.
+/// Whether it pays to remember the turns of searches over this number of bytes. By measurement it
+/// doesn't if the first character of a match is looked for anyway and nothing branches after it.
 pub(crate) fn pays(graph: &Graph, bytes: usize) -> bool {
     if graph.prefilter().is_none() {
         return bytes >= LONG;

@@ -11,16 +11,16 @@ ghost use Rattle.regex_lite_engine.specs.Nfa.Starts.{IsGrown};
 use crate::nfa::starts::Starts;
 use regex_lite_syntax::Hir;
 
-/// Where a match can begin, by the two characters that come next there. No match begins elsewhere.
+/// Where a match can begin, by the next two characters. No match begins anywhere else.
 #[derive(Drop)]
 pub(crate) struct Heads {
     pub(crate) first: Starts,
-    /// Those that come after the first. There is none where a match may be shorter, and where one
-    /// walk over the tree doesn't tell.
+    /// The possible second characters; `None` if a match may be shorter, or if one walk over the
+    /// tree doesn't find them.
     pub(crate) second: Option<Starts>,
 }
 
-/// How many ASCII characters are looked for after the first. Of more, one would mostly be there.
+/// The greatest number of ASCII second characters. With more, most text would have one of them.
 const MOST: u8 = 16;
 
 /// What a part of a pattern reads at its beginning.
@@ -28,9 +28,9 @@ const MOST: u8 = 16;
 pub(crate) enum Head {
     /// Nothing at all.
     Nothing,
-    /// One character, or more of which the second is known.
+    /// One character, or several of which the second is known.
     One,
-    /// More, and the second is known.
+    /// Two characters or more, of which the second is known.
     More,
 }
 
@@ -45,8 +45,8 @@ impl Heads {
         }
     }
 
-    /// Whether a match that begins with the character at this offset can go on, as far as the byte
-    /// after it tells.
+    /// Whether a match that begins with the character at this offset can go on, judging by the next
+    /// byte.
     pub(crate) fn may_go_on(&self, bytes: &[u8], at: usize) -> bool
         requires { at ≤ length bytes.now }
         ensures { result ≡ false → IsCutOff self.now bytes.now at }
@@ -63,13 +63,12 @@ impl Heads {
 }
 
 impl Starts {
-    /// The characters that come second in the matches of the tree, where each match has two and
-    /// they are few.
+    /// The second characters of the matches of the tree, if each match has two and they are few.
     fn second_of(hir: &Hir) -> Option<Starts>
         ensures { IfSome result (AreSecondOfTree (tree_of hir.now)) }
     {
         if let Hir::Repetition { body, .. } = hir {
-            // Its passes may be one, so a walk would tell nothing.
+            // It may make a single pass, so there may be no second character.
             if let Hir::Char(_) | Hir::Class(_) = **body {
                 return None;
             }
@@ -81,8 +80,8 @@ impl Starts {
         }
     }
 
-    /// Adds the characters that come second in a match of the tree, and tells what it reads. Where
-    /// its matches differ too much for that, nothing is told.
+    /// Adds the second characters of the matches of the tree, and returns what a match reads at its
+    /// beginning; `None` if the matches differ too much for that.
     #[cycle(add_second)]
     fn add_second(&mut self, hir: &Hir) -> Option<Head>
         ensures grown { IsGrown self.old self.new }
@@ -104,8 +103,8 @@ impl Starts {
         }
     }
 
-    /// Adds those with which a pass of this body after the first one begins, and tells what all
-    /// passes read together.
+    /// Adds the characters with which a pass over this body after the first one begins, and returns
+    /// what all passes read together.
     fn add_passes(&mut self, head: Head, body: &Hir) -> Option<Head>
         ensures grown { IsGrown self.old self.new }
         ensures reads { (least : ℕ) (most : Option ℕ) (greedy : Bool) → 0 < least
@@ -115,7 +114,8 @@ impl Starts {
         match head {
             Head::Nothing => None,
             Head::One => {
-                // A longer body isn't walked again: loops in loops would be, at each of them.
+                // A longer body isn't walked again: nested loops would be walked once more at each
+                // level.
                 let (Hir::Char(_) | Hir::Class(_)) = body else {
                     return None;
                 };
@@ -126,7 +126,7 @@ impl Starts {
         }
     }
 
-    /// Adds those of these parts, one after another, up to the first that has a second character.
+    /// Adds the second characters of these parts in a row, up to the first part that reads one.
     #[cycle(add_second)]
     fn add_second_of_parts(&mut self, parts: &[Hir]) -> Option<Head>
         ensures grown { IsGrown self.old self.new }
@@ -144,7 +144,7 @@ impl Starts {
         Some(head)
     }
 
-    /// Adds those of a part that comes after one character, and tells what both read together.
+    /// Adds those of a part that follows one character, and returns what both read together.
     fn add_behind_one(&mut self, part: &Hir) -> Head
         ensures grown { IsGrown self.old self.new }
         ensures reads { (haystack : Text) (i k j : ℕ) → Reads self.old haystack i k One
@@ -157,7 +157,7 @@ impl Starts {
         }
     }
 
-    /// Adds those of these branches.
+    /// Adds the second characters of these branches.
     #[cycle(add_second)]
     fn add_second_of_branches(&mut self, branches: &[Hir]) -> Option<Head>
         ensures grown { IsGrown self.old self.new }

@@ -2,8 +2,8 @@
 //!
 //! A row of bits belongs to each first character, and to each second one, with a bit for each
 //! pattern. The patterns that may start at a position are in the rows of both characters there. At
-//! most positions there is none, which a set of second characters for each first one tells at once.
-//! Of those that are left most are none by the third character.
+//! most positions there is none, which a set of second characters for each first one shows at once.
+//! The third character rules out most of those that are left.
 ghost use Rattle.std.specs.Prelude.{◌≡◌, ◌==◌, ◌&&◌, ◌||◌, ◌<◌, ◌*◌, ◌++◌, [], ◌∷◌, ℕ, List, IfOk, length, map};
 ghost use Rattle.regex_lite_syntax.specs.Tree.Views.{tree_of};
 ghost use Rattle.regex_lite_engine.specs.declared.nfa.heads.Heads.{Heads};
@@ -55,7 +55,7 @@ impl ListHeads {
         Ok(ListHeads { thirds, ..heads })
     }
 
-    /// Room for so many patterns, none of which is known yet.
+    /// Room for this number of patterns, none of which is known yet.
     fn none(alloc: Global, count: usize) -> Result<ListHeads, AllocError>
         ensures count { IfOk result (λ heads. heads.count ≡ count) }
         ensures none { IfOk result (λ heads. IsIndexOf [] heads) }

@@ -22,7 +22,7 @@ pub(crate) enum Prefilter {
 }
 
 impl Prefilter {
-    /// The prefilter for these heads, where few bytes tell that a match may begin.
+    /// The prefilter for these heads, if few bytes show that a match may begin.
     pub(crate) fn of(heads: &Heads) -> Option<Prefilter>
         ensures { IfSome result (IsPrefilterOf heads.now) }
     {
@@ -55,7 +55,7 @@ impl Prefilter {
         Prefilter::range_of(first, len)
     }
 
-    /// The prefilter for so many first characters that stand in a row.
+    /// The prefilter for `len` consecutive first characters.
     fn range_of(first: &Starts, len: u8) -> Option<Prefilter>
         ensures { IfSome result (λ filter. (byte after : ℕ) → suits filter byte after ≡ false
             → stops_at first.now byte ≡ false) }
@@ -173,7 +173,7 @@ fn fill(bytes: &mut [u8], starts: &Starts) -> bool
     true
 }
 
-/// Writes down those of sixteen characters after the ones before them, and tells how many there are
+/// Writes those of sixteen characters after the ones before them, and returns how many there are
 /// then, if there is room for all.
 fn fill_row(bytes: &mut [u8], len: usize, starts: &Starts, row: u8) -> Option<usize>
     requires len { len ≤ length bytes.old }

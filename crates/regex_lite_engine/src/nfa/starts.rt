@@ -1,5 +1,4 @@
-//! The characters with which a match of a pattern can begin: one walk over the tree, which takes no
-//! memory, and leaves out what lies after a part that reads.
+//! The characters with which a match can begin, found by one walk over the tree.
 ghost use Rattle.std.specs.Prelude.{◌≡◌, ◌≤◌, ◌<◌, ◌+◌, ◌*◌, [], ◌∷◌, ℕ, IsTrue, false, true, map, slice_index};
 ghost use Rattle.regex_lite_syntax.specs.Ranges.{in_ranges};
 ghost use Rattle.regex_lite_syntax.specs.Sets.{just, span};
@@ -9,22 +8,21 @@ ghost use Rattle.regex_lite_engine.specs.Nfa.Starts.{begins_with, may_begin, sto
 
 use regex_lite_syntax::{Class, ClassRange, Hir, Look};
 
-/// Where a match can begin, by the character that comes next there. No match begins elsewhere.
+/// Where a match can begin, by the next character. No match begins anywhere else.
 #[derive(Drop)]
 pub(crate) struct Starts {
-    /// Whether one can begin with a character at all.
+    /// Whether a match can begin with any character at all.
     any: bool,
     ascii: [bool; 128],
-    /// Whether one can begin with a character that is not ASCII.
+    /// Whether a match can begin with a character that is not ASCII.
     others: bool,
-    /// Whether one can begin at the haystack's start, whatever comes next. It is kept apart since a
-    /// search has to begin there once and not at each character.
+    /// Whether a match can begin at the haystack's start, whatever comes next. This is separate,
+    /// since a search has to begin there once and not at each character.
     at_start: bool,
 }
 
 impl Starts {
-    /// Where a match of the tree can begin. A look is taken to hold, but for the one that holds at
-    /// the haystack's start alone.
+    /// Where a match of the tree can begin. Looks other than that of the start are taken to hold.
     pub(crate) fn of(hir: &Hir) -> Starts
         ensures { AreStartsOfTree (tree_of hir.now) result }
     {
@@ -60,8 +58,8 @@ impl Starts {
         }
     }
 
-    /// Adds the characters with which a match of the tree can begin. Tells whether it may read
-    /// nothing, so that what follows it can begin there too.
+    /// Adds the characters with which a match of the tree can begin. Returns whether a match may
+    /// read nothing, so that the next part can begin there too.
     #[cycle(add)]
     pub(crate) fn add(&mut self, hir: &Hir) -> bool
         ensures grown { IsGrown self.old self.new }
@@ -85,7 +83,7 @@ impl Starts {
         }
     }
 
-    /// Adds those of these parts, one after another, up to the first that reads.
+    /// Adds those of these parts in a row, up to the first that reads.
     #[cycle(add)]
     fn add_parts(&mut self, parts: &[Hir]) -> bool
         ensures grown { IsGrown self.old self.new }
@@ -115,7 +113,7 @@ impl Starts {
         passable
     }
 
-    /// Adds the haystack's start, if the look holds there alone.
+    /// Adds the haystack's start, if the look holds only there.
     fn add_look(&mut self, test: Look) -> bool
         ensures grown { IsGrown self.old self.new }
         ensures begins { BeginsOrPasses (look test) self.new result }
@@ -136,7 +134,7 @@ impl Starts {
     {
         for range in set.ranges() {
             if !range.start.is_ascii() {
-                // Nor are those after it.
+                // Later ranges are not ASCII either.
                 self.add_char(range.start);
                 return;
             }
@@ -172,8 +170,8 @@ impl Starts {
         }
     }
 
-    /// Whether a match can begin between these neighbours. At the haystack's end it always can,
-    /// since one may begin there that reads nothing.
+    /// Whether a match can begin between these neighbours. At the haystack's end this is always
+    /// true, since a match that reads nothing may begin there.
     pub(crate) fn may_begin(&self, before: Option<char>, after: Option<char>) -> bool
         ensures { result ≡ may_begin self.now before after }
     {
@@ -197,8 +195,7 @@ impl Starts {
         }
     }
 
-    /// Whether a match can begin with the ASCII character of this code, or at 128 with one that is
-    /// not ASCII.
+    /// Whether a match can begin with this ASCII code, or with 128 for all that is not ASCII.
     pub(crate) fn begins_in(&self, column: usize) -> bool
         ensures { result ≡ begins_with self.now column }
     {
@@ -243,7 +240,7 @@ impl Starts {
         self.at_start
     }
 
-    /// Lets a match also begin where the other lets it.
+    /// Adds all that the other has.
     pub(crate) fn add_starts(&mut self, other: &Starts)
         ensures { IsUnion self.old other.now self.new }
     {
@@ -255,11 +252,11 @@ impl Starts {
         self.any |= other.any;
     }
 
-    /// With how many ASCII characters a match can begin.
+    /// The number of ASCII characters with which a match can begin.
     pub(crate) fn len(&self) -> u8
         ensures { result ≤ 128 }
     {
-        // As a sum of bytes, which is made of sixteen at a time.
+        // A sum of bytes, so that sixteen can be added at once.
         let mut len = 0;
         for k in 0..128 {
             len += u8::from(self.ascii[k]);
@@ -274,7 +271,7 @@ impl Starts {
         self.any
     }
 
-    /// Whether a character that a match can begin with may begin with the byte.
+    /// Whether the byte may be the first byte of a character with which a match can begin.
     pub(crate) fn stops_at(&self, byte: u8) -> bool
         ensures { result ≡ stops_at self.now byte }
     {

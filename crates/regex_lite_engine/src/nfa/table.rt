@@ -43,7 +43,7 @@ impl Model for Table {
 }
 
 impl Table {
-    /// The table of these places, which have so many arrows, and of which so many read a
+    /// The table of these places, which have `arrows` arrows, and of which `reading` read a
     /// character.
     pub(crate) fn new(places: Vec<Place>, arrows: usize, reading: usize) -> Table
         requires closed { IsClosed places.items arrows reading }
@@ -75,7 +75,7 @@ impl Table {
         &self.places[place as usize]
     }
 
-    /// The classes of characters that its places don't tell apart; none where there are too many.
+    /// The classes of characters that its places don't distinguish; none if there are too many.
     pub(crate) fn classes(&self, alloc: Global) -> Result<Option<Classes>, AllocError>
         ensures { IfOk result (λ made. IfSome made (AreIntervalsOf self.now.places)) }
     {
@@ -111,7 +111,7 @@ impl Table {
         self.reading
     }
 
-    /// How much a search with so many slots keeps back that enters each place once.
+    /// How much a search with this number of slots keeps for later if it enters each place once.
     pub(crate) fn kept_back(&self, slots: usize) -> usize
         ensures { result ≡ sum_by (kept_back_with slots) (places_of self.now) }
     {

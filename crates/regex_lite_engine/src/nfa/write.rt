@@ -92,7 +92,7 @@ impl Model for Writer {
 }
 
 impl Writer {
-    /// No place yet, with memory for so many.
+    /// No place yet, with memory for `count` places.
     fn new(alloc: Global, count: u32) -> Result<Writer, AllocError>
         ensures { IfOk result (λ writer. writer ≡ []) }
     {

@@ -29,7 +29,7 @@ impl<S: Beginning> Model for Best<S> {
 impl<S: Beginning> Best<S> {
     ghost use Rattle.regex_lite_engine.specs.Walk.Turns.{best_of};
 
-    /// None yet, with room for a row of so many slots.
+    /// None yet, with room for a row of `width` slots.
     pub fn with_width(alloc: Global, width: usize) -> Result<Best<S>, AllocError>
         ensures none { IfOk result (λ best. best_of best ≡ None) }
         ensures width { IfOk result (λ best. length best.row ≡ width) }

@@ -10,7 +10,7 @@ pub struct Here {
     pub before: Option<char>,
     pub after: Option<char>,
     pub at: usize,
-    /// One more can be told, since no haystack has so many bytes.
+    /// The next offset fits too, since no haystack has that many bytes.
     pub ghost small: { at + 1 < 2 ^ 64 },
 }
 

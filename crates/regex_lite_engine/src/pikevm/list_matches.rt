@@ -55,7 +55,7 @@ impl GraphList {
         Ok((matched, steps))
     }
 
-    /// Searches for each pattern, and tells whether it matches, and what all searches did.
+    /// Searches for each pattern, and returns which of them match, and what all searches did.
     fn search_all(
         &self,
         cache: &mut Cache<Unkept>,

@@ -21,7 +21,7 @@ use std::alloc::{AllocError, Global};
 impl GraphList {
     /// The match that starts first at or after this offset, of the pattern with the lowest number
     /// that matches there: that number, the most preferred match of the pattern, and what the
-    /// search did. The match has so many slots.
+    /// search did. The match has this number of slots.
     ///
     /// Condition: the start is above the haystack's length or on a character boundary.
     ///

@@ -48,8 +48,8 @@ impl<'g> Model for ListSearcher<'g> {
 }
 
 impl<'g> ListSearcher<'g> {
-    /// A searcher of this graph, whose matches have so many slots. All the memory of its searches
-    /// is asked for here.
+    /// A searcher of this graph, whose matches have this number of slots. All the memory of its
+    /// searches is asked for here.
     ///
     /// # Errors
     ///
@@ -101,8 +101,8 @@ impl<'g> ListSearcher<'g> {
     }
 }
 
-/// The memory of searches that keep so many slots. Where there is no pattern, none is begun, and no
-/// place needs any.
+/// The memory of searches that keep this number of slots. Without a pattern no search begins, and
+/// no place needs any memory.
 fn list_cache(alloc: Global, graph: &GraphList, slots: usize) -> Result<Cache<Origin>, AllocError>
     ensures ready { IfOk result (λ cache. GoesOnIn graph.now cache) }
     ensures width { IfOk result (λ cache. length cache.best.row ≡ slots) }

@@ -20,7 +20,7 @@ pub fn pass_over_all(list: &GraphList, haystack: &str, here: Here) -> Here
         (chars haystack.now) p result }
 {
     let heads = list.heads();
-    // At the haystack's start the pairs don't tell of all patterns.
+    // At the haystack's start the pairs don't cover all patterns.
     if here.before.is_none() && heads.any.may_begin(here.before, here.after) {
         return here;
     }
@@ -31,8 +31,7 @@ pub fn pass_over_all(list: &GraphList, haystack: &str, here: Here) -> Here
     Here::at(haystack, at)
 }
 
-/// The first offset from this one on at which a match can begin, as far as two bytes tell, or the
-/// end.
+/// The first offset from this one on at which a match can begin, judging by two bytes, or the end.
 // Not inlined, since the loop of a search is so large that this one would lose its registers.
 #[inline(never)]
 fn next_offset(heads: &ListHeads, bytes: &[u8], from: usize) -> usize

@@ -9,11 +9,11 @@ use crate::pikevm::slot::Slot;
 use std::alloc::{AllocError, Global};
 use std::marker::Model;
 
-/// No search begins after so many rounds, so that none runs out of them: a haystack has fewer
-/// characters.
+/// No search begins after this number of rounds, so that none runs out of them: a haystack has
+/// fewer characters.
 const MOST_ROUNDS: u64 = 1 << 63;
 
-/// So many cells are made ready at once: they cost less than to make them ready one after another.
+/// Up to this number of cells are made ready at once, which costs less than one after another.
 const FEW: usize = 32;
 
 /// The working memory of a search. It is asked for by one request, or by two where slots are kept.
@@ -65,7 +65,7 @@ impl<S: Beginning> Model for Memory<S> {
 }
 
 impl<S: Beginning> Memory<S> {
-    /// Memory for so many places, and for so many threads in each list, with rows of this width.
+    /// Memory for these numbers of places and of threads in each list, with rows of this width.
     pub fn blank(
         alloc: Global,
         places: usize,
@@ -148,7 +148,7 @@ impl<S: Beginning> Memory<S> {
     }
 }
 
-/// Cells for so many places, and none of them ready where there are more than a few.
+/// Cells for this number of places; none of them is ready if there are more than a few.
 fn cells_for<S: Beginning>(alloc: Global, places: usize) -> Result<Vec<Cell<S>>, AllocError>
     ensures few { IfOk result (λ cells. length cells.items ≤ places) }
     ensures room { IfOk result (λ cells. places ≤ vec_capacity cells) }

@@ -1,18 +1,18 @@
-//! Cells are made ready when a search comes to them.
+//! Cells are made ready when a search first reaches them.
 ghost use Rattle.std.specs.Prelude.{◌≡◌, ◌+◌, ◌-◌, ◌≤◌, ◌<◌, ◌++◌, length, map, take, drop, replicate, true, vec_capacity};
 ghost use Rattle.regex_lite_engine.specs.Walk.Cells.{round_in, without_round, MakesReady};
 
 use crate::pikevm::beginning::Beginning;
 use crate::pikevm::cell::Cell;
 
-/// So many are made ready at first.
+/// How many cells are made ready the first time.
 const FIRST: usize = 16;
 
-/// Where no more are left than so many for each position that was gone over, they are made ready at
-/// once: from then on a search has nothing to test.
+/// If at most this many cells per round are not ready, the rest is made ready at once: from then on
+/// a search needs no test.
 const FEW_A_ROUND: u64 = 4;
 
-/// Makes all cells ready where few are left beside so many rounds, and tells whether all are.
+/// Makes all cells ready if few are left for this number of rounds. Returns whether all are ready.
 #[inline(never)]
 pub(super) fn is_rest_ready<S: Beginning>(
     cells: &mut Vec<Cell<S>>,
@@ -33,7 +33,7 @@ pub(super) fn is_rest_ready<S: Beginning>(
     true
 }
 
-/// Lets the cell of this place be ready, and returns its number. `READY` says that all are.
+/// Makes the cell of this place ready, and returns its number. `READY` says that all are ready.
 pub(super) fn reach<S: Beginning, const READY: bool>(
     cells: &mut Vec<Cell<S>>,
     low: &mut usize,
@@ -53,7 +53,7 @@ pub(super) fn reach<S: Beginning, const READY: bool>(
     place - *low
 }
 
-/// Lets the cell of this place be ready.
+/// Makes the cell of this place ready.
 fn reach_place<S: Beginning>(cells: &mut Vec<Cell<S>>, low: &mut usize, place: usize)
     requires place { place < low.old + length cells.old.items }
     requires room { low.old + length cells.old.items ≤ vec_capacity cells.old }
@@ -66,7 +66,7 @@ fn reach_place<S: Beginning>(cells: &mut Vec<Cell<S>>, low: &mut usize, place: u
     }
 }
 
-/// Lets the cell with this number be ready. `READY` says that all are.
+/// Makes the cell with this number ready. `READY` says that all are ready.
 pub(super) fn provide<S: Beginning, const READY: bool>(
     cells: &mut Vec<Cell<S>>,
     low: &mut usize,
@@ -85,8 +85,8 @@ pub(super) fn provide<S: Beginning, const READY: bool>(
     }
 }
 
-/// Makes at least so many cells ready, and as many as were ready again, so that a long search seldom
-/// comes here. Returns the place below which there are none.
+/// Makes at least `count` cells ready, and at least twice as many as before if there are that many,
+/// so that a long search seldom gets here. Returns the first place whose cell is ready.
 // Not inlined, so that a search has no more than the test in its loop.
 #[inline(never)]
 fn make_ready<S: Beginning>(cells: &mut Vec<Cell<S>>, low: usize, count: usize) -> usize
@@ -105,7 +105,7 @@ fn make_ready<S: Beginning>(cells: &mut Vec<Cell<S>>, low: usize, count: usize) 
     low - more
 }
 
-/// Lets so many cells be there, the new ones blank. There is room for them.
+/// Extends the cells to `count` with copies of `blank`. There is room for them.
 fn fill<S: Beginning>(cells: &mut Vec<Cell<S>>, count: usize, blank: Cell<S>)
     requires more { length cells.old.items ≤ count }
     requires room { count ≤ vec_capacity cells.old }
@@ -116,7 +116,7 @@ fn fill<S: Beginning>(cells: &mut Vec<Cell<S>>, count: usize, blank: Cell<S>)
     let _ = cells.resize(count, blank);
 }
 
-/// Moves the rounds up by so many cells, over the last ones, which have none.
+/// Moves the rounds up by this number of cells, into the last ones, which have none.
 fn raise<S: Beginning>(cells: &mut Vec<Cell<S>>, by: usize)
     requires some { 0 < by }
     requires few { by ≤ length cells.old.items }

@@ -6,7 +6,8 @@ use crate::pikevm::slot::Slot;
 use std::alloc::{AllocError, Global};
 use std::marker::Model;
 
-/// So many rows of one width. All their memory is asked for at once, and none where the width is 0.
+/// A fixed number of rows of one width. All their memory is asked for at once, and none if the
+/// width is 0.
 #[derive(Drop)]
 pub struct Rows {
     /// The rows one after the other, up to the last that was come to: a search needs few of them,

@@ -1,4 +1,4 @@
-//! Searches in a graph, from their working memory to what they tell.
+//! Searches in a graph, from their working memory to their outcomes.
 ghost use Rattle.std.specs.Prelude.{◌≡◌, ◌<◌, ◌⊎◌, IfOk, IfSome, IsCharBoundary, length};
 ghost use Rattle.regex_lite_syntax.specs.Tree.{Tree};
 ghost use Rattle.regex_lite_syntax.specs.Tree.Regular.{IsRegular};
@@ -25,7 +25,7 @@ pub struct Outcome {
 }
 
 impl Graph {
-    /// What [`Graph::search`] answers, found position by position.
+    /// What [`Graph::search`] returns, found position by position.
     pub(crate) fn search_in_step(
         &self,
         alloc: Global,

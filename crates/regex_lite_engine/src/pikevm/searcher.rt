@@ -50,10 +50,10 @@ impl<'g> Model for Searcher<'g> {
 }
 
 impl<'g> Searcher<'g> {
-    /// A searcher of this graph, whose matches have so many slots, for haystacks of about so many
+    /// A searcher of this graph, whose matches have `slots` slots, for haystacks of about `bytes`
     /// bytes. All the memory that its searches need is asked for here. Without slots and in long
     /// haystacks its searches remember their turns, unless the memory for that is refused: the
-    /// answers are the same.
+    /// results are the same.
     ///
     /// # Errors
     ///

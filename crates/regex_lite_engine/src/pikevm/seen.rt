@@ -33,7 +33,7 @@ impl<S: Beginning> Memory<S> {
         self.ready
     }
 
-    /// Adds the place, and tells whether it is new.
+    /// Adds the place, and returns whether it is new.
     pub fn insert<const READY: bool>(&mut self, place: u32) -> bool
         requires place { place < length self.old.rounds }
         requires ready { READY ≡ true → self.old.ready ≡ true }

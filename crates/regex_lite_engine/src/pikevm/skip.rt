@@ -56,7 +56,7 @@ fn may_go_on(heads: &Heads, bytes: &[u8], at: usize) -> bool
     heads.may_go_on(bytes, at)
 }
 
-/// The first offset from this one on of a byte that tells of no passing, or the end.
+/// The first offset from this one on of a byte that may not be passed over, or the end.
 // Not inlined, since the loop of a search is so large that this one would lose its registers.
 #[inline(never)]
 fn next_offset(heads: &Heads, prefilter: &Option<Prefilter>, bytes: &[u8], from: usize) -> usize
@@ -78,7 +78,7 @@ fn next_offset(heads: &Heads, prefilter: &Option<Prefilter>, bytes: &[u8], from:
     }
 }
 
-/// The first offset from this one on, as far as the prefilter tells, of a byte with which a first
+/// The first offset from this one on, judging by the prefilter, of a byte with which a first
 /// character may begin, or the end.
 fn next_first(heads: &Heads, prefilter: &Option<Prefilter>, bytes: &[u8], from: usize) -> usize
     requires inside { from ≤ length bytes.now }

@@ -48,8 +48,8 @@ impl<S: Beginning> Memory<S> {
         Some(self.cells[self.depth].frame)
     }
 
-    /// Takes frames off, up to the next place, and answers it. Each slot that was marked since then
-    /// holds again what it held.
+    /// Pops frames, up to the next place, and returns it. Each slot that was marked since then is
+    /// restored.
     pub fn next_place(&mut self) -> Option<u32>
         requires { (places : ℕ) × FramesBelow places (length self.old.row) self.old.frames }
         ensures place { MatchOption result

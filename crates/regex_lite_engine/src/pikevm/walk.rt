@@ -46,7 +46,7 @@ impl<S: Beginning> Walk<S> {
     }
 
     /// Explores this place and all that is on the stack, the ways of one thread that started at
-    /// `start`. Stops where a match is complete, and tells whether one is: what is left then is
+    /// `start`. Stops where a match is complete, and returns whether one is: what is left then is
     /// less preferred.
     pub fn explore<P: Patterns>(&mut self, first: u32, patterns: &P, here: Here, start: S) -> bool
         requires { HasRoom (P.table patterns.now) self.old

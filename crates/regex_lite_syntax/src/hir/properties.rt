@@ -68,7 +68,7 @@ impl Properties {
         }
     }
 
-    /// Those of a repetition of this with so many passes or more.
+    /// The properties of a repetition of this with at least `least` passes.
     pub fn repeated(self, least: u32) -> Properties
         ensures { (most : Option ℕ) (greedy : Bool) (body : Tree) → ArePropertiesOf body self
             → ArePropertiesOf (repetition least most greedy body) result }
@@ -97,8 +97,8 @@ fn common(a: Option<u32>, b: Option<u32>) -> Option<u32>
     if a == b { a } else { None }
 }
 
-/// What takes part in so many passes or more. Where none is needed each group may be passed over,
-/// so the number is known only where there is no group.
+/// The number of groups that take part in at least `least` passes. If none is required each group
+/// may be skipped, so the number is known only if there is no group.
 fn in_passes(least: u32, groups: Option<u32>) -> Option<u32>
     ensures { (n : Option ℕ) → groups ≡ in_32_bits n → result ≡ in_32_bits (in_passes least n) }
 {

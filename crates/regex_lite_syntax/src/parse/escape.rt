@@ -34,7 +34,7 @@ enum Meaning {
     Gives(Primitive),
     /// What stands at the start or the end of a word, perhaps with a name in braces.
     WordBoundary,
-    /// So many hexadecimal digits, or some in braces.
+    /// This number of hexadecimal digits, or some in braces.
     Hexadecimal(u32),
     Refused,
 }

@@ -136,7 +136,7 @@ impl Parser {
         Ok(())
     }
 
-    /// The innermost group ends. The answer tells whether there is one.
+    /// Ends the innermost group. Returns whether there is one.
     fn close(&mut self) -> Result<bool, AllocError>
         ensures closed { IfOk result (λ found. found ≡ true → Closes self.old self.new) }
         ensures none { IfOk result (λ found. found ≡ false → self.old.below.items ≡ []) }

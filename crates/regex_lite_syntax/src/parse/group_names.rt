@@ -39,7 +39,7 @@ impl GroupNames {
         }
     }
 
-    /// Adds a name after the others, unless it is there. The answer tells whether it is new.
+    /// Adds a name after the others, unless it is there. Returns whether it is new.
     pub(crate) fn insert(&mut self, name: &RcStr) -> Result<bool, AllocError>
         ensures { IfOk result (λ is_new. MatchBool is_new
             ((self.new ≡ self.old ++ text_of_name name.now ∷ [])

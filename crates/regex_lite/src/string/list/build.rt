@@ -74,7 +74,8 @@ fn patterns_of(alloc: Global, builders: &[RegexBuilder]) -> Result<Vec<Pattern>,
 }
 
 /// How many slots a search for the groups keeps: two for each group of the pattern with the most.
-/// Where no pattern has a group besides the whole match, its span tells that, and none is kept.
+/// If no pattern has a group besides the whole match, the span of the match is enough, and no slot
+/// is kept.
 fn kept_slots(graph: &GraphList, count: usize) -> usize
     requires { count ≡ length graph.now.groups }
     ensures { result ≡ kept_slots (most_groups graph.now.groups) }

@@ -1,4 +1,4 @@
-//! Searches for several patterns that tell what they cost.
+//! Searches for several patterns that return their cost.
 ghost use Rattle.std.specs.Prelude.{◌≡◌, ◌<◌, ◌↔◌, IfOk, IfErr, IfSome, IsTrue};
 ghost use Rattle.regex_lite_syntax.specs.Errors.{out_of_memory};
 ghost use Rattle.regex_lite.specs.RegexListSearches.{AnyMatches, AreOfPattern, IsWithinListCost, TellsGroupsOfList, TellsMatchOfList};
@@ -15,7 +15,7 @@ use regex_lite_syntax::Error;
 /// Each search tries places of the patterns written out at most so often: their arrows and their
 /// number together, times one more than the characters from the start to the haystack's end. It
 /// enters places at most so often: the places, times one more than those characters.
-/// [`RegexList::places`], [`RegexList::arrows`] and [`RegexList::len`] tell how many there are. A
+/// [`RegexList::places`], [`RegexList::arrows`] and [`RegexList::len`] return how many there are. A
 /// search from above the length tries none, and one that finds something has entered a place.
 impl RegexList {
     /// [`RegexList::is_match_at`], and what the search cost.

@@ -10,7 +10,7 @@ use regex_lite_syntax::Error;
 use std::fmt;
 use std::marker::Model;
 
-/// A scan whose slots tell all groups of its matches.
+/// A scan whose slots hold all groups of its matches.
 #[derive(Drop)]
 pub(super) struct ListGroupScan<'r, 'h> {
     scan: ListScan<'r, 'h>,

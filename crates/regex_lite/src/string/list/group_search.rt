@@ -9,7 +9,7 @@ use crate::string::list::RegexList;
 use regex_lite_syntax::Error;
 
 impl RegexList {
-    /// The groups of the match that [`RegexList::find`] answers, with the number of its pattern.
+    /// The groups of the match that [`RegexList::find`] returns, with the number of its pattern.
     ///
     /// They are the groups of that pattern alone, by its own indices and names.
     ///
@@ -35,7 +35,7 @@ impl RegexList {
         self.captures_at(haystack, 0)
     }
 
-    /// The groups of the match that [`RegexList::find_at`] answers, with the number of its pattern.
+    /// The groups of the match that [`RegexList::find_at`] returns, with the number of its pattern.
     ///
     /// Looks see the whole haystack, as they do in [`RegexList::is_match_at`].
     ///

@@ -43,7 +43,7 @@ impl<'r, 'h> Model for ListScan<'r, 'h> {
 }
 
 impl<'r, 'h> ListScan<'r, 'h> {
-    /// At the start of the haystack, with so many slots for a match.
+    /// At the start of the haystack, with this number of slots for a match.
     pub fn new(
         list: &'r RegexList,
         haystack: &'h str,

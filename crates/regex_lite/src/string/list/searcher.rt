@@ -36,7 +36,7 @@ impl<'r> Model for ListSearcher<'r> {
 }
 
 impl<'r> ListSearcher<'r> {
-    /// The patterns with memory for their searches, whose matches have so many slots.
+    /// The patterns, with memory for searches whose matches have this number of slots.
     pub fn new(list: &'r RegexList, slots: usize) -> Result<ListSearcher<'r>, Error>
         ensures list { IfOk result (λ searcher. searcher.list ≡ list.now) }
         ensures slots { IfOk result (λ searcher. length searcher.slots ≡ slots) }

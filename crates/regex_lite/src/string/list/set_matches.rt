@@ -1,4 +1,4 @@
-//! What is told of each pattern of a list.
+//! Which patterns of a list match.
 ghost use Rattle.std.specs.Prelude.{◌≡◌, ◌<◌, ◌↔◌, ℕ, IfOk, IfErr, IsTrue, Some, false, length, slice_get, slice_index_or, true};
 ghost use Rattle.regex_lite_syntax.specs.Errors.{out_of_memory};
 

@@ -5,8 +5,8 @@ ghost use Rattle.regex_lite_engine.specs.Nfa.ListHeads.{has_pair, IsPassedByAll,
 use crate::nfa::list_heads::ListHeads;
 
 impl ListHeads {
-    /// Whether a match of any pattern can begin with the character at this offset, as far as its
-    /// first byte and the byte after it tell.
+    /// Whether a match of any pattern can begin with the character at this offset, judging by its
+    /// first byte and the byte after that.
     pub(crate) fn may_begin_at(&self, bytes: &[u8], at: usize) -> bool
         requires pairs { length self.now.pairs.items ≡ 128 }
         requires inside { at < length bytes.now }

@@ -28,7 +28,7 @@ pub(crate) struct Rows {
 }
 
 impl Rows {
-    /// Rows for so many patterns, which are in none yet.
+    /// Rows for this number of patterns, with no pattern in them yet.
     pub(crate) fn blank(alloc: Global, count: usize) -> Result<Rows, AllocError>
         ensures sized { IfOk result (λ rows. IsSized rows count) }
         ensures none { IfOk result (λ rows. (row number : ℕ) → has rows row number ≡ false) }

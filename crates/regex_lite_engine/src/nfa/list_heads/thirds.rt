@@ -80,7 +80,7 @@ fn third_of(hir: &Hir) -> u32
     ALL
 }
 
-/// Whether each match of the tree reads one character, as far as its root tells.
+/// Whether each match of the tree reads one character, judging by its root.
 fn reads_one(hir: &Hir) -> bool
     ensures { IsTrue result → ReadsOne (tree_of hir.now) }
 {

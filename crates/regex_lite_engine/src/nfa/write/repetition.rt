@@ -12,8 +12,8 @@ use regex_lite_syntax::Hir;
 use std::alloc::AllocError;
 
 impl Writer {
-    /// Adds the places of a repetition, which lead on to `exit`, and returns where they are
-    /// entered.
+    /// Adds the places of a repetition, which lead on to `exit`, and returns the place at which it
+    /// is entered.
     #[cycle(write)]
     pub(super) fn write_repetition(
         &mut self,
@@ -54,7 +54,7 @@ impl Writer {
         }
     }
 
-    /// The choice and the body, which leads back to it.
+    /// A choice and a body that leads back to it.
     #[cycle(write)]
     fn write_star(&mut self, body: &Hir, greedy: bool, exit: u32) -> Result<u32, AllocError>
         requires room { length self.old + (places (tree_of body.now) + 1) < 2 ^ 32 }
@@ -93,7 +93,7 @@ impl Writer {
         self.add(choice_of(greedy, inner, join))
     }
 
-    /// A loop that is entered at its body, and so many copies before it.
+    /// A loop that is entered at its body, after `before` copies of the body.
     #[cycle(write)]
     fn write_at_least(
         &mut self,
@@ -114,7 +114,7 @@ impl Writer {
         self.write_copies(body, before, inner)
     }
 
-    /// So many copies, or an empty place in the stead of none.
+    /// `count` copies, or one empty place for zero copies.
     #[cycle(write)]
     fn write_exactly(&mut self, body: &Hir, count: u32, exit: u32) -> Result<u32, AllocError>
         requires room { length self.old
@@ -133,7 +133,7 @@ impl Writer {
         }
     }
 
-    /// The join, so many copies that may be left out, and before them those that are needed.
+    /// The required copies, then the optional ones, then the join.
     #[cycle(write)]
     fn write_between(
         &mut self,
@@ -164,7 +164,7 @@ impl Writer {
         }
     }
 
-    /// So many copies in a row.
+    /// `count` copies in a row.
     #[cycle(write)]
     fn write_copies(&mut self, body: &Hir, count: u32, exit: u32) -> Result<u32, AllocError>
         requires room { length self.old + count * places (tree_of body.now) < 2 ^ 32 }
@@ -182,7 +182,7 @@ impl Writer {
         Ok(next)
     }
 
-    /// So many copies in a row, each with a choice before it that may lead to the join.
+    /// `count` copies in a row, each after a choice that may lead to the join.
     #[cycle(write)]
     fn write_choices(
         &mut self,
@@ -207,8 +207,8 @@ impl Writer {
         Ok(next)
     }
 
-    /// A loop: the choice and the body, with where each is entered. The choice stands first, and is
-    /// known only when the body has been written.
+    /// A loop: the choice and the body, and where each is entered. The choice comes first, but is
+    /// filled in only after the body has been written.
     #[cycle(write)]
     fn write_loop(&mut self, body: &Hir, greedy: bool, exit: u32) -> Result<(u32, u32), AllocError>
         requires room { length self.old + (places (tree_of body.now) + 1) < 2 ^ 32 }

@@ -1,4 +1,4 @@
-//! Characters by their numbers: so many hexadecimal digits, or some in braces.
+//! Characters by their numbers: a fixed number of hexadecimal digits, or some in braces.
 ghost use Rattle.std.specs.Prelude.{◌≡◌, ℕ, ◌<◌, ◌≤◌, drop, length, IsTrue, false, MatchOption, IfOk, OnErr};
 ghost use Rattle.regex_lite_syntax.specs.Text.{Text};
 ghost use Rattle.regex_lite_syntax.specs.Characters.{is_hex_digit, digit_value as value_of_digit};
@@ -11,7 +11,7 @@ use crate::parse::read::char_at;
 /// The number of the last character.
 const LAST: u32 = 0x10_FFFF;
 
-/// Reads a character by its number, from after the letter that asks for so many digits on.
+/// Reads a character by its number, from after the letter that says how many digits there are.
 pub(super) fn read_hexadecimal(
     chars: &[char],
     at: usize,
@@ -34,7 +34,7 @@ pub(super) fn read_hexadecimal(
     }
 }
 
-/// Reads so many digits.
+/// Reads this number of digits.
 fn read_fixed(
     chars: &[char],
     at: usize,
