@@ -15,7 +15,7 @@
 //! The test `examples::whole_crate` in tests/unit runs this example.
 //!
 //! Whatever takes memory is given the allocator, and returns an [`Error`] of the kind
-//! [`ErrorKind::Memory`] where a growth is refused. No call panics.
+//! [`ErrorKind::Memory`] if memory runs out. No call panics.
 //!
 //! What a pattern means is stated in `specs/`: the grammar says which tree a pattern stands for,
 //! and the match relation says which parts of a haystack a tree matches.

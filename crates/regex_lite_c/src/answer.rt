@@ -23,7 +23,7 @@ pub(crate) const BAD_OFFSET: u32 = 4;
 /// The room is too small. How much is needed was written, and nothing else.
 pub(crate) const NO_ROOM: u32 = 5;
 
-/// A growth was refused.
+/// Memory ran out.
 pub(crate) const OUT_OF_MEMORY: u32 = 6;
 
 /// There is no group with this index.

@@ -83,9 +83,9 @@ impl Graph {
     /// # Errors
     ///
     /// `Size` where the size is above the limit, `Places` where there are more places than can be
-    /// numbered, `Slots` where a group's slots can't be numbered, and `Memory` where a growth was
-    /// refused or a set or a name has as many owners as can be counted. Where several limits are
-    /// passed, any of them may be named.
+    /// numbered, `Slots` where a group's slots can't be numbered, and `Memory` if memory runs out
+    /// or a set or a name has as many owners as can be counted. Where several limits are passed,
+    /// any of them may be named.
     pub fn new(alloc: Global, hir: &Hir, size_limit: usize) -> Result<Graph, Error>
         requires { IsRegular (tree_of hir.now) }
         ensures ok { IfOk result (λ graph. IsGraphOf (tree_of hir.now) graph) }

@@ -28,7 +28,7 @@ impl Graph {
     ///
     /// # Errors
     ///
-    /// Where a growth is refused, which can only be before the first step.
+    /// If memory runs out, which can happen only before the first step.
     pub fn search(
         &self,
         alloc: Global,

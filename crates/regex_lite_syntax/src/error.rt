@@ -27,7 +27,7 @@ pub enum ErrorKind {
     Places,
     /// A group's slots can't be numbered.
     Slots,
-    /// A growth was refused.
+    /// Memory ran out.
     Memory,
     /// A caller's replacer refused.
     Replace,
@@ -112,7 +112,7 @@ impl Error {
         }
     }
 
-    /// The refusal of a growth, for a caller's replacer.
+    /// The error for memory that ran out, for a caller's replacer.
     pub fn memory() -> Error
         ensures { result ≡ out_of_memory }
     {

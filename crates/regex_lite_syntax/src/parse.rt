@@ -67,8 +67,7 @@ impl Hir {
     /// # Errors
     ///
     /// `Syntax` where the grammar gives the pattern no tree, `Nesting` where it nests too deep,
-    /// `Groups` where it has more groups than can be numbered, and `Memory` where a growth was
-    /// refused.
+    /// `Groups` where it has more groups than can be numbered, and `Memory` if memory runs out.
     pub fn parse(alloc: Global, config: Config, pattern: &str) -> Result<Hir, Error>
         ensures tree { IfOk result (λ hir.
             IsAdmitted config.flags config.nest_limit (chars pattern.now) (tree_of hir)) }

@@ -1,8 +1,10 @@
 -- What the walks of a counted owner share.
---     fills         at the top the last part goes for ever, and whoever looks has what a `&'static` holds
+--     fills         at the top the last part goes for ever, and whoever looks has what a
+--                   `&'static` holds
 --     says_count    below the top the word is the count
 --     opens, shuts  the invariant is opened to the word, and shut
---     more, less    one owner more and one less.        lent_out, lent_back      an owner behind a `&`
+--     more, less    one owner more and one less
+--     lent_out, lent_back      an owner that is borrowed
 use mathlib.Core.Path.{◌≡◌, refl, sym}
 use mathlib.Core.Bool.{Bool, true, false}
 use Prim.Native.Nat.{ℕ, ◌+◌, ◌-◌, ◌<◌, ◌^◌}

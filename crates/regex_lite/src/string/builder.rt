@@ -228,8 +228,8 @@ impl RegexBuilder {
     /// `Syntax` where the grammar gives the pattern no tree, `Nesting` where the pattern nests
     /// deeper than the nest limit, `Groups` where it has more capture groups than can be numbered,
     /// `Size` where its size is above the size limit, `Places` where it has more places than can be
-    /// numbered, `Slots` where a group's slots can't be numbered, and `Memory` where a growth is
-    /// refused. Where several of `Size`, `Places` and `Slots` could come, any of them may.
+    /// numbered, `Slots` where a group's slots can't be numbered, and `Memory` if memory runs out.
+    /// Where several of `Size`, `Places` and `Slots` could come, any of them may.
     ///
     /// Reading stops at the first fault. So a pattern without a tree can also be refused by
     /// `Nesting` or `Groups`, but only if it holds so many `(` that it could pass that limit.

@@ -27,8 +27,8 @@ impl Regex {
     ///
     /// # Errors
     ///
-    /// `Memory` where a growth is refused. Each item takes memory of its own. One that is refused
-    /// is the last.
+    /// `Memory` if memory runs out. Each item takes memory of its own. One that is refused is the
+    /// last.
     pub fn captures_iter<'r, 'h>(
         &'r self,
         haystack: &'h str,
@@ -46,7 +46,7 @@ impl Regex {
     ///
     /// # Errors
     ///
-    /// `Memory` where a growth is refused, also by an item, which then is the last.
+    /// `Memory` if memory runs out, also by an item, which then is the last.
     pub fn captures_iter_after<'r, 'h>(
         &'r self,
         haystack: &'h str,

@@ -11,11 +11,11 @@ use crate::string::source::Source;
 use regex_lite_engine::{Outcome, Steps};
 use regex_lite_syntax::Error;
 
-/// Each search tries places of the pattern written out at most so often: one more than its arrows,
-/// times one more than the characters from the start to the haystack's end. It enters places at
-/// most so often: the places, times one more than those characters. [`Regex::places`] and
-/// [`Regex::arrows`] return how many there are. A search from above the length tries none, and one
-/// that finds something has entered a place.
+/// The number of places of the written-out pattern that a search tries is at most one more than its
+/// arrows, times one more than the characters from the start to the haystack's end. The number that
+/// it enters is at most that of the places, times one more than those characters. [`Regex::places`]
+/// and [`Regex::arrows`] return how many there are. A search from above the length tries none, and
+/// one that finds something has entered a place.
 impl Regex {
     /// [`Regex::is_match_at`], and what the search cost.
     ///
@@ -23,7 +23,7 @@ impl Regex {
     ///
     /// # Errors
     ///
-    /// `Memory` where a growth is refused.
+    /// `Memory` if memory runs out.
     pub fn is_match_counted_at(&self, haystack: &str, start: usize) -> Result<(bool, Steps), Error>
         requires { CanStartAt haystack.now start }
         ensures found { IfOk result
@@ -42,7 +42,7 @@ impl Regex {
     ///
     /// # Errors
     ///
-    /// `Memory` where a growth is refused.
+    /// `Memory` if memory runs out.
     pub fn find_counted_at<'h>(
         &self,
         haystack: &'h str,
@@ -69,7 +69,7 @@ impl Regex {
     ///
     /// # Errors
     ///
-    /// `Memory` where a growth is refused.
+    /// `Memory` if memory runs out.
     pub fn captures_counted_at<'h>(
         &self,
         haystack: &'h str,
@@ -101,7 +101,7 @@ impl Regex {
     ///
     /// # Errors
     ///
-    /// `Memory` where a growth is refused.
+    /// `Memory` if memory runs out.
     pub fn shortest_match_counted_at(
         &self,
         haystack: &str,

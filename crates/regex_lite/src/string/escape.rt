@@ -24,7 +24,7 @@ use std::alloc::Global;
 ///
 /// # Errors
 ///
-/// `Memory` where a growth is refused.
+/// `Memory` if memory runs out.
 pub fn escape(alloc: Global, pattern: &str) -> Result<String, Error>
     ensures ok { IfOk result (λ escaped. string_bytes escaped ≡ escaped_pattern pattern.now) }
     ensures refused { IfErr result (λ error. error ≡ out_of_memory) }

@@ -29,7 +29,7 @@ impl<'h> Captures<'h> {
     ///
     /// # Errors
     ///
-    /// `Memory` where a growth is refused. What was appended by then is a beginning of the text.
+    /// `Memory` if memory runs out. What was appended by then is a beginning of the text.
     pub fn expand(&self, template: &str, dst: &mut String) -> Result<(), Error>
         ensures ok { IfOk result (λ _. Appends (IsExpansion self.now template.now)
             (string_bytes dst.old) (string_bytes dst.new)) }

@@ -28,7 +28,7 @@ impl Regex {
     ///
     /// # Errors
     ///
-    /// `Memory` where a growth is refused. The items take no memory, and are never refused.
+    /// `Memory` if memory runs out. The items need no memory, so they never fail.
     pub fn find_iter<'r, 'h>(&'r self, haystack: &'h str) -> Result<Matches<'r, 'h>, Error>
         ensures ahead { IfOk result (λ it. ahead_of it ≡ whole self.now haystack.now None) }
         ensures begins { IfOk result (λ it. it.scan.ended ≡ None) }
@@ -53,7 +53,7 @@ impl Regex {
     ///
     /// # Errors
     ///
-    /// `Memory` where a growth is refused. The items take no memory, and are never refused.
+    /// `Memory` if memory runs out. The items need no memory, so they never fail.
     pub fn find_iter_after<'r, 'h>(
         &'r self,
         haystack: &'h str,

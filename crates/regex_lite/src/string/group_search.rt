@@ -29,7 +29,7 @@ impl Regex {
     ///
     /// # Errors
     ///
-    /// `Memory` where a growth is refused.
+    /// `Memory` if memory runs out.
     pub fn captures<'h>(&self, haystack: &'h str) -> Result<Option<Captures<'h>>, Error>
         ensures found { IfOk result (λ found. TellsGroups self.now haystack.now 0 found) }
         ensures of_match { IfOk result (λ found. IfSome found (AreOfMatch self.now)) }
@@ -46,7 +46,7 @@ impl Regex {
     ///
     /// # Errors
     ///
-    /// `Memory` where a growth is refused.
+    /// `Memory` if memory runs out.
     pub fn captures_at<'h>(
         &self,
         haystack: &'h str,
@@ -80,7 +80,7 @@ impl Regex {
     ///
     /// # Errors
     ///
-    /// `Memory` where a growth is refused.
+    /// `Memory` if memory runs out.
     pub fn captures_read<'h>(
         &self,
         locs: &mut CaptureLocations,
@@ -108,7 +108,7 @@ impl Regex {
     ///
     /// # Errors
     ///
-    /// `Memory` where a growth is refused.
+    /// `Memory` if memory runs out.
     pub fn captures_read_at<'h>(
         &self,
         locs: &mut CaptureLocations,
@@ -137,7 +137,7 @@ impl Regex {
     ///
     /// # Errors
     ///
-    /// `Memory` where a growth is refused.
+    /// `Memory` if memory runs out.
     pub fn capture_locations(&self) -> Result<CaptureLocations, Error>
         ensures ok { IfOk result
             (λ locs. OfTree self.now (λ tree. locs ≡ replicate (captures_len tree) None)) }

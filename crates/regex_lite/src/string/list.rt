@@ -71,8 +71,8 @@ impl RegexList {
     ///
     /// Those of [`Regex::new`](crate::Regex::new) for the first pattern that is refused by itself.
     /// Each pattern has the size limit for itself. Where none is refused, `Places` if they have
-    /// 2^32 places or more together. `Memory` where a growth is refused. All patterns are read and
-    /// their places counted before any is written out.
+    /// 2^32 places or more together. `Memory` if memory runs out. All patterns are read and their
+    /// places counted before any is written out.
     pub fn new(alloc: Global, patterns: &[&str]) -> Result<RegexList, Error>
         ensures { BuildsList
             (map (λ pattern. default_settings pattern.now) patterns.now) result }

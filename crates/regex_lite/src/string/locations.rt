@@ -61,7 +61,7 @@ impl CaptureLocations {
     ///
     /// # Errors
     ///
-    /// `Memory` where a growth is refused.
+    /// `Memory` if memory runs out.
     pub fn try_clone(&self) -> Result<CaptureLocations, Error>
         ensures ok { IfOk result (λ locations. locations ≡ self.now) }
         ensures refused { IfErr result (λ error. error ≡ out_of_memory) }

@@ -50,9 +50,9 @@ impl Regex {
     ///
     /// `Syntax` where the grammar gives the pattern no tree, `Nesting` where the pattern nests
     /// deeper than 50, `Groups` where it has more capture groups than can be numbered, `Size` where
-    /// its size is above 10485760, and `Memory` where a growth is refused. A pattern with too many
-    /// places or slots is above that size too, and may be refused for them.
-    /// [`RegexBuilder::build`] says more.
+    /// its size is above 10485760, and `Memory` if memory runs out. A pattern with too many places
+    /// or slots is above that size too, and may be refused for them. [`RegexBuilder::build`] says
+    /// more.
     pub fn new(alloc: Global, pattern: &str) -> Result<Regex, Error>
         ensures { Builds (default_settings pattern.now) result }
     {

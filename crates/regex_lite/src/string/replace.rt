@@ -73,7 +73,7 @@ impl Regex {
     ///
     /// The replacer is asked for a fixed text once, before the first match is looked for. Where it
     /// has none, it is asked to append a text for each match. Without a match the haystack itself
-    /// is answered, and with one a text of its own.
+    /// is returned, and with one a new text.
     ///
     /// ```
     /// let regex = Regex::new(alloc, " +")?;
@@ -89,8 +89,8 @@ impl Regex {
     ///
     /// # Errors
     ///
-    /// `Memory` where a growth is refused, and the error that the replacer returns for one of the
-    /// matches that are replaced. It may have been asked for some of them by then.
+    /// `Memory` if memory runs out, and the error that the replacer returns for one of the matches
+    /// that are replaced. It may have been asked for some of them by then.
     pub fn replacen<'h, R: Replacer>(
         &self,
         haystack: &'h str,

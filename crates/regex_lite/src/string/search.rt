@@ -22,7 +22,7 @@ impl Regex {
     ///
     /// # Errors
     ///
-    /// `Memory` where a growth is refused.
+    /// `Memory` if memory runs out.
     pub fn is_match(&self, haystack: &str) -> Result<bool, Error>
         ensures found { IfOk result (λ found. IsTrue found ↔ MatchesFrom self.now haystack.now 0) }
         ensures refused { IfErr result (λ error. error ≡ out_of_memory) }
@@ -39,7 +39,7 @@ impl Regex {
     ///
     /// # Errors
     ///
-    /// `Memory` where a growth is refused.
+    /// `Memory` if memory runs out.
     pub fn is_match_at(&self, haystack: &str, start: usize) -> Result<bool, Error>
         requires { CanStartAt haystack.now start }
         ensures found { IfOk result
@@ -68,7 +68,7 @@ impl Regex {
     ///
     /// # Errors
     ///
-    /// `Memory` where a growth is refused.
+    /// `Memory` if memory runs out.
     pub fn find<'h>(&self, haystack: &'h str) -> Result<Option<Match<'h>>, Error>
         ensures found { IfOk result (λ found. TellsMatch self.now haystack.now 0 found) }
         ensures refused { IfErr result (λ error. error ≡ out_of_memory) }
@@ -84,7 +84,7 @@ impl Regex {
     ///
     /// # Errors
     ///
-    /// `Memory` where a growth is refused.
+    /// `Memory` if memory runs out.
     pub fn find_at<'h>(&self, haystack: &'h str, start: usize) -> Result<Option<Match<'h>>, Error>
         requires { CanStartAt haystack.now start }
         ensures found { IfOk result (λ found. TellsMatch self.now haystack.now start found) }
@@ -107,7 +107,7 @@ impl Regex {
     ///
     /// # Errors
     ///
-    /// `Memory` where a growth is refused.
+    /// `Memory` if memory runs out.
     pub fn shortest_match(&self, haystack: &str) -> Result<Option<usize>, Error>
         ensures found { IfOk result (λ end. TellsEnd self.now haystack.now 0 end) }
         ensures refused { IfErr result (λ error. error ≡ out_of_memory) }
@@ -123,7 +123,7 @@ impl Regex {
     ///
     /// # Errors
     ///
-    /// `Memory` where a growth is refused.
+    /// `Memory` if memory runs out.
     pub fn shortest_match_at(&self, haystack: &str, start: usize) -> Result<Option<usize>, Error>
         requires { CanStartAt haystack.now start }
         ensures found { IfOk result (λ end. TellsEnd self.now haystack.now start end) }

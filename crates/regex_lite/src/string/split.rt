@@ -25,7 +25,7 @@ impl Regex {
     ///
     /// # Errors
     ///
-    /// `Memory` where a growth is refused. The items take no memory, and are never refused.
+    /// `Memory` if memory runs out. The items need no memory, so they never fail.
     pub fn split<'r, 'h>(&'r self, haystack: &'h str) -> Result<Split<'r, 'h>, Error>
         ensures pieces { IfOk result (λ it. (list : List (List ℕ))
             → ArePiecesLeft it list ↔ ArePieces self.now haystack.now list) }
@@ -51,7 +51,7 @@ impl Regex {
     ///
     /// # Errors
     ///
-    /// `Memory` where a growth is refused. The items take no memory, and are never refused.
+    /// `Memory` if memory runs out. The items need no memory, so they never fail.
     pub fn splitn<'r, 'h>(
         &'r self,
         haystack: &'h str,

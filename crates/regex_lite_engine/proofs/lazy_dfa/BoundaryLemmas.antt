@@ -31,6 +31,9 @@ added_boundary (x ∷ bs) b = inr (added_boundary bs b)
 pub all_still : (wanted bs bs' : List ℕ) → ((b : ℕ) → IsBoundary bs b → IsBoundary bs' b) → All (IsBoundary bs) wanted → All (IsBoundary bs') wanted
 all_still wanted bs bs' more all = λ k d lt. more (slice_index_or wanted k d) (all k d lt)
 
+-- these three, for a function that adds a boundary
+pub ruleset one_more = (still_boundary, added_boundary, all_still)
+
 -- the first n of these are there
 abbrev pub AreFirst : (wanted : List ℕ) → (n : ℕ) → (boundaries : List ℕ) → Type 0
 AreFirst wanted n boundaries = (k d : ℕ) → k < n → k < length wanted → IsBoundary boundaries (slice_index_or wanted k d)

@@ -103,7 +103,7 @@ impl Boundaries {
     }
 
     /// Lets an interval begin at this number.
-    #[tactic(auto, using(crate::proofs::lazy_dfa::BoundaryLemmas::still_boundary, crate::proofs::lazy_dfa::BoundaryLemmas::added_boundary, crate::proofs::lazy_dfa::BoundaryLemmas::all_still))]
+    #[tactic(auto, using(crate::proofs::lazy_dfa::BoundaryLemmas::one_more))]
     fn add(&mut self, bound: u32) -> bool
         ensures added { result ≡ true → IsBoundary self.new.boundaries bound }
         ensures grows { Grows self.old self.new }

@@ -234,8 +234,9 @@ impl LazyDfa {
     )
         requires remembers { Remembers graph.now.places (graph.now.start ∷ []) self.now }
         requires state { stuck.state < length self.now.states }
-        requires stands { (haystack : Text) × (s : ℕ) × (stands : Stands (table_of graph.now) haystack
-            (graph.now.start ∷ []) s self.now at.old cache.old)
+        requires stands { (haystack : Text) × (s : ℕ)
+            × (stands : Stands (table_of graph.now) haystack (graph.now.start ∷ []) s self.now
+            at.old cache.old)
             × ScansTo (table_of graph.now) (graph.now.start ∷ []) haystack s stands.p self.now
             (Stuck stuck idle) }
         ensures stands { (haystack : Text) (s : ℕ) → (stands : Stands (table_of graph.now) haystack

@@ -24,7 +24,7 @@ pub(crate) fn pays(graph: &Graph, bytes: usize) -> bool {
 
 impl LazyDfa {
     /// One for this graph, which remembers nothing yet. None where there are too many classes, or
-    /// where a growth is refused: turns are then taken anew.
+    /// if memory runs out: turns are then taken anew.
     pub(crate) fn for_graph(alloc: Global, graph: &Graph) -> Option<LazyDfa>
         ensures { IfSome result (RemembersAll graph.now) }
     {
@@ -34,7 +34,7 @@ impl LazyDfa {
         }
     }
 
-    /// [`LazyDfa::for_graph`], or that a growth was refused.
+    /// [`LazyDfa::for_graph`], or that memory ran out.
     fn of(alloc: Global, graph: &Graph) -> Result<Option<LazyDfa>, AllocError>
         ensures { IfOk result (λ made. IfSome made (RemembersAll graph.now)) }
     {

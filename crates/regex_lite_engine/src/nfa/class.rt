@@ -7,8 +7,8 @@ use std::alloc::AllocError;
 use std::marker::Model;
 use std::rc::Rc;
 
-/// A set of characters with its map of the ASCII characters beside it, so that such a character is
-/// told of in one step. All places of the set share it.
+/// A set of characters with a map of its ASCII characters, so that one of those is looked up in one
+/// step. All places of the set share it.
 #[derive(Drop)]
 pub(crate) struct MappedClass {
     // Two words, since a `u128` would be aligned to 16 bytes and make each place of a graph longer.

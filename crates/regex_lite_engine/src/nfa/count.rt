@@ -245,7 +245,7 @@ impl Counts {
         self.reading as usize
     }
 
-    /// How many groups a match can tell of, the whole match among them.
+    /// The number of groups of a match, including the whole match.
     pub(crate) fn captures_len(&self) -> usize
         ensures { (tree : Tree) → AreCountsOf tree self.now → result ≡ captures_len tree }
     {
@@ -272,7 +272,7 @@ fn name_size(name: &Option<RcStr>) -> u64
     }
 }
 
-/// So many times what each takes, and so much more.
+/// `copies` times what each takes, and `own` more.
 fn times(copies: u64, each: u64, own: u64) -> u64
     ensures { (n : ℕ) → each ≡ saturated n → result ≡ saturated (copies * n + own) }
 {

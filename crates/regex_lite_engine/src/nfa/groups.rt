@@ -38,7 +38,7 @@ impl Groups {
     ///
     /// # Errors
     ///
-    /// Where a growth was refused, or a name has as many owners as can be counted.
+    /// If memory runs out, or a name has as many owners as can be counted.
     pub(crate) fn of(alloc: Global, hir: &Hir, counts: &Counts) -> Result<Groups, AllocError>
         requires counted { AreCountsOf (tree_of hir.now) counts.now }
         requires few { whole_places (tree_of hir.now) < 2 ^ 32 }

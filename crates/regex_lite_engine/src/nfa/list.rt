@@ -82,8 +82,8 @@ impl GraphList {
     ///
     /// # Errors
     ///
-    /// `Places` where the trees have more places together than can be numbered, and `Memory` where
-    /// a growth was refused or a set or a name has as many owners as can be counted.
+    /// `Places` where the trees have more places together than can be numbered, and `Memory` if
+    /// memory runs out or a set or a name has as many owners as can be counted.
     pub fn new(alloc: Global, hirs: &[Hir]) -> Result<GraphList, Error>
         requires regular { AreRegular (map tree_of hirs.now) }
         requires fit { All (λ tree. (limit : ℕ) × Fits limit tree) (map tree_of hirs.now) }
@@ -172,8 +172,8 @@ impl GraphList {
 ///
 /// # Errors
 ///
-/// `Places` where they have more places together than can be numbered, and `Memory` where a growth
-/// was refused, or a name has as many owners as can be counted.
+/// `Places` where they have more places together than can be numbered, and `Memory` if memory runs
+/// out, or a name has as many owners as can be counted.
 fn totals_and_groups(alloc: Global, hirs: &[Hir]) -> Result<(Totals, Vec<Groups>), Error>
     requires { AreRegular (map tree_of hirs.now) }
     ensures totals { IfOk result (λ told. AreTotalsOf (map tree_of hirs.now) told.0) }

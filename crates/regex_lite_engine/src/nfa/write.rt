@@ -26,7 +26,7 @@ use std::marker::Model;
 ///
 /// # Errors
 ///
-/// Where a growth was refused, or a set has as many owners as can be counted.
+/// If memory runs out, or a set has as many owners as can be counted.
 pub(crate) fn write_out(
     alloc: Global,
     hir: &Hir,
@@ -52,7 +52,7 @@ pub(crate) fn write_out(
 ///
 /// # Errors
 ///
-/// Where a growth was refused, or a set has as many owners as can be counted.
+/// If memory runs out, or a set has as many owners as can be counted.
 pub(crate) fn write_all(
     alloc: Global,
     hirs: &[Hir],

@@ -5,17 +5,17 @@ ghost use Rattle.regex_lite_engine.specs.Walk.Beginnings.{Told, Tells, untold};
 /// What stands beside a thread for where its way began: the offset with or without the number of
 /// the pattern, or nothing in a search that is asked only for an end.
 pub trait Beginning: Copy {
-    /// What it tells.
+    /// What it says of where the way began.
     ghost told: { Self → Told };
 
-    /// What is told of a way from this offset of the pattern with this number.
+    /// What is kept says this of a way from this offset of the pattern with this number.
     ghost told_of: { (at number : ℕ) → Told };
 
     /// What is kept of a way that begins at this offset, of the pattern with this number.
     fn at(at: usize, number: u32) -> Self
         ensures { told result ≡ told_of at number };
 
-    /// Nothing else is told of it.
+    /// It says nothing else.
     ghost tells: { (at number : ℕ) → Tells (told_of at number) at number };
 }
 

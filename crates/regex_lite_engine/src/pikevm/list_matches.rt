@@ -30,7 +30,7 @@ impl GraphList {
     ///
     /// # Errors
     ///
-    /// Where a growth is refused, which can only be before the first step.
+    /// If memory runs out, which can happen only before the first step.
     pub fn search_each(
         &self,
         alloc: Global,

@@ -27,7 +27,7 @@ impl GraphList {
     ///
     /// # Errors
     ///
-    /// Where a growth is refused, which can only be before the first step.
+    /// If memory runs out, which can happen only before the first step.
     pub fn search(
         &self,
         alloc: Global,
@@ -61,7 +61,7 @@ impl GraphList {
     ///
     /// # Errors
     ///
-    /// Where a growth is refused, which can only be before the first step.
+    /// If memory runs out, which can happen only before the first step.
     pub fn search_any(
         &self,
         alloc: Global,

@@ -53,7 +53,7 @@ impl<'g> ListSearcher<'g> {
     ///
     /// # Errors
     ///
-    /// Where a growth is refused.
+    /// If memory runs out.
     pub fn new(
         alloc: Global,
         graph: &'g GraphList,

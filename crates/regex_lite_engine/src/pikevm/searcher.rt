@@ -57,7 +57,7 @@ impl<'g> Searcher<'g> {
     ///
     /// # Errors
     ///
-    /// Where a growth is refused without which it can't search.
+    /// If memory runs out without which it can't search.
     pub fn new(
         alloc: Global,
         graph: &'g Graph,

@@ -61,7 +61,7 @@ impl Parser {
         Ok(if lazy { past_gap + 1 } else { end })
     }
 
-    /// The item follows, so often repeated.
+    /// Adds the item, repeated this number of times.
     fn add_repeated(&mut self, item: Hir, times: Times, lazy: bool) -> Result<(), AllocError>
         ensures { OnOk result (Adds self.old self.new (repeated times.least times.most
             (greed self.old.here.flags lazy) (tree_of item))) }

@@ -180,7 +180,7 @@ impl RegexListBuilder {
     ///
     /// Those of [`RegexBuilder::build`](crate::RegexBuilder::build) for the first pattern that is
     /// refused by itself, under its own settings. Where none is refused, `Places` if they have 2^32
-    /// places or more together. `Memory` where a growth is refused.
+    /// places or more together. `Memory` if memory runs out.
     pub fn build(&self) -> Result<RegexList, Error>
         ensures { BuildsList self.now.patterns result }
     {

@@ -27,8 +27,8 @@ impl RegexList {
     ///
     /// # Errors
     ///
-    /// `Memory` where a growth is refused. Each item takes memory of its own. One that is refused
-    /// is the last.
+    /// `Memory` if memory runs out. Each item takes memory of its own. One that is refused is the
+    /// last.
     pub fn captures_iter<'r, 'h>(
         &'r self,
         haystack: &'h str,

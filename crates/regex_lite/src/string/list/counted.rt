@@ -12,11 +12,12 @@ use crate::string::source::Source;
 use regex_lite_engine::{Outcome, Steps};
 use regex_lite_syntax::Error;
 
-/// Each search tries places of the patterns written out at most so often: their arrows and their
-/// number together, times one more than the characters from the start to the haystack's end. It
-/// enters places at most so often: the places, times one more than those characters.
-/// [`RegexList::places`], [`RegexList::arrows`] and [`RegexList::len`] return how many there are. A
-/// search from above the length tries none, and one that finds something has entered a place.
+/// The number of places of the written-out patterns that a search tries is at most the number of
+/// their arrows plus that of the patterns, times one more than the characters from the start to the
+/// haystack's end. The number that it enters is at most that of the places, times one more than
+/// those characters. [`RegexList::places`], [`RegexList::arrows`] and [`RegexList::len`] return how
+/// many there are. A search from above the length tries none, and one that finds something has
+/// entered a place.
 impl RegexList {
     /// [`RegexList::is_match_at`], and what the search cost.
     ///
@@ -24,7 +25,7 @@ impl RegexList {
     ///
     /// # Errors
     ///
-    /// `Memory` where a growth is refused.
+    /// `Memory` if memory runs out.
     pub fn is_match_counted_at(&self, haystack: &str, start: usize) -> Result<(bool, Steps), Error>
         requires { CanStartAt haystack.now start }
         ensures found { IfOk result
@@ -44,7 +45,7 @@ impl RegexList {
     ///
     /// # Errors
     ///
-    /// `Memory` where a growth is refused.
+    /// `Memory` if memory runs out.
     pub fn find_counted_at<'h>(
         &self,
         haystack: &'h str,
@@ -71,7 +72,7 @@ impl RegexList {
     ///
     /// # Errors
     ///
-    /// `Memory` where a growth is refused.
+    /// `Memory` if memory runs out.
     pub fn captures_counted_at<'h>(
         &self,
         haystack: &'h str,

@@ -29,7 +29,7 @@ impl RegexList {
     ///
     /// # Errors
     ///
-    /// `Memory` where a growth is refused. The items take no memory, and are never refused.
+    /// `Memory` if memory runs out. The items need no memory, so they never fail.
     pub fn find_iter<'r, 'h>(&'r self, haystack: &'h str) -> Result<ListMatches<'r, 'h>, Error>
         ensures ahead { IfOk result
             (λ it. list_ahead_of it ≡ whole_list self.now haystack.now) }

@@ -26,7 +26,7 @@ impl RegexList {
     ///
     /// # Errors
     ///
-    /// `Memory` where a growth is refused.
+    /// `Memory` if memory runs out.
     pub fn captures<'h>(&self, haystack: &'h str) -> Result<Option<(usize, Captures<'h>)>, Error>
         ensures found { IfOk result (λ found. TellsGroupsOfList self.now haystack.now 0 found) }
         ensures of_match { IfOk result (λ found. IfSome found (AreOfPattern self.now)) }
@@ -43,7 +43,7 @@ impl RegexList {
     ///
     /// # Errors
     ///
-    /// `Memory` where a growth is refused.
+    /// `Memory` if memory runs out.
     pub fn captures_at<'h>(
         &self,
         haystack: &'h str,

@@ -15,7 +15,7 @@ impl RegexList {
     ///
     /// # Errors
     ///
-    /// `Memory` where a growth is refused.
+    /// `Memory` if memory runs out.
     pub fn is_match(&self, haystack: &str) -> Result<bool, Error>
         ensures found { IfOk result (λ found. IsTrue found ↔ AnyMatches self.now haystack.now 0) }
         ensures refused { IfErr result (λ error. error ≡ out_of_memory) }
@@ -32,7 +32,7 @@ impl RegexList {
     ///
     /// # Errors
     ///
-    /// `Memory` where a growth is refused.
+    /// `Memory` if memory runs out.
     pub fn is_match_at(&self, haystack: &str, start: usize) -> Result<bool, Error>
         requires { CanStartAt haystack.now start }
         ensures found { IfOk result
@@ -45,9 +45,8 @@ impl RegexList {
 
     /// The match that starts first, with the number of its pattern.
     ///
-    /// Where several patterns match from that start, the one with the lowest number is answered,
-    /// with the match that it prefers there: the one that its own [`Regex`](crate::Regex) would
-    /// find.
+    /// If several patterns match from that start, the one with the lowest number is returned, with
+    /// the match that it prefers there: the one that its own [`Regex`](crate::Regex) would find.
     ///
     /// ```
     /// let list = RegexList::new(alloc, &["if", "[a-z]+"])?;
@@ -61,7 +60,7 @@ impl RegexList {
     ///
     /// # Errors
     ///
-    /// `Memory` where a growth is refused.
+    /// `Memory` if memory runs out.
     pub fn find<'h>(&self, haystack: &'h str) -> Result<Option<(usize, Match<'h>)>, Error>
         ensures found { IfOk result (λ found. TellsMatchOfList self.now haystack.now 0 found) }
         ensures refused { IfErr result (λ error. error ≡ out_of_memory) }
@@ -77,7 +76,7 @@ impl RegexList {
     ///
     /// # Errors
     ///
-    /// `Memory` where a growth is refused.
+    /// `Memory` if memory runs out.
     pub fn find_at<'h>(
         &self,
         haystack: &'h str,

@@ -68,7 +68,7 @@ impl SetMatches {
     ///
     /// # Errors
     ///
-    /// `Memory` where a growth is refused.
+    /// `Memory` if memory runs out.
     pub fn try_clone(&self) -> Result<SetMatches, Error>
         ensures ok { IfOk result (λ set. set ≡ self.now) }
         ensures refused { IfErr result (λ error. error ≡ out_of_memory) }

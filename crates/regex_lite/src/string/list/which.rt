@@ -27,7 +27,7 @@ impl RegexList {
     ///
     /// # Errors
     ///
-    /// `Memory` where a growth is refused.
+    /// `Memory` if memory runs out.
     pub fn matches(&self, haystack: &str) -> Result<SetMatches, Error>
         ensures found { IfOk result (λ set. TellsWhichMatch self.now haystack.now 0 set) }
         ensures refused { IfErr result (λ error. error ≡ out_of_memory) }
@@ -44,7 +44,7 @@ impl RegexList {
     ///
     /// # Errors
     ///
-    /// `Memory` where a growth is refused.
+    /// `Memory` if memory runs out.
     pub fn matches_at(&self, haystack: &str, start: usize) -> Result<SetMatches, Error>
         requires { CanStartAt haystack.now start }
         ensures found { IfOk result (λ set. TellsWhichMatch self.now haystack.now start set) }
@@ -61,7 +61,7 @@ impl RegexList {
     ///
     /// # Errors
     ///
-    /// `Memory` where a growth is refused.
+    /// `Memory` if memory runs out.
     pub fn matches_counted_at(
         &self,
         haystack: &str,

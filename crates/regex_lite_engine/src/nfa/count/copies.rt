@@ -49,8 +49,8 @@ impl OwnPlaces {
     }
 }
 
-/// How many places a repetition with so many choices has that are no choices: no join where there
-/// is no choice, and an empty place where no copy stands before the choices.
+/// The number of places of a repetition with this number of choices that are neither choices nor in
+/// a copy: the join, if there is a choice, and an empty place, if no copy comes before the choices.
 fn other_places(least: u32, choices: u32) -> u64
     ensures places { choices + result ≡ bounded_places least choices }
     ensures arrows { 2 * choices + result ≡ bounded_arrows least choices }
