@@ -22,7 +22,7 @@ pub(crate) enum Fault {
     Unreadable,
     /// A write to standard output failed.
     Unwritten,
-    /// The pattern was refused, or a growth.
+    /// The pattern was refused, or memory ran out.
     Refused(Error),
 }
 
