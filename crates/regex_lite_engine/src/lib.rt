@@ -19,6 +19,7 @@ mod search;
 pub use nfa::Graph;
 pub use nfa::groups::Groups;
 pub use nfa::list::GraphList;
+pub use nfa::measured::Measured;
 pub use pikevm::list_searcher::ListSearcher;
 pub use pikevm::search::Outcome;
 pub use pikevm::searcher::Searcher;

@@ -17,6 +17,7 @@ pub(crate) mod heads;
 pub(crate) mod kept_back;
 pub(crate) mod list;
 pub(crate) mod list_heads;
+pub(crate) mod measured;
 pub(crate) mod place;
 pub(crate) mod prefilter;
 pub(crate) mod starts;

@@ -11,7 +11,7 @@ use crate::owner::Shared;
 use crate::string::compiled::Compiled;
 use crate::string::list::compiled::Pattern;
 use crate::string::regex::Regex;
-use regex_lite_engine::{Graph, GraphList};
+use regex_lite_engine::{Graph, GraphList, Measured};
 use regex_lite_syntax::{Config, Error, Flags, Hir};
 use std::alloc::{AllocError, Global};
 use std::marker::Model;
@@ -261,14 +261,13 @@ impl RegexBuilder {
         Hir::parse(self.alloc, config, self.pattern.as_str())
     }
 
-    /// The tree of the pattern, which passes no limit.
-    pub(super) fn accepted_hir(&self) -> Result<Hir, Error>
+    /// The tree of the pattern, which passes no limit, with its counts.
+    pub(super) fn accepted_hir(&self) -> Result<Measured, Error>
         ensures accepted { IfOk result (λ hir. IsAcceptedAs self.now (tree_of hir)) }
         ensures refused { IfErr result (λ error. IsDue self.now error) }
     {
         let hir = self.hir()?;
-        GraphList::within_limits(&hir, self.size_limit)?;
-        Ok(hir)
+        GraphList::within_limits(hir, self.size_limit)
     }
 
     /// The pattern, and the flags under which it is read.

@@ -15,6 +15,7 @@ use crate::nfa::count::Counts;
 use crate::nfa::count::totals::Totals;
 use crate::nfa::groups::Groups;
 use crate::nfa::list_heads::ListHeads;
+use crate::nfa::measured::Measured;
 use crate::nfa::table::Table;
 use crate::nfa::write::write_all;
 use regex_lite_syntax::{Error, Hir};
@@ -58,21 +59,22 @@ impl Model for GraphList {
 }
 
 impl GraphList {
-    /// Finds out whether a tree passes none of the limits by itself, with nothing written.
+    /// The tree with its counts, where it passes none of the limits by itself. Nothing is written.
     ///
     /// # Errors
     ///
     /// `Size` where the size is above the limit, `Places` where there are more places than can be
     /// numbered, and `Slots` where a group's slots can't be numbered. Where several limits are
     /// passed, any of them may be named.
-    pub fn within_limits(hir: &Hir, size_limit: usize) -> Result<(), Error>
-        ensures ok { IfOk result (λ _. Fits size_limit (tree_of hir.now)) }
+    pub fn within_limits(hir: Hir, size_limit: usize) -> Result<Measured, Error>
+        ensures same { IfOk result (λ measured. measured ≡ hir) }
+        ensures ok { IfOk result (λ _. Fits size_limit (tree_of hir)) }
         ensures refused { IfErr result
-            (λ error. IsDueToTree size_limit (tree_of hir.now) (kind_of error)) }
+            (λ error. IsDueToTree size_limit (tree_of hir) (kind_of error)) }
     {
-        let counts = Counts::of(hir);
+        let counts = Counts::of(&hir);
         counts.within(size_limit)?;
-        Ok(())
+        Ok(Measured::new(hir, counts))
     }
 
     /// The graph of these trees. Whether there are too many places is found out before anything is
@@ -84,7 +86,7 @@ impl GraphList {
     ///
     /// `Places` where the trees have more places together than can be numbered, and `Memory` if
     /// memory runs out or a set or a name has as many owners as can be counted.
-    pub fn new(alloc: Global, hirs: &[Hir]) -> Result<GraphList, Error>
+    pub fn new(alloc: Global, hirs: &[Measured]) -> Result<GraphList, Error>
         requires regular { AreRegular (map tree_of hirs.now) }
         requires fit { All (λ tree. (limit : ℕ) × Fits limit tree) (map tree_of hirs.now) }
         ensures ok { IfOk result (λ list. IsGraphOfList (map tree_of hirs.now) list) }
@@ -174,7 +176,7 @@ impl GraphList {
 ///
 /// `Places` where they have more places together than can be numbered, and `Memory` if memory runs
 /// out, or a name has as many owners as can be counted.
-fn totals_and_groups(alloc: Global, hirs: &[Hir]) -> Result<(Totals, Vec<Groups>), Error>
+fn totals_and_groups(alloc: Global, hirs: &[Measured]) -> Result<(Totals, Vec<Groups>), Error>
     requires { AreRegular (map tree_of hirs.now) }
     ensures totals { IfOk result (λ told. AreTotalsOf (map tree_of hirs.now) told.0) }
     ensures all { IfOk result (λ told. length told.1.items ≡ length hirs.now) }
@@ -185,9 +187,9 @@ fn totals_and_groups(alloc: Global, hirs: &[Hir]) -> Result<(Totals, Vec<Groups>
     let mut totals = Totals::NONE;
     let mut groups = Vec::with_capacity(alloc, hirs.len())?;
     for hir in hirs {
-        let counts = Counts::of(hir);
-        totals = totals.with(&counts)?;
-        groups.push(Groups::of(alloc, hir, &counts)?)?;
+        let counts = hir.counts();
+        totals = totals.with(counts)?;
+        groups.push(Groups::of(alloc, hir.hir(), counts)?)?;
     }
     Ok((totals, groups))
 }

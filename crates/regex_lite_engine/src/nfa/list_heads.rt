@@ -16,9 +16,9 @@ mod thirds;
 mod walk;
 
 use crate::nfa::heads::Heads;
+use crate::nfa::measured::Measured;
 use crate::nfa::starts::Starts;
 use ascii_set::AsciiSet;
-use regex_lite_syntax::Hir;
 use rows::{AT_START, Rows, SECOND};
 use std::alloc::{AllocError, Global};
 use thirds::Thirds;
@@ -44,12 +44,12 @@ impl ListHeads {
     /// # Errors
     ///
     /// Where memory runs out.
-    pub(crate) fn of(alloc: Global, hirs: &[Hir]) -> Result<ListHeads, AllocError>
+    pub(crate) fn of(alloc: Global, hirs: &[Measured]) -> Result<ListHeads, AllocError>
         ensures ok { IfOk result (λ heads. AreHeadsOfTrees (map tree_of hirs.now) heads) }
     {
         let mut heads = ListHeads::none(alloc, hirs.len())?;
         for (number, hir) in hirs.iter().enumerate() {
-            heads.add(number, &Heads::of(hir));
+            heads.add(number, &Heads::of(hir.hir()));
         }
         let thirds = Thirds::of(alloc, hirs)?;
         Ok(ListHeads { thirds, ..heads })

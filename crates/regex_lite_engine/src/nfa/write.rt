@@ -13,6 +13,7 @@ ghost use Rattle.regex_lite_engine.specs.Nfa.Layout.{IsAdded, layout, capture_la
 mod repetition;
 
 use crate::nfa::class::MappedClass;
+use crate::nfa::measured::Measured;
 use crate::nfa::place::Place;
 use regex_lite_syntax::Hir;
 use std::alloc::{AllocError, Global};
@@ -55,7 +56,7 @@ pub(crate) fn write_out(
 /// If memory runs out, or a set has as many owners as can be counted.
 pub(crate) fn write_all(
     alloc: Global,
-    hirs: &[Hir],
+    hirs: &[Measured],
     count: u32,
 ) -> Result<(Vec<Place>, Vec<u32>), AllocError>
     requires count { count ≡ places_of_all (map tree_of hirs.now) }
@@ -70,7 +71,7 @@ pub(crate) fn write_all(
     let mut writer = Writer::new(alloc, count)?;
     let mut entries = Vec::with_capacity(alloc, hirs.len())?;
     for hir in hirs {
-        entries.push(writer.write_pattern(hir)?)?;
+        entries.push(writer.write_pattern(hir.hir())?)?;
     }
     Ok((writer.places, entries))
 }

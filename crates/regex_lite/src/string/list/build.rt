@@ -11,8 +11,8 @@ use crate::owner::Shared;
 use crate::string::builder::RegexBuilder;
 use crate::string::list::RegexList;
 use crate::string::list::compiled::{CompiledList, Pattern};
-use regex_lite_engine::GraphList;
-use regex_lite_syntax::{Error, Hir};
+use regex_lite_engine::{GraphList, Measured};
+use regex_lite_syntax::Error;
 use std::alloc::{AllocError, Global};
 
 impl RegexList {
@@ -49,7 +49,7 @@ pub(super) fn default_builders(alloc: Global, patterns: &[&str]) -> Result<Vec<R
 }
 
 /// The trees of the patterns, where each is accepted by itself.
-fn parse_all(alloc: Global, builders: &[RegexBuilder]) -> Result<Vec<Hir>, Error>
+fn parse_all(alloc: Global, builders: &[RegexBuilder]) -> Result<Vec<Measured>, Error>
     ensures accepted { IfOk result (λ hirs.
         AreAcceptedAs builders.now (map tree_of hirs.items)) }
     ensures refused { IfErr result

@@ -8,6 +8,7 @@ ghost use Rattle.regex_lite_syntax.specs.Tree.Views.{tree_of};
 ghost use Rattle.regex_lite_engine.specs.Nfa.Starts.{may_begin};
 ghost use Rattle.regex_lite_engine.specs.Nfa.Thirds.{in_mask, may_go_on, AreMasksOf, BeginsInMask, IsThirdOfTree, ReadsOne};
 
+use crate::nfa::measured::Measured;
 use crate::nfa::starts::Starts;
 use regex_lite_syntax::Hir;
 use std::alloc::{AllocError, Global};
@@ -35,12 +36,12 @@ impl Thirds {
     /// # Errors
     ///
     /// Where memory runs out.
-    pub(crate) fn of(alloc: Global, hirs: &[Hir]) -> Result<Thirds, AllocError>
+    pub(crate) fn of(alloc: Global, hirs: &[Measured]) -> Result<Thirds, AllocError>
         ensures { IfOk result (λ thirds. AreMasksOf (map tree_of hirs.now) thirds.masks.items) }
     {
         let mut masks = Vec::with_capacity(alloc, hirs.len())?;
         for hir in hirs {
-            masks.push(third_of(hir))?;
+            masks.push(third_of(hir.hir()))?;
         }
         Ok(Thirds { masks })
     }

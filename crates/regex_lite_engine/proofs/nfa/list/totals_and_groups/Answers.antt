@@ -16,7 +16,7 @@ with-requires-clause-counted c =
       tree_of hir,
       c.requires k (tree_of hir)
           (tree_there c.args.hirs.now k hir c.loop-hir-test.true c.hir-item.is),
-      c.of-counts.ensures,
+      c.counts-counts.ensures,
     )
 
 pub of-requires-clause-few : goal.of-requires-clause-few
@@ -25,8 +25,8 @@ of-requires-clause-few c =
     let hir = c.hir-item.result in
     let regular = c.requires k (tree_of hir)
     (tree_there c.args.hirs.now k hir c.loop-hir-test.true c.hir-item.is) in
-    let more = c.in_ok-totals.ensures.ok (tree_of hir) regular c.of-counts.ensures in
-    omega (arith, more.places)
+    let more = c.in_ok-totals.ensures.ok (tree_of hir) regular c.counts-counts.ensures in
+    rw (c.hir.ensures) (omega (arith, more.places))
 
 pub loop-hir-preserved : goal.loop-hir-preserved
 loop-hir-preserved c =
@@ -38,7 +38,7 @@ loop-hir-preserved c =
     let rest = map tree_of (drop (k + 1) hirs) in
     let v = c.loop-hir.invariant in
     let there = tree_there hirs k hir c.loop-hir-test.true c.hir-item.is in
-    let more = c.in_ok-totals.ensures.ok tree (c.requires k tree there) c.of-counts.ensures in
+    let more = c.in_ok-totals.ensures.ok tree (c.requires k tree there) c.counts-counts.ensures in
     let left = trees_left hirs k hir c.loop-hir-test.true c.hir-item.is in
     let before = c.loop-hir.groups.items in
     let next : slice_get trees (length before) ≡ Some tree = ap (slice_get trees) v.all ∙ there in
@@ -74,5 +74,6 @@ loop-hir-preserved c =
         v.all,
       );
       each = subst (λ groups. TellGroupsOf trees groups) (sym {A = List StoredGroups} pushed)
-          (told_more trees before tree c.in_ok-of.field-0 next c.in_ok-of.ensures v.each);
+          (told_more trees before tree c.in_ok-of.field-0 next (rw (← c.hir.ensures)
+          c.in_ok-of.ensures) v.each);
     }

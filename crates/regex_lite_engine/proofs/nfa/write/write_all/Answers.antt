@@ -1,4 +1,5 @@
-use Rattle.std.proofs.Common.{◌≡◌, ◌<◌, ◌+◌, ◌^◌, ◌∙◌, ◌∷◌, ◌++◌, append_assoc, ap, sym, subst, arith, drop, length, map, slice_index_or}
+use Rattle.std.proofs.Common.{◌≡◌, ◌<◌, ◌+◌, ◌^◌, ◌∙◌, ◌∷◌, ◌++◌, append_assoc, ap, sym, subst}
+use Rattle.std.proofs.Common.{arith, drop, get_or, length, map, slice_index_or}
 use Rattle.std.proofs.Math.ListN.{get_or-map}
 use Rattle.std.proofs.lemmas.List.{length-map, drop_more}
 use Rattle.std.proofs.lemmas.List.Sums.{sum_by-cons}
@@ -17,15 +18,18 @@ write_pattern-requires-clause-slots c =
     let hir = c.hir-item.result in
     let there : slice_index_or (map tree_of hirs) k (tree_of hir) ≡ tree_of hir
     = get_or-map tree_of hirs k hir ∙ ap tree_of (sym c.hir-item.is) in
-    subst (λ tree. greatest_index tree < 2 ^ 31) there
+    rw (c.hir.ensures)
+    (subst (λ tree. greatest_index tree < 2 ^ 31) there
     (c.requires.slots k (tree_of hir)
-    (omega (arith, length-map hirs tree_of, c.loop-hir-test.true)))
+    (omega (arith, length-map hirs tree_of, c.loop-hir-test.true))))
 
 pub loop-hir-preserved : goal.loop-hir-preserved
 loop-hir-preserved c =
     let hirs = c.args.hirs.now in
     let k = c.loop-hir.hir-index in
-    let hir = c.hir-item.result in
+    let hir = c.hir.result.now in
+    let is : hir ≡ get_or hirs k hir
+    = subst (λ h. h ≡ get_or hirs k h) (sym c.hir.ensures) c.hir-item.is in
     let tree = tree_of hir in
     let rest = map tree_of (drop (k + 1) hirs) in
     let places = map place_of c.loop-hir.writer in
@@ -35,7 +39,7 @@ loop-hir-preserved c =
     let added = c.in_ok-write_pattern.ensures in
     let left : map tree_of (drop k hirs) ≡ tree ∷ rest
     = ap (map tree_of) (drop_more hirs k hir c.loop-hir-test.true
-    ∙ ap (λ x. x ∷ drop (k + 1) hirs) (sym c.hir-item.is)) in
+    ∙ ap (λ x. x ∷ drop (k + 1) hirs) (sym is)) in
     record {
       written = ap (λ all. all ++ patterns_table rest new) added.written.1
           ∙ append_assoc places (pattern_table tree old) (patterns_table rest new)

@@ -35,7 +35,7 @@ loop-number-preserved c =
         parts ++ part ∷ [],
         subst (λ trees. AreEachHeadsOf trees (parts ++ part ∷ [])) (sym more)
             (heads_of_more (map tree_of (take k hirs)) parts (tree_of hir) part v.so_far.1
-            c.of.ensures),
+            (rw (← c.hir.ensures) c.of.ensures)),
         c.add.ensures.added parts
             (omega (arith, v.so_far.1.all, taken, mapped, c.loop-number-test.true)) v.so_far.2,
       );

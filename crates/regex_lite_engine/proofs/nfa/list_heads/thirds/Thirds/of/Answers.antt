@@ -24,6 +24,6 @@ loop-hir-preserved c =
         c.loop-hir.invariant.all,
       );
       each = subst (λ masks. AreMasksOf trees masks) (sym {A = List ℕ} pushed)
-          (masks_more trees before (tree_of hir) mask next c.third_of.ensures
+          (masks_more trees before (tree_of hir) mask next (rw (← c.hir.ensures) c.third_of.ensures)
           c.loop-hir.invariant.each);
     }
