@@ -9,6 +9,7 @@ pub mod EscapedLemmas
 pub mod FoundLemmas
 pub mod GroupLemmas
 pub mod GroupNameLemmas
+pub mod KeptLemmas
 pub mod ListBuildLemmas
 pub mod LawfulLemmas
 pub mod ListLemmas

@@ -39,6 +39,7 @@ pub mod CompiledList
 pub mod Slots
 pub mod Answers
 pub mod Scanning
+pub mod Keeping
 pub mod ListScanning
 pub mod NextMatch
 pub mod Rewriting

@@ -25,7 +25,7 @@ same_truth false false P p q = refl
 
 module _ (re : Expression) (haystack : List ℕ) (start : ℕ) where
   -- what is told of an answer tells whether there is a match
-  answer_told : {A : Type 0} (says : Tree → Found → A → Type 0) (told : Option A)
+  pub answer_told : {A : Type 0} (says : Tree → Found → A → Type 0) (told : Option A)
       → TellsAnswer says re haystack start told
       → IsTrue (is_some told) ↔ MatchesFrom re haystack start
   answer_told says None (tree, given, none) = (

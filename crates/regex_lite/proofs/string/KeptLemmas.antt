@@ -1,0 +1,112 @@
+-- What a searcher that callers keep tells of a match, and of its groups.
+use Rattle.std.proofs.Common.{◌≡◌, ◌≤◌, ◌*◌, ◌∙◌, refl, sym, ap, subst, ℕ, List, [], length, take, Option, Some, None, option_map, chars, IsUtf8, arith}
+use Rattle.regex_lite_syntax.specs.Tree.{Tree}
+use Rattle.regex_lite_syntax.specs.Tree.Properties.{captures_len}
+use Rattle.regex_lite_engine.specs.Search.Answer.{Found, IsFound}
+use Rattle.regex_lite_engine.specs.Search.Offsets.{HasSlots, offset, position_at, search_start}
+use Rattle.regex_lite_engine.specs.Search.Outcomes.{IsSpanOutcome}
+use Rattle.regex_lite_engine.proofs.PositionLemmas.{position_of}
+use Rattle.regex_lite.specs.declared.string.matches.Match.{Match}
+use Rattle.regex_lite.specs.Answers.{IsWithin}
+use Rattle.regex_lite.specs.Expression.{Expression, OfTree}
+use Rattle.regex_lite.specs.Groups.{spans_of}
+use Rattle.regex_lite.specs.MatchList.{IsAnswerOf}
+use Rattle.regex_lite.specs.MatchViews.{span_of_match}
+use Rattle.regex_lite.specs.Searches.{CanRead, IsMatchOf, TellsLocations, TellsMatch, spans_from}
+use Rattle.regex_lite.specs.Slots.{all_slots}
+use Rattle.regex_lite.proofs.string.CapturedLemmas.{held_all}
+use Rattle.regex_lite.proofs.string.FoundLemmas.{first_told, length_spans, slots_told}
+use Rattle.regex_lite.proofs.string.LawfulLemmas.{regex_lawful}
+use Rattle.regex_lite.proofs.string.OneTreeLemmas.{one_tree}
+use Rattle.regex_lite.proofs.string.ToldLemmas.{not_there, same_some}
+
+module _ (re : Expression) (bytes : List ℕ) (utf8 : IsUtf8 bytes) (start : ℕ) (m : Match)
+    (own : TellsMatch re bytes start (Some m)) where
+  abbrev tree : Tree
+  tree = own.0
+
+  abbrev found : Found
+  found = own.2.0
+
+  is_match : IsMatchOf bytes found m
+  is_match = own.2.2
+
+  is_answer : IsAnswerOf re (chars bytes) (search_start bytes start) (Some found)
+  is_answer = (tree, own.1, own.2.1)
+
+  within : IsWithin (chars bytes) (search_start bytes start) found
+  within = (regex_lawful re (chars bytes)).within (search_start bytes start) found is_answer
+
+  from : search_start bytes m.start ≡ found.start
+  from =
+      let at = ap (λ (span : ℕ × ℕ). position_at bytes span.0) is_match.span
+      ∙ position_of bytes utf8 found.start (offset (chars bytes) found.start)
+      (omega (arith, within.ordered, within.inside), refl) in
+      let long = ap length is_match.haystack in
+      let ordered = m.lies_in.ordered in
+      let inside = m.lies_in.inside in
+      omega (arith, at, long, ordered, inside)
+
+  -- from where the match begins on it is found again
+  again : IsAnswerOf re (chars bytes) (search_start bytes m.start) (Some found)
+  again =
+      subst (λ s. IsAnswerOf re (chars bytes) s (Some found)) (sym from)
+      ((regex_lawful re (chars bytes)).further (search_start bytes start) found.start found
+      within.from (omega arith) is_answer)
+
+  -- with its slots
+  pub slots_again : (slots : List (Option ℕ)) (told : Option (ℕ × ℕ))
+      → OfTree re (λ tree. IsSpanOutcome tree bytes m.start slots told)
+      → HasSlots (chars bytes) slots found.marks
+  slots_again slots None (other, given, none) =
+      absurd (not_there ((regex_lawful re (chars bytes)).one (search_start bytes m.start) None
+      (Some found) (other, given, none) again))
+  slots_again slots (Some span) (other, given, (second, is, tells)) =
+      let same = same_some ((regex_lawful re (chars bytes)).one (search_start bytes m.start)
+      (Some second) (Some found) (other, given, is) again) in
+      subst (λ (f : Found). HasSlots (chars bytes) slots f.marks) same tells.slots
+
+  -- its span is the slots of the whole match
+  pub slots_of_whole : HasSlots (chars bytes) (all_slots [] (span_of_match m)) found.marks
+  slots_of_whole =
+      held_all (chars bytes) tree (search_start bytes start) found (re.flags, _, own.1) own.2.1 []
+      (span_of_match m) (λ k slot at. absurd cc) is_match.span
+
+  -- these slots hold its groups, two for each
+  module _ (slots : List (Option ℕ)) (held : HasSlots (chars bytes) slots found.marks)
+      (enough : OfTree re (λ tree. length slots ≡ 2 * captures_len tree)) where
+    spans_are : spans_of slots ≡ spans_from (chars bytes) found.marks 0 (captures_len tree)
+    spans_are =
+        slots_told (chars bytes) found.marks slots 0 (captures_len tree) 0 refl
+        (enough.2 ∙ ap (λ tree. 2 * captures_len tree)
+        (one_tree re.flags (chars re.pattern) enough.0 tree enough.1 own.1))
+        (λ k slot at. held k slot at
+        ∙ ap (λ n. option_map (offset (chars bytes)) (found.marks n)) (omega arith))
+
+    -- they suffice for the locations
+    pub room_read : (locations : List (Option (ℕ × ℕ))) → CanRead re locations
+        → length locations ≤ length (spans_of slots)
+    room_read locations (other, given, few) =
+        let count = ap captures_len
+        (one_tree re.flags (chars re.pattern) other tree given own.1) in
+        let all = ap length spans_are
+        ∙ length_spans (chars bytes) found.marks 0 (captures_len tree) in
+        omega (arith, few, count, all)
+
+    -- the first of them are what is told
+    pub locations_read : (n : ℕ) (read : List (Option (ℕ × ℕ))) → read ≡ take n (spans_of slots)
+        → TellsLocations re bytes start read (Some m)
+    locations_read n read is =
+        let whole = is ∙ ap (take n) spans_are in (
+          tree,
+          own.1,
+          (
+            found,
+            own.2.1,
+            (
+              is_match,
+              whole ∙ first_told (chars bytes) found.marks n 0 (captures_len tree)
+                  ∙ ap (λ s. spans_from (chars bytes) found.marks 0 (length s)) (sym whole),
+            ),
+          ),
+        )

@@ -1,0 +1,214 @@
+//! A searcher that callers keep, for one haystack after another.
+ghost use Rattle.std.specs.Prelude.{◌≡◌, ◌↔◌, ℕ, None, Some, IfOk, IfErr, IsTrue, length};
+ghost use Rattle.regex_lite_syntax.specs.Errors.{out_of_memory};
+ghost use Rattle.regex_lite.specs.Compiled.{SearchesFor};
+ghost use Rattle.regex_lite.specs.Keeping.{SearchesForGroups};
+ghost use Rattle.regex_lite.specs.Searches.{CanRead, CanStartAt, MatchesFrom, TellsLocations, TellsMatch};
+
+use crate::string::locations::CaptureLocations;
+use crate::string::matches::Match;
+use crate::string::regex::Regex;
+use regex_lite_engine::Searcher;
+use regex_lite_syntax::Error;
+use std::fmt;
+use std::marker::Model;
+
+/// How many bytes the haystacks have together. There may always be another one.
+const ENDLESS: usize = usize::MAX;
+
+/// A regex, and the memory for its searches: for many haystacks, one after another.
+///
+/// [`Regex::searcher`] makes it. Each call returns what the call of the same name returns for the
+/// regex, whatever was searched before. But no call needs memory, so none is refused, and what the
+/// searches of one haystack learn of the pattern speeds up those of the next.
+///
+/// ```
+/// let regex = Regex::new(alloc, "warn|error")?;
+/// let mut searcher = regex.searcher()?;
+/// searcher.is_match("2 warnings"); // true
+/// searcher.is_match("all is well"); // false
+/// ```
+///
+/// The test `examples::many_haystacks` in tests/unit runs this example.
+#[derive(Drop)]
+pub struct RegexSearcher<'r> {
+    regex: &'r Regex,
+    matches: Searcher<'r>,
+    /// With slots for all groups, where there are more than the whole match.
+    groups: Option<Searcher<'r>>,
+}
+
+impl<'r> Model for RegexSearcher<'r> {
+    ghost use Rattle.regex_lite.specs.Compiled.{SearchesFor};
+    ghost use Rattle.regex_lite.specs.Expression.{Expression};
+    ghost use Rattle.regex_lite.specs.Keeping.{SearchesForGroups};
+
+    ghost Value = { Expression };
+
+    ghost view = { λ searcher. searcher.regex.now };
+
+    ghost invariant = { λ searcher. SearchesFor searcher.regex.now searcher.matches
+        × SearchesForGroups searcher.regex.now searcher.groups };
+}
+
+impl Regex {
+    /// A searcher of this regex, which callers keep for many haystacks.
+    ///
+    /// All memory for its searches is requested here, also for their groups, and for what they
+    /// remember of the pattern where that pays: unless each match begins with one of a few
+    /// characters and nothing branches in the pattern.
+    ///
+    /// # Errors
+    ///
+    /// `Memory` where a growth is refused.
+    pub fn searcher(&self) -> Result<RegexSearcher<'_>, Error>
+        ensures regex { IfOk result (λ searcher. searcher ≡ self.now) }
+        ensures refused { IfErr result (λ error. error ≡ out_of_memory) }
+    {
+        let matches = self.memory(0, ENDLESS)?;
+        let groups = self.memory_for_groups()?;
+        Ok(RegexSearcher {
+            regex: self,
+            matches,
+            groups,
+        })
+    }
+
+    /// Memory for searches in haystacks of about so many bytes, whose matches have so many slots.
+    fn memory(&self, slots: usize, bytes: usize) -> Result<Searcher<'_>, Error>
+        ensures searches { IfOk result (λ searcher. SearchesFor self.now searcher) }
+        ensures slots { IfOk result (λ searcher. length searcher.slots ≡ slots) }
+        ensures refused { IfErr result (λ error. error ≡ out_of_memory) }
+    {
+        let inner = Searcher::new(self.alloc, &self.compiled.graph, slots, bytes)?;
+        Ok(inner)
+    }
+
+    /// Memory for searches that find groups, where there are more than the whole match. They begin
+    /// where a match does, so they remember nothing.
+    fn memory_for_groups(&self) -> Result<Option<Searcher<'_>>, Error>
+        ensures groups { IfOk result (SearchesForGroups self.now) }
+        ensures refused { IfErr result (λ error. error ≡ out_of_memory) }
+    {
+        let slots = self.slots();
+        if slots == 2 {
+            return Ok(None);
+        }
+        let searcher = self.memory(slots, 0)?;
+        Ok(Some(searcher))
+    }
+}
+
+impl<'r> RegexSearcher<'r> {
+    /// [`Regex::is_match`], which is never refused here.
+    pub fn is_match(&mut self, haystack: &str) -> bool
+        ensures found { IsTrue result ↔ MatchesFrom self.old haystack.now 0 }
+        ensures same { self.new ≡ self.old }
+    {
+        self.find(haystack).is_some()
+    }
+
+    /// [`Regex::find`], which is never refused here.
+    pub fn find<'h>(&mut self, haystack: &'h str) -> Option<Match<'h>>
+        ensures found { TellsMatch self.old haystack.now 0 result }
+        ensures same { self.new ≡ self.old }
+    {
+        self.find_at(haystack, 0)
+    }
+
+    /// [`Regex::find_at`], which is never refused here.
+    ///
+    /// Condition: the start is above the haystack's length or on a character boundary.
+    pub fn find_at<'h>(&mut self, haystack: &'h str, start: usize) -> Option<Match<'h>>
+        requires { CanStartAt haystack.now start }
+        ensures found { TellsMatch self.old haystack.now start result }
+        ensures same { self.new ≡ self.old }
+    {
+        let (from, to) = self.matches.search(haystack, start)?;
+        Some(Match::new(haystack, from, to))
+    }
+
+    /// [`Regex::captures_read`], which is never refused here.
+    ///
+    /// As many groups are written as the locations have. Without a match the locations stay as they
+    /// were.
+    ///
+    /// Condition: the locations have no more groups than the regex.
+    ///
+    /// ```
+    /// let regex = Regex::new(alloc, "([a-z]+)=([0-9]+)")?;
+    /// let mut searcher = regex.searcher()?;
+    /// let mut locations = regex.capture_locations()?;
+    /// searcher.captures_read(&mut locations, "width=72"); // the match of "width=72"
+    /// locations.get(2); // Some((6, 8))
+    /// searcher.captures_read(&mut locations, "#height=5"); // the match of "height=5"
+    /// locations.get(2); // Some((8, 9))
+    /// ```
+    ///
+    /// The test `examples::many_reads` in tests/unit runs this example.
+    pub fn captures_read<'h>(
+        &mut self,
+        locs: &mut CaptureLocations,
+        haystack: &'h str,
+    ) -> Option<Match<'h>>
+        requires { CanRead self.old locs.old }
+        ensures found { TellsLocations self.old haystack.now 0 locs.new result }
+        ensures len { length locs.new ≡ length locs.old }
+        ensures again { CanRead self.new locs.new }
+        ensures none { result ≡ None → locs.new ≡ locs.old }
+        ensures same { self.new ≡ self.old }
+    {
+        self.captures_read_at(locs, haystack, 0)
+    }
+
+    /// [`Regex::captures_read_at`], which is never refused here.
+    ///
+    /// As many groups are written as the locations have. Without a match the locations stay as they
+    /// were.
+    ///
+    /// Conditions: the locations have no more groups than the regex. The start is above the
+    /// haystack's length or on a character boundary.
+    pub fn captures_read_at<'h>(
+        &mut self,
+        locs: &mut CaptureLocations,
+        haystack: &'h str,
+        start: usize,
+    ) -> Option<Match<'h>>
+        requires room { CanRead self.old locs.old }
+        requires start { CanStartAt haystack.now start }
+        ensures found { TellsLocations self.old haystack.now start locs.new result }
+        ensures len { length locs.new ≡ length locs.old }
+        ensures again { CanRead self.new locs.new }
+        ensures none { result ≡ None → locs.new ≡ locs.old }
+        ensures same { self.new ≡ self.old }
+    {
+        let found = self.find_at(haystack, start)?;
+        self.read(haystack, &found, locs);
+        Some(found)
+    }
+
+    /// Writes the groups of a match in the haystack to the locations: as many as those have.
+    fn read<'h>(&mut self, haystack: &'h str, found: &Match<'h>, locs: &mut CaptureLocations)
+        requires few { CanRead self.old locs.old }
+        requires found { (start : ℕ) × TellsMatch self.old haystack.now start (Some found.now) }
+        ensures locations { (start : ℕ) → TellsMatch self.old haystack.now start (Some found.now)
+            → TellsLocations self.old haystack.now start locs.new (Some found.now) }
+        ensures len { length locs.new ≡ length locs.old }
+        ensures same { self.new ≡ self.old }
+    {
+        let Some(groups) = &mut self.groups else {
+            locs.write(&[Some(found.start()), Some(found.end())]);
+            return;
+        };
+        // From its own start on the match is found again, and now with its slots.
+        let _ = groups.search(haystack, found.start());
+        locs.write(groups.slots());
+    }
+}
+
+/// Writes the regex as the only field of `RegexSearcher`.
+impl<'r> fmt::Debug for RegexSearcher<'r> {
+    fn fmt<W: fmt::Write>(&self, f: &mut fmt::Formatter<W>) -> fmt::Result {
+        f.debug_tuple("RegexSearcher").field(&self.regex).finish()
+    }
+}
