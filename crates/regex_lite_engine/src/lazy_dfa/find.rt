@@ -28,6 +28,8 @@ use crate::pikevm::turn::Cache;
 
 impl LazyDfa {
     /// Where the most preferred match starts and ends, from the least start at or after this offset.
+    // Not inlined, so that a search without an automaton has no more than the test for it.
+    #[inline(never)]
     pub(crate) fn find(
         &mut self,
         graph: &Graph,

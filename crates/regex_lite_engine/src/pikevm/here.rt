@@ -32,6 +32,7 @@ impl Here {
     }
 
     /// The place after the next character.
+    #[inline(always)]
     pub fn next(self, haystack: &str) -> Here
         requires { (p : ℕ) × IsHere (chars haystack.now) p self × IsSome self.after }
         ensures { (p : ℕ) → IsHere (chars haystack.now) p self

@@ -1,9 +1,10 @@
 //! Searches in one graph, one after another, in the same working memory.
-ghost use Rattle.std.specs.Prelude.{◌≡◌, ◌<◌, ◌⊎◌, List, ℕ, IfOk, IsCharBoundary, length};
+ghost use Rattle.std.specs.Prelude.{◌≡◌, ◌<◌, ◌⊎◌, List, ℕ, IfOk, IfSome, IsCharBoundary, length};
 ghost use Rattle.regex_lite_syntax.specs.Tree.{Tree};
 ghost use Rattle.regex_lite_syntax.specs.Tree.Regular.{IsRegular};
 ghost use Rattle.regex_lite_engine.specs.Graph.Places.{Place};
 ghost use Rattle.regex_lite_engine.specs.Graph.Renumbered.{IsGraphOf};
+ghost use Rattle.regex_lite_engine.specs.LazyDfa.Remembering.{RemembersAll};
 ghost use Rattle.regex_lite_engine.specs.Search.Outcomes.{IsSpanOutcome};
 ghost use Rattle.regex_lite_engine.specs.Walk.Outcomes.{IsFresh};
 ghost use Rattle.regex_lite_engine.specs.Walk.Searching.{IsBetween};
@@ -26,11 +27,11 @@ pub struct Searcher<'g> {
     graph: &'g Graph,
     cache: Cache<usize>,
     /// What is remembered of the turns of earlier searches, where that pays.
-    dfa: Option<LazyDfa>,
+    dfa: Option<Box<LazyDfa>>,
 }
 
 impl<'g> Model for Searcher<'g> {
-    ghost use Rattle.std.specs.Prelude.{length};
+    ghost use Rattle.std.specs.Prelude.{length, option_map};
     ghost use Rattle.regex_lite_engine.specs.Graph.Stored.{table_of};
     ghost use Rattle.regex_lite_engine.specs.LazyDfa.Remembering.{IsRemembering};
     ghost use Rattle.regex_lite_engine.specs.Search.Searching.{Searching};
@@ -46,7 +47,8 @@ impl<'g> Model for Searcher<'g> {
 
     ghost invariant = { λ searcher. IsBetween (table_of searcher.graph.now) searcher.cache
         × IsCountable (table_of searcher.graph.now)
-        × IsRemembering searcher.graph.now (length searcher.cache.best.row) searcher.dfa };
+        × IsRemembering searcher.graph.now (length searcher.cache.best.row)
+        (option_map (λ dfa. dfa.value) searcher.dfa) };
 }
 
 impl<'g> Searcher<'g> {
@@ -69,7 +71,7 @@ impl<'g> Searcher<'g> {
     {
         let cache = cache_for(alloc, graph.table(), slots)?;
         let dfa = if slots == 0 && pays(graph, bytes) {
-            LazyDfa::for_graph(alloc, graph)
+            automaton_for(alloc, graph)
         } else {
             None
         };
@@ -108,6 +110,20 @@ impl<'g> Searcher<'g> {
         ensures { result.now ≡ self.now.slots }
     {
         self.cache.best.row()
+    }
+}
+
+/// An automaton of this graph that remembers nothing yet, on the heap: most searchers have none, and
+/// are moved about often.
+// Not inlined, so that to make a searcher without one costs no more for it.
+#[inline(never)]
+fn automaton_for(alloc: Global, graph: &Graph) -> Option<Box<LazyDfa>>
+    ensures { IfSome result (λ dfa. RemembersAll graph.now dfa.value) }
+{
+    let dfa = LazyDfa::for_graph(alloc, graph)?;
+    match Box::new(alloc, dfa) {
+        Ok(dfa) => Some(dfa),
+        Err(_) => None,
     }
 }
 

@@ -1,5 +1,5 @@
 //! One position of the haystack: its threads are followed in order, and leave those of the next.
-ghost use Rattle.std.specs.Prelude.{◌≡◌, ◌+◌, ◌^◌, ◌≤◌, ◌<◌, ◌⊎◌, [], List, ℕ, All, None, length};
+ghost use Rattle.std.specs.Prelude.{◌≡◌, ◌+◌, ◌^◌, ◌≤◌, ◌<◌, ◌⊎◌, [], List, ℕ, All, None, length, true};
 ghost use Rattle.regex_lite_engine.specs.Graph.Renumbered.{arrows_of};
 ghost use Rattle.regex_lite_engine.specs.Search.Bounds.{StaysCounted};
 ghost use Rattle.regex_lite_engine.specs.Walk.Beginnings.{Told};
@@ -28,6 +28,9 @@ impl<S: Beginning> Cache<S> {
 
     /// Goes over the position. Its own starts come last, and only while there is no match. Returns
     /// whether a match is complete there.
+    // Inlined with all that it calls, though searches with an automaton call it too: else a turn costs
+    // a quarter more.
+    #[inline(always)]
     pub fn turn<P: Patterns>(&mut self, patterns: &P, here: Here) -> bool
         requires ready { IsBetween (P.table patterns.now) self.old }
         requires inside { All (λ start. start.place < length (P.table patterns.now))
@@ -76,6 +79,7 @@ impl<S: Beginning> Cache<S> {
 
     /// Follows the threads of the position in order, and its own starts after them, up to the
     /// first that comes to a match: those after it are less preferred. Returns whether one does.
+    #[inline(always)]
     fn follow<P: Patterns>(&mut self, patterns: &P, here: Here) -> bool
         requires placed { IsPlaced (P.table patterns.now)
             (ways_at (P.starts patterns.now) (S.told_of here.at) self.old) self.old }
@@ -97,9 +101,39 @@ impl<S: Beginning> Cache<S> {
         ensures entry { (best_of self.new.best ≡ best_of self.old.best)
             ⊎ (0 < self.new.walk.steps.entered) }
     {
+        if self.walk.memory.is_ready() {
+            return self.follow_ways::<true, P>(patterns, here);
+        }
+        self.follow_ways::<false, P>(patterns, here)
+    }
+
+    /// The same. `READY` says that all cells are ready.
+    #[inline(always)]
+    fn follow_ways<const READY: bool, P: Patterns>(&mut self, patterns: &P, here: Here) -> bool
+        requires placed { IsPlaced (P.table patterns.now)
+            (ways_at (P.starts patterns.now) (S.told_of here.at) self.old) self.old }
+        requires inside { All (λ start. start.place < length (P.table patterns.now))
+            (P.starts patterns.now) }
+        requires room { HasRoom (P.table patterns.now) self.old.walk [] }
+        requires few_ways { length self.old.walk.memory.threads + length (P.starts patterns.now)
+            < 2 ^ 64 }
+        requires ready { READY ≡ true → self.old.walk.memory.ready ≡ true }
+        ensures followed { Follows (P.table patterns.now) here
+            (ways_at (P.starts patterns.now) (S.told_of here.at) self.old) self.old self.new }
+        ensures again { FollowsAgain (P.table patterns.now) here
+            (ways_at (P.starts patterns.now) (S.told_of here.at) self.old) self.old self.new
+            result }
+        ensures hit { IsHit result (best_of self.old.best) (best_of self.new.best) }
+        ensures room { HasRoom (P.table patterns.now) self.new.walk [] }
+        ensures ends { EndsAt here.at (best_of self.old.best) (best_of self.new.best) }
+        ensures kept { best_of self.new.best ≡ None → best_of self.old.best ≡ None }
+        ensures counts { StaysCounted self.old.walk.steps self.new.walk.steps }
+        ensures entry { (best_of self.new.best ≡ best_of self.old.best)
+            ⊎ (0 < self.new.walk.steps.entered) }
+    {
         'ways: for k in 0..self.ways(patterns) {
             let (place, start) = self.walk.take_up(k, patterns, here.at);
-            if self.walk.explore(place, patterns, here, start) {
+            if self.walk.explore::<READY, P>(place, patterns, here, start) {
                 self.best.set(start, here.at, self.walk.memory.row());
                 return true;
             }

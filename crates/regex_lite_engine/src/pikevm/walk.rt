@@ -25,6 +25,7 @@ pub struct Walk<S: Beginning> {
 impl<S: Beginning> Walk<S> {
     /// Takes up a thread of the position, or one of its own starts after them: the row is that
     /// which is followed. Returns the place to explore, and what is kept of where the way began.
+    #[inline(always)]
     pub fn take_up<P: Patterns>(&mut self, k: usize, patterns: &P, at: usize) -> (u32, S)
         requires { k < length self.old.memory.threads + length (P.starts patterns.now) }
         ensures thread { thread_at (self.old.memory.threads
@@ -47,41 +48,33 @@ impl<S: Beginning> Walk<S> {
 
     /// Explores this place and all that is on the stack, the ways of one thread that started at
     /// `start`. Stops where a match is complete, and returns whether one is: what is left then is
-    /// less preferred.
-    pub fn explore<P: Patterns>(&mut self, first: u32, patterns: &P, here: Here, start: S) -> bool
-        requires { HasRoom (P.table patterns.now) self.old
+    /// less preferred. `READY` says that all cells are ready.
+    #[inline(always)]
+    pub fn explore<const READY: bool, P: Patterns>(
+        &mut self,
+        first: u32,
+        patterns: &P,
+        here: Here,
+        start: S,
+    ) -> bool
+        requires room { HasRoom (P.table patterns.now) self.old
             (explore first ∷ self.old.memory.frames) }
+        requires ready { READY ≡ true → self.old.memory.ready ≡ true }
         ensures room { HasRoom (P.table patterns.now) self.new [] }
         ensures explored { Explores (P.table patterns.now) here (S.told start) self.old self.new
             (explore first ∷ self.old.memory.frames) result }
         ensures empty { self.new.memory.frames ≡ [] }
         ensures kept { KeepsPosition self.old.memory self.new.memory }
+        ensures ready { self.new.memory.ready ≡ self.old.memory.ready }
         ensures counts { StaysCounted self.old.steps self.new.steps }
         ensures entry { result ≡ true → 0 < self.new.steps.entered }
     {
-        self.explore_in(first, patterns.table(), here, start)
+        self.explore_in::<READY>(first, patterns.table(), here, start)
     }
 
     /// The same in a table.
-    fn explore_in(&mut self, first: u32, table: &Table, here: Here, start: S) -> bool
-        requires { HasRoom (places_of table.now) self.old
-            (explore first ∷ self.old.memory.frames) }
-        ensures room { HasRoom (places_of table.now) self.new [] }
-        ensures explored { Explores (places_of table.now) here (S.told start) self.old self.new
-            (explore first ∷ self.old.memory.frames) result }
-        ensures empty { self.new.memory.frames ≡ [] }
-        ensures kept { KeepsPosition self.old.memory self.new.memory }
-        ensures counts { StaysCounted self.old.steps self.new.steps }
-        ensures entry { result ≡ true → 0 < self.new.steps.entered }
-    {
-        if self.memory.is_ready() {
-            return self.explore_from::<true>(first, table, here, start);
-        }
-        self.explore_from::<false>(first, table, here, start)
-    }
-
-    /// The same. `READY` says that all cells are ready.
-    fn explore_from<const READY: bool>(
+    #[inline(always)]
+    fn explore_in<const READY: bool>(
         &mut self,
         first: u32,
         table: &Table,
@@ -96,6 +89,7 @@ impl<S: Beginning> Walk<S> {
             (explore first ∷ self.old.memory.frames) result }
         ensures empty { self.new.memory.frames ≡ [] }
         ensures kept { KeepsPosition self.old.memory self.new.memory }
+        ensures ready { self.new.memory.ready ≡ self.old.memory.ready }
         ensures counts { StaysCounted self.old.steps self.new.steps }
         ensures entry { result ≡ true → 0 < self.new.steps.entered }
     {
@@ -113,6 +107,7 @@ impl<S: Beginning> Walk<S> {
     }
 
     /// Comes to a place, and enters it if it is new at this position.
+    #[inline(always)]
     fn come_to<const READY: bool>(
         &mut self,
         place: u32,

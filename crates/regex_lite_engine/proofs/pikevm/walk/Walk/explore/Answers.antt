@@ -3,10 +3,10 @@ use Rattle.regex_lite_engine.specs.Walk.Machine.{explore}
 use Rattle.regex_lite_engine.specs.Walk.Room.{HasRoom, Explores}
 use Rattle.regex_lite_engine.proofs.pikevm.walk.Walk.explore.Goals as goal
 
-pub explore_in-requires : goal.explore_in-requires
-explore_in-requires g c =
+pub explore_in-requires-clause-room : goal.explore_in-requires-clause-room
+explore_in-requires-clause-room g c =
     subst (λ table. HasRoom table c.args.self.now
-    (explore c.args.first ∷ c.args.self.now.memory.frames)) (sym c.table.ensures) c.requires
+    (explore c.args.first ∷ c.args.self.now.memory.frames)) (sym c.table.ensures) c.requires.room
 
 pub returns-clause-room : goal.returns-clause-room
 returns-clause-room g c =

@@ -4,7 +4,7 @@ use Rattle.regex_lite_engine.specs.Search.Bounds.{StaysCounted}
 use Rattle.regex_lite_engine.specs.Walk.Machine.{explore}
 use Rattle.regex_lite_engine.specs.Walk.Room.{HasRoom, KeepsPosition, work}
 use Rattle.regex_lite_engine.proofs.pikevm.WentLemmas.{IsUnder}
-use Rattle.regex_lite_engine.proofs.pikevm.walk.Walk.explore_from.Given as goal
+use Rattle.regex_lite_engine.proofs.pikevm.walk.Walk.explore_in.Given as goal
 
 abbrev pub invariant-places : goal.invariant-places
 invariant-places g l = record {

@@ -4,7 +4,7 @@ use Rattle.regex_lite_engine.specs.Walk.Machine.{explore, Frame, State}
 use Rattle.regex_lite_engine.specs.Walk.Room.{explores, IsFit, WalksAgain, WalksTo, Went, work}
 use Rattle.regex_lite_engine.proofs.pikevm.CountLemmas.{still_counted}
 use Rattle.regex_lite_engine.proofs.pikevm.WentLemmas.{went_back, under_back, under_more, IsBack, IsUnder}
-use Rattle.regex_lite_engine.proofs.pikevm.walk.Walk.explore_from.Goals as goal
+use Rattle.regex_lite_engine.proofs.pikevm.walk.Walk.explore_in.Goals as goal
 
 pub returns-in-None-clause-explored : goal.returns-in-None-clause-explored
 returns-in-None-clause-explored g c =

@@ -8,7 +8,7 @@ use Rattle.regex_lite_engine.specs.Walk.Room.{HasRoom, KeepsPosition, due_tries,
 use Rattle.regex_lite_engine.specs.Walk.Searching.{ways_at}
 use Rattle.regex_lite_engine.specs.Walk.Turns.{best_of, StepsTo}
 use Rattle.regex_lite_engine.specs.Walk.Walking.{Best}
-use Rattle.regex_lite_engine.proofs.pikevm.turn.Cache.follow.Given as goal
+use Rattle.regex_lite_engine.proofs.pikevm.turn.Cache.follow_ways.Given as goal
 
 abbrev pub invariant-ways : goal.invariant-ways
 invariant-ways g l = record {
@@ -26,4 +26,5 @@ invariant-ways g l = record {
       ≤ due_entries (g.P.Patterns.table l.patterns) l.initial.self.walk.memory.rounds l.initial.self.walk.memory.now l.initial.self.walk.steps.entered;
   empty : l.self.walk.memory.frames ≡ [];
   counts : StaysCounted l.initial.self.walk.steps l.self.walk.steps;
+  ready : l.self.walk.memory.ready ≡ l.initial.self.walk.memory.ready;
 }

@@ -12,7 +12,7 @@ use Rattle.regex_lite_engine.proofs.pikevm.AgainLemmas.{thread_retold}
 use Rattle.regex_lite_engine.proofs.pikevm.CountLemmas.{still_counted}
 use Rattle.regex_lite_engine.proofs.pikevm.StepLemmas.{room_pushed, stepped_again, stepped_walk, spent_walk, entries_walk}
 use Rattle.regex_lite_engine.proofs.pikevm.TurnLemmas.{begun_below, start_begun, start_taken}
-use Rattle.regex_lite_engine.proofs.pikevm.turn.Cache.follow.Goals as goal
+use Rattle.regex_lite_engine.proofs.pikevm.turn.Cache.follow_ways.Goals as goal
 
 abbrev as_best : Told → ℕ → Row → Best
 as_best i at row = Some (i, at, row)
@@ -25,8 +25,8 @@ take_up-place-requires g c =
     let few = taken.0 in let same = ap (λ (ts : List Thread). length ts) v.kept.threads in
     omega (arith, few, same)
 
-pub explore-requires : goal.explore-requires
-explore-requires g c =
+pub explore-requires-clause-room : goal.explore-requires-clause-room
+explore-requires-clause-room g c =
     let a = c.args in let i = a.self.now.walk.memory in let w = c.ways.self.walk in let v = c.ways.invariant in let up = c.take_up-place.ensures in
     let q : ℕ = c.take_up-place.result.0 in let start : Told = g.S.Beginning.told c.take_up-place.result.1 in let w1 : Walk g.row.S.Denot = record { memory = c.take_up-place.new.self.memory; steps = c.take_up-place.new.self.steps } in
     let ws = ways_at (g.P.Patterns.starts a.patterns.now) (g.S.Beginning.told_of a.here.at) a.self.now in
@@ -82,7 +82,12 @@ ways-preserved g c =
       empty = more.empty;
       counts = still_counted a.self.now.walk.steps w.steps c.explore.new.self.steps v.counts
           (subst (λ s. StaysCounted s c.explore.new.self.steps) up.steps more.counts);
+      ready = more.ready ∙ ap (λ (m : State). m.ready) em ∙ v.ready;
     }
+
+pub explore-requires-clause-ready : goal.explore-requires-clause-ready
+explore-requires-clause-ready g c = λ all.
+    ap (λ (m : State). m.ready) c.take_up-place.ensures.memory ∙ c.ways.invariant.ready ∙ c.requires.ready all
 
 pub returns-then-explore-clause-followed : goal.returns-then-explore-clause-followed
 returns-then-explore-clause-followed g c =
