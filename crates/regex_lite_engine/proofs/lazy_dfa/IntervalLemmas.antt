@@ -1,6 +1,7 @@
 -- Characters of one interval are in the same sets.
-use Rattle.std.proofs.Common.{not, ◌≡◌, ◌==◌, ℕ, ◌+◌, ◌<◌, ◌≤◌, ◌&&◌, ◌||◌, inl, inr, Bool, true, false, All, drop, length, suc, slice_index, List, [], ◌∷◌, nat_le, refl, sym, ap, ◌∙◌, arith}
+use Rattle.std.proofs.Common.{not, ◌≡◌, ◌==◌, ℕ, ◌+◌, ◌-◌, ◌<◌, ◌≤◌, ◌&&◌, ◌||◌, inl, inr, Bool, true, false, All, drop, length, suc, slice_index, List, [], ◌∷◌, nat_le, refl, sym, ap, ◌∙◌, arith}
 use Rattle.std.proofs.Math.Seq.{drop-cons}
+use Rattle.std.proofs.lemmas.List.{length-drop}
 use Rattle.std.proofs.lemmas.Bool.Decides.{nat_tests}
 use Rattle.regex_lite_syntax.specs.declared.class.ClassRange.{ClassRange}
 use Rattle.regex_lite_syntax.specs.Ranges.{in_ranges}
@@ -75,6 +76,12 @@ same_test bs c d e b among = let f = same_side bs c d e b among in let g = same_
 pub interval_within : (bs : List ℕ) (c : ℕ) → interval_of bs c ≤ length bs
 interval_within [] c = omega arith
 interval_within (b ∷ bs) c = let one = tick_most (nat_le b c) true (λ e. refl) in let rest = interval_within bs c in omega (arith, one, rest)
+
+-- boundaries are left
+pub interval_after : (bs : List ℕ) (k c : ℕ) → interval_of (drop k bs) c ≤ length bs - k
+interval_after bs k c =
+    let within = interval_within (drop k bs) c in let left = length-drop k bs in
+    omega (arith, within, left)
 
 -- the next boundary from the end on
 pub interval_cons : (bs : List ℕ) (k c : ℕ) → k < length bs → interval_of (drop k bs) c ≡ tick (nat_le (slice_index bs k) c) + interval_of (drop (suc k) bs) c

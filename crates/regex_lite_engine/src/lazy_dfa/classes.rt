@@ -1,6 +1,6 @@
 //! Classes of characters that no place of a graph distinguishes.
-ghost use Rattle.std.specs.Prelude.{◌≡◌, ◌+◌, ◌≤◌, ◌<◌, ℕ, IfOk, IfSome, length, slice_index};
-ghost use Rattle.regex_lite_engine.specs.LazyDfa.Intervals.{AreIntervalsOf, class_of, interval_of};
+ghost use Rattle.std.specs.Prelude.{◌≡◌, ◌+◌, ◌≤◌, ◌<◌, ℕ, IfOk, IfSome, length, nat_le, slice_index};
+ghost use Rattle.regex_lite_engine.specs.LazyDfa.Intervals.{AreIntervalsOf, class_of, interval_of, tick};
 
 use crate::lazy_dfa::boundaries::Boundaries;
 use crate::nfa::place::Place;
@@ -94,16 +94,30 @@ impl Classes {
     }
 }
 
-/// The intervals of the ASCII characters.
+/// The intervals of the ASCII characters: a boundary counts for those from it on.
+#[tactic(auto, using(crate::proofs::lazy_dfa::IntervalLemmas::interval_cons, crate::proofs::lazy_dfa::IntervalLemmas::interval_after))]
 fn ascii_of(boundaries: &[u32]) -> [u8; 128]
     requires { length boundaries.now ≤ 125 }
     ensures { (c : ℕ) → c < 128 → slice_index result c ≡ interval_of boundaries.now c }
 {
     let mut ascii = [0; 128];
-    'characters: for c in 0..128usize {
-        ascii[c] = interval(boundaries, c as u32) as u8;
+    'bounds: for k in (0..boundaries.len()).rev() {
+        if boundaries[k] < 128 {
+            count_from(&mut ascii, boundaries[k] as usize);
+        }
     }
     ascii
+}
+
+/// Counts one more for each character from this one on.
+fn count_from(ascii: &mut [u8; 128], from: usize)
+    requires { (c : ℕ) → c < 128 → slice_index ascii.old c < 125 }
+    ensures { (c : ℕ) → c < 128
+        → slice_index ascii.new c ≡ tick (nat_le from c) + slice_index ascii.old c }
+{
+    'characters: for c in from..128 {
+        ascii[c] += 1;
+    }
 }
 
 /// How many of the boundaries lie at this number or below it.

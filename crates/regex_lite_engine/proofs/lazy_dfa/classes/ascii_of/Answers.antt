@@ -1,0 +1,10 @@
+use Rattle.std.proofs.Common.{ap, sym, ◌∙◌}
+use Rattle.std.proofs.Math.Seq.{drop-length}
+use Rattle.std.proofs.lemmas.List.{get_or-replicate}
+use Rattle.regex_lite_engine.specs.LazyDfa.Intervals.{interval_of}
+use Rattle.regex_lite_engine.proofs.lazy_dfa.classes.ascii_of.Goals as goal
+
+pub bounds-init : goal.bounds-init
+bounds-init c = λ d lt.
+    get_or-replicate 128 d 0 0 lt
+    ∙ sym (ap (λ bs. interval_of bs d) (drop-length c.args.boundaries.now))
