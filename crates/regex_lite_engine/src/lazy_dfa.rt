@@ -8,5 +8,7 @@ pub(crate) mod learn;
 pub(crate) mod remembering;
 pub(crate) mod run;
 pub(crate) mod scan;
+pub(crate) mod shortest;
 pub(crate) mod side;
+pub(crate) mod single;
 pub(crate) mod state;

@@ -25,7 +25,7 @@ pub(crate) mod run;
 pub(crate) mod search;
 pub(crate) mod searcher;
 mod seen;
-mod shortest;
+pub(crate) mod shortest;
 pub(crate) mod skip;
 pub(crate) mod slot;
 mod stack;

@@ -1,5 +1,5 @@
 -- A search that is taken up where remembered turns end.
-use Rattle.std.proofs.Common.{◌≡◌, ◌==◌, ℕ, zero, suc, ◌<◌, ◌≤◌, ◌⊎◌, inl, inr, All, Bool, true, false, List, [], ◌∷◌, length, map, slice_get, Option, Some, None, is_some, not, refl, sym, ap, subst, ◌∙◌, arith}
+use Rattle.std.proofs.Common.{◌≡◌, ◌==◌, ℕ, zero, suc, ◌<◌, ◌≤◌, ◌⊎◌, inl, inr, All, Bool, true, false, List, [], ◌∷◌, length, map, slice_get, Option, Some, None, is_some, IsSome, not, refl, sym, ap, subst, ◌∙◌, arith}
 use Rattle.std.proofs.lemmas.Bool.Decides.{nat_tests}
 use Rattle.std.proofs.lemmas.List.{length-map}
 use Rattle.std.proofs.lemmas.List.Sums.{sum_by-cons}
@@ -222,3 +222,6 @@ none_by (Some a) told e f = absurd (no (e ∙ ap (λ b. not b) f))
   where
     no : true ≡ false → ⊥
     no e = cc
+
+pub some_by : {A : Type 0} (o : Option A) (told : Bool) → is_some o ≡ not told → told ≡ false → IsSome o
+some_by o told e f = e ∙ ap (λ b. not b) f

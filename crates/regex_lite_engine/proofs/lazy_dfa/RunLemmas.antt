@@ -1,5 +1,5 @@
 -- A search that goes on at the same position or at a later one.
-use Rattle.std.proofs.Common.{◌≡◌, ℕ, zero, suc, ◌+◌, ◌-◌, ◌*◌, ◌^◌, ◌<◌, ◌≤◌, ◌⊎◌, inl, inr, Bool, List, [], ◌∷◌, length, Option, Some, None, MatchOption, refl, sym, ap, subst, ◌∙◌, arith}
+use Rattle.std.proofs.Common.{◌≡◌, ℕ, zero, suc, ◌+◌, ◌-◌, ◌*◌, ◌^◌, ◌<◌, ◌≤◌, ◌⊎◌, inl, inr, Bool, List, [], ◌∷◌, length, Option, Some, None, IfSome, option_map, MatchOption, refl, sym, ap, subst, ◌∙◌, arith}
 use Rattle.std.proofs.Math.Nat.{mul-le-mul_left, mul-suc}
 use Rattle.std.proofs.lemmas.Bool.{cases_lt}
 use Rattle.regex_lite_syntax.specs.Text.{Text}
@@ -12,14 +12,15 @@ use Rattle.regex_lite_engine.specs.LazyDfa.Intervals.{side_of}
 use Rattle.regex_lite_engine.specs.LazyDfa.Learning.{HasTurned, IsFirst, IsIn}
 use Rattle.regex_lite_engine.specs.LazyDfa.Running.{IsOnItsWay}
 use Rattle.regex_lite_engine.specs.Search.Offsets.{offset}
-use Rattle.regex_lite_engine.specs.Search.Bounds.{StepCounts}
-use Rattle.regex_lite_engine.specs.Walk.Machine.{Thread}
+use Rattle.regex_lite_engine.specs.Search.Bounds.{IsBoundedBy, StepCounts}
+use Rattle.regex_lite_engine.specs.Walk.Machine.{Row, Thread}
 use Rattle.regex_lite_engine.specs.Walk.NumberedList.{IsEntry}
-use Rattle.regex_lite_engine.specs.Walk.Outcomes.{IsFresh}
+use Rattle.regex_lite_engine.specs.Walk.Outcomes.{IsFresh, with_start_kept}
 use Rattle.regex_lite_engine.specs.Walk.Searching.{IsBetween, IsHit, TurnsAgain}
 use Rattle.regex_lite_engine.specs.Walk.Standing.{IsHere}
 use Rattle.regex_lite_engine.specs.Walk.Starts.{PassesTo}
-use Rattle.regex_lite_engine.specs.Walk.Turns.{AreDeadAt, AreStartsAt, IsAmong, best_of, IsComing}
+use Rattle.regex_lite_engine.specs.Walk.Turns.{AreDeadAt, AreStartsAt, IsAmong, best_at, best_of, IsComing}
+use Rattle.regex_lite_engine.specs.Walk.Walking.{Best}
 use Rattle.regex_lite_engine.proofs.pikevm.here.OffsetLemmas.{offset_less}
 use Rattle.regex_lite_engine.proofs.pikevm.OptionLemmas.{not_there, same_some}
 use Rattle.regex_lite_engine.proofs.pikevm.PassLemmas.{begun}
@@ -80,6 +81,23 @@ module _ (table : List (Place ℕ)) (h : Text) (entries : List ℕ) (s : ℕ) {S
         rounds = omega (arith, fresh);
         width = width ∙ on.width;
       }
+
+-- a search on its way in the haystack did no more than is allowed
+pub bounded_on : (table : List (Place ℕ)) (h : Text) (entries : List ℕ) (s p : ℕ) {S : Type 0} (cache : Cache S) → s ≤ length h → p ≤ length h + 1 → IsOnItsWay table h entries s p cache →
+    IsBoundedBy (length table) (arrows_of table + length entries) h s cache.walk.steps.tried cache.walk.steps.entered cache.walk.steps.looked
+bounded_on table h entries s p cache inside most on =
+    let low = on.low in let tries = on.tries in let all_entered = on.entries_left in let entered = on.ready.entered_tried in let looked = on.ready.looked_entered in
+    let all_tries = mul-le-mul_left (arrows_of table + length entries) (within low) in let all_entries = mul-le-mul_left (length table) (within low) in
+    record {
+      few_tried = omega (arith, tries, all_tries);
+      entered_tried = entered;
+      few_entered = omega (arith, all_entered, all_entries);
+      few_looked = omega (arith, looked);
+      none_beyond = λ lt. absurd (omega (arith, lt, inside));
+    }
+  where
+    within : s ≤ p → p - s ≤ length h - s + 1
+    within low = omega (arith, low, inside, most)
 
 -- another start than this offset is the first where there are threads
 pub other_first : (first at : ℕ) (threads : List Thread) → (length threads ≡ 0 → ⊥) → (first ≡ at → ⊥) → IsFirst first at threads
@@ -160,3 +178,13 @@ turned_from table start automaton (Some x) first here hit before now known again
   is_first = own;
   suffice = λ h p there is. one_start table h start p;
 }
+
+-- a match was not complete before a place was entered
+pub match_counted : (best : Best) (span : Option (ℕ × ℕ)) (row : Row) (entered least : ℕ) → best ≡ with_start_kept (best_at span row) → ((best ≡ None → ⊥) → 0 < entered) → least ≤ 1 → IfSome span (λ _. least ≤ entered)
+match_counted best None row entered least is some few = tt
+match_counted best (Some span) row entered least is some few = let one = some (λ e. not_there (sym e ∙ is)) in omega (arith, one, few)
+
+pub end_counted : (best : Best) (end : Option ℕ) (entered : ℕ) → end ≡ option_map (λ b. b.1) best → ((best ≡ None → ⊥) → 0 < entered) → IfSome end (λ _. 0 < entered)
+end_counted best None entered is some = tt
+end_counted None (Some end) entered is some = absurd (not_there (sym is))
+end_counted (Some best) (Some end) entered is some = some (λ e. not_there (sym e))

@@ -1,19 +1,20 @@
 -- A search that goes on by remembered turns.
-use Rattle.std.proofs.Common.{◌≡◌, ℕ, suc, ◌+◌, ◌≤◌, ◌⊎◌, inl, inr, Bool, true, false, List, [], length, slice_get, Option, Some, None, is_some, IfSome, refl, sym, ap, subst, ◌∙◌, arith}
+use Rattle.std.proofs.Common.{◌≡◌, ℕ, suc, ◌+◌, ◌≤◌, ◌⊎◌, inl, inr, Bool, true, false, List, [], length, slice_get, Option, Some, None, is_some, option_map, IfSome, refl, sym, ap, subst, ◌∙◌, arith}
 use Rattle.regex_lite_syntax.specs.Text.{Text, before}
 use Rattle.regex_lite_engine.specs.declared.lazy_dfa.scan.Standing.{Standing}
 use Rattle.regex_lite_engine.specs.declared.pikevm.here.Here.{Here}
 use Rattle.regex_lite_engine.specs.Graph.Places.{Place}
-use Rattle.regex_lite_engine.specs.LazyDfa.Automaton.{Automaton, LeadsOn, Origin, State, Suits, Way, best_left, searching_after, threads_of}
+use Rattle.regex_lite_engine.specs.LazyDfa.Automaton.{Automaton, LeadsOn, Origin, State, Suits, Way, best_left, searching_after, threads_of, told_by}
 use Rattle.regex_lite_engine.specs.LazyDfa.Intervals.{class_of, side_of}
-use Rattle.regex_lite_engine.specs.LazyDfa.Scanning.{best_told, IsIdleAt, IsScanning, LedTo}
-use Rattle.regex_lite_engine.specs.Walk.Outcomes.{IsBestOutcomeOf}
+use Rattle.regex_lite_engine.specs.LazyDfa.Scanning.{best_told, end_told, IsIdleAt, IsScanning, LedTo}
+use Rattle.regex_lite_engine.specs.Walk.Outcomes.{IsBestOutcomeOf, IsNumberedEndOf}
 use Rattle.regex_lite_engine.specs.Walk.Standing.{IsHere}
 use Rattle.regex_lite_engine.specs.Walk.Starts.{PassesTo}
-use Rattle.regex_lite_engine.specs.Walk.Turns.{AreDeadAt, IsComing}
+use Rattle.regex_lite_engine.specs.Walk.Turns.{AreDeadAt, EndsAt, IsComing}
 use Rattle.regex_lite_engine.specs.Walk.Walking.{Best}
 use Rattle.regex_lite_engine.proofs.pikevm.EndLemmas.{ended_all, over_at}
 use Rattle.regex_lite_engine.proofs.pikevm.OptionLemmas.{not_there, same_some}
+use Rattle.regex_lite_engine.proofs.pikevm.ShortestLemmas.{shortest_known}
 use Rattle.regex_lite_engine.proofs.pikevm.TurnLemmas.{jumped}
 
 still_suits : (hit : Option Origin) (searching : Bool) (i at : ℕ) (best : Best) → Suits searching best → Suits (searching_after hit searching) (best_left hit i at best)
@@ -53,6 +54,29 @@ module _ (table : List (Place ℕ)) (entries : List ℕ) (h : Text) (low p : ℕ
   led_step class y from to from_at to_at leads class_is hit is_hit best left =
       led class y to to_at (subst (λ s. LeadsOn table entries automaton.intervals s class to) (same_some (sym from_at ∙ scanning.is_state)) leads) class_is best
       (left ∙ ap (λ z. best_left z at.first at.here.at (best_told at.best)) (sym is_hit))
+
+  -- a turn without a match before it ends the search where it completes one, or at the end
+  pub end_led : at.best ≡ None → (class y : ℕ) (from to : State) → slice_get automaton.states at.state ≡ Some from → LeadsOn table entries automaton.intervals from class to →
+      class_of automaton.intervals.boundaries at.here.after ≡ class → (hit : Option Origin) → to.hit ≡ hit → ((p ≡ length h) ⊎ (best_left hit at.first at.here.at None ≡ None → ⊥)) →
+      IsNumberedEndOf table h entries low (best_left hit at.first at.here.at None)
+  end_led none class y from to from_at leads class_is hit is_hit over =
+      shortest_known table h entries low p at.here.at (threads_of at.first scanning.state.ways) (threads_of at.first to.ways) None (best_left hit at.first at.here.at None) scanning.later scanning.is.inside
+      refl scanning.is.bytes (ends hit) over before
+      (subst (λ z. IsComing table h entries low (length h) (p + 1) (threads_of at.first to.ways) (best_left z at.first at.here.at None)) is_hit
+      (leads_here.on at.here (record { ahead = class_is; behind = scanning.sees }) at.first scanning.own None suits h p low (length h) scanning.is scanning.later scanning.is.inside before))
+    where
+      leads_here : LeadsOn table entries automaton.intervals scanning.state class to
+      leads_here = subst (λ s. LeadsOn table entries automaton.intervals s class to) (same_some (sym from_at ∙ scanning.is_state)) leads
+
+      before : IsComing table h entries low (length h) p (threads_of at.first scanning.state.ways) None
+      before = subst (λ b. IsComing table h entries low (length h) p (threads_of at.first scanning.state.ways) (best_told b)) none scanning.coming
+
+      suits : Suits scanning.state.searching None
+      suits = subst (λ b. Suits scanning.state.searching (best_told b)) none scanning.suits
+
+      ends : (hit : Option Origin) → EndsAt at.here.at None (best_left hit at.first at.here.at None)
+      ends None = inl refl
+      ends (Some origin) = inr (told_by at.first origin, [], refl)
 
   module _ (y : ℕ) (best : Option (ℕ × ℕ)) (to : LedTo table entries h low p automaton at y best) where
     pub scanned_on : (next : Here) (first : ℕ) → IsHere h (p + 1) next → ((to.state.ways ≡ []) × (first ≡ next.at)) ⊎ ((to.state.ways ≡ [] → ⊥) × (first ≡ at.first)) →
@@ -107,6 +131,23 @@ module _ (table : List (Place ℕ)) (entries : List ℕ) (h : Text) (low p : ℕ
       sees = λ looks. sym (sees looks);
       coming = subst (λ ways. IsComing table h entries low (length h) passes.q (threads_of here.at ways) None) (sym empty) idle_there;
     }
+
+-- at the end of the haystack there is no match
+pub end_none : (table : List (Place ℕ)) (entries : List ℕ) (h : Text) (low p : ℕ) (automaton : Automaton) (at : Standing) → IsScanning table entries h low p automaton at → at.best ≡ None → (y : ℕ) → LedTo table entries h low p automaton at y None →
+    at.here.after ≡ None → IsNumberedEndOf table h entries low None
+end_none table entries h low p automaton at scanning none y to last =
+    shortest_known table h entries low p at.here.at (threads_of at.first scanning.state.ways) (threads_of at.first to.state.ways) None None scanning.later scanning.is.inside refl scanning.is.bytes (inl refl)
+    (over_at {Q = None ≡ None → ⊥} h p at.here scanning.is (inl last))
+    (subst (λ b. IsComing table h entries low (length h) p (threads_of at.first scanning.state.ways) (best_told b)) none scanning.coming) to.coming
+
+-- nothing but the end of a match is told
+pub end_alone : (table : List (Place ℕ)) (h : Text) (entries : List ℕ) (s : ℕ) (best : Best) → IsNumberedEndOf table h entries s best → IsNumberedEndOf table h entries s (end_told (option_map (λ b. b.1) best))
+end_alone table h entries s None is = is
+end_alone table h entries s (Some best) is = is
+
+pub end_back : (end : Option ℕ) → option_map (λ b. b.1) (end_told end) ≡ end
+end_back None = refl
+end_back (Some end) = refl
 
 pub best_none : (best : Option (ℕ × ℕ)) (told : Bool) → told ≡ is_some best → told ≡ false → best_told best ≡ None
 best_none None told e f = refl

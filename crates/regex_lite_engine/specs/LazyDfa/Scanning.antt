@@ -1,14 +1,17 @@
 -- A search that goes by remembered turns.
-use Rattle.std.specs.Prelude.{◌≡◌, ◌+◌, ◌≤◌, ℕ, true, List, [], length, slice_get, IfSome, Option, None, Some}
+use Rattle.std.specs.Prelude.{◌≡◌, ◌+◌, ◌≤◌, ℕ, Bool, true, false, List, [], length, slice_get, IfSome, Option, None, Some}
 use Rattle.regex_lite_syntax.specs.Text.{Text}
 use Rattle.regex_lite_engine.specs.declared.lazy_dfa.scan.Scanned as code
 use Rattle.regex_lite_engine.specs.declared.lazy_dfa.scan.Scanned.TheVariants as stored
 use Rattle.regex_lite_engine.specs.declared.lazy_dfa.scan.Standing.{Standing}
+use Rattle.regex_lite_engine.specs.declared.lazy_dfa.shortest.ScannedEnd as code_end
+use Rattle.regex_lite_engine.specs.declared.lazy_dfa.shortest.ScannedEnd.TheVariants as stored_end
 use Rattle.regex_lite_engine.specs.declared.pikevm.here.Here.{Here}
 use Rattle.regex_lite_engine.specs.Graph.Places.{Place}
 use Rattle.regex_lite_engine.specs.LazyDfa.Automaton.{Automaton, State, Suits, threads_of}
 use Rattle.regex_lite_engine.specs.LazyDfa.Intervals.{side_of}
-use Rattle.regex_lite_engine.specs.Walk.Outcomes.{IsBestOutcomeOf, with_start_kept}
+use Rattle.regex_lite_engine.specs.Walk.Beginnings.{untold}
+use Rattle.regex_lite_engine.specs.Walk.Outcomes.{IsBestOutcomeOf, IsNumberedEndOf, with_start_kept}
 use Rattle.regex_lite_engine.specs.Walk.Standing.{IsHere}
 use Rattle.regex_lite_engine.specs.Walk.Turns.{best_at, IsComing}
 use Rattle.regex_lite_engine.specs.Walk.Walking.{Best}
@@ -16,6 +19,11 @@ use Rattle.regex_lite_engine.specs.Walk.Walking.{Best}
 -- the match with this span, without slots
 abbrev pub best_told : Option (ℕ × ℕ) → Best
 best_told found = with_start_kept (best_at found [])
+
+-- a match that ends there, wherever it starts
+abbrev pub end_told : Option ℕ → Best
+end_told None = None
+end_told (Some end) = Some (untold, end, [])
 
 module _ (table : List (Place ℕ)) (entries : List ℕ) (haystack : Text) (low : ℕ) where
   -- at position p there is nothing to go on from, and no match
@@ -47,9 +55,22 @@ module _ (table : List (Place ℕ)) (entries : List ℕ) (haystack : Text) (low 
       pub coming : IsComing table haystack entries low (length haystack) (p + 1)
           (threads_of at.first state.ways) (best_told best)
 
+    -- the turn from there completes the first match that ends, or leads to this state without one
+    abbrev pub EndsOrLeads : (at : Standing) → (to : ℕ) → (hit : Bool) → Type 0
+    EndsOrLeads at to true =
+        IsNumberedEndOf table haystack entries low (end_told (Some at.here.at))
+    EndsOrLeads at to false = LedTo at to None
+
   -- it ends with the answer, or at a position at or after p
   abbrev pub ScansTo : (p : ℕ) → Automaton → code.Scanned → Type 0
   ScansTo p automaton (stored.Found best) =
       IsBestOutcomeOf table haystack entries low (best_told best)
   ScansTo p automaton (stored.Stuck at idle) =
+      ((q : ℕ) × (p ≤ q) × IsScanning q automaton at) × IfSome idle (IsIdleAt p)
+
+  -- the same of a scan for the least end of any match
+  abbrev pub ScansToEnd : (p : ℕ) → Automaton → code_end.ScannedEnd → Type 0
+  ScansToEnd p automaton (stored_end.Known end) =
+      IsNumberedEndOf table haystack entries low (end_told end)
+  ScansToEnd p automaton (stored_end.Unknown at idle) =
       ((q : ℕ) × (p ≤ q) × IsScanning q automaton at) × IfSome idle (IsIdleAt p)

@@ -1,18 +1,20 @@
 //! A whole search that remembers its turns, and goes by those that it remembers.
-ghost use Rattle.std.specs.Prelude.{◌≡◌, ◌+◌, ◌<◌, ◌≤◌, ◌⊎◌, ◌∷◌, [], ℕ, List, All, IsCharBoundary, IsSome, IsTrue, MatchOption, None, Some, chars, length, true};
+ghost use Rattle.std.specs.Prelude.{◌≡◌, ◌+◌, ◌<◌, ◌≤◌, ◌⊎◌, ◌∷◌, [], ℕ, List, All, IfSome, IsCharBoundary, IsSome, IsTrue, MatchOption, None, Some, chars, length, true};
 ghost use Rattle.regex_lite_syntax.specs.Text.{Text};
 ghost use Rattle.regex_lite_engine.specs.declared.lazy_dfa.scan.Scanned.TheVariants.{Stuck};
 ghost use Rattle.regex_lite_engine.specs.declared.nfa.place.Place.{Place};
+ghost use Rattle.regex_lite_engine.specs.Graph.Renumbered.{arrows_of};
 ghost use Rattle.regex_lite_engine.specs.Graph.Stored.{table_of};
 ghost use Rattle.regex_lite_engine.specs.LazyDfa.Automaton.{IsEmptyState, Remembers};
 ghost use Rattle.regex_lite_engine.specs.LazyDfa.Learning.{HasTurned, IsIn};
 ghost use Rattle.regex_lite_engine.specs.LazyDfa.Running.{IsOnItsWay, Stands};
 ghost use Rattle.regex_lite_engine.specs.LazyDfa.Scanning.{best_told, ScansTo};
-ghost use Rattle.regex_lite_engine.specs.Search.Bounds.{characters_left};
+ghost use Rattle.regex_lite_engine.specs.Search.Bounds.{IsBoundedBy, characters_left};
 ghost use Rattle.regex_lite_engine.specs.Search.Offsets.{position_at};
 ghost use Rattle.regex_lite_engine.specs.Walk.Outcomes.{CanCount, IsBestOutcomeOf, IsFresh};
 ghost use Rattle.regex_lite_engine.specs.Walk.Searching.{IsBetween};
 ghost use Rattle.regex_lite_engine.specs.Walk.Standing.{IsHere};
+ghost use Rattle.regex_lite_engine.specs.Walk.Turns.{best_of};
 
 use crate::Graph;
 use crate::lazy_dfa::automaton::LazyDfa;
@@ -28,6 +30,8 @@ use crate::pikevm::turn::Cache;
 
 impl LazyDfa {
     /// Where the most preferred match starts and ends, from the least start at or after this offset.
+    /// No turn is looked up before the search has entered so many places, none or one: before the
+    /// first turn, a new automaton has none.
     // Not inlined, so that a search without an automaton has no more than the test for it.
     #[inline(never)]
     pub(crate) fn find(
@@ -36,6 +40,7 @@ impl LazyDfa {
         cache: &mut Cache<usize>,
         haystack: &str,
         start: usize,
+        least: u128,
     ) -> Option<(usize, usize)>
         requires boundary { IsCharBoundary haystack.now start }
         requires remembers { Remembers graph.now.places (graph.now.start ∷ []) self.old }
@@ -44,8 +49,14 @@ impl LazyDfa {
         requires counts { CanCount (table_of graph.now) 1
             (characters_left (chars haystack.now) (position_at haystack.now start)) }
         requires width { length cache.old.walk.memory.row ≡ 0 }
+        requires least { least ≤ 1 }
         ensures found { IsBestOutcomeOf (table_of graph.now) (chars haystack.now)
             (graph.now.start ∷ []) (position_at haystack.now start) (best_told result) }
+        ensures bounded { IsBoundedBy (length (table_of graph.now))
+            (arrows_of (table_of graph.now) + 1) (chars haystack.now)
+            (position_at haystack.now start) cache.new.walk.steps.tried
+            cache.new.walk.steps.entered cache.new.walk.steps.looked }
+        ensures entered { IfSome result (λ _. least ≤ cache.new.walk.steps.entered) }
         ensures remembers { Remembers graph.now.places (graph.now.start ∷ []) self.new }
         ensures none_pending { self.new.pending ≡ [] }
         ensures between { IsBetween (table_of graph.now) cache.new }
@@ -60,7 +71,7 @@ impl LazyDfa {
         };
         'positions: loop {
             at = self.at_idle(graph, cache, haystack, at);
-            if let Some(found) = self.look_ahead(graph, cache, haystack, &mut at) {
+            if let Some(found) = self.look_ahead(graph, cache, haystack, &mut at, least) {
                 return found;
             }
             let hit = cache.go_over(graph, haystack, at.here);
@@ -73,7 +84,13 @@ impl LazyDfa {
     }
 
     /// Goes on to the next position. The state is that in which the search is there.
-    fn on(&self, graph: &Graph, cache: &Cache<usize>, haystack: &str, at: Progress) -> Progress
+    pub(super) fn on(
+        &self,
+        graph: &Graph,
+        cache: &Cache<usize>,
+        haystack: &str,
+        at: Progress,
+    ) -> Progress
         requires state { MatchOption at.state (Unit {0})
             (λ y. IsIn self.now y at.first at.here.after cache.now) }
         requires first { at.first ≤ at.here.at }
@@ -104,7 +121,7 @@ impl LazyDfa {
 
     /// Remembers the turn, where the state was known that it was taken from. Returns the state that
     /// the search is in.
-    fn learn_at(
+    pub(super) fn learn_at(
         &mut self,
         graph: &Graph,
         cache: &Cache<usize>,
@@ -132,7 +149,7 @@ impl LazyDfa {
 
     /// Where there is neither a thread nor a match, passes over positions at which no match can
     /// begin.
-    fn at_idle(
+    pub(super) fn at_idle(
         &mut self,
         graph: &Graph,
         cache: &Cache<usize>,
@@ -181,14 +198,15 @@ impl LazyDfa {
         self.settle(true, side, Hit::Nowhere)
     }
 
-    /// Goes by turns that are remembered. Returns the answer where they lead to it. Else the search
-    /// goes on where they end, or where it was.
+    /// Goes by turns that are remembered, if the search has entered so many places. Returns the
+    /// answer where they lead to it. Else the search goes on where they end, or where it was.
     fn look_ahead(
         &self,
         graph: &Graph,
         cache: &mut Cache<usize>,
         haystack: &str,
         at: &mut Progress,
+        least: u128,
     ) -> Option<Option<(usize, usize)>>
         requires remembers { Remembers graph.now.places (graph.now.start ∷ []) self.now }
         requires stands { (s : ℕ) × Stands (table_of graph.now) (chars haystack.now)
@@ -202,11 +220,13 @@ impl LazyDfa {
         ensures between { IsBetween (table_of graph.now) cache.new }
         ensures width { length cache.new.walk.memory.row ≡ 0 }
         ensures later { at.old.here.at ≤ at.new.here.at }
+        ensures entered { IfSome result (λ _. least ≤ cache.new.walk.steps.entered) }
+        ensures same { IfSome result (λ _. cache.new ≡ cache.old) }
     {
         let Some(state) = at.state else {
             return None;
         };
-        if at.here.at < at.until {
+        if at.here.at < at.until || cache.walk.steps.entered() < least {
             return None;
         }
         let from = Standing {
@@ -226,7 +246,7 @@ impl LazyDfa {
 
     /// Goes on where remembered turns end, if all ways there began at the first start; else after
     /// the last position at which there was nothing to go on from, or where the search was.
-    fn resume(
+    pub(super) fn resume(
         &self,
         graph: &Graph,
         cache: &mut Cache<usize>,
@@ -247,6 +267,7 @@ impl LazyDfa {
             (Stuck stuck idle)
             → Stands (table_of graph.now) haystack (graph.now.start ∷ []) s self.now at.new
             cache.new }
+        ensures none { best_of cache.old.best ≡ None → best_of cache.new.best ≡ None }
         ensures later { at.old.here.at ≤ at.new.here.at }
     {
         if stuck.here.at == at.here.at {

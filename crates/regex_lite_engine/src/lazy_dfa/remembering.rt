@@ -22,6 +22,11 @@ pub(crate) fn pays(graph: &Graph, bytes: usize) -> bool {
     bytes >= LONG_BETWEEN_MATCHES && graph.arrows() >= graph.places()
 }
 
+/// Whether it pays to remember the turns of one search that goes over so many bytes.
+pub(crate) fn pays_once(graph: &Graph, bytes: usize) -> bool {
+    pays(graph, bytes)
+}
+
 impl LazyDfa {
     /// One for this graph, which remembers nothing yet. None where there are too many classes, or
     /// if memory runs out: turns are then taken anew.

@@ -9,7 +9,7 @@ ghost use Rattle.regex_lite_engine.specs.Search.Bounds.{characters_left};
 ghost use Rattle.regex_lite_engine.specs.Walk.Outcomes.{CanCount};
 ghost use Rattle.regex_lite_engine.specs.Walk.Searching.{IsBetween, IsHit, TurnsAgain};
 ghost use Rattle.regex_lite_engine.specs.Walk.Standing.{IsHere};
-ghost use Rattle.regex_lite_engine.specs.Walk.Turns.{best_of};
+ghost use Rattle.regex_lite_engine.specs.Walk.Turns.{EndsAt, best_of};
 
 use crate::Graph;
 use crate::lazy_dfa::state::StoredWay;
@@ -45,6 +45,7 @@ impl Cache<usize> {
             (record { number = 0; place = graph.now.start } ∷ []) here
             (λ _. record { at = Some here.at; number = None }) self.old self.new result }
         ensures hit { IsHit result (best_of self.old.best) (best_of self.new.best) }
+        ensures ends { EndsAt here.at (best_of self.old.best) (best_of self.new.best) }
     {
         let pattern = OnePattern {
             graph,

@@ -65,7 +65,7 @@ impl LazyDfa {
 
     /// Where there is nothing to go on from and no match, goes on to the next position at which one
     /// can begin. None where no state is known for that.
-    fn skip(
+    pub(super) fn skip(
         &self,
         graph: &Graph,
         haystack: &str,
@@ -82,6 +82,7 @@ impl LazyDfa {
             (chars haystack.now) low p self.now at
             → (idle.new ≡ idle.old) ⊎ IfSome idle.new (IsIdleAt (table_of graph.now)
             (graph.now.start ∷ []) (chars haystack.now) low p) }
+        ensures none { at.best ≡ None → IfSome result (λ on. on.best ≡ None) }
     {
         if at.best.is_some() || !self.is_empty(at.state) {
             return Some(at);
@@ -168,7 +169,13 @@ impl LazyDfa {
     }
 
     /// Goes on to the next position.
-    fn go_on(&self, haystack: &str, at: Standing, to: u16, best: Option<(usize, usize)>) -> Standing
+    pub(super) fn go_on(
+        &self,
+        haystack: &str,
+        at: Standing,
+        to: u16,
+        best: Option<(usize, usize)>,
+    ) -> Standing
         requires here { (p : ℕ) × IsHere (chars haystack.now) p at.here × IsSome at.here.after }
         requires state { to < length self.now.states }
         ensures here { (p : ℕ) → IsHere (chars haystack.now) p at.here

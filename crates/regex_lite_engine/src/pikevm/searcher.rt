@@ -94,7 +94,7 @@ impl<'g> Searcher<'g> {
         }
         restart(&mut self.cache);
         if let Some(dfa) = &mut self.dfa {
-            return dfa.find(self.graph, &mut self.cache, haystack, start);
+            return dfa.find(self.graph, &mut self.cache, haystack, start, 0);
         }
         let mut pattern = OnePattern {
             graph: self.graph,

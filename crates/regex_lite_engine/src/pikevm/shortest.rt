@@ -8,7 +8,7 @@ ghost use Rattle.regex_lite_engine.specs.Walk.Outcomes.{IsNumberedEndOf, IsFresh
 ghost use Rattle.regex_lite_engine.specs.Walk.Searching.{IsBetween};
 ghost use Rattle.regex_lite_engine.specs.Walk.Turns.{best_of};
 
-use crate::pikevm::beginning::Unkept;
+use crate::pikevm::beginning::{Beginning, Unkept};
 use crate::pikevm::best::Best;
 use crate::pikevm::here::Here;
 use crate::pikevm::patterns::Patterns;
@@ -51,7 +51,7 @@ pub fn run_shortest<P: Patterns>(
 }
 
 /// Whether there is a match, or no position is left.
-fn is_known(here: Here, best: &Best<Unkept>) -> bool
+pub(crate) fn is_known<S: Beginning>(here: Here, best: &Best<S>) -> bool
     ensures known { IsTrue result → (here.after ≡ None) ⊎ ¬ (best_of best.now ≡ None) }
     ensures at_end { here.after ≡ None → IsTrue result }
     ensures none_yet { ¬ IsTrue result → best_of best.now ≡ None }

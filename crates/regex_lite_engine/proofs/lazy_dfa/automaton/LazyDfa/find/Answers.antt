@@ -1,11 +1,13 @@
-use Rattle.std.proofs.Common.{rules, ◌∷◌, [], ap, subst, ◌∙◌, arith}
+use Rattle.std.proofs.Common.{rules, ◌+◌, ◌∷◌, [], length, ap, sym, subst, ◌∙◌, arith}
 use Rattle.std.specs.Prelude.{chars}
 use Rattle.std.proofs.lemmas.List.{nil_from_length}
+use Rattle.regex_lite_engine.specs.Graph.Renumbered.{arrows_of}
 use Rattle.regex_lite_engine.specs.Graph.Stored.{table_of}
+use Rattle.regex_lite_engine.specs.Search.Bounds.{IsBoundedBy}
 use Rattle.regex_lite_engine.specs.Search.Offsets.{position_at}
 use Rattle.regex_lite_engine.specs.Walk.Outcomes.{IsBestOutcomeOf, with_start_kept}
 use Rattle.regex_lite_engine.specs.Walk.Turns.{best_at, best_of}
-use Rattle.regex_lite_engine.proofs.lazy_dfa.RunLemmas.{begun_on, own_first, turned_from}
+use Rattle.regex_lite_engine.proofs.lazy_dfa.RunLemmas.{begun_on, bounded_on, match_counted, own_first, turned_from}
 use Rattle.regex_lite_engine.proofs.pikevm.EndLemmas.{ended_all, over_at}
 use Rattle.regex_lite_engine.proofs.pikevm.here.OffsetLemmas.{at_most}
 use Rattle.regex_lite_engine.proofs.lazy_dfa.automaton.LazyDfa.find.Goals as goal
@@ -118,3 +120,33 @@ positions-preserved c =
       none_pending = c.learn_at-at.ensures.none_pending;
       stands = c.on-at.ensures.stands s stands.p stands.is on;
     }
+
+pub returns-in-Some-clause-bounded : goal.returns-in-Some-clause-bounded
+returns-in-Some-clause-bounded c =
+    let table = table_of c.args.graph.now in
+    let h = chars c.args.haystack.now in
+    let s = position_at c.args.haystack.now c.args.start in
+    let idle = c.at_idle-at.ensures.stands s c.positions.invariant.stands in
+    let low = idle.on.low in
+    let inside = idle.is.inside in
+    subst (λ z. IsBoundedBy (length table) (arrows_of table + 1) h s z.walk.steps.tried z.walk.steps.entered z.walk.steps.looked) (sym c.in-Some.ensures.same)
+    (bounded_on table h (c.args.graph.now.start ∷ []) s idle.p c.positions.cache (omega (arith, low, inside)) (omega (arith, inside)) idle.on)
+
+pub returns-then-is_over-clause-entered : goal.returns-then-is_over-clause-entered
+returns-then-is_over-clause-entered c =
+    let s = position_at c.args.haystack.now c.args.start in
+    let idle = c.at_idle-at.ensures.stands s c.positions.invariant.stands in
+    let stands = c.in_default.ensures.stands s idle in
+    let on = c.go_over-hit.ensures.on s stands.p stands.is stands.on in
+    let cache = c.go_over-hit.new.self in
+    match_counted (best_of cache.best) c.span.result cache.best.row cache.walk.steps.entered c.args.least c.span.ensures on.ready.match_entered c.requires.least
+
+pub returns-then-is_over-clause-bounded : goal.returns-then-is_over-clause-bounded
+returns-then-is_over-clause-bounded c =
+    let s = position_at c.args.haystack.now c.args.start in
+    let idle = c.at_idle-at.ensures.stands s c.positions.invariant.stands in
+    let stands = c.in_default.ensures.stands s idle in
+    let on = c.go_over-hit.ensures.on s stands.p stands.is stands.on in
+    let low = stands.on.low in
+    let inside = stands.is.inside in
+    bounded_on (table_of c.args.graph.now) (chars c.args.haystack.now) (c.args.graph.now.start ∷ []) s (stands.p + 1) c.go_over-hit.new.self (omega (arith, low, inside)) (omega (arith, inside)) on

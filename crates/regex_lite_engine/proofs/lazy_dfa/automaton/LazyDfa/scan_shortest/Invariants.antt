@@ -1,0 +1,19 @@
+use Rattle.std.proofs.Common.{◌≡◌, ◌≤◌, ◌-◌, ◌∷◌, [], ℕ, IfSome, None, length}
+use Rattle.std.specs.Prelude.{chars}
+use Rattle.regex_lite_engine.specs.Graph.Stored.{table_of}
+use Rattle.regex_lite_engine.specs.LazyDfa.Scanning.{IsIdleAt, IsScanning}
+use Rattle.regex_lite_engine.proofs.lazy_dfa.automaton.LazyDfa.scan_shortest.Given as goal
+
+abbrev pub invariant-positions : goal.invariant-positions
+invariant-positions l = record {
+  none : l.at.best ≡ None;
+  on : (low p : ℕ)
+      → IsScanning (table_of l.graph) (l.graph.start ∷ []) (chars l.haystack) low p l.self
+      l.fn.from
+      → ((q : ℕ) × (p ≤ q)
+      × IsScanning (table_of l.graph) (l.graph.start ∷ []) (chars l.haystack) low q l.self l.at)
+      × IfSome l.idle (IsIdleAt (table_of l.graph) (l.graph.start ∷ []) (chars l.haystack) low p);
+}
+
+abbrev pub decreases-positions : goal.decreases-positions
+decreases-positions l = length l.haystack - l.at.here.at

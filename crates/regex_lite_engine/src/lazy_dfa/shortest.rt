@@ -1,0 +1,177 @@
+//! A search for the least end of any match that remembers its turns.
+ghost use Rattle.std.specs.Prelude.{◌≡◌, ◌+◌, ◌<◌, ◌≤◌, ◌∷◌, [], ℕ, IfSome, IsCharBoundary, MatchOption, None, chars, length};
+ghost use Rattle.regex_lite_syntax.specs.Text.{Text};
+ghost use Rattle.regex_lite_engine.specs.Graph.Renumbered.{arrows_of};
+ghost use Rattle.regex_lite_engine.specs.Graph.Stored.{table_of};
+ghost use Rattle.regex_lite_engine.specs.LazyDfa.Automaton.{Remembers};
+ghost use Rattle.regex_lite_engine.specs.LazyDfa.Running.{Stands};
+ghost use Rattle.regex_lite_engine.specs.LazyDfa.Scanning.{EndsOrLeads, IsScanning, ScansToEnd, end_told};
+ghost use Rattle.regex_lite_engine.specs.Search.Bounds.{IsBoundedBy, characters_left};
+ghost use Rattle.regex_lite_engine.specs.Search.Offsets.{position_at};
+ghost use Rattle.regex_lite_engine.specs.Walk.Outcomes.{CanCount, IsFresh, IsNumberedEndOf};
+ghost use Rattle.regex_lite_engine.specs.Walk.Turns.{best_of};
+
+use crate::Graph;
+use crate::lazy_dfa::automaton::{LazyDfa, UNKNOWN};
+use crate::lazy_dfa::run::Progress;
+use crate::lazy_dfa::scan::Standing;
+use crate::lazy_dfa::state::Hit;
+use crate::pikevm::here::Here;
+use crate::pikevm::shortest::is_known;
+use crate::pikevm::turn::Cache;
+
+/// How far remembered turns lead towards the first match that ends.
+#[derive(Clone, Copy)]
+pub(crate) enum ScannedEnd {
+    /// To its end, or to that of the haystack.
+    Known(Option<usize>),
+    /// To a turn that isn't known, and to the last position before it at which there was nothing to
+    /// go on from.
+    Unknown { at: Standing, idle: Option<Here> },
+}
+
+impl LazyDfa {
+    /// The least end of any match that starts at or after this offset. It stops at the first match
+    /// that it comes to.
+    pub(crate) fn find_shortest(
+        &mut self,
+        graph: &Graph,
+        cache: &mut Cache<usize>,
+        haystack: &str,
+        start: usize,
+    ) -> Option<usize>
+        requires boundary { IsCharBoundary haystack.now start }
+        requires remembers { Remembers graph.now.places (graph.now.start ∷ []) self.old }
+        requires none_pending { self.old.pending ≡ [] }
+        requires fresh { IsFresh (table_of graph.now) cache.old }
+        requires counts { CanCount (table_of graph.now) 1
+            (characters_left (chars haystack.now) (position_at haystack.now start)) }
+        requires width { length cache.old.walk.memory.row ≡ 0 }
+        ensures found { IsNumberedEndOf (table_of graph.now) (chars haystack.now)
+            (graph.now.start ∷ []) (position_at haystack.now start) (end_told result) }
+        ensures bounded { IsBoundedBy (length (table_of graph.now))
+            (arrows_of (table_of graph.now) + 1) (chars haystack.now)
+            (position_at haystack.now start) cache.new.walk.steps.tried
+            cache.new.walk.steps.entered cache.new.walk.steps.looked }
+        ensures entered { IfSome result (λ _. 0 < cache.new.walk.steps.entered) }
+    {
+        let here = Here::at(haystack, start);
+        let mut at = Progress {
+            here,
+            state: None,
+            first: here.at,
+            until: 0,
+        };
+        'positions: loop {
+            at = self.at_idle(graph, cache, haystack, at);
+            if let Some(end) = self.look_for_end(graph, cache, haystack, &mut at) {
+                return end;
+            }
+            let hit = cache.go_over(graph, haystack, at.here);
+            if is_known(at.here, &cache.best) {
+                return cache.best.end();
+            }
+            at.state = self.learn_at(graph, cache, at, hit);
+            at = self.on(graph, cache, haystack, at);
+        }
+    }
+
+    /// Goes by turns that are remembered, once a place was entered: a new automaton has none before.
+    /// Returns the end where they lead to one. Else the search goes on where they end, or where it
+    /// was.
+    fn look_for_end(
+        &self,
+        graph: &Graph,
+        cache: &mut Cache<usize>,
+        haystack: &str,
+        at: &mut Progress,
+    ) -> Option<Option<usize>>
+        requires remembers { Remembers graph.now.places (graph.now.start ∷ []) self.now }
+        requires none { best_of cache.old.best ≡ None }
+        requires stands { (s : ℕ) × Stands (table_of graph.now) (chars haystack.now)
+            (graph.now.start ∷ []) s self.now at.old cache.old }
+        ensures stands { (s : ℕ) → Stands (table_of graph.now) (chars haystack.now)
+            (graph.now.start ∷ []) s self.now at.old cache.old
+            → MatchOption result (Stands (table_of graph.now) (chars haystack.now)
+            (graph.now.start ∷ []) s self.now at.new cache.new)
+            (λ end. IsNumberedEndOf (table_of graph.now) (chars haystack.now)
+            (graph.now.start ∷ []) s (end_told end)) }
+        ensures none { best_of cache.new.best ≡ None }
+        ensures later { at.old.here.at ≤ at.new.here.at }
+        ensures entered { IfSome result (λ _. 0 < cache.new.walk.steps.entered) }
+        ensures same { IfSome result (λ _. cache.new ≡ cache.old) }
+    {
+        let Some(state) = at.state else {
+            return None;
+        };
+        if at.here.at < at.until || cache.walk.steps.entered() == 0 {
+            return None;
+        }
+        let from = Standing {
+            here: at.here,
+            state,
+            first: at.first,
+            best: None,
+        };
+        match self.scan_shortest(graph, haystack, from) {
+            ScannedEnd::Known(end) => Some(end),
+            ScannedEnd::Unknown { at: stuck, idle } => {
+                self.resume(graph, cache, at, stuck, idle);
+                None
+            }
+        }
+    }
+
+    /// Goes on while turns are remembered, up to the first that completes a match.
+    fn scan_shortest(&self, graph: &Graph, haystack: &str, from: Standing) -> ScannedEnd
+        requires remembers { Remembers graph.now.places (graph.now.start ∷ []) self.now }
+        requires none { from.best ≡ None }
+        requires scanning { (low p : ℕ) × IsScanning (table_of graph.now) (graph.now.start ∷ [])
+            (chars haystack.now) low p self.now from }
+        ensures { (low p : ℕ) → IsScanning (table_of graph.now) (graph.now.start ∷ [])
+            (chars haystack.now) low p self.now from
+            → ScansToEnd (table_of graph.now) (graph.now.start ∷ []) (chars haystack.now) low p
+            self.now result }
+    {
+        let mut at = from;
+        let mut idle = None;
+        'positions: loop {
+            let Some(on) = self.skip(graph, haystack, at, &mut idle) else {
+                return ScannedEnd::Unknown { at, idle };
+            };
+            let Some((to, hit)) = self.step_shortest(graph, on) else {
+                return ScannedEnd::Unknown { at: on, idle };
+            };
+            if hit {
+                return ScannedEnd::Known(Some(on.here.at));
+            }
+            if on.here.after.is_none() {
+                return ScannedEnd::Known(None);
+            }
+            at = self.go_on(haystack, on, to, None);
+        }
+    }
+
+    /// Where the turn from here leads, and whether it completes a match. None where that isn't
+    /// known.
+    fn step_shortest(&self, graph: &Graph, at: Standing) -> Option<(u16, bool)>
+        requires remembers { Remembers graph.now.places (graph.now.start ∷ []) self.now }
+        requires none { at.best ≡ None }
+        requires state { at.state < length self.now.states }
+        ensures { (haystack : Text) (low p : ℕ) → IsScanning (table_of graph.now)
+            (graph.now.start ∷ []) haystack low p self.now at
+            → IfSome result (λ told. EndsOrLeads (table_of graph.now) (graph.now.start ∷ [])
+            haystack low p self.now at told.0 told.1) }
+    {
+        let class = self.classes.class(at.here.after);
+        let to = self.states[at.state as usize].next[class];
+        if to == UNKNOWN {
+            return None;
+        }
+        match self.states[to as usize].hit {
+            Hit::Nowhere => Some((to, false)),
+            Hit::AtFirst => Some((to, true)),
+            Hit::AtLater => Some((to, true)),
+        }
+    }
+}
