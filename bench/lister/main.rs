@@ -17,7 +17,7 @@ fn main() -> Result<(), Box<dyn Error>> {
     let mut words = env::args().skip(1);
     let (Some(call), Some(rounds), Some(pattern)) = (words.next(), words.next(), words.next())
     else {
-        return Err("usage: lister all|split|replace ROUNDS PATTERN [TEMPLATE]".into());
+        return Err("usage: lister all|captures|split|replace ROUNDS PATTERN [TEMPLATE]".into());
     };
     let template = words.next().unwrap_or_default();
     let rounds = rounds.parse::<u32>()?;
@@ -27,6 +27,7 @@ fn main() -> Result<(), Box<dyn Error>> {
     for _ in 0..rounds {
         match call.as_str() {
             "all" => tally.add_matches(&regex, &text),
+            "captures" => tally.add_groups(&regex, &text),
             "split" => tally.add_pieces(&regex, &text),
             _ => tally.add_replaced(&regex, &text, &template),
         }
@@ -41,6 +42,16 @@ impl Tally {
             self.items += 1;
             self.add(found.start());
             self.add(found.end());
+        }
+    }
+
+    fn add_groups(&mut self, regex: &Regex, text: &str) {
+        for caps in regex.captures_iter(text) {
+            self.items += 1;
+            for group in caps.iter().flatten() {
+                self.add(group.start());
+                self.add(group.end());
+            }
         }
     }
 

@@ -11,4 +11,6 @@ pub(crate) mod scan;
 pub(crate) mod shortest;
 pub(crate) mod side;
 pub(crate) mod single;
+pub(crate) mod spans;
 pub(crate) mod state;
+pub(crate) mod trial;

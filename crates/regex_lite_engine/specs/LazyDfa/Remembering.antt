@@ -1,7 +1,13 @@
--- What a searcher remembers.
-use Rattle.std.specs.Prelude.{◌≡◌, ℕ, [], ◌∷◌, Option, IfSome}
-use Rattle.regex_lite_engine.specs.Graph.Stored.{StoredGraph}
+-- What a searcher remembers, and what it passes over.
+use Rattle.std.specs.Prelude.{◌≡◌, ◌≤◌, ℕ, List, [], ◌∷◌, Option, IfSome, length}
+use Rattle.regex_lite_syntax.specs.Text.{Text}
+use Rattle.regex_lite_engine.specs.declared.lazy_dfa.spans.SpanSearcher.{SpanSearcher}
+use Rattle.regex_lite_engine.specs.Graph.Places.{Place}
+use Rattle.regex_lite_engine.specs.Graph.Stored.{StoredGraph, table_of}
 use Rattle.regex_lite_engine.specs.LazyDfa.Automaton.{Automaton, Remembers}
+use Rattle.regex_lite_engine.specs.Walk.NumberedAnswer.{IsNumberedMatch}
+use Rattle.regex_lite_engine.specs.Walk.Outcomes.{IsCountable}
+use Rattle.regex_lite_engine.specs.Walk.Searching.{IsBetween}
 
 -- all turns are those of searches in this graph
 pub record RemembersAll (graph : StoredGraph) (automaton : Automaton) : Type 0 where
@@ -12,3 +18,17 @@ pub record RemembersAll (graph : StoredGraph) (automaton : Automaton) : Type 0 w
 abbrev pub IsRemembering : StoredGraph → (slots : ℕ) → Option Automaton → Type 0
 IsRemembering graph slots automaton =
     IfSome automaton (λ automaton. RemembersAll graph automaton × (slots ≡ 0))
+
+-- searches for matches of the graph go on in its memory, which has no slots
+pub record FindsSpansIn (graph : StoredGraph) (spans : SpanSearcher) : Type 0 where
+  pub remembers : RemembersAll graph spans.dfa
+  pub between : IsBetween (table_of graph) spans.cache
+  pub width : length spans.cache.walk.memory.row ≡ 0
+  pub countable : IsCountable (table_of graph)
+
+-- position m is s or a later one, and no match from s on starts before it
+pub record NoneStartsBefore (table : List (Place ℕ)) (haystack : Text) (start s m : ℕ) : Type 0
+  where
+    pub from : s ≤ m
+    pub least : (i q j : ℕ) (way : List ℕ) → IsNumberedMatch table haystack start s i way q j
+        → m ≤ i

@@ -5,6 +5,7 @@ ghost use Rattle.regex_lite_engine.specs.LazyDfa.Remembering.{RemembersAll};
 
 use crate::Graph;
 use crate::lazy_dfa::automaton::LazyDfa;
+use crate::nfa::prefilter::Prefilter;
 use std::alloc::{AllocError, Global};
 
 /// From this number of bytes on it pays to remember turns.
@@ -12,6 +13,9 @@ const LONG: usize = 1000;
 
 /// From this number on it pays where most characters are passed over before a match begins.
 const LONG_BETWEEN_MATCHES: usize = 4096;
+
+/// In a graph of this number of places the memory of a search without slots takes at most 4 KB.
+const MOST_PLACES: usize = 85;
 
 /// Whether it pays to remember the turns of searches over this number of bytes. By measurement it
 /// doesn't if the first character of a match is looked for anyway and nothing branches after it.
@@ -25,6 +29,17 @@ pub(crate) fn pays(graph: &Graph, bytes: usize) -> bool {
 /// Whether it pays to remember the turns of one search that goes over so many bytes.
 pub(crate) fn pays_once(graph: &Graph, bytes: usize) -> bool {
     pays(graph, bytes)
+}
+
+/// Whether it pays if slots are kept. The automaton then finds where matches start, and a search from
+/// there their slots. By measurement it doesn't pay if one of a few bytes begins each match. In a
+/// graph of few places the memory for both stays small.
+pub(crate) fn pays_with_slots(graph: &Graph, bytes: usize) -> bool {
+    let many_begin = match graph.prefilter() {
+        None | Some(Prefilter::Range(_, _)) => true,
+        Some(_) => false,
+    };
+    many_begin && bytes >= LONG_BETWEEN_MATCHES && graph.places() <= MOST_PLACES
 }
 
 impl LazyDfa {

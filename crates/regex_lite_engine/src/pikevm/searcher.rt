@@ -11,7 +11,8 @@ ghost use Rattle.regex_lite_engine.specs.Walk.Searching.{IsBetween};
 
 use crate::Graph;
 use crate::lazy_dfa::automaton::LazyDfa;
-use crate::lazy_dfa::remembering::pays;
+use crate::lazy_dfa::remembering::{pays, pays_with_slots};
+use crate::lazy_dfa::spans::{SpanSearcher, pass_to_match, weigh};
 use crate::pikevm::beginning::Beginning;
 use crate::pikevm::cache_for;
 use crate::pikevm::one_pattern::OnePattern;
@@ -26,14 +27,16 @@ use std::marker::Model;
 pub struct Searcher<'g> {
     graph: &'g Graph,
     cache: Cache<usize>,
-    /// What is remembered of the turns of earlier searches, where that pays.
+    /// What is remembered of the turns of earlier searches, if no slots are kept and it pays.
     dfa: Option<Box<LazyDfa>>,
+    /// What passes over the text before a match, if slots are kept and it pays.
+    spans: Option<Box<SpanSearcher>>,
 }
 
 impl<'g> Model for Searcher<'g> {
-    ghost use Rattle.std.specs.Prelude.{length, option_map};
+    ghost use Rattle.std.specs.Prelude.{IfSome, length, option_map};
     ghost use Rattle.regex_lite_engine.specs.Graph.Stored.{table_of};
-    ghost use Rattle.regex_lite_engine.specs.LazyDfa.Remembering.{IsRemembering};
+    ghost use Rattle.regex_lite_engine.specs.LazyDfa.Remembering.{FindsSpansIn, IsRemembering};
     ghost use Rattle.regex_lite_engine.specs.Search.Searching.{Searching};
     ghost use Rattle.regex_lite_engine.specs.Walk.Outcomes.{IsCountable};
     ghost use Rattle.regex_lite_engine.specs.Walk.Searching.{IsBetween};
@@ -48,14 +51,15 @@ impl<'g> Model for Searcher<'g> {
     ghost invariant = { λ searcher. IsBetween (table_of searcher.graph.now) searcher.cache
         × IsCountable (table_of searcher.graph.now)
         × IsRemembering searcher.graph.now (length searcher.cache.best.row)
-        (option_map (λ dfa. dfa.value) searcher.dfa) };
+        (option_map (λ dfa. dfa.value) searcher.dfa)
+        × IfSome searcher.spans (λ boxed. FindsSpansIn searcher.graph.now boxed.value) };
 }
 
 impl<'g> Searcher<'g> {
     /// A searcher of this graph, whose matches have `slots` slots, for haystacks of about `bytes`
-    /// bytes. All the memory that its searches need is asked for here. Without slots and in long
-    /// haystacks its searches remember their turns, unless the memory for that is refused: the
-    /// results are the same.
+    /// bytes. All the memory that its searches need is asked for here. In long haystacks its
+    /// searches remember their turns, unless the memory for that is refused: the results are the
+    /// same.
     ///
     /// # Errors
     ///
@@ -75,7 +79,17 @@ impl<'g> Searcher<'g> {
         } else {
             None
         };
-        Ok(Searcher { graph, cache, dfa })
+        let spans = if slots > 0 && pays_with_slots(graph, bytes) {
+            SpanSearcher::for_graph(alloc, graph)
+        } else {
+            None
+        };
+        Ok(Searcher {
+            graph,
+            cache,
+            dfa,
+            spans,
+        })
     }
 
     /// Where the most preferred match starts and ends, from the least start at or after this
@@ -96,11 +110,13 @@ impl<'g> Searcher<'g> {
         if let Some(dfa) = &mut self.dfa {
             return dfa.find(self.graph, &mut self.cache, haystack, start, 0);
         }
+        let from = pass_to_match(&mut self.spans, self.graph, haystack, start)?;
         let mut pattern = OnePattern {
             graph: self.graph,
             may_start: false,
         };
-        run(&mut self.cache, &mut pattern, haystack, start);
+        run(&mut self.cache, &mut pattern, haystack, from);
+        weigh(&mut self.spans, self.cache.walk.steps.tried());
         self.cache.best.span()
     }
 
@@ -121,14 +137,11 @@ fn automaton_for(alloc: Global, graph: &Graph) -> Option<Box<LazyDfa>>
     ensures { IfSome result (λ dfa. RemembersAll graph.now dfa.value) }
 {
     let dfa = LazyDfa::for_graph(alloc, graph)?;
-    match Box::new(alloc, dfa) {
-        Ok(dfa) => Some(dfa),
-        Err(_) => None,
-    }
+    Box::new(alloc, dfa).ok()
 }
 
 /// Makes ready for another search: what the last one left is forgotten.
-pub(super) fn restart<S: Beginning>(cache: &mut Cache<S>)
+pub(crate) fn restart<S: Beginning>(cache: &mut Cache<S>)
     ensures fresh { (table : List (Place ℕ)) → IsBetween table cache.old → IsFresh table cache.new }
     ensures width { length cache.new.best.row ≡ length cache.old.best.row }
 {

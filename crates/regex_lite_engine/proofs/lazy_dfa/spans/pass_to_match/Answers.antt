@@ -1,0 +1,54 @@
+use Rattle.std.proofs.Common.{ℕ, List, [], ◌∷◌, Some, None, sym, subst}
+use Rattle.std.specs.Prelude.{IsCharBoundary, IsUtf8, chars}
+use Rattle.regex_lite_engine.specs.Graph.Stored.{StoredGraph, table_of}
+use Rattle.regex_lite_engine.specs.LazyDfa.Remembering.{NoneStartsBefore}
+use Rattle.regex_lite_engine.specs.LazyDfa.Scanning.{best_told}
+use Rattle.regex_lite_engine.specs.Search.Answer.{Found}
+use Rattle.regex_lite_engine.specs.Search.Offsets.{position_at, IsOffset}
+use Rattle.regex_lite_engine.specs.Walk.NumberedAnswer.{IsNumberedFound}
+use Rattle.regex_lite_engine.specs.Walk.Outcomes.{IsBestOutcomeOf}
+use Rattle.regex_lite_engine.proofs.PositionLemmas.{position_of}
+use Rattle.regex_lite_engine.proofs.OffsetLemmas.{boundary_at}
+use Rattle.regex_lite_engine.proofs.pikevm.EndLemmas.{one_best}
+use Rattle.regex_lite_engine.proofs.lazy_dfa.spans.pass_to_match.Goals as goal
+
+module _ (graph : StoredGraph) (haystack : List ℕ) (utf8 : IsUtf8 haystack) (s : ℕ)
+    (span : ℕ × ℕ)
+    (is : IsBestOutcomeOf (table_of graph) (chars haystack) (graph.start ∷ []) s
+    (best_told (Some span))) where
+  -- what is found begins at the span's start
+  found_at : (found : Found) × IsNumberedFound (table_of graph) (chars haystack) graph.start s found
+      × IsOffset (chars haystack) found.start span.0
+  found_at =
+      let best =
+      one_best (table_of graph) (chars haystack) graph.start s (best_told (Some span)) is in
+      (best.0, best.1, (best.1.inside, best.2))
+
+  boundary : IsCharBoundary haystack span.0
+  boundary = boundary_at haystack found_at.0.start span.0 utf8 found_at.2
+
+  none_before : NoneStartsBefore (table_of graph) (chars haystack) graph.start s
+      (position_at haystack span.0)
+  none_before =
+      subst (NoneStartsBefore (table_of graph) (chars haystack) graph.start s)
+      (sym (position_of haystack utf8 found_at.0.start span.0 found_at.2))
+      (record { from = found_at.1.from; least = found_at.1.least })
+
+pub returns-in_err-from-clause-none : goal.returns-in_err-from-clause-none
+returns-in_err-from-clause-none c = λ none.
+    let graph = c.args.graph.now in
+    let haystack = c.args.haystack.now in
+    one_best (table_of graph) (chars haystack) graph.start (position_at haystack c.args.start) None
+    c.in_err-from.ensures.found
+
+pub returns-clause-boundary : goal.returns-clause-boundary
+returns-clause-boundary c =
+    boundary c.args.graph.now c.args.haystack.now c.utf8.haystack
+    (position_at c.args.haystack.now c.args.start) (c.in_ok-from.from, c.in_ok-from.field-0-1)
+    c.in_ok-from.ensures.found
+
+pub returns-clause-first : goal.returns-clause-first
+returns-clause-first c =
+    none_before c.args.graph.now c.args.haystack.now c.utf8.haystack
+    (position_at c.args.haystack.now c.args.start) (c.in_ok-from.from, c.in_ok-from.field-0-1)
+    c.in_ok-from.ensures.found
