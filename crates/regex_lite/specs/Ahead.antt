@@ -3,6 +3,7 @@ use Rattle.std.specs.Prelude.{◌≡◌, ◌≢◌, ◌⊎◌, ◌≤◌, ◌<�
 use Rattle.std.specs.Iterator.{Count, at_most}
 use Rattle.regex_lite_syntax.specs.declared.error.Error.{Error}
 use Rattle.regex_lite_syntax.specs.Errors.{out_of_memory}
+use Rattle.regex_lite_syntax.specs.Text.{Text}
 use Rattle.regex_lite_engine.specs.Search.Answer.{Found}
 use Rattle.regex_lite_engine.specs.Search.Offsets.{position_at}
 use Rattle.regex_lite.specs.declared.string.matches.Match.{Match}
@@ -10,67 +11,93 @@ use Rattle.regex_lite.specs.declared.string.find_iter.Matches.{Matches}
 use Rattle.regex_lite.specs.declared.string.captures_iter.CaptureMatches.{CaptureMatches}
 use Rattle.regex_lite.specs.Expression.{Expression, OfTree}
 use Rattle.regex_lite.specs.Groups.{Groups, whole_span}
-use Rattle.regex_lite.specs.MatchList.{IsNext, AreWithin, AreSomeWithin, one_less}
+use Rattle.regex_lite.specs.MatchList.{AreSomeWithin, AreWithin, IsAnswerOf, IsNextAnswer, one_less}
 use Rattle.regex_lite.specs.MatchViews.{span_of_match}
-use Rattle.regex_lite.specs.Scanning.{IsMatchWithSlots, Scanning}
+use Rattle.regex_lite.specs.Scanning.{IsMatchWithSlots, RegexSearching, Scanning}
 use Rattle.regex_lite.specs.Searches.{IsMatchOf, AreGroupsOf}
 
 -- the matches of a haystack, which is given as its bytes, after one that ended at this position,
--- up to a limit where there is one
-pub record Ahead : Type 0 where
-  pub regex : Expression
+-- up to a limit where there is one: those of what is searched for, a regex or several patterns
+pub record AheadOf (S : Type 0) : Type 0 where
+  pub sought : S
   pub haystack : List ℕ
   pub limit : Option ℕ
   pub ended : Option ℕ
 
--- all of them
-abbrev pub whole : Expression → (haystack : List ℕ) → (limit : Option ℕ) → Ahead
-whole re haystack limit =
-    record { regex = re; haystack = haystack; limit = limit; ended = None }
+module _ {S : Type 0} where
+  -- all of them
+  abbrev pub whole : S → (haystack : List ℕ) → (limit : Option ℕ) → AheadOf S
+  whole own haystack limit =
+      record { sought = own; haystack = haystack; limit = limit; ended = None }
 
--- those after a match that ended at this offset, or all
-abbrev pub after : Expression → (haystack : List ℕ) → (ended : Option ℕ) → Ahead
-after re haystack ended = record {
-  regex = re;
-  haystack = haystack;
-  limit = None;
-  ended = option_map (position_at haystack) ended;
-}
+  -- those after a match that ended at this offset, or all
+  abbrev pub after : S → (haystack : List ℕ) → (ended : Option ℕ) → AheadOf S
+  after own haystack ended = record {
+    sought = own;
+    haystack = haystack;
+    limit = None;
+    ended = option_map (position_at haystack) ended;
+  }
+
+  -- what is ahead after this match
+  abbrev pub ahead_after : AheadOf S → Found → AheadOf S
+  ahead_after a found = record a { limit = one_less a.limit; ended = Some found.end }
+
+  -- the same haystack with nothing ahead
+  abbrev pub at_end : AheadOf S → AheadOf S
+  at_end a = record a { limit = Some 0 }
+
+-- The answers of searches say what is ahead. What was found is a part of the answer
+module _ {S A : Type 0} (found_of : A → Found)
+    (IsAnswerTo : S → Text → (s : ℕ) → Option A → Type 0) where
+  -- this is the answer that comes next, or there is none
+  abbrev pub AnswerComesNext : AheadOf S → Option A → Type 0
+  AnswerComesNext a answer =
+      IsNextAnswer found_of (IsAnswerTo a.sought (chars a.haystack)) a.ended answer
+
+  -- none is ahead
+  abbrev pub NoneIsAhead : AheadOf S → Type 0
+  NoneIsAhead a = (a.limit ≡ Some 0) ⊎ AnswerComesNext a None
+
+  -- this one was passed
+  pub record PassesAnswer (old : AheadOf S) (answer : A) (new : AheadOf S) : Type 0 where
+    pub may_come : old.limit ≢ Some 0
+    pub comes : AnswerComesNext old (Some answer)
+    pub passed : new ≡ ahead_after old (found_of answer)
+
+  -- there was none, and from then on there is none
+  pub record EndsAhead (old new : AheadOf S) : Type 0 where
+    pub over : NoneIsAhead old
+    pub ended : new ≡ at_end old
+
+-- So of a regex, whose answers are its matches
+
+abbrev pub Ahead : Type 0
+Ahead = AheadOf Expression
 
 -- these are the matches ahead
 abbrev pub AreAhead : Ahead → List Found → Type 0
-AreAhead a = AreWithin a.regex (chars a.haystack) a.limit a.ended
+AreAhead a = AreWithin a.sought (chars a.haystack) a.limit a.ended
 
 -- these are some of the matches ahead, from the first on
 abbrev pub AreFirstAhead : Ahead → List Found → Type 0
-AreFirstAhead a = AreSomeWithin a.regex (chars a.haystack) a.limit a.ended
+AreFirstAhead a = AreSomeWithin a.sought (chars a.haystack) a.limit a.ended
 
 -- this is the match that comes next, or there is none
 abbrev pub ComesNext : Ahead → Option Found → Type 0
-ComesNext a = IsNext a.regex (chars a.haystack) a.ended
-
--- what is ahead after this match
-abbrev pub behind : Ahead → Found → Ahead
-behind a found = record a { limit = one_less a.limit; ended = Some found.end }
-
--- the same haystack with nothing ahead
-abbrev pub at_end : Ahead → Ahead
-at_end a = record a { limit = Some 0 }
+ComesNext a found = AnswerComesNext (λ own. own) IsAnswerOf a found
 
 -- no match is ahead
 abbrev pub IsOver : Ahead → Type 0
-IsOver a = (a.limit ≡ Some 0) ⊎ ComesNext a None
+IsOver a = NoneIsAhead (λ own. own) IsAnswerOf a
 
 -- this match was passed
-pub record Passes (old : Ahead) (found : Found) (new : Ahead) : Type 0 where
-  pub may_come : old.limit ≢ Some 0
-  pub comes : ComesNext old (Some found)
-  pub passed : new ≡ behind old found
+abbrev pub Passes : (old : Ahead) → Found → (new : Ahead) → Type 0
+Passes old found new = PassesAnswer (λ own. own) IsAnswerOf old found new
 
 -- there was none, and from then on there is none
-pub record Ends (old new : Ahead) : Type 0 where
-  pub over : IsOver old
-  pub ended : new ≡ at_end old
+abbrev pub Ends : (old new : Ahead) → Type 0
+Ends old new = EndsAhead (λ own. own) IsAnswerOf old new
 
 -- a span that begins where the last match ended or later, and ends later
 abbrev pub IsOnward : (ended : Option ℕ) → ℕ × ℕ → Type 0
@@ -85,15 +112,18 @@ most_left limit bytes (Some e) = (bytes + 1) - e
 
 -- What one that goes over a haystack, and what iterators have ahead
 
-abbrev pub ahead : Scanning → Ahead
-ahead scan = record {
-  regex = scan.regex;
+abbrev pub ahead_by : {F S : Type 0} → (sought : F → S) → Scanning F → AheadOf S
+ahead_by sought scan = record {
+  sought = sought scan.finder;
   haystack = scan.haystack;
   limit = scan.limit;
   ended = option_map (position_at scan.haystack) scan.ended;
 }
 
-abbrev pub most_ahead : Scanning → ℕ
+abbrev pub ahead : Scanning RegexSearching → Ahead
+ahead scan = ahead_by (λ own. own.regex) scan
+
+abbrev pub most_ahead : {F : Type 0} → Scanning F → ℕ
 most_ahead scan = most_left scan.limit (length scan.haystack) scan.ended
 
 abbrev pub ahead_of : Matches → Ahead
@@ -117,13 +147,21 @@ GivesMatch old item new =
     × (new.scan.ended ≡ Some (span_of_match m).1)
     × Passes (ahead_of old) found (ahead_of new))
 
--- so it came, and its slots are kept
-abbrev pub GivesMatchWithSlots : Scanning → Option Match → Scanning → Type 0
-GivesMatchWithSlots old item new =
-    MatchOption item (Ends (ahead old) (ahead new))
-    (λ m. (found : Found) × IsMatchWithSlots old.haystack new.slots found m
-    × IsOnward old.ended (span_of_match m) × (new.ended ≡ Some (span_of_match m).1)
-    × Passes (ahead old) found (ahead new))
+-- so whatever finds it: it came with the number of its pattern, and its slots are kept
+module _ {F S A N : Type 0} (sought : F → S) (slots : F → List (Option ℕ)) (found_of : A → Found)
+    (number_of : A → N) (IsAnswerTo : S → Text → (s : ℕ) → Option A → Type 0) where
+  abbrev pub Came : (old : Scanning F) → N × Match → (new : Scanning F) → Type 0
+  Came old told new =
+      (answer : A)
+      × IsMatchWithSlots found_of number_of old.haystack (slots new.finder) answer told
+      × IsOnward old.ended (span_of_match told.1) × (new.ended ≡ Some (span_of_match told.1).1)
+      × PassesAnswer found_of IsAnswerTo (ahead_by sought old) answer (ahead_by sought new)
+
+  abbrev pub GivesNext : (old : Scanning F) → Option (N × Match) → (new : Scanning F) → Type 0
+  GivesNext old item new =
+      MatchOption item
+      (EndsAhead found_of IsAnswerTo (ahead_by sought old) (ahead_by sought new))
+      (λ told. Came old told new)
 
 -- the groups are those of what was found
 abbrev pub AreGroupsFound : Expression → (haystack : List ℕ) → Found → Groups → Type 0
@@ -132,11 +170,12 @@ AreGroupsFound re haystack found groups =
 
 -- the groups of the next match came; or there was one and a growth was refused, or there was none,
 -- and none comes from then on
-abbrev pub GivesGroupsOf : Scanning → Option (Result Groups Error) → Scanning → Type 0
+abbrev pub GivesGroupsOf : Scanning RegexSearching → Option (Result Groups Error)
+    → Scanning RegexSearching → Type 0
 GivesGroupsOf old item new =
     MatchOption item (Ends (ahead old) (ahead new))
     (λ answer. MatchResult answer
-    (λ groups. (found : Found) × AreGroupsFound old.regex old.haystack found groups
+    (λ groups. (found : Found) × AreGroupsFound old.finder.regex old.haystack found groups
     × IsOnward old.ended (whole_span groups) × (new.ended ≡ Some (whole_span groups).1)
     × Passes (ahead old) found (ahead new))
     (λ error. (error ≡ out_of_memory) × (IsOver (ahead old) → ⊥)

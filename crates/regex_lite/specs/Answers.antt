@@ -4,7 +4,9 @@ use Rattle.std.specs.Prelude.{◌≡◌, ◌≤◌, ◌<◌, ℕ, true, List, Op
 use Rattle.regex_lite_syntax.specs.Text.{Text}
 use Rattle.regex_lite_engine.specs.Search.Answer.{Found}
 use Rattle.regex_lite_engine.specs.Search.Offsets.{position_at}
+use Rattle.regex_lite.specs.declared.string.matches.Match.{Match}
 use Rattle.regex_lite.specs.MatchList.{is_empty_answer}
+use Rattle.regex_lite.specs.MatchViews.{span_of_match}
 
 -- what is found lies in the haystack, at or after the start of the search
 pub record IsWithin (haystack : Text) (s : ℕ) (found : Found) : Type 0 where
@@ -20,9 +22,6 @@ pub record AreLawful {A : Type 0} (found_of : A → Found) (haystack : Text)
   -- it is also found from any later position on up to its start
   pub further : (s p : ℕ) (answer : A) → s ≤ p → p ≤ (found_of answer).start
       → Answers s (Some answer) → Answers p (Some answer)
-  -- where there are answers, nothing is found after the haystack's end
-  pub none_behind : (s p : ℕ) (answer : Option A) → Answers s answer → length haystack < p
-      → Answers p None
   pub one : (s : ℕ) (a b : Option A) → Answers s a → Answers s b → a ≡ b
 
 -- what is told of the answer from position s on: nothing where nothing is found, and else what this
@@ -40,10 +39,9 @@ IsEmptyAnswerFrom {A} found_of Answers haystack at =
     (answer : A) × Answers (position_at haystack at) (Some answer)
     × (is_empty_answer found_of (position_at haystack at) (Some answer) ≡ true)
 
--- where what is told has an empty span, it is told of the answer from there, which is empty there
-abbrev pub IsAnswerWhereEmpty : {A T : Type 0} → (found_of : A → Found)
-    → (Answers : (s : ℕ) → Option A → Type 0) → (span : T → ℕ × ℕ) → (haystack : List ℕ)
-    → Option T → Type 0
-IsAnswerWhereEmpty found_of Answers span haystack told =
-    IfSome told (λ own. (span own).0 ≡ (span own).1
-    → IsEmptyAnswerFrom found_of Answers haystack (span own).1)
+-- where the match that is told is empty, the answer from there is empty there
+abbrev pub IsAnswerWhereEmpty : {A N : Type 0} → (found_of : A → Found)
+    → (Answers : (s : ℕ) → Option A → Type 0) → (haystack : List ℕ) → Option (N × Match) → Type 0
+IsAnswerWhereEmpty found_of Answers haystack told =
+    IfSome told (λ own. (span_of_match own.1).0 ≡ (span_of_match own.1).1
+    → IsEmptyAnswerFrom found_of Answers haystack (span_of_match own.1).1)

@@ -40,7 +40,6 @@ pub mod Slots
 pub mod Answers
 pub mod Scanning
 pub mod Keeping
-pub mod ListScanning
 pub mod NextMatch
 pub mod Rewriting
 -- What those have that share what was built. No public contract rests on it.

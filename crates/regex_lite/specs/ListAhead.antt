@@ -8,70 +8,47 @@ use Rattle.regex_lite_engine.specs.Search.Offsets.{position_at}
 use Rattle.regex_lite.specs.declared.string.matches.Match.{Match}
 use Rattle.regex_lite.specs.declared.string.list.find_iter.ListMatches.{ListMatches}
 use Rattle.regex_lite.specs.declared.string.list.captures_iter.ListCaptureMatches.{ListCaptureMatches}
-use Rattle.regex_lite.specs.Ahead.{AreGroupsFound, IsOnward, most_left}
+use Rattle.regex_lite.specs.Ahead.{AheadOf, AnswerComesNext, AreGroupsFound, EndsAhead, IsOnward, NoneIsAhead, PassesAnswer, ahead_by, at_end, most_ahead, whole}
 use Rattle.regex_lite.specs.Expression.{Expression}
 use Rattle.regex_lite.specs.Groups.{Groups, whole_span}
-use Rattle.regex_lite.specs.ListScanning.{IsListMatchWithSlots, ListScanning}
-use Rattle.regex_lite.specs.MatchList.{AreWithinOfList, IsNextOfList, one_less}
+use Rattle.regex_lite.specs.MatchList.{AreWithinOfList, IsAnswerOfPatterns}
 use Rattle.regex_lite.specs.MatchViews.{span_of_match}
+use Rattle.regex_lite.specs.Scanning.{ListSearching, Scanning}
 use Rattle.regex_lite.specs.Searches.{IsMatchOf}
 
--- the matches of a haystack, which is given as its bytes, after one that ended at this position,
--- up to a limit where there is one
-pub record ListAhead : Type 0 where
-  pub list : List Expression
-  pub haystack : List ℕ
-  pub limit : Option ℕ
-  pub ended : Option ℕ
+-- the matches ahead of a list of patterns, whose answers are the number of a pattern and what was
+-- found of it
+abbrev pub ListAhead : Type 0
+ListAhead = AheadOf (List Expression)
 
 -- all of them
 abbrev pub whole_list : List Expression → (haystack : List ℕ) → ListAhead
-whole_list list haystack =
-    record { list = list; haystack = haystack; limit = None; ended = None }
+whole_list list haystack = whole list haystack None
 
 -- these are the matches ahead, each with the number of its pattern
 abbrev pub AreListAhead : ListAhead → List (ℕ × Found) → Type 0
-AreListAhead a = AreWithinOfList a.list (chars a.haystack) a.limit a.ended
+AreListAhead a = AreWithinOfList a.sought (chars a.haystack) a.limit a.ended
 
 -- this is the match that comes next, or there is none
 abbrev pub ListComesNext : ListAhead → Option (ℕ × Found) → Type 0
-ListComesNext a = IsNextOfList a.list (chars a.haystack) a.ended
-
--- what is ahead after this match
-abbrev pub list_behind : ListAhead → Found → ListAhead
-list_behind a found = record a { limit = one_less a.limit; ended = Some found.end }
-
--- the same haystack with nothing ahead
-abbrev pub list_at_end : ListAhead → ListAhead
-list_at_end a = record a { limit = Some 0 }
+ListComesNext a answer = AnswerComesNext (λ own. own.1) IsAnswerOfPatterns a answer
 
 -- no match is ahead
 abbrev pub IsListOver : ListAhead → Type 0
-IsListOver a = (a.limit ≡ Some 0) ⊎ ListComesNext a None
+IsListOver a = NoneIsAhead (λ (own : ℕ × Found). own.1) IsAnswerOfPatterns a
 
 -- this match was passed
-pub record ListPasses (old : ListAhead) (answer : ℕ × Found) (new : ListAhead) : Type 0 where
-  pub may_come : old.limit ≢ Some 0
-  pub comes : ListComesNext old (Some answer)
-  pub passed : new ≡ list_behind old answer.1
+abbrev pub ListPasses : (old : ListAhead) → ℕ × Found → (new : ListAhead) → Type 0
+ListPasses old answer new = PassesAnswer (λ own. own.1) IsAnswerOfPatterns old answer new
 
 -- there was none, and from then on there is none
-pub record ListEnds (old new : ListAhead) : Type 0 where
-  pub over : IsListOver old
-  pub ended : new ≡ list_at_end old
+abbrev pub ListEnds : (old new : ListAhead) → Type 0
+ListEnds old new = EndsAhead (λ (own : ℕ × Found). own.1) IsAnswerOfPatterns old new
 
--- What one that goes over a haystack, and what iterators have ahead
+-- What iterators have ahead
 
-abbrev pub list_ahead : ListScanning → ListAhead
-list_ahead scan = record {
-  list = scan.list;
-  haystack = scan.haystack;
-  limit = scan.limit;
-  ended = option_map (position_at scan.haystack) scan.ended;
-}
-
-abbrev pub most_list_ahead : ListScanning → ℕ
-most_list_ahead scan = most_left scan.limit (length scan.haystack) scan.ended
+abbrev pub list_ahead : Scanning ListSearching → ListAhead
+list_ahead scan = ahead_by (λ own. own.list) scan
 
 abbrev pub list_ahead_of : ListMatches → ListAhead
 list_ahead_of it = list_ahead it.scan
@@ -80,10 +57,10 @@ abbrev pub list_groups_ahead_of : ListCaptureMatches → ListAhead
 list_groups_ahead_of it = list_ahead it.scan
 
 abbrev pub most_list_matches : ListMatches → Count
-most_list_matches it = at_most (most_list_ahead it.scan)
+most_list_matches it = at_most (most_ahead it.scan)
 
 abbrev pub most_list_groups : ListCaptureMatches → Count
-most_list_groups it = at_most (most_list_ahead it.scan)
+most_list_groups it = at_most (most_ahead it.scan)
 
 -- the next match came with the number of its pattern; or there was none, and none comes from then
 -- on
@@ -95,14 +72,6 @@ GivesListMatch old item new =
     × (new.scan.ended ≡ Some (span_of_match told.1).1)
     × ListPasses (list_ahead_of old) (told.0, found) (list_ahead_of new))
 
--- so it came, and its slots are kept
-abbrev pub GivesListMatchWithSlots : ListScanning → Option (ℕ × Match) → ListScanning → Type 0
-GivesListMatchWithSlots old item new =
-    MatchOption item (ListEnds (list_ahead old) (list_ahead new))
-    (λ told. (found : Found) × IsListMatchWithSlots old.haystack new.slots (told.0, found) told
-    × IsOnward old.ended (span_of_match told.1) × (new.ended ≡ Some (span_of_match told.1).1)
-    × ListPasses (list_ahead old) (told.0, found) (list_ahead new))
-
 -- the groups are those of what was found of the pattern with this number
 abbrev pub AreGroupsFoundInList : List Expression → (haystack : List ℕ) → (number : ℕ) → Found
     → Groups → Type 0
@@ -112,16 +81,16 @@ AreGroupsFoundInList list haystack number found groups =
 
 -- the groups of the next match came with the number of its pattern; or there was one and a growth
 -- was refused, or there was none, and none comes from then on
-abbrev pub GivesListGroupsOf : ListScanning → Option (Result (ℕ × Groups) Error) → ListScanning
-    → Type 0
+abbrev pub GivesListGroupsOf : Scanning ListSearching → Option (Result (ℕ × Groups) Error)
+    → Scanning ListSearching → Type 0
 GivesListGroupsOf old item new =
     MatchOption item (ListEnds (list_ahead old) (list_ahead new))
     (λ answer. MatchResult answer
-    (λ told. (found : Found) × AreGroupsFoundInList old.list old.haystack told.0 found told.1
+    (λ told. (found : Found) × AreGroupsFoundInList old.finder.list old.haystack told.0 found told.1
     × IsOnward old.ended (whole_span told.1) × (new.ended ≡ Some (whole_span told.1).1)
     × ListPasses (list_ahead old) (told.0, found) (list_ahead new))
     (λ error. (error ≡ out_of_memory) × (IsListOver (list_ahead old) → ⊥)
-    × (list_ahead new ≡ list_at_end (list_ahead old))))
+    × (list_ahead new ≡ at_end (list_ahead old))))
 
 abbrev pub GivesListGroups : ListCaptureMatches → Option (Result (ℕ × Groups) Error)
     → ListCaptureMatches → Type 0

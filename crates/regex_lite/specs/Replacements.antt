@@ -61,7 +61,7 @@ module _ {R : Type 0} (Fixed : R → Option (List ℕ) → R → Type 0)
     pub found : List Found
     pub are_ahead : AreAhead a found
     pub groups : List Groups
-    pub each : AreGroupsOfEach a.regex a.haystack found groups
+    pub each : AreGroupsOfEach a.sought a.haystack found groups
     pub chain : IsChain a.haystack rep 0 groups new
 
   -- the replacer refused one of the first matches ahead
@@ -69,7 +69,7 @@ module _ {R : Type 0} (Fixed : R → Option (List ℕ) → R → Type 0)
     pub found : List Found
     pub are_first : AreFirstAhead a found
     pub groups : List Groups
-    pub each : AreGroupsOfEach a.regex a.haystack found groups
+    pub each : AreGroupsOfEach a.sought a.haystack found groups
     pub refused : IsRefusedAt rep groups error
 
   abbrev pub IsReplaced : (fixed : Option (List ℕ)) → R → Ahead → List ℕ → Type 0

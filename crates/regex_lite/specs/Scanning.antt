@@ -1,15 +1,20 @@
--- A regex that is searched for again and again, and a haystack that is gone over match by match.
-use Rattle.std.specs.Prelude.{◌≡◌, ℕ, List, Option, Some, IfSome, IsTrue, chars, length}
+-- What is searched for again and again, and a haystack that is gone over match by match.
+use Rattle.std.specs.Prelude.{◌≡◌, ℕ, List, [], ◌∷◌, Option, Some, IfSome, IsTrue, chars, length, max}
+use Rattle.regex_lite_syntax.specs.Text.{Text}
+use Rattle.regex_lite_syntax.specs.Tree.{Tree}
 use Rattle.regex_lite_syntax.specs.Tree.Properties.{captures_len}
+use Rattle.regex_lite_engine.specs.Graph.SideBySide.{AreRegular}
+use Rattle.regex_lite_engine.specs.Graph.StoredList.{IsGraphOfList}
 use Rattle.regex_lite_engine.specs.Search.Answer.{Found}
 use Rattle.regex_lite_engine.specs.Search.Offsets.{HasSlots, search_start}
+use Rattle.regex_lite_engine.specs.Search.Searching as engine
 use Rattle.regex_lite.specs.declared.string.cursor.Cursor.{Cursor}
 use Rattle.regex_lite.specs.declared.string.matches.Match.{Match}
-use Rattle.regex_lite.specs.Answers.{IsAnswerWhereEmpty, IsEmptyAnswerFrom, TellsOfAnswer}
+use Rattle.regex_lite.specs.Answers.{IsEmptyAnswerFrom, TellsOfAnswer}
 use Rattle.regex_lite.specs.Expression.{Expression, OfTree}
-use Rattle.regex_lite.specs.MatchList.{IsAnswerOf}
-use Rattle.regex_lite.specs.MatchViews.{span_of_match}
-use Rattle.regex_lite.specs.Searches.{IsMatchOf}
+use Rattle.regex_lite.specs.MatchList.{IsAnswerOf, IsAnswerOfPatterns}
+use Rattle.regex_lite.specs.RegexList.{OfTrees}
+use Rattle.regex_lite.specs.Searches.{IsMatchOf, offsets}
 use Rattle.regex_lite.specs.Slots.{kept_slots}
 
 -- a regex, and the slots of the last match that was found
@@ -17,57 +22,94 @@ pub record RegexSearching : Type 0 where
   pub regex : Expression
   pub slots : List (Option ℕ)
 
--- beside them the haystack, as its bytes, how many matches may still come, where that is limited,
--- and the offset at which the last one ended
-pub record Scanning : Type 0 where
-  pub regex : Expression
+-- so of several patterns
+pub record ListSearching : Type 0 where
+  pub list : List Expression
   pub slots : List (Option ℕ)
+
+-- what finds matches, the haystack, as its bytes, how many matches may still come, where that is
+-- limited, and the offset at which the last one ended
+pub record Scanning (F : Type 0) : Type 0 where
+  pub finder : F
   pub haystack : List ℕ
   pub limit : Option ℕ
   pub ended : Option ℕ
 
--- what is told is the match that was found, and these are its slots
-pub record IsMatchWithSlots (haystack : List ℕ) (slots : List (Option ℕ)) (found : Found)
-    (m : Match) : Type 0 where
-  pub is_match : IsMatchOf haystack found m
-  pub has_slots : HasSlots (chars haystack) slots found.marks
+-- what is searched is the graph of the patterns' trees
+abbrev pub SearchesForList : List Expression → engine.ListSearching → Type 0
+SearchesForList list searcher =
+    OfTrees list (λ trees. AreRegular trees × IsGraphOfList trees searcher.graph)
 
--- so of a search for the pattern from this offset on
-abbrev pub TellsMatchWithSlots : Expression → (haystack : List ℕ) → (start : ℕ)
-    → (slots : List (Option ℕ)) → Option Match → Type 0
-TellsMatchWithSlots re haystack start slots told =
-    TellsOfAnswer (IsAnswerOf re (chars haystack)) (IsMatchWithSlots haystack slots)
-    (search_start haystack start) told
+-- what is told is the span of what was found, with the number of its pattern, and these are its
+-- slots
+pub record IsSpanWithSlots {A N : Type 0} (found_of : A → Found) (number_of : A → N)
+    (haystack : List ℕ) (slots : List (Option ℕ)) (answer : A) (told : N × (ℕ × ℕ))
+    : Type 0 where
+  pub number : told.0 ≡ number_of answer
+  pub span : told.1 ≡ offsets (chars haystack) ((found_of answer).start, (found_of answer).end)
+  pub has_slots : HasSlots (chars haystack) slots (found_of answer).marks
 
--- the match is this answer of some search of the haystack, and these are its slots
-abbrev pub IsMatchOfSearch : Expression → (haystack : List ℕ) → (slots : List (Option ℕ)) → Found
+-- so of a search for a pattern from this offset on
+abbrev pub TellsSpan : Expression → (haystack : List ℕ) → (start : ℕ)
+    → (slots : List (Option ℕ)) → Option (Unit {0} × (ℕ × ℕ)) → Type 0
+TellsSpan re haystack start slots told =
+    TellsOfAnswer (IsAnswerOf re (chars haystack))
+    (IsSpanWithSlots (λ own. own) (λ own. tt {0}) haystack slots) (search_start haystack start) told
+
+-- and of one for several patterns
+abbrev pub TellsListSpan : List Expression → (haystack : List ℕ) → (start : ℕ)
+    → (slots : List (Option ℕ)) → Option (ℕ × (ℕ × ℕ)) → Type 0
+TellsListSpan list haystack start slots told =
+    TellsOfAnswer (IsAnswerOfPatterns list (chars haystack))
+    (IsSpanWithSlots (λ own. own.1) (λ own. own.0) haystack slots) (search_start haystack start)
+    told
+
+-- so of the match
+pub record IsMatchWithSlots {A N : Type 0} (found_of : A → Found) (number_of : A → N)
+    (haystack : List ℕ) (slots : List (Option ℕ)) (answer : A) (told : N × Match) : Type 0 where
+  pub number : told.0 ≡ number_of answer
+  pub is_match : IsMatchOf haystack (found_of answer) told.1
+  pub has_slots : HasSlots (chars haystack) slots (found_of answer).marks
+
+-- what is told is this answer of some search of the haystack, and these are its slots
+abbrev pub IsMatchOfSearch : {A N : Type 0} → (found_of : A → Found) → (number_of : A → N)
+    → (Answers : (s : ℕ) → Option A → Type 0) → (haystack : List ℕ)
+    → (slots : List (Option ℕ)) → A → N × Match → Type 0
+IsMatchOfSearch found_of number_of Answers haystack slots answer told =
+    (s : ℕ) × Answers s (Some answer)
+    × IsMatchWithSlots found_of number_of haystack slots answer told
+
+-- so of searches for a pattern
+abbrev pub IsMatchOfRegex : Expression → (haystack : List ℕ) → (slots : List (Option ℕ)) → Found
     → Match → Type 0
-IsMatchOfSearch re haystack slots found m =
-    (s : ℕ) × IsAnswerOf re (chars haystack) s (Some found)
-    × IsMatchWithSlots haystack slots found m
+IsMatchOfRegex re haystack slots found m =
+    IsMatchOfSearch (λ own. own) (λ own. tt {0}) (IsAnswerOf re (chars haystack)) haystack slots found
+    (tt {0}, m)
 
--- the answer from this offset on is empty there
-abbrev pub IsEmptyFrom : Expression → (haystack : List ℕ) → (at : ℕ) → Type 0
-IsEmptyFrom re haystack at =
-    IsEmptyAnswerFrom (λ own. own) (IsAnswerOf re (chars haystack)) haystack at
-
--- a match that is empty is the answer from its end
-abbrev pub IsAnswerIfEmpty : Expression → (haystack : List ℕ) → Option Match → Type 0
-IsAnswerIfEmpty re haystack told =
-    IsAnswerWhereEmpty (λ own. own) (IsAnswerOf re (chars haystack)) span_of_match haystack told
+-- and of searches for several patterns
+abbrev pub IsMatchOfPatterns : List Expression → (haystack : List ℕ) → (slots : List (Option ℕ))
+    → ℕ × Found → ℕ × Match → Type 0
+IsMatchOfPatterns list haystack slots answer told =
+    IsMatchOfSearch (λ own. own.1) (λ own. own.0) (IsAnswerOfPatterns list (chars haystack))
+    haystack slots answer told
 
 -- where the last match was empty, the answer from its end is empty there
-abbrev pub IsBehind : {A : Type 0} → (found_of : A → Found)
+abbrev pub IsAfterAnswer : {A : Type 0} → (found_of : A → Found)
     → (Answers : (s : ℕ) → Option A → Type 0) → Cursor → Type 0
-IsBehind found_of Answers cursor =
+IsAfterAnswer found_of Answers cursor =
     IsTrue cursor.was_empty
     → IfSome cursor.ended (IsEmptyAnswerFrom found_of Answers cursor.haystack.now)
-
--- so where it was a match of the pattern
-abbrev pub IsBehindAnswer : Expression → Cursor → Type 0
-IsBehindAnswer re cursor =
-    IsBehind (λ own. own) (IsAnswerOf re (chars cursor.haystack.now)) cursor
 
 -- there are as many slots as are kept for the groups
 abbrev pub HasSlotsForGroups : Expression → (slots : List (Option ℕ)) → Type 0
 HasSlotsForGroups re slots = OfTree re (λ tree. length slots ≡ kept_slots (captures_len tree))
+
+-- how many groups the pattern has that has the most
+abbrev pub most_captures : List Tree → ℕ
+most_captures [] = 0
+most_captures (tree ∷ trees) = max (captures_len tree) (most_captures trees)
+
+-- there are as many slots as are kept for the groups of that pattern
+abbrev pub HasSlotsForAllGroups : List Expression → (slots : List (Option ℕ)) → Type 0
+HasSlotsForAllGroups list slots =
+    OfTrees list (λ trees. length slots ≡ kept_slots (most_captures trees))

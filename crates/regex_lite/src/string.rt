@@ -10,6 +10,7 @@ mod cursor;
 pub(super) mod escape;
 mod expand;
 mod find_iter;
+mod finds;
 mod group_scan;
 mod group_search;
 mod list;

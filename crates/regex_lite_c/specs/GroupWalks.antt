@@ -21,11 +21,11 @@ spans_of_all groups = flat_map (λ own. own.spans) groups
 -- and the walk goes on where the last of these matches ends
 pub record AreGroupsListed (a : Ahead) (walk : Walk) (old new : List Span) (count : ℕ) : Type 0 where
   pub list : List Found
-  pub are_first : AreFirst a.regex (chars a.haystack) count a.ended list
+  pub are_first : AreFirst a.sought (chars a.haystack) count a.ended list
   pub number : count ≡ length list
   pub front : List Groups
   pub last : Groups
-  pub each : AreGroupsOfEach a.regex a.haystack list (front ++ (last ∷ []))
+  pub each : AreGroupsOfEach a.sought a.haystack list (front ++ (last ∷ []))
   pub written : AreWritten (spans_of_all (front ++ (last ∷ []))) old new
   pub end : ended_of walk ≡ Some (whole_span last).1
 
@@ -33,7 +33,7 @@ pub record AreGroupsListed (a : Ahead) (walk : Walk) (old new : List Span) (coun
 abbrev pub IsWithoutRoom : Ahead → (room : ℕ) → Type 0
 IsWithoutRoom a room =
     (found : Found) × (groups : Groups) × ComesNext a (Some found)
-    × AreGroupsFound a.regex a.haystack found groups × (room < length groups.spans)
+    × AreGroupsFound a.sought a.haystack found groups × (room < length groups.spans)
 
 -- what is returned where groups are written as long as there is room
 pub record IsFilled (a : Ahead) (old_walk walk : Walk) (old new : List Span) (count answer : ℕ)

@@ -23,7 +23,7 @@ told_of haystack found = Some (found_span (chars haystack) found)
 -- fewer; and they were written to the front of the room
 pub record AreListed (a : Ahead) (old new : List Span) (count : ℕ) : Type 0 where
   pub list : List Found
-  pub are_first : AreFirst a.regex (chars a.haystack) (length old) a.ended list
+  pub are_first : AreFirst a.sought (chars a.haystack) (length old) a.ended list
   pub number : count ≡ length list
   pub written : AreWritten (map (told_of a.haystack) list) old new
 

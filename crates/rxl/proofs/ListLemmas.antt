@@ -32,16 +32,16 @@ module _ (re : Expression) (haystack : List ℕ) where
 pub ahead_more : (old new : Ahead) (found : Found) (list : List Found) → Passes old found new
     → AreAhead new list → AreAhead old (found ∷ list)
 ahead_more old new found list passes rest =
-    within_more old.regex (chars old.haystack) old.limit old.ended found list passes.may_come
+    within_more old.sought (chars old.haystack) old.limit old.ended found list passes.may_come
     passes.comes (subst (λ a. AreAhead a list) passes.passed rest)
 
 pub ahead_none : (a : Ahead) → IsOver a → AreAhead a []
-ahead_none a over = within_none a.regex (chars a.haystack) a.limit a.ended over
+ahead_none a over = within_none a.sought (chars a.haystack) a.limit a.ended over
 
 -- the regex and the haystack stay the same
 pub same_regex : (old new : Ahead) (found : Found) (re : Expression) → Passes old found new
-    → old.regex ≡ re → new.regex ≡ re
-same_regex old new found re passes same = ap (λ a. a.regex) passes.passed ∙ same
+    → old.sought ≡ re → new.sought ≡ re
+same_regex old new found re passes same = ap (λ a. a.sought) passes.passed ∙ same
 
 pub same_haystack : (old new : Ahead) (found : Found) (haystack : List ℕ)
     → Passes old found new → old.haystack ≡ haystack → new.haystack ≡ haystack
@@ -101,9 +101,9 @@ line_of own = groups_line own.spans
 -- The same where the lines are those of the groups
 pub record GroupsLeadOn (first a : Ahead) (has : Bool) (printed : List ℕ) : Type 0 where
   pub on : (list : List Found) (groups : List Groups) → AreAhead a list
-      → AreGroupsOfEach first.regex first.haystack list groups
+      → AreGroupsOfEach first.sought first.haystack list groups
       → (all : List Found) × (own : List Groups) × AreAhead first all
-      × AreGroupsOfEach first.regex first.haystack all own
+      × AreGroupsOfEach first.sought first.haystack all own
       × (has_some all ≡ (has || has_some list))
       × (printed ++ flat_map line_of groups ≡ flat_map line_of own)
 
@@ -113,13 +113,13 @@ groups_start first =
 
 pub groups_more : (first old new : Ahead) (has : Bool) (printed : List ℕ) (found : Found)
     (own : Groups) → GroupsLeadOn first old has printed → Passes old found new
-    → old.regex ≡ first.regex → old.haystack ≡ first.haystack
-    → AreGroupsFound old.regex old.haystack found own
+    → old.sought ≡ first.sought → old.haystack ≡ first.haystack
+    → AreGroupsFound old.sought old.haystack found own
     → GroupsLeadOn first new true (printed ++ line_of own)
 groups_more first old new has printed found own leads passes same there are = record {
   on = λ list groups ahead each.
       let is = subst (λ re. AreGroupsFound re first.haystack found own) same
-      (subst (λ haystack. AreGroupsFound old.regex haystack found own) there are) in
+      (subst (λ haystack. AreGroupsFound old.sought haystack found own) there are) in
       let all = leads.on (found ∷ list) (own ∷ groups)
       (ahead_more old new found list passes ahead) (is, each) in (
         all.0,

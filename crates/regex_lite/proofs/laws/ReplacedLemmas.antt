@@ -134,10 +134,10 @@ whole_matches R template rep re hay limit new is (fixed, after, fixed_is, replac
 pub fixed_text : (R : Type 0) → FixedTextIsTemplate R
 fixed_text R template rep a new other lacks by in_turn =
     let h = chars a.haystack in
-    let same = same_within a.regex h a.limit a.ended by.found in_turn.found by.are_ahead in_turn.are_ahead in
+    let same = same_within a.sought h a.limit a.ended by.found in_turn.found by.are_ahead in_turn.are_ahead in
     by.replaced
     ∙ ap (λ found. replaced_by (template rep) a.haystack 0 (map (found_span h) found)) same
-    ∙ sym (plain_chain template a.regex a.haystack a.limit a.ended 0 in_turn.found in_turn.groups rep other
+    ∙ sym (plain_chain template a.sought a.haystack a.limit a.ended 0 in_turn.found in_turn.groups rep other
     lacks in_turn.are_ahead in_turn.each in_turn.chain)
 
 module _ {R Lent : Type 0} (Fixed : R → Option (List ℕ) → R → Type 0)

@@ -29,7 +29,7 @@ module _ (re : Expression) (haystack : Text) where
 pub ahead_cons : (old new : Ahead) (found : Found) (list : List Found) → Passes old found new
     → AreAhead new list → AreAhead old (found ∷ list)
 ahead_cons old new found list passes are =
-    within_cons old.regex (chars old.haystack) old.limit old.ended found list passes.may_come
+    within_cons old.sought (chars old.haystack) old.limit old.ended found list passes.may_come
     passes.comes (subst (λ a. AreAhead a list) passes.passed are)
 
 -- so it was before the first of those that are ahead now
@@ -40,7 +40,7 @@ first_cons old new found list passes are =
 
 -- at the end none is ahead
 pub ahead_nil : (a : Ahead) → IsOver a → AreAhead a []
-ahead_nil a over = within_nil a.regex (chars a.haystack) a.limit a.ended over
+ahead_nil a over = within_nil a.sought (chars a.haystack) a.limit a.ended over
 
 at_most_left : (limit : Option ℕ) (bytes e : ℕ) → most_left limit bytes (Some e) ≤ (bytes + 1) - e
 at_most_left None bytes e = omega arith
@@ -62,18 +62,18 @@ fewer_left (Some e) bytes span onward inside =
     omega (arith, inside, later)
 
 -- after a match fewer are ahead
-pub fewer_behind : (limit now ended : Option ℕ) (bytes : ℕ) (span : ℕ × ℕ) → limit ≢ Some 0
+pub fewer_after : (limit now ended : Option ℕ) (bytes : ℕ) (span : ℕ × ℕ) → limit ≢ Some 0
     → IsOnward ended span → span.1 ≤ bytes
     → most_left now bytes (Some span.1) < most_left limit bytes ended
-fewer_behind limit now ended bytes span may onward inside =
+fewer_after limit now ended bytes span may onward inside =
     let most = at_most_left now bytes span.1 in
     let all = all_left limit ended bytes may in
     let fewer = fewer_left ended bytes span onward inside in
     omega (arith, most, all, fewer)
 
-pub fewer_ahead : (old new : Scanning) (span : ℕ × ℕ) → old.limit ≢ Some 0
+pub fewer_ahead : {F : Type 0} (old new : Scanning F) (span : ℕ × ℕ) → old.limit ≢ Some 0
     → new.haystack ≡ old.haystack → new.ended ≡ Some span.1 → IsOnward old.ended span
     → span.1 ≤ length old.haystack → most_ahead new < most_ahead old
 fewer_ahead old new span may same ended onward inside =
     rw (same, ended)
-    (fewer_behind old.limit new.limit old.ended (length old.haystack) span may onward inside)
+    (fewer_after old.limit new.limit old.ended (length old.haystack) span may onward inside)

@@ -4,10 +4,12 @@ use Rattle.std.specs.Cow.{IsOwnedStr, cow_str_bytes}
 use Rattle.std.specs.declared.borrow.CowStr.{CowStr}
 use Rattle.std.proofs.lemmas.Result.{IfOk-weaker}
 use Rattle.std.proofs.lemmas.Str.{chars-nil}
+use Rattle.regex_lite_syntax.specs.Text.{Text}
 use Rattle.regex_lite_engine.specs.Search.Answer.{Found, HasMatchFrom}
 use Rattle.regex_lite_engine.specs.Search.Offsets.{search_start}
+use Rattle.regex_lite.specs.Answers.{AreLawful}
 use Rattle.regex_lite.specs.Expression.{Expression}
-use Rattle.regex_lite.specs.Ahead.{Ahead, IsOver, Passes, whole}
+use Rattle.regex_lite.specs.Ahead.{Ahead, AheadOf, IsOver, NoneIsAhead, Passes, PassesAnswer, whole}
 use Rattle.regex_lite.specs.MatchList.{IsAnswerOf}
 use Rattle.regex_lite.specs.Replacements.{limit_of}
 use Rattle.regex_lite.specs.Searches.{MatchesFrom}
@@ -17,14 +19,19 @@ use Rattle.regex_lite.proofs.string.OneTreeLemmas.{one_tree}
 use Rattle.regex_lite.proofs.string.ToldLemmas.{not_there}
 
 -- a haystack of which a match was passed wasn't over
-pub not_over : (start : Ahead) (found : Found) (new : Ahead) → Passes start found new
-    → IsOver start → ⊥
-not_over start found new passes (inl none_left) = passes.may_come none_left
-not_over start found new passes (inr none) =
-    not_there (one_next (λ own. own) (chars start.haystack)
-    (IsAnswerOf start.regex (chars start.haystack))
-    (regex_lawful start.regex (chars start.haystack)) start.ended None (Some found) none
-    passes.comes)
+module _ {S A : Type 0} (found_of : A → Found)
+    (IsAnswerTo : S → Text → (s : ℕ) → Option A → Type 0)
+    (lawful : (own : S) (haystack : Text) → AreLawful found_of haystack (IsAnswerTo own haystack))
+    where
+  pub not_over : (start : AheadOf S) (answer : A) (new : AheadOf S)
+      → PassesAnswer found_of IsAnswerTo start answer new
+      → NoneIsAhead found_of IsAnswerTo start → ⊥
+  not_over start answer new passes (inl none_left) = passes.may_come none_left
+  not_over start answer new passes (inr none) =
+      not_there (one_next found_of (chars start.haystack)
+      (IsAnswerTo start.sought (chars start.haystack))
+      (lawful start.sought (chars start.haystack)) start.ended None (Some answer) none
+      passes.comes)
 
 -- a replacement either passed a match, or nothing was made and all is still ahead
 abbrev pub IsBegun : (start a : Ahead) → (made : List ℕ) → (ended : Option ℕ) → Type 0
@@ -38,7 +45,7 @@ begun_on start old new made more (Some e) now end found begins begun passes is =
     subst (IsBegun start new more) (sym is) begun
 begun_on start old new made more None now end found begins begun passes is =
     subst (IsBegun start new more) (sym is)
-    (not_over start found new (subst (λ a. Passes a found new) begun.0 passes))
+    (not_over (λ own. own) IsAnswerOf regex_lawful start found new (subst (λ a. Passes a found new) begun.0 passes))
 
 -- the new text: the haystack itself where nothing was passed, and else the text that was made with
 -- the rest of the haystack

@@ -1,5 +1,5 @@
 -- The answers of a regex, and of a list of patterns, are lawful.
-use Rattle.std.proofs.Common.{◌≡◌, ◌≤◌, ◌<◌, ℕ, List, length, Option, None, chars, subst, arith}
+use Rattle.std.proofs.Common.{◌≡◌, ◌≤◌, ℕ, List, Option, chars, subst, arith}
 use Rattle.regex_lite_syntax.specs.Text.{Text}
 use Rattle.regex_lite_syntax.specs.Tree.{Tree}
 use Rattle.regex_lite_engine.specs.WayLaws.{IsPatternTree}
@@ -29,14 +29,6 @@ found_within tree haystack s found given is =
       inside = walk_inside haystack (place_of_pattern tree) is.way (start_address, found.start)
           (end_address, found.end) is.most_preferred.is_way.0 is.inside;
     }
-
--- after the haystack's end nothing is found
-none_behind : (tree : Tree) (haystack : Text) (s : ℕ) → length haystack < s
-    → IsAnswer tree haystack s None
-none_behind tree haystack s over (i, j, m) =
-    let from = m.from in
-    let inside = m.inside in
-    absurd (omega (arith, from, inside, over))
 
 -- an answer from s is also the answer from any position up to its start
 pub answer_from : (tree : Tree) (haystack : Text) (s p : ℕ) (found : Found) → s ≤ p
@@ -68,8 +60,6 @@ regex_lawful re haystack = record {
       found_within tree haystack s found (re.flags, _, given) is;
   further = λ s p found later before (tree, given, is).
       (tree, given, answer_from tree haystack s p found later before is);
-  none_behind = λ s p found (tree, given, is) over.
-      (tree, given, none_behind tree haystack p over);
   one = one_of re haystack;
 }
 
@@ -93,8 +83,6 @@ list_lawful trees haystack given = record {
     lowest = is.lowest;
     answer = is.answer;
   };
-  none_behind = λ s p answer is over (number, tree, there, (i, j, m)).
-      absurd (omega (arith, m.from, m.inside, over));
   one = λ s. one_list_answer trees haystack
       (λ k tree there. regular_tree tree (given k tree there)) s;
 }
@@ -109,11 +97,6 @@ patterns_lawful list haystack = record {
     trees,
     given,
     (list_lawful trees haystack (pattern_tree list trees given)).further s p answer later before is,
-  );
-  none_behind = λ s p answer (trees, given, is) over. (
-    trees,
-    given,
-    (list_lawful trees haystack (pattern_tree list trees given)).none_behind s p answer is over,
   );
   one = λ s a b (trees, given, is) (other, given_too, is_too).
       (list_lawful trees haystack (pattern_tree list trees given)).one s a b is

@@ -16,14 +16,12 @@ use Rattle.regex_lite_engine.proofs.laws.PatternTreeLemmas.{regular_tree}
 use Rattle.regex_lite_engine.proofs.laws.several.ListAnswerLemmas.{list_answers}
 use Rattle.regex_lite.specs.declared.string.list.compiled.CompiledList.{CompiledList}
 use Rattle.regex_lite.specs.declared.string.matches.Match.{Match}
-use Rattle.regex_lite.specs.Answers.{TellsOfAnswer}
 use Rattle.regex_lite.specs.Compiled.{NamesGroups, groups_of, names_of}
 use Rattle.regex_lite.specs.CompiledList.{IsBuiltList, groups_at}
 use Rattle.regex_lite.specs.Expression.{Expression}
 use Rattle.regex_lite.specs.Groups.{AreGroups, Groups, LiesIn}
 use Rattle.regex_lite.specs.ListAhead.{AreGroupsFoundInList}
-use Rattle.regex_lite.specs.ListScanning.{IsListMatchWithSlots, SearchesForList, most_captures}
-use Rattle.regex_lite.specs.MatchList.{IsAnswerOfPatterns}
+use Rattle.regex_lite.specs.Scanning.{SearchesForList, TellsListSpan, most_captures}
 use Rattle.regex_lite.specs.MatchViews.{haystack_of_match, span_of_match}
 use Rattle.regex_lite.specs.RegexList.{AreTrees, OfTrees}
 use Rattle.regex_lite.specs.RegexListSearches.{AnyMatches, AreOfPattern, TellsAnswerOfList, TellsGroupsOfList, TellsMatchOfList}
@@ -82,6 +80,18 @@ pub span_of_list : (list : List Expression) (searcher : ListSearching) (bytes : 
 span_of_list list searcher bytes start slots told (trees, given, (regular, is_graph)) tells =
     (trees, given, tells trees regular is_graph)
 
+-- its span is told with its slots
+pub list_span_told : (bytes : List ℕ) (start : ℕ) (list : List Expression)
+    (kept : List (Option ℕ)) (told : Option (ℕ × (ℕ × ℕ)))
+    → OfTrees list (λ trees. IsSpanOutcomeOfList trees bytes start kept told)
+    → TellsListSpan list bytes start kept told
+list_span_told bytes start list kept None own = own
+list_span_told bytes start list kept (Some told) (trees, given, (found, answer, tells)) = (
+  (told.0, found),
+  (trees, given, answer),
+  record { number = refl; span = same_pair tells.start tells.end; has_slots = tells.slots },
+)
+
 -- as many slots are kept as were asked for
 pub kept_width : (told : Option (ℕ × Outcome)) (number : ℕ) (outcome : Outcome) (n : ℕ)
     → IfSome told (λ found. length found.1.slots.items ≡ n) → told ≡ Some (number, outcome)
@@ -126,21 +136,6 @@ module _ (bytes : List ℕ) (utf8 : IsUtf8 bytes) (start : ℕ) (list : List Exp
         span = is ∙ sym span_is;
       },
     ),
-  )
-
-  -- with its slots
-  pub list_match_with_slots_told : (m : Match) → haystack_of_match m ≡ bytes
-      → span_of_match m ≡ span
-      → TellsOfAnswer (IsAnswerOfPatterns list (chars bytes)) (IsListMatchWithSlots bytes kept)
-      (search_start bytes start) (Some (number, m))
-  list_match_with_slots_told m haystack is = (
-    (number, found),
-    (trees, given, answer),
-    record {
-      number = refl;
-      is_match = record { haystack = haystack; span = is ∙ sym span_is };
-      has_slots = own.2.slots;
-    },
   )
 
 -- what is stored of the groups of a pattern is so of its tree

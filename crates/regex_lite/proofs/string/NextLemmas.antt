@@ -8,13 +8,14 @@ use Rattle.regex_lite_engine.specs.Search.Answer.{Found}
 use Rattle.regex_lite_engine.specs.Search.Offsets.{offset, position_at, search_start}
 use Rattle.regex_lite_engine.proofs.OffsetLemmas.{offset_less}
 use Rattle.regex_lite_engine.proofs.PositionLemmas.{first_position, position_is, position_of, start_position}
+use Rattle.regex_lite.specs.declared.string.matches.Match.{Match}
 use Rattle.regex_lite.specs.Ahead.{IsOnward}
 use Rattle.regex_lite.specs.Answers.{AreLawful, IsEmptyAnswerFrom, IsWithin, TellsOfAnswer}
-use Rattle.regex_lite.specs.ListScanning.{IsListMatchWithSlots, span_of_listed}
+use Rattle.regex_lite.specs.Groups.{LiesIn}
 use Rattle.regex_lite.specs.MatchList.{IsNextAnswer, is_empty_answer}
-use Rattle.regex_lite.specs.MatchViews.{span_of_match}
-use Rattle.regex_lite.specs.NextMatch.{IsNextOffset, TellsNext}
-use Rattle.regex_lite.specs.Scanning.{IsMatchWithSlots}
+use Rattle.regex_lite.specs.MatchViews.{haystack_of_match, span_of_match}
+use Rattle.regex_lite.specs.NextMatch.{IsNextOffset, TellsNextMatch}
+use Rattle.regex_lite.specs.Scanning.{IsMatchWithSlots, IsSpanWithSlots}
 use Rattle.regex_lite.specs.Searches.{offsets}
 use Rattle.regex_lite.proofs.string.FoundLemmas.{positions_lie}
 
@@ -22,38 +23,55 @@ use Rattle.regex_lite.proofs.string.FoundLemmas.{positions_lie}
 abbrev pub span_of_found : Text → Found → ℕ × ℕ
 span_of_found haystack found = offsets haystack (found.start, found.end)
 
--- what this says of an answer has the span of what was found
-abbrev pub HasItsSpan : {A T : Type 0} → (found_of : A → Found) → (says : A → T → Type 0)
-    → (span : T → ℕ × ℕ) → Text → Type 0
-HasItsSpan {A} {T} found_of says span haystack =
-    (answer : A) (told : T) → says answer told
-    → span told ≡ span_of_found haystack (found_of answer)
-
-module _ {A T : Type 0} (found_of : A → Found) (bytes : List ℕ)
+module _ {A N : Type 0} (found_of : A → Found) (number_of : A → N) (bytes : List ℕ)
     (Answers : (s : ℕ) → Option A → Type 0) (lawful : AreLawful found_of (chars bytes) Answers)
-    (says : A → T → Type 0) (span : T → ℕ × ℕ)
-    (meant : HasItsSpan found_of says span (chars bytes)) (utf8 : IsUtf8 bytes) where
-  abbrev Told : (s : ℕ) → Option T → Type 0
-  Told s told = TellsOfAnswer Answers says s told
+    (slots : List (Option ℕ)) (utf8 : IsUtf8 bytes) where
+  abbrev Told : (s : ℕ) → Option (N × Match) → Type 0
+  Told s told =
+      TellsOfAnswer Answers (IsMatchWithSlots found_of number_of bytes slots) s told
 
   abbrev Next : (ended : Option ℕ) → Option A → Type 0
   Next ended answer = IsNextAnswer found_of Answers (option_map (position_at bytes) ended) answer
 
-  abbrev Tells : (ended : Option ℕ) → Option T → Type 0
-  Tells ended told = TellsNext found_of Answers says span bytes ended told
+  abbrev Tells : (ended : Option ℕ) → Option (N × Match) → Type 0
+  Tells ended told = TellsNextMatch found_of number_of Answers bytes ended slots told
 
   abbrev Empty : (at : ℕ) → Type 0
   Empty at = IsEmptyAnswerFrom found_of Answers bytes at
 
+  -- what is told lies in the haystack
+  pub span_lies : (s : ℕ) (told : N × (ℕ × ℕ))
+      → TellsOfAnswer Answers (IsSpanWithSlots found_of number_of bytes slots) s (Some told)
+      → LiesIn bytes told.1
+  span_lies s told (answer, is, of) =
+      let within = lawful.within s answer is in
+      subst (LiesIn bytes) (sym of.span)
+      (positions_lie bytes (found_of answer).start (found_of answer).end utf8 within.ordered
+      within.inside)
+
+  -- and the match there is told
+  pub match_told : (s : ℕ) (told : N × (ℕ × ℕ)) (m : Match)
+      → TellsOfAnswer Answers (IsSpanWithSlots found_of number_of bytes slots) s (Some told)
+      → haystack_of_match m ≡ bytes → span_of_match m ≡ told.1 → Told s (Some (told.0, m))
+  match_told s told m (answer, is, of) haystack span = (
+    answer,
+    is,
+    record {
+      number = of.number;
+      is_match = record { haystack = haystack; span = span ∙ of.span };
+      has_slots = of.has_slots;
+    },
+  )
+
   -- the answer of a search is what comes next, where it is told
-  told_next : (s : ℕ) (ended : Option ℕ) (told : Option T) → Told s told
+  told_next : (s : ℕ) (ended : Option ℕ) (told : Option (N × Match)) → Told s told
       → ((answer : Option A) → Answers s answer → Next ended answer)
       → ((found : Found) → IsWithin (chars bytes) s found
       → IsOnward ended (span_of_found (chars bytes) found))
       → Tells ended told
   told_next s ended None none next onward = next None none
   told_next s ended (Some told) (answer, is, of) next onward =
-      let same = meant answer told of in
+      let same = of.is_match.span in
       let within = lawful.within s answer is in
       let end : ℕ = (found_of answer).end in
       let end_is = position_of bytes utf8 end (offset (chars bytes) end) (within.inside, refl) in (
@@ -64,13 +82,13 @@ module _ {A T : Type 0} (found_of : A → Found) (bytes : List ℕ)
         subst (IsOnward ended) (sym same) (onward (found_of answer) within),
       )
 
-  at_start : (at : ℕ) (told : Option T) → IsCharBoundary bytes at
+  at_start : (at : ℕ) (told : Option (N × Match)) → IsCharBoundary bytes at
       → Told (search_start bytes at) told → Told (position_at bytes at) told
   at_start at told edge tells = subst (λ s. Told s told) (start_position bytes at edge) tells
 
   -- the first match
-  pub first_told : (told : Option T) → IsCharBoundary bytes 0 → Told (search_start bytes 0) told
-      → Tells None told
+  pub first_told : (told : Option (N × Match)) → IsCharBoundary bytes 0
+      → Told (search_start bytes 0) told → Tells None told
   first_told told edge tells =
       told_next 0 None told (subst (λ s. Told s told) (first_position bytes) (at_start 0 told edge tells))
       (λ answer is. is) (λ found within. tt)
@@ -79,9 +97,9 @@ module _ {A T : Type 0} (found_of : A → Found) (bytes : List ℕ)
     abbrev p : ℕ
     p = position_at bytes at
 
-    starts_behind : (found : Found) → IsWithin (chars bytes) p found
+    starts_after : (found : Found) → IsWithin (chars bytes) p found
         → at ≤ offset (chars bytes) found.start
-    starts_behind found within =
+    starts_after found within =
         let lie = positions_lie bytes p found.start utf8 within.from
         (omega (arith, within.ordered, within.inside)) in
         let own = position_is bytes at utf8 edge in
@@ -124,18 +142,18 @@ module _ {A T : Type 0} (found_of : A → Found) (bytes : List ℕ)
     none_told tells = (None, at_start at None edge tells, refl)
 
     -- a match that ends later comes next
-    pub later_told : (told : T) → Told (search_start bytes at) (Some told) → at < (span told).1
-        → Tells (Some at) (Some told)
+    pub later_told : (told : N × Match) → Told (search_start bytes at) (Some told)
+        → at < (span_of_match told.1).1 → Tells (Some at) (Some told)
     later_told told tells later = each (at_start at (Some told) edge tells)
       where
         each : Told p (Some told) → Tells (Some at) (Some told)
         each (answer, is, of) =
-            let same = meant answer told of in
+            let same = of.is_match.span in
             let within = lawful.within p answer is in
             let to : ℕ = (found_of answer).end in
             let end = ap (λ (own : ℕ × ℕ). own.1) same in
             let start = ap (λ (own : ℕ × ℕ). own.0) same in
-            let from = starts_behind (found_of answer) within in
+            let from = starts_after (found_of answer) within in
             let kept = ends_later answer (omega (arith, end, later)) in (
               answer,
               (
@@ -151,59 +169,51 @@ module _ {A T : Type 0} (found_of : A → Found) (bytes : List ℕ)
             )
 
     -- one that ends no later is empty there
-    pub empty_told : (told : T) → Told (search_start bytes at) (Some told) → (span told).1 ≤ at
-        → Empty at
+    pub empty_told : (told : N × Match) → Told (search_start bytes at) (Some told)
+        → (span_of_match told.1).1 ≤ at → Empty at
     empty_told told tells early = each (at_start at (Some told) edge tells)
       where
         each : Told p (Some told) → Empty at
         each (answer, is, of) =
             let within = lawful.within p answer is in
-            let end = ap (λ (own : ℕ × ℕ). own.1) (meant answer told of) in
+            let end = ap (λ (own : ℕ × ℕ). own.1) of.is_match.span in
             (answer, is, ends_there answer within (omega (arith, end, early)))
 
     -- and passed over
     passed : (answer : Option A) → Empty at → Answers (suc p) answer → Next (Some at) answer
-    passed answer (own, there, empty) behind = (
+    passed answer (own, there, empty) after_it = (
       Some own,
       there,
-      subst (λ e. MatchBool e (Answers (suc p) answer) (answer ≡ Some own)) (sym empty) behind,
+      subst (λ e. MatchBool e (Answers (suc p) answer) (answer ≡ Some own)) (sym empty) after_it,
     )
 
     -- then the search goes on from the next position
-    pub behind_told : (next : ℕ) (further : Option T) → Empty at
-        → IsNextOffset bytes at (Some next) → Told (search_start bytes next) further
+    pub after_told : (next : ℕ) (further : Option (N × Match)) → Empty at
+        → IsNextOffset bytes at next → Told (search_start bytes next) further
         → Tells (Some at) further
-    behind_told next further empty (edge_too, next_is, less) tells_further =
+    after_told next further empty goes_on tells_further =
         told_next (suc p) (Some at) further
-        (subst (λ s. Told s further) next_is (at_start next further edge_too tells_further))
+        (subst (λ s. Told s further) goes_on.starts tells_further)
         (λ answer is. passed answer empty is)
         onward
       where
         onward : (found : Found) → IsWithin (chars bytes) (suc p) found
             → IsOnward (Some at) (span_of_found (chars bytes) found)
         onward found within =
-            let own = (position_is bytes next utf8 edge_too).1 in
-            let same = ap (offset (chars bytes)) next_is in
-            let first = positions_lie bytes (suc p) found.start utf8 within.from
+            let own = (position_is bytes at utf8 edge).1 in
+            let later = offset_less (chars bytes) p found.start (omega (arith, within.from))
             (omega (arith, within.ordered, within.inside)) in
             let last = positions_lie bytes found.start found.end utf8 within.ordered within.inside in
-            let from = first.ordered in
             let to = last.ordered in
-            (omega (arith, own, same, from, less), omega (arith, own, same, from, to, less))
-
-    -- and finds nothing after the end
-    pub over_told : Empty at → IsNextOffset bytes at None → Tells (Some at) None
-    over_told empty last =
-        passed None empty
-        (lawful.none_behind p (suc p) (Some empty.0) empty.1 (omega (arith, last)))
+            (omega (arith, own, later), omega (arith, own, later, to))
 
 -- what comes next is the answer of a search from there or later
 module _ {A : Type 0} (found_of : A → Found) (Answers : (s : ℕ) → Option A → Type 0) where
-  answer_behind : (e : ℕ) (answer : A) (from_end : Option A) (empty : Bool) → Answers e from_end
+  answer_after : (e : ℕ) (answer : A) (from_end : Option A) (empty : Bool) → Answers e from_end
       → MatchBool empty (Answers (suc e) (Some answer)) (Some answer ≡ from_end)
       → (s : ℕ) × Answers s (Some answer) × (e ≤ s)
-  answer_behind e answer from_end true there next = (suc e, next, omega arith)
-  answer_behind e answer from_end false there next =
+  answer_after e answer from_end true there next = (suc e, next, omega arith)
+  answer_after e answer from_end false there next =
       (e, subst (Answers e) (sym next) there, omega arith)
 
   pub next_answer : (ended : Option ℕ) (answer : A)
@@ -211,14 +221,4 @@ module _ {A : Type 0} (found_of : A → Found) (Answers : (s : ℕ) → Option A
       → (s : ℕ) × Answers s (Some answer) × (unwrap_or ended 0 ≤ s)
   next_answer None answer is = (0, is, omega arith)
   next_answer (Some e) answer (from_end, there, next) =
-      answer_behind e answer from_end (is_empty_answer found_of e from_end) there next
-
--- a match has the span of what is found, whatever found it
-pub match_meant : (bytes : List ℕ) (slots : List (Option ℕ))
-    → HasItsSpan (λ (own : Found). own) (IsMatchWithSlots bytes slots) span_of_match (chars bytes)
-match_meant bytes slots found m is = is.is_match.span
-
-pub list_match_meant : (bytes : List ℕ) (slots : List (Option ℕ))
-    → HasItsSpan (λ (own : ℕ × Found). own.1) (IsListMatchWithSlots bytes slots) span_of_listed
-    (chars bytes)
-list_match_meant bytes slots answer told is = is.is_match.span
+      answer_after e answer from_end (is_empty_answer found_of e from_end) there next

@@ -55,11 +55,11 @@ module _ {R : Type 0} (Fixed : R → Option (List ℕ) → R → Type 0)
   pub record ContinuesInTurn (first : R) (start a : Ahead) (rep : R) (from : ℕ) (made : List ℕ)
       : Type 0 where
     pub on : (found : List Found) (groups : List Groups) (rest : List ℕ) → AreAhead a found
-        → AreGroupsOfEach start.regex start.haystack found groups
+        → AreGroupsOfEach start.sought start.haystack found groups
         → IsChain Fixed Appends start.haystack rep from groups rest
         → IsReplacedInTurn Fixed Appends first start (made ++ rest)
     pub refuses : (found : List Found) (groups : List Groups) (error : Error)
-        → AreFirstAhead a found → AreGroupsOfEach start.regex start.haystack found groups
+        → AreFirstAhead a found → AreGroupsOfEach start.sought start.haystack found groups
         → IsRefusedAt Fixed Appends rep groups error → IsRefused Fixed Appends first start error
 
   pub in_turn_at_start : (first : R) (start : Ahead) → ContinuesInTurn first start start first 0 []
@@ -73,7 +73,7 @@ module _ {R : Type 0} (Fixed : R → Option (List ℕ) → R → Type 0)
   pub in_turn_passed : (first : R) (start old new : Ahead) (rep after : R) (found : Found)
       (groups : Groups) (from to : ℕ) (made text written : List ℕ)
       → ContinuesInTurn first start old rep from made → Passes old found new
-      → AreGroupsFound start.regex start.haystack found groups → Appends rep groups text (Ok tt) after
+      → AreGroupsFound start.sought start.haystack found groups → Appends rep groups text (Ok tt) after
       → to ≡ (whole_span groups).1
       → written ≡ (made ++ slice_range start.haystack from (whole_span groups).0) ++ text
       → ContinuesInTurn first start new after to written
@@ -102,7 +102,7 @@ module _ {R : Type 0} (Fixed : R → Option (List ℕ) → R → Type 0)
   pub in_turn_refused : (first : R) (start old new : Ahead) (rep after : R) (found : Found)
       (groups : Groups) (from : ℕ) (made text : List ℕ) (error : Error)
       → ContinuesInTurn first start old rep from made → Passes old found new
-      → AreGroupsFound start.regex start.haystack found groups
+      → AreGroupsFound start.sought start.haystack found groups
       → Appends rep groups text (Err error) after → IsRefused Fixed Appends first start error
   in_turn_refused first start old new rep after found groups from made text error so_far passes are asked =
       so_far.refuses (found ∷ []) (groups ∷ []) error (first_cons old new found [] passes tt)

@@ -3,35 +3,34 @@
 use Rattle.std.proofs.Common.{◌≡◌, ◌<◌, ◌⊎◌, inl, inr, refl, ◌∙◌, ℕ, List, length, Option, Some, chars, IsUtf8, unwrap_or, sym, ap, subst, arith}
 use Rattle.std.proofs.lemmas.Bool.{cases_order}
 use Rattle.std.proofs.lemmas.Bool.Decides.{nat_tests}
+use Rattle.regex_lite_syntax.specs.Text.{Text}
 use Rattle.regex_lite_syntax.specs.Tree.{Tree}
 use Rattle.regex_lite_syntax.specs.Tree.Properties.{captures_len}
 use Rattle.regex_lite_engine.specs.Graph.StoredList.{StoredGroups}
 use Rattle.regex_lite_engine.specs.Search.Answer.{Found, IsFound}
-use Rattle.regex_lite_engine.specs.Search.Offsets.{offset, position_at, search_start}
+use Rattle.regex_lite_engine.specs.Search.Offsets.{offset, position_at}
 use Rattle.regex_lite_engine.proofs.OffsetLemmas.{offset_less}
 use Rattle.regex_lite_engine.proofs.PositionLemmas.{position_of}
 use Rattle.regex_lite.specs.declared.string.matches.Match.{Match}
-use Rattle.regex_lite.specs.Ahead.{Ahead, AreGroupsFound, IsOnward, IsOver, Passes, ahead}
+use Rattle.regex_lite.specs.Ahead.{AheadOf, AreGroupsFound, Came, IsOnward, PassesAnswer, ahead_by}
 use Rattle.regex_lite.specs.Answers.{AreLawful, IsEmptyAnswerFrom, IsWithin}
 use Rattle.regex_lite.specs.Compiled.{AreOfRegex, SharesGroups, groups_of}
 use Rattle.regex_lite.specs.Expression.{Expression}
 use Rattle.regex_lite.specs.Groups.{Groups, AreGroups, span_at, whole_span}
 use Rattle.regex_lite.specs.MatchList.{IsAnswerOf}
 use Rattle.regex_lite.specs.MatchViews.{span_of_match}
-use Rattle.regex_lite.specs.Scanning.{HasSlotsForGroups, IsAnswerIfEmpty, IsMatchOfSearch, IsMatchWithSlots, Scanning, TellsMatchWithSlots}
+use Rattle.regex_lite.specs.Scanning.{HasSlotsForGroups, IsMatchOfRegex, IsMatchOfSearch, Scanning}
 use Rattle.regex_lite.specs.Searches.{IsMatchOf, offsets}
 use Rattle.regex_lite.specs.Slots.{all_slots, kept_slots}
-use Rattle.regex_lite.proofs.string.AnsweredLemmas.{not_over}
 use Rattle.regex_lite.proofs.string.CapturedLemmas.{AreAllSlots, all_told, captured, captured_of}
 use Rattle.regex_lite.proofs.string.FoundLemmas.{group_0}
-use Rattle.regex_lite.proofs.string.LawfulLemmas.{regex_lawful}
 use Rattle.regex_lite.proofs.string.NextLemmas.{next_answer}
 use Rattle.regex_lite.proofs.string.OneTreeLemmas.{one_tree}
 
 module _ (bytes : List ℕ) (utf8 : IsUtf8 bytes) (re : Expression) (kept slots : List (Option ℕ))
     (room : HasSlotsForGroups re kept) (shared : StoredGroups) (shares : SharesGroups re shared)
     (found : Found) (m : Match) (filled : slots ≡ all_slots kept (span_of_match m))
-    (last : IsMatchOfSearch re bytes kept found m) where
+    (last : IsMatchOfRegex re bytes kept found m) where
   abbrev tree : Tree
   tree = shares.0
 
@@ -82,47 +81,48 @@ whole_of_groups re bytes s found groups (tree, given, is) (own, given_too, are) 
     (subst (λ t. IsFound t (chars bytes) s found)
     (one_tree re.flags (chars re.pattern) tree own given given_too) is) (omega arith))
 
--- a match came, and its slots are kept
-abbrev pub Came : (old : Scanning) → Match → (new : Scanning) → Type 0
-Came old m new =
-    (found : Found) × IsMatchWithSlots old.haystack new.slots found m
-    × IsOnward old.ended (span_of_match m) × (new.ended ≡ Some (span_of_match m).1)
-    × Passes (ahead old) found (ahead new)
+-- a match came, whatever found it
+module _ {F S A N : Type 0} (sought : F → S) (slots : F → List (Option ℕ)) (found_of : A → Found)
+    (number_of : A → N) (IsAnswerTo : S → Text → (s : ℕ) → Option A → Type 0)
+    (old new : Scanning F) (told : N × Match)
+    (came : Came sought slots found_of number_of IsAnswerTo old told new) where
+  same_sought : sought new.finder ≡ sought old.finder
+  same_sought = ap (λ (a : AheadOf S). a.sought) came.4.passed
 
--- it is the last match, with these slots
-pub last_match : (old new : Scanning) (m : Match) (came : Came old m new)
-    → IsMatchOfSearch new.regex new.haystack new.slots came.0 m
-last_match old new m (found, is, onward, ended, passes) =
-    let answer = next_answer (λ own. own) (IsAnswerOf old.regex (chars old.haystack)) (ahead old).ended found passes.comes in
-    let regex : new.regex ≡ old.regex = ap (λ (a : Ahead). a.regex) passes.passed in
-    let haystack : new.haystack ≡ old.haystack = ap (λ (a : Ahead). a.haystack) passes.passed in
-    rw (regex, haystack) (answer.0, answer.1, is)
+  -- some search answered it
+  answered : (s : ℕ) × IsAnswerTo (sought old.finder) (chars old.haystack) s (Some came.0)
+  answered =
+      let own = next_answer found_of (IsAnswerTo (sought old.finder) (chars old.haystack))
+      (ahead_by sought old).ended came.0 came.4.comes in
+      (own.0, own.1)
 
--- where a match came, one was ahead
-pub was_not_over : (old new : Scanning) (m : Match) → Came old m new → IsOver (ahead old) → ⊥
-was_not_over old new m (found, is, onward, ended, passes) =
-    not_over (ahead old) found (ahead new) passes
+  -- it is the last match, with these slots
+  pub last_match : IsMatchOfSearch found_of number_of
+      (IsAnswerTo (sought new.finder) (chars old.haystack)) old.haystack (slots new.finder) came.0
+      told
+  last_match = rw (same_sought) (answered.0, answered.1, came.1)
 
--- and its groups came with it
-pub groups_came : (old new : Scanning) (m : Match) (came : Came old m new) (groups : Groups)
-    → AreGroupsFound new.regex new.haystack came.0 groups
-    → (found : Found) × AreGroupsFound old.regex old.haystack found groups
-    × IsOnward old.ended (whole_span groups) × (new.ended ≡ Some (whole_span groups).1)
-    × Passes (ahead old) found (ahead new)
-groups_came old new m (found, is, onward, ended, passes) groups are =
-    let passed = passes.passed in
-    let answer = next_answer (λ own. own) (IsAnswerOf old.regex (chars old.haystack)) (ahead old).ended found passes.comes in
-    let there : AreGroupsFound old.regex old.haystack found groups =
-    subst (λ re. AreGroupsFound re old.haystack found groups) (ap (λ (a : Ahead). a.regex) passed)
-    (subst (λ bytes. AreGroupsFound new.regex bytes found groups) (ap (λ (a : Ahead). a.haystack) passed) are) in
-    let span : span_of_match m ≡ whole_span groups =
-    is.is_match.span ∙ sym (whole_of_groups old.regex old.haystack answer.0 found groups answer.1 there) in (
-      found,
-      there,
-      subst (IsOnward old.ended) span onward,
-      ended ∙ ap (λ (own : ℕ × ℕ). Some own.1) span,
-      passes,
-    )
+  -- its groups came with it, where the groups of what is found have its span
+  module _ (AreFound : S → (haystack : List ℕ) → A → Groups → Type 0)
+      (whole_is : (own : S) (bytes : List ℕ) (s : ℕ) (answer : A) (groups : Groups)
+      → IsAnswerTo own (chars bytes) s (Some answer) → AreFound own bytes answer groups
+      → whole_span groups
+      ≡ offsets (chars bytes) ((found_of answer).start, (found_of answer).end)) where
+    pub groups_came : (groups : Groups) → AreFound (sought new.finder) old.haystack came.0 groups
+        → AreFound (sought old.finder) old.haystack came.0 groups
+        × IsOnward old.ended (whole_span groups) × (new.ended ≡ Some (whole_span groups).1)
+        × PassesAnswer found_of IsAnswerTo (ahead_by sought old) came.0 (ahead_by sought new)
+    groups_came groups are =
+        let there : AreFound (sought old.finder) old.haystack came.0 groups =
+        subst (λ own. AreFound own old.haystack came.0 groups) same_sought are in
+        let span : span_of_match told.1 ≡ whole_span groups =
+        came.1.is_match.span ∙ sym (whole_is (sought old.finder) old.haystack answered.0 came.0
+        groups answered.1 there) in (
+          there,
+          subst (IsOnward old.ended) span came.2,
+          came.3 ∙ ap (λ (own : ℕ × ℕ). Some own.1) span,
+          came.4,
+        )
 
 -- an empty match is the answer from its end
 module _ {A : Type 0} (found_of : A → Found) (bytes : List ℕ) (utf8 : IsUtf8 bytes)
@@ -168,10 +168,3 @@ module _ {A : Type 0} (found_of : A → Found) (bytes : List ℕ) (utf8 : IsUtf8
             (omega (arith, within.from, within.ordered)) (omega (arith, one)) is),
         grind (arith, nat_tests, at, one),
       )
-
-pub answer_if_empty : (re : Expression) (bytes : List ℕ) (utf8 : IsUtf8 bytes) (start : ℕ)
-    (slots : List (Option ℕ)) (m : Match) → TellsMatchWithSlots re bytes start slots (Some m)
-    → IsAnswerIfEmpty re bytes (Some m)
-answer_if_empty re bytes utf8 start slots m (found, is, of) =
-    empty_from (λ own. own) bytes utf8 (IsAnswerOf re (chars bytes))
-    (regex_lawful re (chars bytes)) (search_start bytes start) found is m of.is_match

@@ -18,7 +18,7 @@ use Rattle.regex_lite.specs.Compiled.{IsBuilt, SearchesFor, groups_of, stored_gr
 use Rattle.regex_lite.specs.Expression.{Expression, OfTree}
 use Rattle.regex_lite.specs.Groups.{Groups, AreGroups, LiesIn, group_span, span_at}
 use Rattle.regex_lite.specs.MatchViews.{haystack_of_match, span_of_match}
-use Rattle.regex_lite.specs.Scanning.{TellsMatchWithSlots}
+use Rattle.regex_lite.specs.Scanning.{TellsSpan}
 use Rattle.regex_lite.specs.Searches.{AreGroupsOf, TellsMatch, TellsGroups, TellsLocations, offsets, spans_from}
 use Rattle.regex_lite.specs.Slots.{all_slots, kept_slots}
 use Rattle.regex_lite.proofs.string.CapturedLemmas.{AreAllSlots, all_told, built_shares, captured, captured_of}
@@ -39,9 +39,9 @@ abbrev pub TellsOutcome : StoredGraph → (bytes : List ℕ) → (start : ℕ) �
 TellsOutcome graph bytes start told =
     (tree : Tree) → IsRegular tree → IsGraphOf tree graph → IsOutcome tree bytes start told
 
-abbrev pub TellsSpan : StoredGraph → (bytes : List ℕ) → (start : ℕ) → (slots : List (Option ℕ))
+abbrev pub TellsSpanOfGraph : StoredGraph → (bytes : List ℕ) → (start : ℕ) → (slots : List (Option ℕ))
     → Option (ℕ × ℕ) → Type 0
-TellsSpan graph bytes start slots told =
+TellsSpanOfGraph graph bytes start slots told =
     (tree : Tree) → IsRegular tree → IsGraphOf tree graph → IsSpanOutcome tree bytes start slots told
 
 -- what is told of a regex's graph is so of its tree
@@ -56,7 +56,7 @@ outcome_of compiled built graph bytes start told outcome same tells is =
 -- and what a searcher tells of the pattern's
 pub span_of : (re : Expression) (searcher : Searching) (bytes : List ℕ) (start : ℕ)
     (slots : List (Option ℕ)) (told : Option (ℕ × ℕ)) → SearchesFor re searcher
-    → TellsSpan searcher.graph bytes start slots told
+    → TellsSpanOfGraph searcher.graph bytes start slots told
     → OfTree re (λ tree. IsSpanOutcome tree bytes start slots told)
 span_of re searcher bytes start slots told (tree, given, (regular, is_graph)) tells =
     (tree, given, tells tree regular is_graph)
@@ -93,15 +93,11 @@ module _ (bytes : List ℕ) (utf8 : IsUtf8 bytes) (start : ℕ) (re : Expression
   )
 
   -- with its slots
-  pub match_with_slots_told : (m : Match) → haystack_of_match m ≡ bytes → span_of_match m ≡ span
-      → TellsMatchWithSlots re bytes start slots (Some m)
-  match_with_slots_told m haystack is = (
+  pub span_told : TellsSpan re bytes start slots (Some (tt {0}, span))
+  span_told = (
     found,
     (own.0, own.1, own.2.1),
-    record {
-      is_match = record { haystack = haystack; span = is ∙ sym span_is };
-      has_slots = own.2.2.slots;
-    },
+    record { number = refl; span = sym span_is; has_slots = own.2.2.slots },
   )
 
   module _ (compiled : Compiled) (built : IsBuilt compiled)

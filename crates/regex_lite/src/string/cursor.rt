@@ -59,7 +59,7 @@ impl<'h> Cursor<'h> {
     }
 
     /// After this match.
-    pub fn behind(self, found: &Match<'h>) -> Cursor<'h>
+    pub fn pass(self, found: &Match<'h>) -> Cursor<'h>
         requires { haystack_of_match found.now ≡ self.haystack.now }
         ensures haystack { result.haystack.now ≡ self.entry.haystack.now }
         ensures ended { result.ended ≡ Some (span_of_match found.now).1 }

@@ -6,6 +6,7 @@ ghost use Rattle.regex_lite.specs.Ahead.{after, ahead_of, whole};
 use crate::string::matches::Match;
 use crate::string::regex::Regex;
 use crate::string::scan::Scan;
+use crate::string::searcher::Searcher;
 use regex_lite_syntax::Error;
 use std::fmt;
 use std::iter::FusedIterator;
@@ -64,8 +65,9 @@ impl Regex {
         ensures begins { IfOk result (λ it. it.scan.ended ≡ ended) }
         ensures refused { IfErr result (λ error. error ≡ out_of_memory) }
     {
+        let searcher = Searcher::new(self, 0, haystack.len())?;
         Ok(Matches {
-            scan: Scan::after(self, haystack, ended, 0)?,
+            scan: Scan::after(searcher, haystack, ended),
         })
     }
 }
@@ -76,7 +78,7 @@ impl Regex {
 /// alone, and outlive the iterator and the regex.
 #[derive(Drop)]
 pub struct Matches<'r, 'h> {
-    pub(super) scan: Scan<'r, 'h>,
+    pub(super) scan: Scan<'h, Searcher<'r>>,
 }
 
 impl<'r, 'h> Matches<'r, 'h> {
@@ -90,8 +92,9 @@ impl<'r, 'h> Matches<'r, 'h> {
         ensures begins { IfOk result (λ it. it.scan.ended ≡ None) }
         ensures refused { IfErr result (λ error. error ≡ out_of_memory) }
     {
+        let searcher = Searcher::new(regex, 0, haystack.len())?;
         Ok(Matches {
-            scan: Scan::new(regex, haystack, limit, 0)?,
+            scan: Scan::new(searcher, haystack, limit),
         })
     }
 }
@@ -106,7 +109,8 @@ impl<'r, 'h> Iterator for Matches<'r, 'h> {
     ghost remaining = { most_matches };
 
     fn next(&mut self) -> Option<Match<'h>> {
-        self.scan.next()
+        let (_, found) = self.scan.next()?;
+        Some(found)
     }
 }
 

@@ -7,6 +7,7 @@ ghost use Rattle.regex_lite.specs.Ahead.{GivesGroupsOf, after, ahead, most_ahead
 use crate::string::captures::Captures;
 use crate::string::regex::Regex;
 use crate::string::scan::Scan;
+use crate::string::searcher::Searcher;
 use regex_lite_syntax::Error;
 use std::fmt;
 use std::marker::Model;
@@ -14,21 +15,22 @@ use std::marker::Model;
 /// A scan whose slots hold all groups of its matches, and groups that were given back to it.
 #[derive(Drop)]
 pub(super) struct GroupScan<'r, 'h> {
-    scan: Scan<'r, 'h>,
+    scan: Scan<'h, Searcher<'r>>,
     spare: Option<Captures<'h>>,
 }
 
 impl<'r, 'h> Model for GroupScan<'r, 'h> {
     ghost use Rattle.std.specs.Prelude.{IfSome};
     ghost use Rattle.regex_lite.specs.Compiled.{AreOfRegex};
-    ghost use Rattle.regex_lite.specs.Scanning.{HasSlotsForGroups, Scanning};
+    ghost use Rattle.regex_lite.specs.Scanning.{HasSlotsForGroups, RegexSearching, Scanning};
 
-    ghost Value = { Scanning };
+    ghost Value = { Scanning RegexSearching };
 
     ghost view = { λ groups. groups.scan };
 
-    ghost invariant = { λ groups. HasSlotsForGroups groups.scan.regex groups.scan.slots
-        × IfSome groups.spare (AreOfRegex groups.scan.regex) };
+    ghost invariant = { λ groups.
+        HasSlotsForGroups groups.scan.finder.regex groups.scan.finder.slots
+        × IfSome groups.spare (AreOfRegex groups.scan.finder.regex) };
 }
 
 impl<'r, 'h> GroupScan<'r, 'h> {
@@ -42,7 +44,8 @@ impl<'r, 'h> GroupScan<'r, 'h> {
         ensures begins { IfOk result (λ scan. scan.ended ≡ None) }
         ensures refused { IfErr result (λ error. error ≡ out_of_memory) }
     {
-        let scan = Scan::new(regex, haystack, limit, regex.kept_slots())?;
+        let searcher = Searcher::new(regex, regex.kept_slots(), haystack.len())?;
+        let scan = Scan::new(searcher, haystack, limit);
         Ok(GroupScan { scan, spare: None })
     }
 
@@ -57,7 +60,8 @@ impl<'r, 'h> GroupScan<'r, 'h> {
         ensures begins { IfOk result (λ scan. scan.ended ≡ ended) }
         ensures refused { IfErr result (λ error. error ≡ out_of_memory) }
     {
-        let scan = Scan::after(regex, haystack, ended, regex.kept_slots())?;
+        let searcher = Searcher::new(regex, regex.kept_slots(), haystack.len())?;
+        let scan = Scan::after(searcher, haystack, ended);
         Ok(GroupScan { scan, spare: None })
     }
 
@@ -68,8 +72,8 @@ impl<'r, 'h> GroupScan<'r, 'h> {
     {
         let cursor = self.scan.cursor();
         let spare = self.spare.take();
-        let found = self.scan.next()?;
-        match self.scan.captures(&found, spare) {
+        let (_, found) = self.scan.next()?;
+        match self.scan.finder().captures(cursor.haystack, &found, spare) {
             Ok(caps) => Some(Ok(caps)),
             Err(error) => {
                 self.scan.stop_at(cursor);
@@ -80,7 +84,7 @@ impl<'r, 'h> GroupScan<'r, 'h> {
 
     /// Takes groups back that it gave, so that the next ones take their memory.
     pub fn take_back(&mut self, caps: Captures<'h>)
-        requires { AreOfRegex self.old.regex caps }
+        requires { AreOfRegex self.old.finder.regex caps }
         ensures { self.new ≡ self.old }
     {
         self.spare = Some(caps);

@@ -1,7 +1,7 @@
 //! Several patterns that are searched for at once.
 ghost use Rattle.std.specs.Prelude.{◌≡◌, ◌↔◌, ◌≤◌, ◌<◌, ◌*◌, ◌^◌, [], ℕ, IsTrue, length, map, option_map, slice_get, ⊤};
 ghost use Rattle.regex_lite_engine.specs.Graph.SideBySide.{arrows_of_all, places_of_all};
-ghost use Rattle.regex_lite.specs.ListScanning.{most_captures};
+ghost use Rattle.regex_lite.specs.Scanning.{most_captures};
 ghost use Rattle.regex_lite.specs.RegexList.{BuildsList, OfTrees};
 ghost use Rattle.regex_lite.specs.Settings.{default_settings};
 ghost use Rattle.regex_lite.specs.Slots.{kept_slots};
@@ -14,7 +14,6 @@ mod counted;
 pub(super) mod find_iter;
 mod group_scan;
 mod group_search;
-mod scan;
 mod search;
 mod searcher;
 pub(super) mod set_matches;

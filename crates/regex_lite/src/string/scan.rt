@@ -1,85 +1,77 @@
 //! Goes over a haystack from match to match.
-ghost use Rattle.std.specs.Prelude.{◌≡◌, ◌<◌, Some, None, IfOk, IfErr, IfSome, IsCharBoundary, length, unwrap_or};
-ghost use Rattle.regex_lite_syntax.specs.Errors.{out_of_memory};
-ghost use Rattle.regex_lite_engine.specs.Search.Answer.{Found};
-ghost use Rattle.regex_lite.specs.Ahead.{AreGroupsFound, GivesMatchWithSlots, after, ahead, most_ahead, whole};
-ghost use Rattle.regex_lite.specs.Compiled.{AreOfRegex};
+ghost use Rattle.std.specs.Prelude.{◌≡◌, ◌<◌, Some, None, IfSome, IsCharBoundary, chars, length, unwrap_or};
+ghost use Rattle.regex_lite_engine.specs.Search.Offsets.{search_start};
+ghost use Rattle.regex_lite.specs.Ahead.{GivesNext, most_ahead};
+ghost use Rattle.regex_lite.specs.Answers.{AreLawful, IsAnswerWhereEmpty, IsEmptyAnswerFrom, TellsOfAnswer};
 ghost use Rattle.regex_lite.specs.NextMatch.{IsNextOffset, TellsNextMatch};
-ghost use Rattle.regex_lite.specs.Scanning.{HasSlotsForGroups, IsAnswerIfEmpty, IsBehindAnswer, IsEmptyFrom, IsMatchOfSearch};
+ghost use Rattle.regex_lite.specs.Scanning.{IsAfterAnswer, IsMatchWithSlots};
+ghost use Rattle.regex_lite.specs.Searches.{CanStartAt};
 
-use crate::string::captures::Captures;
 use crate::string::cursor::Cursor;
+use crate::string::finds::Finds;
 use crate::string::matches::Match;
-use crate::string::regex::Regex;
-use crate::string::searcher::Searcher;
-use regex_lite_syntax::Error;
 use std::fmt;
 use std::marker::Model;
 
-/// A searcher, and where it stands in the haystack that it goes over.
+/// What finds matches, and where it stands in the haystack that it goes over.
 #[derive(Drop)]
-pub(super) struct Scan<'r, 'h> {
-    searcher: Searcher<'r>,
+pub(super) struct Scan<'h, F: Finds + Drop> {
+    finder: F,
     cursor: Cursor<'h>,
 }
 
-impl<'r, 'h> Model for Scan<'r, 'h> {
-    ghost use Rattle.std.specs.Prelude.{◌≢◌, Some};
-    ghost use Rattle.regex_lite.specs.Scanning.{IsBehindAnswer, Scanning};
+impl<'h, F: Finds + Drop> Model for Scan<'h, F> {
+    ghost use Rattle.std.specs.Prelude.{◌≢◌, Some, chars};
+    ghost use Rattle.regex_lite.specs.Scanning.{IsAfterAnswer, Scanning};
 
-    ghost Value = { Scanning };
+    ghost Value = { Scanning F };
 
     ghost view = { λ scan. record {
-      regex = scan.searcher.regex;
-      slots = scan.searcher.slots;
+      finder = scan.finder;
       haystack = scan.cursor.haystack.now;
       limit = scan.cursor.limit;
       ended = scan.cursor.ended;
     } };
 
     // Where no more may come, nothing rests on it.
-    ghost invariant = { λ scan. scan.cursor.limit ≢ Some 0
-        → IsBehindAnswer scan.searcher.regex scan.cursor };
+    ghost invariant = { λ scan. scan.cursor.limit ≢ Some 0 → IsAfterAnswer F.found_of
+        (F.IsAnswer (F.sought scan.finder) (chars scan.cursor.haystack.now)) scan.cursor };
 }
 
-impl<'r, 'h> Scan<'r, 'h> {
-    /// At the start of the haystack, with this number of slots for a match. All matches are still
-    /// to come, or as many of them as the limit says.
-    pub fn new(
-        regex: &'r Regex,
-        haystack: &'h str,
-        limit: Option<usize>,
-        slots: usize,
-    ) -> Result<Scan<'r, 'h>, Error>
-        ensures ahead { IfOk result (λ scan. ahead scan ≡ whole regex.now haystack.now limit) }
-        ensures begins { IfOk result (λ scan. scan.ended ≡ None) }
-        ensures slots { IfOk result (λ scan. length scan.slots ≡ slots) }
-        ensures refused { IfErr result (λ error. error ≡ out_of_memory) }
+impl<'h, F: Finds + Drop> Scan<'h, F> {
+    /// At the start of the haystack. All matches are still to come, or as many of them as the limit
+    /// says.
+    pub fn new(finder: F, haystack: &'h str, limit: Option<usize>) -> Scan<'h, F>
+        ensures finder { result.finder ≡ finder }
+        ensures haystack { result.haystack ≡ haystack.now }
+        ensures limit { result.limit ≡ limit }
+        ensures ended { result.ended ≡ None }
     {
-        Ok(Scan {
-            searcher: Searcher::new(regex, slots, haystack.len())?,
+        Scan {
+            finder,
             cursor: Cursor::start(haystack, limit),
-        })
+        }
     }
 
-    /// After a match that ended at this offset, with this number of slots for a match. All that
-    /// follow are still to come.
-    pub fn after(
-        regex: &'r Regex,
-        haystack: &'h str,
-        ended: Option<usize>,
-        slots: usize,
-    ) -> Result<Scan<'r, 'h>, Error>
+    /// After a match that ended at this offset. All that follow are still to come.
+    pub fn after(finder: F, haystack: &'h str, ended: Option<usize>) -> Scan<'h, F>
         requires { IsCharBoundary haystack.now (unwrap_or ended 0) }
-        ensures ahead { IfOk result (λ scan. ahead scan ≡ after regex.now haystack.now ended) }
-        ensures begins { IfOk result (λ scan. scan.ended ≡ ended) }
-        ensures slots { IfOk result (λ scan. length scan.slots ≡ slots) }
-        ensures refused { IfErr result (λ error. error ≡ out_of_memory) }
+        ensures finder { result.finder ≡ finder }
+        ensures haystack { result.haystack ≡ haystack.now }
+        ensures limit { result.limit ≡ None }
+        ensures ended { result.ended ≡ ended }
     {
-        Ok(Scan {
-            searcher: Searcher::new(regex, slots, haystack.len())?,
+        Scan {
+            finder,
             cursor: Cursor::after(haystack, ended),
-        })
+        }
+    }
+
+    /// What finds the matches.
+    pub fn finder(&self) -> &F
+        ensures { result.now ≡ self.now.finder }
+    {
+        &self.finder
     }
 
     /// Where it stands.
@@ -90,19 +82,20 @@ impl<'r, 'h> Scan<'r, 'h> {
         self.cursor
     }
 
-    /// The next match, if one may come. Its slots are kept.
-    pub fn next(&mut self) -> Option<Match<'h>>
-        ensures steps { GivesMatchWithSlots self.old result self.new }
+    /// The next match with the number of its pattern, if one may come. Its slots are kept.
+    pub fn next(&mut self) -> Option<(F::Number, Match<'h>)>
+        ensures steps { GivesNext F.sought F.slots F.found_of F.number_of F.IsAnswer
+            self.old result self.new }
         ensures fewer { IfSome result (λ _. most_ahead self.new < most_ahead self.old) }
-        ensures slots { length self.new.slots ≡ length self.old.slots }
+        ensures slots { length (F.slots self.new.finder) ≡ length (F.slots self.old.finder) }
     {
         if self.cursor.is_over() {
             return None;
         }
-        match next_match(&mut self.searcher, self.cursor) {
-            Some(found) => {
-                self.cursor = self.cursor.behind(&found);
-                Some(found)
+        match next_match(&mut self.finder, self.cursor) {
+            Some((number, found)) => {
+                self.cursor = self.cursor.pass(&found);
+                Some((number, found))
             }
             None => {
                 self.cursor = self.cursor.at_end();
@@ -111,115 +104,137 @@ impl<'r, 'h> Scan<'r, 'h> {
         }
     }
 
-    /// The groups of the last match. They take the memory of the spare ones where there are some.
-    pub fn captures(
-        &self,
-        last: &Match<'h>,
-        spare: Option<Captures<'h>>,
-    ) -> Result<Captures<'h>, Error>
-        requires spare { IfSome spare (AreOfRegex self.now.regex) }
-        requires room { HasSlotsForGroups self.now.regex self.now.slots }
-        requires last { (found : Found)
-            × IsMatchOfSearch self.now.regex self.now.haystack self.now.slots found last.now }
-        ensures groups { IfOk result (λ groups. (found : Found)
-            → IsMatchOfSearch self.now.regex self.now.haystack self.now.slots found last.now
-            → AreGroupsFound self.now.regex self.now.haystack found groups) }
-        ensures refused { IfErr result (λ error. error ≡ out_of_memory) }
-    {
-        self.searcher.captures(self.cursor.haystack, last, spare)
-    }
-
     /// Back to where it stood before, with nothing to come.
     pub fn stop_at(&mut self, cursor: Cursor<'h>)
         requires { cursor.haystack.now ≡ self.old.haystack }
-        ensures regex { self.new.regex ≡ self.old.regex }
-        ensures slots { self.new.slots ≡ self.old.slots }
+        ensures finder { self.new.finder ≡ self.old.finder }
         ensures haystack { self.new.haystack ≡ self.old.haystack }
         ensures ended { self.new.ended ≡ cursor.entry.ended }
         ensures limit { self.new.limit ≡ Some 0 }
     {
         self.cursor = cursor.at_end();
     }
+}
 
+impl<'h, F: Finds + fmt::Debug + Drop> Scan<'h, F> {
     /// Writes its parts as those of an iterator with this name.
     pub fn fmt_as<W: fmt::Write>(&self, name: &str, f: &mut fmt::Formatter<W>) -> fmt::Result {
         f.debug_struct(name)
-            .field("searcher", &self.searcher)
+            .field("searcher", &self.finder)
             .field("cursor", &self.cursor)
             .finish()
     }
 }
 
 /// The match after the last one, or the first.
-fn next_match<'h>(searcher: &mut Searcher<'_>, cursor: Cursor<'h>) -> Option<Match<'h>>
-    requires { IsBehindAnswer searcher.old.regex cursor }
-    ensures next { TellsNextMatch searcher.old.regex cursor.entry.haystack.now cursor.entry.ended
-        searcher.new.slots result }
-    ensures empty { IsAnswerIfEmpty searcher.old.regex cursor.entry.haystack.now result }
-    ensures regex { searcher.new.regex ≡ searcher.old.regex }
-    ensures slots { length searcher.new.slots ≡ length searcher.old.slots }
+fn next_match<'h, F: Finds>(finder: &mut F, cursor: Cursor<'h>) -> Option<(F::Number, Match<'h>)>
+    requires { IsAfterAnswer F.found_of
+        (F.IsAnswer (F.sought finder.old) (chars cursor.haystack.now)) cursor }
+    ensures next { TellsNextMatch F.found_of F.number_of
+        (F.IsAnswer (F.sought finder.old) (chars cursor.entry.haystack.now))
+        cursor.entry.haystack.now cursor.entry.ended (F.slots finder.new) result }
+    ensures empty { IsAnswerWhereEmpty F.found_of
+        (F.IsAnswer (F.sought finder.old) (chars cursor.entry.haystack.now))
+        cursor.entry.haystack.now result }
+    ensures sought { F.sought finder.new ≡ F.sought finder.old }
+    ensures slots { length (F.slots finder.new) ≡ length (F.slots finder.old) }
 {
     let Some(end) = cursor.ended else {
-        return first_match(searcher, cursor.haystack);
+        return first_match(finder, cursor.haystack);
     };
     // From the end of an empty match on, that match would be found again.
     if cursor.was_empty {
-        match_behind_empty(searcher, cursor.haystack, end)
+        match_after_empty(finder, cursor.haystack, end)
     } else {
-        match_behind(searcher, cursor.haystack, end)
+        match_after(finder, cursor.haystack, end)
     }
 }
 
 /// The first match.
-fn first_match<'h>(searcher: &mut Searcher<'_>, haystack: &'h str) -> Option<Match<'h>>
-    ensures next { TellsNextMatch searcher.old.regex haystack.now None searcher.new.slots result }
-    ensures empty { IsAnswerIfEmpty searcher.old.regex haystack.now result }
-    ensures regex { searcher.new.regex ≡ searcher.old.regex }
-    ensures slots { length searcher.new.slots ≡ length searcher.old.slots }
+fn first_match<'h, F: Finds>(finder: &mut F, haystack: &'h str) -> Option<(F::Number, Match<'h>)>
+    ensures next { TellsNextMatch F.found_of F.number_of
+        (F.IsAnswer (F.sought finder.old) (chars haystack.now)) haystack.now None
+        (F.slots finder.new) result }
+    ensures empty { IsAnswerWhereEmpty F.found_of
+        (F.IsAnswer (F.sought finder.old) (chars haystack.now)) haystack.now result }
+    ensures sought { F.sought finder.new ≡ F.sought finder.old }
+    ensures slots { length (F.slots finder.new) ≡ length (F.slots finder.old) }
 {
-    searcher.find_at(haystack, 0)
+    match_at(finder, haystack, 0)
 }
 
-/// The match after one that ended at this offset.
-fn match_behind<'h>(searcher: &mut Searcher<'_>, haystack: &'h str, end: usize) -> Option<Match<'h>>
+/// The match after one that ended at this offset, whichever pattern that was of.
+fn match_after<'h, F: Finds>(
+    finder: &mut F,
+    haystack: &'h str,
+    end: usize,
+) -> Option<(F::Number, Match<'h>)>
     requires { IsCharBoundary haystack.now end }
-    ensures next { TellsNextMatch searcher.old.regex haystack.now (Some end) searcher.new.slots
-        result }
-    ensures empty { IsAnswerIfEmpty searcher.old.regex haystack.now result }
-    ensures regex { searcher.new.regex ≡ searcher.old.regex }
-    ensures slots { length searcher.new.slots ≡ length searcher.old.slots }
+    ensures next { TellsNextMatch F.found_of F.number_of
+        (F.IsAnswer (F.sought finder.old) (chars haystack.now)) haystack.now (Some end)
+        (F.slots finder.new) result }
+    ensures empty { IsAnswerWhereEmpty F.found_of
+        (F.IsAnswer (F.sought finder.old) (chars haystack.now)) haystack.now result }
+    ensures sought { F.sought finder.new ≡ F.sought finder.old }
+    ensures slots { length (F.slots finder.new) ≡ length (F.slots finder.old) }
 {
-    let found = searcher.find_at(haystack, end)?;
+    let found = match_at(finder, haystack, end)?;
     // A match from here on that ends no later is the empty one that stands here.
-    if found.end() > end {
+    if found.1.end() > end {
         return Some(found);
     }
-    match_behind_empty(searcher, haystack, end)
+    match_after_empty(finder, haystack, end)
 }
 
 /// The match after the empty one at this offset, which is the first from the next character on.
-fn match_behind_empty<'h>(
-    searcher: &mut Searcher<'_>,
+fn match_after_empty<'h, F: Finds>(
+    finder: &mut F,
     haystack: &'h str,
     at: usize,
-) -> Option<Match<'h>>
+) -> Option<(F::Number, Match<'h>)>
     requires boundary { IsCharBoundary haystack.now at }
-    requires empty { IsEmptyFrom searcher.old.regex haystack.now at }
-    ensures next { TellsNextMatch searcher.old.regex haystack.now (Some at) searcher.new.slots
-        result }
-    ensures empty { IsAnswerIfEmpty searcher.old.regex haystack.now result }
-    ensures regex { searcher.new.regex ≡ searcher.old.regex }
-    ensures slots { length searcher.new.slots ≡ length searcher.old.slots }
+    requires empty { IsEmptyAnswerFrom F.found_of
+        (F.IsAnswer (F.sought finder.old) (chars haystack.now)) haystack.now at }
+    ensures next { TellsNextMatch F.found_of F.number_of
+        (F.IsAnswer (F.sought finder.old) (chars haystack.now)) haystack.now (Some at)
+        (F.slots finder.new) result }
+    ensures empty { IsAnswerWhereEmpty F.found_of
+        (F.IsAnswer (F.sought finder.old) (chars haystack.now)) haystack.now result }
+    ensures sought { F.sought finder.new ≡ F.sought finder.old }
+    ensures slots { length (F.slots finder.new) ≡ length (F.slots finder.old) }
 {
-    let next = next_offset(haystack, at)?;
-    searcher.find_at(haystack, next)
+    match_at(finder, haystack, next_offset(haystack, at))
 }
 
-/// Where the character ends that stands at this offset. None stands at the haystack's end.
-pub(super) fn next_offset(haystack: &str, at: usize) -> Option<usize>
+/// The first match that starts at this offset or later.
+fn match_at<'h, F: Finds>(
+    finder: &mut F,
+    haystack: &'h str,
+    start: usize,
+) -> Option<(F::Number, Match<'h>)>
+    requires { CanStartAt haystack.now start }
+    ensures found { TellsOfAnswer (F.IsAnswer (F.sought finder.old) (chars haystack.now))
+        (IsMatchWithSlots F.found_of F.number_of haystack.now (F.slots finder.new))
+        (search_start haystack.now start) result }
+    ensures empty { IsAnswerWhereEmpty F.found_of
+        (F.IsAnswer (F.sought finder.old) (chars haystack.now)) haystack.now result }
+    ensures lawful { AreLawful F.found_of (chars haystack.now)
+        (F.IsAnswer (F.sought finder.old) (chars haystack.now)) }
+    ensures sought { F.sought finder.new ≡ F.sought finder.old }
+    ensures slots { length (F.slots finder.new) ≡ length (F.slots finder.old) }
+{
+    let (number, (from, to)) = finder.find_at(haystack, start)?;
+    Some((number, Match::new(haystack, from, to)))
+}
+
+/// Where the character ends that stands at this offset. At the haystack's end, where none stands, it
+/// is an offset above the length, from which nothing is found.
+fn next_offset(haystack: &str, at: usize) -> usize
     requires { IsCharBoundary haystack.now at }
     ensures { IsNextOffset haystack.now at result }
 {
-    let c = haystack[at..].chars().next()?;
-    Some(at + c.len_utf8())
+    match haystack[at..].chars().next() {
+        Some(c) => at + c.len_utf8(),
+        None => at + 1,
+    }
 }

@@ -4,10 +4,10 @@ ghost use Rattle.regex_lite_syntax.specs.Errors.{out_of_memory};
 ghost use Rattle.regex_lite_engine.specs.Search.Answer.{Found};
 ghost use Rattle.regex_lite.specs.Ahead.{AreGroupsFound};
 ghost use Rattle.regex_lite.specs.Compiled.{AreOfRegex, SharesGroups};
-ghost use Rattle.regex_lite.specs.Scanning.{HasSlotsForGroups, IsAnswerIfEmpty, IsMatchOfSearch, TellsMatchWithSlots};
-ghost use Rattle.regex_lite.specs.Searches.{CanStartAt};
+ghost use Rattle.regex_lite.specs.Scanning.{HasSlotsForGroups, IsMatchOfRegex};
 
 use crate::string::captures::Captures;
+use crate::string::finds::Finds;
 use crate::string::matches::Match;
 use crate::string::regex::Regex;
 use crate::string::slots::all_slots;
@@ -50,19 +50,6 @@ impl<'r> Searcher<'r> {
         Ok(Searcher { regex, inner })
     }
 
-    /// [`Regex::find_at`], which is never refused here. The slots of the match are kept.
-    pub fn find_at<'h>(&mut self, haystack: &'h str, start: usize) -> Option<Match<'h>>
-        requires { CanStartAt haystack.now start }
-        ensures found { TellsMatchWithSlots self.old.regex haystack.now start self.new.slots
-            result }
-        ensures empty { IsAnswerIfEmpty self.old.regex haystack.now result }
-        ensures regex { self.new.regex ≡ self.old.regex }
-        ensures slots { length self.new.slots ≡ length self.old.slots }
-    {
-        let (from, to) = self.inner.search(haystack, start)?;
-        Some(Match::new(haystack, from, to))
-    }
-
     /// The groups of the last match, which was found in this haystack. They take the memory of the
     /// spare ones where there are some.
     pub fn captures<'h>(
@@ -74,9 +61,9 @@ impl<'r> Searcher<'r> {
         requires spare { IfSome spare (AreOfRegex self.now.regex) }
         requires room { HasSlotsForGroups self.now.regex self.now.slots }
         requires last { (found : Found)
-            × IsMatchOfSearch self.now.regex haystack.now self.now.slots found last.now }
+            × IsMatchOfRegex self.now.regex haystack.now self.now.slots found last.now }
         ensures groups { IfOk result (λ groups. (found : Found)
-            → IsMatchOfSearch self.now.regex haystack.now self.now.slots found last.now
+            → IsMatchOfRegex self.now.regex haystack.now self.now.slots found last.now
             → AreGroupsFound self.now.regex haystack.now found groups) }
         ensures refused { IfErr result (λ error. error ≡ out_of_memory) }
     {
@@ -100,6 +87,34 @@ impl<'r> Searcher<'r> {
         let slots = Vec::with_capacity(regex.alloc, self.inner.slots().len())?;
         let source = Source::of_regex(regex.compiled.clone()?);
         Ok((slots, source))
+    }
+}
+
+impl<'r> Finds for Searcher<'r> {
+    ghost use Rattle.regex_lite_engine.specs.Search.Answer.{Found};
+    ghost use Rattle.regex_lite.specs.Expression.{Expression};
+    ghost use Rattle.regex_lite.specs.MatchList.{IsAnswerOf};
+
+    type Number = ();
+
+    ghost Sought = { Expression };
+
+    ghost Answer = { Found };
+
+    ghost found_of = { λ own. own };
+
+    ghost number_of = { λ own. tt };
+
+    ghost IsAnswer = { IsAnswerOf };
+
+    ghost sought = { λ searcher. searcher.regex };
+
+    ghost slots = { λ searcher. searcher.slots };
+
+    /// [`Regex::find_at`], which is never refused here.
+    fn find_at(&mut self, haystack: &str, start: usize) -> Option<((), (usize, usize))> {
+        let span = self.inner.search(haystack, start)?;
+        Some(((), span))
     }
 }
 

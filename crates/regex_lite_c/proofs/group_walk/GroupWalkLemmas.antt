@@ -30,7 +30,7 @@ pub record IsSoFar (start now : Ahead) (old_walk walk : Walk) (old new : List Sp
   pub groups : List Groups
   pub number : length list ≡ count
   pub lists : (left : ℕ) → Lists start now (count + left) left list
-  pub each : AreGroupsOfEach start.regex start.haystack list groups
+  pub each : AreGroupsOfEach start.sought start.haystack list groups
   pub written : AreWritten (spans_of_all groups) old new
   pub used_is : length (spans_of_all groups) ≡ used
   pub counted : count ≤ used
@@ -94,7 +94,7 @@ written_after told more old now new before is =
 -- those of one more match were written
 pub one_more : (start now next : Ahead) (old_walk walk new_walk : Walk) (old mid new : List Span) (used count : ℕ)
     (found : Found) (own : Groups) → IsSoFar start now old_walk walk old mid used count
-    → Passes now found next → AreGroupsFound now.regex now.haystack found own
+    → Passes now found next → AreGroupsFound now.sought now.haystack found own
     → AreWrittenAt used own.spans mid new → length new ≡ length mid → used + length own.spans ≤ length mid
     → 0 < length own.spans → ended_of new_walk ≡ Some (whole_span own).1
     → IsSoFar start next old_walk new_walk old new (used + length own.spans) (count + 1)
@@ -107,9 +107,9 @@ one_more start now next old_walk walk new_walk old mid new used count found own 
       number = omega (arith, length-append so.list (found ∷ []), so.number);
       lists = λ left. subst (λ n. Lists start next n left (so.list ++ (found ∷ []))) (omega arith)
           (lists_more start now next (count + suc left) left so.list found (lists (suc left)) passes);
-      each = each_more start.regex start.haystack so.list so.groups found own so.each
+      each = each_more start.sought start.haystack so.list so.groups found own so.each
           (subst (λ re. AreGroupsFound re start.haystack found own) (lists 0).regex
-          (subst (λ bytes. AreGroupsFound now.regex bytes found own) (lists 0).haystack are));
+          (subst (λ bytes. AreGroupsFound now.sought bytes found own) (lists 0).haystack are));
       written = subst (λ told. AreWritten told old new) (sym all)
           (written_after (spans_of_all so.groups) own.spans old mid new so.written (subst (λ n. AreWrittenAt n own.spans mid new) (sym so.used_is) written));
       used_is = ap length all ∙ length-append (spans_of_all so.groups) own.spans ∙ ap (λ n. n + length own.spans) so.used_is;
@@ -127,12 +127,12 @@ listed start now old_walk walk old new used count so some =
     let zero_more : count + 0 ≡ count = omega arith in
     record {
       list = so.list;
-      are_first = subst (λ n. AreFirst start.regex (chars start.haystack) n start.ended so.list) zero_more
+      are_first = subst (λ n. AreFirst start.sought (chars start.haystack) n start.ended so.list) zero_more
           (lists_all start now (count + 0) so.list all);
       number = sym so.number;
       front = ends.front;
       last = ends.last;
-      each = subst (AreGroupsOfEach start.regex start.haystack so.list) ends.is so.each;
+      each = subst (AreGroupsOfEach start.sought start.haystack so.list) ends.is so.each;
       written = subst (λ groups. AreWritten (spans_of_all groups) old new) ends.is so.written;
       end = ends.end;
     }

@@ -13,10 +13,10 @@ use Rattle.regex_lite_c.specs.declared.types.Span.{Span}
 -- of those ahead now go on with the list
 pub record Lists (start a : Ahead) (room left : ℕ) (list : List Found) : Type 0 where
   pub limit : a.limit ≡ None
-  pub regex : a.regex ≡ start.regex
+  pub regex : a.sought ≡ start.sought
   pub haystack : a.haystack ≡ start.haystack
-  pub on : (rest : List Found) → AreFirst start.regex (chars start.haystack) left a.ended rest
-      → AreFirst start.regex (chars start.haystack) room start.ended (list ++ rest)
+  pub on : (rest : List Found) → AreFirst start.sought (chars start.haystack) left a.ended rest
+      → AreFirst start.sought (chars start.haystack) room start.ended (list ++ rest)
 
 pub lists_none : (start : Ahead) (room : ℕ) → start.limit ≡ None → Lists start start room room []
 lists_none start room limit = record {
@@ -31,23 +31,23 @@ pub lists_more : (start old new : Ahead) (room left : ℕ) (list : List Found) (
     → Lists start new room left (list ++ (found ∷ []))
 lists_more start old new room left list found so passes =
     let is = passes.passed in
-    let First : Option ℕ → List Found → Type 0 = λ ended rest. AreFirst start.regex (chars start.haystack) left ended rest in
-    let comes : IsNext start.regex (chars start.haystack) old.ended (Some found) =
+    let First : Option ℕ → List Found → Type 0 = λ ended rest. AreFirst start.sought (chars start.haystack) left ended rest in
+    let comes : IsNext start.sought (chars start.haystack) old.ended (Some found) =
     subst (λ re. IsNext re (chars start.haystack) old.ended (Some found)) so.regex
-    (subst (λ bytes. IsNext old.regex (chars bytes) old.ended (Some found)) so.haystack passes.comes) in
+    (subst (λ bytes. IsNext old.sought (chars bytes) old.ended (Some found)) so.haystack passes.comes) in
     record {
       limit = ap (λ a. a.limit) is ∙ ap one_less so.limit;
-      regex = ap (λ a. a.regex) is ∙ so.regex;
+      regex = ap (λ a. a.sought) is ∙ so.regex;
       haystack = ap (λ a. a.haystack) is ∙ so.haystack;
       on = λ rest are.
-          subst (AreFirst start.regex (chars start.haystack) room start.ended) (sym (append_assoc list (found ∷ []) rest))
+          subst (AreFirst start.sought (chars start.haystack) room start.ended) (sym (append_assoc list (found ∷ []) rest))
           (so.on (found ∷ rest) (comes, subst (λ ended. First ended rest) (ap (λ a. a.ended) is) are));
     }
 
 pub lists_all : (start a : Ahead) (room : ℕ) (list : List Found) → Lists start a room 0 list
-    → AreFirst start.regex (chars start.haystack) room start.ended list
+    → AreFirst start.sought (chars start.haystack) room start.ended list
 lists_all start a room list so =
-    subst (AreFirst start.regex (chars start.haystack) room start.ended) (append-nil list) (so.on [] refl)
+    subst (AreFirst start.sought (chars start.haystack) room start.ended) (append-nil list) (so.on [] refl)
 
 none_left : (re : Expression) (haystack : Text) (left : ℕ) (ended : Option ℕ) → IsNext re haystack ended None
     → AreFirst re haystack left ended []
@@ -59,14 +59,14 @@ comes_none a limit (inl zero_left) = absurd cc
 comes_none a limit (inr next) = next
 
 pub lists_to_end : (start a : Ahead) (room left : ℕ) (list : List Found) → Lists start a room left list
-    → IsOver a → AreFirst start.regex (chars start.haystack) room start.ended list
+    → IsOver a → AreFirst start.sought (chars start.haystack) room start.ended list
 lists_to_end start a room left list so over =
     let next = comes_none a so.limit over in
-    let here : IsNext start.regex (chars start.haystack) a.ended None =
+    let here : IsNext start.sought (chars start.haystack) a.ended None =
     subst (λ re. IsNext re (chars start.haystack) a.ended None) so.regex
-    (subst (λ bytes. IsNext a.regex (chars bytes) a.ended None) so.haystack next) in
-    subst (AreFirst start.regex (chars start.haystack) room start.ended) (append-nil list)
-    (so.on [] (none_left start.regex (chars start.haystack) left a.ended here))
+    (subst (λ bytes. IsNext a.sought (chars bytes) a.ended None) so.haystack next) in
+    subst (AreFirst start.sought (chars start.haystack) room start.ended) (append-nil list)
+    (so.on [] (none_left start.sought (chars start.haystack) left a.ended here))
 
 module _ {X : Type 0} where
   set_here : (xs : List X) (i : ℕ) (x : X) → i < length xs → slice_get (slice_set xs i x) i ≡ Some x

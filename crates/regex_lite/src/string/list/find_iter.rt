@@ -4,8 +4,9 @@ ghost use Rattle.regex_lite_syntax.specs.Errors.{out_of_memory};
 ghost use Rattle.regex_lite.specs.ListAhead.{list_ahead_of, whole_list};
 
 use crate::string::list::RegexList;
-use crate::string::list::scan::ListScan;
+use crate::string::list::searcher::ListSearcher;
 use crate::string::matches::Match;
+use crate::string::scan::Scan;
 use regex_lite_syntax::Error;
 use std::fmt;
 use std::iter::FusedIterator;
@@ -36,8 +37,9 @@ impl RegexList {
         ensures begins { IfOk result (λ it. it.scan.ended ≡ None) }
         ensures refused { IfErr result (λ error. error ≡ out_of_memory) }
     {
+        let searcher = ListSearcher::new(self, 0)?;
         Ok(ListMatches {
-            scan: ListScan::new(self, haystack, 0)?,
+            scan: Scan::new(searcher, haystack, None),
         })
     }
 }
@@ -49,7 +51,7 @@ impl RegexList {
 /// alone, and outlive the iterator and the list.
 #[derive(Drop)]
 pub struct ListMatches<'r, 'h> {
-    scan: ListScan<'r, 'h>,
+    scan: Scan<'h, ListSearcher<'r>>,
 }
 
 impl<'r, 'h> Iterator for ListMatches<'r, 'h> {

@@ -1,11 +1,13 @@
 //! Goes over a haystack from match to match of several patterns, with the groups of each.
 ghost use Rattle.std.specs.Prelude.{◌≡◌, ◌<◌, None, IfOk, IfErr, IfSome};
 ghost use Rattle.regex_lite_syntax.specs.Errors.{out_of_memory};
-ghost use Rattle.regex_lite.specs.ListAhead.{GivesListGroupsOf, list_ahead, most_list_ahead, whole_list};
+ghost use Rattle.regex_lite.specs.Ahead.{most_ahead};
+ghost use Rattle.regex_lite.specs.ListAhead.{GivesListGroupsOf, list_ahead, whole_list};
 
 use crate::string::captures::Captures;
 use crate::string::list::RegexList;
-use crate::string::list::scan::ListScan;
+use crate::string::list::searcher::ListSearcher;
+use crate::string::scan::Scan;
 use regex_lite_syntax::Error;
 use std::fmt;
 use std::marker::Model;
@@ -13,17 +15,18 @@ use std::marker::Model;
 /// A scan whose slots hold all groups of its matches.
 #[derive(Drop)]
 pub(super) struct ListGroupScan<'r, 'h> {
-    scan: ListScan<'r, 'h>,
+    scan: Scan<'h, ListSearcher<'r>>,
 }
 
 impl<'r, 'h> Model for ListGroupScan<'r, 'h> {
-    ghost use Rattle.regex_lite.specs.ListScanning.{HasSlotsForAllGroups, ListScanning};
+    ghost use Rattle.regex_lite.specs.Scanning.{HasSlotsForAllGroups, ListSearching, Scanning};
 
-    ghost Value = { ListScanning };
+    ghost Value = { Scanning ListSearching };
 
     ghost view = { λ groups. groups.scan };
 
-    ghost invariant = { λ groups. HasSlotsForAllGroups groups.scan.list groups.scan.slots };
+    ghost invariant = { λ groups.
+        HasSlotsForAllGroups groups.scan.finder.list groups.scan.finder.slots };
 }
 
 impl<'r, 'h> ListGroupScan<'r, 'h> {
@@ -34,7 +37,8 @@ impl<'r, 'h> ListGroupScan<'r, 'h> {
         ensures begins { IfOk result (λ scan. scan.ended ≡ None) }
         ensures refused { IfErr result (λ error. error ≡ out_of_memory) }
     {
-        let scan = ListScan::new(list, haystack, list.kept_slots())?;
+        let searcher = ListSearcher::new(list, list.kept_slots())?;
+        let scan = Scan::new(searcher, haystack, None);
         Ok(ListGroupScan { scan })
     }
 
@@ -42,11 +46,11 @@ impl<'r, 'h> ListGroupScan<'r, 'h> {
     /// refusal none comes.
     pub fn next(&mut self) -> Option<Result<(usize, Captures<'h>), Error>>
         ensures steps { GivesListGroupsOf self.old result self.new }
-        ensures fewer { IfSome result (λ _. most_list_ahead self.new < most_list_ahead self.old) }
+        ensures fewer { IfSome result (λ _. most_ahead self.new < most_ahead self.old) }
     {
         let cursor = self.scan.cursor();
         let found = self.scan.next()?;
-        match self.scan.captures(&found) {
+        match self.scan.finder().captures(cursor.haystack, &found) {
             Ok(caps) => Some(Ok((found.0, caps))),
             Err(error) => {
                 self.scan.stop_at(cursor);

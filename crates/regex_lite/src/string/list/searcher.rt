@@ -1,12 +1,12 @@
 //! Searches for several patterns, one after another, in the same memory.
-ghost use Rattle.std.specs.Prelude.{◌≡◌, IfOk, IfErr, length};
+ghost use Rattle.std.specs.Prelude.{◌≡◌, ℕ, IfOk, IfErr, length};
 ghost use Rattle.regex_lite_syntax.specs.Errors.{out_of_memory};
 ghost use Rattle.regex_lite_engine.specs.Search.Answer.{Found};
 ghost use Rattle.regex_lite.specs.ListAhead.{AreGroupsFoundInList};
-ghost use Rattle.regex_lite.specs.ListScanning.{HasSlotsForAllGroups, IsListAnswerIfEmpty, IsListMatchOfSearch, TellsListMatchWithSlots};
-ghost use Rattle.regex_lite.specs.Searches.{CanStartAt};
+ghost use Rattle.regex_lite.specs.Scanning.{HasSlotsForAllGroups, IsMatchOfPatterns};
 
 use crate::string::captures::Captures;
+use crate::string::finds::Finds;
 use crate::string::list::RegexList;
 use crate::string::matches::Match;
 use crate::string::slots::all_slots;
@@ -23,7 +23,7 @@ pub(super) struct ListSearcher<'r> {
 }
 
 impl<'r> Model for ListSearcher<'r> {
-    ghost use Rattle.regex_lite.specs.ListScanning.{ListSearching, SearchesForList};
+    ghost use Rattle.regex_lite.specs.Scanning.{ListSearching, SearchesForList};
 
     ghost Value = { ListSearching };
 
@@ -47,19 +47,6 @@ impl<'r> ListSearcher<'r> {
         Ok(ListSearcher { list, inner })
     }
 
-    /// [`RegexList::find_at`], which is never refused here. The slots of the match are kept.
-    pub fn find_at<'h>(&mut self, haystack: &'h str, start: usize) -> Option<(usize, Match<'h>)>
-        requires { CanStartAt haystack.now start }
-        ensures found { TellsListMatchWithSlots self.old.list haystack.now start self.new.slots
-            result }
-        ensures empty { IsListAnswerIfEmpty self.old.list haystack.now result }
-        ensures list { self.new.list ≡ self.old.list }
-        ensures slots { length self.new.slots ≡ length self.old.slots }
-    {
-        let (number, (from, to)) = self.inner.search(haystack, start)?;
-        Some((number, Match::new(haystack, from, to)))
-    }
-
     /// The groups of the last match, which was found in this haystack.
     pub fn captures<'h>(
         &self,
@@ -67,12 +54,11 @@ impl<'r> ListSearcher<'r> {
         last: &(usize, Match<'h>),
     ) -> Result<Captures<'h>, Error>
         requires room { HasSlotsForAllGroups self.now.list self.now.slots }
-        requires last { (found : Found) × IsListMatchOfSearch self.now.list haystack.now
-            self.now.slots (last.now.0, found) last.now }
-        ensures groups { IfOk result (λ groups. (found : Found)
-            → IsListMatchOfSearch self.now.list haystack.now self.now.slots (last.now.0, found)
-            last.now
-            → AreGroupsFoundInList self.now.list haystack.now last.now.0 found groups) }
+        requires last { (answer : ℕ × Found)
+            × IsMatchOfPatterns self.now.list haystack.now self.now.slots answer last.now }
+        ensures groups { IfOk result (λ groups. (answer : ℕ × Found)
+            → IsMatchOfPatterns self.now.list haystack.now self.now.slots answer last.now
+            → AreGroupsFoundInList self.now.list haystack.now last.now.0 answer.1 groups) }
         ensures refused { IfErr result (λ error. error ≡ out_of_memory) }
     {
         let list = self.list;
@@ -85,6 +71,34 @@ impl<'r> ListSearcher<'r> {
         // A search keeps slots for the pattern with the most groups. This one may have fewer.
         slots.truncate(source.slots());
         Ok(Captures::new(haystack, slots, source))
+    }
+}
+
+impl<'r> Finds for ListSearcher<'r> {
+    ghost use Rattle.std.specs.Prelude.{ℕ, List};
+    ghost use Rattle.regex_lite_engine.specs.Search.Answer.{Found};
+    ghost use Rattle.regex_lite.specs.Expression.{Expression};
+    ghost use Rattle.regex_lite.specs.MatchList.{IsAnswerOfPatterns};
+
+    type Number = usize;
+
+    ghost Sought = { List Expression };
+
+    ghost Answer = { ℕ × Found };
+
+    ghost found_of = { λ own. own.1 };
+
+    ghost number_of = { λ own. own.0 };
+
+    ghost IsAnswer = { IsAnswerOfPatterns };
+
+    ghost sought = { λ searcher. searcher.list };
+
+    ghost slots = { λ searcher. searcher.slots };
+
+    /// [`RegexList::find_at`], which is never refused here.
+    fn find_at(&mut self, haystack: &str, start: usize) -> Option<(usize, (usize, usize))> {
+        self.inner.search(haystack, start)
     }
 }
 

@@ -43,7 +43,7 @@ loop-item-preserved c =
     let next = groups_ahead_of c.next.new.self in
     let own = c.in-Ok.caps in
     let step = rw c.in-Ok.is at c.in-Some.ensures.steps in
-    let some = some_groups now.regex now.haystack step.0 own step.1 in
+    let some = some_groups now.sought now.haystack step.0 own step.1 in
     let used = c.loop-item.used in
     let end = c.after.ensures ∙ ap Some (end_of_span c.of_group.result (group_span own 0) (c.of_group.ensures ∙ c.get.ensures.span) some.1) in
     record {

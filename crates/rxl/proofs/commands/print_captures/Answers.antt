@@ -16,7 +16,7 @@ loop-item-init g c =
       printed = [];
       puts = puts_nothing c.args.output.now (g.W.Write.contents c.args.out.now);
       so_far = subst (λ a. GroupsLeadOn start a false []) (sym is) (groups_start start);
-      regex = ap (λ a. a.regex) is;
+      regex = ap (λ a. a.sought) is;
       haystack = ap (λ a. a.haystack) is;
     }
 

@@ -6,7 +6,7 @@ use Rattle.regex_lite.specs.Ahead.{Passes, ahead}
 use Rattle.regex_lite.specs.Compiled.{AreOfRegex}
 use Rattle.regex_lite.specs.Groups.{whole_span}
 use Rattle.regex_lite.specs.Replacements.{IsRefused, IsReplacedInTurn}
-use Rattle.regex_lite.specs.Scanning.{Scanning}
+use Rattle.regex_lite.specs.Scanning.{RegexSearching, Scanning}
 use Rattle.regex_lite.proofs.string.AnsweredLemmas.{begun_on, borrowed_where_over, owned_where_some, so_finished}
 use Rattle.regex_lite.proofs.string.ReplacementLemmas.{found_there, in_turn_at_end, in_turn_passed, in_turn_refused}
 use Rattle.regex_lite.proofs.string.ScanLemmas.{of_regex}
@@ -15,8 +15,8 @@ use Rattle.regex_lite.proofs.string.regex.Regex.replace_each.Goals as goal
 pub take_back-requires : goal.take_back-requires
 take_back-requires g c =
     let step = rw c.in_ok-caps.was at c.in-Some.ensures.steps in
-    subst (λ own. AreOfRegex own c.in_ok-caps.caps) (sym (ap (λ a. a.regex) step.4.passed))
-    (of_regex c.items.scan.regex c.items.scan.haystack step.0 c.in_ok-caps.caps step.1)
+    subst (λ own. AreOfRegex own c.in_ok-caps.caps) (sym (ap (λ a. a.sought) step.4.passed))
+    (of_regex c.items.scan.finder.regex c.items.scan.haystack step.0 c.in_ok-caps.caps step.1)
 
 handed_on : {T E : Type 0} {P Q : E → Type 0} (r : Result T E) → IsErrAnd r Q → ((e : E) → Q e → P e) → IfErr r P
 handed_on (Ok x) h f = absurd h
@@ -28,7 +28,7 @@ returns-in_err-replace_with-clause-refused g c =
     let step = rw c.in_ok-caps.was at c.in-Some.ensures.steps in
     let start = ahead c.args.scan.now in
     let rewrite = c.items.rewrite in
-    let are = found_there c.items.scan.regex start.regex c.items.scan.haystack start.haystack step.0 c.in_ok-caps.caps
+    let are = found_there c.items.scan.finder.regex start.sought c.items.scan.haystack start.haystack step.0 c.in_ok-caps.caps
     inv.regex inv.haystack step.1 in
     handed_on c.from_residual-in_err-replace_with.result c.from_residual-in_err-replace_with.ensures.1
     (λ error same. elim c.in_err-replace_with.ensures.refused [
@@ -52,7 +52,7 @@ items-preserved g c =
     let from = unwrap_or c.items.rewrite.ended 0 in
     let made = string_bytes c.items.rewrite.text in
     let caps = c.in_ok-caps.caps in
-    let are = found_there old.regex start.regex old.haystack start.haystack step.0 caps inv.regex inv.haystack step.1 in
+    let are = found_there old.sought start.sought old.haystack start.haystack step.0 caps inv.regex inv.haystack step.1 in
     let same = ap (λ own. own.now) (inv.same ∙ c.start-rewrite.ensures.haystack) ∙ sym c.requires.haystack in
     let written = asked.2 ∙ ap (λ bytes. (made ++ slice_range bytes from (whole_span caps).0) ++ asked.0) same in
     record {
@@ -60,9 +60,9 @@ items-preserved g c =
       so_far = in_turn_passed g.R.Replacer.fixed g.R.Replacer.appends c.args.rep start old new c.items.rep c.replace_with.new.rep
           step.0 caps from _ made asked.0 _ inv.so_far passes are asked.1 (ap (λ at. unwrap_or at 0) done.ended) written;
       begun = begun_on start old new made _ _ _ (whole_span caps).1 step.0 (ap (option_map (position_at start.haystack)) c.requires.begins) inv.begun passes done.ended;
-      regex = ap (λ a. a.regex) passes.passed ∙ inv.regex;
+      regex = ap (λ a. a.sought) passes.passed ∙ inv.regex;
       haystack = ap (λ a. a.haystack) passes.passed ∙ inv.haystack;
-      ended = done.ended ∙ sym (ap (λ (own : Scanning). own.ended) c.take_back.ensures ∙ step.3);
+      ended = done.ended ∙ sym (ap (λ (own : Scanning RegexSearching). own.ended) c.take_back.ensures ∙ step.3);
       same = c.replace_with.ensures.haystack ∙ inv.same;
     }
 

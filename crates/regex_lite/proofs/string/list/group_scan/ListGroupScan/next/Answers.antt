@@ -1,25 +1,56 @@
-use Rattle.std.proofs.Common.{rules}
-use Rattle.regex_lite.proofs.string.ListScanLemmas.{groups_of_list_came, last_of_list, list_was_not_over}
+use Rattle.std.proofs.Common.{ℕ, List, subst, ap, rules}
+use Rattle.regex_lite_engine.specs.Search.Answer.{Found}
+use Rattle.regex_lite.specs.Expression.{Expression}
+use Rattle.regex_lite.specs.Groups.{Groups}
+use Rattle.regex_lite.specs.ListAhead.{AreGroupsFoundInList}
+use Rattle.regex_lite.specs.MatchList.{IsAnswerOfPatterns}
+use Rattle.regex_lite.specs.Scanning.{ListSearching}
+use Rattle.regex_lite.proofs.string.AnsweredLemmas.{not_over}
+use Rattle.regex_lite.proofs.string.LawfulLemmas.{patterns_lawful}
+use Rattle.regex_lite.proofs.string.ListScanLemmas.{numbered, whole_in_list}
+use Rattle.regex_lite.proofs.string.ScanLemmas.{groups_came, last_match}
 use Rattle.regex_lite.proofs.string.list.group_scan.ListGroupScan.next.Goals as goal
 
 pub captures-requires-clause-last : goal.captures-requires-clause-last
 captures-requires-clause-last c =
-    let steps = c.in_ok-found.ensures.steps in
-    (steps.0, last_of_list c.self.inside.scan c.next.new.self c.in_ok-found.found steps)
+    let old = c.self.inside.scan in
+    let new = c.next.new.self in
+    let told = c.in_ok-found.found in
+    let came = numbered old new told c.in_ok-found.ensures.steps in
+    rw (c.finder.ensures, c.cursor-cursor.ensures.haystack) (
+      came.0,
+      last_match (λ (own : ListSearching). own.list) (λ own. own.slots)
+          (λ (own : ℕ × Found). own.1) (λ own. own.0) IsAnswerOfPatterns old new told came,
+    )
 
 pub returns-in-Ok-clause-steps : goal.returns-in-Ok-clause-steps
 returns-in-Ok-clause-steps c =
-    let steps = c.in_ok-found.ensures.steps in
-    let found = c.in-Ok.ensures.groups steps.0
-    (last_of_list c.self.inside.scan c.next.new.self c.in_ok-found.found steps) in
-    rw (← c.self.view_is)
-    (groups_of_list_came c.self.inside.scan c.next.new.self c.in_ok-found.found steps c.in-Ok.caps
-    found)
+    let old = c.self.inside.scan in
+    let new = c.next.new.self in
+    let told = c.in_ok-found.found in
+    let came = numbered old new told c.in_ok-found.ensures.steps in
+    let last = last_match (λ (own : ListSearching). own.list) (λ own. own.slots)
+    (λ (own : ℕ × Found). own.1) (λ own. own.0) IsAnswerOfPatterns old new told came in
+    let are = c.in-Ok.ensures.groups came.0
+    (rw (c.finder.ensures, c.cursor-cursor.ensures.haystack) last) in
+    let there : AreGroupsFoundInList new.finder.list old.haystack told.0 came.0.1 c.in-Ok.caps =
+    subst (λ list. AreGroupsFoundInList list old.haystack told.0 came.0.1 c.in-Ok.caps)
+    (ap (λ (own : ListSearching). own.list) c.finder.ensures)
+    (subst (λ bytes. AreGroupsFoundInList c.finder.result.now.list bytes told.0 came.0.1
+    c.in-Ok.caps) c.cursor-cursor.ensures.haystack are) in
+    rw (← c.self.view_is) (
+      came.0.1,
+      groups_came (λ (own : ListSearching). own.list) (λ own. own.slots)
+          (λ (own : ℕ × Found). own.1) (λ own. own.0) IsAnswerOfPatterns old new told came
+          (λ list bytes answer groups. AreGroupsFoundInList list bytes answer.0 answer.1 groups)
+          whole_in_list c.in-Ok.caps there,
+    )
 
 pub returns-in-Err-clause-steps : goal.returns-in-Err-clause-steps
 returns-in-Err-clause-steps c =
-    let not_over = list_was_not_over c.self.inside.scan c.next.new.self c.in_ok-found.found
-    c.in_ok-found.ensures.steps in (
+    let came = c.in_ok-found.ensures.steps in
+    let not_over = not_over (λ (own : ℕ × Found). own.1) IsAnswerOfPatterns patterns_lawful _ came.0
+    _ came.4 in (
       c.in-Err.ensures.refused,
       rw (← c.self.view_is) not_over,
       search rules,

@@ -4,7 +4,7 @@ use Rattle.regex_lite.specs.declared.string.list.compiled.CompiledList.{Compiled
 use Rattle.regex_lite.specs.Compiled.{groups_of}
 use Rattle.regex_lite.specs.CompiledList.{groups_at}
 use Rattle.regex_lite.specs.Groups.{AreGroups}
-use Rattle.regex_lite.specs.ListScanning.{ListSearching}
+use Rattle.regex_lite.specs.Scanning.{ListSearching}
 use Rattle.regex_lite.specs.MatchViews.{span_of_match}
 use Rattle.regex_lite.specs.RegexList.{AreTrees}
 use Rattle.regex_lite.specs.Slots.{all_slots}
@@ -51,7 +51,7 @@ new-requires c =
     slots c.requires.room c.requires.last.0 a.last.now c.requires.last.1 filled)
 
 pub returns-clause-groups : goal.returns-clause-groups
-returns-clause-groups c = λ found last.
+returns-clause-groups c = λ answer last.
     let a = c.args in
     let span = span_of_match a.last.now.1 in
     let own = c.list.inside.compiled in
@@ -72,5 +72,5 @@ returns-clause-groups c = λ found last.
     ∙ ap (take (2 * length (groups_at own.graph.groups number).capture_names))
     (held ∙ ap (λ (z : ListSearching). all_slots z.slots span) c.self.view_is) in
     last_groups a.haystack.now c.utf8.haystack a.self.now.list own built given a.self.now.slots
-    slots c.requires.room found a.last.now last filled c.new.result
+    slots c.requires.room answer a.last.now last filled c.new.result
     (c.new.ensures ∙ ap (groups_of a.haystack.now slots) stored)
