@@ -11,7 +11,7 @@ use Rattle.regex_lite.specs.declared.string.find_iter.Matches.{Matches}
 use Rattle.regex_lite.specs.declared.string.captures_iter.CaptureMatches.{CaptureMatches}
 use Rattle.regex_lite.specs.Expression.{Expression, OfTree}
 use Rattle.regex_lite.specs.Groups.{Groups, whole_span}
-use Rattle.regex_lite.specs.MatchList.{AreSomeWithin, AreWithin, IsAnswerOf, IsNextAnswer, one_less}
+use Rattle.regex_lite.specs.MatchList.{AreSomeWithin, AreWithin, IsAnswerOf, IsNext, IsNextAnswer, one_less}
 use Rattle.regex_lite.specs.MatchViews.{span_of_match}
 use Rattle.regex_lite.specs.Scanning.{IsMatchWithSlots, RegexSearching, Scanning}
 use Rattle.regex_lite.specs.Searches.{IsMatchOf, AreGroupsOf}
@@ -85,7 +85,7 @@ AreFirstAhead a = AreSomeWithin a.sought (chars a.haystack) a.limit a.ended
 
 -- this is the match that comes next, or there is none
 abbrev pub ComesNext : Ahead → Option Found → Type 0
-ComesNext a found = AnswerComesNext (λ own. own) IsAnswerOf a found
+ComesNext a = IsNext a.sought (chars a.haystack) a.ended
 
 -- no match is ahead
 abbrev pub IsOver : Ahead → Type 0

@@ -8,10 +8,10 @@ use Rattle.regex_lite_engine.specs.Search.Offsets.{position_at}
 use Rattle.regex_lite.specs.declared.string.matches.Match.{Match}
 use Rattle.regex_lite.specs.declared.string.list.find_iter.ListMatches.{ListMatches}
 use Rattle.regex_lite.specs.declared.string.list.captures_iter.ListCaptureMatches.{ListCaptureMatches}
-use Rattle.regex_lite.specs.Ahead.{AheadOf, AnswerComesNext, AreGroupsFound, EndsAhead, IsOnward, NoneIsAhead, PassesAnswer, ahead_by, at_end, most_ahead, whole}
+use Rattle.regex_lite.specs.Ahead.{AheadOf, AreGroupsFound, EndsAhead, IsOnward, NoneIsAhead, PassesAnswer, ahead_by, at_end, most_ahead, whole}
 use Rattle.regex_lite.specs.Expression.{Expression}
 use Rattle.regex_lite.specs.Groups.{Groups, whole_span}
-use Rattle.regex_lite.specs.MatchList.{AreWithinOfList, IsAnswerOfPatterns}
+use Rattle.regex_lite.specs.MatchList.{AreWithinOfList, IsAnswerOfPatterns, IsNextOfList}
 use Rattle.regex_lite.specs.MatchViews.{span_of_match}
 use Rattle.regex_lite.specs.Scanning.{ListSearching, Scanning}
 use Rattle.regex_lite.specs.Searches.{IsMatchOf}
@@ -31,7 +31,7 @@ AreListAhead a = AreWithinOfList a.sought (chars a.haystack) a.limit a.ended
 
 -- this is the match that comes next, or there is none
 abbrev pub ListComesNext : ListAhead → Option (ℕ × Found) → Type 0
-ListComesNext a answer = AnswerComesNext (λ own. own.1) IsAnswerOfPatterns a answer
+ListComesNext a = IsNextOfList a.sought (chars a.haystack) a.ended
 
 -- no match is ahead
 abbrev pub IsListOver : ListAhead → Type 0

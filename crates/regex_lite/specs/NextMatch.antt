@@ -10,12 +10,12 @@ use Rattle.regex_lite.specs.Scanning.{IsMatchWithSlots}
 use Rattle.regex_lite.specs.Searches.{CanStartAt}
 
 -- what is told of the answer after a match that ended at this offset: nothing where there is none,
--- and else its match, with the number of the pattern. It ends at the offset of the answer's end, and
--- further on. These are its slots
+-- and else its match, with the number of the pattern. It ends at the offset of the answer's end,
+-- and further on. These are its slots
 module _ {A N : Type 0} (found_of : A → Found) (number_of : A → N)
     (Answers : (s : ℕ) → Option A → Type 0) (haystack : List ℕ) where
-  abbrev pub TellsNextMatch : (ended : Option ℕ) → (slots : List (Option ℕ)) → Option (N × Match)
-      → Type 0
+  abbrev pub TellsNextMatch : (ended : Option ℕ) → (slots : List (Option ℕ))
+      → Option (N × Match) → Type 0
   TellsNextMatch ended slots None =
       IsNextAnswer found_of Answers (option_map (position_at haystack) ended) None
   TellsNextMatch ended slots (Some told) =

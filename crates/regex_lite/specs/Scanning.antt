@@ -83,8 +83,8 @@ IsMatchOfSearch found_of number_of Answers haystack slots answer told =
 abbrev pub IsMatchOfRegex : Expression → (haystack : List ℕ) → (slots : List (Option ℕ)) → Found
     → Match → Type 0
 IsMatchOfRegex re haystack slots found m =
-    IsMatchOfSearch (λ own. own) (λ own. tt {0}) (IsAnswerOf re (chars haystack)) haystack slots found
-    (tt {0}, m)
+    IsMatchOfSearch (λ own. own) (λ own. tt {0}) (IsAnswerOf re (chars haystack)) haystack slots
+    found (tt {0}, m)
 
 -- and of searches for several patterns
 abbrev pub IsMatchOfPatterns : List Expression → (haystack : List ℕ) → (slots : List (Option ℕ))

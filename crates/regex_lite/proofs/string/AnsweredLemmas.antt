@@ -45,7 +45,8 @@ begun_on start old new made more (Some e) now end found begins begun passes is =
     subst (IsBegun start new more) (sym is) begun
 begun_on start old new made more None now end found begins begun passes is =
     subst (IsBegun start new more) (sym is)
-    (not_over (λ own. own) IsAnswerOf regex_lawful start found new (subst (λ a. Passes a found new) begun.0 passes))
+    (not_over (λ own. own) IsAnswerOf regex_lawful start found new
+    (subst (λ a. Passes a found new) begun.0 passes))
 
 -- the new text: the haystack itself where nothing was passed, and else the text that was made with
 -- the rest of the haystack

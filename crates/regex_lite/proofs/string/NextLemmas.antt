@@ -90,7 +90,8 @@ module _ {A N : Type 0} (found_of : A → Found) (number_of : A → N) (bytes : 
   pub first_told : (told : Option (N × Match)) → IsCharBoundary bytes 0
       → Told (search_start bytes 0) told → Tells None told
   first_told told edge tells =
-      told_next 0 None told (subst (λ s. Told s told) (first_position bytes) (at_start 0 told edge tells))
+      told_next 0 None told
+      (subst (λ s. Told s told) (first_position bytes) (at_start 0 told edge tells))
       (λ answer is. is) (λ found within. tt)
 
   module _ (at : ℕ) (edge : IsCharBoundary bytes at) where

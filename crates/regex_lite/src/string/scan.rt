@@ -227,8 +227,8 @@ fn match_at<'h, F: Finds>(
     Some((number, Match::new(haystack, from, to)))
 }
 
-/// Where the character ends that stands at this offset. At the haystack's end, where none stands, it
-/// is an offset above the length, from which nothing is found.
+/// Where the character ends that stands at this offset. At the haystack's end, where none stands,
+/// it is an offset above the length, from which nothing is found.
 fn next_offset(haystack: &str, at: usize) -> usize
     requires { IsCharBoundary haystack.now at }
     ensures { IsNextOffset haystack.now at result }

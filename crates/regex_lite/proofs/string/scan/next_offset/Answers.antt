@@ -12,7 +12,8 @@ returns-in-Some c =
     let rest = c.next.new.self.rest.now in
     let parts : drop at haystack ≡ encode c.in-Some.c ++ rest = search rules in
     let len : len_utf8 c.in-Some.c ≡ c.len_utf8.result = search rules in
-    let (edge, next) = next_position haystack c.utf8.haystack at c.in-Some.c rest c.requires parts in
+    let (edge, next) = next_position haystack c.utf8.haystack at c.in-Some.c rest c.requires
+    parts in
     subst (λ n. IsNextOffset haystack at (at + n)) len (record {
       can_start = inr edge;
       starts = start_position haystack (at + len_utf8 c.in-Some.c) edge ∙ next;

@@ -1,4 +1,5 @@
-use Rattle.std.proofs.Common.{sym, ap, rules}
+use Rattle.std.proofs.Common.{ap, rules}
+use Rattle.regex_lite.specs.declared.string.matches.Match.{Match}
 use Rattle.regex_lite.specs.Ahead.{AreGroupsFound}
 use Rattle.regex_lite.specs.MatchList.{IsAnswerOf}
 use Rattle.regex_lite.specs.Scanning.{RegexSearching}
@@ -21,7 +22,7 @@ captures-requires-clause-last c =
 pub returns-in-Ok-clause-steps : goal.returns-in-Ok-clause-steps
 returns-in-Ok-clause-steps c =
     let came = c.in_ok-found.ensures.steps in
-    let told = (tt {0}, c.in_ok-found.found) in
+    let told : Unit {0} × Match = (tt {0}, c.in_ok-found.found) in
     let old = c.self.inside.scan in
     let new = c.next.new.self in
     let last = last_match (λ (own : RegexSearching). own.regex) (λ own. own.slots) (λ own. own)
@@ -32,12 +33,10 @@ returns-in-Ok-clause-steps c =
     c.cursor-cursor.result.haystack.now old.haystack came.0 c.in-Ok.caps
     (ap (λ (own : RegexSearching). own.regex) c.finder.ensures) c.cursor-cursor.ensures.haystack
     are in
-    rw (← c.self.view_is) (
-      came.0,
-      groups_came (λ (own : RegexSearching). own.regex) (λ own. own.slots) (λ own. own)
-          (λ own. tt {0}) IsAnswerOf old new told came AreGroupsFound whole_of_groups c.in-Ok.caps
-          there,
-    )
+    let groups = groups_came (λ (own : RegexSearching). own.regex) (λ own. own.slots) (λ own. own)
+    (λ own. tt {0}) IsAnswerOf old new told came AreGroupsFound whole_of_groups c.in-Ok.caps
+    there in
+    rw (← c.self.view_is) (came.0, groups.0, groups.1, groups.2, groups.3)
 
 pub returns-in-Err-clause-steps : goal.returns-in-Err-clause-steps
 returns-in-Err-clause-steps c =

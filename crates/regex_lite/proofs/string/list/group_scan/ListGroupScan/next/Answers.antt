@@ -38,13 +38,11 @@ returns-in-Ok-clause-steps c =
     (ap (λ (own : ListSearching). own.list) c.finder.ensures)
     (subst (λ bytes. AreGroupsFoundInList c.finder.result.now.list bytes told.0 came.0.1
     c.in-Ok.caps) c.cursor-cursor.ensures.haystack are) in
-    rw (← c.self.view_is) (
-      came.0.1,
-      groups_came (λ (own : ListSearching). own.list) (λ own. own.slots)
-          (λ (own : ℕ × Found). own.1) (λ own. own.0) IsAnswerOfPatterns old new told came
-          (λ list bytes answer groups. AreGroupsFoundInList list bytes answer.0 answer.1 groups)
-          whole_in_list c.in-Ok.caps there,
-    )
+    let groups = groups_came (λ (own : ListSearching). own.list) (λ own. own.slots)
+    (λ (own : ℕ × Found). own.1) (λ own. own.0) IsAnswerOfPatterns old new told came
+    (λ list bytes answer groups. AreGroupsFoundInList list bytes answer.0 answer.1 groups)
+    whole_in_list c.in-Ok.caps there in
+    rw (← c.self.view_is) (came.0.1, groups.0, groups.1, groups.2, groups.3)
 
 pub returns-in-Err-clause-steps : goal.returns-in-Err-clause-steps
 returns-in-Err-clause-steps c =
