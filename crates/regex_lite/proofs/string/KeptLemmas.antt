@@ -2,14 +2,17 @@
 use Rattle.std.proofs.Common.{◌≡◌, ◌≤◌, ◌*◌, ◌∙◌, refl, sym, ap, subst, ℕ, List, [], length, take, Option, Some, None, option_map, chars, IsUtf8, arith}
 use Rattle.regex_lite_syntax.specs.Tree.{Tree}
 use Rattle.regex_lite_syntax.specs.Tree.Properties.{captures_len}
-use Rattle.regex_lite_engine.specs.Search.Answer.{Found, IsFound}
+use Rattle.regex_lite_engine.specs.Graph.Renumbered.{IsGraphOf}
+use Rattle.regex_lite_engine.specs.Search.Answer.{Found}
 use Rattle.regex_lite_engine.specs.Search.Offsets.{HasSlots, offset, position_at, search_start}
 use Rattle.regex_lite_engine.specs.Search.Outcomes.{IsSpanOutcome}
+use Rattle.regex_lite_engine.specs.Search.Searching.{Searching}
 use Rattle.regex_lite_engine.proofs.PositionLemmas.{position_of}
 use Rattle.regex_lite.specs.declared.string.matches.Match.{Match}
 use Rattle.regex_lite.specs.Answers.{IsWithin}
 use Rattle.regex_lite.specs.Expression.{Expression, OfTree}
 use Rattle.regex_lite.specs.Groups.{spans_of}
+use Rattle.regex_lite.specs.Keeping.{SearchesForGroups}
 use Rattle.regex_lite.specs.MatchList.{IsAnswerOf}
 use Rattle.regex_lite.specs.MatchViews.{span_of_match}
 use Rattle.regex_lite.specs.Searches.{CanRead, IsMatchOf, TellsLocations, TellsMatch, spans_from}
@@ -19,6 +22,13 @@ use Rattle.regex_lite.proofs.string.FoundLemmas.{first_told, length_spans, slots
 use Rattle.regex_lite.proofs.string.LawfulLemmas.{regex_lawful}
 use Rattle.regex_lite.proofs.string.OneTreeLemmas.{one_tree}
 use Rattle.regex_lite.proofs.string.ToldLemmas.{not_there, same_some}
+
+-- after a search a searcher still finds groups
+pub still_searches : (re : Expression) (old new : Searching) → SearchesForGroups re (Some old)
+    → new.graph ≡ old.graph → length new.slots ≡ length old.slots
+    → SearchesForGroups re (Some new)
+still_searches re old new ((tree, given, (regular, is)), (own, given_too, two)) graph slots =
+    ((tree, given, (regular, subst (IsGraphOf tree) (sym graph) is)), (own, given_too, slots ∙ two))
 
 module _ (re : Expression) (bytes : List ℕ) (utf8 : IsUtf8 bytes) (start : ℕ) (m : Match)
     (own : TellsMatch re bytes start (Some m)) where
