@@ -8,7 +8,7 @@ use Rattle.regex_lite_engine.specs.Search.Offsets.{position_at}
 use Rattle.regex_lite.specs.declared.string.matches.Match.{Match}
 use Rattle.regex_lite.specs.declared.string.list.find_iter.ListMatches.{ListMatches}
 use Rattle.regex_lite.specs.declared.string.list.captures_iter.ListCaptureMatches.{ListCaptureMatches}
-use Rattle.regex_lite.specs.Ahead.{AheadOf, AreGroupsFound, EndsAhead, IsOnward, NoneIsAhead, PassesAnswer, ahead_by, at_end, most_ahead, whole}
+use Rattle.regex_lite.specs.Ahead.{AheadOf, AreGroupsFound, EndsAhead, IsOnward, NoneIsAhead, PassesAnswer, after, ahead_by, at_end, most_ahead, whole}
 use Rattle.regex_lite.specs.Expression.{Expression}
 use Rattle.regex_lite.specs.Groups.{Groups, whole_span}
 use Rattle.regex_lite.specs.MatchList.{AreWithinOfList, IsAnswerOfPatterns, IsNextOfList}
@@ -24,6 +24,10 @@ ListAhead = AheadOf (List Expression)
 -- all of them
 abbrev pub whole_list : List Expression → (haystack : List ℕ) → ListAhead
 whole_list list haystack = whole list haystack None
+
+-- those after a match that ended at this offset, or all
+abbrev pub list_after : List Expression → (haystack : List ℕ) → (ended : Option ℕ) → ListAhead
+list_after list haystack ended = after list haystack ended
 
 -- these are the matches ahead, each with the number of its pattern
 abbrev pub AreListAhead : ListAhead → List (ℕ × Found) → Type 0

@@ -1,7 +1,7 @@
 //! The matches of several patterns in a haystack, one after another.
-ghost use Rattle.std.specs.Prelude.{◌≡◌, None, IfOk, IfErr};
+ghost use Rattle.std.specs.Prelude.{◌≡◌, None, IfOk, IfErr, IsCharBoundary, unwrap_or};
 ghost use Rattle.regex_lite_syntax.specs.Errors.{out_of_memory};
-ghost use Rattle.regex_lite.specs.ListAhead.{list_ahead_of, whole_list};
+ghost use Rattle.regex_lite.specs.ListAhead.{list_after, list_ahead_of, whole_list};
 
 use crate::string::list::RegexList;
 use crate::string::list::searcher::ListSearcher;
@@ -40,6 +40,41 @@ impl RegexList {
         let searcher = ListSearcher::new(self, 0)?;
         Ok(ListMatches {
             scan: Scan::new(searcher, haystack, None),
+        })
+    }
+
+    /// The matches that [`RegexList::find_iter`] gives after one that ended at this offset; `None`
+    /// stands for its start. So a list of matches can be gone on with.
+    ///
+    /// Condition: the offset is on a character boundary of the haystack.
+    ///
+    /// ```
+    /// let list = RegexList::new(alloc, &["if", "[a-z]+", "[0-9]+"])?;
+    /// for (number, found) in list.find_iter_after("if x1", Some(2))? {
+    ///     number; // 1, then 2
+    ///     found.range(); // 3..4, then 4..5
+    /// }
+    /// ```
+    ///
+    /// The test `examples::lists::later_matches` in tests/unit runs this example.
+    ///
+    /// # Errors
+    ///
+    /// `Memory` if memory runs out. The items need no memory, so they never fail.
+    pub fn find_iter_after<'r, 'h>(
+        &'r self,
+        haystack: &'h str,
+        ended: Option<usize>,
+    ) -> Result<ListMatches<'r, 'h>, Error>
+        requires { IsCharBoundary haystack.now (unwrap_or ended 0) }
+        ensures ahead { IfOk result
+            (λ it. list_ahead_of it ≡ list_after self.now haystack.now ended) }
+        ensures begins { IfOk result (λ it. it.scan.ended ≡ ended) }
+        ensures refused { IfErr result (λ error. error ≡ out_of_memory) }
+    {
+        let searcher = ListSearcher::new(self, 0)?;
+        Ok(ListMatches {
+            scan: Scan::after(searcher, haystack, ended),
         })
     }
 }
