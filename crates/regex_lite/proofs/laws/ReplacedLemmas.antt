@@ -119,7 +119,7 @@ module _ {R : Type 0} (template : R → List ℕ) (re : Expression) (hay : List 
   whole_replaced : (limit : Option ℕ) (rep after : R) (fixed : Option (List ℕ)) (new : List ℕ)
       → template rep ≡ codes "$0" → TemplateFixed template rep fixed after
       → IsReplaced (TemplateFixed template) (TemplateAppends template) fixed after
-      (record { regex = re; haystack = hay; limit = limit; ended = None }) new
+      (record { sought = re; haystack = hay; limit = limit; ended = None }) new
       → new ≡ hay
   whole_replaced limit rep after None new is (has, same) in_turn =
       whole_chain limit None 0 in_turn.found in_turn.groups after new refl (ap template same ∙ is)

@@ -53,3 +53,7 @@ returns-in-Err-clause-steps c =
       rw (← c.self.view_is) not_over,
       search rules,
     )
+
+pub returns-in_err-found-clause-steps : goal.returns-in_err-found-clause-steps
+returns-in_err-found-clause-steps c =
+    rw (c.from_residual.ensures, ← c.self.view_is) c.in_err-found.ensures.steps
