@@ -1,4 +1,4 @@
-use Rattle.std.proofs.Common.{rules, ◌+◌, ◌∷◌, [], None, ap, sym, subst, arith}
+use Rattle.std.proofs.Common.{◌+◌, ◌∷◌, [], None, ap, sym, subst, arith}
 use Rattle.std.specs.Prelude.{chars}
 use Rattle.std.proofs.lemmas.Option.{slice_get_within}
 use Rattle.regex_lite_engine.specs.declared.lazy_dfa.scan.Standing.{Standing}
