@@ -1,5 +1,5 @@
 -- What a searcher that callers keep holds.
-use Rattle.std.specs.Prelude.{◌≡◌, ◌*◌, ℕ, Option, Some, None, length}
+use Rattle.std.specs.Prelude.{◌≡◌, ◌*◌, Option, Some, None, length}
 use Rattle.regex_lite_syntax.specs.Tree.Properties.{captures_len}
 use Rattle.regex_lite_engine.specs.Search.Searching.{Searching}
 use Rattle.regex_lite.specs.Compiled.{SearchesFor}

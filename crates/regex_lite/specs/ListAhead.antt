@@ -1,10 +1,9 @@
 -- What an iterator over the matches of several patterns has ahead of it.
-use Rattle.std.specs.Prelude.{◌≡◌, ◌≢◌, ◌⊎◌, ℕ, List, Option, Some, None, MatchOption, Result, MatchResult, chars, length, option_map, slice_get}
+use Rattle.std.specs.Prelude.{◌≡◌, ℕ, List, Option, Some, None, MatchOption, Result, MatchResult, chars, slice_get}
 use Rattle.std.specs.Iterator.{Count, at_most}
 use Rattle.regex_lite_syntax.specs.declared.error.Error.{Error}
 use Rattle.regex_lite_syntax.specs.Errors.{out_of_memory}
 use Rattle.regex_lite_engine.specs.Search.Answer.{Found}
-use Rattle.regex_lite_engine.specs.Search.Offsets.{position_at}
 use Rattle.regex_lite.specs.declared.string.matches.Match.{Match}
 use Rattle.regex_lite.specs.declared.string.list.find_iter.ListMatches.{ListMatches}
 use Rattle.regex_lite.specs.declared.string.list.captures_iter.ListCaptureMatches.{ListCaptureMatches}

@@ -22,16 +22,16 @@ use Rattle.regex_lite.proofs.string.ToldLemmas.{not_there}
 module _ {S A : Type 0} (found_of : A → Found)
     (IsAnswerTo : S → Text → (s : ℕ) → Option A → Type 0)
     (lawful : (own : S) (haystack : Text) → AreLawful found_of haystack (IsAnswerTo own haystack))
-    where
-  pub not_over : (start : AheadOf S) (answer : A) (new : AheadOf S)
-      → PassesAnswer found_of IsAnswerTo start answer new
-      → NoneIsAhead found_of IsAnswerTo start → ⊥
-  not_over start answer new passes (inl none_left) = passes.may_come none_left
-  not_over start answer new passes (inr none) =
-      not_there (one_next found_of (chars start.haystack)
-      (IsAnswerTo start.sought (chars start.haystack))
-      (lawful start.sought (chars start.haystack)) start.ended None (Some answer) none
-      passes.comes)
+  where
+    pub not_over : (start : AheadOf S) (answer : A) (new : AheadOf S)
+        → PassesAnswer found_of IsAnswerTo start answer new
+        → NoneIsAhead found_of IsAnswerTo start → ⊥
+    not_over start answer new passes (inl none_left) = passes.may_come none_left
+    not_over start answer new passes (inr none) =
+        not_there (one_next found_of (chars start.haystack)
+        (IsAnswerTo start.sought (chars start.haystack))
+        (lawful start.sought (chars start.haystack)) start.ended None (Some answer) none
+        passes.comes)
 
 -- a replacement either passed a match, or nothing was made and all is still ahead
 abbrev pub IsBegun : (start a : Ahead) → (made : List ℕ) → (ended : Option ℕ) → Type 0

@@ -1,5 +1,5 @@
 -- What a searcher that callers keep tells of a match, and of its groups.
-use Rattle.std.proofs.Common.{◌≡◌, ◌≤◌, ◌*◌, ◌∙◌, refl, sym, ap, subst, ℕ, List, [], length, take, Option, Some, None, option_map, chars, IsUtf8, arith}
+use Rattle.std.proofs.Common.{◌≡◌, ◌≤◌, ◌*◌, ◌/◌, ◌∙◌, refl, sym, ap, subst, ℕ, List, [], length, take, Option, Some, None, option_map, chars, IsUtf8, arith}
 use Rattle.regex_lite_syntax.specs.Tree.{Tree}
 use Rattle.regex_lite_syntax.specs.Tree.Properties.{captures_len}
 use Rattle.regex_lite_engine.specs.Graph.Renumbered.{IsGraphOf}
@@ -29,6 +29,14 @@ pub still_searches : (re : Expression) (old new : Searching) → SearchesForGrou
     → SearchesForGroups re (Some new)
 still_searches re old new ((tree, given, (regular, is)), (own, given_too, two)) graph slots =
     ((tree, given, (regular, subst (IsGraphOf tree) (sym graph) is)), (own, given_too, slots ∙ two))
+
+-- one that finds groups has room for the locations
+pub room_for : (re : Expression) (searcher : Searching) → SearchesForGroups re (Some searcher)
+    → (locations : List (Option (ℕ × ℕ))) → CanRead re locations
+    → length locations ≤ length searcher.slots / 2
+room_for re searcher (searches, (own, given, two)) locations (other, given_too, few) =
+    let same = ap captures_len (one_tree re.flags (chars re.pattern) other own given_too given) in
+    omega (arith, few, same, two)
 
 module _ (re : Expression) (bytes : List ℕ) (utf8 : IsUtf8 bytes) (start : ℕ) (m : Match)
     (own : TellsMatch re bytes start (Some m)) where

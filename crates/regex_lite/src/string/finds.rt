@@ -35,11 +35,7 @@ pub(super) trait Finds {
 
     /// The first match that starts at this offset or later, with the number of its pattern. Its
     /// slots are kept.
-    fn find_at(
-        &mut self,
-        haystack: &str,
-        start: usize,
-    ) -> Option<(Self::Number, (usize, usize))>
+    fn find_at(&mut self, haystack: &str, start: usize) -> Option<(Self::Number, (usize, usize))>
         requires { CanStartAt haystack.now start }
         ensures found { TellsOfAnswer (IsAnswer (sought self.old) (chars haystack.now))
             (IsSpanWithSlots found_of number_of haystack.now (slots self.new))

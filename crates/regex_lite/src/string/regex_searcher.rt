@@ -1,7 +1,12 @@
 //! A searcher that callers keep, for one haystack after another.
-ghost use Rattle.std.specs.Prelude.{◌≡◌, ◌↔◌, ℕ, None, Some, IfOk, IfErr, IsTrue, length};
+ghost use Rattle.std.specs.Prelude.{◌≡◌, ◌↔◌, ◌≤◌, ◌/◌, ℕ, None, Some, IfOk, IfErr, IsTrue, length, take};
 ghost use Rattle.regex_lite_syntax.specs.Errors.{out_of_memory};
+ghost use Rattle.regex_lite_syntax.specs.Tree.{Tree};
+ghost use Rattle.regex_lite_syntax.specs.Tree.Regular.{IsRegular};
+ghost use Rattle.regex_lite_engine.specs.Graph.Renumbered.{IsGraphOf};
+ghost use Rattle.regex_lite_engine.specs.Search.Outcomes.{IsSpanOutcome};
 ghost use Rattle.regex_lite.specs.Compiled.{SearchesFor};
+ghost use Rattle.regex_lite.specs.Groups.{spans_of};
 ghost use Rattle.regex_lite.specs.Keeping.{SearchesForGroups};
 ghost use Rattle.regex_lite.specs.Searches.{CanRead, CanStartAt, MatchesFrom, TellsLocations, TellsMatch};
 
@@ -200,10 +205,30 @@ impl<'r> RegexSearcher<'r> {
             locs.write(&[Some(found.start()), Some(found.end())]);
             return;
         };
-        // From its own start on the match is found again, and now with its slots.
-        let _ = groups.search(haystack, found.start());
-        locs.write(groups.slots());
+        let _ = read_again(groups, haystack, found.start(), locs);
     }
+}
+
+/// Finds the match that starts first from this offset on again, now with its slots, and writes its
+/// groups to the locations. Returns its span.
+fn read_again(
+    searcher: &mut Searcher<'_>,
+    haystack: &str,
+    start: usize,
+    locs: &mut CaptureLocations,
+) -> Option<(usize, usize)>
+    requires start { CanStartAt haystack.now start }
+    requires room { length locs.old ≤ length searcher.old.slots / 2 }
+    ensures found { (tree : Tree) → IsRegular tree → IsGraphOf tree searcher.old.graph
+        → IsSpanOutcome tree haystack.now start searcher.new.slots result }
+    ensures spans { locs.new ≡ take (length locs.old) (spans_of searcher.new.slots) }
+    ensures len { length locs.new ≡ length locs.old }
+    ensures graph { searcher.new.graph ≡ searcher.old.graph }
+    ensures slots { length searcher.new.slots ≡ length searcher.old.slots }
+{
+    let found = searcher.search(haystack, start);
+    locs.write(searcher.slots());
+    found
 }
 
 /// Writes the regex as the only field of `RegexSearcher`.

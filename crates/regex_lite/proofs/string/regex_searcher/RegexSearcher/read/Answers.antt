@@ -1,12 +1,10 @@
-use Rattle.std.proofs.Common.{◌≡◌, ◌≤◌, ◌*◌, ◌∙◌, ℕ, List, [], ◌∷◌, length, take, Option, Some, None, sym, subst, ap, rules}
-use Rattle.regex_lite_syntax.specs.Tree.Properties.{captures_len}
+use Rattle.std.proofs.Common.{◌*◌, ◌∙◌, ℕ, [], ◌∷◌, length, take, Some, None, sym, subst, ap}
 use Rattle.regex_lite_engine.specs.Search.Outcomes.{IsSpanOutcome}
 use Rattle.regex_lite.specs.Expression.{Expression, OfTree}
-use Rattle.regex_lite.specs.Groups.{spans_of}
 use Rattle.regex_lite.specs.Keeping.{SearchesForGroups}
 use Rattle.regex_lite.specs.MatchViews.{span_of_match}
 use Rattle.regex_lite.specs.Slots.{all_slots}
-use Rattle.regex_lite.proofs.string.KeptLemmas.{locations_read, room_read, slots_again, slots_of_whole, still_searches}
+use Rattle.regex_lite.proofs.string.KeptLemmas.{locations_read, room_for, room_read, slots_again, slots_of_whole, still_searches}
 use Rattle.regex_lite.proofs.string.ToldLemmas.{same_pair, span_of}
 use Rattle.regex_lite.proofs.string.regex_searcher.RegexSearcher.read.Goals as goal
 
@@ -25,28 +23,33 @@ returns-in_default-clause-locations c = λ start told.
     ∙ ap (λ (span : ℕ × ℕ). take (length a.locs.now) (Some span ∷ []))
     (same_pair c.start.ensures c.end.ensures))
 
-pub write-requires-2 : goal.write-requires-2
-write-requires-2 c =
+pub write-requires : goal.write-requires
+write-requires c =
     let a = c.args in
     let re = a.self.now in
     let bytes = a.haystack.now in
     let m = a.found.now in
-    let slots = c.search.new.self.slots in
+    let only = subst (λ (re : Expression). SearchesForGroups re None) c.self.view_is
+    (subst (SearchesForGroups c.self.inside.regex.now) c.in_default.is c.self.invariant.1) in
+    room_read re bytes c.utf8.haystack c.requires.found.0 m c.requires.found.1
+    (all_slots [] (span_of_match m))
+    (slots_of_whole re bytes c.utf8.haystack c.requires.found.0 m c.requires.found.1)
+    (only.0, only.1, ap (λ n. 2 * n) (sym only.2)) a.locs.now c.requires.few
+
+pub read_again-requires-clause-room : goal.read_again-requires-clause-room
+read_again-requires-clause-room c =
     let own = subst (λ (re : Expression). SearchesForGroups re (Some c.in-Some.groups)) c.self.view_is
     (subst (SearchesForGroups c.self.inside.regex.now) c.in-Some.is c.self.invariant.1) in
-    let outcome = subst (λ at. OfTree re (λ tree. IsSpanOutcome tree bytes at slots c.search.result)) c.start-2.ensures
-    (span_of re c.in-Some.groups bytes c.start-2.result slots c.search.result own.0 c.search.ensures.found) in
-    let held = slots_again re bytes c.utf8.haystack c.requires.found.0 m c.requires.found.1 slots
-    c.search.result outcome in
-    subst (λ slots. length a.locs.now ≤ length (spans_of slots)) (sym c.slots.ensures)
-    (room_read re bytes c.utf8.haystack c.requires.found.0 m c.requires.found.1 slots held
-    (own.1.0, own.1.1, c.search.ensures.slots ∙ own.1.2) a.locs.now c.requires.few)
+    room_for c.args.self.now c.in-Some.groups own c.args.locs.now c.requires.few
 
 pub invariant_of-self-2 : goal.invariant_of-self-2
 invariant_of-self-2 c =
     let re = c.self.inside.regex.now in
-    let own = subst (SearchesForGroups re) c.in-Some.is c.self.invariant.1 in
-    (c.self.invariant.0, still_searches re c.in-Some.groups _ own (search rules) (search rules))
+    let own = subst (SearchesForGroups re) c.in-Some.is c.self.invariant.1 in (
+      c.self.invariant.0,
+      still_searches re c.in-Some.groups c.read_again.new.searcher own c.read_again.ensures.graph
+          c.read_again.ensures.slots,
+    )
 
 pub returns-clause-locations : goal.returns-clause-locations
 returns-clause-locations c = λ start told.
@@ -54,12 +57,15 @@ returns-clause-locations c = λ start told.
     let re = a.self.now in
     let bytes = a.haystack.now in
     let m = a.found.now in
-    let slots = c.search.new.self.slots in
+    let slots = c.read_again.new.searcher.slots in
+    let span = c.read_again.result in
     let own = subst (λ (re : Expression). SearchesForGroups re (Some c.in-Some.groups)) c.self.view_is
     (subst (SearchesForGroups c.self.inside.regex.now) c.in-Some.is c.self.invariant.1) in
-    let outcome = subst (λ at. OfTree re (λ tree. IsSpanOutcome tree bytes at slots c.search.result)) c.start-2.ensures
-    (span_of re c.in-Some.groups bytes c.start-2.result slots c.search.result own.0 c.search.ensures.found) in
-    let held = slots_again re bytes c.utf8.haystack start m told slots c.search.result outcome in
-    locations_read re bytes c.utf8.haystack start m told slots held
-    (own.1.0, own.1.1, c.search.ensures.slots ∙ own.1.2) (length a.locs.now) c.write-2.new.self
-    (c.write-2.ensures.spans ∙ ap (λ slots. take (length a.locs.now) (spans_of slots)) c.slots.ensures)
+    let outcome = subst (λ at. OfTree re (λ tree. IsSpanOutcome tree bytes at slots span))
+    c.start-2.ensures
+    (span_of re c.in-Some.groups bytes c.start-2.result slots span own.0 c.read_again.ensures.found)
+    in
+    locations_read re bytes c.utf8.haystack start m told slots
+    (slots_again re bytes c.utf8.haystack start m told slots span outcome)
+    (own.1.0, own.1.1, c.read_again.ensures.slots ∙ own.1.2) (length a.locs.now)
+    c.read_again.new.locs c.read_again.ensures.spans

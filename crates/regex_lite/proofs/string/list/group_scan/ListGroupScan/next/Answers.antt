@@ -1,7 +1,5 @@
-use Rattle.std.proofs.Common.{ℕ, List, subst, ap, rules}
+use Rattle.std.proofs.Common.{ℕ, subst, ap, rules}
 use Rattle.regex_lite_engine.specs.Search.Answer.{Found}
-use Rattle.regex_lite.specs.Expression.{Expression}
-use Rattle.regex_lite.specs.Groups.{Groups}
 use Rattle.regex_lite.specs.ListAhead.{AreGroupsFoundInList}
 use Rattle.regex_lite.specs.MatchList.{IsAnswerOfPatterns}
 use Rattle.regex_lite.specs.Scanning.{ListSearching}

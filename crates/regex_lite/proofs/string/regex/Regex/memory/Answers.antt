@@ -1,0 +1,13 @@
+use Rattle.std.proofs.Common.{ap, chars, subst, sym, ◌∙◌}
+use Rattle.regex_lite_syntax.specs.Grammar.{IsTree}
+use Rattle.regex_lite_engine.specs.Graph.Renumbered.{IsGraphOf}
+use Rattle.regex_lite.specs.declared.string.compiled.Compiled.{Compiled}
+use Rattle.regex_lite.proofs.string.regex.Regex.memory.Goals as goal
+
+pub returns-clause-searches : goal.returns-clause-searches
+returns-clause-searches c =
+    let regex = c.args.self.now in
+    let own = c.self.invariant in
+    let given : IsTree regex.flags (chars regex.pattern) own.tree = rw (← c.self.view_is) own.given in
+    let same = c.in_ok-inner.ensures.graph ∙ ap (λ (compiled : Compiled). compiled.graph) c.deref.ensures in
+    (own.tree, given, (own.regular, subst (IsGraphOf own.tree) (sym same) own.graph))
