@@ -8,3 +8,4 @@ pub mod RunLemmas
 pub mod ScanLemmas
 pub mod AlikeLemmas
 pub mod AutomatonLemmas
+pub mod OnceLemmas

@@ -14,3 +14,4 @@ pub(crate) mod single;
 pub(crate) mod spans;
 pub(crate) mod state;
 pub(crate) mod trial;
+mod turns;

@@ -8,7 +8,6 @@ ghost use Rattle.regex_lite_engine.specs.Search.Offsets.{position_at};
 ghost use Rattle.regex_lite_engine.specs.Search.Outcomes.{IsOutcome, HasCost};
 
 use crate::Graph;
-use crate::lazy_dfa::automaton::LazyDfa;
 use crate::lazy_dfa::remembering::pays_once;
 use crate::pikevm::search::Outcome;
 use crate::pikevm::steps::Steps;
@@ -51,10 +50,7 @@ impl Graph {
             return Ok((None, Steps::none()));
         }
         if slots == 0 && pays_once(self, haystack.len() - start) {
-            let mut made = LazyDfa::for_graph(alloc, self);
-            if let Some(dfa) = &mut made {
-                return self.search_remembering(alloc, dfa, haystack, start);
-            }
+            return self.search_remembering(alloc, haystack, start);
         }
         if self.has_few_pairs(haystack, start) {
             return self.search_depth_first(alloc, haystack, start, slots);

@@ -62,13 +62,42 @@ impl LazyDfa {
         ensures between { IsBetween (table_of graph.now) cache.new }
         ensures width { length cache.new.walk.memory.row ≡ 0 }
     {
-        let here = Here::at(haystack, start);
-        let mut at = Progress {
-            here,
-            state: None,
-            first: here.at,
-            until: 0,
-        };
+        let at = Progress::begun(haystack, start);
+        self.find_from(graph, cache, haystack, at, least)
+    }
+
+    /// The same from where a search stands.
+    pub(super) fn find_from(
+        &mut self,
+        graph: &Graph,
+        cache: &mut Cache<usize>,
+        haystack: &str,
+        from: Progress,
+        least: u128,
+    ) -> Option<(usize, usize)>
+        requires remembers { Remembers graph.now.places (graph.now.start ∷ []) self.old }
+        requires none_pending { self.old.pending ≡ [] }
+        requires stands { (s : ℕ)
+            × CanCount (table_of graph.now) 1 (characters_left (chars haystack.now) s)
+            × Stands (table_of graph.now) (chars haystack.now) (graph.now.start ∷ []) s self.old
+            from cache.old }
+        requires least { least ≤ 1 }
+        ensures found { (s : ℕ) → Stands (table_of graph.now) (chars haystack.now)
+            (graph.now.start ∷ []) s self.old from cache.old
+            → IsBestOutcomeOf (table_of graph.now) (chars haystack.now) (graph.now.start ∷ []) s
+            (best_told result) }
+        ensures bounded { (s : ℕ) → Stands (table_of graph.now) (chars haystack.now)
+            (graph.now.start ∷ []) s self.old from cache.old
+            → IsBoundedBy (length (table_of graph.now)) (arrows_of (table_of graph.now) + 1)
+            (chars haystack.now) s cache.new.walk.steps.tried cache.new.walk.steps.entered
+            cache.new.walk.steps.looked }
+        ensures entered { IfSome result (λ _. least ≤ cache.new.walk.steps.entered) }
+        ensures remembers { Remembers graph.now.places (graph.now.start ∷ []) self.new }
+        ensures none_pending { self.new.pending ≡ [] }
+        ensures between { IsBetween (table_of graph.now) cache.new }
+        ensures width { length cache.new.walk.memory.row ≡ 0 }
+    {
+        let mut at = from;
         'positions: loop {
             at = self.at_idle(graph, cache, haystack, at);
             if let Some(found) = self.look_ahead(graph, cache, haystack, &mut at, least) {
@@ -79,43 +108,7 @@ impl LazyDfa {
             if is_over(at.here, &cache.walk.memory, &cache.best) {
                 return cache.best.span();
             }
-            at = self.on(graph, cache, haystack, at);
-        }
-    }
-
-    /// Goes on to the next position. The state is that in which the search is there.
-    pub(super) fn on(
-        &self,
-        graph: &Graph,
-        cache: &Cache<usize>,
-        haystack: &str,
-        at: Progress,
-    ) -> Progress
-        requires state { MatchOption at.state (Unit {0})
-            (λ y. IsIn self.now y at.first at.here.after cache.now) }
-        requires first { at.first ≤ at.here.at }
-        requires on { (s p : ℕ) × IsHere (chars haystack.now) p at.here
-            × IsOnItsWay (table_of graph.now) (chars haystack.now) (graph.now.start ∷ []) s (p + 1)
-            cache.now }
-        requires more { IsSome at.here.after }
-        ensures stands { (s p : ℕ) → IsHere (chars haystack.now) p at.here
-            → IsOnItsWay (table_of graph.now) (chars haystack.now) (graph.now.start ∷ []) s (p + 1)
-            cache.now
-            → Stands (table_of graph.now) (chars haystack.now) (graph.now.start ∷ []) s self.now
-            result cache.now }
-        ensures later { at.here.at < result.here.at }
-    {
-        let here = at.here.next(haystack);
-        let first = if cache.walk.memory.threads() == 0 {
-            here.at
-        } else {
-            at.first
-        };
-        Progress {
-            here,
-            state: at.state,
-            first,
-            until: at.until,
+            at = cache.on(haystack, at);
         }
     }
 

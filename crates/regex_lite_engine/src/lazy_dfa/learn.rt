@@ -1,5 +1,5 @@
 //! Turns of a search, remembered.
-ghost use Rattle.std.specs.Prelude.{◌≡◌, ◌∷◌, [], ◌<◌, ◌≤◌, ◌++◌, ℕ, IfSome, Some, length, map, slice_get, true};
+ghost use Rattle.std.specs.Prelude.{◌≡◌, ◌∷◌, [], ◌<◌, ◌≤◌, ◌++◌, ℕ, IfSome, MatchOption, Some, length, map, slice_get, true};
 ghost use Rattle.regex_lite_engine.specs.Graph.Stored.{table_of};
 ghost use Rattle.regex_lite_engine.specs.LazyDfa.Automaton.{FitsTable, Remembers, State, hit_of, searching_after, ways_of};
 ghost use Rattle.regex_lite_engine.specs.LazyDfa.Intervals.{side_of};
@@ -10,6 +10,7 @@ ghost use Rattle.regex_lite_engine.specs.Walk.Turns.{best_of};
 
 use crate::Graph;
 use crate::lazy_dfa::automaton::LazyDfa;
+use crate::lazy_dfa::run::Progress;
 use crate::lazy_dfa::side::Side;
 use crate::lazy_dfa::state::Hit;
 use crate::pikevm::here::Here;
@@ -51,6 +52,29 @@ impl LazyDfa {
         let class = self.classes.class(taken.here.after);
         self.remember(taken.state, class, y);
         Some(y)
+    }
+
+    /// The state in which the search stands, with this first start, if there is room for it.
+    pub(super) fn state_at(
+        &mut self,
+        graph: &Graph,
+        at: Progress,
+        cache: &Cache<usize>,
+    ) -> Option<u16>
+        requires remembers { Remembers graph.now.places (graph.now.start ∷ []) self.old }
+        requires between { IsBetween (table_of graph.now) cache.now }
+        requires none_pending { self.old.pending ≡ [] }
+        ensures remembers { Remembers graph.now.places (graph.now.start ∷ []) self.new }
+        ensures state { MatchOption result (Unit {0})
+            (λ y. IsIn self.new y at.first at.here.before cache.now) }
+        ensures none_pending { self.new.pending ≡ [] }
+    {
+        if !self.gather(&cache.walk.memory, at.first) {
+            self.drop_pending();
+            return None;
+        }
+        let before = self.side(at.here.before);
+        self.settle(cache.best.is_none(), before, Hit::Nowhere)
     }
 
     /// Lets the threads of the position be the ways of a state that is to come. Returns whether

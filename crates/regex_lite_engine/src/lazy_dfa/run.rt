@@ -1,13 +1,14 @@
 //! Searches that remember their turns, and go by those that they remember.
-ghost use Rattle.std.specs.Prelude.{◌≡◌, ◌∷◌, [], ◌<◌, ◌≤◌, ◌^◌, ◌+◌, ℕ, List, IfSome, None, Some, chars, length, map, slice_index, true};
+ghost use Rattle.std.specs.Prelude.{◌≡◌, ◌∷◌, [], ◌<◌, ◌≤◌, ◌^◌, ◌+◌, ℕ, List, IsCharBoundary, IsSome, MatchOption, None, Some, chars, length, map, slice_index, true};
 ghost use Rattle.regex_lite_engine.specs.Graph.Places.{Place};
 ghost use Rattle.regex_lite_engine.specs.Graph.Stored.{table_of};
-ghost use Rattle.regex_lite_engine.specs.LazyDfa.Automaton.{threads_of};
-ghost use Rattle.regex_lite_engine.specs.LazyDfa.Running.{GoesOnWith, IsOnItsWay, started_at};
-ghost use Rattle.regex_lite_engine.specs.LazyDfa.Stored.{way_in};
+ghost use Rattle.regex_lite_engine.specs.LazyDfa.Automaton.{Automaton};
+ghost use Rattle.regex_lite_engine.specs.LazyDfa.Learning.{IsIn};
+ghost use Rattle.regex_lite_engine.specs.LazyDfa.Running.{GoesOnWith, IsOnItsWay, Stands, started_at};
 ghost use Rattle.regex_lite_engine.specs.Search.Bounds.{characters_left};
-ghost use Rattle.regex_lite_engine.specs.Walk.Outcomes.{CanCount};
-ghost use Rattle.regex_lite_engine.specs.Walk.Searching.{IsBetween, IsHit, TurnsAgain};
+ghost use Rattle.regex_lite_engine.specs.Search.Offsets.{position_at};
+ghost use Rattle.regex_lite_engine.specs.Walk.Outcomes.{CanCount, IsFresh};
+ghost use Rattle.regex_lite_engine.specs.Walk.Searching.{IsHit, TurnsAgain};
 ghost use Rattle.regex_lite_engine.specs.Walk.Standing.{IsHere};
 ghost use Rattle.regex_lite_engine.specs.Walk.Turns.{EndsAt, best_of};
 
@@ -15,6 +16,7 @@ use crate::Graph;
 use crate::lazy_dfa::state::StoredWay;
 use crate::pikevm::here::Here;
 use crate::pikevm::one_pattern::OnePattern;
+use crate::pikevm::patterns::Patterns;
 use crate::pikevm::turn::Cache;
 
 /// Where a search stands, and its state, if that is known.
@@ -28,7 +30,98 @@ pub(crate) struct Progress {
     pub until: usize,
 }
 
+impl Progress {
+    /// Where a search stands before its first turn.
+    pub(super) fn begun(haystack: &str, start: usize) -> Progress
+        requires { IsCharBoundary haystack.now start }
+        ensures { (table : List (Place ℕ)) (entries : List ℕ) (automaton : Automaton)
+            (cache : Cache ℕ) → IsFresh table cache → length cache.walk.memory.row ≡ 0
+            → Stands table (chars haystack.now) entries (position_at haystack.now start) automaton
+            result cache }
+    {
+        let here = Here::at(haystack, start);
+        Progress {
+            here,
+            state: None,
+            first: here.at,
+            until: 0,
+        }
+    }
+
+    /// The same place in this state.
+    pub(super) fn with_state(self, state: Option<u16>) -> Progress
+        ensures { result ≡ record self { state = state } }
+    {
+        Progress {
+            here: self.here,
+            state,
+            first: self.first,
+            until: self.until,
+        }
+    }
+}
+
 impl Cache<usize> {
+    /// Goes on to the next position. The state is that in which the search is there.
+    pub(super) fn on(&self, haystack: &str, at: Progress) -> Progress
+        requires here { (p : ℕ) × IsHere (chars haystack.now) p at.here }
+        requires more { IsSome at.here.after }
+        requires first { at.first ≤ at.here.at }
+        ensures stands { (table : List (Place ℕ)) (entries : List ℕ) (automaton : Automaton)
+            (s p : ℕ) → IsHere (chars haystack.now) p at.here
+            → IsOnItsWay table (chars haystack.now) entries s (p + 1) self.now
+            → MatchOption at.state (Unit {0})
+            (λ y. IsIn automaton y at.first at.here.after self.now)
+            → Stands table (chars haystack.now) entries s automaton result self.now }
+        ensures later { at.here.at < result.here.at }
+    {
+        let here = at.here.next(haystack);
+        let first = if self.walk.memory.threads() == 0 {
+            here.at
+        } else {
+            at.first
+        };
+        Progress {
+            here,
+            state: at.state,
+            first,
+            until: at.until,
+        }
+    }
+
+    /// Where there is neither a thread nor a match, passes over positions at which no match can
+    /// begin. The state isn't known then.
+    pub(super) fn pass_idle(&self, graph: &Graph, haystack: &str, at: Progress) -> Progress
+        requires { (s : ℕ) × (automaton : Automaton) × Stands (table_of graph.now)
+            (chars haystack.now) (graph.now.start ∷ []) s automaton at self.now }
+        ensures stands { (s : ℕ) (automaton : Automaton) → Stands (table_of graph.now)
+            (chars haystack.now) (graph.now.start ∷ []) s automaton at self.now
+            → Stands (table_of graph.now) (chars haystack.now) (graph.now.start ∷ []) s automaton
+            result self.now }
+        ensures unknown { result.state ≡ None }
+        ensures later { at.here.at ≤ result.here.at }
+    {
+        if self.walk.memory.threads() > 0 || !self.best.is_none() {
+            return Progress {
+                here: at.here,
+                state: None,
+                first: at.first,
+                until: at.until,
+            };
+        }
+        let pattern = OnePattern {
+            graph,
+            may_start: false,
+        };
+        let here = pattern.pass_over(haystack, at.here);
+        Progress {
+            here,
+            state: None,
+            first: here.at,
+            until: at.until,
+        }
+    }
+
     /// Goes over the position, at which the pattern may start. Returns whether a match is complete
     /// there.
     pub(super) fn go_over(&mut self, graph: &Graph, haystack: &str, here: Here) -> bool

@@ -55,13 +55,37 @@ impl LazyDfa {
             cache.new.walk.steps.entered cache.new.walk.steps.looked }
         ensures entered { IfSome result (λ _. 0 < cache.new.walk.steps.entered) }
     {
-        let here = Here::at(haystack, start);
-        let mut at = Progress {
-            here,
-            state: None,
-            first: here.at,
-            until: 0,
-        };
+        let at = Progress::begun(haystack, start);
+        self.find_shortest_from(graph, cache, haystack, at)
+    }
+
+    /// The same from where a search stands that has no match yet.
+    pub(super) fn find_shortest_from(
+        &mut self,
+        graph: &Graph,
+        cache: &mut Cache<usize>,
+        haystack: &str,
+        from: Progress,
+    ) -> Option<usize>
+        requires remembers { Remembers graph.now.places (graph.now.start ∷ []) self.old }
+        requires none_pending { self.old.pending ≡ [] }
+        requires none { best_of cache.old.best ≡ None }
+        requires stands { (s : ℕ)
+            × CanCount (table_of graph.now) 1 (characters_left (chars haystack.now) s)
+            × Stands (table_of graph.now) (chars haystack.now) (graph.now.start ∷ []) s self.old
+            from cache.old }
+        ensures found { (s : ℕ) → Stands (table_of graph.now) (chars haystack.now)
+            (graph.now.start ∷ []) s self.old from cache.old
+            → IsNumberedEndOf (table_of graph.now) (chars haystack.now) (graph.now.start ∷ []) s
+            (end_told result) }
+        ensures bounded { (s : ℕ) → Stands (table_of graph.now) (chars haystack.now)
+            (graph.now.start ∷ []) s self.old from cache.old
+            → IsBoundedBy (length (table_of graph.now)) (arrows_of (table_of graph.now) + 1)
+            (chars haystack.now) s cache.new.walk.steps.tried cache.new.walk.steps.entered
+            cache.new.walk.steps.looked }
+        ensures entered { IfSome result (λ _. 0 < cache.new.walk.steps.entered) }
+    {
+        let mut at = from;
         'positions: loop {
             at = self.at_idle(graph, cache, haystack, at);
             if let Some(end) = self.look_for_end(graph, cache, haystack, &mut at) {
@@ -72,7 +96,7 @@ impl LazyDfa {
                 return cache.best.end();
             }
             at.state = self.learn_at(graph, cache, at, hit);
-            at = self.on(graph, cache, haystack, at);
+            at = cache.on(haystack, at);
         }
     }
 

@@ -1,32 +1,38 @@
 //! Searches by themselves that remember their turns.
-ghost use Rattle.std.specs.Prelude.{◌≡◌, ◌<◌, [], IfOk, IfSome, IsCharBoundary, length};
+ghost use Rattle.std.specs.Prelude.{◌≡◌, ◌<◌, ◌+◌, ◌∷◌, [], IfOk, IfSome, IsCharBoundary, chars, length};
 ghost use Rattle.regex_lite_syntax.specs.Tree.{Tree};
 ghost use Rattle.regex_lite_syntax.specs.Tree.Regular.{IsRegular};
-ghost use Rattle.regex_lite_engine.specs.Graph.Renumbered.{IsGraphOf};
-ghost use Rattle.regex_lite_engine.specs.LazyDfa.Remembering.{RemembersAll};
+ghost use Rattle.regex_lite_engine.specs.Graph.Renumbered.{IsGraphOf, arrows_of};
+ghost use Rattle.regex_lite_engine.specs.Graph.Stored.{table_of};
+ghost use Rattle.regex_lite_engine.specs.LazyDfa.Scanning.{best_told, end_told};
+ghost use Rattle.regex_lite_engine.specs.Search.Bounds.{IsBoundedBy, characters_left};
+ghost use Rattle.regex_lite_engine.specs.Search.Offsets.{position_at};
 ghost use Rattle.regex_lite_engine.specs.Search.Outcomes.{HasCost, IsEndOutcome, IsOutcome};
-ghost use Rattle.regex_lite_engine.specs.Walk.Outcomes.{match_told};
+ghost use Rattle.regex_lite_engine.specs.Walk.Outcomes.{CanCount, IsBestOutcomeOf, IsFresh, IsNumberedEndOf, match_told};
 ghost use Rattle.regex_lite_engine.specs.Walk.Turns.{best_at};
 
 use crate::Graph;
 use crate::lazy_dfa::automaton::LazyDfa;
+use crate::lazy_dfa::run::Progress;
 use crate::pikevm::cache_for;
 use crate::pikevm::search::Outcome;
 use crate::pikevm::steps::Steps;
 use crate::pikevm::turn::Cache;
 use std::alloc::{AllocError, Global};
 
+/// A search takes so many turns before it gets an automaton. A match near the start is found sooner
+/// than one is made, which takes some 2,000 instructions and two or three requests for memory.
+const TURNS_WITHOUT: u32 = 64;
+
 impl Graph {
-    /// What [`Graph::search`] returns without slots, found with this automaton.
+    /// What [`Graph::search`] returns without slots, by an automaton if it isn't over soon.
     pub(crate) fn search_remembering(
         &self,
         alloc: Global,
-        dfa: &mut LazyDfa,
         haystack: &str,
         start: usize,
     ) -> Result<(Option<Outcome>, Steps), AllocError>
         requires boundary { IsCharBoundary haystack.now start }
-        requires remembers { RemembersAll self.now dfa.old }
         ensures found { IfOk result (λ told. (tree : Tree) → IsRegular tree
             → IsGraphOf tree self.now → IsOutcome tree haystack.now start told.0) }
         ensures slots { IfOk result (λ told. IfSome told.0
@@ -36,21 +42,19 @@ impl Graph {
         ensures entered { IfOk result (λ told. IfSome told.0 (λ _. 0 < told.1.entered)) }
     {
         let mut cache = cache_for::<usize>(alloc, self.table(), 0)?;
-        let span = dfa.find(self, &mut cache, haystack, start, 1);
+        let span = self.find_once(alloc, &mut cache, haystack, start);
         let Cache { walk, .. } = cache;
         Ok((without_slots(alloc, span), walk.steps))
     }
 
-    /// What [`Graph::search_shortest`] returns, found with this automaton.
+    /// What [`Graph::search_shortest`] returns, by an automaton if it isn't over soon.
     pub(crate) fn search_shortest_remembering(
         &self,
         alloc: Global,
-        dfa: &mut LazyDfa,
         haystack: &str,
         start: usize,
     ) -> Result<(Option<usize>, Steps), AllocError>
         requires boundary { IsCharBoundary haystack.now start }
-        requires remembers { RemembersAll self.now dfa.old }
         ensures found { IfOk result (λ told. (tree : Tree) → IsRegular tree
             → IsGraphOf tree self.now → IsEndOutcome tree haystack.now start told.0) }
         ensures cost { IfOk result (λ told. (tree : Tree) → IsGraphOf tree self.now
@@ -58,9 +62,79 @@ impl Graph {
         ensures entered { IfOk result (λ told. IfSome told.0 (λ _. 0 < told.1.entered)) }
     {
         let mut cache = cache_for::<usize>(alloc, self.table(), 0)?;
-        let end = dfa.find_shortest(self, &mut cache, haystack, start);
+        let end = self.find_shortest_once(alloc, &mut cache, haystack, start);
         let Cache { walk, .. } = cache;
         Ok((end, walk.steps))
+    }
+
+    /// Where the match starts and ends that a search for itself finds. It gets an automaton if it isn't over soon.
+    fn find_once(
+        &self,
+        alloc: Global,
+        cache: &mut Cache<usize>,
+        haystack: &str,
+        start: usize,
+    ) -> Option<(usize, usize)>
+        requires boundary { IsCharBoundary haystack.now start }
+        requires fresh { IsFresh (table_of self.now) cache.old }
+        requires counts { CanCount (table_of self.now) 1
+            (characters_left (chars haystack.now) (position_at haystack.now start)) }
+        requires width { length cache.old.walk.memory.row ≡ 0 }
+        ensures found { IsBestOutcomeOf (table_of self.now) (chars haystack.now)
+            (self.now.start ∷ []) (position_at haystack.now start) (best_told result) }
+        ensures bounded { IsBoundedBy (length (table_of self.now))
+            (arrows_of (table_of self.now) + 1) (chars haystack.now)
+            (position_at haystack.now start) cache.new.walk.steps.tried
+            cache.new.walk.steps.entered cache.new.walk.steps.looked }
+        ensures entered { IfSome result (λ _. 0 < cache.new.walk.steps.entered) }
+    {
+        let begun = Progress::begun(haystack, start);
+        let Some(at) = cache.take_turns(self, haystack, begun, Some(TURNS_WITHOUT)) else {
+            return cache.best.span();
+        };
+        let mut made = LazyDfa::for_graph(alloc, self);
+        let Some(dfa) = &mut made else {
+            cache.take_turns(self, haystack, at, None);
+            return cache.best.span();
+        };
+        let state = dfa.state_at(self, at, cache);
+        let known = at.with_state(state);
+        dfa.find_from(self, cache, haystack, known, 1)
+    }
+
+    /// Where the first match ends that a search for itself comes to. It gets an automaton if it isn't over soon.
+    fn find_shortest_once(
+        &self,
+        alloc: Global,
+        cache: &mut Cache<usize>,
+        haystack: &str,
+        start: usize,
+    ) -> Option<usize>
+        requires boundary { IsCharBoundary haystack.now start }
+        requires fresh { IsFresh (table_of self.now) cache.old }
+        requires counts { CanCount (table_of self.now) 1
+            (characters_left (chars haystack.now) (position_at haystack.now start)) }
+        requires width { length cache.old.walk.memory.row ≡ 0 }
+        ensures found { IsNumberedEndOf (table_of self.now) (chars haystack.now)
+            (self.now.start ∷ []) (position_at haystack.now start) (end_told result) }
+        ensures bounded { IsBoundedBy (length (table_of self.now))
+            (arrows_of (table_of self.now) + 1) (chars haystack.now)
+            (position_at haystack.now start) cache.new.walk.steps.tried
+            cache.new.walk.steps.entered cache.new.walk.steps.looked }
+        ensures entered { IfSome result (λ _. 0 < cache.new.walk.steps.entered) }
+    {
+        let begun = Progress::begun(haystack, start);
+        let Some(at) = cache.take_turns_to_end(self, haystack, begun, Some(TURNS_WITHOUT)) else {
+            return cache.best.end();
+        };
+        let mut made = LazyDfa::for_graph(alloc, self);
+        let Some(dfa) = &mut made else {
+            cache.take_turns_to_end(self, haystack, at, None);
+            return cache.best.end();
+        };
+        let state = dfa.state_at(self, at, cache);
+        let known = at.with_state(state);
+        dfa.find_shortest_from(self, cache, haystack, known)
     }
 }
 

@@ -6,7 +6,6 @@ ghost use Rattle.regex_lite_engine.specs.Graph.Renumbered.{IsGraphOf};
 ghost use Rattle.regex_lite_engine.specs.Search.Outcomes.{IsOutcome, IsEndOutcome, HasCost};
 
 use crate::Graph;
-use crate::lazy_dfa::automaton::LazyDfa;
 use crate::lazy_dfa::remembering::pays_once;
 use crate::pikevm::beginning::Unkept;
 use crate::pikevm::cache_for;
@@ -79,10 +78,7 @@ impl Graph {
             return Ok((None, Steps::none()));
         }
         if pays_once(self, haystack.len() - start) {
-            let mut made = LazyDfa::for_graph(alloc, self);
-            if let Some(dfa) = &mut made {
-                return self.search_shortest_remembering(alloc, dfa, haystack, start);
-            }
+            return self.search_shortest_remembering(alloc, haystack, start);
         }
         let mut cache = cache_for::<Unkept>(alloc, self.table(), 0)?;
         let mut pattern = OnePattern {

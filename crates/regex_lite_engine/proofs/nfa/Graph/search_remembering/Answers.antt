@@ -8,13 +8,13 @@ use Rattle.regex_lite_engine.proofs.pikevm.EndLemmas.{one_best}
 use Rattle.regex_lite_engine.proofs.pikevm.OutcomeLemmas.{answer_told, can_count, cost_told}
 use Rattle.regex_lite_engine.proofs.nfa.Graph.search_remembering.Goals as goal
 
-pub find-span-requires-clause-fresh : goal.find-span-requires-clause-fresh
-find-span-requires-clause-fresh c =
+pub find_once-span-requires-clause-fresh : goal.find_once-span-requires-clause-fresh
+find_once-span-requires-clause-fresh c =
     subst (λ table. IsFresh table c.in_ok-cache.cache) (ap places_of c.table.ensures.same)
     c.in_ok-cache.ensures.fresh
 
-pub find-span-requires-clause-counts : goal.find-span-requires-clause-counts
-find-span-requires-clause-counts c =
+pub find_once-span-requires-clause-counts : goal.find_once-span-requires-clause-counts
+find_once-span-requires-clause-counts c =
     let haystack = c.args.haystack.now in
     let short : length haystack < 2 ^ 63 = search rules in
     can_count (table_of c.args.self.now) haystack (position_at haystack c.args.start)
@@ -26,13 +26,13 @@ returns-clause-found c = λ tree regular is. (
     let graph = c.args.self.now in
     let haystack = c.args.haystack.now in
     let found = one_best (table_of graph) (chars haystack) graph.start
-    (position_at haystack c.args.start) (best_told c.find-span.result) c.find-span.ensures.found in
+    (position_at haystack c.args.start) (best_told c.find_once-span.result) c.find_once-span.ensures.found in
     answer_told tree regular graph is haystack c.args.start c.requires.boundary.0 c.without_slots.result
     (subst (λ z. IsNumberedOutcome (table_of graph) (chars haystack) graph.start
     (position_at haystack c.args.start) z) (sym c.without_slots.ensures.told) found))
 
 pub returns-clause-cost : goal.returns-clause-cost
 returns-clause-cost c = λ tree is.
-    let steps = c.find-span.new.cache.walk.steps in
+    let steps = c.find_once-span.new.cache.walk.steps in
     cost_told tree c.args.self.now is c.args.haystack.now c.args.start c.requires.boundary.0
-    steps.tried steps.entered steps.looked c.find-span.ensures.bounded
+    steps.tried steps.entered steps.looked c.find_once-span.ensures.bounded

@@ -1,152 +1,19 @@
-use Rattle.std.proofs.Common.{rules, ◌+◌, ◌∷◌, [], length, ap, sym, subst, ◌∙◌, arith}
-use Rattle.std.specs.Prelude.{chars}
-use Rattle.std.proofs.lemmas.List.{nil_from_length}
-use Rattle.regex_lite_engine.specs.Graph.Renumbered.{arrows_of}
+use Rattle.std.proofs.Common.{◌∷◌, []}
 use Rattle.regex_lite_engine.specs.Graph.Stored.{table_of}
-use Rattle.regex_lite_engine.specs.Search.Bounds.{IsBoundedBy}
 use Rattle.regex_lite_engine.specs.Search.Offsets.{position_at}
-use Rattle.regex_lite_engine.specs.Walk.Outcomes.{IsBestOutcomeOf, with_start_kept}
-use Rattle.regex_lite_engine.specs.Walk.Turns.{best_at, best_of}
-use Rattle.regex_lite_engine.proofs.lazy_dfa.RunLemmas.{begun_on, bounded_on, match_counted, own_first, turned_from}
-use Rattle.regex_lite_engine.proofs.pikevm.EndLemmas.{ended_all, over_at}
-use Rattle.regex_lite_engine.proofs.pikevm.here.OffsetLemmas.{at_most}
 use Rattle.regex_lite_engine.proofs.lazy_dfa.automaton.LazyDfa.find.Goals as goal
 
-pub positions-init : goal.positions-init
-positions-init c =
-    let s = position_at c.args.haystack.now c.args.start in
-    let fresh = c.requires.fresh in
-    record {
-      remembers = c.requires.remembers;
-      none_pending = c.requires.none_pending;
-      stands = record {
-        p = s;
-        is = c.at-here.ensures.here;
-        on = begun_on (table_of c.args.graph.now) (chars c.args.haystack.now) (c.args.graph.now.start ∷ []) s c.args.cache.now fresh c.requires.width;
-        first = omega arith;
-        own = own_first c.at-here.result.at c.args.cache.now.walk.memory.threads fresh.no_threads;
-        state = tt;
-      };
-    }
+pub find_from-requires-clause-stands : goal.find_from-requires-clause-stands
+find_from-requires-clause-stands c = (
+  position_at c.args.haystack.now c.args.start,
+  c.requires.counts,
+  c.begun-at.ensures (table_of c.args.graph.now) (c.args.graph.now.start ∷ []) c.args.self.now c.args.cache.now c.requires.fresh c.requires.width,
+)
 
-pub go_over-hit-requires : goal.go_over-hit-requires
-go_over-hit-requires c =
-    let s = position_at c.args.haystack.now c.args.start in
-    let idle = c.at_idle-at.ensures.stands s c.positions.invariant.stands in
-    let stands = c.in_default.ensures.stands s idle in
-    (s, stands.p, stands.is, c.requires.counts, stands.on)
+pub returns-clause-found : goal.returns-clause-found
+returns-clause-found c = c.find_from.ensures.found (position_at c.args.haystack.now c.args.start)
+    (c.begun-at.ensures (table_of c.args.graph.now) (c.args.graph.now.start ∷ []) c.args.self.now c.args.cache.now c.requires.fresh c.requires.width)
 
-pub returns-then-is_over-clause-found : goal.returns-then-is_over-clause-found
-returns-then-is_over-clause-found c =
-    let s = position_at c.args.haystack.now c.args.start in
-    let idle = c.at_idle-at.ensures.stands s c.positions.invariant.stands in
-    let stands = c.in_default.ensures.stands s idle in
-    let on = c.go_over-hit.ensures.on s stands.p stands.is stands.on in
-    let cache = c.go_over-hit.new.self in
-    let row = nil_from_length cache.best.row (on.ready.best_width ∙ on.width) in
-    let best = c.span.ensures ∙ ap (λ row. with_start_kept (best_at c.span.result row)) row in
-    subst (IsBestOutcomeOf (table_of c.args.graph.now) (chars c.args.haystack.now) (c.args.graph.now.start ∷ []) s) best
-    (ended_all (table_of c.args.graph.now) (chars c.args.haystack.now) (c.args.graph.now.start ∷ []) s stands.p cache.walk.memory.threads (best_of cache.best) stands.on.low stands.is.inside
-    (over_at (chars c.args.haystack.now) stands.p c.look_ahead.new.at.here stands.is (c.is_over.ensures.over (search rules))) on.coming)
-
-pub returns-then-is_over-clause-between : goal.returns-then-is_over-clause-between
-returns-then-is_over-clause-between c =
-    let s = position_at c.args.haystack.now c.args.start in
-    let idle = c.at_idle-at.ensures.stands s c.positions.invariant.stands in
-    let stands = c.in_default.ensures.stands s idle in
-    let on = c.go_over-hit.ensures.on s stands.p stands.is stands.on in
-    on.ready
-
-pub returns-then-is_over-clause-width : goal.returns-then-is_over-clause-width
-returns-then-is_over-clause-width c =
-    let s = position_at c.args.haystack.now c.args.start in
-    let idle = c.at_idle-at.ensures.stands s c.positions.invariant.stands in
-    let stands = c.in_default.ensures.stands s idle in
-    let on = c.go_over-hit.ensures.on s stands.p stands.is stands.on in
-    on.width
-
-pub learn_at-at-requires-clause-between : goal.learn_at-at-requires-clause-between
-learn_at-at-requires-clause-between c =
-    let s = position_at c.args.haystack.now c.args.start in
-    let idle = c.at_idle-at.ensures.stands s c.positions.invariant.stands in
-    let stands = c.in_default.ensures.stands s idle in
-    (c.go_over-hit.ensures.on s stands.p stands.is stands.on).ready
-
-pub learn_at-at-requires-clause-turned : goal.learn_at-at-requires-clause-turned
-learn_at-at-requires-clause-turned c =
-    let s = position_at c.args.haystack.now c.args.start in
-    let idle = c.at_idle-at.ensures.stands s c.positions.invariant.stands in
-    let stands = c.in_default.ensures.stands s idle in
-    let at = c.look_ahead.new.at in
-    turned_from (table_of c.args.graph.now) c.args.graph.now.start c.at_idle-at.new.self at.state at.first at.here c.go_over-hit.result c.look_ahead.new.cache c.go_over-hit.new.self stands.state
-    c.go_over-hit.ensures.again c.go_over-hit.ensures.hit stands.own
-
-pub on-at-requires-clause-first : goal.on-at-requires-clause-first
-on-at-requires-clause-first c =
-    let s = position_at c.args.haystack.now c.args.start in
-    let idle = c.at_idle-at.ensures.stands s c.positions.invariant.stands in
-    let stands = c.in_default.ensures.stands s idle in
-    stands.first
-
-pub on-at-requires-clause-on : goal.on-at-requires-clause-on
-on-at-requires-clause-on c =
-    let s = position_at c.args.haystack.now c.args.start in
-    let idle = c.at_idle-at.ensures.stands s c.positions.invariant.stands in
-    let stands = c.in_default.ensures.stands s idle in
-    let on = c.go_over-hit.ensures.on s stands.p stands.is stands.on in
-    (s, stands.p, stands.is, on)
-
-pub positions-smaller : goal.positions-smaller
-positions-smaller c =
-    let s = position_at c.args.haystack.now c.args.start in
-    let idle = c.at_idle-at.ensures.stands s c.positions.invariant.stands in
-    let stands = c.in_default.ensures.stands s idle in
-    let on = c.go_over-hit.ensures.on s stands.p stands.is stands.on in
-    let next = c.on-at.ensures.stands s stands.p stands.is on in
-    let most = at_most c.args.haystack.now next.p c.on-at.result.here c.utf8.haystack next.is in
-    let later = c.on-at.ensures.later in
-    let ahead = c.look_ahead.ensures.later in
-    let passed = c.at_idle-at.ensures.later in
-    omega (arith, most, later, ahead, passed)
-
-pub positions-preserved : goal.positions-preserved
-positions-preserved c =
-    let s = position_at c.args.haystack.now c.args.start in
-    let idle = c.at_idle-at.ensures.stands s c.positions.invariant.stands in
-    let stands = c.in_default.ensures.stands s idle in
-    let on = c.go_over-hit.ensures.on s stands.p stands.is stands.on in
-    record {
-      remembers = c.learn_at-at.ensures.remembers;
-      none_pending = c.learn_at-at.ensures.none_pending;
-      stands = c.on-at.ensures.stands s stands.p stands.is on;
-    }
-
-pub returns-in-Some-clause-bounded : goal.returns-in-Some-clause-bounded
-returns-in-Some-clause-bounded c =
-    let table = table_of c.args.graph.now in
-    let h = chars c.args.haystack.now in
-    let s = position_at c.args.haystack.now c.args.start in
-    let idle = c.at_idle-at.ensures.stands s c.positions.invariant.stands in
-    let low = idle.on.low in
-    let inside = idle.is.inside in
-    subst (λ z. IsBoundedBy (length table) (arrows_of table + 1) h s z.walk.steps.tried z.walk.steps.entered z.walk.steps.looked) (sym c.in-Some.ensures.same)
-    (bounded_on table h (c.args.graph.now.start ∷ []) s idle.p c.positions.cache (omega (arith, low, inside)) (omega (arith, inside)) idle.on)
-
-pub returns-then-is_over-clause-entered : goal.returns-then-is_over-clause-entered
-returns-then-is_over-clause-entered c =
-    let s = position_at c.args.haystack.now c.args.start in
-    let idle = c.at_idle-at.ensures.stands s c.positions.invariant.stands in
-    let stands = c.in_default.ensures.stands s idle in
-    let on = c.go_over-hit.ensures.on s stands.p stands.is stands.on in
-    let cache = c.go_over-hit.new.self in
-    match_counted (best_of cache.best) c.span.result cache.best.row cache.walk.steps.entered c.args.least c.span.ensures on.ready.match_entered c.requires.least
-
-pub returns-then-is_over-clause-bounded : goal.returns-then-is_over-clause-bounded
-returns-then-is_over-clause-bounded c =
-    let s = position_at c.args.haystack.now c.args.start in
-    let idle = c.at_idle-at.ensures.stands s c.positions.invariant.stands in
-    let stands = c.in_default.ensures.stands s idle in
-    let on = c.go_over-hit.ensures.on s stands.p stands.is stands.on in
-    let low = stands.on.low in
-    let inside = stands.is.inside in
-    bounded_on (table_of c.args.graph.now) (chars c.args.haystack.now) (c.args.graph.now.start ∷ []) s (stands.p + 1) c.go_over-hit.new.self (omega (arith, low, inside)) (omega (arith, inside)) on
+pub returns-clause-bounded : goal.returns-clause-bounded
+returns-clause-bounded c = c.find_from.ensures.bounded (position_at c.args.haystack.now c.args.start)
+    (c.begun-at.ensures (table_of c.args.graph.now) (c.args.graph.now.start ∷ []) c.args.self.now c.args.cache.now c.requires.fresh c.requires.width)

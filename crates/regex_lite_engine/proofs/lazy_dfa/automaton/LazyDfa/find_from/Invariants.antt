@@ -1,19 +1,18 @@
-use Rattle.std.proofs.Common.{◌≡◌, ◌∷◌, [], ◌-◌, None, length}
+use Rattle.std.proofs.Common.{◌≡◌, ℕ, ◌∷◌, [], ◌-◌, length}
 use Rattle.std.specs.Prelude.{chars}
 use Rattle.regex_lite_engine.specs.Graph.Stored.{table_of}
 use Rattle.regex_lite_engine.specs.LazyDfa.Automaton.{Remembers}
 use Rattle.regex_lite_engine.specs.LazyDfa.Running.{Stands}
-use Rattle.regex_lite_engine.specs.Search.Offsets.{position_at}
-use Rattle.regex_lite_engine.specs.Walk.Turns.{best_of}
-use Rattle.regex_lite_engine.proofs.lazy_dfa.automaton.LazyDfa.find_shortest.Given as goal
+use Rattle.regex_lite_engine.proofs.lazy_dfa.automaton.LazyDfa.find_from.Given as goal
 
 abbrev pub invariant-positions : goal.invariant-positions
 invariant-positions l = record {
   remembers : Remembers l.graph.places (l.graph.start ∷ []) l.self;
   none_pending : l.self.pending ≡ [];
-  stands : Stands (table_of l.graph) (chars l.haystack) (l.graph.start ∷ [])
-      (position_at l.haystack l.start) l.self l.at l.cache;
-  none : best_of l.cache.best ≡ None;
+  stands : (s : ℕ)
+      → Stands (table_of l.graph) (chars l.haystack) (l.graph.start ∷ []) s l.initial.self l.fn.from
+      l.initial.cache
+      → Stands (table_of l.graph) (chars l.haystack) (l.graph.start ∷ []) s l.self l.at l.cache;
 }
 
 abbrev pub decreases-positions : goal.decreases-positions

@@ -1,0 +1,133 @@
+use Rattle.std.proofs.Common.{rules, ◌+◌, ◌∷◌, [], length, sym, subst, arith}
+use Rattle.std.specs.Prelude.{chars}
+use Rattle.regex_lite_engine.specs.Graph.Renumbered.{arrows_of}
+use Rattle.regex_lite_engine.specs.Graph.Stored.{table_of}
+use Rattle.regex_lite_engine.specs.Search.Bounds.{IsBoundedBy}
+use Rattle.regex_lite_engine.specs.LazyDfa.Scanning.{end_told}
+use Rattle.regex_lite_engine.specs.Walk.Outcomes.{IsNumberedEndOf}
+use Rattle.regex_lite_engine.specs.Walk.Turns.{best_of}
+use Rattle.regex_lite_engine.proofs.lazy_dfa.RunLemmas.{bounded_on, end_counted, turned_from}
+use Rattle.regex_lite_engine.proofs.lazy_dfa.ScanLemmas.{end_alone}
+use Rattle.regex_lite_engine.proofs.pikevm.EndLemmas.{over_at}
+use Rattle.regex_lite_engine.proofs.pikevm.ShortestLemmas.{shortest_known}
+use Rattle.regex_lite_engine.proofs.pikevm.here.OffsetLemmas.{at_most}
+use Rattle.regex_lite_engine.proofs.lazy_dfa.automaton.LazyDfa.find_shortest_from.Goals as goal
+
+pub positions-init : goal.positions-init
+positions-init c = record {
+  remembers = c.requires.remembers;
+  none_pending = c.requires.none_pending;
+  none = c.requires.none;
+  stands = λ s begun. begun;
+}
+
+pub go_over-hit-requires : goal.go_over-hit-requires
+go_over-hit-requires c =
+    let s = c.requires.stands.0 in
+    let idle = c.at_idle-at.ensures.stands s (c.positions.invariant.stands s c.requires.stands.2) in
+    let stands = c.in_default.ensures.stands s idle in
+    (s, stands.p, stands.is, c.requires.stands.1, stands.on)
+
+pub returns-in-Some-clause-found : goal.returns-in-Some-clause-found
+returns-in-Some-clause-found c = λ s begun.
+    let idle = c.at_idle-at.ensures.stands s (c.positions.invariant.stands s begun) in
+    c.in-Some.ensures.stands s idle
+
+pub returns-then-is_known-clause-found : goal.returns-then-is_known-clause-found
+returns-then-is_known-clause-found c = λ s begun.
+    let table = table_of c.args.graph.now in
+    let h = chars c.args.haystack.now in
+    let entries = c.args.graph.now.start ∷ [] in
+    let idle = c.at_idle-at.ensures.stands s (c.positions.invariant.stands s begun) in
+    let stands = c.in_default.ensures.stands s idle in
+    let on = c.go_over-hit.ensures.on s stands.p stands.is stands.on in
+    let old = c.look_for_end.new.cache in
+    let cache = c.go_over-hit.new.self in
+    let at = c.look_for_end.new.at in
+    subst (λ end. IsNumberedEndOf table h entries s (end_told end)) (sym c.end.ensures)
+    (end_alone table h entries s (best_of cache.best)
+    (shortest_known table h entries s stands.p at.here.at old.walk.memory.threads cache.walk.memory.threads (best_of old.best) (best_of cache.best) stands.on.low stands.is.inside
+    c.look_for_end.ensures.none stands.is.bytes c.go_over-hit.ensures.ends (over_at h stands.p at.here stands.is (c.is_known.ensures.known (search rules))) stands.on.coming on.coming))
+
+pub learn_at-at-requires-clause-between : goal.learn_at-at-requires-clause-between
+learn_at-at-requires-clause-between c =
+    let s = c.requires.stands.0 in
+    let idle = c.at_idle-at.ensures.stands s (c.positions.invariant.stands s c.requires.stands.2) in
+    let stands = c.in_default.ensures.stands s idle in
+    (c.go_over-hit.ensures.on s stands.p stands.is stands.on).ready
+
+pub learn_at-at-requires-clause-turned : goal.learn_at-at-requires-clause-turned
+learn_at-at-requires-clause-turned c =
+    let s = c.requires.stands.0 in
+    let idle = c.at_idle-at.ensures.stands s (c.positions.invariant.stands s c.requires.stands.2) in
+    let stands = c.in_default.ensures.stands s idle in
+    let at = c.look_for_end.new.at in
+    turned_from (table_of c.args.graph.now) c.args.graph.now.start c.at_idle-at.new.self at.state at.first at.here c.go_over-hit.result c.look_for_end.new.cache c.go_over-hit.new.self stands.state
+    c.go_over-hit.ensures.again c.go_over-hit.ensures.hit stands.own
+
+pub on-at-requires-clause-first : goal.on-at-requires-clause-first
+on-at-requires-clause-first c =
+    let s = c.requires.stands.0 in
+    let idle = c.at_idle-at.ensures.stands s (c.positions.invariant.stands s c.requires.stands.2) in
+    let stands = c.in_default.ensures.stands s idle in
+    stands.first
+
+pub on-at-requires-clause-here : goal.on-at-requires-clause-here
+on-at-requires-clause-here c =
+    let s = c.requires.stands.0 in
+    let idle = c.at_idle-at.ensures.stands s (c.positions.invariant.stands s c.requires.stands.2) in
+    let stands = c.in_default.ensures.stands s idle in
+    (stands.p, stands.is)
+
+pub positions-smaller : goal.positions-smaller
+positions-smaller c =
+    let s = c.requires.stands.0 in
+    let idle = c.at_idle-at.ensures.stands s (c.positions.invariant.stands s c.requires.stands.2) in
+    let stands = c.in_default.ensures.stands s idle in
+    let on = c.go_over-hit.ensures.on s stands.p stands.is stands.on in
+    let next = c.on-at.ensures.stands (table_of c.args.graph.now) (c.args.graph.now.start ∷ []) c.learn_at-at.new.self s stands.p stands.is on c.learn_at-at.ensures.state in
+    let most = at_most c.args.haystack.now next.p c.on-at.result.here c.utf8.haystack next.is in
+    let later = c.on-at.ensures.later in
+    let ahead = c.look_for_end.ensures.later in
+    let passed = c.at_idle-at.ensures.later in
+    omega (arith, most, later, ahead, passed)
+
+pub positions-preserved : goal.positions-preserved
+positions-preserved c = record {
+  remembers = c.learn_at-at.ensures.remembers;
+  none_pending = c.learn_at-at.ensures.none_pending;
+  none = c.is_known.ensures.none_yet (search rules);
+  stands = λ s begun.
+      let idle = c.at_idle-at.ensures.stands s (c.positions.invariant.stands s begun) in
+      let stands = c.in_default.ensures.stands s idle in
+      let on = c.go_over-hit.ensures.on s stands.p stands.is stands.on in
+      c.on-at.ensures.stands (table_of c.args.graph.now) (c.args.graph.now.start ∷ []) c.learn_at-at.new.self s stands.p stands.is on c.learn_at-at.ensures.state;
+}
+
+pub returns-in-Some-clause-bounded : goal.returns-in-Some-clause-bounded
+returns-in-Some-clause-bounded c = λ s begun.
+    let table = table_of c.args.graph.now in
+    let h = chars c.args.haystack.now in
+    let idle = c.at_idle-at.ensures.stands s (c.positions.invariant.stands s begun) in
+    let low = idle.on.low in
+    let inside = idle.is.inside in
+    subst (λ z. IsBoundedBy (length table) (arrows_of table + 1) h s z.walk.steps.tried z.walk.steps.entered z.walk.steps.looked) (sym c.in-Some.ensures.same)
+    (bounded_on table h (c.args.graph.now.start ∷ []) s idle.p c.positions.cache (omega (arith, low, inside)) (omega (arith, inside)) idle.on)
+
+pub returns-then-is_known-clause-entered : goal.returns-then-is_known-clause-entered
+returns-then-is_known-clause-entered c =
+    let s = c.requires.stands.0 in
+    let idle = c.at_idle-at.ensures.stands s (c.positions.invariant.stands s c.requires.stands.2) in
+    let stands = c.in_default.ensures.stands s idle in
+    let on = c.go_over-hit.ensures.on s stands.p stands.is stands.on in
+    let cache = c.go_over-hit.new.self in
+    end_counted (best_of cache.best) c.end.result cache.walk.steps.entered c.end.ensures on.ready.match_entered
+
+pub returns-then-is_known-clause-bounded : goal.returns-then-is_known-clause-bounded
+returns-then-is_known-clause-bounded c = λ s begun.
+    let idle = c.at_idle-at.ensures.stands s (c.positions.invariant.stands s begun) in
+    let stands = c.in_default.ensures.stands s idle in
+    let on = c.go_over-hit.ensures.on s stands.p stands.is stands.on in
+    let low = stands.on.low in
+    let inside = stands.is.inside in
+    bounded_on (table_of c.args.graph.now) (chars c.args.haystack.now) (c.args.graph.now.start ∷ []) s (stands.p + 1) c.go_over-hit.new.self (omega (arith, low, inside)) (omega (arith, inside)) on
