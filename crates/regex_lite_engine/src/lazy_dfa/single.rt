@@ -20,8 +20,8 @@ use crate::pikevm::steps::Steps;
 use crate::pikevm::turn::Cache;
 use std::alloc::{AllocError, Global};
 
-/// A search takes so many turns before it gets an automaton. A match near the start is found sooner
-/// than one is made, which takes some 2,000 instructions and two or three requests for memory.
+/// A search takes this number of turns before it gets an automaton. A match near the start is found
+/// sooner than one is made, which takes some 2,000 instructions and two or three requests for memory.
 const TURNS_WITHOUT: u32 = 64;
 
 impl Graph {
@@ -67,7 +67,8 @@ impl Graph {
         Ok((end, walk.steps))
     }
 
-    /// Where the match starts and ends that a search for itself finds. It gets an automaton if it isn't over soon.
+    /// Where the match starts and ends that a search by itself finds. It gets an automaton if it
+    /// isn't over soon.
     fn find_once(
         &self,
         alloc: Global,
@@ -102,7 +103,8 @@ impl Graph {
         dfa.find_from(self, cache, haystack, known, 1)
     }
 
-    /// Where the first match ends that a search for itself comes to. It gets an automaton if it isn't over soon.
+    /// Where the first match ends that a search by itself comes to. It gets an automaton if it isn't
+    /// over soon.
     fn find_shortest_once(
         &self,
         alloc: Global,
