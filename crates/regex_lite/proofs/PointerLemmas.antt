@@ -8,7 +8,8 @@ use mir.Val.{Val, vstruct, of_list}
 use mir.Raw.{raw as bare}
 use base.Fml.{Lft, Share, fat, flft}
 use types.Logic.{Logic}
-use types.Kit.{Item, Goal, Seq, Step, Soaks, step, ‵, ◌$◌, move, drop, use1, fsplit, fjoin, fpick, fpack, feq_i, feq_l, rewrite}
+use types.Kit.{Item, Goal, Seq, Step, Soaks, step, ‵, ◌$◌, move, drop}
+use types.Kit.{use1, fsplit, fjoin, fpick, fpack, feq_i, feq_l, rewrite}
 use denote.RattleType.{RattleType, Valss}
 use denote.Memory.{cell_at, part_at, hidden_shr}
 use denote.Copied.{Copied, plain_Copied, Struct-Copied}
@@ -26,8 +27,10 @@ module _ (params : List RattleType) (ν : Sym) where
   abbrev pub Word : RattleType
   Word = Struct one_field
 
-  module _ (c : Ptr) {M : Type 1} {𝓤 : Ura M} {𝓛 : Logic 𝓤} {K : Type 0} {Γ : List (Item 𝓤)} {G : Goal 𝓤 𝓛.H} where
-    pub word_had : K → (vs : List Val) → (vs ≡ word c ∷ [] → Seq K 𝓛 Γ G) → Seq K 𝓛 (‵ (Word.own_val (c, tt) vs) ∷ Γ) G
+  module _ (c : Ptr) {M : Type 1} {𝓤 : Ura M} {𝓛 : Logic 𝓤} {K : Type 0} {Γ : List (Item 𝓤)}
+      {G : Goal 𝓤 𝓛.H} where
+    pub word_had : K → (vs : List Val) → (vs ≡ word c ∷ [] → Seq K 𝓛 Γ G)
+        → Seq K 𝓛 (‵ (Word.own_val (c, tt) vs) ∷ Γ) G
     word_had t vs k = fpick t (λ vss. fsplit t $ feq_l t (λ ev. fsplit t $ feq_l t (λ e. drop t $
         k (subst (λ (ws : List Val). vs ≡ vstruct (of_list (ws ++ [])) ∷ []) e ev))))
 
@@ -35,22 +38,31 @@ module _ (params : List RattleType) (ν : Sym) where
     word_made t = step (λ s.
         nothing t $ feq_i t (List Val) (ptr_val c ∷ []) (ptr_val c ∷ []) refl $ fjoin t $
         feq_i t (List Val) (word c ∷ []) (word c ∷ []) refl $ fjoin t $
-        fpack t (Valss (RawPtr ∷ [])) (within one_field (c, tt) (word c ∷ [])) (ptr_val c ∷ [], tt) $ s)
+        fpack t (Valss (RawPtr ∷ [])) (within one_field (c, tt) (word c ∷ []))
+        (ptr_val c ∷ [], tt) $ s)
 
-  module _ (c : Ptr) {M : Type 1} {𝓤 : Ura M} {𝓛 : Logic 𝓤} {K : Type 0} {Γ : List (Item 𝓤)} {G : Goal 𝓤 𝓛.H} where
+  module _ (c : Ptr) {M : Type 1} {𝓤 : Ura M} {𝓛 : Logic 𝓤} {K : Type 0} {Γ : List (Item 𝓤)}
+      {G : Goal 𝓤 𝓛.H} where
     -- [the word; what shuts]
-    pub reads : K → Soaks G → {κ : Lft} {q : Share} (b o : ℕ) → ((q' : Share) → Seq K 𝓛 (‵ (fat q' (word_ty ν) b o (word c)) ∷ Shut 𝓛 κ q (part_at Word q' (c, tt) b o) ∷ Γ) G)
+    pub reads : K → Soaks G → {κ : Lft} {q : Share} (b o : ℕ)
+        → ((q' : Share) → Seq K 𝓛
+        (‵ (fat q' (word_ty ν) b o (word c)) ∷ Shut 𝓛 κ q (part_at Word q' (c, tt) b o) ∷ Γ) G)
         → Seq K 𝓛 (‵ (hidden_shr Word κ (c, tt) b o) ∷ ‵ (flft κ q) ∷ Γ) G
     reads t z b o k =
-        let raw_copied : Copied 𝓛 RawPtr = plain_Copied 𝓛 Ptr coded_ptr (ty_ptr ∷ []) ptr_own rawptr_pure ptr_val RawPtr-laws.tells in
+        let raw_copied : Copied 𝓛 RawPtr =
+        plain_Copied 𝓛 Ptr coded_ptr (ty_ptr ∷ []) ptr_own rawptr_pure ptr_val RawPtr-laws.tells in
         let copied : Copied 𝓛 Word = Struct-Copied 𝓛 one_field (refl, tt) (raw_copied, tt) in
-        looks t z Word copied.opens (c, tt) b o (λ q' vs. move t (3 ∷ []) $ drop t $ move t (1 ∷ []) $
+        looks t z Word copied.opens (c, tt) b o
+        (λ q' vs. move t (3 ∷ []) $ drop t $ move t (1 ∷ []) $
         word_had c t vs (λ e.
         rewrite t 0 (λ (us : List Val). ‵ (cell_at q' (word_ty ν ∷ []) us b o)) e refl $
-        use1 𝓛 (‵ (fat q' (word_ty ν) b o (word c))) (𝓛.laws.raw_at q' (word_ty ν) b o (word c)) $ k q'))
+        use1 𝓛 (‵ (fat q' (word_ty ν) b o (word c))) (𝓛.laws.raw_at q' (word_ty ν) b o (word c)) $
+        k q'))
 
     pub read : K → Soaks G → {κ : Lft} {q : Share} (b o : ℕ) (q' : Share)
-        → Step K 𝓛 (‵ (flft κ q) ∷ Γ) G (‵ (fat q' (word_ty ν) b o (word c)) ∷ Shut 𝓛 κ q (part_at Word q' (c, tt) b o) ∷ Γ) G
+        → Step K 𝓛 (‵ (flft κ q) ∷ Γ) G
+        (‵ (fat q' (word_ty ν) b o (word c)) ∷ Shut 𝓛 κ q (part_at Word q' (c, tt) b o) ∷ Γ) G
     read t z b o q' = step (λ s.
-        use1 𝓛 (‵ (fat q' (bare (word_ty ν)) b o (word c))) (𝓛.laws.at_raw q' (word_ty ν) b o (word c)) $
+        use1 𝓛 (‵ (fat q' (bare (word_ty ν)) b o (word c)))
+        (𝓛.laws.at_raw q' (word_ty ν) b o (word c)) $
         word_made c t $ move t (1 ∷ 0 ∷ []) $ shuts_part t z Word q' (c, tt) (word c ∷ []) b o $ s)

@@ -13,7 +13,8 @@ pub static_number : (re : Expression) (haystack : List ℕ) (start : ℕ) (known
     → TellsGroups re haystack start told → told ≡ Some groups
     → groups.static_captures_len ≡ known
 static_number re haystack start known None groups is_known tells is = absurd (not_there is)
-static_number re haystack start known (Some own) groups (tree, given, e) (other, given_too, (f, found, are)) is =
+static_number re haystack start known (Some own) groups (tree, given, e)
+    (other, given_too, (f, found, are)) is =
     ap (λ (g : Groups). g.static_captures_len) (sym (same_some is)) ∙ are.static_captures
     ∙ ap static_captures_len (one_tree re.flags (chars re.pattern) other tree given_too given)
     ∙ sym e

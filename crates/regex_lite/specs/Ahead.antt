@@ -1,5 +1,6 @@
 -- What an iterator over matches has ahead of it.
-use Rattle.std.specs.Prelude.{◌≡◌, ◌≢◌, ◌⊎◌, ◌≤◌, ◌<◌, ◌+◌, ◌-◌, ℕ, zero, List, Option, Some, None, MatchOption, Result, MatchResult, option_map, chars, length}
+use Rattle.std.specs.Prelude.{◌≡◌, ◌≢◌, ◌⊎◌, ◌≤◌, ◌<◌, ◌+◌, ◌-◌, ℕ, zero, List, Option, Some}
+use Rattle.std.specs.Prelude.{None, MatchOption, Result, MatchResult, option_map, chars, length}
 use Rattle.std.specs.Iterator.{Count, at_most}
 use Rattle.regex_lite_syntax.specs.declared.error.Error.{Error}
 use Rattle.regex_lite_syntax.specs.Errors.{out_of_memory}
@@ -11,7 +12,8 @@ use Rattle.regex_lite.specs.declared.string.find_iter.Matches.{Matches}
 use Rattle.regex_lite.specs.declared.string.captures_iter.CaptureMatches.{CaptureMatches}
 use Rattle.regex_lite.specs.Expression.{Expression, OfTree}
 use Rattle.regex_lite.specs.Groups.{Groups, whole_span}
-use Rattle.regex_lite.specs.MatchList.{AreSomeWithin, AreWithin, IsAnswerOf, IsNext, IsNextAnswer, one_less}
+use Rattle.regex_lite.specs.MatchList.{AreSomeWithin, AreWithin, IsAnswerOf}
+use Rattle.regex_lite.specs.MatchList.{IsNext, IsNextAnswer, one_less}
 use Rattle.regex_lite.specs.MatchViews.{span_of_match}
 use Rattle.regex_lite.specs.Scanning.{IsMatchWithSlots, RegexSearching, Scanning}
 use Rattle.regex_lite.specs.Searches.{IsMatchOf, AreGroupsOf}

@@ -1,5 +1,7 @@
 -- Spans in a haystack, and the groups of a match, as plain values.
-use Rattle.std.specs.Prelude.{◌≡◌, ◌≤◌, ℕ, List, [], ◌∷◌, Bool, false, Option, Some, None, IsSome, IfSome, IsCharBoundary, length, drop, filter_map, slice_get, slice_range, option_map, option_and_then, unwrap_or}
+use Rattle.std.specs.Prelude.{◌≡◌, ◌≤◌, ℕ, List, [], ◌∷◌, Bool, false, Option, Some, None}
+use Rattle.std.specs.Prelude.{IsSome, IfSome, IsCharBoundary, length, drop, filter_map}
+use Rattle.std.specs.Prelude.{slice_get, slice_range, option_map, option_and_then, unwrap_or}
 use Rattle.std.specs.List.{position}
 use Rattle.std.specs.Option.{option_zip, option_flatten}
 use Rattle.std.specs.Str.{bytes_eq}

@@ -1,5 +1,6 @@
 -- Laws of what searches tell, and of equality.
-use Rattle.std.specs.Prelude.{◌≡◌, ◌≤◌, ◌↔◌, ℕ, List, Bool, IsTrue, IsUtf8, Option, Some, IfSome, chars, is_some, length, option_map, option_and_then}
+use Rattle.std.specs.Prelude.{◌≡◌, ◌≤◌, ◌↔◌, ℕ, List, Bool, IsTrue, IsUtf8, Option, Some}
+use Rattle.std.specs.Prelude.{IfSome, chars, is_some, length, option_map, option_and_then}
 use Rattle.std.specs.Bool.{Decides}
 use Rattle.regex_lite_syntax.specs.declared.error.Error.{Error}
 use Rattle.regex_lite_syntax.specs.declared.error.ErrorKind.{ErrorKind}

@@ -1,13 +1,17 @@
 -- What an iterator over the matches of several patterns has ahead of it.
-use Rattle.std.specs.Prelude.{◌≡◌, ℕ, List, Option, Some, None, MatchOption, Result, MatchResult, chars, slice_get}
+use Rattle.std.specs.Prelude.{◌≡◌, ℕ, List, Option, Some, None, MatchOption}
+use Rattle.std.specs.Prelude.{Result, MatchResult, chars, slice_get}
 use Rattle.std.specs.Iterator.{Count, at_most}
 use Rattle.regex_lite_syntax.specs.declared.error.Error.{Error}
 use Rattle.regex_lite_syntax.specs.Errors.{out_of_memory}
 use Rattle.regex_lite_engine.specs.Search.Answer.{Found}
 use Rattle.regex_lite.specs.declared.string.matches.Match.{Match}
 use Rattle.regex_lite.specs.declared.string.list.find_iter.ListMatches.{ListMatches}
-use Rattle.regex_lite.specs.declared.string.list.captures_iter.ListCaptureMatches.{ListCaptureMatches}
-use Rattle.regex_lite.specs.Ahead.{AheadOf, AreGroupsFound, EndsAhead, IsOnward, NoneIsAhead, PassesAnswer, after, ahead_by, at_end, most_ahead, whole}
+use Rattle.regex_lite.specs.declared.string.list.captures_iter.ListCaptureMatches.{
+  ListCaptureMatches,
+}
+use Rattle.regex_lite.specs.Ahead.{AheadOf, AreGroupsFound, EndsAhead, IsOnward, NoneIsAhead}
+use Rattle.regex_lite.specs.Ahead.{PassesAnswer, after, ahead_by, at_end, most_ahead, whole}
 use Rattle.regex_lite.specs.Expression.{Expression}
 use Rattle.regex_lite.specs.Groups.{Groups, whole_span}
 use Rattle.regex_lite.specs.MatchList.{AreWithinOfList, IsAnswerOfPatterns, IsNextOfList}

@@ -1,6 +1,7 @@
 -- The matches of a haystack, one after another: those of any searches, of a regex, and of several
 -- patterns.
-use Rattle.std.specs.Prelude.{◌≡◌, ◌≢◌, ◌-◌, ◌==◌, ◌&&◌, ℕ, suc, Bool, false, List, [], ◌∷◌, Option, Some, None, MatchBool, option_map, zero}
+use Rattle.std.specs.Prelude.{◌≡◌, ◌≢◌, ◌-◌, ◌==◌, ◌&&◌, ℕ, suc, Bool, false, List, []}
+use Rattle.std.specs.Prelude.{◌∷◌, Option, Some, None, MatchBool, option_map, zero}
 use Rattle.regex_lite_syntax.specs.Text.{Text}
 use Rattle.regex_lite_engine.specs.Search.Answer.{Found, IsAnswer}
 use Rattle.regex_lite_engine.specs.Search.AnswerOfList.{IsAnswerOfList}

@@ -1,5 +1,6 @@
 -- Laws of pieces, and of replacements by templates.
-use Rattle.std.specs.Prelude.{◌≡◌, ◌+◌, ◌++◌, ℕ, List, [], ◌∷◌, Option, None, Contains, chars, codes, length, map}
+use Rattle.std.specs.Prelude.{◌≡◌, ◌+◌, ◌++◌, ℕ, List, [], ◌∷◌, Option}
+use Rattle.std.specs.Prelude.{None, Contains, chars, codes, length, map}
 use Rattle.std.specs.List.{concat}
 use Rattle.regex_lite_syntax.specs.Text.{the}
 use Rattle.regex_lite_engine.specs.Search.Answer.{Found}

@@ -1,5 +1,7 @@
 -- The pieces of a haystack between its matches.
-use Rattle.std.specs.Prelude.{◌≡◌, ◌+◌, ℕ, zero, suc, true, false, List, [], ◌∷◌, Option, Some, None, MatchOption, MatchBool, map, drop, length, slice_range, chars, unwrap_or, if◌then◌else◌}
+use Rattle.std.specs.Prelude.{◌≡◌, ◌+◌, ℕ, zero, suc, true, false, List, [], ◌∷◌}
+use Rattle.std.specs.Prelude.{Option, Some, None, MatchOption, MatchBool, map, drop}
+use Rattle.std.specs.Prelude.{length, slice_range, chars, unwrap_or, if◌then◌else◌}
 use Rattle.std.specs.Borrow.{Bor}
 use Rattle.std.specs.Iterator.{Count, at_most}
 use Rattle.regex_lite_syntax.specs.Text.{Text}

@@ -1,5 +1,6 @@
 -- Several patterns at once, as contracts see them: what is built of them, and what is refused.
-use Rattle.std.specs.Prelude.{◌≡◌, ◌<◌, ◌≤◌, ◌^◌, ◌⊎◌, ℕ, List, [], ◌∷◌, Some, Result, IfOk, IfErr, chars, map, slice_get}
+use Rattle.std.specs.Prelude.{◌≡◌, ◌<◌, ◌≤◌, ◌^◌, ◌⊎◌, ℕ, List, [], ◌∷◌, Some}
+use Rattle.std.specs.Prelude.{Result, IfOk, IfErr, chars, map, slice_get}
 use Rattle.regex_lite_syntax.specs.declared.error.Error.{Error}
 use Rattle.regex_lite_syntax.specs.declared.error.ErrorKind.TheVariants.{Places}
 use Rattle.regex_lite_syntax.specs.Errors.{kind_of, out_of_memory}

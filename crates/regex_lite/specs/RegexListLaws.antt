@@ -1,12 +1,14 @@
 -- Laws of what searches for several patterns return.
-use Rattle.std.specs.Prelude.{◌≡◌, ◌↔◌, ℕ, List, [], ◌∷◌, Bool, IsTrue, Option, Some, None, is_some, option_map, option_and_then, slice_get}
+use Rattle.std.specs.Prelude.{◌≡◌, ◌↔◌, ℕ, List, [], ◌∷◌, Bool, IsTrue, Option, Some}
+use Rattle.std.specs.Prelude.{None, is_some, option_map, option_and_then, slice_get}
 use Rattle.regex_lite_engine.specs.declared.pikevm.steps.Steps.{Steps}
 use Rattle.regex_lite.specs.declared.string.matches.Match.{Match}
 use Rattle.regex_lite.specs.Expression.{Expression, IsAccepted}
 use Rattle.regex_lite.specs.Groups.{Groups, group_span}
 use Rattle.regex_lite.specs.MatchViews.{span_of_match}
 use Rattle.regex_lite.specs.RegexList.{AreAccepted}
-use Rattle.regex_lite.specs.RegexListSearches.{AnyMatches, IsWithinListCost, TellsGroupsOfList, TellsMatchOfList}
+use Rattle.regex_lite.specs.RegexListSearches.{AnyMatches, IsWithinListCost}
+use Rattle.regex_lite.specs.RegexListSearches.{TellsGroupsOfList, TellsMatchOfList}
 use Rattle.regex_lite.specs.Searches.{IsWithinCost, MatchesFrom, TellsGroups, TellsMatch}
 use Rattle.regex_lite.specs.Settings.{Settings}
 

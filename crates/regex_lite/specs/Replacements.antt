@@ -1,5 +1,6 @@
 -- The texts that replacements give.
-use Rattle.std.specs.Prelude.{◌≡◌, ◌++◌, ◌⊎◌, ℕ, zero, suc, List, [], ◌∷◌, Option, Some, None, Ok, Err, map, chars, drop, slice_range}
+use Rattle.std.specs.Prelude.{◌≡◌, ◌++◌, ◌⊎◌, ℕ, zero, suc, List, [], ◌∷◌, Option}
+use Rattle.std.specs.Prelude.{Some, None, Ok, Err, map, chars, drop, slice_range}
 use Rattle.regex_lite_syntax.specs.declared.error.Error.{Error}
 use Rattle.regex_lite_engine.specs.Search.Answer.{Found}
 use Rattle.regex_lite.specs.Groups.{Groups, whole_span}

@@ -1,5 +1,6 @@
 -- What a replacer may append for a match, and what it returns where it is asked for a fixed text.
-use Rattle.std.specs.Prelude.{◌≡◌, ◌++◌, ℕ, List, [], Option, Result, Ok, Err, ⊤, MatchResult, MatchOption, Contains, String, string_bytes}
+use Rattle.std.specs.Prelude.{◌≡◌, ◌++◌, ℕ, List, [], Option, Result, Ok, Err, ⊤}
+use Rattle.std.specs.Prelude.{MatchResult, MatchOption, Contains, String, string_bytes}
 use Rattle.std.specs.Borrow.{RattleType, MutBor, Fml, follows_so}
 use Rattle.std.specs.declared.alloc.Global.{Global}
 use mathlib.Core.Option.{none}

@@ -3,11 +3,17 @@
 //! contract is the law.
 ghost use Rattle.std.specs.Cmp.{IsEquivalence};
 ghost use Rattle.regex_lite.specs.Headline.{Headline, ListHeadline};
-ghost use Rattle.regex_lite.specs.Laws.{EnoughGroupsTakePart, EscapedTextsAreRefusedForSize, EscapedTextsMatchThemselves, GroupsLieInside, MatchesAreTheirSpans, SearchesAgree};
+ghost use Rattle.regex_lite.specs.Laws.{EnoughGroupsTakePart, EscapedTextsAreRefusedForSize};
+ghost use Rattle.regex_lite.specs.Laws.{EscapedTextsMatchThemselves, GroupsLieInside};
+ghost use Rattle.regex_lite.specs.Laws.{MatchesAreTheirSpans, SearchesAgree};
 ghost use Rattle.regex_lite.specs.ListLaws.{MatchesAreApart, OneMatchList};
 ghost use Rattle.regex_lite.specs.MatchViews.{is_same_match};
-ghost use Rattle.regex_lite.specs.PieceLaws.{FixedTextIsTemplate, LentReplacersReplaceAlike, OnePieceList, PiecesAndMatches, WholeMatchesGiveHaystack};
-ghost use Rattle.regex_lite.specs.RegexListLaws.{EmptyListFindsNothing, ListAnswersAreAnswers, ListOfOneAnswersAsItsRegex, ListOfOneIsAcceptedAsItsRegex, ListSearchesAgree};
+ghost use Rattle.regex_lite.specs.PieceLaws.{FixedTextIsTemplate};
+ghost use Rattle.regex_lite.specs.PieceLaws.{LentReplacersReplaceAlike, OnePieceList};
+ghost use Rattle.regex_lite.specs.PieceLaws.{PiecesAndMatches, WholeMatchesGiveHaystack};
+ghost use Rattle.regex_lite.specs.RegexListLaws.{EmptyListFindsNothing, ListAnswersAreAnswers};
+ghost use Rattle.regex_lite.specs.RegexListLaws.{ListOfOneAnswersAsItsRegex};
+ghost use Rattle.regex_lite.specs.RegexListLaws.{ListOfOneIsAcceptedAsItsRegex, ListSearchesAgree};
 ghost use Rattle.regex_lite.specs.Searches.{CanStartAt};
 
 use crate::{Captures, Error, RegexBuilder, RegexListBuilder, Replacer, Steps};

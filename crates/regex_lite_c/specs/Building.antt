@@ -1,5 +1,6 @@
 -- What is returned, held and written where a regex is to be built.
-use Rattle.std.specs.Prelude.{◌≡◌, ◌≢◌, ◌<◌, ◌≤◌, ◌⊎◌, ◌↔◌, ◌++◌, ℕ, List, Option, Some, None, IsUtf8, drop, length}
+use Rattle.std.specs.Prelude.{◌≡◌, ◌≢◌, ◌<◌, ◌≤◌, ◌⊎◌, ◌↔◌, ◌++◌, ℕ, List}
+use Rattle.std.specs.Prelude.{Option, Some, None, IsUtf8, drop, length}
 use Rattle.regex_lite_syntax.specs.Errors.{Refusal, kind_of, text_of}
 use Rattle.regex_lite.specs.Expression.{Expression, IsAccepted, IsDue, expression_of}
 use Rattle.regex_lite.specs.Settings.{Settings}

@@ -1,5 +1,6 @@
 -- What is told of the groups of all matches of a text, some at a time.
-use Rattle.std.specs.Prelude.{◌≡◌, ◌≢◌, ◌⊎◌, ◌<◌, ◌≤◌, ◌++◌, ℕ, List, [], ◌∷◌, chars, Option, Some, None, flat_map, length, unwrap_or}
+use Rattle.std.specs.Prelude.{◌≡◌, ◌≢◌, ◌⊎◌, ◌<◌, ◌≤◌, ◌++◌, ℕ, List, [], ◌∷◌, chars}
+use Rattle.std.specs.Prelude.{Option, Some, None, flat_map, length, unwrap_or}
 use Rattle.regex_lite_engine.specs.Search.Answer.{Found}
 use Rattle.regex_lite.specs.Ahead.{Ahead, AreGroupsFound, ComesNext, after}
 use Rattle.regex_lite.specs.Expression.{Expression}
@@ -9,7 +10,8 @@ use Rattle.regex_lite.specs.Replacements.{AreGroupsOfEach}
 use Rattle.regex_lite_c.specs.Answers.{RefusesText}
 use Rattle.regex_lite_c.specs.Spans.{AreWritten}
 use Rattle.regex_lite_c.specs.Walks.{ended_of}
-use Rattle.regex_lite_c.specs.declared.answer.TheConstants.{NO, YES, NOT_TEXT, BAD_OFFSET, NO_ROOM, OUT_OF_MEMORY}
+use Rattle.regex_lite_c.specs.declared.answer.TheConstants.{NO, YES, NOT_TEXT, BAD_OFFSET}
+use Rattle.regex_lite_c.specs.declared.answer.TheConstants.{NO_ROOM, OUT_OF_MEMORY}
 use Rattle.regex_lite_c.specs.declared.types.Span.{Span}
 use Rattle.regex_lite_c.specs.declared.types.Walk.{Walk}
 
@@ -19,7 +21,8 @@ spans_of_all groups = flat_map (λ own. own.spans) groups
 
 -- the groups of so many matches, the first of those ahead, were written to the front of the room,
 -- and the walk goes on where the last of these matches ends
-pub record AreGroupsListed (a : Ahead) (walk : Walk) (old new : List Span) (count : ℕ) : Type 0 where
+pub record AreGroupsListed (a : Ahead) (walk : Walk) (old new : List Span) (count : ℕ)
+    : Type 0 where
   pub list : List Found
   pub are_first : AreFirst a.sought (chars a.haystack) count a.ended list
   pub number : count ≡ length list

@@ -1,10 +1,12 @@
 -- What a caller's spans stand for.
-use Rattle.std.specs.Prelude.{◌≡◌, ◌≢◌, ◌⊎◌, ◌+◌, ◌<◌, ◌≤◌, ℕ, List, Option, Some, None, cond, chars, length, option_map, slice_get}
+use Rattle.std.specs.Prelude.{◌≡◌, ◌≢◌, ◌⊎◌, ◌+◌, ◌<◌, ◌≤◌, ℕ, List, Option, Some}
+use Rattle.std.specs.Prelude.{None, cond, chars, length, option_map, slice_get}
 use Rattle.regex_lite.specs.Expression.{Expression}
 use Rattle.regex_lite.specs.Groups.{Groups}
 use Rattle.regex_lite.specs.Searches.{TellsAnswer, TellsGroups, offsets}
 use Rattle.regex_lite_c.specs.Answers.{RefusesText}
-use Rattle.regex_lite_c.specs.declared.answer.TheConstants.{NO, YES, NOT_TEXT, BAD_OFFSET, NO_ROOM, OUT_OF_MEMORY}
+use Rattle.regex_lite_c.specs.declared.answer.TheConstants.{NO, YES, NOT_TEXT, BAD_OFFSET}
+use Rattle.regex_lite_c.specs.declared.answer.TheConstants.{NO_ROOM, OUT_OF_MEMORY}
 use Rattle.regex_lite_c.specs.declared.types.Span.{Span}
 
 -- where a part starts and ends, where there is one

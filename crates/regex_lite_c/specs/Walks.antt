@@ -1,5 +1,6 @@
 -- What is told of all matches of a text, some at a time.
-use Rattle.std.specs.Prelude.{◌≡◌, ◌≢◌, ◌⊎◌, ◌<◌, ◌≤◌, ℕ, suc, List, Option, Some, None, cond, chars, length, map, option_map, slice_get, unwrap_or}
+use Rattle.std.specs.Prelude.{◌≡◌, ◌≢◌, ◌⊎◌, ◌<◌, ◌≤◌, ℕ, suc, List, Option, Some, None}
+use Rattle.std.specs.Prelude.{cond, chars, length, map, option_map, slice_get, unwrap_or}
 use Rattle.regex_lite_engine.specs.Search.Answer.{Found}
 use Rattle.regex_lite.specs.Ahead.{Ahead, ComesNext, after}
 use Rattle.regex_lite.specs.Expression.{Expression}
@@ -7,7 +8,8 @@ use Rattle.regex_lite.specs.MatchList.{AreFirst}
 use Rattle.regex_lite.specs.Pieces.{found_span}
 use Rattle.regex_lite_c.specs.Answers.{RefusesText}
 use Rattle.regex_lite_c.specs.Spans.{AreWritten}
-use Rattle.regex_lite_c.specs.declared.answer.TheConstants.{NO, YES, NOT_TEXT, BAD_OFFSET, NO_ROOM, OUT_OF_MEMORY}
+use Rattle.regex_lite_c.specs.declared.answer.TheConstants.{NO, YES, NOT_TEXT, BAD_OFFSET}
+use Rattle.regex_lite_c.specs.declared.answer.TheConstants.{NO_ROOM, OUT_OF_MEMORY}
 use Rattle.regex_lite_c.specs.declared.types.Span.{Span}
 use Rattle.regex_lite_c.specs.declared.types.Walk.{Walk}
 

@@ -1,5 +1,6 @@
 //! What a regex says of its pattern and its groups.
-ghost use Rattle.std.specs.Prelude.{◌≡◌, IfSome, MatchOption, None, option_map, slice_get, unwrap_or};
+ghost use Rattle.std.specs.Prelude.{◌≡◌, IfSome, MatchOption, None};
+ghost use Rattle.std.specs.Prelude.{option_map, slice_get, unwrap_or};
 ghost use Rattle.regex_lite_syntax.specs.Tree.Properties.{captures_len, static_captures_len};
 ghost use Rattle.regex_lite_engine.specs.Graph.PlaceCounts.{whole_arrows, whole_places};
 ghost use Rattle.regex_lite.specs.CaptureNames.{names_left};

@@ -1,11 +1,15 @@
 -- How many arrows a tree has, by its places.
-use Rattle.std.proofs.Common.{◌≤◌, ◌<◌, ℕ, zero, suc, ◌+◌, ◌-◌, ◌*◌, Bool, true, false, Option, Some, None, List, [], ◌∷◌, arith}
+use Rattle.std.proofs.Common.{◌≤◌, ◌<◌, ℕ, zero, suc, ◌+◌, ◌-◌, ◌*◌, Bool, true}
+use Rattle.std.proofs.Common.{false, Option, Some, None, List, [], ◌∷◌, arith}
 use Rattle.std.proofs.Math.Nat.{suc-mul}
 use Rattle.regex_lite_syntax.specs.declared.class.ClassRange.{ClassRange}
-use Rattle.regex_lite_syntax.specs.Tree.{Tree, Trees, empty, character, class, look, repetition, capture, concat, alternation, none, more}
+use Rattle.regex_lite_syntax.specs.Tree.{Tree, Trees, empty, character, class, look}
+use Rattle.regex_lite_syntax.specs.Tree.{repetition, capture, concat, alternation, none, more}
 use Rattle.regex_lite_syntax.specs.Tree.Properties.{nullable}
 use Rattle.regex_lite_syntax.specs.Tree.Regular.{IsRegular, AreRegular}
-use Rattle.regex_lite_engine.specs.Graph.PlaceCounts.{places, places_in, arrows, arrows_in, count, copies, own_places, own_arrows, bounded_places, bounded_arrows, class_arrows}
+use Rattle.regex_lite_engine.specs.Graph.PlaceCounts.{places, places_in, arrows, arrows_in, count}
+use Rattle.regex_lite_engine.specs.Graph.PlaceCounts.{copies, own_places, own_arrows}
+use Rattle.regex_lite_engine.specs.Graph.PlaceCounts.{bounded_places, bounded_arrows, class_arrows}
 
 -- so many copies of a body
 copied : (n a p : ℕ) → a < 2 * p → n * a + n ≤ 2 * (n * p)
@@ -16,7 +20,8 @@ copied (suc n) a p few = omega (arith, copied n a p few, suc-mul n a, suc-mul n 
 with_own : (n a p b q : ℕ) → a < 2 * p → b + 1 ≤ 2 * q + n → n * a + b < 2 * (n * p + q)
 with_own n a p b q few own = omega (arith, copied n a p few)
 
-own_few : (least above : ℕ) → bounded_arrows least above + 1 ≤ 2 * bounded_places least above + (least + above)
+own_few : (least above : ℕ)
+    → bounded_arrows least above + 1 ≤ 2 * bounded_places least above + (least + above)
 own_few zero zero = omega arith
 own_few zero (suc zero) = omega arith
 own_few zero (suc (suc d)) = omega arith
@@ -24,7 +29,8 @@ own_few (suc n) zero = omega arith
 own_few (suc n) (suc d) = omega arith
 
 repeated_few : (least : ℕ) (most : Option ℕ) (nullable_body : Bool)
-    → own_arrows least most nullable_body + 1 ≤ 2 * own_places least most nullable_body + copies least most
+    → own_arrows least most nullable_body + 1
+    ≤ 2 * own_places least most nullable_body + copies least most
 repeated_few zero None true = omega arith
 repeated_few zero None false = omega arith
 repeated_few (suc n) None nullable_body = omega arith
@@ -43,7 +49,8 @@ mutual
   arrows_few (class ranges) regular = set_few ranges
   arrows_few (look test) regular = omega arith
   arrows_few (repetition least most greedy body) regular =
-      with_own (copies least most) (arrows body) (places body) (own_arrows least most (nullable body))
+      with_own (copies least most) (arrows body) (places body)
+      (own_arrows least most (nullable body))
       (own_places least most (nullable body)) (arrows_few body regular.1)
       (repeated_few least most (nullable body))
   arrows_few (capture index name body) regular = omega (arith, arrows_few body regular.1)

@@ -1,31 +1,41 @@
 -- Offsets: they grow with the positions, and lie on character boundaries.
-use Rattle.std.proofs.Common.{◌≡◌, ℕ, zero, suc, ◌+◌, ◌<◌, ◌≤◌, List, [], ◌∷◌, ◌++◌, length, take, drop, sum_by, slice_get, Some, refl, sym, ap, subst, ◌∙◌, arith, length-append}
+use Rattle.std.proofs.Common.{◌≡◌, ℕ, zero, suc, ◌+◌, ◌<◌, ◌≤◌, List, [], ◌∷◌}
+use Rattle.std.proofs.Common.{◌++◌, length, take, drop, sum_by, slice_get, Some}
+use Rattle.std.proofs.Common.{refl, sym, ap, subst, ◌∙◌, arith, length-append}
 use Rattle.std.specs.Prelude.{IsUtf8, IsCharBoundary, chars}
 use Rattle.std.specs.Char.{len_utf8}
 use lib.Utf8.{encode, encodes}
 use Rattle.std.proofs.lemmas.List.{drop-drop}
 use Rattle.std.proofs.lemmas.List.Sums.{sum_by-cons}
-use Rattle.std.proofs.lemmas.Str.{encodes-chars, IsUtf8-past_char, length-encode, len_utf8_bounds, IsCharBoundary-from_drop}
+use Rattle.std.proofs.lemmas.Str.{encodes-chars, IsUtf8-past_char, length-encode}
+use Rattle.std.proofs.lemmas.Str.{len_utf8_bounds, IsCharBoundary-from_drop}
 use Rattle.regex_lite_engine.specs.Search.Offsets.{offset, IsOffset}
 use Rattle.regex_lite_engine.proofs.pikevm.OptionLemmas.{not_there, same_some}
 
 pub length_encodes : (cs : List ℕ) → length (encodes cs) ≡ sum_by len_utf8 cs
 length_encodes [] = refl
 length_encodes (c ∷ cs) = let more = length_encodes cs in
-    omega (arith, more, length-append (encode c) (encodes cs), length-encode c, sum_by-cons len_utf8 c cs)
+    omega
+    (arith, more, length-append (encode c) (encodes cs), length-encode c, sum_by-cons len_utf8 c cs)
 
-pub offset_next : (cs : List ℕ) (p c : ℕ) → slice_get cs p ≡ Some c → offset cs (suc p) ≡ offset cs p + len_utf8 c
+pub offset_next : (cs : List ℕ) (p c : ℕ) → slice_get cs p ≡ Some c
+    → offset cs (suc p) ≡ offset cs p + len_utf8 c
 offset_next [] p c e = absurd (not_there e)
-offset_next (x ∷ cs) zero c e = let same : len_utf8 x ≡ len_utf8 c = ap len_utf8 (same_some e) in omega (arith, same, sum_by-cons len_utf8 x [])
+offset_next (x ∷ cs) zero c e =
+    let same : len_utf8 x ≡ len_utf8 c = ap len_utf8 (same_some e) in
+    omega (arith, same, sum_by-cons len_utf8 x [])
 offset_next (x ∷ cs) (suc p) c e =
     let more = offset_next cs p c e in
-    omega (arith, more, sum_by-cons len_utf8 x (take (suc p) cs), sum_by-cons len_utf8 x (take p cs))
+    omega
+    (arith, more, sum_by-cons len_utf8 x (take (suc p) cs), sum_by-cons len_utf8 x (take p cs))
 
 -- each character takes a byte at least
 pub offset_less : (cs : List ℕ) (p q : ℕ) → p < q → q ≤ length cs → offset cs p < offset cs q
 offset_less [] p q lt le = absurd (omega (arith, lt, le))
 offset_less (x ∷ cs) p zero lt le = absurd (omega (arith, lt))
-offset_less (x ∷ cs) zero (suc q) lt le = let one = len_utf8_bounds x in let low = one.0 in omega (arith, low, sum_by-cons len_utf8 x (take q cs))
+offset_less (x ∷ cs) zero (suc q) lt le =
+    let one = len_utf8_bounds x in let low = one.0 in
+    omega (arith, low, sum_by-cons len_utf8 x (take q cs))
 offset_less (x ∷ cs) (suc p) (suc q) lt le =
     let more = offset_less cs p q (omega (arith, lt)) (omega (arith, le)) in
     omega (arith, more, sum_by-cons len_utf8 x (take p cs), sum_by-cons len_utf8 x (take q cs))
@@ -35,7 +45,13 @@ offset_most [] zero = omega arith
 offset_most [] (suc p) = omega arith
 offset_most (x ∷ cs) zero = omega arith
 offset_most (x ∷ cs) (suc p) =
-    let more = offset_most cs p in omega (arith, more, sum_by-cons len_utf8 x (take p cs), length-append (encode x) (encodes cs), length-encode x)
+    let more = offset_most cs p in omega (
+      arith,
+      more,
+      sum_by-cons len_utf8 x (take p cs),
+      length-append (encode x) (encodes cs),
+      length-encode x,
+    )
 
 -- what follows the offset are the bytes of the characters that follow the position
 pub rest_at : (cs : List ℕ) (p : ℕ) → drop (offset cs p) (encodes cs) ≡ encodes (drop p cs)
@@ -44,7 +60,8 @@ rest_at [] (suc p) = refl
 rest_at (x ∷ cs) zero = refl
 rest_at (x ∷ cs) (suc p) =
     let size : length (encode x) ≡ len_utf8 x = length-encode x in
-    ap (λ k. drop k (encode x ++ encodes cs)) (sum_by-cons len_utf8 x (take p cs) ∙ ap (λ n. n + offset cs p) (sym size))
+    ap (λ k. drop k (encode x ++ encodes cs))
+    (sum_by-cons len_utf8 x (take p cs) ∙ ap (λ n. n + offset cs p) (sym size))
     ∙ sym (drop-drop (offset cs p) (length (encode x)) (encode x ++ encodes cs))
     ∙ ap (drop (offset cs p)) (past (encode x))
     ∙ rest_at cs p
@@ -57,12 +74,15 @@ pub utf8_rest : (cs : List ℕ) (p : ℕ) → IsUtf8 (encodes cs) → IsUtf8 (en
 utf8_rest [] zero u = u
 utf8_rest [] (suc p) u = u
 utf8_rest (x ∷ cs) zero u = u
-utf8_rest (x ∷ cs) (suc p) u = utf8_rest cs p (IsUtf8-past_char (encode x ++ encodes cs) (encodes cs) x u refl)
+utf8_rest (x ∷ cs) (suc p) u =
+    utf8_rest cs p (IsUtf8-past_char (encode x ++ encodes cs) (encodes cs) x u refl)
 
-pub boundary_at : (bs : List ℕ) (p at : ℕ) → IsUtf8 bs → IsOffset (chars bs) p at → IsCharBoundary bs at
+pub boundary_at : (bs : List ℕ) (p at : ℕ) → IsUtf8 bs → IsOffset (chars bs) p at
+    → IsCharBoundary bs at
 boundary_at bs p at u (le, e) =
     let same : encodes (chars bs) ≡ bs = encodes-chars bs u in
     subst (λ z. IsCharBoundary bs z) (sym e)
     (subst (λ z. IsCharBoundary z (offset (chars bs) p)) same
     (IsCharBoundary-from_drop (encodes (chars bs)) (offset (chars bs) p) (offset_most (chars bs) p)
-    (subst IsUtf8 (sym (rest_at (chars bs) p)) (utf8_rest (chars bs) p (subst IsUtf8 (sym same) u)))))
+    (subst IsUtf8 (sym (rest_at (chars bs) p))
+    (utf8_rest (chars bs) p (subst IsUtf8 (sym same) u)))))

@@ -1,5 +1,6 @@
 -- The positions of offsets: of the haystack's start and end, of a position, and of the next one.
-use Rattle.std.proofs.Common.{◌≡◌, ◌++◌, ◌+◌, ℕ, suc, List, length, drop, slice_get, Some, sym, ap, ◌∙◌, chars, IsUtf8, arith}
+use Rattle.std.proofs.Common.{◌≡◌, ◌++◌, ◌+◌, ℕ, suc, List, length, drop}
+use Rattle.std.proofs.Common.{slice_get, Some, sym, ap, ◌∙◌, chars, IsUtf8, arith}
 use Rattle.std.specs.Prelude.{IsCharBoundary}
 use Rattle.std.specs.Char.{len_utf8}
 use lib.Utf8.{encode}
@@ -17,7 +18,8 @@ first_position bytes = ap length chars-nil
 pub last_position : (bytes : List ℕ) (at : ℕ) → at ≡ length bytes
     → position_at bytes at ≡ length (chars bytes)
 last_position bytes at is =
-    ap (position_at bytes) is ∙ ap (λ own. length (chars own)) (take_all (length bytes) bytes (omega arith))
+    ap (position_at bytes) is
+    ∙ ap (λ own. length (chars own)) (take_all (length bytes) bytes (omega arith))
 
 -- a search that starts inside the haystack starts from that position
 pub start_position : (bytes : List ℕ) (at : ℕ) → IsCharBoundary bytes at
@@ -35,8 +37,10 @@ module _ (bytes : List ℕ) (utf8 : IsUtf8 bytes) where
       → drop at bytes ≡ encode c ++ rest
       → IsCharBoundary bytes (at + len_utf8 c)
       × (position_at bytes (at + len_utf8 c) ≡ suc (position_at bytes at))
-  next_position at c rest edge parts =
-      (boundary_at bytes (suc p) (at + len_utf8 c) utf8 is_offset, position_of (suc p) (at + len_utf8 c) is_offset)
+  next_position at c rest edge parts = (
+    boundary_at bytes (suc p) (at + len_utf8 c) utf8 is_offset,
+    position_of (suc p) (at + len_utf8 c) is_offset,
+  )
     where
       p : ℕ
       p = position_at bytes at
@@ -47,7 +51,8 @@ module _ (bytes : List ℕ) (utf8 : IsUtf8 bytes) where
       here : slice_get (chars bytes) p ≡ Some c
       here =
           sym (after_at bytes p at utf8 own)
-          ∙ ap (λ own. slice_get own 0) (chars_past_char (drop at bytes) rest c (IsUtf8-drop bytes at utf8 edge) parts)
+          ∙ ap (λ own. slice_get own 0)
+          (chars_past_char (drop at bytes) rest c (IsUtf8-drop bytes at utf8 edge) parts)
 
       is_offset : IsOffset (chars bytes) (suc p) (at + len_utf8 c)
       is_offset =

@@ -1,5 +1,7 @@
 -- What a template stands for. Templates, names and texts are given as their bytes.
-use Rattle.std.specs.Prelude.{◌≡◌, ◌≢◌, ◌<◌, ◌⊎◌, ◌&&◌, ◌||◌, ◌==◌, ◌^◌, ℕ, Bool, not, nat_lt, List, [], ◌∷◌, ◌++◌, Option, Contains, length, take, drop, unwrap_or, if◌then◌else◌}
+use Rattle.std.specs.Prelude.{◌≡◌, ◌≢◌, ◌<◌, ◌⊎◌, ◌&&◌, ◌||◌, ◌==◌, ◌^◌, ℕ, Bool}
+use Rattle.std.specs.Prelude.{not, nat_lt, List, [], ◌∷◌, ◌++◌, Option, Contains}
+use Rattle.std.specs.Prelude.{length, take, drop, unwrap_or, if◌then◌else◌}
 use Rattle.std.specs.List.{prefix_len, position_or_len, before_first, after_first, list_all}
 use Rattle.regex_lite_syntax.specs.Text.{the}
 use Rattle.regex_lite_syntax.specs.Characters.{is_digit, is_letter, number_of}

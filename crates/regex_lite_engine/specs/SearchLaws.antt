@@ -1,5 +1,6 @@
 -- Laws of preference and of answers.
-use Rattle.std.specs.Prelude.{◌≡◌, ◌<◌, ◌≤◌, ◌⊎◌, ◌↔◌, ℕ, ◌+◌, ◌*◌, List, [], ◌∷◌, ◌++◌, Option, Some, IsSome, is_some, slice_get}
+use Rattle.std.specs.Prelude.{◌≡◌, ◌<◌, ◌≤◌, ◌⊎◌, ◌↔◌, ℕ, ◌+◌, ◌*◌, List, [], ◌∷◌}
+use Rattle.std.specs.Prelude.{◌++◌, Option, Some, IsSome, is_some, slice_get}
 use Rattle.regex_lite_syntax.specs.Text.{Text}
 use Rattle.regex_lite_syntax.specs.Tree.{Tree}
 use Rattle.regex_lite_syntax.specs.Tree.Properties.{captures_len, static_captures_len}
@@ -7,10 +8,12 @@ use Rattle.regex_lite_engine.specs.WayLaws.{IsPatternTree}
 use Rattle.regex_lite_engine.specs.Graph.Addresses.{Address}
 use Rattle.regex_lite_engine.specs.Graph.Places.{step}
 use Rattle.regex_lite_engine.specs.Graph.Ways.{Leads}
-use Rattle.regex_lite_engine.specs.Graph.WrittenOut.{whole, start_address, place_of_pattern, IsWayThrough}
+use Rattle.regex_lite_engine.specs.Graph.WrittenOut.{whole, start_address}
+use Rattle.regex_lite_engine.specs.Graph.WrittenOut.{place_of_pattern, IsWayThrough}
 use Rattle.regex_lite_engine.specs.Search.Preference.{IsPreferred}
 use Rattle.regex_lite_engine.specs.Search.Marks.{marks_of_way, span, taking_part}
-use Rattle.regex_lite_engine.specs.Search.Answer.{Found, IsMatchFrom, HasMatchFrom, IsFound, IsAnswer}
+use Rattle.regex_lite_engine.specs.Search.Answer.{Found, IsMatchFrom}
+use Rattle.regex_lite_engine.specs.Search.Answer.{HasMatchFrom, IsFound, IsAnswer}
 use Rattle.regex_lite_engine.specs.Search.PreferenceList.{Entry, preference_list, HasReadingLoops}
 
 -- of two different ways from one position, one is preferred to the other

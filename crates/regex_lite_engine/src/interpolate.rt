@@ -3,11 +3,13 @@
 //! `$name` refers to a group by its name, or by its index where the name is digits alone. It is as
 //! long as it can be: ASCII letters, digits and `_`. `${name}` goes up to the next `}`. `$$` gives
 //! a `$`, and so does any other one.
-ghost use Rattle.std.specs.Prelude.{◌≡◌, ◌≢◌, ◌<◌, ◌≤◌, ◌+◌, ◌*◌, ◌^◌, ◌∷◌, [], ℕ, List, MatchOption, IfSome, if◌then◌else◌, Some, None, length};
+ghost use Rattle.std.specs.Prelude.{◌≡◌, ◌≢◌, ◌<◌, ◌≤◌, ◌+◌, ◌*◌, ◌^◌, ◌∷◌, [], ℕ, List};
+ghost use Rattle.std.specs.Prelude.{MatchOption, IfSome, if◌then◌else◌, Some, None, length};
 ghost use Rattle.std.specs.List.{prefix_len};
 ghost use Rattle.regex_lite_syntax.specs.Text.{the};
 ghost use Rattle.regex_lite_syntax.specs.Characters.{number_of};
-ghost use Rattle.regex_lite_engine.specs.Interpolation.{BeginsWith, HasNoReference, IsReference, is_index, is_name_character, referred};
+ghost use Rattle.regex_lite_engine.specs.Interpolation.{BeginsWith, HasNoReference, IsReference};
+ghost use Rattle.regex_lite_engine.specs.Interpolation.{is_index, is_name_character, referred};
 ghost use Rattle.regex_lite_engine.specs.Interpolation.Pieces.{piece_of};
 
 /// A piece of a template.

@@ -1,8 +1,16 @@
 //! Laws of the definitions. Each function does nothing: its contract is the law.
-ghost use Rattle.regex_lite_engine.specs.TemplateLaws.{PlainTemplatesGiveThemselves, TemplatesGiveOneText};
-ghost use Rattle.regex_lite_engine.specs.ListSearchLaws.{AtMostOneAnswerOfList, HasAnswerOfList, ListAnswersAreAnswers, NoneMatchNothing, OneAnswersByItself, PatternsStandApart};
+ghost use Rattle.regex_lite_engine.specs.TemplateLaws.{
+  PlainTemplatesGiveThemselves,
+  TemplatesGiveOneText,
+};
+ghost use Rattle.regex_lite_engine.specs.ListSearchLaws.{AtMostOneAnswerOfList, HasAnswerOfList};
+ghost use Rattle.regex_lite_engine.specs.ListSearchLaws.{ListAnswersAreAnswers, NoneMatchNothing};
+ghost use Rattle.regex_lite_engine.specs.ListSearchLaws.{OneAnswersByItself, PatternsStandApart};
 ghost use Rattle.regex_lite_engine.specs.WayLaws.{MatchesAreWays};
-ghost use Rattle.regex_lite_engine.specs.SearchLaws.{AnswerIsHead, AnswersAreMatches, AtMostOneAnswer, EnoughTakePart, GroupsLieInside, HasAnswer, ListIsOfAllWays, PreferenceIsTotal, PreferredWaysAreEarlier};
+ghost use Rattle.regex_lite_engine.specs.SearchLaws.{AnswerIsHead, AnswersAreMatches};
+ghost use Rattle.regex_lite_engine.specs.SearchLaws.{AtMostOneAnswer, EnoughTakePart};
+ghost use Rattle.regex_lite_engine.specs.SearchLaws.{GroupsLieInside, HasAnswer, ListIsOfAllWays};
+ghost use Rattle.regex_lite_engine.specs.SearchLaws.{PreferenceIsTotal, PreferredWaysAreEarlier};
 
 /// A tree that the grammar gives matches from one position to another exactly where a way through
 /// its written-out pattern leads from the one to the other.

@@ -1,5 +1,7 @@
 //! The search, by the walk that suits it.
-ghost use Rattle.std.specs.Prelude.{◌≡◌, ◌+◌, ◌*◌, ◌^◌, ◌≤◌, ◌<◌, ◌⊎◌, ◌↔◌, ◌||◌, IfOk, IfSome, IsCharBoundary, IsTrue, chars, count_by, length, nat_le, nat_lt};
+ghost use Rattle.std.specs.Prelude.{◌≡◌, ◌+◌, ◌*◌, ◌^◌, ◌≤◌, ◌<◌, ◌⊎◌, ◌↔◌};
+ghost use Rattle.std.specs.Prelude.{◌||◌, IfOk, IfSome, IsCharBoundary, IsTrue};
+ghost use Rattle.std.specs.Prelude.{chars, count_by, length, nat_le, nat_lt};
 ghost use Rattle.regex_lite_syntax.specs.Tree.{Tree};
 ghost use Rattle.regex_lite_syntax.specs.Tree.Regular.{IsRegular};
 ghost use Rattle.regex_lite_engine.specs.Graph.Renumbered.{IsGraphOf};

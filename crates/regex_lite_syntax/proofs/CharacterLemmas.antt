@@ -1,5 +1,6 @@
 -- The characters of a text are Unicode scalar values.
-use Rattle.std.proofs.Common.{◌≡◌, refl, Bool, true, false, ◌&&◌, List, [], ◌∷◌, ℕ, chars, IsTrue, subst, arith}
+use Rattle.std.proofs.Common.{◌≡◌, refl, Bool, true, false, ◌&&◌, List}
+use Rattle.std.proofs.Common.{[], ◌∷◌, ℕ, chars, IsTrue, subst, arith}
 use Rattle.std.specs.Char.{IsScalar}
 use Rattle.std.specs.Str.{IsUtf8, all_scalars}
 use Rattle.std.proofs.lemmas.Bool.Decides.{nat_tests}
@@ -21,4 +22,5 @@ scalars_are (c ∷ cs) e =
 
 pub chars_are : (bs : List ℕ) → IsUtf8 bs → AreCharacters (chars bs)
 chars_are bs utf8 =
-    subst (λ t. AreCharacters t) (chars_from_encodes utf8.0 bs utf8 utf8.1.1) (scalars_are utf8.0 utf8.1.0)
+    subst (λ t. AreCharacters t) (chars_from_encodes utf8.0 bs utf8 utf8.1.1)
+    (scalars_are utf8.0 utf8.1.0)

@@ -1,5 +1,6 @@
 -- The two cases of ASCII letters.
-use Rattle.std.proofs.Common.{inl, inr, ◌≡◌, ◌∙◌, ℕ, ◌+◌, ◌-◌, ◌<◌, ◌≤◌, max, min, ◌&&◌, ◌||◌, [], ◌∷◌, true, IsTrue, arith}
+use Rattle.std.proofs.Common.{inl, inr, ◌≡◌, ◌∙◌, ℕ, ◌+◌, ◌-◌, ◌<◌, ◌≤◌, max}
+use Rattle.std.proofs.Common.{min, ◌&&◌, ◌||◌, [], ◌∷◌, true, IsTrue, arith}
 use Rattle.std.specs.Char.{is_ascii_alphabetic, to_ascii_uppercase, to_ascii_lowercase}
 use Rattle.std.proofs.lemmas.Bool.{or_cases, or_left, or_right}
 use Rattle.std.proofs.lemmas.Bool.Decides.{nat_tests}
@@ -8,12 +9,16 @@ use Rattle.regex_lite_syntax.specs.Characters.{is_upper, is_lower, is_letter}
 use Rattle.regex_lite_syntax.specs.Sets.{just, span, case_closure}
 use Rattle.regex_lite_syntax.specs.Ranges.{AreRuns, AreRunsOf, in_ranges}
 
-pub upper_case : (start end first last c : ℕ) → first ≡ max start 97 → last ≡ min end 122 → first ≤ last
-    → span (to_ascii_uppercase first) (to_ascii_uppercase last) c ≡ (is_upper c && span start end (c + 32))
+pub upper_case : (start end first last c : ℕ) → first ≡ max start 97 → last ≡ min end 122
+    → first ≤ last
+    → span (to_ascii_uppercase first) (to_ascii_uppercase last) c
+    ≡ (is_upper c && span start end (c + 32))
 upper_case start end first last c f l o = grind (arith, nat_tests)
 
-pub lower_case : (start end first last c : ℕ) → first ≡ max start 65 → last ≡ min end 90 → first ≤ last
-    → span (to_ascii_lowercase first) (to_ascii_lowercase last) c ≡ (is_lower c && span start end (c - 32))
+pub lower_case : (start end first last c : ℕ) → first ≡ max start 65 → last ≡ min end 90
+    → first ≤ last
+    → span (to_ascii_lowercase first) (to_ascii_lowercase last) c
+    ≡ (is_lower c && span start end (c - 32))
 lower_case start end first last c f l o = grind (arith, nat_tests)
 
 -- the ASCII letters
@@ -44,17 +49,21 @@ two_cases : (c d : ℕ) → IsTrue (is_letter c)
     → (just (to_ascii_uppercase c) d || just (to_ascii_lowercase c) d) ≡ case_closure (just c) d
 two_cases c d letter = grind (arith, nat_tests)
 
-below_128 : (c : ℕ) → IsTrue (is_letter c) → (to_ascii_uppercase c < 128) × (to_ascii_lowercase c < 128)
+below_128 : (c : ℕ) → IsTrue (is_letter c)
+    → (to_ascii_uppercase c < 128) × (to_ascii_lowercase c < 128)
 below_128 c letter = grind (arith, nat_tests)
 
 -- and hold its two cases
 letter_members : (c d : ℕ) → IsTrue (is_letter c)
-    → in_ranges (alone (to_ascii_uppercase c) ∷ alone (to_ascii_lowercase c) ∷ []) d ≡ case_closure (just c) d
+    → in_ranges (alone (to_ascii_uppercase c) ∷ alone (to_ascii_lowercase c) ∷ []) d
+    ≡ case_closure (just c) d
 letter_members c d letter =
     let ascii = below_128 c letter in
     two_alone (to_ascii_uppercase c) (to_ascii_lowercase c) d ascii.0 ascii.1 ∙ two_cases c d letter
 
 -- so they are the runs of this set
 pub letter_class : (c : ℕ) → IsTrue (is_letter c)
-    → AreRunsOf (alone (to_ascii_uppercase c) ∷ alone (to_ascii_lowercase c) ∷ []) (case_closure (just c))
-letter_class c letter = record { runs = letter_runs c letter; members = λ d. letter_members c d letter }
+    → AreRunsOf (alone (to_ascii_uppercase c) ∷ alone (to_ascii_lowercase c) ∷ [])
+    (case_closure (just c))
+letter_class c letter =
+    record { runs = letter_runs c letter; members = λ d. letter_members c d letter }

@@ -12,7 +12,8 @@ pub no_last : {A : Type 0} (xs : List A) (x : A) → [] ≡ xs ++ x ∷ [] → �
 no_last [] x e = cc
 no_last (y ∷ ys) x e = cc
 
-pub snoc_same : {A : Type 0} (xs ys : List A) (x y : A) → xs ++ x ∷ [] ≡ ys ++ y ∷ [] → (xs ≡ ys) × (x ≡ y)
+pub snoc_same : {A : Type 0} (xs ys : List A) (x y : A) → xs ++ x ∷ [] ≡ ys ++ y ∷ []
+    → (xs ≡ ys) × (x ≡ y)
 snoc_same [] [] x y e = (refl, same_head e)
 snoc_same [] (b ∷ ys) x y e = absurd (no_last ys y (same_tail e))
 snoc_same (a ∷ xs) [] x y e = absurd (no_last xs x (sym (same_tail e)))

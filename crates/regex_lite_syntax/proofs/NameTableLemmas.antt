@@ -1,5 +1,6 @@
 -- Tables of names that have none.
-use Rattle.std.proofs.Common.{◌≡◌, ◌∙◌, refl, ap, ℕ, zero, suc, List, Option, None, Global, replicate}
+use Rattle.std.proofs.Common.{◌≡◌, ◌∙◌, refl, ap, ℕ, zero, suc}
+use Rattle.std.proofs.Common.{List, Option, None, Global, replicate}
 use Rattle.std.specs.declared.rc.RcStr.{RcStr}
 use Rattle.regex_lite_syntax.specs.Tree.NameTables.{name_at}
 

@@ -1,8 +1,10 @@
 -- What an error of the code holds, as the refusal that it stands for, and back.
 use Rattle.std.specs.Prelude.{◌≡◌, refl}
 use Rattle.regex_lite_syntax.specs.declared.error.Fault.{Fault}
-use Rattle.regex_lite_syntax.specs.declared.error.Fault.TheVariants.{Syntax, Nesting, Groups, Limit, Memory, Replace}
-use Rattle.regex_lite_syntax.specs.Errors.{Refusal, syntax_error, too_deep, too_many_groups, passed_limit, out_of_memory, refused_replacement}
+use Rattle.regex_lite_syntax.specs.declared.error.Fault.TheVariants.{Syntax, Nesting, Groups}
+use Rattle.regex_lite_syntax.specs.declared.error.Fault.TheVariants.{Limit, Memory, Replace}
+use Rattle.regex_lite_syntax.specs.Errors.{Refusal, syntax_error, too_deep, too_many_groups}
+use Rattle.regex_lite_syntax.specs.Errors.{passed_limit, out_of_memory, refused_replacement}
 
 abbrev pub refusal_of : Fault → Refusal
 refusal_of (Syntax rule) = syntax_error rule

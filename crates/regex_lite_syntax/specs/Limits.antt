@@ -1,10 +1,12 @@
 -- The limits on nesting and on the number of groups, and when a refusal of a pattern is due.
 use Rattle.std.specs.Prelude.{◌⊎◌, ◌==◌, ◌+◌, ◌^◌, ◌<◌, ◌≤◌, max, ℕ, count_by}
 use Rattle.regex_lite_syntax.specs.declared.error.ErrorKind.{ErrorKind}
-use Rattle.regex_lite_syntax.specs.declared.error.ErrorKind.TheVariants.{Syntax, Nesting, Groups, Memory}
+use Rattle.regex_lite_syntax.specs.declared.error.ErrorKind.TheVariants.{Syntax, Nesting}
+use Rattle.regex_lite_syntax.specs.declared.error.ErrorKind.TheVariants.{Groups, Memory}
 use Rattle.regex_lite_syntax.specs.declared.flags.Flags.{Flags}
 use Rattle.regex_lite_syntax.specs.Text.{Text, the}
-use Rattle.regex_lite_syntax.specs.Tree.{Tree, Trees, empty, character, class, look, repetition, capture, concat, alternation, none, more}
+use Rattle.regex_lite_syntax.specs.Tree.{Tree, Trees, empty, character, class, look}
+use Rattle.regex_lite_syntax.specs.Tree.{repetition, capture, concat, alternation, none, more}
 use Rattle.regex_lite_syntax.specs.Grammar.{Grammar, HasTree}
 
 abbrev mutual

@@ -1,7 +1,8 @@
 -- What a refusal says of what was asked for.
 use Rattle.regex_lite_syntax.specs.declared.error.Error.{Error}
 use Rattle.regex_lite_syntax.specs.declared.error.ErrorKind.{ErrorKind}
-use Rattle.regex_lite_syntax.specs.declared.error.ErrorKind.TheVariants.{Syntax, Nesting, Groups, Memory}
+use Rattle.regex_lite_syntax.specs.declared.error.ErrorKind.TheVariants.{Syntax, Nesting}
+use Rattle.regex_lite_syntax.specs.declared.error.ErrorKind.TheVariants.{Groups, Memory}
 use Rattle.regex_lite_syntax.specs.Errors.{kind_of}
 
 -- what a refusal says by its kind: a syntax fault, and one for the nesting or the number of groups,

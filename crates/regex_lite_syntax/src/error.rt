@@ -3,7 +3,9 @@
 //! A text of a syntax fault stands in one place, `SyntaxFault::text`, so that it shows which rule
 //! of the grammar a pattern broke.
 ghost use Rattle.std.specs.Prelude.{◌≡◌, Some};
-ghost use Rattle.regex_lite_syntax.specs.Errors.{kind_of, text_of, syntax_error, too_deep, too_many_groups, passed_limit, out_of_memory, refused_replacement};
+ghost use Rattle.regex_lite_syntax.specs.Errors.{kind_of, text_of, syntax_error};
+ghost use Rattle.regex_lite_syntax.specs.Errors.{too_deep, too_many_groups, passed_limit};
+ghost use Rattle.regex_lite_syntax.specs.Errors.{out_of_memory, refused_replacement};
 
 mod syntax;
 

@@ -1,6 +1,7 @@
 //! The tree of a pattern.
 ghost use Rattle.std.specs.Prelude.{◌≡◌, ◌<◌, ◌↔◌, map, option_map, IsTrue, IfOk};
-ghost use Rattle.regex_lite_syntax.specs.Tree.{class, capture, sequence_of, choice_of, repeated, trees as trees_of};
+ghost use Rattle.regex_lite_syntax.specs.Tree.{class, capture, sequence_of, choice_of};
+ghost use Rattle.regex_lite_syntax.specs.Tree.{repeated, trees as trees_of};
 ghost use Rattle.regex_lite_syntax.specs.Limits.{depth, depth_of_list};
 ghost use Rattle.regex_lite_syntax.specs.Tree.Views.{text_of_name, tree_of};
 

@@ -1,5 +1,7 @@
 //! Laws of the definitions. Each function does nothing: its contract is the law.
-ghost use Rattle.regex_lite_syntax.specs.SyntaxLaws.{AtMostOneTree, EqualSetsHaveEqualRanges, EscapedTextsAreLiteral, GroupsAreNumbered, LiteralsMatchTheirText, NoIndexStandsTwice};
+ghost use Rattle.regex_lite_syntax.specs.SyntaxLaws.{AtMostOneTree, EqualSetsHaveEqualRanges};
+ghost use Rattle.regex_lite_syntax.specs.SyntaxLaws.{EscapedTextsAreLiteral, GroupsAreNumbered};
+ghost use Rattle.regex_lite_syntax.specs.SyntaxLaws.{LiteralsMatchTheirText, NoIndexStandsTwice};
 
 /// Flags and a pattern have at most one tree, one number of groups and one depth of groups.
 pub fn at_most_one_tree()

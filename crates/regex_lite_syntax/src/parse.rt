@@ -4,7 +4,8 @@
 //! pattern, however deep its groups stand in one another, is read by recursion. It takes one
 //! thing after another: an item of a branch, an operator, a `|`, the head of a group or its end,
 //! or a directive.
-ghost use Rattle.std.specs.Prelude.{◌≡◌, ◌<◌, ◌≤◌, ◌^◌, ◌↔◌, ◌≢◌, ◌∷◌, [], drop, length, chars, IsTrue, IfOk, IfErr, OnOk};
+ghost use Rattle.std.specs.Prelude.{◌≡◌, ◌<◌, ◌≤◌, ◌^◌, ◌↔◌, ◌≢◌, ◌∷◌, [], drop};
+ghost use Rattle.std.specs.Prelude.{length, chars, IsTrue, IfOk, IfErr, OnOk};
 ghost use Rattle.regex_lite_syntax.specs.Errors.{kind_of};
 ghost use Rattle.regex_lite_syntax.specs.Text.{Text};
 ghost use Rattle.regex_lite_syntax.specs.Characters.{AreCharacters};
@@ -14,7 +15,9 @@ ghost use Rattle.regex_lite_syntax.specs.Tree.Regular.{IsRegular};
 ghost use Rattle.regex_lite_syntax.specs.Tree.Views.{tree_of};
 ghost use Rattle.regex_lite_syntax.specs.Parser.Machine.{first_state, BeginsAtom};
 ghost use Rattle.regex_lite_syntax.specs.Refusals.{Refuses};
-ghost use Rattle.regex_lite_syntax.specs.Parser.States.{state, Advances, CanRead, BeginsTooMany, EndsBranch, Adds, Finishes, FinishesTooDeep};
+ghost use Rattle.regex_lite_syntax.specs.Parser.States.{state, Advances, CanRead};
+ghost use Rattle.regex_lite_syntax.specs.Parser.States.{BeginsTooMany, EndsBranch, Adds};
+ghost use Rattle.regex_lite_syntax.specs.Parser.States.{Finishes, FinishesTooDeep};
 
 mod atom;
 mod bracket;

@@ -1,9 +1,11 @@
 -- The line of the groups of a match, group after group.
-use Rattle.std.proofs.Common.{◌≡◌, ◌++◌, ℕ, List, [], ◌∷◌, Option, Some, None, map, option_map, codes, refl, sym, ap, ◌∙◌}
+use Rattle.std.proofs.Common.{◌≡◌, ◌++◌, ℕ, List, [], ◌∷◌, Option, Some, None}
+use Rattle.std.proofs.Common.{map, option_map, codes, refl, sym, ap, ◌∙◌}
 use Rattle.std.proofs.lemmas.List.{append_assoc}
 use Rattle.regex_lite.specs.declared.string.matches.Match.{Match}
 use Rattle.regex_lite.specs.declared.string.sub_captures.SubCaptureMatches.{SubCaptureMatches}
-use Rattle.regex_lite.specs.MatchViews.{groups_to_come, match_with_haystack, span_of_match, spans_to_come}
+use Rattle.regex_lite.specs.MatchViews.{groups_to_come, match_with_haystack}
+use Rattle.regex_lite.specs.MatchViews.{span_of_match, spans_to_come}
 use Rattle.rxl.specs.Printed.{group_text, groups_line, spaced}
 
 -- the spans of groups, this before the first and a space before each other, and a line feed

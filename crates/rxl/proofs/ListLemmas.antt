@@ -1,5 +1,7 @@
 -- From the matches that an iterator gives, one after another, to the list of all.
-use Rattle.std.proofs.Common.{◌≡◌, ◌≢◌, ◌⊎◌, ℕ, suc, zero, Bool, true, false, Option, Some, None, List, [], ◌∷◌, ◌++◌, map, flat_map, chars, refl, sym, ap, ◌∙◌, subst, inl, inr, arith, ◌||◌}
+use Rattle.std.proofs.Common.{◌≡◌, ◌≢◌, ◌⊎◌, ℕ, suc, zero, Bool, true, false, Option}
+use Rattle.std.proofs.Common.{Some, None, List, [], ◌∷◌, ◌++◌, map, flat_map, chars}
+use Rattle.std.proofs.Common.{refl, sym, ap, ◌∙◌, subst, inl, inr, arith, ◌||◌}
 use Rattle.std.proofs.lemmas.List.{append_assoc, append-nil}
 use Rattle.regex_lite.specs.Search.Answer.{Found}
 use Rattle.regex_lite.specs.Ahead.{Ahead, Passes, AreAhead, IsOver, AreGroupsFound, whole}

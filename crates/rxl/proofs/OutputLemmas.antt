@@ -1,5 +1,7 @@
 -- What is printed, gathered and written, step by step.
-use Rattle.std.proofs.Common.{◌≡◌, ℕ, Bool, true, false, not, List, [], ◌++◌, Option, Some, None, MatchBool, Result, Ok, Err, IsErr, OnOk, is_ok, is_err, refl, sym, ap, ◌∙◌, subst, take, drop, take-append-drop}
+use Rattle.std.proofs.Common.{◌≡◌, ℕ, Bool, true, false, not, List, [], ◌++◌, Option, Some}
+use Rattle.std.proofs.Common.{None, MatchBool, Result, Ok, Err, IsErr, OnOk, is_ok, is_err}
+use Rattle.std.proofs.Common.{refl, sym, ap, ◌∙◌, subst, take, drop, take-append-drop}
 use Rattle.std.specs.Io.KnownBytes.{Appends, Keeps}
 use Rattle.std.proofs.lemmas.List.{append_assoc, append-nil}
 use Rattle.regex_lite.specs.Replacing.{Begins}

@@ -1,5 +1,6 @@
 -- From the pieces that come one after another to the list of all.
-use Rattle.std.proofs.Common.{◌≡◌, ℕ, Bool, true, false, MatchBool, List, [], ◌∷◌, ◌++◌, Option, flat_map, codes, refl, sym, ◌∙◌}
+use Rattle.std.proofs.Common.{◌≡◌, ℕ, Bool, true, false, MatchBool, List, []}
+use Rattle.std.proofs.Common.{◌∷◌, ◌++◌, Option, flat_map, codes, refl, sym, ◌∙◌}
 use Rattle.std.proofs.lemmas.List.{append_assoc, append-nil}
 use Rattle.regex_lite.specs.declared.string.split.Split.{Split}
 use Rattle.regex_lite.specs.Expression.{Expression}
@@ -23,7 +24,8 @@ module _ (re : Expression) (haystack : List ℕ) where
   pieces_start it are = record { on = λ list left. (list, are list left, refl) }
 
   -- the line of a piece that came is after those before it
-  pub pieces_more : (old new : Split) (printed piece : List ℕ) → PiecesFollow re haystack old printed
+  pub pieces_more : (old new : Split) (printed piece : List ℕ)
+      → PiecesFollow re haystack old printed
       → ((list : List (List ℕ)) → ArePiecesLeft new list → ArePiecesLeft old (piece ∷ list))
       → PiecesFollow re haystack new (printed ++ piece_line piece)
   pieces_more old new printed piece follow came = record {

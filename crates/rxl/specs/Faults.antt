@@ -9,7 +9,8 @@ use Rattle.regex_lite.specs.Replacing.{Begins}
 use Rattle.rxl.specs.declared.command.Command.{Command}
 use Rattle.rxl.specs.declared.command.Command.TheVariants.{Ask, Escape}
 use Rattle.rxl.specs.declared.fault.Fault.{Fault}
-use Rattle.rxl.specs.declared.fault.Fault.TheVariants.{Usage, NotUtf8, Unreadable, Unwritten, Refused}
+use Rattle.rxl.specs.declared.fault.Fault.TheVariants.{Usage, NotUtf8, Unreadable}
+use Rattle.rxl.specs.declared.fault.Fault.TheVariants.{Unwritten, Refused}
 use Rattle.rxl.specs.Commands.{AskForNone, Asks}
 use Rattle.rxl.specs.Output.{IsWritten}
 use Rattle.rxl.specs.Program.{IsAnswered}

@@ -1,5 +1,6 @@
 -- What the program prints.
-use Rattle.std.specs.Prelude.{◌≡◌, ◌↔◌, ℕ, Bool, true, false, IsTrue, MatchBool, List, [], ◌∷◌, ◌++◌, Option, Some, None, chars, codes, map, flat_map}
+use Rattle.std.specs.Prelude.{◌≡◌, ◌↔◌, ℕ, Bool, true, false, IsTrue, MatchBool, List, []}
+use Rattle.std.specs.Prelude.{◌∷◌, ◌++◌, Option, Some, None, chars, codes, map, flat_map}
 use Rattle.std.specs.Borrow.{Bor}
 use Rattle.std.specs.Fmt.{decimal}
 use Rattle.regex_lite.specs.Search.Answer.{Found}

@@ -1,5 +1,6 @@
 //! Output that is gathered, and written in large parts.
-ghost use Rattle.std.specs.Prelude.{◌≡◌, ◌≤◌, ◌++◌, ℕ, List, [], drop, length, Option, IfErr, IfOk, false, is_ok, codes};
+ghost use Rattle.std.specs.Prelude.{◌≡◌, ◌≤◌, ◌++◌, ℕ, List, [], drop, length};
+ghost use Rattle.std.specs.Prelude.{Option, IfErr, IfOk, false, is_ok, codes};
 ghost use Rattle.std.specs.Fmt.{decimal};
 ghost use Rattle.rxl.specs.declared.fault.Fault.TheVariants.{Unwritten};
 ghost use Rattle.regex_lite.specs.Errors.{out_of_memory};

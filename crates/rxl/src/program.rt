@@ -1,5 +1,6 @@
 //! What the program does, over any reader and writers.
-ghost use Rattle.std.specs.Prelude.{◌≡◌, ◌<◌, ◌≤◌, ◌⊎◌, ⊤, List, ℕ, Err, IfOk, IfErr, IfSome, IsUtf8};
+ghost use Rattle.std.specs.Prelude.{◌≡◌, ◌<◌, ◌≤◌, ◌⊎◌, ⊤, List, ℕ};
+ghost use Rattle.std.specs.Prelude.{Err, IfOk, IfErr, IfSome, IsUtf8};
 ghost use Rattle.std.specs.Io.KnownBytes.{Appends};
 ghost use Rattle.rxl.specs.Faults.{Ends, IsFaultOf, IsQuestionFault, IsReadFault, IsReported};
 ghost use Rattle.regex_lite.specs.Expression.{IsAccepted};
@@ -10,7 +11,8 @@ ghost use Rattle.rxl.specs.declared.fault.Fault.TheVariants.{NotUtf8, Usage};
 ghost use Rattle.rxl.specs.Commands.{AskForNone};
 ghost use Rattle.rxl.specs.Output.{PutsSome};
 ghost use Rattle.rxl.specs.Printed.{Prints};
-ghost use Rattle.rxl.specs.Program.{AsksForInput, IsCommandAnswered, IsDone, IsQuestionAnswered, TakesInput, status_of};
+ghost use Rattle.rxl.specs.Program.{AsksForInput, IsCommandAnswered, IsDone};
+ghost use Rattle.rxl.specs.Program.{IsQuestionAnswered, TakesInput, status_of};
 
 use crate::command::{Command, Question};
 use crate::commands::{print_captures, print_escaped, print_matches, print_pieces, print_replaced};

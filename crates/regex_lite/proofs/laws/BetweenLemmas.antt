@@ -1,5 +1,7 @@
 -- Pieces and matches in turn are the haystack.
-use Rattle.std.proofs.Common.{◌≡◌, ◌≤◌, ℕ, ◌+◌, ◌-◌, List, [], ◌∷◌, ◌++◌, Option, Some, None, map, length, take, drop, slice_range, chars, unwrap_or, refl, sym, ap, ◌∙◌, subst, arith}
+use Rattle.std.proofs.Common.{◌≡◌, ◌≤◌, ℕ, ◌+◌, ◌-◌, List, [], ◌∷◌, ◌++◌, Option}
+use Rattle.std.proofs.Common.{Some, None, map, length, take, drop, slice_range}
+use Rattle.std.proofs.Common.{chars, unwrap_or, refl, sym, ap, ◌∙◌, subst, arith}
 use Rattle.std.specs.List.{sum_by}
 use Rattle.std.specs.Char.{len_utf8}
 use Rattle.std.proofs.lemmas.List.{append-nil, drop-drop, length-map, take-append-drop, take-take}
@@ -39,7 +41,8 @@ cut_around hay e from found rest is stands behind =
     let h = chars hay in
     let s = offset h found.start in
     let t = offset h found.end in
-    let before : from ≤ s = subst (λ n. n ≤ s) (sym is) (offsets_grow h e found.start stands.from) in
+    let before : from ≤ s =
+    subst (λ n. n ≤ s) (sym is) (offsets_grow h e found.start stands.from) in
     ap (λ x. slice_range hay from s ++ (slice_range hay s t ++ x)) behind
     ∙ ap (λ x. slice_range hay from s ++ x)
     (part hay s t (offsets_grow h found.start found.end stands.ordered))
@@ -58,7 +61,8 @@ woven re hay ended from [] is matches = append-nil (drop from hay)
 woven re hay ended from (found ∷ list) is (next, rest) =
     let h = chars hay in
     cut_around hay (unwrap_or ended 0) from found
-    (in_turn (pieces hay (offset h found.end) (map (found_span h) list)) (texts_of_matches hay list))
+    (in_turn (pieces hay (offset h found.end) (map (found_span h) list))
+    (texts_of_matches hay list))
     is (first_stands re h None ended found list (next, rest))
     (woven re hay (Some found.end) (offset h found.end) list refl rest)
 
@@ -77,5 +81,7 @@ pieces_and_matches re hay list found cut matches =
     let texts = length-map found (λ one. text_at hay (found_span h one)) in
     record {
       one_more = ap length is ∙ one_more hay 0 (Spans found) ∙ ap (λ n. n + 1) (spans ∙ sym texts);
-      whole = ap (λ l. in_turn l (texts_of_matches hay found)) is ∙ woven re hay None 0 found refl matches;
+      whole =
+          ap (λ l. in_turn l (texts_of_matches hay found)) is
+          ∙ woven re hay None 0 found refl matches;
     }

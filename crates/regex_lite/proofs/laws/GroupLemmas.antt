@@ -1,5 +1,6 @@
 -- The groups that a search tells lie inside the match, and enough of them took part.
-use Rattle.std.proofs.Common.{◌≡◌, ◌≤◌, ℕ, length, Option, Some, None, IfSome, chars, unwrap_or, option_map, sym, ap, subst, ◌∙◌, arith}
+use Rattle.std.proofs.Common.{◌≡◌, ◌≤◌, ℕ, length, Option, Some, None, IfSome, chars}
+use Rattle.std.proofs.Common.{unwrap_or, option_map, sym, ap, subst, ◌∙◌, arith}
 use Rattle.std.specs.List.{filter_map}
 use Rattle.regex_lite_syntax.specs.Tree.Properties.{captures_len, static_captures_len}
 use Rattle.regex_lite_engine.specs.Search.Offsets.{search_start}
@@ -31,6 +32,8 @@ enough_groups re bytes start groups utf8 (tree, given, (found, is, are)) =
         → IfSome known (λ n. n ≤ length (texts_from groups 0))
     each None e = tt
     each (Some n) e =
-        subst (λ own. n ≤ length (filter_map (option_map (text_at own)) groups.spans)) (sym are.haystack)
+        subst (λ own. n ≤ length (filter_map (option_map (text_at own)) groups.spans))
+        (sym are.haystack)
         (subst (λ all. n ≤ length (filter_map (option_map (text_at bytes)) all)) (sym are.spans)
-        (enough_texts bytes utf8 tree (re.flags, _, given) (search_start bytes start) found is n (sym e)))
+        (enough_texts bytes utf8 tree (re.flags, _, given) (search_start bytes start) found is n
+        (sym e)))

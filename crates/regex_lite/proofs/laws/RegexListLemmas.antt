@@ -1,5 +1,7 @@
 -- What is told of a list of patterns, of its patterns, and of a list of one or of none.
-use Rattle.std.proofs.Common.{◌≡◌, ◌≤◌, ◌*◌, ◌+◌, ◌↔◌, ◌∙◌, refl, sym, ap, subst, ℕ, zero, suc, List, [], ◌∷◌, Bool, IsTrue, is_some, Option, Some, None, option_map, option_and_then, chars, arith}
+use Rattle.std.proofs.Common.{◌≡◌, ◌≤◌, ◌*◌, ◌+◌, ◌↔◌, ◌∙◌, refl, sym, ap, subst, ℕ}
+use Rattle.std.proofs.Common.{zero, suc, List, [], ◌∷◌, Bool, IsTrue, is_some, Option}
+use Rattle.std.proofs.Common.{Some, None, option_map, option_and_then, chars, arith}
 use Rattle.std.proofs.lemmas.Bool.{false≢true}
 use Rattle.regex_lite_syntax.specs.Grammar.{IsTree}
 use Rattle.regex_lite_syntax.specs.Tree.{Tree}
@@ -8,19 +10,25 @@ use Rattle.regex_lite_engine.specs.declared.pikevm.steps.Steps.{Steps}
 use Rattle.regex_lite_engine.specs.Graph.SideBySide.{places_of_all, tries_of_all}
 use Rattle.regex_lite_engine.specs.Graph.PlaceCounts.{whole_arrows, whole_places}
 use Rattle.regex_lite_engine.specs.Search.Answer.{Found, HasMatchFrom}
-use Rattle.regex_lite_engine.specs.Search.AnswerOfList.{AnyMatchesFrom, HasTree, IsAnswerOfList, IsFoundInList}
+use Rattle.regex_lite_engine.specs.Search.AnswerOfList.{AnyMatchesFrom, HasTree}
+use Rattle.regex_lite_engine.specs.Search.AnswerOfList.{IsAnswerOfList, IsFoundInList}
 use Rattle.regex_lite_engine.specs.Search.Bounds.{IsBoundedBy, characters_left}
 use Rattle.regex_lite_engine.specs.Search.Offsets.{search_start}
 use Rattle.regex_lite_engine.specs.Search.Outcomes.{HasCostOfList}
-use Rattle.regex_lite_engine.proofs.laws.several.ListAnswerLemmas.{alone_by_itself, alone_in_list, list_answers, none_match, one_list_answer}
+use Rattle.regex_lite_engine.proofs.laws.several.ListAnswerLemmas.{alone_by_itself}
+use Rattle.regex_lite_engine.proofs.laws.several.ListAnswerLemmas.{alone_in_list, list_answers}
+use Rattle.regex_lite_engine.proofs.laws.several.ListAnswerLemmas.{none_match, one_list_answer}
 use Rattle.regex_lite.specs.declared.string.matches.Match.{Match}
 use Rattle.regex_lite.specs.Expression.{Expression, IsAccepted}
 use Rattle.regex_lite.specs.Groups.{Groups, group_span, span_at}
 use Rattle.regex_lite.specs.MatchViews.{span_of_match}
 use Rattle.regex_lite.specs.RegexList.{AreAccepted, AreAcceptedAs, AreTrees}
-use Rattle.regex_lite.specs.RegexListLaws.{AgreeOnList, AnswersAsItsRegex, FindsNothing, TellsAlike, of_the_only}
-use Rattle.regex_lite.specs.RegexListSearches.{AnyMatches, IsWithinListCost, TellsAnswerOfList, TellsGroupsOfList, TellsMatchOfList}
-use Rattle.regex_lite.specs.Searches.{AreGroupsOf, IsMatchOf, IsWithinCost, MatchesFrom, TellsAnswer, offsets}
+use Rattle.regex_lite.specs.RegexListLaws.{AgreeOnList, AnswersAsItsRegex}
+use Rattle.regex_lite.specs.RegexListLaws.{FindsNothing, TellsAlike, of_the_only}
+use Rattle.regex_lite.specs.RegexListSearches.{AnyMatches, IsWithinListCost, TellsAnswerOfList}
+use Rattle.regex_lite.specs.RegexListSearches.{TellsGroupsOfList, TellsMatchOfList}
+use Rattle.regex_lite.specs.Searches.{AreGroupsOf, IsMatchOf, IsWithinCost}
+use Rattle.regex_lite.specs.Searches.{MatchesFrom, TellsAnswer, offsets}
 use Rattle.regex_lite.specs.Settings.{Settings}
 use Rattle.regex_lite.proofs.string.AgreementLemmas.{same_truth}
 use Rattle.regex_lite.proofs.string.FoundLemmas.{group_0}

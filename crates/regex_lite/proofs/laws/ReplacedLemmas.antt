@@ -1,8 +1,11 @@
 -- What the template `$0`, and what a template without a `$`, puts in the place of matches.
-use Rattle.std.proofs.Common.{◌≡◌, ◌<◌, ℕ, zero, suc, inr, List, [], ◌∷◌, ◌++◌, Option, Some, None, Contains, chars, codes, drop, map, option_map, slice_range, unwrap_or, refl, sym, ap, ◌∙◌, subst, arith}
+use Rattle.std.proofs.Common.{◌≡◌, ◌<◌, ℕ, zero, suc, inr, List, [], ◌∷◌, ◌++◌, Option}
+use Rattle.std.proofs.Common.{Some, None, Contains, chars, codes, drop, map, option_map}
+use Rattle.std.proofs.Common.{slice_range, unwrap_or, refl, sym, ap, ◌∙◌, subst, arith}
 use Rattle.std.proofs.lemmas.List.{append-nil, append_assoc}
 use Rattle.regex_lite_syntax.specs.Text.{Text}
-use Rattle.regex_lite_engine.specs.Interpolation.{GroupTexts, IsInterpolation, nothing, numbered, piece_and_rest, reference}
+use Rattle.regex_lite_engine.specs.Interpolation.{GroupTexts, IsInterpolation, nothing}
+use Rattle.regex_lite_engine.specs.Interpolation.{numbered, piece_and_rest, reference}
 use Rattle.regex_lite_engine.specs.Search.Answer.{Found}
 use Rattle.regex_lite_engine.specs.Search.Marks.{Marks, span}
 use Rattle.regex_lite_engine.specs.Search.Offsets.{offset}
@@ -11,14 +14,16 @@ use Rattle.regex_lite.specs.Ahead.{Ahead, AreGroupsFound}
 use Rattle.regex_lite.specs.Expression.{Expression}
 use Rattle.regex_lite.specs.Groups.{Groups, group_span, group_text, span_at, text_at, whole_span}
 use Rattle.regex_lite.specs.MatchList.{AreWithin, one_less}
-use Rattle.regex_lite.specs.PieceLaws.{FixedTextIsTemplate, LentReplacersReplaceAlike, TemplateAppends, TemplateFixed, WholeMatchesGiveHaystack}
+use Rattle.regex_lite.specs.PieceLaws.{FixedTextIsTemplate, LentReplacersReplaceAlike}
+use Rattle.regex_lite.specs.PieceLaws.{TemplateAppends, TemplateFixed, WholeMatchesGiveHaystack}
 use Rattle.regex_lite.specs.Pieces.{found_span}
 use Rattle.regex_lite.specs.Replacements.{AreGroupsOfEach, IsChain, IsReplaced, replaced_by}
 use Rattle.regex_lite.specs.Replacing.{Answer}
 use Rattle.regex_lite.specs.Searches.{offsets, spans_from}
 use Rattle.regex_lite.specs.Templates.{texts_of}
 use Rattle.regex_lite.proofs.laws.BetweenLemmas.{cut_around}
-use Rattle.regex_lite.proofs.laws.NextMatchLemmas.{StandsFrom, first_stands, same_within, within_first}
+use Rattle.regex_lite.proofs.laws.NextMatchLemmas.{StandsFrom, first_stands}
+use Rattle.regex_lite.proofs.laws.NextMatchLemmas.{same_within, within_first}
 
 first_span : (haystack : Text) (marks : Marks) (count : ℕ) → 0 < count
     → span_at (spans_from haystack marks 0 count) 0 ≡ option_map (offsets haystack) (span marks 0)
@@ -86,7 +91,8 @@ module _ {R : Type 0} (template : R → List ℕ) (re : Expression) (hay : List 
       new_is
       ∙ ap (λ (s : ℕ × ℕ). slice_range hay from s.0 ++ text ++ rest) at
       ∙ ap (λ t. slice_range hay from (offset h found.start) ++ t ++ rest) text_at_match
-      ∙ append_assoc (slice_range hay from (offset h found.start)) (text_at hay (found_span h found)) rest
+      ∙ append_assoc (slice_range hay from (offset h found.start))
+      (text_at hay (found_span h found)) rest
       ∙ cut_around hay (unwrap_or ended 0) from found rest start stands
       (behind ∙ ap (λ n. drop n hay) end)
 
@@ -106,7 +112,8 @@ module _ {R : Type 0} (template : R → List ℕ) (re : Expression) (hay : List 
       let at = span_is re hay (unwrap_or ended 0) found stands own of_found in
       let as_it_is = all ∙ plain_text (texts_of own) (template rep) complete lacks gives in
       let kept = ap template same in
-      let behind = plain_chain (one_less limit) (Some found.end) (whole_span own).1 list groups after
+      let behind =
+      plain_chain (one_less limit) (Some found.end) (whole_span own).1 list groups after
       rest (subst (λ t. ¬ (Contains t 36)) (sym kept) lacks)
       (within_first re h limit ended found list are).1 each chain
       ∙ ap (λ t. replaced_by t hay (whole_span own).1 (Spans list)) kept in
@@ -134,10 +141,12 @@ whole_matches R template rep re hay limit new is (fixed, after, fixed_is, replac
 pub fixed_text : (R : Type 0) → FixedTextIsTemplate R
 fixed_text R template rep a new other lacks by in_turn =
     let h = chars a.haystack in
-    let same = same_within a.sought h a.limit a.ended by.found in_turn.found by.are_ahead in_turn.are_ahead in
+    let same =
+    same_within a.sought h a.limit a.ended by.found in_turn.found by.are_ahead in_turn.are_ahead in
     by.replaced
     ∙ ap (λ found. replaced_by (template rep) a.haystack 0 (map (found_span h) found)) same
-    ∙ sym (plain_chain template a.sought a.haystack a.limit a.ended 0 in_turn.found in_turn.groups rep other
+    ∙ sym (plain_chain template a.sought a.haystack a.limit a.ended 0 in_turn.found in_turn.groups
+    rep other
     lacks in_turn.are_ahead in_turn.each in_turn.chain)
 
 module _ {R Lent : Type 0} (Fixed : R → Option (List ℕ) → R → Type 0)
@@ -152,8 +161,14 @@ module _ {R Lent : Type 0} (Fixed : R → Option (List ℕ) → R → Type 0)
       → IsChain LentFixed LentAppends hay rep from groups new
       → IsChain Fixed Appends hay (behind rep) from groups new
   lent_chain hay rep from [] new chain = chain
-  lent_chain hay rep from (own ∷ groups) new (text, rest, after, appends, new_is, chain) =
-      (text, rest, behind after, appends, new_is, lent_chain hay after (whole_span own).1 groups rest chain)
+  lent_chain hay rep from (own ∷ groups) new (text, rest, after, appends, new_is, chain) = (
+    text,
+    rest,
+    behind after,
+    appends,
+    new_is,
+    lent_chain hay after (whole_span own).1 groups rest chain,
+  )
 
   lent_replaced : (fixed : Option (List ℕ)) (rep : Lent) (a : Ahead) (new : List ℕ)
       → IsReplaced LentFixed LentAppends fixed rep a new

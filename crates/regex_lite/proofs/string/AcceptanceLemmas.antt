@@ -3,7 +3,8 @@ use Rattle.std.proofs.Common.{◌≡◌, inl, inr, Err, chars, refl, subst, arit
 use Rattle.regex_lite_syntax.specs.declared.error.Error.{Error}
 use Rattle.regex_lite_syntax.specs.declared.error.LimitFault.TheVariants as limit
 use Rattle.regex_lite_syntax.specs.Tree.{Tree}
-use Rattle.regex_lite_syntax.specs.Errors.{Refusal, syntax_error, too_deep, too_many_groups, passed_limit, out_of_memory, refused_replacement}
+use Rattle.regex_lite_syntax.specs.Errors.{Refusal, syntax_error, too_deep, too_many_groups}
+use Rattle.regex_lite_syntax.specs.Errors.{passed_limit, out_of_memory, refused_replacement}
 use Rattle.regex_lite_engine.specs.Graph.Size.{Fits}
 use Rattle.regex_lite.specs.Settings.{Settings}
 use Rattle.regex_lite.specs.Expression.{IsReadAs, IsAccepted, IsDue, Builds}

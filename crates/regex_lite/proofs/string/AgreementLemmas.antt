@@ -1,5 +1,7 @@
 -- The searches of a pattern agree.
-use Rattle.std.proofs.Common.{◌≡◌, ◌↔◌, ◌∙◌, refl, sym, ap, subst, ℕ, List, Bool, true, false, IsTrue, Option, Some, None, is_some, option_map, option_and_then, chars, arith}
+use Rattle.std.proofs.Common.{◌≡◌, ◌↔◌, ◌∙◌, refl, sym, ap, subst, ℕ, List, Bool}
+use Rattle.std.proofs.Common.{true, false, IsTrue, Option, Some, None, is_some}
+use Rattle.std.proofs.Common.{option_map, option_and_then, chars, arith}
 use Rattle.std.proofs.lemmas.Bool.{false≢true}
 use Rattle.regex_lite_syntax.specs.Tree.{Tree}
 use Rattle.regex_lite_syntax.specs.Tree.Properties.{captures_len}
@@ -12,7 +14,8 @@ use Rattle.regex_lite.specs.Expression.{Expression}
 use Rattle.regex_lite.specs.Groups.{Groups, group_span, span_at}
 use Rattle.regex_lite.specs.Laws.{Agree}
 use Rattle.regex_lite.specs.MatchViews.{span_of_match}
-use Rattle.regex_lite.specs.Searches.{MatchesFrom, TellsAnswer, TellsEnd, TellsGroups, TellsMatch, offsets}
+use Rattle.regex_lite.specs.Searches.{MatchesFrom, TellsAnswer, TellsEnd}
+use Rattle.regex_lite.specs.Searches.{TellsGroups, TellsMatch, offsets}
 use Rattle.regex_lite.proofs.string.FoundLemmas.{group_0}
 use Rattle.regex_lite.proofs.string.OneTreeLemmas.{matches_told, one_tree}
 use Rattle.regex_lite.proofs.string.ToldLemmas.{same_some}
@@ -30,7 +33,8 @@ module _ (re : Expression) (haystack : List ℕ) (start : ℕ) where
       → IsTrue (is_some told) ↔ MatchesFrom re haystack start
   answer_told says None (tree, given, none) = (
     λ some. absurd (false≢true some),
-    λ matches. absurd (none (subst (λ t. HasMatchFrom t (chars haystack) (search_start haystack start))
+    λ matches.
+        absurd (none (subst (λ t. HasMatchFrom t (chars haystack) (search_start haystack start))
         (one_tree re.flags (chars re.pattern) matches.0 tree matches.1 given) matches.2)),
   )
   answer_told says (Some a) (tree, given, (f, is, of)) =
@@ -44,11 +48,13 @@ module _ (re : Expression) (haystack : List ℕ) (start : ℕ) where
   same_whole None None same p q = refl
   same_whole None (Some groups) same p q = absurd (false≢true same)
   same_whole (Some m) None same p q = absurd (false≢true (sym same))
-  same_whole (Some m) (Some groups) same (tree, given, (f, is, of)) (other, given_too, (g, is_too, are)) =
+  same_whole (Some m) (Some groups) same (tree, given, (f, is, of))
+      (other, given_too, (g, is_too, are)) =
       let one = one_tree re.flags (chars re.pattern) other tree given_too given in
       let is_other : IsFound tree (chars haystack) (search_start haystack start) g =
       subst (λ t. IsFound t (chars haystack) (search_start haystack start) g) one is_too in
-      let f_is_g = same_some (one_answer tree (chars haystack) (regular_tree tree (re.flags, _, given))
+      let f_is_g =
+      same_some (one_answer tree (chars haystack) (regular_tree tree (re.flags, _, given))
       (search_start haystack start) (Some f) (Some g) is is_other) in
       ap Some (of.span ∙ ap (λ (own : Found). offsets (chars haystack) (own.start, own.end)) f_is_g)
       ∙ sym (ap (λ all. span_at all 0) are.spans
@@ -68,6 +74,8 @@ module _ (re : Expression) (haystack : List ℕ) (start : ℕ) where
         with_match = same_truth (is_some m) found Matching by_match told;
         with_groups = same_truth (is_some groups) found Matching by_groups told;
         with_end = same_truth (is_some end) found Matching by_end told;
-        whole = same_whole m groups (same_truth (is_some m) (is_some groups) Matching by_match by_groups)
+        whole =
+            same_whole m groups
+            (same_truth (is_some m) (is_some groups) Matching by_match by_groups)
             tells_match tells_groups;
       }

@@ -1,8 +1,10 @@
 -- Steps of what is ahead.
-use Rattle.std.proofs.Common.{◌≡◌, ◌≢◌, ◌⊎◌, ◌<◌, ◌≤◌, ◌+◌, ◌-◌, length, inl, inr, ℕ, zero, suc, List, [], ◌∷◌, Option, Some, None, refl, subst, arith, chars}
+use Rattle.std.proofs.Common.{◌≡◌, ◌≢◌, ◌⊎◌, ◌<◌, ◌≤◌, ◌+◌, ◌-◌, length, inl, inr, ℕ, zero, suc}
+use Rattle.std.proofs.Common.{List, [], ◌∷◌, Option, Some, None, refl, subst, arith, chars}
 use Rattle.regex_lite_syntax.specs.Text.{Text}
 use Rattle.regex_lite_engine.specs.Search.Answer.{Found}
-use Rattle.regex_lite.specs.Ahead.{Ahead, AreAhead, AreFirstAhead, IsOnward, IsOver, Passes, most_ahead, most_left}
+use Rattle.regex_lite.specs.Ahead.{Ahead, AreAhead, AreFirstAhead, IsOnward}
+use Rattle.regex_lite.specs.Ahead.{IsOver, Passes, most_ahead, most_left}
 use Rattle.regex_lite.specs.Expression.{Expression}
 use Rattle.regex_lite.specs.MatchList.{AreFirst, AreWithin, IsNext, one_less}
 use Rattle.regex_lite.specs.Scanning.{Scanning}

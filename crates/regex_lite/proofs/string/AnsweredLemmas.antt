@@ -1,5 +1,7 @@
 -- Whether anything is ahead of a whole haystack.
-use Rattle.std.proofs.Common.{◌≡◌, ◌≢◌, ◌++◌, inl, inr, ℕ, suc, zero, List, [], Option, Some, None, Result, Ok, Err, IfOk, MatchOption, sym, ap, ◌∙◌, subst, drop, chars, length, unwrap_or, arith}
+use Rattle.std.proofs.Common.{◌≡◌, ◌≢◌, ◌++◌, inl, inr, ℕ, suc, zero, List, [], Option}
+use Rattle.std.proofs.Common.{Some, None, Result, Ok, Err, IfOk, MatchOption, sym, ap}
+use Rattle.std.proofs.Common.{◌∙◌, subst, drop, chars, length, unwrap_or, arith}
 use Rattle.std.specs.Cow.{IsOwnedStr, cow_str_bytes}
 use Rattle.std.specs.declared.borrow.CowStr.{CowStr}
 use Rattle.std.proofs.lemmas.Result.{IfOk-weaker}
@@ -76,7 +78,8 @@ module _ {Z : Type 0} (start a : Ahead) (same : CowStr Z) (made : List ℕ) wher
   owned_finished (Some from) begun over new finished some = finished.0
 
   -- so what holds of what was made with the rest of the haystack holds of the new text
-  pub so_finished : {E : Type 0} (ended : Option ℕ) (result : Result (CowStr Z) E) (P : List ℕ → Type 0)
+  pub so_finished : {E : Type 0} (ended : Option ℕ) (result : Result (CowStr Z) E)
+      (P : List ℕ → Type 0)
       → IfOk result (IsFinished same made ended) → cow_str_bytes same ≡ start.haystack
       → IsBegun start a made ended → P (made ++ drop (unwrap_or ended 0) start.haystack)
       → IfOk result (λ new. P (cow_str_bytes new))
@@ -119,7 +122,8 @@ limit_left zero = λ same. cc
 limit_left (suc k) = λ same. cc
 
 -- what is so where some match is ahead is so where the pattern matches
-pub where_it_matches : {T E : Type 0} (re : Expression) (haystack : List ℕ) (n : ℕ) (limit : Option ℕ)
+pub where_it_matches : {T E : Type 0} (re : Expression) (haystack : List ℕ) (n : ℕ)
+    (limit : Option ℕ)
     (P : T → Type 0) (result : Result T E) → limit ≡ limit_of n
     → IfOk result (λ x. (IsOver (whole re haystack limit) → ⊥) → P x)
     → IfOk result (λ x. MatchesFrom re haystack 0 → P x)

@@ -1,5 +1,7 @@
 -- The slots of an outcome, or its span, tell the groups of what was found.
-use Rattle.std.proofs.Common.{◌≡◌, ◌≤◌, refl, sym, ap, subst, ◌∙◌, ℕ, zero, suc, ◌*◌, List, [], ◌∷◌, length, Option, Some, None, IfSome, IsSome, option_map, chars, IsUtf8, arith}
+use Rattle.std.proofs.Common.{◌≡◌, ◌≤◌, refl, sym, ap, subst, ◌∙◌, ℕ, zero, suc}
+use Rattle.std.proofs.Common.{◌*◌, List, [], ◌∷◌, length, Option, Some, None}
+use Rattle.std.proofs.Common.{IfSome, IsSome, option_map, chars, IsUtf8, arith}
 use Rattle.std.specs.List.{filter_map}
 use Rattle.std.specs.Option.{option_zip}
 use Rattle.regex_lite_syntax.specs.Text.{Text}
@@ -13,11 +15,13 @@ use Rattle.regex_lite_engine.proofs.laws.PatternTreeLemmas.{regular_tree}
 use Rattle.regex_lite_engine.proofs.laws.groups.SpanLemmas.{groups_inside}
 use Rattle.regex_lite.specs.declared.string.compiled.Compiled.{Compiled}
 use Rattle.regex_lite.specs.Compiled.{IsBuilt, NamesGroups, groups_of, names_of, stored_groups}
-use Rattle.regex_lite.specs.Groups.{AreGroups, LiesIn, span_at, spans_of, text_at, texts_from, group_span}
+use Rattle.regex_lite.specs.Groups.{AreGroups, LiesIn, span_at, spans_of}
+use Rattle.regex_lite.specs.Groups.{text_at, texts_from, group_span}
 use Rattle.regex_lite.specs.Searches.{AreGroupsOf, offsets, spans_from}
 use Rattle.regex_lite.specs.Slots.{all_slots, kept_slots}
 use Rattle.regex_lite.proofs.string.SlotLemmas.{none_kept, some_kept}
-use Rattle.regex_lite.proofs.string.FoundLemmas.{slots_told, length_spans, groups_lie, group_0, enough_texts}
+use Rattle.regex_lite.proofs.string.FoundLemmas.{slots_told, length_spans}
+use Rattle.regex_lite.proofs.string.FoundLemmas.{groups_lie, group_0, enough_texts}
 use Rattle.regex_lite.proofs.string.GroupNameLemmas.{are_names}
 
 same_some : {A : Type 0} {x y : A} → ◌≡◌ {A = Option A} (Some x) (Some y) → x ≡ y

@@ -18,7 +18,8 @@ same_parts : {h k : List ℕ} {a b i j : ℕ} → h ≡ k → a ≡ i → b ≡ 
     → ◌≡◌ {A = List ℕ × (ℕ × ℕ)} (h, (a, b)) (k, (i, j))
 same_parts {h} {k} {a} {b} {i} {j} text start end = rw (text, start, end) refl
 
-pub by_span : (m n : Match) → Decides (is_same_match m n) (match_with_haystack m ≡ match_with_haystack n)
+pub by_span : (m n : Match)
+    → Decides (is_same_match m n) (match_with_haystack m ≡ match_with_haystack n)
 by_span m n =
     let all = Decides-and _ _ (bytes_eq-Decides (haystack_of_match m) (haystack_of_match n))
     (Decides-and _ _ (unsigned_Decides m.start n.start) (unsigned_Decides m.end n.end)) in (

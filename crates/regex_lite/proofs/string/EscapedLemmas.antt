@@ -1,5 +1,6 @@
 -- The pattern that is made of a text: its characters, and why it can be refused.
-use Rattle.std.proofs.Common.{◌≡◌, ◌≤◌, inl, inr, refl, sym, ◌∙◌, ap, subst, cond, ℕ, true, false, List, [], ◌∷◌, map, chars, IsUtf8, arith}
+use Rattle.std.proofs.Common.{◌≡◌, ◌≤◌, inl, inr, refl, sym, ◌∙◌, ap, subst, cond, ℕ}
+use Rattle.std.proofs.Common.{true, false, List, [], ◌∷◌, map, chars, IsUtf8, arith}
 use Rattle.std.specs.Str.{all_scalars}
 use Rattle.std.proofs.lemmas.Bool.{and_from, and_parts}
 use Rattle.std.proofs.lemmas.Str.{chars-encodes, scalars-chars}
@@ -10,7 +11,9 @@ use Rattle.regex_lite_syntax.specs.Tree.Properties.{greatest_index, greatest_ind
 use Rattle.regex_lite_syntax.specs.Escaped.{is_meta_character, escaped, literal}
 use Rattle.regex_lite_syntax.specs.Grammar.{Grammar}
 use Rattle.regex_lite_syntax.specs.Limits.{depth, depth_of_list, PassesNesting}
-use Rattle.regex_lite_syntax.specs.Errors.{Refusal, kind_of, syntax_error, too_deep, too_many_groups, passed_limit, out_of_memory, refused_replacement}
+use Rattle.regex_lite_syntax.specs.Errors.{Refusal, kind_of, syntax_error}
+use Rattle.regex_lite_syntax.specs.Errors.{too_deep, too_many_groups, passed_limit}
+use Rattle.regex_lite_syntax.specs.Errors.{out_of_memory, refused_replacement}
 use Rattle.regex_lite_syntax.proofs.grammar.EscapedLemmas.{escaped_literal}
 use Rattle.regex_lite_syntax.proofs.grammar.LiteralMatchLemmas.{literal_matches}
 use Rattle.regex_lite_syntax.proofs.CharacterLemmas.{chars_are}
@@ -62,11 +65,13 @@ module _ (text : List ℕ) (utf8 : IsUtf8 text) where
       subst (λ pattern. Grammar no_flags pattern (literal (chars text)) 0 0) pattern_chars
       (escaped_literal no_flags (chars text) refl refl (chars_are text utf8))
 
-  pub refused_for_size : (error : Refusal) → IsDue (escaped_settings text) error → IsForSize (kind_of error)
+  pub refused_for_size : (error : Refusal) → IsDue (escaped_settings text) error
+      → IsForSize (kind_of error)
   refused_for_size (passed_limit limit.Size) due = tt
   refused_for_size (passed_limit limit.Places) due = tt
   refused_for_size out_of_memory due = tt
-  refused_for_size (syntax_error rule) (inl none) = none (literal (chars text), (0, 0, tree_of_pattern))
+  refused_for_size (syntax_error rule) (inl none) =
+      none (literal (chars text), (0, 0, tree_of_pattern))
   refused_for_size (syntax_error rule) (inr (tree, read, says)) = says
   refused_for_size too_deep (inl says) =
       absurd (deep (says.with_tree (literal (chars text)) 0 0 tree_of_pattern))
@@ -76,7 +81,8 @@ module _ (text : List ℕ) (utf8 : IsUtf8 text) where
       deep (inr nodes) = absurd (omega (arith, nodes, literal_depth (chars text)))
   refused_for_size too_deep (inr (tree, read, says)) = says
   refused_for_size too_many_groups (inl says) =
-      let many = says.with_tree (literal (chars text)) 0 0 tree_of_pattern in absurd (omega (arith, many))
+      let many = says.with_tree (literal (chars text)) 0 0 tree_of_pattern in
+      absurd (omega (arith, many))
   refused_for_size too_many_groups (inr (tree, read, says)) = says
   refused_for_size (passed_limit limit.Slots) (inl says) = says
   refused_for_size (passed_limit limit.Slots) (inr (tree, read, many)) =

@@ -1,5 +1,7 @@
 -- What is found, by offsets: its match and its groups lie in the haystack.
-use Rattle.std.proofs.Common.{◌≡◌, ◌<◌, ◌≤◌, ◌⊎◌, inl, inr, refl, ap, ◌∙◌, ℕ, zero, suc, ◌+◌, ◌*◌, List, [], ◌∷◌, length, take, Option, Some, None, IfSome, option_map, slice_get, chars, IsUtf8, arith}
+use Rattle.std.proofs.Common.{◌≡◌, ◌<◌, ◌≤◌, ◌⊎◌, inl, inr, refl, ap, ◌∙◌, ℕ, zero, suc}
+use Rattle.std.proofs.Common.{◌+◌, ◌*◌, List, [], ◌∷◌, length, take, Option, Some, None}
+use Rattle.std.proofs.Common.{IfSome, option_map, slice_get, chars, IsUtf8, arith}
 use Rattle.std.specs.Option.{option_zip}
 use Rattle.std.specs.List.{filter_map}
 use Rattle.std.proofs.lemmas.Bool.{cases_order}
@@ -39,7 +41,8 @@ offset_most haystack p q le inside = each (cases_order p q)
 pub positions_lie : (bytes : List ℕ) (i j : ℕ) → IsUtf8 bytes → i ≤ j → j ≤ length (chars bytes)
     → LiesIn bytes (offsets (chars bytes) (i, j))
 positions_lie bytes i j utf8 le inside =
-    let starts = boundary_at bytes i (offset (chars bytes) i) utf8 (omega (arith, le, inside), refl) in
+    let starts =
+    boundary_at bytes i (offset (chars bytes) i) utf8 (omega (arith, le, inside), refl) in
     let ends = boundary_at bytes j (offset (chars bytes) j) utf8 (inside, refl) in
     record {
       ordered = offset_most (chars bytes) i j le inside;
@@ -64,8 +67,10 @@ pub slots_told : (haystack : Text) (marks : Marks) (slots : List (Option ℕ)) (
 slots_told haystack marks [] first zero at start len told = refl
 slots_told haystack marks [] first (suc count) at start len told = absurd (omega (arith, len))
 slots_told haystack marks (slot ∷ []) first zero at start len told = absurd (omega (arith, len))
-slots_told haystack marks (slot ∷ []) first (suc count) at start len told = absurd (omega (arith, len))
-slots_told haystack marks (from ∷ to ∷ slots) first zero at start len told = absurd (omega (arith, len))
+slots_told haystack marks (slot ∷ []) first (suc count) at start len told =
+    absurd (omega (arith, len))
+slots_told haystack marks (from ∷ to ∷ slots) first zero at start len told =
+    absurd (omega (arith, len))
 slots_told haystack marks (from ∷ to ∷ slots) first (suc count) at start len told =
     let a : at + 0 ≡ 2 * first = omega (arith, start) in
     let b : at + 1 ≡ 2 * first + 1 = omega (arith, start) in
@@ -85,7 +90,8 @@ listed : (haystack : Text) (marks : Marks) (P : ℕ × ℕ → Type 0)
     → (first count k : ℕ) → IfSome (span_at (spans_from haystack marks first count) k) P
 listed haystack marks P each first zero k = tt
 listed haystack marks P each first (suc count) zero = each first
-listed haystack marks P each first (suc count) (suc k) = listed haystack marks P each (suc first) count k
+listed haystack marks P each first (suc count) (suc k) =
+    listed haystack marks P each (suc first) count k
 
 -- there are as many as were asked for
 pub length_spans : (haystack : Text) (marks : Marks) (first count : ℕ)
@@ -153,7 +159,8 @@ module _ (bytes : List ℕ) (utf8 : IsUtf8 bytes) (tree : Tree) (given : IsPatte
   abbrev whole : ℕ × ℕ
   whole = offsets (chars bytes) (found.start, found.end)
 
-  group_lies : (k : ℕ) → IfSome (option_map (offsets (chars bytes)) (span found.marks k)) (LiesInside bytes whole)
+  group_lies : (k : ℕ)
+      → IfSome (option_map (offsets (chars bytes)) (span found.marks k)) (LiesInside bytes whole)
   group_lies k = each (span found.marks k) refl
     where
       each : (own : Option (ℕ × ℕ)) → span found.marks k ≡ own
@@ -165,7 +172,9 @@ module _ (bytes : List ℕ) (utf8 : IsUtf8 bytes) (tree : Tree) (given : IsPatte
           let last = within.2 in
           let below = end_inside in
           record {
-            starts_inside = offset_most (chars bytes) found.start from within.0 (omega (arith, order, last, below));
+            starts_inside =
+                offset_most (chars bytes) found.start from within.0
+                (omega (arith, order, last, below));
             ends_inside = offset_most (chars bytes) to found.end last below;
             lies_in = positions_lie bytes from to utf8 order (omega (arith, last, below));
           }
@@ -173,12 +182,16 @@ module _ (bytes : List ℕ) (utf8 : IsUtf8 bytes) (tree : Tree) (given : IsPatte
   -- so do its groups, and inside it
   pub groups_lie_inside : (count k : ℕ)
       → IfSome (span_at (spans_from (chars bytes) found.marks 0 count) k) (LiesInside bytes whole)
-  groups_lie_inside count k = listed (chars bytes) found.marks (LiesInside bytes whole) group_lies 0 count k
+  groups_lie_inside count k =
+      listed (chars bytes) found.marks (LiesInside bytes whole) group_lies 0 count k
 
-  pub groups_lie : (count k : ℕ) → IfSome (span_at (spans_from (chars bytes) found.marks 0 count) k) (LiesIn bytes)
-  groups_lie count k = each (span_at (spans_from (chars bytes) found.marks 0 count) k) (groups_lie_inside count k)
+  pub groups_lie : (count k : ℕ)
+      → IfSome (span_at (spans_from (chars bytes) found.marks 0 count) k) (LiesIn bytes)
+  groups_lie count k =
+      each (span_at (spans_from (chars bytes) found.marks 0 count) k) (groups_lie_inside count k)
     where
-      each : (own : Option (ℕ × ℕ)) → IfSome own (LiesInside bytes whole) → IfSome own (LiesIn bytes)
+      each : (own : Option (ℕ × ℕ)) → IfSome own (LiesInside bytes whole)
+          → IfSome own (LiesIn bytes)
       each None inside = tt
       each (Some group) inside = inside.lies_in
 

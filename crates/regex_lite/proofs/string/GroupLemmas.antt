@@ -1,5 +1,7 @@
 -- Groups by their spans: one after another, and by their names.
-use Rattle.std.proofs.Common.{◌≡◌, refl, sym, ap, ◌∙◌, ◌⊎◌, inl, inr, ℕ, suc, ◌+◌, ◌<◌, ◌≤◌, add-one, nat_lt, true, false, List, [], ◌∷◌, length, drop, map, get_or, Option, Some, None, IfSome, option_map, arith}
+use Rattle.std.proofs.Common.{◌≡◌, refl, sym, ap, ◌∙◌, ◌⊎◌, inl, inr, ℕ, suc, ◌+◌, ◌<◌, ◌≤◌}
+use Rattle.std.proofs.Common.{add-one, nat_lt, true, false, List, [], ◌∷◌, length, drop}
+use Rattle.std.proofs.Common.{map, get_or, Option, Some, None, IfSome, option_map, arith}
 use Rattle.std.specs.List.{filter_map, cons_option, position_or_len}
 use Rattle.std.specs.Option.{option_flatten}
 use Rattle.std.proofs.Math.Seq.{drop-cons}
@@ -11,7 +13,8 @@ use Rattle.std.proofs.lemmas.Bool.{cases_order}
 use Rattle.std.proofs.lemmas.List.Sums.{position_or_len_is}
 use Rattle.std.proofs.lemmas.Bool.Decides.{nat_tests}
 use Rattle.std.proofs.lemmas.Option.{slice_get-get_or, IfSome_then}
-use Rattle.regex_lite.specs.Groups.{Groups, group_span, is_named, index_of, span_at, text_at, texts_from}
+use Rattle.regex_lite.specs.Groups.{Groups, group_span, is_named, index_of}
+use Rattle.regex_lite.specs.Groups.{span_at, text_at, texts_from}
 use Rattle.regex_lite.specs.declared.string.matches.Match.{Match}
 use Rattle.regex_lite.specs.MatchViews.{haystack_of_match, span_of_match, match_with_haystack}
 
@@ -34,13 +37,15 @@ module _ (groups : Groups) (k : ℕ) (within : k < length groups.spans) where
   -- a group that took no part has no text
   pub no_text : group_span groups k ≡ None → texts_from groups (k + 1) ≡ texts_from groups k
   no_text none = sym (texts_on
-      ∙ ap (λ span. cons_option (option_map (text_at groups.haystack) span) (texts_from groups (k + 1))) none)
+      ∙ ap (λ span.
+      cons_option (option_map (text_at groups.haystack) span) (texts_from groups (k + 1))) none)
 
   -- one that took part has
   pub own_text : (span : ℕ × ℕ) → group_span groups k ≡ Some span
       → texts_from groups k ≡ text_at groups.haystack span ∷ texts_from groups (k + 1)
   own_text span is = texts_on
-      ∙ ap (λ s. cons_option (option_map (text_at groups.haystack) s) (texts_from groups (k + 1))) is
+      ∙ ap (λ s. cons_option (option_map (text_at groups.haystack) s) (texts_from groups (k + 1)))
+      is
 
 -- where none of the groups before it has a text either, its text is the first
 pub first_text : (groups : Groups) (from k : ℕ) (span : ℕ × ℕ) (text : List ℕ)
@@ -65,7 +70,8 @@ enough_behind groups span is enough =
 
 -- a match in this haystack, with it
 placed : (haystack : List ℕ) (m : Option Match) → IfSome m (λ own. haystack_of_match own ≡ haystack)
-    → option_map (λ span. (haystack, span)) (option_map span_of_match m) ≡ option_map match_with_haystack m
+    → option_map (λ span. (haystack, span)) (option_map span_of_match m)
+    ≡ option_map match_with_haystack m
 placed haystack None within = refl
 placed haystack (Some m) within = ap (λ own. Some (own, span_of_match m)) (sym within)
 
@@ -74,7 +80,8 @@ pub groups_on : (haystack : List ℕ) (spans : List (Option (ℕ × ℕ))) (k : 
     → k < length spans → option_map span_of_match m ≡ span_at spans k
     → IfSome m (λ own. haystack_of_match own ≡ haystack)
     → map (option_map (λ span. (haystack, span))) (drop k spans)
-    ≡ option_map match_with_haystack m ∷ map (option_map (λ span. (haystack, span))) (drop (k + 1) spans)
+    ≡ option_map match_with_haystack m
+    ∷ map (option_map (λ span. (haystack, span))) (drop (k + 1) spans)
 groups_on haystack spans k m within is own =
     let Placed : List (Option (ℕ × ℕ)) → List (Option (List ℕ × (ℕ × ℕ))) =
     map (option_map (λ span. (haystack, span))) in
@@ -98,7 +105,8 @@ module _ (names : List (Option (List ℕ))) (name : List ℕ) where
       → None ≡ index_of names name
   named_nowhere none =
       let at : position_or_len (is_named name) names ≡ length names =
-      position_or_len_is (is_named name) names (length names) None (omega arith) none (λ less. absurd (omega (arith, less))) in
+      position_or_len_is (is_named name) names (length names) None (omega arith) none
+      (λ less. absurd (omega (arith, less))) in
       let outside : nat_lt (length names) (length names) ≡ false = grind (arith, nat_tests) in
       rw (at, outside) refl
 

@@ -1,5 +1,6 @@
 -- The names that a regex hands out are those of its tree.
-use Rattle.std.proofs.Common.{◌≡◌, ◌∙◌, refl, sym, ap, subst, ℕ, List, [], ◌∷◌, length, map, option_map, slice_index_or, Option, Some, None, chars}
+use Rattle.std.proofs.Common.{◌≡◌, ◌∙◌, refl, sym, ap, subst, ℕ, List, [], ◌∷◌, length}
+use Rattle.std.proofs.Common.{map, option_map, slice_index_or, Option, Some, None, chars}
 use Rattle.std.proofs.lemmas.List.{length-map}
 use Rattle.std.specs.Rc.{rc_str_bytes}
 use Rattle.std.specs.declared.alloc.Global.{Global}
@@ -19,7 +20,8 @@ same_texts [] = refl
 same_texts (None ∷ rest) = ap (λ texts. None ∷ texts) (same_texts rest)
 same_texts (Some name ∷ rest) = ap (λ texts. Some (text_of_name name) ∷ texts) (same_texts rest)
 
-pub are_names : (bytes : List (Option (List ℕ))) (names : List (Option (RcStr Global))) (tree : Tree)
+pub are_names : (bytes : List (Option (List ℕ))) (names : List (Option (RcStr Global)))
+    (tree : Tree)
     → bytes ≡ map (option_map rc_str_bytes) names → IsRegular tree
     → length names ≡ captures_len tree
     → ((k : ℕ) → slice_index_or (map (option_map text_of_name) names) k None ≡ group_name tree k)

@@ -1,5 +1,6 @@
 -- What a searcher that callers keep tells of a match, and of its groups.
-use Rattle.std.proofs.Common.{◌≡◌, ◌≤◌, ◌*◌, ◌/◌, ◌∙◌, refl, sym, ap, subst, ℕ, List, [], length, take, Option, Some, None, option_map, chars, IsUtf8, arith}
+use Rattle.std.proofs.Common.{◌≡◌, ◌≤◌, ◌*◌, ◌/◌, ◌∙◌, refl, sym, ap, subst, ℕ, List, [], length}
+use Rattle.std.proofs.Common.{take, Option, Some, None, option_map, chars, IsUtf8, arith}
 use Rattle.regex_lite_syntax.specs.Tree.{Tree}
 use Rattle.regex_lite_syntax.specs.Tree.Properties.{captures_len}
 use Rattle.regex_lite_engine.specs.Graph.Renumbered.{IsGraphOf}

@@ -1,10 +1,14 @@
 -- A list of patterns is accepted, or refused by the lowest that fails, or for all places together.
-use Rattle.std.proofs.Common.{◌≡◌, ◌<◌, ◌≤◌, ◌^◌, ◌⊎◌, ◌+◌, ◌*◌, ◌++◌, ◌∙◌, inl, inr, refl, sym, ap, add-one, All, ℕ, zero, suc, List, [], ◌∷◌, length, map, take, take-suc, Some, Err, get_or, slice_get, slice_index_or, chars, arith}
+use Rattle.std.proofs.Common.{◌≡◌, ◌<◌, ◌≤◌, ◌^◌, ◌⊎◌, ◌+◌, ◌*◌, ◌++◌, ◌∙◌, inl, inr, refl, sym}
+use Rattle.std.proofs.Common.{ap, add-one, All, ℕ, zero, suc, List, [], ◌∷◌, length, map, take}
+use Rattle.std.proofs.Common.{take-suc, Some, Err, get_or, slice_get, slice_index_or, chars, arith}
 use Rattle.std.proofs.lemmas.List.Sums.{sum_by-cons}
 use Rattle.std.proofs.lemmas.Option.{slice_get-get_or}
 use Rattle.regex_lite_syntax.specs.declared.error.Error.{Error}
 use Rattle.regex_lite_syntax.specs.declared.error.ErrorKind.TheVariants.{Places}
-use Rattle.regex_lite_syntax.specs.Errors.{Refusal, kind_of, syntax_error, too_deep, too_many_groups, passed_limit, out_of_memory, refused_replacement}
+use Rattle.regex_lite_syntax.specs.Errors.{Refusal, kind_of, syntax_error}
+use Rattle.regex_lite_syntax.specs.Errors.{too_deep, too_many_groups, passed_limit}
+use Rattle.regex_lite_syntax.specs.Errors.{out_of_memory, refused_replacement}
 use Rattle.regex_lite_syntax.specs.Tree.{Tree}
 use Rattle.regex_lite_syntax.specs.Grammar.{IsTree}
 use Rattle.regex_lite_engine.specs.Graph.SideBySide.{AreRegular, arrows_of_all, places_of_all}
@@ -16,10 +20,12 @@ use Rattle.regex_lite_engine.proofs.ArrowBoundLemmas.{arrows_few}
 use Rattle.regex_lite_engine.proofs.laws.PatternTreeLemmas.{regular_tree}
 use Rattle.regex_lite.specs.Expression.{Expression, IsAccepted, IsDue, expression_of}
 use Rattle.regex_lite.specs.Settings.{Settings}
-use Rattle.regex_lite.specs.RegexList.{AreAccepted, AreAcceptedAs, AreTrees, BuildsList, IsAcceptedAs, IsDueToAll, IsDueToLowest}
+use Rattle.regex_lite.specs.RegexList.{AreAccepted, AreAcceptedAs, AreTrees, BuildsList}
+use Rattle.regex_lite.specs.RegexList.{IsAcceptedAs, IsDueToAll, IsDueToLowest}
 use Rattle.regex_lite.proofs.string.AcceptanceLemmas.{for_memory, same_tree}
 use Rattle.regex_lite.proofs.string.OneTreeLemmas.{one_tree}
-use Rattle.regex_lite.proofs.string.PairedLemmas.{paired_at, paired_back, paired_more, paired_once, paired_so}
+use Rattle.regex_lite.proofs.string.PairedLemmas.{paired_at, paired_back, paired_more}
+use Rattle.regex_lite.proofs.string.PairedLemmas.{paired_once, paired_so}
 
 -- the trees of the settings are those of the patterns
 pub accepted_trees : (all : List Settings) (trees : List Tree) → AreAcceptedAs all trees

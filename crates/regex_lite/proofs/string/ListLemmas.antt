@@ -1,5 +1,6 @@
 -- The answers after one another are apart, and one list.
-use Rattle.std.proofs.Common.{◌≡◌, ◌<◌, ◌≤◌, ◌+◌, Bool, true, false, MatchBool, ℕ, suc, List, [], ◌∷◌, length, Option, Some, None, refl, sym, ap, subst, ◌∙◌, arith}
+use Rattle.std.proofs.Common.{◌≡◌, ◌<◌, ◌≤◌, ◌+◌, Bool, true, false, MatchBool, ℕ, suc, List, []}
+use Rattle.std.proofs.Common.{◌∷◌, length, Option, Some, None, refl, sym, ap, subst, ◌∙◌, arith}
 use Rattle.std.proofs.lemmas.Bool.Decides.{nat_tests}
 use Rattle.regex_lite_syntax.specs.Text.{Text}
 use Rattle.regex_lite_engine.specs.Search.Answer.{Found}
@@ -75,7 +76,8 @@ module _ {A : Type 0} (found_of : A → Found) (haystack : Text)
   one_next (Some e) a b (f, is, p) (g, is_too, q) =
       let same = lawful.one e g f is_too is in
       each (is_empty_answer found_of e f) p
-      (subst (λ own. MatchBool (is_empty_answer found_of e own) (Answers (suc e) b) (b ≡ own)) same q)
+      (subst (λ own. MatchBool (is_empty_answer found_of e own) (Answers (suc e) b) (b ≡ own)) same
+      q)
     where
       each : (empty : Bool) → MatchBool empty (Answers (suc e) a) (a ≡ f)
           → MatchBool empty (Answers (suc e) b) (b ≡ f) → a ≡ b

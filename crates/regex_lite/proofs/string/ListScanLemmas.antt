@@ -1,5 +1,6 @@
 -- Steps of what goes over the matches of several patterns, and the groups of the last match.
-use Rattle.std.proofs.Common.{◌≡◌, ◌<◌, ◌*◌, ◌∙◌, refl, ℕ, List, length, take, Option, Some, chars, IsUtf8, sym, ap, subst}
+use Rattle.std.proofs.Common.{◌≡◌, ◌<◌, ◌*◌, ◌∙◌, refl, ℕ, List, length, take}
+use Rattle.std.proofs.Common.{Option, Some, chars, IsUtf8, sym, ap, subst}
 use Rattle.regex_lite_syntax.specs.Tree.{Tree}
 use Rattle.regex_lite_engine.specs.Search.Answer.{Found}
 use Rattle.regex_lite_engine.specs.Search.AnswerOfList.{IsFoundInList}
@@ -14,11 +15,13 @@ use Rattle.regex_lite.specs.ListAhead.{AreGroupsFoundInList, ListPasses, list_ah
 use Rattle.regex_lite.specs.MatchList.{IsAnswerOf, IsAnswerOfPatterns}
 use Rattle.regex_lite.specs.MatchViews.{span_of_match}
 use Rattle.regex_lite.specs.RegexList.{AreTrees}
-use Rattle.regex_lite.specs.Scanning.{HasSlotsForAllGroups, IsMatchOfPatterns, ListSearching, Scanning, most_captures}
+use Rattle.regex_lite.specs.Scanning.{HasSlotsForAllGroups, IsMatchOfPatterns}
+use Rattle.regex_lite.specs.Scanning.{ListSearching, Scanning, most_captures}
 use Rattle.regex_lite.specs.Searches.{offsets}
 use Rattle.regex_lite.specs.Slots.{all_slots, kept_slots}
 use Rattle.regex_lite.proofs.string.ListBuildLemmas.{one_list, own_tree}
-use Rattle.regex_lite.proofs.string.ListToldLemmas.{found_groups_are, found_groups_in_list, found_there, most_are}
+use Rattle.regex_lite.proofs.string.ListToldLemmas.{found_groups_are, found_groups_in_list}
+use Rattle.regex_lite.proofs.string.ListToldLemmas.{found_there, most_are}
 use Rattle.regex_lite.proofs.string.ScanLemmas.{whole_of_groups}
 use Rattle.regex_lite.proofs.string.ToldLemmas.{same_some}
 
@@ -71,7 +74,8 @@ module _ (bytes : List ℕ) (utf8 : IsUtf8 bytes) (list : List Expression) (comp
       ∙ ap (λ (trees : List Tree). kept_slots (most_captures trees))
       (one_list list room.0 built.trees room.1 given)
       ∙ sym (built.slots
-      ∙ ap kept_slots (most_are built.trees compiled.graph.groups built.groups.all built.groups.each))
+      ∙ ap kept_slots
+      (most_are built.trees compiled.graph.groups built.groups.all built.groups.each))
 
   -- its pattern is there
   pub last_there : told.0 < length compiled.graph.groups
@@ -79,7 +83,8 @@ module _ (bytes : List ℕ) (utf8 : IsUtf8 bytes) (list : List Expression) (comp
       found_there bytes utf8 list compiled built given last.0 told.0 own.1 answer kept
       last.2.has_slots (span_of_match told.1) last.2.is_match.span width slots
 
-  module _ (filled : slots ≡ take (2 * length (groups_at compiled.graph.groups told.0).capture_names)
+  module _
+      (filled : slots ≡ take (2 * length (groups_at compiled.graph.groups told.0).capture_names)
       (all_slots kept (span_of_match told.1))) where
     -- all slots hold groups
     pub last_groups_are : AreGroups

@@ -1,12 +1,15 @@
 -- From the outcome of a search for several patterns to what is told of it.
-use Rattle.std.proofs.Common.{◌≡◌, ◌≤◌, ◌<◌, ◌*◌, ◌↔◌, ◌∙◌, refl, sym, ap, subst, ℕ, zero, suc, List, [], ◌∷◌, Bool, IsTrue, length, take, Option, Some, None, IfSome, slice_get, chars, IsUtf8, arith}
+use Rattle.std.proofs.Common.{◌≡◌, ◌≤◌, ◌<◌, ◌*◌, ◌↔◌, ◌∙◌, refl, sym, ap, subst, ℕ, zero}
+use Rattle.std.proofs.Common.{suc, List, [], ◌∷◌, Bool, IsTrue, length, take, Option}
+use Rattle.std.proofs.Common.{Some, None, IfSome, slice_get, chars, IsUtf8, arith}
 use Rattle.std.proofs.lemmas.List.{length-take-le}
 use Rattle.std.proofs.lemmas.Option.{slice_get-get_or, slice_get_within, unwrap_or-slice_get}
 use Rattle.regex_lite_syntax.specs.Tree.{Tree}
 use Rattle.regex_lite_engine.specs.declared.pikevm.search.Outcome.{Outcome}
 use Rattle.regex_lite_engine.specs.WayLaws.{IsPatternTree}
 use Rattle.regex_lite_engine.specs.Graph.SideBySide.{AreRegular}
-use Rattle.regex_lite_engine.specs.Graph.StoredList.{HasGroupsOfList, IsGraphOfList, StoredGroups, StoredList, TellGroupsOf, TellsGroupsOf}
+use Rattle.regex_lite_engine.specs.Graph.StoredList.{HasGroupsOfList, IsGraphOfList, StoredGroups}
+use Rattle.regex_lite_engine.specs.Graph.StoredList.{StoredList, TellGroupsOf, TellsGroupsOf}
 use Rattle.regex_lite_engine.specs.Search.Answer.{Found, IsAnswer}
 use Rattle.regex_lite_engine.specs.Search.AnswerOfList.{AnyMatchesFrom, HasTree, IsFoundInList}
 use Rattle.regex_lite_engine.specs.Search.Offsets.{HasSlots, search_start}
@@ -24,13 +27,15 @@ use Rattle.regex_lite.specs.ListAhead.{AreGroupsFoundInList}
 use Rattle.regex_lite.specs.Scanning.{SearchesForList, TellsListSpan, most_captures}
 use Rattle.regex_lite.specs.MatchViews.{haystack_of_match, span_of_match}
 use Rattle.regex_lite.specs.RegexList.{AreTrees, OfTrees}
-use Rattle.regex_lite.specs.RegexListSearches.{AnyMatches, AreOfPattern, TellsAnswerOfList, TellsGroupsOfList, TellsMatchOfList}
+use Rattle.regex_lite.specs.RegexListSearches.{AnyMatches, AreOfPattern, TellsAnswerOfList}
+use Rattle.regex_lite.specs.RegexListSearches.{TellsGroupsOfList, TellsMatchOfList}
 use Rattle.regex_lite.specs.Searches.{AreGroupsOf, TellsAnswer, offsets}
 use Rattle.regex_lite.specs.Slots.{all_slots, kept_slots, most_groups}
 use Rattle.regex_lite.proofs.string.CapturedLemmas.{AreAllSlots, captured, captured_of, held_all}
 use Rattle.regex_lite.proofs.string.FoundLemmas.{found_lies}
 use Rattle.regex_lite.proofs.string.GroupNameLemmas.{are_names}
-use Rattle.regex_lite.proofs.string.ListBuildLemmas.{one_list, own_tree, pattern_tree, regular_trees}
+use Rattle.regex_lite.proofs.string.ListBuildLemmas.{one_list, own_tree}
+use Rattle.regex_lite.proofs.string.ListBuildLemmas.{pattern_tree, regular_trees}
 use Rattle.regex_lite.proofs.string.ToldLemmas.{not_there, same_some, same_pair}
 
 -- what is told of a list is told of the pattern with the number
@@ -279,13 +284,15 @@ module _ (bytes : List ℕ) (utf8 : IsUtf8 bytes) (start : ℕ) (list : List Exp
       found_there bytes utf8 list compiled built given (search_start bytes start) number own.0 own.1
       outcome.slots.items own.2.slots own_span own_span_is width slots
 
-  module _ (filled : slots ≡ take (2 * length (groups_at compiled.graph.groups number).capture_names)
+  module _
+      (filled : slots ≡ take (2 * length (groups_at compiled.graph.groups number).capture_names)
       (all_slots outcome.slots.items own_span)) where
     -- all slots hold groups
     pub listed_groups_are : AreGroups
         (groups_of bytes slots (groups_at compiled.graph.groups number))
     listed_groups_are =
-        found_groups_are bytes utf8 list compiled built given (search_start bytes start) number own.0
+        found_groups_are bytes utf8 list compiled built given
+        (search_start bytes start) number own.0
         own.1 outcome.slots.items own.2.slots own_span own_span_is width slots filled
 
     -- which are what is told
@@ -299,7 +306,8 @@ module _ (bytes : List ℕ) (utf8 : IsUtf8 bytes) (start : ℕ) (list : List Exp
         own.0,
         own.1,
         found_groups bytes utf8 list compiled built given (search_start bytes start) number own.0
-            own.1 outcome.slots.items own.2.slots own_span own_span_is width slots filled groups are,
+            own.1 outcome.slots.items own.2.slots own_span own_span_is width slots filled
+            groups are,
       ),
     )
 

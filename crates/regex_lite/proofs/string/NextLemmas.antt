@@ -1,5 +1,7 @@
 -- What is told by a search that goes on after a match.
-use Rattle.std.proofs.Common.{◌≡◌, ◌<◌, ◌≤◌, ◌⊎◌, inl, inr, true, false, MatchBool, Bool, ℕ, suc, List, Option, Some, None, refl, sym, ap, subst, ◌∙◌, chars, IsUtf8, option_map, unwrap_or, arith}
+use Rattle.std.proofs.Common.{◌≡◌, ◌<◌, ◌≤◌, ◌⊎◌, inl, inr, true, false, MatchBool}
+use Rattle.std.proofs.Common.{Bool, ℕ, suc, List, Option, Some, None, refl, sym, ap}
+use Rattle.std.proofs.Common.{subst, ◌∙◌, chars, IsUtf8, option_map, unwrap_or, arith}
 use Rattle.std.specs.Prelude.{IsCharBoundary}
 use Rattle.std.proofs.lemmas.Bool.{cases_order}
 use Rattle.std.proofs.lemmas.Bool.Decides.{nat_tests}
@@ -7,7 +9,8 @@ use Rattle.regex_lite_syntax.specs.Text.{Text}
 use Rattle.regex_lite_engine.specs.Search.Answer.{Found}
 use Rattle.regex_lite_engine.specs.Search.Offsets.{offset, position_at, search_start}
 use Rattle.regex_lite_engine.proofs.OffsetLemmas.{offset_less}
-use Rattle.regex_lite_engine.proofs.PositionLemmas.{first_position, position_is, position_of, start_position}
+use Rattle.regex_lite_engine.proofs.PositionLemmas.{first_position, position_is}
+use Rattle.regex_lite_engine.proofs.PositionLemmas.{position_of, start_position}
 use Rattle.regex_lite.specs.declared.string.matches.Match.{Match}
 use Rattle.regex_lite.specs.Ahead.{IsOnward}
 use Rattle.regex_lite.specs.Answers.{AreLawful, IsEmptyAnswerFrom, IsWithin, TellsOfAnswer}
@@ -204,7 +207,8 @@ module _ {A N : Type 0} (found_of : A → Found) (number_of : A → N) (bytes : 
             let own = (position_is bytes at utf8 edge).1 in
             let later = offset_less (chars bytes) p found.start (omega (arith, within.from))
             (omega (arith, within.ordered, within.inside)) in
-            let last = positions_lie bytes found.start found.end utf8 within.ordered within.inside in
+            let last =
+            positions_lie bytes found.start found.end utf8 within.ordered within.inside in
             let to = last.ordered in
             (omega (arith, own, later), omega (arith, own, later, to))
 

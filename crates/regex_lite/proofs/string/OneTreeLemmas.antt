@@ -1,5 +1,6 @@
 -- A pattern has one tree at most, so that a search for its tree is a search for the pattern.
-use Rattle.std.proofs.Common.{◌≡◌, ◌↔◌, ◌∙◌, sym, ℕ, Bool, IsTrue, List, Option, Some, None, is_some, chars, subst}
+use Rattle.std.proofs.Common.{◌≡◌, ◌↔◌, ◌∙◌, sym, ℕ, Bool, IsTrue, List}
+use Rattle.std.proofs.Common.{Option, Some, None, is_some, chars, subst}
 use Rattle.std.proofs.lemmas.Bool.{false≢true}
 use Rattle.regex_lite_syntax.specs.declared.flags.Flags.{Flags}
 use Rattle.regex_lite_syntax.specs.Text.{Text}
@@ -22,7 +23,8 @@ pub matches_told : (re : Expression) (haystack : List ℕ) (start : ℕ) (end : 
     → IsTrue found ↔ MatchesFrom re haystack start
 matches_told re haystack start None found is (tree, given, none) = (
   λ yes_found. absurd (false≢true (sym is ∙ yes_found)),
-  λ matches. absurd (none (subst (λ t. HasMatchFrom t (chars haystack) (search_start haystack start))
+  λ matches.
+      absurd (none (subst (λ t. HasMatchFrom t (chars haystack) (search_start haystack start))
       (one_tree re.flags (chars re.pattern) matches.0 tree matches.1 given) matches.2)),
 )
 matches_told re haystack start (Some at) found is (tree, given, (end, least, same)) =

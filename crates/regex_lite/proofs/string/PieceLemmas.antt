@@ -1,5 +1,7 @@
 -- Pieces, one after another.
-use Rattle.std.proofs.Common.{◌≡◌, ◌↔◌, ◌-◌, ℕ, zero, suc, nat_eq, Bool, false, MatchBool, Option, Some, None, unwrap_or, List, [], ◌∷◌, map, drop, slice_range, chars, refl, sym, ap, ◌∙◌, subst, arith}
+use Rattle.std.proofs.Common.{◌≡◌, ◌↔◌, ◌-◌, ℕ, zero, suc, nat_eq, Bool, false, MatchBool}
+use Rattle.std.proofs.Common.{Option, Some, None, unwrap_or, List, [], ◌∷◌, map, drop}
+use Rattle.std.proofs.Common.{slice_range, chars, refl, sym, ap, ◌∙◌, subst, arith}
 use Rattle.std.proofs.lemmas.Bool.Decides.{nat_tests}
 use Rattle.regex_lite_engine.specs.Search.Answer.{Found}
 use Rattle.regex_lite.specs.Expression.{Expression}
@@ -15,7 +17,9 @@ cut_cons old new from found span list passes is rest =
     let hay = old.haystack in
     let Spans : List Found → List (ℕ × ℕ) = map (found_span (chars hay)) in
     let behind : list ≡ pieces hay span.1 (Spans rest.found) =
-    rest.cut ∙ ap (λ (a : Ahead). pieces a.haystack span.1 (map (found_span (chars a.haystack)) rest.found)) passes.passed in
+    rest.cut
+    ∙ ap (λ (a : Ahead). pieces a.haystack span.1 (map (found_span (chars a.haystack)) rest.found))
+    passes.passed in
     record {
       found = found ∷ rest.found;
       are_ahead = ahead_cons old new found rest.found passes rest.are_ahead;
@@ -45,7 +49,8 @@ left_at_first (suc k) re hay a ended is begins list =
     let start : unwrap_or ended 0 ≡ 0 = ap (λ e. unwrap_or e 0) begins in
     let more : nat_eq (suc k) 0 ≡ false = grind (arith, nat_tests) in (
       λ left. subst (λ from. IsCut (whole re hay (Some k)) from list) start
-          (subst (λ b. IsCut b (unwrap_or ended 0) list) same (chose (list ≡ []) (nat_eq (suc k) 0) more left)),
+          (subst (λ b. IsCut b (unwrap_or ended 0) list) same
+          (chose (list ≡ []) (nat_eq (suc k) 0) more left)),
       λ cut. chosen (list ≡ []) (nat_eq (suc k) 0) more
           (subst (λ b. IsCut b (unwrap_or ended 0) list) (sym same)
           (subst (λ from. IsCut (whole re hay (Some k)) from list) (sym start) cut)),

@@ -1,5 +1,6 @@
 -- Replacements, match after match.
-use Rattle.std.proofs.Common.{◌≡◌, ◌++◌, inl, inr, ℕ, List, [], ◌∷◌, Option, Ok, Err, refl, sym, ap, ◌∙◌, subst, map, drop, slice_range, chars}
+use Rattle.std.proofs.Common.{◌≡◌, ◌++◌, inl, inr, ℕ, List, [], ◌∷◌, Option, Ok, Err}
+use Rattle.std.proofs.Common.{refl, sym, ap, ◌∙◌, subst, map, drop, slice_range, chars}
 use Rattle.std.proofs.lemmas.List.{append_assoc}
 use Rattle.regex_lite_syntax.specs.declared.error.Error.{Error}
 use Rattle.regex_lite_engine.specs.Search.Answer.{Found}
@@ -7,7 +8,8 @@ use Rattle.regex_lite.specs.Ahead.{Ahead, AreAhead, AreFirstAhead, AreGroupsFoun
 use Rattle.regex_lite.specs.Expression.{Expression}
 use Rattle.regex_lite.specs.Groups.{Groups, whole_span}
 use Rattle.regex_lite.specs.Pieces.{found_span}
-use Rattle.regex_lite.specs.Replacements.{AreGroupsOfEach, IsChain, IsRefused, IsRefusedAt, IsReplacedBy, IsReplacedInTurn, replaced_by}
+use Rattle.regex_lite.specs.Replacements.{AreGroupsOfEach, IsChain, IsRefused, IsRefusedAt}
+use Rattle.regex_lite.specs.Replacements.{IsReplacedBy, IsReplacedInTurn, replaced_by}
 use Rattle.regex_lite.specs.Replacing.{Answer}
 use Rattle.regex_lite.proofs.string.AheadLemmas.{ahead_cons, ahead_nil, first_cons}
 
@@ -39,7 +41,8 @@ passed_on text start old new found from to span made written so_far passes is at
           let rest : ℕ × ℕ → List ℕ = λ own. replaced_by text start.haystack own.1
           (map (found_span (chars start.haystack)) list) in
           subst (IsReplacedBy text start)
-          (ap (λ (own : ℕ × ℕ). made ++ (slice_range start.haystack from own.0 ++ text ++ rest own)) (sym is)
+          (ap (λ (own : ℕ × ℕ). made ++ (slice_range start.haystack from own.0 ++ text ++ rest own))
+          (sym is)
           ∙ sym (together made (slice_range start.haystack from span.0) text (rest span)))
           (so_far.on (found ∷ list) (ahead_cons old new found list passes are));
     }))
@@ -73,17 +76,20 @@ module _ {R : Type 0} (Fixed : R → Option (List ℕ) → R → Type 0)
   pub in_turn_passed : (first : R) (start old new : Ahead) (rep after : R) (found : Found)
       (groups : Groups) (from to : ℕ) (made text written : List ℕ)
       → ContinuesInTurn first start old rep from made → Passes old found new
-      → AreGroupsFound start.sought start.haystack found groups → Appends rep groups text (Ok tt) after
+      → AreGroupsFound start.sought start.haystack found groups
+      → Appends rep groups text (Ok tt) after
       → to ≡ (whole_span groups).1
       → written ≡ (made ++ slice_range start.haystack from (whole_span groups).0) ++ text
       → ContinuesInTurn first start new after to written
-  in_turn_passed first start old new rep after found groups from to made text written so_far passes are asked is more =
+  in_turn_passed first start old new rep after found groups from to made text written so_far passes
+      are asked is more =
       subst (λ own. ContinuesInTurn first start new after own written) (sym is)
       (subst (ContinuesInTurn first start new after (whole_span groups).1) (sym more)
       (record {
         on = λ list others rest ahead each chain.
             let before = slice_range start.haystack from (whole_span groups).0 in
-            subst (IsReplacedInTurn Fixed Appends first start) (sym (together made before text rest))
+            subst (IsReplacedInTurn Fixed Appends first start)
+            (sym (together made before text rest))
             (so_far.on (found ∷ list) (groups ∷ others) (before ++ text ++ rest)
             (ahead_cons old new found list passes ahead) (are, each)
             (text, rest, after, asked, refl, chain));
@@ -104,12 +110,14 @@ module _ {R : Type 0} (Fixed : R → Option (List ℕ) → R → Type 0)
       → ContinuesInTurn first start old rep from made → Passes old found new
       → AreGroupsFound start.sought start.haystack found groups
       → Appends rep groups text (Err error) after → IsRefused Fixed Appends first start error
-  in_turn_refused first start old new rep after found groups from made text error so_far passes are asked =
+  in_turn_refused first start old new rep after found groups from made text error so_far passes
+      are asked =
       so_far.refuses (found ∷ []) (groups ∷ []) error (first_cons old new found [] passes tt)
       (are, tt) (inl (text, after, asked))
 
 -- groups that were found by the same regex in the same haystack
-pub found_there : (re other : Expression) (bytes haystack : List ℕ) (found : Found) (groups : Groups)
+pub found_there : (re other : Expression) (bytes haystack : List ℕ) (found : Found)
+    (groups : Groups)
     → re ≡ other → bytes ≡ haystack → AreGroupsFound re bytes found groups
     → AreGroupsFound other haystack found groups
 found_there re other bytes haystack found groups same there are =

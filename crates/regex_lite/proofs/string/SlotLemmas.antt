@@ -1,5 +1,7 @@
 -- Slots, and the spans that they hold.
-use Rattle.std.proofs.Common.{◌≡◌, refl, sym, ap, ℕ, zero, suc, ◌+◌, ◌*◌, ◌≤◌, ◌<◌, ◌/◌, List, [], ◌∷◌, length, take, drop, max, replicate, get_or, slice_get, Option, Some, None, arith}
+use Rattle.std.proofs.Common.{◌≡◌, refl, sym, ap, ℕ, zero, suc, ◌+◌, ◌*◌, ◌≤◌, ◌<◌}
+use Rattle.std.proofs.Common.{◌/◌, List, [], ◌∷◌, length, take, drop, max, replicate}
+use Rattle.std.proofs.Common.{get_or, slice_get, Option, Some, None, arith}
 use Rattle.std.specs.Option.{option_zip, option_flatten}
 use Rattle.std.proofs.lemmas.Option.{slice_get_past}
 use Rattle.regex_lite_engine.specs.Graph.StoredList.{StoredGroups}

@@ -1,5 +1,6 @@
 -- From the outcome of a search of the graph to what the search for the pattern tells.
-use Rattle.std.proofs.Common.{◌≡◌, ◌≤◌, refl, sym, ap, subst, ◌∙◌, ℕ, List, length, take, Option, Some, None, IfSome, option_map, chars, IsUtf8, arith}
+use Rattle.std.proofs.Common.{◌≡◌, ◌≤◌, refl, sym, ap, subst, ◌∙◌, ℕ, List, length, take}
+use Rattle.std.proofs.Common.{Option, Some, None, IfSome, option_map, chars, IsUtf8, arith}
 use Rattle.regex_lite_syntax.specs.Tree.{Tree}
 use Rattle.regex_lite_syntax.specs.Tree.Properties.{captures_len}
 use Rattle.regex_lite_syntax.specs.Tree.Regular.{IsRegular}
@@ -19,9 +20,11 @@ use Rattle.regex_lite.specs.Expression.{Expression, OfTree}
 use Rattle.regex_lite.specs.Groups.{Groups, AreGroups, LiesIn, group_span, span_at}
 use Rattle.regex_lite.specs.MatchViews.{haystack_of_match, span_of_match}
 use Rattle.regex_lite.specs.Scanning.{TellsSpan}
-use Rattle.regex_lite.specs.Searches.{AreGroupsOf, TellsMatch, TellsGroups, TellsLocations, offsets, spans_from}
+use Rattle.regex_lite.specs.Searches.{AreGroupsOf, TellsMatch, TellsGroups}
+use Rattle.regex_lite.specs.Searches.{TellsLocations, offsets, spans_from}
 use Rattle.regex_lite.specs.Slots.{all_slots, kept_slots}
-use Rattle.regex_lite.proofs.string.CapturedLemmas.{AreAllSlots, all_told, built_shares, captured, captured_of}
+use Rattle.regex_lite.proofs.string.CapturedLemmas.{AreAllSlots, all_told, built_shares}
+use Rattle.regex_lite.proofs.string.CapturedLemmas.{captured, captured_of}
 use Rattle.regex_lite.proofs.string.FoundLemmas.{first_told, found_lies, group_0, length_spans}
 use Rattle.regex_lite.proofs.string.OneTreeLemmas.{one_tree}
 
@@ -39,10 +42,12 @@ abbrev pub TellsOutcome : StoredGraph → (bytes : List ℕ) → (start : ℕ) �
 TellsOutcome graph bytes start told =
     (tree : Tree) → IsRegular tree → IsGraphOf tree graph → IsOutcome tree bytes start told
 
-abbrev pub TellsSpanOfGraph : StoredGraph → (bytes : List ℕ) → (start : ℕ) → (slots : List (Option ℕ))
+abbrev pub TellsSpanOfGraph : StoredGraph → (bytes : List ℕ) → (start : ℕ)
+    → (slots : List (Option ℕ))
     → Option (ℕ × ℕ) → Type 0
 TellsSpanOfGraph graph bytes start slots told =
-    (tree : Tree) → IsRegular tree → IsGraphOf tree graph → IsSpanOutcome tree bytes start slots told
+    (tree : Tree) → IsRegular tree → IsGraphOf tree graph
+    → IsSpanOutcome tree bytes start slots told
 
 -- what is told of a regex's graph is so of its tree
 pub outcome_of : (compiled : Compiled) (built : IsBuilt compiled) (graph : StoredGraph)
@@ -149,17 +154,20 @@ pub slots_are : (re : Expression) (tree : Tree) (told : Option Outcome) (outcome
 slots_are re tree None outcome n given enough len is = absurd (not_there is)
 slots_are re tree (Some o) outcome n given (own, given_too, enough) len is =
     ap (λ (own : Outcome). length own.slots.items) (sym (same_some is)) ∙ len ∙ enough
-    ∙ ap (λ t. kept_slots (captures_len t)) (one_tree re.flags (chars re.pattern) own tree given_too given)
+    ∙ ap (λ t. kept_slots (captures_len t))
+    (one_tree re.flags (chars re.pattern) own tree given_too given)
 
 -- the regex has as many groups as it tells of
 pub room_told : (re : Expression) (bytes : List ℕ) (start n : ℕ) (told : Option Groups)
     (groups : Groups) → OfTree re (λ tree. n ≤ captures_len tree)
     → TellsGroups re bytes start told → told ≡ Some groups → n ≤ length groups.spans
 room_told re bytes start n None groups room tells is = absurd cc
-room_told re bytes start n (Some own) groups (tree, given, few) (other, given_too, (found, f, are)) is =
+room_told re bytes start n (Some own) groups (tree, given, few)
+    (other, given_too, (found, f, are)) is =
     let same = one_tree re.flags (chars re.pattern) tree other given given_too in
     let all = length_spans (chars bytes) found.marks 0 (captures_len other) in
-    let as_many = ap (λ (g : Groups). length g.spans) (sym (same_some is)) ∙ ap (λ spans. length spans) are.spans ∙ all in
+    let as_many = ap (λ (g : Groups). length g.spans) (sym (same_some is))
+    ∙ ap (λ spans. length spans) are.spans ∙ all in
     let count = ap captures_len same in
     omega (arith, few, as_many, count)
 
@@ -171,7 +179,8 @@ pub locations_told : (re : Expression) (bytes : List ℕ) (start n : ℕ) (told 
     → IfSome m (λ own. haystack_of_match own ≡ groups.haystack) → spans ≡ take n groups.spans
     → TellsLocations re bytes start spans m
 locations_told re bytes start n None groups m spans tells is found within first = absurd cc
-locations_told re bytes start n (Some own) groups m spans (tree, given, (f, is_found, of_own)) is found within first =
+locations_told re bytes start n (Some own) groups m spans (tree, given, (f, is_found, of_own)) is
+    found within first =
     each m found within
   where
     are : AreGroupsOf tree bytes f groups

@@ -1,6 +1,7 @@
 //! The groups of a match.
 ghost use Rattle.std.specs.Prelude.{◌≡◌, ◌≤◌, Some, IsSome, IfSome, length, option_map, take};
-ghost use Rattle.regex_lite.specs.Groups.{AreGroups, group_span, group_text, named_span, named_text};
+ghost use Rattle.regex_lite.specs.Groups.{AreGroups, group_span, group_text};
+ghost use Rattle.regex_lite.specs.Groups.{named_span, named_text};
 ghost use Rattle.regex_lite.specs.Compiled.{groups_of, names_of};
 
 use crate::string::captures_in::CapturesIn;

@@ -1,7 +1,9 @@
 //! The groups of a match, in a haystack of any type of text.
-ghost use Rattle.std.specs.Prelude.{◌≡◌, ◌+◌, ◌<◌, ◌≤◌, ◌∷◌, ℕ, List, Some, IfSome, length, map, option_map, slice_range, take};
+ghost use Rattle.std.specs.Prelude.{◌≡◌, ◌+◌, ◌<◌, ◌≤◌, ◌∷◌, ℕ, List, Some, IfSome};
+ghost use Rattle.std.specs.Prelude.{length, map, option_map, slice_range, take};
 ghost use Rattle.std.specs.Rc.{rc_str_bytes};
-ghost use Rattle.regex_lite.specs.Groups.{AreGroups, LiesIn, group_span, group_text, index_of, is_named, texts_from, whole_span};
+ghost use Rattle.regex_lite.specs.Groups.{AreGroups, LiesIn, group_span, group_text};
+ghost use Rattle.regex_lite.specs.Groups.{index_of, is_named, texts_from, whole_span};
 ghost use Rattle.regex_lite.specs.Compiled.{groups_of, names_of};
 
 use crate::string::locations::{CaptureLocations, span_in};

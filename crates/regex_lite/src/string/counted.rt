@@ -1,7 +1,8 @@
 //! Searches that return their cost.
 ghost use Rattle.std.specs.Prelude.{◌≡◌, ◌<◌, ◌↔◌, IfOk, IfErr, IfSome, IsTrue};
 ghost use Rattle.regex_lite_syntax.specs.Errors.{out_of_memory};
-ghost use Rattle.regex_lite.specs.Searches.{AreOfMatch, CanStartAt, IsWithinCost, MatchesFrom, TellsEnd, TellsGroups, TellsMatch};
+ghost use Rattle.regex_lite.specs.Searches.{AreOfMatch, CanStartAt, IsWithinCost};
+ghost use Rattle.regex_lite.specs.Searches.{MatchesFrom, TellsEnd, TellsGroups, TellsMatch};
 
 use crate::string::captures::Captures;
 use crate::string::matches::Match;

@@ -3,7 +3,8 @@ ghost use Rattle.std.specs.Prelude.{◌≡◌, None, IfOk, IfErr, IfSome, length
 ghost use Rattle.regex_lite_syntax.specs.Errors.{out_of_memory};
 ghost use Rattle.regex_lite_syntax.specs.Tree.Properties.{captures_len};
 ghost use Rattle.regex_lite.specs.Expression.{OfTree};
-ghost use Rattle.regex_lite.specs.Searches.{AreOfMatch, CanRead, CanStartAt, TellsGroups, TellsLocations};
+ghost use Rattle.regex_lite.specs.Searches.{AreOfMatch, CanRead, CanStartAt};
+ghost use Rattle.regex_lite.specs.Searches.{TellsGroups, TellsLocations};
 
 use crate::string::captures::Captures;
 use crate::string::locations::CaptureLocations;

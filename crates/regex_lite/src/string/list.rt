@@ -1,5 +1,6 @@
 //! Several patterns that are searched for at once.
-ghost use Rattle.std.specs.Prelude.{◌≡◌, ◌↔◌, ◌≤◌, ◌<◌, ◌*◌, ◌^◌, [], ℕ, IsTrue, length, map, option_map, slice_get, ⊤};
+ghost use Rattle.std.specs.Prelude.{◌≡◌, ◌↔◌, ◌≤◌, ◌<◌, ◌*◌, ◌^◌, [], ℕ, IsTrue};
+ghost use Rattle.std.specs.Prelude.{length, map, option_map, slice_get, ⊤};
 ghost use Rattle.regex_lite_engine.specs.Graph.SideBySide.{arrows_of_all, places_of_all};
 ghost use Rattle.regex_lite.specs.Scanning.{most_captures};
 ghost use Rattle.regex_lite.specs.RegexList.{BuildsList, OfTrees};

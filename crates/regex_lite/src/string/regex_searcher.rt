@@ -1,5 +1,6 @@
 //! A searcher that callers keep, for one haystack after another.
-ghost use Rattle.std.specs.Prelude.{◌≡◌, ◌↔◌, ◌≤◌, ◌/◌, ℕ, None, Some, IfOk, IfErr, IsTrue, length, take};
+ghost use Rattle.std.specs.Prelude.{◌≡◌, ◌↔◌, ◌≤◌, ◌/◌, ℕ, None, Some};
+ghost use Rattle.std.specs.Prelude.{IfOk, IfErr, IsTrue, length, take};
 ghost use Rattle.regex_lite_syntax.specs.Errors.{out_of_memory};
 ghost use Rattle.regex_lite_syntax.specs.Tree.{Tree};
 ghost use Rattle.regex_lite_syntax.specs.Tree.Regular.{IsRegular};
@@ -8,7 +9,8 @@ ghost use Rattle.regex_lite_engine.specs.Search.Outcomes.{IsSpanOutcome};
 ghost use Rattle.regex_lite.specs.Compiled.{SearchesFor};
 ghost use Rattle.regex_lite.specs.Groups.{spans_of};
 ghost use Rattle.regex_lite.specs.Keeping.{SearchesForGroups};
-ghost use Rattle.regex_lite.specs.Searches.{CanRead, CanStartAt, MatchesFrom, TellsLocations, TellsMatch};
+ghost use Rattle.regex_lite.specs.Searches.{CanRead, CanStartAt, MatchesFrom};
+ghost use Rattle.regex_lite.specs.Searches.{TellsLocations, TellsMatch};
 
 use crate::string::locations::CaptureLocations;
 use crate::string::matches::Match;

@@ -5,7 +5,8 @@ ghost use Rattle.regex_lite_syntax.specs.Errors.{out_of_memory};
 ghost use Rattle.regex_lite.specs.Ahead.{IsOver, ahead, whole};
 ghost use Rattle.regex_lite.specs.MatchList.{IsAnswerOf};
 ghost use Rattle.regex_lite.specs.Searches.{MatchesFrom};
-ghost use Rattle.regex_lite.specs.Replacements.{IsHandedOn, IsRefused, IsReplacedBy, IsReplacedInTurn, IsReplacement, limit_of};
+ghost use Rattle.regex_lite.specs.Replacements.{IsHandedOn, IsRefused, IsReplacedBy};
+ghost use Rattle.regex_lite.specs.Replacements.{IsReplacedInTurn, IsReplacement, limit_of};
 
 use crate::string::find_iter::Matches;
 use crate::string::group_scan::GroupScan;

@@ -1,5 +1,6 @@
 //! What stands in the place of a match.
-ghost use Rattle.std.specs.Prelude.{◌≡◌, ◌++◌, ℕ, List, Option, None, Some, ⊤, string_bytes, option_map};
+ghost use Rattle.std.specs.Prelude.{◌≡◌, ◌++◌, ℕ, List, Option, None};
+ghost use Rattle.std.specs.Prelude.{Some, ⊤, string_bytes, option_map};
 ghost use Rattle.std.specs.Borrow.{sem};
 ghost use Rattle.regex_lite.specs.Groups.{Groups};
 ghost use Rattle.regex_lite.specs.Replacing.{Answer, IsAppendedResult, IsAppendedText, Rests};

@@ -1,7 +1,8 @@
 //! The pieces of a haystack between its matches.
 ghost use Rattle.std.specs.Prelude.{◌≡◌, ◌↔◌, List, ℕ, IfOk, IfErr};
 ghost use Rattle.regex_lite_syntax.specs.Errors.{out_of_memory};
-ghost use Rattle.regex_lite.specs.Pieces.{ArePieces, ArePiecesLeft, ArePiecesLeftN, ArePiecesWithin};
+ghost use Rattle.regex_lite.specs.Pieces.{ArePieces, ArePiecesLeft};
+ghost use Rattle.regex_lite.specs.Pieces.{ArePiecesLeftN, ArePiecesWithin};
 
 use crate::string::find_iter::Matches;
 use crate::string::regex::Regex;

@@ -1,5 +1,8 @@
 -- Groups of matches that are written one after another.
-use Rattle.std.proofs.Common.{◌≡◌, ◌∙◌, ◌+◌, ◌-◌, ◌++◌, ◌<◌, ◌≤◌, ◌⊎◌, ℕ, zero, suc, List, [], ◌∷◌, Option, Some, None, ap, append-nil, arith, chars, inl, inr, length, length-append, IsSome, Bool, cond, false, true, unwrap_or, option_map, refl, slice_get, subst, sym}
+use Rattle.std.proofs.Common.{◌≡◌, ◌∙◌, ◌+◌, ◌-◌, ◌++◌, ◌<◌, ◌≤◌, ◌⊎◌, ℕ, zero, suc, List}
+use Rattle.std.proofs.Common.{[], ◌∷◌, Option, Some, None, ap, append-nil, arith, chars}
+use Rattle.std.proofs.Common.{inl, inr, length, length-append, IsSome, Bool, cond, false}
+use Rattle.std.proofs.Common.{true, unwrap_or, option_map, refl, slice_get, subst, sym}
 use Rattle.std.proofs.lemmas.Bool.{cases_lt}
 use Rattle.std.proofs.lemmas.Grind.{flat_map-append}
 use Rattle.regex_lite_engine.specs.Search.Answer.{Found}
@@ -44,7 +47,8 @@ nothing_yet start walk old limit = record {
   list = [];
   groups = [];
   number = refl;
-  lists = λ left. subst (λ n. Lists start start n left []) (omega arith) (lists_none start left limit);
+  lists = λ left.
+      subst (λ n. Lists start start n left []) (omega arith) (lists_none start left limit);
   each = tt;
   written = record { each = λ k lt. absurd (omega (arith, lt)); rest = λ k le. refl };
   used_is = refl;
@@ -54,13 +58,15 @@ nothing_yet start walk old limit = record {
   some = λ lt. absurd (omega (arith, lt));
 }
 
-each_more : (re : Expression) (haystack : List ℕ) (list : List Found) (groups : List Groups) (found : Found) (own : Groups)
+each_more : (re : Expression) (haystack : List ℕ) (list : List Found) (groups : List Groups)
+    (found : Found) (own : Groups)
     → AreGroupsOfEach re haystack list groups → AreGroupsFound re haystack found own
     → AreGroupsOfEach re haystack (list ++ (found ∷ [])) (groups ++ (own ∷ []))
 each_more re haystack [] [] found own are is = (is, tt)
 each_more re haystack [] (g ∷ groups) found own are is = absurd are
 each_more re haystack (f ∷ list) [] found own are is = absurd are
-each_more re haystack (f ∷ list) (g ∷ groups) found own are is = (are.0, each_more re haystack list groups found own are.1 is)
+each_more re haystack (f ∷ list) (g ∷ groups) found own are is =
+    (are.0, each_more re haystack list groups found own are.1 is)
 
 module _ {X : Type 0} where
   get_left : (xs ys : List X) (k : ℕ) → k < length xs → slice_get (xs ++ ys) k ≡ slice_get xs k
@@ -74,45 +80,57 @@ module _ {X : Type 0} where
       let e : length (x ∷ xs) + k ≡ suc (length xs + k) = omega arith in
       ap (slice_get (x ∷ (xs ++ ys))) e ∙ get_right xs ys k
 
-written_after : (told more : List (Option (ℕ × ℕ))) (old now new : List Span) → AreWritten told old now
+written_after : (told more : List (Option (ℕ × ℕ))) (old now new : List Span)
+    → AreWritten told old now
     → AreWrittenAt (length told) more now new → AreWritten (told ++ more) old new
 written_after told more old now new before is =
     let n = length told in
     let longer = length-append told more in
     record {
       each = λ k lt. elim (cases_lt k n) [
-        | inl left ↦ ap (option_map span_of) (is.rest k (inl left)) ∙ before.each k left ∙ sym (get_left told more k left)
+        | inl left ↦
+            ap (option_map span_of) (is.rest k (inl left)) ∙ before.each k left
+            ∙ sym (get_left told more k left)
         | inr right ↦
             let j = k - n in
             let at : k ≡ n + j = omega (arith, right) in
             subst (λ m. option_map span_of (slice_get new m) ≡ slice_get (told ++ more) m) (sym at)
             (is.each j (omega (arith, lt, longer, at)) ∙ sym (get_right told more j))
       ];
-      rest = λ k le. is.rest k (inr (omega (arith, le, longer))) ∙ before.rest k (omega (arith, le, longer));
+      rest = λ k le.
+          is.rest k (inr (omega (arith, le, longer))) ∙ before.rest k (omega (arith, le, longer));
     }
 
 -- those of one more match were written
-pub one_more : (start now next : Ahead) (old_walk walk new_walk : Walk) (old mid new : List Span) (used count : ℕ)
+pub one_more : (start now next : Ahead) (old_walk walk new_walk : Walk) (old mid new : List Span)
+    (used count : ℕ)
     (found : Found) (own : Groups) → IsSoFar start now old_walk walk old mid used count
     → Passes now found next → AreGroupsFound now.sought now.haystack found own
-    → AreWrittenAt used own.spans mid new → length new ≡ length mid → used + length own.spans ≤ length mid
+    → AreWrittenAt used own.spans mid new → length new ≡ length mid
+    → used + length own.spans ≤ length mid
     → 0 < length own.spans → ended_of new_walk ≡ Some (whole_span own).1
     → IsSoFar start next old_walk new_walk old new (used + length own.spans) (count + 1)
-one_more start now next old_walk walk new_walk old mid new used count found own so passes are written same room some end =
-    let all = flat_map-append (λ g. g.spans) so.groups (own ∷ []) ∙ ap (λ xs. spans_of_all so.groups ++ xs) (append-nil own.spans) in
+one_more start now next old_walk walk new_walk old mid new used count found own so passes are
+    written same room some end =
+    let all = flat_map-append (λ g. g.spans) so.groups (own ∷ [])
+    ∙ ap (λ xs. spans_of_all so.groups ++ xs) (append-nil own.spans) in
     let lists = so.lists in
     record {
       list = so.list ++ (found ∷ []);
       groups = so.groups ++ (own ∷ []);
       number = omega (arith, length-append so.list (found ∷ []), so.number);
       lists = λ left. subst (λ n. Lists start next n left (so.list ++ (found ∷ []))) (omega arith)
-          (lists_more start now next (count + suc left) left so.list found (lists (suc left)) passes);
+          (lists_more start now next (count + suc left) left so.list found
+          (lists (suc left)) passes);
       each = each_more start.sought start.haystack so.list so.groups found own so.each
           (subst (λ re. AreGroupsFound re start.haystack found own) (lists 0).regex
           (subst (λ bytes. AreGroupsFound now.sought bytes found own) (lists 0).haystack are));
       written = subst (λ told. AreWritten told old new) (sym all)
-          (written_after (spans_of_all so.groups) own.spans old mid new so.written (subst (λ n. AreWrittenAt n own.spans mid new) (sym so.used_is) written));
-      used_is = ap length all ∙ length-append (spans_of_all so.groups) own.spans ∙ ap (λ n. n + length own.spans) so.used_is;
+          (written_after (spans_of_all so.groups) own.spans old mid new so.written
+          (subst (λ n. AreWrittenAt n own.spans mid new) (sym so.used_is) written));
+      used_is =
+          ap length all ∙ length-append (spans_of_all so.groups) own.spans
+          ∙ ap (λ n. n + length own.spans) so.used_is;
       counted = omega (arith, so.counted, some);
       fits = omega (arith, room, same);
       none = λ wrong. absurd (omega (arith, wrong));
@@ -120,14 +138,16 @@ one_more start now next old_walk walk new_walk old mid new used count found own 
     }
 
 listed : (start now : Ahead) (old_walk walk : Walk) (old new : List Span) (used count : ℕ)
-    → IsSoFar start now old_walk walk old new used count → 0 < count → AreGroupsListed start walk old new count
+    → IsSoFar start now old_walk walk old new used count → 0 < count
+    → AreGroupsListed start walk old new count
 listed start now old_walk walk old new used count so some =
     let ends = so.some some in
     let all = so.lists 0 in
     let zero_more : count + 0 ≡ count = omega arith in
     record {
       list = so.list;
-      are_first = subst (λ n. AreFirst start.sought (chars start.haystack) n start.ended so.list) zero_more
+      are_first =
+          subst (λ n. AreFirst start.sought (chars start.haystack) n start.ended so.list) zero_more
           (lists_all start now (count + 0) so.list all);
       number = sym so.number;
       front = ends.front;
@@ -138,7 +158,8 @@ listed start now old_walk walk old new used count so some =
     }
 
 -- the answer is yes where there are some, and else this, which is one of three
-pub filled : (start now : Ahead) (old_walk walk : Walk) (old new : List Span) (used count answer otherwise : ℕ)
+pub filled : (start now : Ahead) (old_walk walk : Walk) (old new : List Span)
+    (used count answer otherwise : ℕ)
     → IsSoFar start now old_walk walk old new used count
     → (0 < count → answer ≡ YES) → (count ≡ 0 → answer ≡ otherwise)
     → (otherwise ≡ NO → ComesNext now None)
@@ -151,7 +172,10 @@ filled start now old_walk walk old new used zero answer otherwise so some none o
     record {
       found = λ yes. absurd (elim kind [
         | inl nil ↦ omega (arith, is, nil, yes)
-        | inr rest ↦ elim rest [ inl memory ↦ omega (arith, is, memory, yes) | inr full ↦ omega (arith, is, full, yes) ]
+        | inr rest ↦ elim rest [
+          | inl memory ↦ omega (arith, is, memory, yes)
+          | inr full ↦ omega (arith, is, full, yes)
+        ]
       ]);
       none = λ nil. subst (λ a. ComesNext a None) same.0 (over (sym is ∙ nil));
       no_room = λ full. subst (λ a. IsWithoutRoom a (length old)) same.0
@@ -184,7 +208,8 @@ some_groups re haystack found own are = (some_spans own.spans are.2.whole, are.2
 
 end_of : (b : Bool) (start end : ℕ) (span : Option (ℕ × ℕ)) → cond b (Some (start, end)) None ≡ span
     → IsSome span → end ≡ (unwrap_or span (0, 0)).1
-end_of true start end span is some = let to : Option (ℕ × ℕ) → ℕ × ℕ = λ o. unwrap_or o (0, 0) in ap (λ o. (to o).1) is
+end_of true start end span is some =
+    let to : Option (ℕ × ℕ) → ℕ × ℕ = λ o. unwrap_or o (0, 0) in ap (λ o. (to o).1) is
 end_of false start end span is some = let wrong = subst IsSome (sym is) some in absurd cc
 
 pub end_of_span : (s : Span) (span : Option (ℕ × ℕ)) → span_of s ≡ span → IsSome span

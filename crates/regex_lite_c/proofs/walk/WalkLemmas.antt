@@ -1,5 +1,7 @@
 -- Matches that are listed one after another, and spans that are written one after another.
-use Rattle.std.proofs.Common.{◌≡◌, ◌≢◌, ◌∙◌, ◌++◌, ◌<◌, ℕ, zero, suc, List, [], ◌∷◌, Option, Some, None, ap, append_assoc, append-nil, arith, chars, inl, inr, length, length-append, option_map, refl, slice_get, slice_set, subst, sym}
+use Rattle.std.proofs.Common.{◌≡◌, ◌≢◌, ◌∙◌, ◌++◌, ◌<◌, ℕ, zero, suc, List, [], ◌∷◌, Option, Some}
+use Rattle.std.proofs.Common.{None, ap, append_assoc, append-nil, arith, chars, inl, inr, length}
+use Rattle.std.proofs.Common.{length-append, option_map, refl, slice_get, slice_set, subst, sym}
 use Rattle.std.proofs.lemmas.Bool.{cases_lt}
 use Rattle.regex_lite_syntax.specs.Text.{Text}
 use Rattle.regex_lite_engine.specs.Search.Answer.{Found}
@@ -31,25 +33,31 @@ pub lists_more : (start old new : Ahead) (room left : ℕ) (list : List Found) (
     → Lists start new room left (list ++ (found ∷ []))
 lists_more start old new room left list found so passes =
     let is = passes.passed in
-    let First : Option ℕ → List Found → Type 0 = λ ended rest. AreFirst start.sought (chars start.haystack) left ended rest in
+    let First : Option ℕ → List Found → Type 0 =
+    λ ended rest. AreFirst start.sought (chars start.haystack) left ended rest in
     let comes : IsNext start.sought (chars start.haystack) old.ended (Some found) =
     subst (λ re. IsNext re (chars start.haystack) old.ended (Some found)) so.regex
-    (subst (λ bytes. IsNext old.sought (chars bytes) old.ended (Some found)) so.haystack passes.comes) in
+    (subst (λ bytes. IsNext old.sought (chars bytes) old.ended (Some found)) so.haystack
+    passes.comes) in
     record {
       limit = ap (λ a. a.limit) is ∙ ap one_less so.limit;
       regex = ap (λ a. a.sought) is ∙ so.regex;
       haystack = ap (λ a. a.haystack) is ∙ so.haystack;
       on = λ rest are.
-          subst (AreFirst start.sought (chars start.haystack) room start.ended) (sym (append_assoc list (found ∷ []) rest))
-          (so.on (found ∷ rest) (comes, subst (λ ended. First ended rest) (ap (λ a. a.ended) is) are));
+          subst (AreFirst start.sought (chars start.haystack) room start.ended)
+          (sym (append_assoc list (found ∷ []) rest))
+          (so.on (found ∷ rest)
+          (comes, subst (λ ended. First ended rest) (ap (λ a. a.ended) is) are));
     }
 
 pub lists_all : (start a : Ahead) (room : ℕ) (list : List Found) → Lists start a room 0 list
     → AreFirst start.sought (chars start.haystack) room start.ended list
 lists_all start a room list so =
-    subst (AreFirst start.sought (chars start.haystack) room start.ended) (append-nil list) (so.on [] refl)
+    subst (AreFirst start.sought (chars start.haystack) room start.ended) (append-nil list)
+    (so.on [] refl)
 
-none_left : (re : Expression) (haystack : Text) (left : ℕ) (ended : Option ℕ) → IsNext re haystack ended None
+none_left : (re : Expression) (haystack : Text) (left : ℕ) (ended : Option ℕ)
+    → IsNext re haystack ended None
     → AreFirst re haystack left ended []
 none_left re haystack zero ended next = refl
 none_left re haystack (suc k) ended next = next
@@ -58,7 +66,8 @@ pub comes_none : (a : Ahead) → a.limit ≡ None → IsOver a → ComesNext a N
 comes_none a limit (inl zero_left) = absurd cc
 comes_none a limit (inr next) = next
 
-pub lists_to_end : (start a : Ahead) (room left : ℕ) (list : List Found) → Lists start a room left list
+pub lists_to_end : (start a : Ahead) (room left : ℕ) (list : List Found)
+    → Lists start a room left list
     → IsOver a → AreFirst start.sought (chars start.haystack) room start.ended list
 lists_to_end start a room left list so over =
     let next = comes_none a so.limit over in
@@ -74,7 +83,8 @@ module _ {X : Type 0} where
   set_here (y ∷ xs) zero x below = refl
   set_here (y ∷ xs) (suc i) x below = set_here xs i x (omega (arith, below))
 
-  set_there : (xs : List X) (i j : ℕ) (x : X) → i ≢ j → slice_get (slice_set xs i x) j ≡ slice_get xs j
+  set_there : (xs : List X) (i j : ℕ) (x : X) → i ≢ j
+      → slice_get (slice_set xs i x) j ≡ slice_get xs j
   set_there [] i j x apart = refl
   set_there (y ∷ xs) zero zero x apart = absurd (apart refl)
   set_there (y ∷ xs) zero (suc j) x apart = refl
@@ -91,7 +101,8 @@ module _ {X : Type 0} where
   get_seam (x ∷ xs) y = get_seam xs y
 
 -- one more span was written
-pub written_more : (told : List (Option (ℕ × ℕ))) (one : Option (ℕ × ℕ)) (old now : List Span) (n : ℕ) (s : Span)
+pub written_more : (told : List (Option (ℕ × ℕ))) (one : Option (ℕ × ℕ)) (old now : List Span)
+    (n : ℕ) (s : Span)
     → AreWritten told old now → length told ≡ n → n < length now → span_of s ≡ one
     → AreWritten (told ++ (one ∷ [])) old (slice_set now n s)
 written_more told one old now n s is number below same =
@@ -99,12 +110,17 @@ written_more told one old now n s is number below same =
     record {
       each = λ k lt. elim (cases_lt k n) [
         | inl before ↦ ap (option_map span_of) (set_there now n k s (λ e. omega (arith, e, before)))
-            ∙ is.each k (omega (arith, number, before)) ∙ sym (get_before told (one ∷ []) k (omega (arith, number, before)))
+            ∙ is.each k (omega (arith, number, before))
+            ∙ sym (get_before told (one ∷ []) k (omega (arith, number, before)))
         | inr after ↦
             let here : k ≡ n = omega (arith, after, lt, longer, number) in
-            subst (λ j. option_map span_of (slice_get (slice_set now n s) j) ≡ slice_get (told ++ (one ∷ [])) j) (sym here)
+            subst (λ j. option_map span_of (slice_get (slice_set now n s) j)
+            ≡ slice_get (told ++ (one ∷ [])) j) (sym here)
             (ap (option_map span_of) (set_here now n s below) ∙ ap Some same
-            ∙ sym (subst (λ j. slice_get (told ++ (one ∷ [])) j ≡ Some one) number (get_seam told one)))
+            ∙ sym
+            (subst (λ j. slice_get (told ++ (one ∷ [])) j ≡ Some one) number (get_seam told one)))
       ];
-      rest = λ k le. set_there now n k s (λ e. omega (arith, e, le, longer, number)) ∙ is.rest k (omega (arith, le, longer));
+      rest = λ k le.
+          set_there now n k s (λ e. omega (arith, e, le, longer, number))
+          ∙ is.rest k (omega (arith, le, longer));
     }

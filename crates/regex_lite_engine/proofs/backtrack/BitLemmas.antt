@@ -1,10 +1,16 @@
 -- Bits in words of 64.
-use Rattle.std.proofs.Common.{◌≡◌, ◌==◌, ℕ, ◌++◌, refl, ◌*◌, ◌-◌, ◌/◌, ◌%◌, ◌^◌, ◌<◌, ◌↔◌, inl, inr, Bool, IsTrue, true, false, List, length, replicate, slice_index, slice_index_or, slice_set, set, bit_and, bit_or, ap, sym, subst, ◌∙◌, arith, length-set, w64}
+use Rattle.std.proofs.Common.{◌≡◌, ◌==◌, ℕ, ◌++◌, refl, ◌*◌, ◌-◌, ◌/◌, ◌%◌, ◌^◌, ◌<◌, ◌↔◌}
+use Rattle.std.proofs.Common.{inl, inr, Bool, IsTrue, true, false, List, length, replicate}
+use Rattle.std.proofs.Common.{slice_index, slice_index_or, slice_set, set, bit_and, bit_or}
+use Rattle.std.proofs.Common.{ap, sym, subst, ◌∙◌, arith, length-set, w64}
 use Rattle.std.specs.Int.{bit_at}
 use Rattle.std.proofs.lemmas.Bool.{cases_lt, cases_eq}
 use Rattle.std.proofs.lemmas.Bool.Decides.{nat_tests}
-use Rattle.std.proofs.lemmas.List.{get_or-replicate, get_or_append_left, get_or-append_right, get_or_past, get_or-set_same, get_or-set_other, set-get_or, length-replicate}
-use Rattle.std.proofs.lemmas.List.FromFn.{fill_by_all, get_or-map-range_with_len, length-map-range_with_len}
+use Rattle.std.proofs.lemmas.List.{get_or-replicate, get_or_append_left}
+use Rattle.std.proofs.lemmas.List.{get_or-append_right, get_or_past, get_or-set_same}
+use Rattle.std.proofs.lemmas.List.{get_or-set_other, set-get_or, length-replicate}
+use Rattle.std.proofs.lemmas.List.FromFn.{fill_by_all, get_or-map-range_with_len}
+use Rattle.std.proofs.lemmas.List.FromFn.{length-map-range_with_len}
 use Rattle.std.proofs.lemmas.Nat.Bits.{bit_at-zero, shr_and_one, bit_at_set_same, bit_at_set_other}
 use Rattle.regex_lite_syntax.specs.AsciiMaps.{bit_of_words}
 use Rattle.regex_lite_engine.specs.declared.backtrack.visited.Visited.TheInside.{Inside}
@@ -87,7 +93,8 @@ pub set_again : (words : List ℕ) (count k : ℕ) → k < count
     ≡ slice_set (bits_of words count) k true
 set_again words count k lt found =
     ap (λ z. bits_of z count) (set-get_or words (k / 64) 0)
-    ∙ sym (ap (set bits k) (sym ((found_by_shift words count k lt).0 found)) ∙ set-get_or bits k false)
+    ∙ sym
+    (ap (set bits k) (sym ((found_by_shift words count k lt).0 found)) ∙ set-get_or bits k false)
   where
     bits : List Bool
     bits = bits_of words count
@@ -125,7 +132,8 @@ set_by_mask words count k inside lt =
       | inl same ↦
           ap (λ i. bit_at (slice_index words' i) (l % 64)) same
           ∙ ap (λ w. bit_at w (l % 64)) same_word
-          ∙ bit_at_set_other w64 word (k % 64) (within k) (l % 64) (λ e. other (omega (arith, e, same)))
+          ∙ bit_at_set_other w64 word (k % 64) (within k) (l % 64)
+          (λ e. other (omega (arith, e, same)))
           ∙ ap (λ i. bit_at (slice_index words i) (l % 64)) (sym same)
       | inr apart ↦
           ap (λ w. bit_at w (l % 64)) (get_or-set_other words (k / 64) (l / 64) word' 0 apart)

@@ -1,6 +1,7 @@
 -- What a depth-first walk keeps true when it passes over a node, or begins at a start, and that it
 -- ends explored.
-use Rattle.std.proofs.Common.{◌≡◌, ℕ, suc, ◌<◌, ◌≤◌, ◌⊎◌, inl, inr, Bool, List, [], ◌∷◌, ◌++◌, Option, Some, None, refl, sym, ap, subst, ◌∙◌, arith}
+use Rattle.std.proofs.Common.{◌≡◌, ℕ, suc, ◌<◌, ◌≤◌, ◌⊎◌, inl, inr, Bool, List, [], ◌∷◌}
+use Rattle.std.proofs.Common.{◌++◌, Option, Some, None, refl, sym, ap, subst, ◌∙◌, arith}
 use Rattle.std.proofs.lemmas.Bool.{cases_lt, cases_eq}
 use Rattle.regex_lite_engine.specs.Backtrack.DepthFirst as walk
 use Rattle.regex_lite_engine.specs.Walk.Explored as explored
@@ -98,7 +99,8 @@ module _ (N : Type 0) (step : N → ℕ → Option N) (start : ℕ → N) (is_en
     no_end = u.no_end;
     ordered = (λ n w i. absurd i, tt);
     ahead = λ n w m v i r. subst (λ z. NotAfter v z) (sym (only n w i).1)
-        (inr (preferred_before v (p ∷ []) (below_front from p [] v (u.recorded_below m v r) later)));
+        (inr
+        (preferred_before v (p ∷ []) (below_front from p [] v (u.recorded_below m v r) later)));
     offers_below = λ n w i. subst (λ z. StartsBelow (suc p) z) (sym (only n w i).1) (omega arith);
     recorded_below = λ m v r.
         below_up from (suc p) v (omega (arith, later)) (u.recorded_below m v r);

@@ -1,5 +1,8 @@
 -- Entering a place in a depth-first walk, by what stands there.
-use Rattle.std.proofs.Common.{◌≡◌, ℕ, zero, suc, ◌+◌, ◌<◌, ◌≤◌, inl, inr, Bool, true, false, IsTrue, List, [], ◌∷◌, ◌++◌, length, map, slice_get, slice_set, slice_index_or, if◌then◌else◌, Option, Some, None, refl, sym, ap, subst, ◌∙◌, arith}
+use Rattle.std.proofs.Common.{◌≡◌, ℕ, zero, suc, ◌+◌, ◌<◌, ◌≤◌, inl, inr, Bool}
+use Rattle.std.proofs.Common.{true, false, IsTrue, List, [], ◌∷◌, ◌++◌, length, map}
+use Rattle.std.proofs.Common.{slice_get, slice_set, slice_index_or, if◌then◌else◌}
+use Rattle.std.proofs.Common.{Option, Some, None, refl, sym, ap, subst, ◌∙◌, arith}
 use Rattle.std.specs.Char.{len_utf8}
 use Rattle.std.proofs.lemmas.List.{length-map, set-set, set-get_or}
 use Rattle.std.proofs.lemmas.Option.{slice_get_within}
@@ -11,16 +14,20 @@ use Rattle.regex_lite_syntax.specs.Tree.Looks.{holds_between}
 use Rattle.regex_lite_engine.specs.declared.nfa.place.Place as code
 use Rattle.regex_lite_engine.specs.declared.nfa.place.Place.TheVariants as stored
 use Rattle.regex_lite_engine.specs.Backtrack.Entering.{Enters, read_on}
-use Rattle.regex_lite_engine.specs.Backtrack.Machine.{Frame, explore, restore, Pairs, pair_number, was_entered}
+use Rattle.regex_lite_engine.specs.Backtrack.Machine.{Frame, explore, restore, Pairs}
+use Rattle.regex_lite_engine.specs.Backtrack.Machine.{pair_number, was_entered}
 use Rattle.regex_lite_engine.specs.Backtrack.Walking as walk
-use Rattle.regex_lite_engine.specs.Graph.Places.{Arrow, Place, with_arrows, go, go_holding, go_marking, go_reading, one_of, arrived, behind, arrow_taken, step_from}
+use Rattle.regex_lite_engine.specs.Graph.Places.{Arrow, Place, with_arrows, go, go_holding}
+use Rattle.regex_lite_engine.specs.Graph.Places.{go_marking, go_reading, one_of, arrived}
+use Rattle.regex_lite_engine.specs.Graph.Places.{behind, arrow_taken, step_from}
 use Rattle.regex_lite_engine.specs.Graph.Renumbered.{arrow_count}
 use Rattle.regex_lite_engine.specs.Graph.Stored.{place_of}
 use Rattle.regex_lite_engine.specs.Search.Marks.{Marks, marked, over, mark_of}
 use Rattle.regex_lite_engine.specs.Search.Offsets.{offset, IsOffset, HasSlots}
 use Rattle.regex_lite_engine.specs.Walk.InStep.{Offer}
 use Rattle.regex_lite_engine.specs.Walk.Machine.{Row}
-use Rattle.regex_lite_engine.specs.Walk.NumberedAnswer.{place_with, is_complete, numbered_step, is_end}
+use Rattle.regex_lite_engine.specs.Walk.NumberedAnswer.{place_with, is_complete}
+use Rattle.regex_lite_engine.specs.Walk.NumberedAnswer.{numbered_step, is_end}
 use Rattle.regex_lite_engine.specs.Walk.Outcomes.{IsNumberedOutcome}
 use Rattle.regex_lite_engine.specs.Walk.Walking.{Node}
 use Rattle.regex_lite_engine.specs.Backtrack.Walking.{WayHolds}

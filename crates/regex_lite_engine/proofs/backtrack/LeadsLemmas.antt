@@ -1,10 +1,12 @@
 -- Where the steps of a depth-first walk lead, by the offsets of a haystack's bytes.
-use Rattle.std.proofs.Common.{◌≡◌, ℕ, suc, ◌<◌, ◌≤◌, ◌⊎◌, inl, inr, Bool, true, false, List, [], ◌∷◌, length, slice_set, Some, sym, subst, arith}
+use Rattle.std.proofs.Common.{◌≡◌, ℕ, suc, ◌<◌, ◌≤◌, ◌⊎◌, inl, inr, Bool, true, false}
+use Rattle.std.proofs.Common.{List, [], ◌∷◌, length, slice_set, Some, sym, subst, arith}
 use Rattle.std.specs.Prelude.{IsUtf8, IsCharBoundary, chars}
 use Rattle.std.proofs.lemmas.Bool.{cases_lt}
 use Rattle.regex_lite_engine.specs.declared.nfa.place.Place as code
 use Rattle.regex_lite_engine.specs.Backtrack.Entering.{Enters}
-use Rattle.regex_lite_engine.specs.Backtrack.Machine.{Frame, explore, Pairs, pair_number, was_entered}
+use Rattle.regex_lite_engine.specs.Backtrack.Machine.{Frame, explore, Pairs}
+use Rattle.regex_lite_engine.specs.Backtrack.Machine.{pair_number, was_entered}
 use Rattle.regex_lite_engine.specs.Backtrack.Room.{AreAll, Leads, WalksTo}
 use Rattle.regex_lite_engine.specs.Backtrack.Walking.{IsWalking}
 use Rattle.regex_lite_engine.specs.Graph.Places.{Place}
@@ -33,7 +35,8 @@ module _ (bytes : List ℕ) (utf8 : IsUtf8 bytes) where
       by_order (inl lt) =
           let here = position_is bytes at utf8 edge in
           let there = position_is bytes to utf8 edge' in
-          let less = offset_less (chars bytes) (position_at bytes to) (position_at bytes at) lt here.0 in
+          let less =
+          offset_less (chars bytes) (position_at bytes to) (position_at bytes at) lt here.0 in
           let at_here = here.1 in
           let at_there = there.1 in
           absurd (omega (arith, less, at_here, at_there, le))

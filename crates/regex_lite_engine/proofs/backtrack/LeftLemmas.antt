@@ -1,8 +1,12 @@
 -- What is left of a search: the sum over the pairs that were not entered.
-use Rattle.std.proofs.Common.{◌≡◌, ℕ, zero, suc, ◌+◌, ◌-◌, ◌*◌, ◌<◌, ◌≤◌, ◌⊎◌, inl, inr, Bool, true, false, List, [], ◌∷◌, length, set, replicate, slice_get, slice_set, slice_index_or, sum_by, if◌then◌else◌, Some, refl, sym, ap, ◌∙◌, arith}
+use Rattle.std.proofs.Common.{◌≡◌, ℕ, zero, suc, ◌+◌, ◌-◌, ◌*◌, ◌<◌, ◌≤◌, ◌⊎◌, inl}
+use Rattle.std.proofs.Common.{inr, Bool, true, false, List, [], ◌∷◌, length, set}
+use Rattle.std.proofs.Common.{replicate, slice_get, slice_set, slice_index_or}
+use Rattle.std.proofs.Common.{sum_by, if◌then◌else◌, Some, refl, sym, ap, ◌∙◌, arith}
 use Rattle.std.specs.Prelude.{IsUtf8, IsCharBoundary, chars}
 use Rattle.std.proofs.lemmas.Bool.{cases_lt}
-use Rattle.std.proofs.lemmas.List.{get_or-set_same, get_or-set_other, get_or-replicate, get_or_past, length-replicate}
+use Rattle.std.proofs.lemmas.List.{get_or-set_same, get_or-set_other}
+use Rattle.std.proofs.lemmas.List.{get_or-replicate, get_or_past, length-replicate}
 use Rattle.std.proofs.lemmas.List.Sums.{sum_by-cons}
 use Rattle.std.proofs.lemmas.Option.{slice_get_within}
 use Rattle.std.proofs.Math.Nat.{mul-le-mul_left, mul-suc, mul_comm}
@@ -25,7 +29,9 @@ stretch_other f entered k pair [] out = refl
 stretch_other f entered k pair (x ∷ table) out =
     let same : (if slice_index_or (set entered k true) pair false then 0 else f x)
     ≡ (if slice_index_or entered pair false then 0 else f x)
-    = ap (λ (b : Bool). if b then 0 else f x) (get_or-set_other entered k pair true false (apart out)) in
+    =
+    ap (λ (b : Bool). if b then 0 else f x)
+    (get_or-set_other entered k pair true false (apart out)) in
     let more = stretch_other f entered k (suc pair) table (onward out) in
     omega (arith, same, more)
   where
@@ -33,23 +39,28 @@ stretch_other f entered k pair (x ∷ table) out =
     apart (inl lt) e = omega (arith, lt, e)
     apart (inr le) e = omega (arith, le, e)
 
-    onward : (k < pair) ⊎ (pair + suc (length table) ≤ k) → (k < suc pair) ⊎ (suc pair + length table ≤ k)
+    onward : (k < pair) ⊎ (pair + suc (length table) ≤ k)
+        → (k < suc pair) ⊎ (suc pair + length table ≤ k)
     onward (inl lt) = inl (omega (arith, lt))
     onward (inr le) = inr (omega (arith, le))
 
 -- a pair of the stretch that is new
-stretch_enter : (f : Place ℕ → ℕ) (entered : List Bool) (k pair : ℕ) (table : List (Place ℕ)) (q : ℕ) (x : Place ℕ)
-    → slice_get table q ≡ Some x → k ≡ pair + q → k < length entered → slice_index_or entered k false ≡ false
+stretch_enter : (f : Place ℕ → ℕ) (entered : List Bool) (k pair : ℕ) (table : List (Place ℕ))
+    (q : ℕ) (x : Place ℕ)
+    → slice_get table q ≡ Some x → k ≡ pair + q → k < length entered
+    → slice_index_or entered k false ≡ false
     → left_in f (set entered k true) pair table + f x ≡ left_in f entered pair table
 stretch_enter f entered k pair [] q x e at short new = absurd (not_there e)
 stretch_enter f entered k pair (y ∷ table) zero x e at short new =
     let here : pair ≡ k = omega (arith, at) in
     let same : f y ≡ f x = ap f (same_some e) in
     let was : (if slice_index_or entered pair false then 0 else f y) ≡ f y
-    = ap (λ (b : Bool). if b then 0 else f y) (ap (λ z. slice_index_or entered z false) here ∙ new) in
+    =
+    ap (λ (b : Bool). if b then 0 else f y) (ap (λ z. slice_index_or entered z false) here ∙ new) in
     let now : (if slice_index_or (set entered k true) pair false then 0 else f y) ≡ 0
     = ap (λ (b : Bool). if b then 0 else f y)
-    (ap (λ z. slice_index_or (set entered k true) z false) here ∙ get_or-set_same entered k true false short) in
+    (ap (λ z. slice_index_or (set entered k true) z false) here
+    ∙ get_or-set_same entered k true false short) in
     let rest = stretch_other f entered k (suc pair) table (inl (omega (arith, at))) in
     omega (arith, same, was, now, rest)
 stretch_enter f entered k pair (y ∷ table) (suc q) x e at short new =
@@ -72,7 +83,9 @@ stretch_blank f n pair (x ∷ table) =
   where
     blank : (pair < n) ⊎ (n ≤ pair) → slice_index_or (replicate n false) pair false ≡ false
     blank (inl lt) = get_or-replicate n pair false false lt
-    blank (inr le) = let long = length-replicate n false in get_or_past (replicate n false) pair false (omega (arith, le, long))
+    blank (inr le) =
+        let long = length-replicate n false in
+        get_or_past (replicate n false) pair false (omega (arith, le, long))
 
 stretch_most : (f : Place ℕ → ℕ) (entered : List Bool) (pair : ℕ) (table : List (Place ℕ))
     → left_in f entered pair table ≤ sum_by f table
@@ -105,7 +118,8 @@ pair_later places first q at at' low later =
     omega (arith, more, one, a, b)
 
 -- positions are in the order of their offsets
-positions_order : (text : List ℕ) (p j : ℕ) → p ≤ length text → offset text p ≤ offset text j → p ≤ j
+positions_order : (text : List ℕ) (p j : ℕ) → p ≤ length text
+    → offset text p ≤ offset text j → p ≤ j
 positions_order text p j inside le = go (cases_lt j p)
   where
     go : (j < p) ⊎ (p ≤ j) → p ≤ j
@@ -121,8 +135,10 @@ module _ (table : List (Place ℕ)) (haystack : List ℕ) (utf8 : IsUtf8 haystac
       let own = all.places in
       let cells = all.all in
       let count = length table in
-      let next : suc (at - pairs.first) ≤ length haystack - pairs.first + 1 = omega (arith, low, high) in
-      let more : count * suc (at - pairs.first) ≤ count * (length haystack - pairs.first + 1) = mul-le-mul_left count next in
+      let next : suc (at - pairs.first) ≤ length haystack - pairs.first + 1 =
+      omega (arith, low, high) in
+      let more : count * suc (at - pairs.first) ≤ count * (length haystack - pairs.first + 1) =
+      mul-le-mul_left count next in
       let one = mul-suc count (at - pairs.first) in
       let a : (at - pairs.first) * pairs.places ≡ count * (at - pairs.first)
       = ap (λ z. (at - pairs.first) * z) own ∙ mul_comm (at - pairs.first) count in
@@ -137,7 +153,8 @@ module _ (table : List (Place ℕ)) (haystack : List ℕ) (utf8 : IsUtf8 haystac
     entered_now = record pairs { entered = slice_set pairs.entered pair true }
 
     inside : q < pairs.places
-    inside = let lt = slice_get_within table q x got in let own = all.places in omega (arith, lt, own)
+    inside =
+        let lt = slice_get_within table q x got in let own = all.places in omega (arith, lt, own)
 
     is_at : at ≡ offset (chars haystack) (position_at haystack at)
     is_at = (position_is haystack at utf8 edge).1
@@ -147,11 +164,14 @@ module _ (table : List (Place ℕ)) (haystack : List ℕ) (utf8 : IsUtf8 haystac
         → left_from table haystack f entered_now p n ≡ left_from table haystack f pairs p n
     from_behind p zero behind within = refl
     from_behind p (suc n) behind within =
-        let less = offset_less (chars haystack) (position_at haystack at) p behind (omega (arith, within)) in
+        let less =
+        offset_less (chars haystack) (position_at haystack at) p behind (omega (arith, within)) in
         let there = is_at in
-        let before = pair_earlier pairs.places pairs.first q at (offset (chars haystack) p) inside low
+        let before =
+        pair_earlier pairs.places pairs.first q at (offset (chars haystack) p) inside low
         (omega (arith, less, there)) in
-        let same = stretch_other f pairs.entered pair (pair_number pairs.places pairs.first 0 (offset (chars haystack) p))
+        let same = stretch_other f pairs.entered pair
+        (pair_number pairs.places pairs.first 0 (offset (chars haystack) p))
         table (inl before) in
         let more = from_behind (suc p) n (omega (arith, behind)) (omega (arith, within)) in
         omega (arith, same, more)
@@ -163,28 +183,36 @@ module _ (table : List (Place ℕ)) (haystack : List ℕ) (utf8 : IsUtf8 haystac
         → left_from table haystack f entered_now p n + f x ≡ left_from table haystack f pairs p n
     from_enter new p zero before past within low' = absurd (omega (arith, before, past))
     from_enter new p (suc n) before past within low' =
-        go (cases_lt p (position_at haystack at)) (λ lt le. from_enter new (suc p) n lt (omega (arith, past)) (omega (arith, within)) le)
+        go (cases_lt p (position_at haystack at))
+        (λ lt le. from_enter new (suc p) n lt (omega (arith, past)) (omega (arith, within)) le)
       where
         from : ℕ
         from = pair_number pairs.places pairs.first 0 (offset (chars haystack) p)
 
         go : (p < position_at haystack at) ⊎ (position_at haystack at ≤ p)
             → (suc p ≤ position_at haystack at → pairs.first ≤ offset (chars haystack) (suc p)
-            → left_from table haystack f entered_now (suc p) n + f x ≡ left_from table haystack f pairs (suc p) n)
-            → left_from table haystack f entered_now p (suc n) + f x ≡ left_from table haystack f pairs p (suc n)
+            → left_from table haystack f entered_now (suc p) n + f x
+            ≡ left_from table haystack f pairs (suc p) n)
+            → left_from table haystack f entered_now p (suc n) + f x
+            ≡ left_from table haystack f pairs p (suc n)
         go (inl lt) others =
             let there = is_at in
-            let less = offset_less (chars haystack) p (position_at haystack at) lt (position_is haystack at utf8 edge).0 in
-            let later = pair_later pairs.places pairs.first q at (offset (chars haystack) p) low' (omega (arith, less, there)) in
+            let less = offset_less (chars haystack) p (position_at haystack at) lt
+            (position_is haystack at utf8 edge).0 in
+            let later = pair_later pairs.places pairs.first q at (offset (chars haystack) p) low'
+            (omega (arith, less, there)) in
             let own = all.places in
-            let same = stretch_other f pairs.entered pair from table (inr (omega (arith, later, own))) in
+            let same =
+            stretch_other f pairs.entered pair from table (inr (omega (arith, later, own))) in
             let inside_text = (position_is haystack at utf8 edge).0 in
-            let step = offset_less (chars haystack) p (suc p) (omega arith) (omega (arith, lt, inside_text)) in
+            let step =
+            offset_less (chars haystack) p (suc p) (omega arith) (omega (arith, lt, inside_text)) in
             let more = others (omega (arith, lt)) (omega (arith, low', step)) in
             omega (arith, same, more)
         go (inr le) others =
             let here : p ≡ position_at haystack at = omega (arith, before, le) in
-            let same : offset (chars haystack) p ≡ at = ap (offset (chars haystack)) here ∙ sym is_at in
+            let same : offset (chars haystack) p ≡ at =
+            ap (offset (chars haystack)) here ∙ sym is_at in
             let number : pair ≡ from + q
             = sym (ap (λ z. pair_number pairs.places pairs.first q z) same) ∙ omega arith in
             let short = pair_inside q at (slice_get_within table q x got) low edge.0 in
@@ -202,18 +230,21 @@ module _ (table : List (Place ℕ)) (haystack : List ℕ) (utf8 : IsUtf8 haystac
         let first_is = start.1 in
         let here_inside = here.0 in
         let here_is = here.1 in
-        let order = positions_order (chars haystack) (position_at haystack pairs.first) (position_at haystack at)
+        let order = positions_order (chars haystack) (position_at haystack pairs.first)
+        (position_at haystack at)
         first_inside (omega (arith, first_is, here_is, low)) in
         from_enter new (position_at haystack pairs.first)
         (characters_left (chars haystack) (position_at haystack pairs.first) + 1) order
-        (omega (arith, first_inside, here_inside)) (omega (arith, first_inside)) (omega (arith, first_is))
+        (omega (arith, first_inside, here_inside)) (omega (arith, first_inside))
+        (omega (arith, first_is))
 
     -- what is left has room for a pair that is new
     pub left_room : was_entered pairs q at ≡ false → f x ≤ left_of table haystack f pairs
     left_room new = let more = left_enter new in omega (arith, more)
 
 module _ (table : List (Place ℕ)) (haystack : List ℕ) where
-  from_blank : (f : Place ℕ → ℕ) (pairs : Pairs) (n : ℕ) → pairs.entered ≡ replicate n false → (p m : ℕ)
+  from_blank : (f : Place ℕ → ℕ) (pairs : Pairs) (n : ℕ) → pairs.entered ≡ replicate n false
+      → (p m : ℕ)
       → left_from table haystack f pairs p m ≡ sum_by f table * m
   from_blank f pairs n none p zero = omega arith
   from_blank f pairs n none p (suc m) =

@@ -1,5 +1,6 @@
 -- A depth-first walk over a table of numbered places: its steps, and what it has found at its end.
-use Rattle.std.proofs.Common.{◌≡◌, ℕ, ◌≤◌, IsTrue, List, [], ◌∷◌, ◌++◌, length, Option, Some, None, refl, sym, ap, subst}
+use Rattle.std.proofs.Common.{◌≡◌, ℕ, ◌≤◌, IsTrue, List, [], ◌∷◌, ◌++◌, length}
+use Rattle.std.proofs.Common.{Option, Some, None, refl, sym, ap, subst}
 use Rattle.regex_lite_syntax.specs.Text.{Text}
 use Rattle.regex_lite_engine.specs.Backtrack.DepthFirst as walk
 use Rattle.regex_lite_engine.specs.Graph.Places.{Place}
@@ -11,7 +12,10 @@ use Rattle.regex_lite_engine.specs.Walk.Outcomes.{IsNumberedOutcome}
 use Rattle.regex_lite_engine.specs.Walk.Turns.{IsDeadAt}
 use Rattle.regex_lite_engine.specs.Walk.Walking.{Node}
 use Rattle.regex_lite_engine.specs.Backtrack.Walking.{WayHolds}
-use Rattle.regex_lite_engine.proofs.backtrack.DepthFirstEnterLemmas.{depth_first_entered, depth_first_complete}
+use Rattle.regex_lite_engine.proofs.backtrack.DepthFirstEnterLemmas.{
+  depth_first_entered,
+  depth_first_complete,
+}
 use Rattle.regex_lite_engine.proofs.backtrack.DepthFirstLemmas.{depth_first_over}
 use Rattle.regex_lite_engine.specs.Search.Answer.{Found}
 use Rattle.regex_lite_engine.specs.Search.Marks.{Marks, marked, over, mark_of, marks_along}
@@ -20,7 +24,8 @@ use Rattle.regex_lite_engine.proofs.laws.LeadsLemmas.{leads_append}
 use Rattle.regex_lite_engine.proofs.laws.search.OverLemmas.{answer_when_over}
 use Rattle.regex_lite_engine.proofs.pikevm.MarkLemmas.{same_slots, marks_append}
 use Rattle.regex_lite_engine.proofs.pikevm.RecordLemmas.{extended}
-use Rattle.regex_lite_engine.proofs.pikevm.WalkLemmas.{same_node, wide, no_more, no_arrow_at, offered_by, offers_listed}
+use Rattle.regex_lite_engine.proofs.pikevm.WalkLemmas.{same_node, wide, no_more, no_arrow_at}
+use Rattle.regex_lite_engine.proofs.pikevm.WalkLemmas.{offered_by, offers_listed}
 
 module _ (table : List (Place ℕ)) (h : Text) (s : ℕ) where
   pub holds_on : (i : ℕ) (row row' : Row) (n : Node) (w : List ℕ) (a : ℕ) (l : Node)
@@ -34,7 +39,8 @@ module _ (table : List (Place ℕ)) (h : Text) (s : ℕ) where
     eb,
     ap (λ z. z ++ a ∷ []) e,
     leads_append (numbered_step table h) ks (a ∷ []) (s, j) n l path (l, hops, refl),
-    same_slots h row' (over (marked (mark_of (place_with table n.0) a) n.1) (marks (Some (s, j)) ks))
+    same_slots h row'
+        (over (marked (mark_of (place_with table n.0) a) n.1) (marks (Some (s, j)) ks))
         (marks (Some (s, j)) (ks ++ a ∷ []))
         (λ slot. sym (marks_append h (place_with table) ks (s, j) n a slot path))
         (f (marks (Some (s, j)) ks) has),
@@ -90,7 +96,8 @@ module _ (table : List (Place ℕ)) (haystack : Text) (s first : ℕ) where
         } in (
           found,
           answer_when_over table haystack s first recorded_now (Some w) (Some found)
-              (depth_first_complete Node (numbered_step table haystack) start (is_end table haystack)
+              (depth_first_complete Node (numbered_step table haystack) start
+              (is_end table haystack)
               first (length haystack) same_node from recorded (q, p) w fresh rest u ends
               (λ a. no_arrow_at table haystack (place_with table q) p a ends))
               (found, ks, q, refl, parts, along, refl),

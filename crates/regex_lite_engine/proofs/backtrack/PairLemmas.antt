@@ -1,5 +1,6 @@
 -- Pairs of a place and an offset, and their numbers.
-use Rattle.std.proofs.Common.{◌≡◌, ℕ, suc, ◌+◌, ◌-◌, ◌*◌, ◌<◌, ◌≤◌, ◌⊎◌, inl, inr, Bool, true, false, length, replicate, slice_index_or, ap, ◌∙◌, arith}
+use Rattle.std.proofs.Common.{◌≡◌, ℕ, suc, ◌+◌, ◌-◌, ◌*◌, ◌<◌, ◌≤◌, ◌⊎◌, inl, inr, Bool}
+use Rattle.std.proofs.Common.{true, false, length, replicate, slice_index_or, ap, ◌∙◌, arith}
 use Rattle.std.proofs.Math.Nat.{mul-le-mul_right, suc-mul}
 use Rattle.std.proofs.lemmas.Bool.{cases_lt, cases_eq, cases_order}
 use Rattle.std.proofs.lemmas.List.{get_or-replicate, get_or_past, length-replicate}
@@ -26,9 +27,11 @@ same_pair places first q at r to q_inside r_inside at_low to_low e =
         let rows : (at - first) * places ≡ (to - first) * places = ap (λ z. z * places) d in
         (omega (arith, rows, e), omega (arith, d, at_low, to_low))
     by_order (inr (inl lt)) =
-        let less = below (at - first) (to - first) q r q_inside lt in absurd (omega (arith, less, e))
+        let less = below (at - first) (to - first) q r q_inside lt in
+        absurd (omega (arith, less, e))
     by_order (inr (inr lt)) =
-        let less = below (to - first) (at - first) r q r_inside lt in absurd (omega (arith, less, e))
+        let less = below (to - first) (at - first) r q r_inside lt in
+        absurd (omega (arith, less, e))
 
 -- offsets do not fall
 pub offset_grows : (haystack : Text) (p q : ℕ) → p ≤ q → q ≤ length haystack

@@ -1,5 +1,8 @@
 -- What entering a place adds to what is left to do.
-use Rattle.std.proofs.Common.{◌≡◌, ℕ, zero, suc, ◌+◌, ◌<◌, ◌≤◌, inl, inr, Bool, true, false, List, [], ◌∷◌, ◌++◌, length, map, slice_set, slice_index_or, if◌then◌else◌, Option, Some, None, refl, sym, ap, subst, ◌∙◌, arith, length-append, length-set}
+use Rattle.std.proofs.Common.{◌≡◌, ℕ, zero, suc, ◌+◌, ◌<◌, ◌≤◌, inl, inr, Bool, true}
+use Rattle.std.proofs.Common.{false, List, [], ◌∷◌, ◌++◌, length, map, slice_set}
+use Rattle.std.proofs.Common.{slice_index_or, if◌then◌else◌, Option, Some, None, refl}
+use Rattle.std.proofs.Common.{sym, ap, subst, ◌∙◌, arith, length-append, length-set}
 use Rattle.std.specs.Prelude.{IsUtf8, IsCharBoundary, chars}
 use Rattle.std.specs.Char.{len_utf8}
 use Rattle.std.proofs.lemmas.List.{length-map}
@@ -14,7 +17,8 @@ use Rattle.regex_lite_engine.specs.declared.nfa.place.Place.TheVariants as store
 use Rattle.regex_lite_engine.specs.Backtrack.Entering.{Enters, read_on}
 use Rattle.regex_lite_engine.specs.Backtrack.Machine.{Frame, explore, restore}
 use Rattle.regex_lite_engine.specs.Backtrack.Room.{explores, FramesBelow}
-use Rattle.regex_lite_engine.specs.Graph.Places.{Place, with_arrows, go, go_marking, one_of, kept_back_with}
+use Rattle.regex_lite_engine.specs.Graph.Places.{Place, with_arrows, go, go_marking}
+use Rattle.regex_lite_engine.specs.Graph.Places.{one_of, kept_back_with}
 use Rattle.regex_lite_engine.specs.Graph.Renumbered.{arrow_count}
 use Rattle.regex_lite_engine.specs.Graph.Stored.{LeadBelow, LeadsBelow, place_of}
 use Rattle.regex_lite_engine.specs.Search.Offsets.{position_at}
@@ -34,30 +38,40 @@ length_pushed qs at frames =
     ∙ ap (λ n. n + length frames) (length-map qs (λ q. explore q at))
 
 -- arrows that mark nothing leave all but one behind
-entries_left : (slots : ℕ) (qs : List ℕ) → length qs ≤ kept_back_with slots (with_arrows (map (λ q. go q) qs)) + 1
+entries_left : (slots : ℕ) (qs : List ℕ)
+    → length qs ≤ kept_back_with slots (with_arrows (map (λ q. go q) qs)) + 1
 entries_left slots [] = omega arith
 entries_left slots (q ∷ qs) = let size = length-map qs (λ (q : ℕ). go q) in omega (arith, size)
 
-module _ (haystack : Text) (p at : ℕ) (row row' : Row) (frames frames' : List Frame) (done : Bool) where
+module _ (haystack : Text) (p at : ℕ) (row row' : Row) (frames frames' : List Frame)
+    (done : Bool) where
   -- so many arrows, and so much that is kept back
   abbrev pub IsFew : (arrows kept : ℕ) → Type 0
   IsFew arrows kept =
-      (explores frames' ≤ explores frames + arrows) × (length frames' ≤ length frames + (arrows + 1))
+      (explores frames' ≤ explores frames + arrows)
+      × (length frames' ≤ length frames + (arrows + 1))
       × (length frames' ≤ length frames + (kept + 1)) × (length row' ≡ length row)
 
   few_pushed : (qs : List ℕ) (arrows kept : ℕ) → frames' ≡ map (λ q. explore q at) qs ++ frames
       → row' ≡ row → length qs ≤ arrows → length qs ≤ kept + 1 → IsFew arrows kept
   few_pushed qs arrows kept is same few few_kept =
-      let found : explores frames' ≡ explores frames + length qs = ap explores is ∙ explores_map qs at frames in
-      let size : length frames' ≡ length qs + length frames = ap length is ∙ length_pushed qs at frames in
-      (omega (arith, found, few), omega (arith, size, few), omega (arith, size, few_kept), ap length same)
+      let found : explores frames' ≡ explores frames + length qs =
+      ap explores is ∙ explores_map qs at frames in
+      let size : length frames' ≡ length qs + length frames =
+      ap length is ∙ length_pushed qs at frames in (
+        omega (arith, found, few),
+        omega (arith, size, few),
+        omega (arith, size, few_kept),
+        ap length same,
+      )
 
   few_read : (set : Set) (next : Option ℕ) (to : ℕ) → frames' ≡ read_on at set next to frames
       → row' ≡ row → IsFew 1 0
   few_read set None to is same = few_pushed [] 1 0 is same (omega arith) (omega arith)
   few_read set (Some c) to is same = by_test (set c) is
     where
-      by_test : (b : Bool) → frames' ≡ (if b then explore to (at + len_utf8 c) ∷ frames else frames) → IsFew 1 0
+      by_test : (b : Bool) → frames' ≡ (if b then explore to (at + len_utf8 c) ∷ frames else frames)
+          → IsFew 1 0
       by_test true e =
           let found : explores frames' ≡ explores frames + 1 = ap explores e in
           let size : length frames' ≡ length frames + 1 = ap length e ∙ omega arith in
@@ -72,37 +86,50 @@ module _ (haystack : Text) (p at : ℕ) (row row' : Row) (frames frames' : List 
   few_class (range ∷ ranges) next to is same = few_read (in_ranges (range ∷ ranges)) next to is same
 
   -- the first of them marks a slot, where so many are kept
-  few_marked : (width slot to : ℕ) → slot < width → frames' ≡ explore to at ∷ (restore slot (slice_index_or row slot None) ∷ frames)
-      → row' ≡ slice_set row slot (Some at) → IsFew 1 (kept_back_with width (with_arrows (go_marking slot to ∷ [])))
+  few_marked : (width slot to : ℕ) → slot < width
+      → frames' ≡ explore to at ∷ (restore slot (slice_index_or row slot None) ∷ frames)
+      → row' ≡ slice_set row slot (Some at)
+      → IsFew 1 (kept_back_with width (with_arrows (go_marking slot to ∷ [])))
   few_marked zero slot to lt is marked = absurd (omega (arith, lt))
   few_marked (suc width) slot to lt is marked =
       let found : explores frames' ≡ explores frames + 1 = ap explores is in
-      let size : length frames' ≡ length frames + 2 = ap length is ∙ omega arith in
-      (omega (arith, found), omega (arith, size), omega (arith, size), ap length marked ∙ length-set row slot (Some at))
+      let size : length frames' ≡ length frames + 2 = ap length is ∙ omega arith in (
+        omega (arith, found),
+        omega (arith, size),
+        omega (arith, size),
+        ap length marked ∙ length-set row slot (Some at),
+      )
 
   -- it adds no more frames than the place has arrows, or leaves behind
   pub enters_few : (x : code.Place) → Enters haystack p at x row frames row' frames' done
       → IsFew (arrow_count (place_of x)) (kept_back_with (length row) (place_of x))
-  enters_few (stored.Empty to) (same, is, going) = few_pushed (to ∷ []) 1 0 is same (omega arith) (omega arith)
+  enters_few (stored.Empty to) (same, is, going) =
+      few_pushed (to ∷ []) 1 0 is same (omega arith) (omega arith)
   enters_few (stored.Char c to) (same, is, going) = few_read (just c) (after haystack p) to is same
   enters_few (stored.Class to set) (same, is, going) = few_class set (after haystack p) to is same
-  enters_few (stored.Look test to) (same, is, going) = by_test (holds_between test (before haystack p) (after haystack p)) is
+  enters_few (stored.Look test to) (same, is, going) =
+      by_test (holds_between test (before haystack p) (after haystack p)) is
     where
       by_test : (b : Bool) → frames' ≡ (if b then explore to at ∷ frames else frames) → IsFew 1 0
       by_test true e = few_pushed (to ∷ []) 1 0 e same (omega arith) (omega arith)
       by_test false e = few_pushed [] 1 0 e same (omega arith) (omega arith)
-  enters_few (stored.Slot slot to) (inl (within, marked, is), going) = few_marked (length row) slot to within is marked
+  enters_few (stored.Slot slot to) (inl (within, marked, is), going) =
+      few_marked (length row) slot to within is marked
   enters_few (stored.Slot slot to) (inr (past, same, is), going) =
-      few_pushed (to ∷ []) 1 (kept_back_with (length row) (place_of (stored.Slot slot to))) is same (omega arith) (omega arith)
+      few_pushed (to ∷ []) 1 (kept_back_with (length row) (place_of (stored.Slot slot to))) is same
+      (omega arith) (omega arith)
   enters_few (stored.Choice first second) (same, is, going) =
       few_pushed (first ∷ (second ∷ [])) 2 1 is same (omega arith) (omega arith)
   enters_few (stored.Branches entries) (same, is, going) =
-      few_pushed entries.items (length (map (λ q. go q) entries.items)) (kept_back_with (length row) (place_of (stored.Branches entries))) is same
-      (let size = length-map entries.items (λ (q : ℕ). go q) in omega (arith, size)) (entries_left (length row) entries.items)
+      few_pushed entries.items (length (map (λ q. go q) entries.items))
+      (kept_back_with (length row) (place_of (stored.Branches entries))) is same
+      (let size = length-map entries.items (λ (q : ℕ). go q) in omega (arith, size))
+      (entries_left (length row) entries.items)
   enters_few stored.Match (same, is, ends) = few_pushed [] 0 0 is same (omega arith) (omega arith)
 
 module _ (table : List (Place ℕ)) (haystack : List ℕ) (utf8 : IsUtf8 haystack) (first at : ℕ)
-    (low : first ≤ at) (edge : IsCharBoundary haystack at) (row row' : Row) (frames frames' : List Frame)
+    (low : first ≤ at) (edge : IsCharBoundary haystack at) (row row' : Row)
+    (frames frames' : List Frame)
     (done : Bool) (below : FramesBelow table haystack first (length row) frames) where
   abbrev Within : Type 0
   Within = FramesBelow table haystack first (length row') frames'
@@ -119,7 +146,8 @@ module _ (table : List (Place ℕ)) (haystack : List ℕ) (utf8 : IsUtf8 haystac
       subst (λ z. FramesBelow table haystack first (length z) frames') (sym same)
       (subst (λ z. FramesBelow table haystack first (length row) z) (sym is) inside)
 
-  within_read : (set : Set) (next : Option ℕ) → next ≡ after (chars haystack) (position_at haystack at) → (to : ℕ)
+  within_read : (set : Set) (next : Option ℕ)
+      → next ≡ after (chars haystack) (position_at haystack at) → (to : ℕ)
       → to < length table → frames' ≡ read_on at set next to frames → row' ≡ row → Within
   within_read set None there to inside is same = within_row frames is same below
   within_read set (Some c) there to inside is same = by_test (set c) is
@@ -132,11 +160,14 @@ module _ (table : List (Place ℕ)) (haystack : List ℕ) (utf8 : IsUtf8 haystac
           let is_at = (position_is haystack at utf8 edge).1 in
           let inside_text = slice_get_within (chars haystack) p c (sym there) in
           let next = offset_next (chars haystack) p c (sym there) in
-          boundary_at haystack (suc p) (at + len_utf8 c) utf8 (omega (arith, inside_text), omega (arith, is_at, next))
+          boundary_at haystack (suc p) (at + len_utf8 c) utf8
+          (omega (arith, inside_text), omega (arith, is_at, next))
 
-      by_test : (b : Bool) → frames' ≡ (if b then explore to (at + len_utf8 c) ∷ frames else frames) → Within
+      by_test : (b : Bool)
+          → frames' ≡ (if b then explore to (at + len_utf8 c) ∷ frames else frames) → Within
       by_test true e =
-          within_row (explore to (at + len_utf8 c) ∷ frames) e same (inside, omega (arith, low), behind, below)
+          within_row (explore to (at + len_utf8 c) ∷ frames) e same
+          (inside, omega (arith, low), behind, below)
       by_test false e = within_row frames e same below
 
   within_class : (ranges : List ClassRange) (next : Option ℕ)
@@ -151,18 +182,24 @@ module _ (table : List (Place ℕ)) (haystack : List ℕ) (utf8 : IsUtf8 haystac
   -- what it adds leads to pairs of the search
   pub enters_within : (x : code.Place) → LeadsBelow (length table) (place_of x)
       → Enters (chars haystack) (position_at haystack at) at x row frames row' frames' done → Within
-  enters_within (stored.Empty to) inside (same, is, going) = within_row _ is same (all_below (to ∷ []) inside)
-  enters_within (stored.Char c to) inside (same, is, going) = within_read (just c) _ refl to inside.0 is same
-  enters_within (stored.Class to set) inside (same, is, going) = within_class set _ refl to inside is same
+  enters_within (stored.Empty to) inside (same, is, going) =
+      within_row _ is same (all_below (to ∷ []) inside)
+  enters_within (stored.Char c to) inside (same, is, going) =
+      within_read (just c) _ refl to inside.0 is same
+  enters_within (stored.Class to set) inside (same, is, going) =
+      within_class set _ refl to inside is same
   enters_within (stored.Look test to) inside (same, is, going) =
-      by_test (holds_between test (before (chars haystack) (position_at haystack at)) (after (chars haystack) (position_at haystack at))) is
+      by_test (holds_between test (before (chars haystack) (position_at haystack at))
+      (after (chars haystack) (position_at haystack at))) is
     where
       by_test : (b : Bool) → frames' ≡ (if b then explore to at ∷ frames else frames) → Within
       by_test true e = within_row _ e same (all_below (to ∷ []) (inside.0, tt))
       by_test false e = within_row _ e same below
   enters_within (stored.Slot slot to) inside (inl (lt, marked, is), going) =
-      subst (λ z. FramesBelow table haystack first z frames') (sym (ap length marked ∙ length-set row slot (Some at)))
-      (subst (λ z. FramesBelow table haystack first (length row) z) (sym is) (inside.0, low, edge, (lt, below)))
+      subst (λ z. FramesBelow table haystack first z frames')
+      (sym (ap length marked ∙ length-set row slot (Some at)))
+      (subst (λ z. FramesBelow table haystack first (length row) z) (sym is)
+      (inside.0, low, edge, (lt, below)))
   enters_within (stored.Slot slot to) inside (inr (past, same, is), going) =
       within_row _ is same (all_below (to ∷ []) (inside.0, tt))
   enters_within (stored.Choice one other) inside (same, is, going) =

@@ -1,5 +1,7 @@
 -- What holds of a depth-first search between two starts, from the first to the last.
-use Rattle.std.proofs.Common.{◌≡◌, ℕ, ◌+◌, ◌-◌, ◌*◌, ◌<◌, ◌≤◌, ◌⊎◌, inl, inr, false, List, [], ◌∷◌, length, drop, sum_by, chars, Option, None, Some, refl, sym, ap, subst, ◌∙◌, arith}
+use Rattle.std.proofs.Common.{◌≡◌, ℕ, ◌+◌, ◌-◌, ◌*◌, ◌<◌, ◌≤◌, ◌⊎◌, inl, inr}
+use Rattle.std.proofs.Common.{false, List, [], ◌∷◌, length, drop, sum_by, chars}
+use Rattle.std.proofs.Common.{Option, None, Some, refl, sym, ap, subst, ◌∙◌, arith}
 use Rattle.std.specs.Prelude.{IsUtf8, IsCharBoundary, is_some}
 use Rattle.std.proofs.lemmas.List.{length-drop}
 use Rattle.std.proofs.lemmas.Str.{IsUtf8-drop}
@@ -67,7 +69,8 @@ module _ (table : List (Place ℕ)) (haystack : List ℕ) (utf8 : IsUtf8 haystac
       → left_of table haystack f walk.visited ≡ sum_by f table * (left + 1)
   all_left walk fresh f =
       left_blank table haystack f walk.visited (length table * (bytes_left + 1)) fresh.none
-      ∙ ap (λ z. sum_by f table * (characters_left (chars haystack) (position_at haystack z) + 1)) fresh.first
+      ∙ ap (λ z. sum_by f table * (characters_left (chars haystack) (position_at haystack z) + 1))
+      fresh.first
 
   kept_fits : (kept : ℕ) → kept * (left + 1) ≤ kept * (bytes_left + 1)
   kept_fits kept = let few = few_left in mul-le-mul_left kept (omega (arith, few))
@@ -106,7 +109,9 @@ module _ (table : List (Place ℕ)) (haystack : List ℕ) (utf8 : IsUtf8 haystac
         };
         room = room;
         empty = fresh.frames;
-        walking = walk_begun table (chars haystack) s first (length table * (bytes_left + 1)) 0 walk.visited
+        walking =
+            walk_begun table (chars haystack) s first
+            (length table * (bytes_left + 1)) 0 walk.visited
             walk.stack.row fresh.none fresh.blank;
         tries = omega (arith, tried, arrows, one_more, inside);
         entries = omega (arith, entered, each);
@@ -138,7 +143,12 @@ module _ (table : List (Place ℕ)) (haystack : List ℕ) (utf8 : IsUtf8 haystac
         let few = counts.tries in
         record {
           all = on.fit.all;
-          below = (lt, omega (arith, begins, start_is, grows, there), boundary_at haystack q at utf8 is, tt);
+          below = (
+            lt,
+            omega (arith, begins, start_is, grows, there),
+            boundary_at haystack q at utf8 is,
+            tt,
+          );
           stack_room = omega (arith, most, fits, room);
           few_tries = omega (arith, tries, few, inside, later);
           few_entries = on.fit.few_entries;
@@ -164,12 +174,17 @@ module _ (table : List (Place ℕ)) (haystack : List ℕ) (utf8 : IsUtf8 haystac
           low = omega (arith, from);
           first = explores.kept.first ∙ on.first;
           fit = explores.fit refl;
-          room = subst (λ width. sum_by (kept_back_with width) table * (bytes_left + 1) ≤ walk'.stack.room)
+          room =
+              subst
+              (λ width. sum_by (kept_back_with width) table * (bytes_left + 1) ≤ walk'.stack.room)
               (sym explores.kept.row) (omega (arith, room, same_room));
           empty = explores.empty refl;
-          walking = subst (λ z. IsWalking table (chars haystack) s first z 0 walk'.visited walk'.stack.row [])
+          walking =
+              subst
+              (λ z. IsWalking table (chars haystack) s first z 0 walk'.visited walk'.stack.row [])
               (omega arith)
-              (start_left haystack utf8 table s start p q at walk.visited walk'.visited walk.stack.row
+              (start_left haystack utf8 table s start p q at walk.visited walk'.visited
+              walk.stack.row
               walk'.stack.row on.first later low is dead on.walking 0 explores.walks);
           tries = omega (arith, tries, spent, later, inside);
           entries = omega (arith, entries, spent_entries);

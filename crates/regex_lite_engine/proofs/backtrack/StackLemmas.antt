@@ -1,5 +1,6 @@
 -- Frames in a list that grows at its end.
-use Rattle.std.proofs.Common.{◌≡◌, ℕ, zero, suc, ◌-◌, ◌<◌, ◌≤◌, List, [], ◌∷◌, ◌++◌, drop, length, map, reverse, slice_index, ap, sym, subst, ◌∙◌, arith}
+use Rattle.std.proofs.Common.{◌≡◌, ℕ, zero, suc, ◌-◌, ◌<◌, ◌≤◌, List, [], ◌∷◌, ◌++◌, drop}
+use Rattle.std.proofs.Common.{length, map, reverse, slice_index, ap, sym, subst, ◌∙◌, arith}
 use Rattle.std.proofs.Math.Seq.{drop-cons}
 use Rattle.std.proofs.lemmas.List.{length-map, length-reverse, map-append, reverse-append}
 use Rattle.regex_lite_engine.specs.declared.backtrack.frame.Frame as code
@@ -7,7 +8,9 @@ use Rattle.regex_lite_engine.specs.Backtrack.Machine.{Frame, Held, explore, fram
 use Rattle.regex_lite_engine.specs.Walk.Machine.{Row}
 
 pub held_is : (a b : Held) → a.frames ≡ b.frames → a.row ≡ b.row → a.room ≡ b.room → a ≡ b
-held_is a b f r m = ap (λ z. held z a.row a.room) f ∙ ap (λ z. held b.frames z a.room) r ∙ ap (λ z. held b.frames b.row z) m
+held_is a b f r m =
+    ap (λ z. held z a.row a.room) f ∙ ap (λ z. held b.frames z a.room) r
+    ∙ ap (λ z. held b.frames b.row z) m
   where
     held : List Frame → Row → ℕ → Held
     held frames row room = record { frames = frames; row = row; room = room }
@@ -17,15 +20,21 @@ pub frames_long : (items : List code.Frame) → length (reverse (map frame_of it
 frames_long items = length-reverse (map frame_of items) ∙ length-map items frame_of
 
 -- the last is the next
-pub last_is_next : (items : List code.Frame) (x : code.Frame) → reverse (map frame_of (items ++ x ∷ [])) ≡ frame_of x ∷ reverse (map frame_of items)
-last_is_next items x = ap reverse (map-append frame_of items (x ∷ [])) ∙ reverse-append (map frame_of items) (frame_of x ∷ [])
+pub last_is_next : (items : List code.Frame) (x : code.Frame)
+    → reverse (map frame_of (items ++ x ∷ [])) ≡ frame_of x ∷ reverse (map frame_of items)
+last_is_next items x =
+    ap reverse (map-append frame_of items (x ∷ []))
+    ∙ reverse-append (map frame_of items) (frame_of x ∷ [])
 
 -- the place before those that are put on it
 pub one_before : (places : List ℕ) (at i : ℕ) (frames : List Frame) → 0 < i → i ≤ length places →
-    explore (slice_index places (i - 1)) at ∷ (map (λ q. explore q at) (drop i places) ++ frames) ≡ map (λ q. explore q at) (drop (i - 1) places) ++ frames
+    explore (slice_index places (i - 1)) at ∷ (map (λ q. explore q at) (drop i places) ++ frames)
+    ≡ map (λ q. explore q at) (drop (i - 1) places) ++ frames
 one_before places at zero frames some le = absurd (omega (arith, some))
 one_before places at (suc k) frames some le =
-    subst (λ j. explore (slice_index places j) at ∷ (map (λ q. explore q at) (drop (suc k) places) ++ frames) ≡ map (λ q. explore q at) (drop j places) ++ frames) same
+    subst (λ j.
+    explore (slice_index places j) at ∷ (map (λ q. explore q at) (drop (suc k) places) ++ frames)
+    ≡ map (λ q. explore q at) (drop j places) ++ frames) same
     (sym (ap (λ z. map (λ q. explore q at) z ++ frames) (drop-cons places k 0 (omega (arith, le)))))
   where
     same : k ≡ suc k - 1

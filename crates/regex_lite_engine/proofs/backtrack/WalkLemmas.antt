@@ -1,11 +1,14 @@
 -- The steps of a depth-first walk over pairs of a place and an offset.
-use Rattle.std.proofs.Common.{◌≡◌, ℕ, suc, ◌<◌, ◌≤◌, ◌⊎◌, inl, inr, true, false, IsTrue, List, [], ◌∷◌, ◌++◌, length, replicate, slice_set, slice_index_or, Option, Some, None, refl, sym, ap, subst, ◌∙◌, arith}
+use Rattle.std.proofs.Common.{◌≡◌, ℕ, suc, ◌<◌, ◌≤◌, ◌⊎◌, inl, inr, true, false, IsTrue, List}
+use Rattle.std.proofs.Common.{[], ◌∷◌, ◌++◌, length, replicate, slice_set, slice_index_or}
+use Rattle.std.proofs.Common.{Option, Some, None, refl, sym, ap, subst, ◌∙◌, arith}
 use Rattle.std.proofs.lemmas.Bool.{cases_eq}
 use Rattle.std.proofs.lemmas.List.{get_or-set_same, get_or-set_other}
 use Rattle.regex_lite_syntax.specs.Text.{Text}
 use Rattle.regex_lite_syntax.specs.Tree.Matches.{IsPosition}
 use Rattle.regex_lite_engine.specs.Backtrack.DepthFirst as order
-use Rattle.regex_lite_engine.specs.Backtrack.Machine.{Frame, explore, restore, Pairs, pair_number, was_entered}
+use Rattle.regex_lite_engine.specs.Backtrack.Machine.{Frame, explore, restore, Pairs}
+use Rattle.regex_lite_engine.specs.Backtrack.Machine.{pair_number, was_entered}
 use Rattle.regex_lite_engine.specs.Backtrack.Searching.{Unwinds, taken_up}
 use Rattle.regex_lite_engine.specs.Backtrack.Walking as walk
 use Rattle.regex_lite_engine.specs.Graph.Places.{Place}
@@ -17,9 +20,15 @@ use Rattle.regex_lite_engine.specs.Walk.Outcomes.{IsNumberedOutcome}
 use Rattle.regex_lite_engine.specs.Walk.Turns.{IsBlank, IsDeadAt}
 use Rattle.regex_lite_engine.specs.Walk.Walking.{Node}
 use Rattle.regex_lite_engine.specs.Backtrack.Walking.{WayHolds}
-use Rattle.regex_lite_engine.proofs.backtrack.DepthFirstLemmas.{depth_first_begun, depth_first_passed, depth_first_started}
-use Rattle.regex_lite_engine.proofs.backtrack.NumberedLemmas.{numbered_over, numbered_entered, numbered_complete}
-use Rattle.regex_lite_engine.proofs.backtrack.PairLemmas.{same_pair, offset_grows, none_entered, not_both}
+use Rattle.regex_lite_engine.proofs.backtrack.DepthFirstLemmas.{
+  depth_first_begun,
+  depth_first_passed,
+  depth_first_started,
+}
+use Rattle.regex_lite_engine.proofs.backtrack.NumberedLemmas.{numbered_over, numbered_entered}
+use Rattle.regex_lite_engine.proofs.backtrack.NumberedLemmas.{numbered_complete}
+use Rattle.regex_lite_engine.proofs.backtrack.PairLemmas.{same_pair, offset_grows}
+use Rattle.regex_lite_engine.proofs.backtrack.PairLemmas.{none_entered, not_both}
 use Rattle.regex_lite_engine.proofs.pikevm.OptionLemmas.{not_there}
 use Rattle.regex_lite_engine.proofs.pikevm.RecordLemmas as records
 use Rattle.regex_lite_engine.proofs.pikevm.WalkLemmas.{same_node, none_or, wide, offered_by}
@@ -130,7 +139,8 @@ module _ (table : List (Place ℕ)) (haystack : Text) (s first : ℕ) where
     -- what is offered first
     abbrev Top : ℕ → Type 0
     Top j =
-        (w : List ℕ) × (rest : List (Offer Node)) × IsDepthFirst from u.recorded (((q, j), w) ∷ rest)
+        (w : List ℕ) × (rest : List (Offer Node))
+        × IsDepthFirst from u.recorded (((q, j), w) ∷ rest)
         × WayHolds table haystack s i row (q, j) w × FramesHold i row frames rest
 
     top : Top p

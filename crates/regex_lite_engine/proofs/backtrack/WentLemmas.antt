@@ -1,11 +1,14 @@
 -- A frame was taken off: the memory still suffices, and the counts stay within what is left.
-use Rattle.std.proofs.Common.{◌≡◌, ℕ, ◌+◌, ◌≤◌, Bool, true, false, List, ◌∷◌, length, set, slice_get, slice_set, Some, refl, sym, ap, subst, ◌∙◌, arith, length-set}
+use Rattle.std.proofs.Common.{◌≡◌, ℕ, ◌+◌, ◌≤◌, Bool, true, false, List}
+use Rattle.std.proofs.Common.{◌∷◌, length, set, slice_get, slice_set, Some}
+use Rattle.std.proofs.Common.{refl, sym, ap, subst, ◌∙◌, arith, length-set}
 use Rattle.std.specs.Prelude.{IsUtf8, chars}
 use Rattle.std.proofs.lemmas.List.{set-get_or}
 use Rattle.regex_lite_engine.specs.declared.backtrack.walk.Walk.{Walk}
 use Rattle.regex_lite_engine.specs.declared.nfa.place.Place as code
 use Rattle.regex_lite_engine.specs.Backtrack.Entering.{Enters}
-use Rattle.regex_lite_engine.specs.Backtrack.Machine.{Frame, explore, Pairs, Held, pair_number, was_entered}
+use Rattle.regex_lite_engine.specs.Backtrack.Machine.{Frame, explore, Pairs, Held}
+use Rattle.regex_lite_engine.specs.Backtrack.Machine.{pair_number, was_entered}
 use Rattle.regex_lite_engine.specs.Backtrack.Room.{Goes, HasRoom, WalksTo, left_of}
 use Rattle.regex_lite_engine.specs.Graph.Places.{Place, kept_back_with}
 use Rattle.regex_lite_engine.specs.Graph.Renumbered.{arrow_count}
@@ -33,10 +36,15 @@ entered_again pairs q at was =
 module _ (table : List (Place ℕ)) (haystack : List ℕ) (walk : Walk) (q at : ℕ) (frames : List Frame)
     (fit : HasRoom table haystack walk (explore q at ∷ frames)) where
   -- the pair was entered before
-  pub goes_passed : WalksTo table haystack walk.visited walk.stack.row (explore q at ∷ frames) walk.visited
+  pub goes_passed : WalksTo table haystack walk.visited walk.stack.row
+      (explore q at ∷ frames) walk.visited
       walk.stack.row frames at false
       → Goes table haystack walk (explore q at ∷ frames)
-      (record { visited = walk.visited; stack = walk.stack; steps = record walk.steps { tried = walk.steps.tried + 1 } })
+      (record {
+        visited = walk.visited;
+        stack = walk.stack;
+        steps = record walk.steps { tried = walk.steps.tried + 1 };
+      })
       frames at false
   goes_passed walks =
       let room = fit.stack_room in
@@ -65,21 +73,27 @@ module _ (table : List (Place ℕ)) (haystack : List ℕ) (walk : Walk) (q at : 
       (got : slice_get table q ≡ Some (place_of x)) where
     -- what is left after it, by what it counts
     less_left : (f : Place ℕ → ℕ)
-        → left_of table haystack f (entered_at walk.visited q at) + f (place_of x) ≡ left_of table haystack f walk.visited
+        → left_of table haystack f (entered_at walk.visited q at) + f (place_of x)
+        ≡ left_of table haystack f walk.visited
     less_left f =
-        left_enter table haystack utf8 walk.visited fit.all f q (place_of x) got at fit.below.2 fit.below.1 new
+        left_enter table haystack utf8 walk.visited fit.all f q
+        (place_of x) got at fit.below.2 fit.below.1 new
 
     -- there is room for what entering the place keeps back
-    pub enter_room : length frames + kept_back_with (length walk.stack.row) (place_of x) ≤ walk.stack.room
+    pub enter_room : length frames + kept_back_with (length walk.stack.row) (place_of x)
+        ≤ walk.stack.room
     enter_room =
-        let left = left_room table haystack utf8 walk.visited fit.all (kept_back_with (length walk.stack.row)) q (place_of x) got at fit.below.2 fit.below.1 new in
+        let left =
+        left_room table haystack utf8 walk.visited fit.all (kept_back_with (length walk.stack.row))
+        q (place_of x) got at fit.below.2 fit.below.1 new in
         let room = fit.stack_room in
         omega (arith, left, room)
 
     -- the pair is new
     pub goes_entered : (held' : Held) (frames' : List Frame) (done : Bool)
         → LeadsBelow (length table) (place_of x)
-        → Enters (chars haystack) (position_at haystack at) at x walk.stack.row frames held'.row frames' done
+        → Enters (chars haystack)
+        (position_at haystack at) at x walk.stack.row frames held'.row frames' done
         → held'.room ≡ walk.stack.room
         → WalksTo table haystack walk.visited walk.stack.row (explore q at ∷ frames)
         (entered_at walk.visited q at) held'.row frames' at done
@@ -95,17 +109,21 @@ module _ (table : List (Place ℕ)) (haystack : List ℕ) (walk : Walk) (q at : 
         })
         frames' at done
     goes_entered held' frames' done inside enters same walks =
-        let few = enters_few (chars haystack) (position_at haystack at) at walk.stack.row held'.row frames frames' done x enters in
-        let within = enters_within table haystack utf8 walk.visited.first at fit.below.1 fit.below.2 walk.stack.row
+        let few = enters_few (chars haystack)
+        (position_at haystack at) at walk.stack.row held'.row frames frames' done x enters in
+        let within = enters_within table haystack utf8 walk.visited.first at fit.below.1 fit.below.2
+        walk.stack.row
         held'.row frames frames' done fit.below.3 x inside enters in
         let arrows = few.0 in
         let longer = few.1 in
         let keeps = few.2 in
         let arrows_left = less_left arrow_count in
         let kept_left = less_left (kept_back_with (length walk.stack.row)) in
-        let lone_left : left_of table haystack lone (entered_at walk.visited q at) + 1 ≡ left_of table haystack lone walk.visited
+        let lone_left : left_of table haystack lone (entered_at walk.visited q at) + 1
+        ≡ left_of table haystack lone walk.visited
         = less_left lone in
-        let work_left : left_of table haystack weight (entered_at walk.visited q at) + (arrow_count (place_of x) + 1)
+        let work_left : left_of table haystack weight (entered_at walk.visited q at)
+        + (arrow_count (place_of x) + 1)
         ≡ left_of table haystack weight walk.visited
         = less_left weight in
         let stack_room = fit.stack_room in
@@ -122,7 +140,9 @@ module _ (table : List (Place ℕ)) (haystack : List ℕ) (walk : Walk) (q at : 
               all = length-set walk.visited.entered pair true ∙ fit.all.all;
             };
             below = within;
-            stack_room = subst (λ width. length frames' + left_of table haystack (kept_back_with width) (entered_at walk.visited q at) ≤ held'.room + 1)
+            stack_room =
+                subst (λ width. length frames' + left_of table haystack (kept_back_with width)
+                (entered_at walk.visited q at) ≤ held'.room + 1)
                 (sym few.3) (omega (arith, kept_left, stack_room, keeps, same));
             few_tries = omega (arith, arrows_left, arrows, few_tries);
             few_entries = omega (arith, lone_left, few_entries);

@@ -1,5 +1,7 @@
 -- The number that digits write.
-use Rattle.std.proofs.Common.{◌≡◌, ◌≤◌, ◌<◌, ◌^◌, ℕ, suc, ◌+◌, ◌*◌, ◌-◌, Bool, true, false, not, ◌&&◌, eqb, ltb, cond, Some, None, List, [], ◌∷◌, fold, length, get_or, take, drop, refl, sym, ap, ◌∙◌, subst, arith}
+use Rattle.std.proofs.Common.{◌≡◌, ◌≤◌, ◌<◌, ◌^◌, ℕ, suc, ◌+◌, ◌*◌, ◌-◌, Bool, true, false}
+use Rattle.std.proofs.Common.{not, ◌&&◌, eqb, ltb, cond, Some, None, List, [], ◌∷◌, fold}
+use Rattle.std.proofs.Common.{length, get_or, take, drop, refl, sym, ap, ◌∙◌, subst, arith}
 use Rattle.std.specs.List.{list_all}
 use Rattle.std.proofs.lemmas.Bool.Decides.{nat_tests}
 use Rattle.std.proofs.lemmas.List.{take-append-drop}
@@ -18,7 +20,8 @@ fold_grows (x ∷ xs) n = omega (arith, fold_grows xs (with_digit n x))
 pub number_of_first : (xs : List ℕ) (k : ℕ) → number_of 10 (take k xs) ≤ number_of 10 xs
 number_of_first xs k =
     subst (λ n. number_of 10 (take k xs) ≤ n)
-    (sym (fold-append with_digit 0 (take k xs) (drop k xs)) ∙ ap (number_of 10) (take-append-drop k xs))
+    (sym (fold-append with_digit 0 (take k xs) (drop k xs))
+    ∙ ap (number_of 10) (take-append-drop k xs))
     (fold_grows (drop k xs) (number_of 10 (take k xs)))
 
 pub number_of_one_more : (xs : List ℕ) (i : ℕ) → i < length xs

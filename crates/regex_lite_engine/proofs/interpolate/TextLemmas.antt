@@ -1,5 +1,7 @@
 -- Where a name and a text without a `$` end.
-use Rattle.std.proofs.Common.{◌≡◌, ◌≢◌, ◌≤◌, ◌<◌, ℕ, zero, suc, ◌+◌, true, List, [], ◌∷◌, ◌++◌, Contains, length, get_or, take, drop, refl, sym, ap, ◌∙◌, subst, arith}
+use Rattle.std.proofs.Common.{◌≡◌, ◌≢◌, ◌≤◌, ◌<◌, ℕ, zero, suc, ◌+◌, true}
+use Rattle.std.proofs.Common.{List, [], ◌∷◌, ◌++◌, Contains, length, get_or}
+use Rattle.std.proofs.Common.{take, drop, refl, sym, ap, ◌∙◌, subst, arith}
 use Rattle.std.specs.List.{prefix_len}
 use Rattle.std.specs.Str.{IsUtf8, IsCharBoundary}
 use Rattle.std.proofs.lemmas.Bool.Decides.{nat_tests}
@@ -12,11 +14,13 @@ name_is_ascii : (b : ℕ) → is_name_character b ≡ true → b < 128
 name_is_ascii b named = grind (arith, nat_tests)
 
 -- after the characters of a name is a character boundary
-pub name_ends_cleanly : (t : List ℕ) (n : ℕ) → IsUtf8 t → n ≡ prefix_len is_name_character t → 0 < n → IsCharBoundary t n
+pub name_ends_cleanly : (t : List ℕ) (n : ℕ) → IsUtf8 t → n ≡ prefix_len is_name_character t → 0 < n
+    → IsCharBoundary t n
 name_ends_cleanly t zero utf8 is some = absurd (omega arith)
 name_ends_cleanly t (suc k) utf8 is some =
     subst (IsCharBoundary t) (one_more k)
-    (IsCharBoundary-after_ascii t k utf8 (omega (arith, is, prefix_len-le-length is_name_character t))
+    (IsCharBoundary-after_ascii t k utf8
+    (omega (arith, is, prefix_len-le-length is_name_character t))
     (name_is_ascii (get_or t k 0) (prefix_len_passes is_name_character t k 0 (omega (arith, is)))))
   where
     one_more : (k : ℕ) → k + 1 ≡ suc k
@@ -27,7 +31,8 @@ pub first_lack : (c : ℕ) (t : List ℕ) (n : ℕ) → ((i : ℕ) → i < n →
 first_lack c t n lacks (i, inside, is) =
     let below : i < n = omega (arith, inside, length-take n t) in
     lacks i below
-    (get_or_default t i 0 c (omega (arith, inside, length-take n t)) ∙ sym (get_or-take n t i c below) ∙ is)
+    (get_or_default t i 0 c (omega (arith, inside, length-take n t))
+    ∙ sym (get_or-take n t i c below) ∙ is)
 
 -- a text without a `$` up to where one stands or the text ends
 pub text_first : (t run rest : List ℕ) (n : ℕ) → t ≢ [] → ((i : ℕ) → i < n → get_or t i 0 ≢ 36)
@@ -35,7 +40,8 @@ pub text_first : (t run rest : List ℕ) (n : ℕ) → t ≢ [] → ((i : ℕ) �
     → run ≡ take n t → rest ≡ drop n t → BeginsWith t (plain run) rest
 text_first t run rest n some lacks stops start inside is_run is_rest =
     no_dollar run nonempty (subst (λ x. ¬ (Contains x 36)) (sym is_run) (first_lack 36 t n lacks))
-    (sym (take-append-drop n t) ∙ ap (λ x. x ++ drop n t) (sym is_run) ∙ ap (λ x. run ++ x) (sym is_rest)) refl
+    (sym (take-append-drop n t) ∙ ap (λ x. x ++ drop n t) (sym is_run)
+    ∙ ap (λ x. run ++ x) (sym is_rest)) refl
   where
     begins : (t : List ℕ) → t ≢ [] → get_or t 0 0 ≡ 36 → (u : List ℕ) × (t ≡ 36 ∷ u)
     begins [] some is = absurd (some refl)

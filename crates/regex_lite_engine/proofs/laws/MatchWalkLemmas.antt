@@ -1,23 +1,28 @@
 -- A match of a tree that stands in a graph is a walk through it.
-use Rattle.std.proofs.Common.{◌≡◌, inl, inr, refl, subst, ℕ, suc, ◌+◌, ◌*◌, IsTrue, List, [], ◌∷◌, map, Some, slice_get}
+use Rattle.std.proofs.Common.{◌≡◌, inl, inr, refl, subst, ℕ, suc, ◌+◌, ◌*◌}
+use Rattle.std.proofs.Common.{IsTrue, List, [], ◌∷◌, map, Some, slice_get}
 use Rattle.std.proofs.lemmas.Option.{slice_get-map}
 use Rattle.std.proofs.lemmas.Bool.{eq-eqb}
 use Rattle.regex_lite_syntax.specs.declared.class.ClassRange.{ClassRange}
 use Rattle.regex_lite_syntax.specs.Text.{Text, after}
 use Rattle.regex_lite_syntax.specs.Ranges.{in_ranges}
 use Rattle.regex_lite_syntax.specs.Sets.{Set, just}
-use Rattle.regex_lite_syntax.specs.Tree.{Tree, Trees, empty, character, class, look, repetition, capture, concat, alternation, none, more}
+use Rattle.regex_lite_syntax.specs.Tree.{Tree, Trees, empty, character, class, look}
+use Rattle.regex_lite_syntax.specs.Tree.{repetition, capture, concat, alternation, none, more}
 use Rattle.regex_lite_syntax.specs.Tree.Properties.{nullable}
 use Rattle.regex_lite_syntax.specs.Tree.Matches.{Matches, Chain, SomeBranch}
-use Rattle.regex_lite_engine.specs.Graph.Places.{Place, with_arrows, go, go_marking, go_holding, go_reading, one_of, step_from}
+use Rattle.regex_lite_engine.specs.Graph.Places.{Place, with_arrows, go, go_marking}
+use Rattle.regex_lite_engine.specs.Graph.Places.{go_holding, go_reading, one_of, step_from}
 use Rattle.regex_lite_engine.proofs.laws.StandingLemmas.{Stands, StandInChain, StandAsBranches}
 use Rattle.regex_lite_engine.proofs.laws.WalkLemmas.{Walk, walk_on, no_arrow, one_arrow, by_go}
 use Rattle.regex_lite_engine.proofs.laws.PassWalkLemmas.{in_repetition}
 
 module _ {haystack : Text} {A : Type 0} {place : A → Place A} where
-  by_reading : (set : Set) (c : ℕ) (a b : A) (i j : ℕ) → place a ≡ with_arrows (go_reading set b ∷ [])
+  by_reading : (set : Set) (c : ℕ) (a b : A) (i j : ℕ)
+      → place a ≡ with_arrows (go_reading set b ∷ [])
       → after haystack i ≡ Some c → IsTrue (set c) → j ≡ suc i → Walk haystack place a i b j
-  by_reading set c a b i j e next has read = one_arrow 0 (with_arrows (go_reading set b ∷ [])) e fits
+  by_reading set c a b i j e next has read =
+      one_arrow 0 (with_arrows (go_reading set b ∷ [])) e fits
     where
       fits : step_from haystack (with_arrows (go_reading set b ∷ [])) i 0 ≡ Some (b, j)
       fits = rw (next, has, read) refl
@@ -30,7 +35,8 @@ module _ {haystack : Text} {A : Type 0} {place : A → Place A} where
       by_reading (in_ranges (range ∷ rest)) c a b i j e next has read
 
   -- by arrow k of a place that leads freely to these
-  by_choice : (k : ℕ) (firsts : List A) (first a : A) (i : ℕ) → place a ≡ with_arrows (map go firsts)
+  by_choice : (k : ℕ) (firsts : List A) (first a : A) (i : ℕ)
+      → place a ≡ with_arrows (map go firsts)
       → slice_get firsts k ≡ Some first → Walk haystack place a i first i
   by_choice k firsts first a i e there = one_arrow k (with_arrows (map go firsts)) e fits
     where

@@ -1,10 +1,14 @@
 -- The passes of a repetition that stands in a graph are walks through it.
-use Rattle.std.proofs.Common.{◌≡◌, refl, subst, ℕ, zero, suc, ◌+◌, ◌-◌, ◌≤◌, Bool, true, false, Option, Some, None, arith}
+use Rattle.std.proofs.Common.{◌≡◌, refl, subst, ℕ, zero, suc, ◌+◌, ◌-◌, ◌≤◌}
+use Rattle.std.proofs.Common.{Bool, true, false, Option, Some, None, arith}
 use Rattle.regex_lite_syntax.specs.Text.{Text}
 use Rattle.regex_lite_syntax.specs.Tree.Matches.{Passes, AtMost}
 use Rattle.regex_lite_engine.specs.Graph.Places.{Place, choice}
-use Rattle.regex_lite_engine.proofs.laws.StandingLemmas.{InRow, InChoices, IsNullableStar, IsAtLeast, IsBetween, IsBounded, IsRepetition}
-use Rattle.regex_lite_engine.proofs.laws.WalkLemmas.{Walk, walk_on, no_arrow, by_go, into_body, past_body}
+use Rattle.regex_lite_engine.proofs.laws.StandingLemmas.{InRow, InChoices, IsNullableStar}
+use Rattle.regex_lite_engine.proofs.laws.StandingLemmas.{IsAtLeast, IsBetween, IsBounded}
+use Rattle.regex_lite_engine.proofs.laws.StandingLemmas.{IsRepetition}
+use Rattle.regex_lite_engine.proofs.laws.WalkLemmas.{Walk, walk_on, no_arrow}
+use Rattle.regex_lite_engine.proofs.laws.WalkLemmas.{by_go, into_body, past_body}
 
 -- the first passes, and the others
 split_passes : (Pass : ℕ → ℕ → Type 0) (first others n i j : ℕ) → n ≡ first + others

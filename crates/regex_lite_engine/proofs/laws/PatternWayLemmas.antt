@@ -1,5 +1,6 @@
 -- Matches of a pattern and ways through its written-out places.
-use Rattle.std.proofs.Common.{◌≡◌, ◌≢◌, ◌⊎◌, inl, inr, refl, ap, subst, ℕ, suc, List, [], ◌∷◌, None, length, arith}
+use Rattle.std.proofs.Common.{◌≡◌, ◌≢◌, ◌⊎◌, inl, inr, refl, ap, subst}
+use Rattle.std.proofs.Common.{ℕ, suc, List, [], ◌∷◌, None, length, arith}
 use Rattle.std.proofs.lemmas.Bool.{cases_eq}
 use Rattle.regex_lite_syntax.proofs.ListLemmas.{same_head, same_tail}
 use Rattle.regex_lite_syntax.specs.Text.{Text}
@@ -9,7 +10,8 @@ use Rattle.regex_lite_syntax.specs.Tree.Matches.{Matches}
 use Rattle.regex_lite_engine.specs.Graph.Ways.{Leads}
 use Rattle.regex_lite_engine.specs.Graph.Places.{step}
 use Rattle.regex_lite_engine.specs.Graph.Addresses.{Address}
-use Rattle.regex_lite_engine.specs.Graph.WrittenOut.{whole, start_address, end_address, place_of_pattern, IsWayThrough}
+use Rattle.regex_lite_engine.specs.Graph.WrittenOut.{whole, start_address, end_address}
+use Rattle.regex_lite_engine.specs.Graph.WrittenOut.{place_of_pattern, IsWayThrough}
 use Rattle.regex_lite_engine.proofs.laws.LoopLemmas.{without_loops}
 use Rattle.regex_lite_engine.proofs.laws.MatchWalkLemmas.{match_walk}
 use Rattle.regex_lite_engine.proofs.laws.RestLemmas.{Course, Rest}

@@ -1,9 +1,13 @@
 -- What is left of a walk to where a match is complete, and how it goes on from a place.
-use Rattle.std.proofs.Common.{◌≡◌, ◌<◌, ◌⊎◌, inl, inr, refl, sym, ◌∙◌, ap, subst, ℕ, zero, suc, Bool, true, false, List, [], ◌∷◌, map, length, Option, Some, None, option_map, slice_get, arith}
+use Rattle.std.proofs.Common.{◌≡◌, ◌<◌, ◌⊎◌, inl, inr, refl, sym, ◌∙◌, ap, subst, ℕ}
+use Rattle.std.proofs.Common.{zero, suc, Bool, true, false, List, [], ◌∷◌, map, length}
+use Rattle.std.proofs.Common.{Option, Some, None, option_map, slice_get, arith}
 use Rattle.std.proofs.lemmas.Option.{slice_get-map}
 use Rattle.regex_lite_syntax.specs.Text.{Text}
 use Rattle.regex_lite_engine.specs.Graph.Ways.{Leads}
-use Rattle.regex_lite_engine.specs.Graph.Places.{Place, Arrow, complete, with_arrows, go, go_marking, choice, taken, arrived, arrow_taken, step, step_from}
+use Rattle.regex_lite_engine.specs.Graph.Places.{Place, Arrow, complete, with_arrows}
+use Rattle.regex_lite_engine.specs.Graph.Places.{go, go_marking, choice, taken}
+use Rattle.regex_lite_engine.specs.Graph.Places.{arrived, arrow_taken, step, step_from}
 use Rattle.regex_lite_engine.proofs.laws.LeadsLemmas.{same_some}
 
 -- a graph on a haystack, and where the walks end that are looked at
@@ -88,7 +92,8 @@ module _ {A : Type 0} {c : Course A} where
           (at, here.1, loosen (subst (λ z. Rest c z at n) (sym here.0) rest))
       by_number (suc k) to at fits rest = absurd cc
 
-  pub after_go : {a b : A} {i n : ℕ} → c.place a ≡ with_arrows (go b ∷ []) → Rest c a i n → Rest c b i n
+  pub after_go : {a b : A} {i n : ℕ} → c.place a ≡ with_arrows (go b ∷ []) → Rest c a i n
+      → Rest c b i n
   after_go {b = b} {i} {n} e rest =
       let next = after_one (go b) e rest in
       subst (λ j. Rest c b j n) (sym (same_some next.1)) next.2

@@ -1,8 +1,11 @@
 -- A tree stands in a graph, whatever the addresses: from where it is entered to what follows it.
-use Rattle.std.proofs.Common.{◌≡◌, ℕ, zero, suc, ◌+◌, ◌-◌, ◌*◌, Bool, true, false, List, [], ◌∷◌, map, Option, Some, None}
-use Rattle.regex_lite_syntax.specs.Tree.{Tree, Trees, empty, character, class, look, repetition, capture, concat, alternation, none, more}
+use Rattle.std.proofs.Common.{◌≡◌, ℕ, zero, suc, ◌+◌, ◌-◌, ◌*◌, Bool, true}
+use Rattle.std.proofs.Common.{false, List, [], ◌∷◌, map, Option, Some, None}
+use Rattle.regex_lite_syntax.specs.Tree.{Tree, Trees, empty, character, class, look}
+use Rattle.regex_lite_syntax.specs.Tree.{repetition, capture, concat, alternation, none, more}
 use Rattle.regex_lite_syntax.specs.Tree.Properties.{nullable}
-use Rattle.regex_lite_engine.specs.Graph.Places.{Place, with_arrows, go, go_marking, go_holding, choice, one_char, one_of}
+use Rattle.regex_lite_engine.specs.Graph.Places.{Place, with_arrows, go, go_marking}
+use Rattle.regex_lite_engine.specs.Graph.Places.{go_holding, choice, one_char, one_of}
 
 module _ {A : Type 0} (Body : A → A → Type 0) where
   -- so many bodies, one after another
@@ -46,7 +49,8 @@ module _ {A : Type 0} (place : A → Place A) where
     IsBounded (suc m) zero enter exit = InRow Body (suc m) enter exit
     IsBounded zero (suc zero) enter exit = IsBetween zero (suc zero) enter exit
     IsBounded zero (suc (suc d)) enter exit =
-        (turn : A) × (place enter ≡ with_arrows (go turn ∷ [])) × IsBetween zero (suc (suc d)) turn exit
+        (turn : A) × (place enter ≡ with_arrows (go turn ∷ []))
+        × IsBetween zero (suc (suc d)) turn exit
     IsBounded (suc m) (suc d) enter exit = IsBetween (suc m) (suc d) enter exit
 
     abbrev pub IsRepetition : (least : ℕ) → (most : Option ℕ) → (nullable_body : Bool)
@@ -66,7 +70,8 @@ module _ {A : Type 0} (place : A → Place A) where
         IsRepetition greedy (Stands body) least most (nullable body) enter exit
     Stands (capture index name body) enter exit =
         (first : A) × (close : A) × (place enter ≡ with_arrows (go_marking (2 * index) first ∷ []))
-        × Stands body first close × (place close ≡ with_arrows (go_marking (2 * index + 1) exit ∷ []))
+        × Stands body first close
+        × (place close ≡ with_arrows (go_marking (2 * index + 1) exit ∷ []))
     Stands (concat parts) enter exit = StandInChain parts enter exit
     Stands (alternation branches) enter exit =
         (firsts : List A) × (join : A) × (place enter ≡ with_arrows (map go firsts))

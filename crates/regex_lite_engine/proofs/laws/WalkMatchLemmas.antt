@@ -1,19 +1,23 @@
 -- A walk through a tree that stands in a graph matches the tree.
-use Rattle.std.proofs.Common.{◌≡◌, inl, inr, refl, sym, ap, subst, ◌∙◌, ℕ, zero, suc, ◌+◌, ◌*◌, Bool, true, false, IsTrue, List, [], ◌∷◌, Option, Some, None, if◌then◌else◌, slice_get}
+use Rattle.std.proofs.Common.{◌≡◌, inl, inr, refl, sym, ap, subst, ◌∙◌, ℕ, zero}
+use Rattle.std.proofs.Common.{suc, ◌+◌, ◌*◌, Bool, true, false, IsTrue, List, []}
+use Rattle.std.proofs.Common.{◌∷◌, Option, Some, None, if◌then◌else◌, slice_get}
 use Rattle.std.proofs.lemmas.Bool.{eqb-true}
 use Rattle.regex_lite_syntax.specs.declared.class.ClassRange.{ClassRange}
 use Rattle.regex_lite_syntax.specs.Text.{Text, before, after}
 use Rattle.regex_lite_syntax.specs.Ranges.{in_ranges}
 use Rattle.regex_lite_syntax.specs.Sets.{Set, just}
 use Rattle.regex_lite_syntax.specs.Tree.Looks.{holds_between}
-use Rattle.regex_lite_syntax.specs.Tree.{Tree, Trees, empty, character, class, look, repetition, capture, concat, alternation, none, more}
+use Rattle.regex_lite_syntax.specs.Tree.{Tree, Trees, empty, character, class, look}
+use Rattle.regex_lite_syntax.specs.Tree.{repetition, capture, concat, alternation, none, more}
 use Rattle.regex_lite_syntax.specs.Tree.Properties.{nullable}
 use Rattle.regex_lite_syntax.specs.Tree.Regular.{IsRegular, AreRegular}
 use Rattle.regex_lite_syntax.specs.Tree.Matches.{Matches, Chain, SomeBranch}
 use Rattle.regex_lite_engine.specs.Graph.Places.{go_holding, go_reading, one_of, behind}
 use Rattle.regex_lite_engine.proofs.laws.LeadsLemmas.{same_some}
 use Rattle.regex_lite_engine.proofs.laws.StandingLemmas.{Stands, StandInChain, StandAsBranches}
-use Rattle.regex_lite_engine.proofs.laws.RestLemmas.{Course, Rest, Passed, after_one, after_go, after_mark, after_branches}
+use Rattle.regex_lite_engine.proofs.laws.RestLemmas.{Course, Rest, Passed, after_one}
+use Rattle.regex_lite_engine.proofs.laws.RestLemmas.{after_go, after_mark, after_branches}
 use Rattle.regex_lite_engine.proofs.laws.WalkPassLemmas.{past_repetition}
 
 -- a position is there if the test holds

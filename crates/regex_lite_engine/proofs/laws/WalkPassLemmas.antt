@@ -1,10 +1,13 @@
 -- A walk through a repetition that stands in a graph makes passes within its bounds.
-use Rattle.std.proofs.Common.{◌≡◌, inl, inr, refl, sym, subst, ℕ, zero, suc, ◌+◌, ◌-◌, ◌≤◌, Bool, true, false, Option, Some, None, arith}
+use Rattle.std.proofs.Common.{◌≡◌, inl, inr, refl, sym, subst, ℕ, zero, suc, ◌+◌}
+use Rattle.std.proofs.Common.{◌-◌, ◌≤◌, Bool, true, false, Option, Some, None, arith}
 use Rattle.regex_lite_syntax.specs.Tree.Regular.{InOrder}
 use Rattle.regex_lite_syntax.specs.Tree.Matches.{Passes, AtMost}
 use Rattle.regex_lite_engine.specs.Graph.Places.{choice}
-use Rattle.regex_lite_engine.proofs.laws.StandingLemmas.{InRow, InChoices, IsNullableStar, IsBetween, IsBounded, IsRepetition}
-use Rattle.regex_lite_engine.proofs.laws.RestLemmas.{Course, Rest, Passed, no_rest, loosen, after_go, after_turn, after_choice}
+use Rattle.regex_lite_engine.proofs.laws.StandingLemmas.{InRow, InChoices, IsNullableStar}
+use Rattle.regex_lite_engine.proofs.laws.StandingLemmas.{IsBetween, IsBounded, IsRepetition}
+use Rattle.regex_lite_engine.proofs.laws.RestLemmas.{Course, Rest, Passed, no_rest, loosen}
+use Rattle.regex_lite_engine.proofs.laws.RestLemmas.{after_go, after_turn, after_choice}
 
 pub both_passes : (Pass : ℕ → ℕ → Type 0) (m n i k j : ℕ) → Passes Pass m i k → Passes Pass n k j
     → Passes Pass (m + n) i j

@@ -1,5 +1,6 @@
 -- What a graph has at the addresses of a row of the table, and of its parts.
-use Rattle.std.proofs.Common.{◌≡◌, ap, subst, ◌∙◌, ℕ, suc, ◌+◌, [], ◌∷◌, ◌++◌, Some, arith, append_assoc}
+use Rattle.std.proofs.Common.{◌≡◌, ap, subst, ◌∙◌, ℕ, suc, ◌+◌, []}
+use Rattle.std.proofs.Common.{◌∷◌, ◌++◌, Some, arith, append_assoc}
 use Rattle.regex_lite_engine.specs.Graph.Places.{Place}
 use Rattle.regex_lite_engine.specs.Graph.Addresses.{Address, part}
 use Rattle.regex_lite_engine.specs.Graph.Repetitions.{Content}

@@ -1,10 +1,15 @@
 -- A repetition stands in the graph that has its row, if its body does wherever it is written out.
-use Rattle.std.proofs.Common.{◌≡◌, refl, subst, ℕ, zero, suc, ◌+◌, ◌-◌, Bool, true, false, [], ◌∷◌, Option, Some, None, arith}
+use Rattle.std.proofs.Common.{◌≡◌, refl, subst, ℕ, zero, suc, ◌+◌, ◌-◌, Bool}
+use Rattle.std.proofs.Common.{true, false, [], ◌∷◌, Option, Some, None, arith}
 use Rattle.regex_lite_engine.specs.Graph.Places.{Place}
 use Rattle.regex_lite_engine.specs.Graph.Addresses.{Address, part, own, repetition_entry}
-use Rattle.regex_lite_engine.specs.Graph.Repetitions.{Content, next_copy, in_copies, no_place, choice_at, next_choice, in_choices, between_row, bounded_row, repetition_row}
-use Rattle.regex_lite_engine.proofs.laws.StandingLemmas.{InRow, InChoices, IsBetween, IsBounded, IsRepetition}
-use Rattle.regex_lite_engine.proofs.laws.WrittenPartLemmas.{HasRow, HasParts, has_part, has_parts, first_part, later_parts}
+use Rattle.regex_lite_engine.specs.Graph.Repetitions.{Content, next_copy, in_copies, no_place}
+use Rattle.regex_lite_engine.specs.Graph.Repetitions.{choice_at, next_choice, in_choices}
+use Rattle.regex_lite_engine.specs.Graph.Repetitions.{between_row, bounded_row, repetition_row}
+use Rattle.regex_lite_engine.proofs.laws.StandingLemmas.{InRow, InChoices, IsBetween}
+use Rattle.regex_lite_engine.proofs.laws.StandingLemmas.{IsBounded, IsRepetition}
+use Rattle.regex_lite_engine.proofs.laws.WrittenPartLemmas.{HasRow, HasParts, has_part}
+use Rattle.regex_lite_engine.proofs.laws.WrittenPartLemmas.{has_parts, first_part, later_parts}
 
 module _ (place : Address → Place Address) (pre : Address) (greedy : Bool)
     (enter : Address → Address) (inside : Address → (exit : Address) → Address → Content)

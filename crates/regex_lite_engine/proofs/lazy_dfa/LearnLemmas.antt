@@ -1,5 +1,7 @@
 -- A turn that is remembered when it has been taken.
-use Rattle.std.proofs.Common.{◌≡◌, ℕ, zero, suc, ◌<◌, ◌≤◌, inl, inr, Bool, true, false, Option, None, slice_set, List, [], ◌∷◌, length, map, slice_get, Some, refl, sym, ap, subst, ◌∙◌, arith}
+use Rattle.std.proofs.Common.{◌≡◌, ℕ, zero, suc, ◌<◌, ◌≤◌, inl, inr, Bool, true}
+use Rattle.std.proofs.Common.{false, Option, None, slice_set, List, [], ◌∷◌, length}
+use Rattle.std.proofs.Common.{map, slice_get, Some, refl, sym, ap, subst, ◌∙◌, arith}
 use Rattle.std.proofs.lemmas.Bool.{cases_eq}
 use Rattle.std.proofs.lemmas.List.{length-map}
 use Rattle.regex_lite_engine.specs.declared.nfa.place.Place as code
@@ -7,7 +9,9 @@ use Rattle.regex_lite_engine.specs.declared.pikevm.here.Here.{Here}
 use Rattle.regex_lite_engine.specs.declared.pikevm.turn.Cache.{Cache}
 use Rattle.regex_lite_engine.specs.Graph.Places.{Place, reading_of}
 use Rattle.regex_lite_engine.specs.Graph.Stored.{place_of}
-use Rattle.regex_lite_engine.specs.LazyDfa.Automaton.{Automaton, FitsTable, LeadsOn, Origin, Remembers, Sees, State, Suits, Way, hit_of, searching_after, way_of, ways_of}
+use Rattle.regex_lite_engine.specs.LazyDfa.Automaton.{Automaton, FitsTable, LeadsOn, Origin}
+use Rattle.regex_lite_engine.specs.LazyDfa.Automaton.{Remembers, Sees, State, Suits, Way}
+use Rattle.regex_lite_engine.specs.LazyDfa.Automaton.{hit_of, searching_after, way_of, ways_of}
 use Rattle.regex_lite_engine.specs.LazyDfa.Intervals.{class_of, side_of}
 use Rattle.regex_lite_engine.specs.LazyDfa.Learning.{HasTurned, IsIn}
 use Rattle.regex_lite_engine.specs.Walk.Again.{AreAlike}
@@ -21,36 +25,61 @@ use Rattle.regex_lite_engine.proofs.lazy_dfa.RememberedLemmas.{remembered, set_o
 use Rattle.regex_lite_engine.proofs.pikevm.OptionLemmas.{not_there, same_some}
 
 -- what is pending is none of it
-pub remembers_pending : (places : List code.Place) (entries : List ℕ) (automaton : Automaton) (pending : List Way) → Remembers places entries automaton → Remembers places entries (record automaton { pending = pending })
-remembers_pending places entries automaton pending remembers = record { intervals = remembers.intervals; leads = remembers.leads; fit = remembers.fit }
+pub remembers_pending : (places : List code.Place) (entries : List ℕ) (automaton : Automaton)
+    (pending : List Way)
+    → Remembers places entries automaton
+    → Remembers places entries (record automaton { pending = pending })
+remembers_pending places entries automaton pending remembers =
+    record { intervals = remembers.intervals; leads = remembers.leads; fit = remembers.fit }
 
 -- the ways of threads fit where the threads do
-pub ways_fit : (table : List (Place ℕ)) (first : ℕ) (threads : List Thread) → ThreadsBelow (length table) threads → length threads ≤ reading_of table → FitsTable table (ways_of first threads)
+pub ways_fit : (table : List (Place ℕ)) (first : ℕ) (threads : List Thread)
+    → ThreadsBelow (length table) threads → length threads ≤ reading_of table
+    → FitsTable table (ways_of first threads)
 ways_fit table first threads below few = record {
   below = each threads below;
   few = let n = length-map threads (way_of first) in omega (arith, n, few);
 }
   where
-    each : (ts : List Thread) → ((k : ℕ) → k < length ts → (thread_at ts k).0 < length table) → (k : ℕ) (way : Way) → slice_get (ways_of first ts) k ≡ Some way → way.place < length table
+    each : (ts : List Thread) → ((k : ℕ) → k < length ts → (thread_at ts k).0 < length table)
+        → (k : ℕ) (way : Way) → slice_get (ways_of first ts) k ≡ Some way → way.place < length table
     each [] below k way at = absurd (not_there at)
-    each (t ∷ ts) below zero way at = subst (λ (w : Way). w.place < length table) (same_some at) (below 0 (omega arith))
-    each (t ∷ ts) below (suc k) way at = each ts (λ j lt. below (suc j) (omega (arith, lt))) k way at
+    each (t ∷ ts) below zero way at =
+        subst (λ (w : Way). w.place < length table) (same_some at) (below 0 (omega arith))
+    each (t ∷ ts) below (suc k) way at =
+        each ts (λ j lt. below (suc j) (omega (arith, lt))) k way at
 
 -- there is a match afterwards where none is searched for
-pub suits_after : (first : ℕ) (hit : Bool) (before now : Best) (last : Option Origin) (searching : Bool) → IsHit hit before now → last ≡ hit_of first hit now → Suits searching before → Suits (searching_after last searching) now
-suits_after first false before now last searching same e suits = subst (λ l. Suits (searching_after l searching) now) (sym e) (subst (Suits searching) (sym same) suits)
+pub suits_after : (first : ℕ) (hit : Bool) (before now : Best) (last : Option Origin)
+    (searching : Bool)
+    → IsHit hit before now → last ≡ hit_of first hit now → Suits searching before
+    → Suits (searching_after last searching) now
+suits_after first false before now last searching same e suits =
+    subst (λ l. Suits (searching_after l searching) now) (sym e)
+    (subst (Suits searching) (sym same) suits)
 suits_after first true before None last searching some e suits = absurd (some refl)
-suits_after first true before (Some b) last searching some e suits = subst (λ l. Suits (searching_after l searching) (Some b)) (sym e) some
+suits_after first true before (Some b) last searching some e suits =
+    subst (λ l. Suits (searching_after l searching) (Some b)) (sym e) some
 
 -- a search is in the state still, whatever is remembered of another or of this one
-pub still_in : {S : Type 0} (automaton : Automaton) (x class z : ℕ) (from : State) → slice_get automaton.states x ≡ Some from → (y first : ℕ) (before : Option ℕ) (cache : Cache S) → IsIn automaton y first before cache →
-    IsIn (record automaton { states = slice_set automaton.states x (record from { next = slice_set from.next class z }) }) y first before cache
+pub still_in : {S : Type 0} (automaton : Automaton) (x class z : ℕ) (from : State)
+    → slice_get automaton.states x ≡ Some from → (y first : ℕ) (before : Option ℕ) (cache : Cache S)
+    → IsIn automaton y first before cache →
+    IsIn (record automaton {
+      states = slice_set automaton.states x (record from { next = slice_set from.next class z });
+    }) y first before cache
 still_in automaton x class z from at y first before cache is_in = elim (cases_eq y x) [
   | inl same ↦
-      let own : is_in.state ≡ from = same_some (sym is_in.is_state ∙ ap (slice_get automaton.states) same ∙ at) in
+      let own : is_in.state ≡ from =
+      same_some (sym is_in.is_state ∙ ap (slice_get automaton.states) same ∙ at) in
       record {
         state = record from { next = slice_set from.next class z };
-        is_state = ap (slice_get (slice_set automaton.states x (record from { next = slice_set from.next class z }))) same ∙ set_there automaton.states x from (record from { next = slice_set from.next class z }) at;
+        is_state =
+            ap (slice_get
+            (slice_set automaton.states x (record from { next = slice_set from.next class z })))
+            same
+            ∙ set_there automaton.states x from
+            (record from { next = slice_set from.next class z }) at;
         ways = is_in.ways ∙ ap (λ (s : State). s.ways) own;
         suits = subst (λ (s : State). Suits s.searching (best_of cache.best)) own is_in.suits;
         sees = λ looks. is_in.sees looks ∙ ap (λ (s : State). s.before) own;
@@ -58,24 +87,37 @@ still_in automaton x class z from at y first before cache is_in = elim (cases_eq
   | inr other ↦
       record {
         state = is_in.state;
-        is_state = set_other automaton.states x (record from { next = slice_set from.next class z }) y is_in.state other is_in.is_state;
+        is_state =
+            set_other automaton.states x
+            (record from { next = slice_set from.next class z }) y is_in.state other is_in.is_state;
         ways = is_in.ways;
         suits = is_in.suits;
         sees = is_in.sees;
       }
 ]
 
-module _ (places : List code.Place) (entries : List ℕ) {S : Type 0} (old new : Automaton) (same : new.intervals ≡ old.intervals) (remembers : Remembers places entries new) (x first : ℕ) (here : Here) (hit : Bool) (now : Cache S)
-    (turned : HasTurned (map place_of places) entries old x first here hit now) (class : ℕ) (is_class : class_of new.intervals.boundaries here.after ≡ class) (to : State)
-    (ways : to.ways ≡ ways_of first now.walk.memory.threads) (is_hit : to.hit ≡ hit_of first hit (best_of now.best)) (searching : to.searching ≡ searching_after to.hit turned.is_in.state.searching)
+module _ (places : List code.Place) (entries : List ℕ) {S : Type 0} (old new : Automaton)
+    (same : new.intervals ≡ old.intervals) (remembers : Remembers places entries new) (x first : ℕ)
+    (here : Here) (hit : Bool) (now : Cache S)
+    (turned : HasTurned (map place_of places) entries old x first here hit now) (class : ℕ)
+    (is_class : class_of new.intervals.boundaries here.after ≡ class) (to : State)
+    (ways : to.ways ≡ ways_of first now.walk.memory.threads)
+    (is_hit : to.hit ≡ hit_of first hit (best_of now.best))
+    (searching : to.searching ≡ searching_after to.hit turned.is_in.state.searching)
     (before : new.intervals.looks ≡ true → to.before ≡ side_of here.after) where
-  alike : (there : Here) → Sees new.intervals turned.is_in.state.before class there → AreAlike (map place_of places) here there
+  alike : (there : Here) → Sees new.intervals turned.is_in.state.before class there
+      → AreAlike (map place_of places) here there
   alike there sees = alike_at places new.intervals remembers.intervals here there (record {
     ahead = is_class ∙ sym sees.ahead;
-    behind = λ looks. turned.is_in.sees (sym (ap (λ z. z.looks) same) ∙ looks) ∙ sym (sees.behind looks);
+    behind = λ looks.
+        turned.is_in.sees (sym (ap (λ z. z.looks) same) ∙ looks) ∙ sym (sees.behind looks);
   })
 
   pub learned : LeadsOn (map place_of places) entries new.intervals turned.is_in.state class to
-  learned = remembered (map place_of places) entries new.intervals turned.before now here hit first turned.starts turned.told turned.is_in.state class to turned.again alike
-      (λ there sees h p is. turned.suffice h p there is) turned.tells turned.is_first turned.is_in.ways turned.is_in.suits ways is_hit searching
-      (λ looks there seen. same_side_of new.intervals.boundaries there.after here.after (seen ∙ sym is_class) (remembers.intervals.sides looks) ∙ sym (before looks))
+  learned =
+      remembered (map place_of places) entries new.intervals turned.before now here hit first
+      turned.starts turned.told turned.is_in.state class to turned.again alike
+      (λ there sees h p is. turned.suffice h p there is) turned.tells turned.is_first
+      turned.is_in.ways turned.is_in.suits ways is_hit searching
+      (λ looks there seen. same_side_of new.intervals.boundaries there.after here.after
+      (seen ∙ sym is_class) (remembers.intervals.sides looks) ∙ sym (before looks))

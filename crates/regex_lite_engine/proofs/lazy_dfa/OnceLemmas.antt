@@ -18,20 +18,28 @@ empty = record { intervals = record { boundaries = []; looks = false }; states =
 
 module _ (table : List (Place ℕ)) (h : Text) (entries : List ℕ) (s : ℕ) where
   -- where the search stands, its state is known
-  pub known_stands : (other automaton : Automaton) (at known : Progress) (state : Option ℕ) (cache : Cache ℕ) → Stands table h entries s other at cache → known ≡ record at { state = state } →
-      MatchOption state (Unit {0}) (λ y. IsIn automaton y at.first at.here.before cache) → Stands table h entries s automaton known cache
-  known_stands other automaton at known state cache stands is state_known = subst (λ z. Stands table h entries s automaton z cache) (sym is) (record {
-    p = stands.p;
-    is = stands.is;
-    on = stands.on;
-    first = stands.first;
-    own = stands.own;
-    state = state_known;
-  })
+  pub known_stands : (other automaton : Automaton) (at known : Progress) (state : Option ℕ)
+      (cache : Cache ℕ)
+      → Stands table h entries s other at cache → known ≡ record at { state = state } →
+      MatchOption state (Unit {0}) (λ y. IsIn automaton y at.first at.here.before cache)
+      → Stands table h entries s automaton known cache
+  known_stands other automaton at known state cache stands is state_known =
+      subst (λ z. Stands table h entries s automaton z cache) (sym is) (record {
+        p = stands.p;
+        is = stands.is;
+        on = stands.on;
+        first = stands.first;
+        own = stands.own;
+        state = state_known;
+      })
 
   -- the span is that of the best match
-  pub span_told : (p : ℕ) (cache : Cache ℕ) (span : Option (ℕ × ℕ)) → IsOnItsWay table h entries s p cache → best_of cache.best ≡ with_start_kept (best_at span cache.best.row) →
-      IsBestOutcomeOf table h entries s (best_of cache.best) → IsBestOutcomeOf table h entries s (best_told span)
+  pub span_told : (p : ℕ) (cache : Cache ℕ) (span : Option (ℕ × ℕ))
+      → IsOnItsWay table h entries s p cache
+      → best_of cache.best ≡ with_start_kept (best_at span cache.best.row) →
+      IsBestOutcomeOf table h entries s (best_of cache.best)
+      → IsBestOutcomeOf table h entries s (best_told span)
   span_told p cache span on is found =
       let row = nil_from_length cache.best.row (on.ready.best_width ∙ on.width) in
-      subst (IsBestOutcomeOf table h entries s) (is ∙ ap (λ row. with_start_kept (best_at span row)) row) found
+      subst (IsBestOutcomeOf table h entries s)
+      (is ∙ ap (λ row. with_start_kept (best_at span row)) row) found

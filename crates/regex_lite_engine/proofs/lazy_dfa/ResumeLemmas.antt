@@ -1,5 +1,7 @@
 -- A search that is taken up where remembered turns end.
-use Rattle.std.proofs.Common.{◌≡◌, ◌==◌, ℕ, zero, suc, ◌<◌, ◌≤◌, ◌⊎◌, inl, inr, All, Bool, true, false, List, [], ◌∷◌, length, map, slice_get, Option, Some, None, is_some, IsSome, not, refl, sym, ap, subst, ◌∙◌, arith}
+use Rattle.std.proofs.Common.{◌≡◌, ◌==◌, ℕ, zero, suc, ◌<◌, ◌≤◌, ◌⊎◌, inl, inr, All, Bool}
+use Rattle.std.proofs.Common.{true, false, List, [], ◌∷◌, length, map, slice_get, Option, Some}
+use Rattle.std.proofs.Common.{None, is_some, IsSome, not, refl, sym, ap, subst, ◌∙◌, arith}
 use Rattle.std.proofs.lemmas.Bool.Decides.{nat_tests}
 use Rattle.std.proofs.lemmas.List.{length-map}
 use Rattle.std.proofs.lemmas.List.Sums.{sum_by-cons}
@@ -8,9 +10,13 @@ use Rattle.regex_lite_engine.specs.declared.lazy_dfa.scan.Standing.{Standing}
 use Rattle.regex_lite_engine.specs.declared.lazy_dfa.state.StoredWay.{StoredWay}
 use Rattle.regex_lite_engine.specs.declared.pikevm.here.Here.{Here}
 use Rattle.regex_lite_engine.specs.declared.pikevm.turn.Cache.{Cache}
-use Rattle.regex_lite_engine.specs.Graph.Places.{Arrow, Condition, Place, complete, condition_reads, free, holding, reading, reading_arrows, reading_count, reading_of, with_arrows}
+use Rattle.regex_lite_engine.specs.Graph.Places.{Arrow, Condition, Place, complete, condition_reads}
+use Rattle.regex_lite_engine.specs.Graph.Places.{free, holding, reading, reading_arrows}
+use Rattle.regex_lite_engine.specs.Graph.Places.{reading_count, reading_of, with_arrows}
 use Rattle.regex_lite_engine.specs.Graph.Renumbered.{arrow_count, arrows_of}
-use Rattle.regex_lite_engine.specs.LazyDfa.Automaton.{Automaton, FitsTable, Suits, Way, began, origin_of, threads_of, told_by, told_if, ways_of}
+use Rattle.regex_lite_engine.specs.LazyDfa.Automaton.{Automaton, FitsTable, Suits, Way}
+use Rattle.regex_lite_engine.specs.LazyDfa.Automaton.{began, origin_of, threads_of}
+use Rattle.regex_lite_engine.specs.LazyDfa.Automaton.{told_by, told_if, ways_of}
 use Rattle.regex_lite_engine.specs.LazyDfa.Learning.{IsFirst, IsIn}
 use Rattle.regex_lite_engine.specs.LazyDfa.Running.{GoesOnWith, IsOnItsWay, started_at}
 use Rattle.regex_lite_engine.specs.LazyDfa.Scanning.{best_told, IsIdleAt, IsScanning}
@@ -36,12 +42,14 @@ module _ (first : ℕ) where
   abbrev less : Thread → Thread
   less thread = (thread.0, told_by first (origin_of first thread.1), [])
 
-  thread_less : (ts : List Thread) (m : ℕ) → thread_at (threads_of first (ways_of first ts)) m ≡ less (thread_at ts m)
+  thread_less : (ts : List Thread) (m : ℕ)
+      → thread_at (threads_of first (ways_of first ts)) m ≡ less (thread_at ts m)
   thread_less [] m = refl
   thread_less (t ∷ ts) zero = refl
   thread_less (t ∷ ts) (suc m) = thread_less ts m
 
-  start_less : (told : Option ℕ) (j : ℕ) → IsTold told j → IsTold (told_if (began first told) first) j
+  start_less : (told : Option ℕ) (j : ℕ) → IsTold told j
+      → IsTold (told_if (began first told) first) j
   start_less None j is = tt
   start_less (Some s) j is = by_test (s == first) refl
     where
@@ -50,19 +58,37 @@ module _ (first : ℕ) where
       by_test false e = tt
 
   module _ (table : List (Place ℕ)) (h : Text) (entries : List ℕ) where
-    way_less : (i : Told) (row : Row) (n : Node) (w : List ℕ) → WayTold table h entries i row n w → WayTold table h entries (told_by first (origin_of first i)) [] n w
-    way_less i row n w (j, number, entry, ks, tells, is_entry, is, leads, slots) =
-        (j, number, entry, ks, record { start_told = start_less i.at (offset h j) tells.start_told; number_told = tells.number_told }, is_entry, is, leads, λ k slot at. absurd (not_there at))
+    way_less : (i : Told) (row : Row) (n : Node) (w : List ℕ) → WayTold table h entries i row n w
+        → WayTold table h entries (told_by first (origin_of first i)) [] n w
+    way_less i row n w (j, number, entry, ks, tells, is_entry, is, leads, slots) = (
+      j,
+      number,
+      entry,
+      ks,
+      record {
+        start_told = start_less i.at (offset h j) tells.start_told;
+        number_told = tells.number_told;
+      },
+      is_entry,
+      is,
+      leads,
+      λ k slot at. absurd (not_there at),
+    )
 
-    hold_less : (p : ℕ) (ts : List Thread) (k : ℕ) (os : List (Offer Node)) → ThreadsHold table h entries p (thread_at ts) k os → ThreadsHold table h entries p (thread_at (threads_of first (ways_of first ts))) k os
+    hold_less : (p : ℕ) (ts : List Thread) (k : ℕ) (os : List (Offer Node))
+        → ThreadsHold table h entries p (thread_at ts) k os
+        → ThreadsHold table h entries p (thread_at (threads_of first (ways_of first ts))) k os
     hold_less p ts k [] held = tt
     hold_less p ts k (o ∷ os) (there, way, rest) = (
       there ∙ ap (λ (t : Thread). (t.0, p)) (sym (thread_less ts k)),
-      subst (λ (t : Thread). WayTold table h entries t.1 t.2 o.0 o.1) (sym (thread_less ts k)) (way_less (thread_at ts k).1 (thread_at ts k).2 o.0 o.1 way),
+      subst (λ (t : Thread). WayTold table h entries t.1 t.2 o.0 o.1) (sym (thread_less ts k))
+          (way_less (thread_at ts k).1 (thread_at ts k).2 o.0 o.1 way),
       hold_less p ts (suc k) os rest,
     )
 
-    pub coming_less : (low last p : ℕ) (ts : List Thread) (best : Best) → IsComing table h entries low last p ts best → IsComing table h entries low last p (threads_of first (ways_of first ts)) best
+    pub coming_less : (low last p : ℕ) (ts : List Thread) (best : Best)
+        → IsComing table h entries low last p ts best
+        → IsComing table h entries low last p (threads_of first (ways_of first ts)) best
     coming_less low last p ts best u = record {
       recorded = u.recorded;
       coming = u.coming;
@@ -81,9 +107,13 @@ module _ (first : ℕ) where
         length_less (t ∷ ts) = ap suc (length_less ts)
 
 -- a search whose state is known may go by remembered turns
-pub scanning_from : (table : List (Place ℕ)) (h : Text) (entries : List ℕ) (s p : ℕ) {S : Type 0} (automaton : Automaton) (x first : ℕ) (here : Here) (cache : Cache S) (best : Option (ℕ × ℕ)) → IsHere h p here →
-    IsOnItsWay table h entries s p cache → IsIn automaton x first here.before cache → IsFirst first here.at cache.walk.memory.threads → best_of cache.best ≡ best_told best →
-    IsScanning table entries h s p automaton (record { here = here; state = x; first = first; best = best })
+pub scanning_from : (table : List (Place ℕ)) (h : Text) (entries : List ℕ) (s p : ℕ) {S : Type 0}
+    (automaton : Automaton) (x first : ℕ) (here : Here) (cache : Cache S) (best : Option (ℕ × ℕ))
+    → IsHere h p here →
+    IsOnItsWay table h entries s p cache → IsIn automaton x first here.before cache
+    → IsFirst first here.at cache.walk.memory.threads → best_of cache.best ≡ best_told best →
+    IsScanning table entries h s p automaton
+    (record { here = here; state = x; first = first; best = best })
 scanning_from table h entries s p automaton x first here cache best is on is_in own same = record {
   state = is_in.state;
   is_state = is_in.is_state;
@@ -92,12 +122,16 @@ scanning_from table h entries s p automaton x first here cache best is on is_in 
   own = λ none. first_of cache.walk.memory.threads own (is_in.ways ∙ none);
   suits = subst (Suits is_in.state.searching) same is_in.suits;
   sees = is_in.sees;
-  coming = subst (λ ways. IsComing table h entries s (length h) p (threads_of first ways) (best_told best)) is_in.ways
+  coming =
+      subst (λ ways.
+      IsComing table h entries s (length h) p (threads_of first ways) (best_told best)) is_in.ways
       (coming_less first table h entries s (length h) p cache.walk.memory.threads (best_told best)
-      (subst (λ b. IsComing table h entries s (length h) p cache.walk.memory.threads b) same on.coming));
+      (subst (λ b. IsComing table h entries s (length h) p cache.walk.memory.threads b) same
+      on.coming));
 }
   where
-    first_of : (ts : List Thread) → IsFirst first here.at ts → ways_of first ts ≡ [] → first ≡ here.at
+    first_of : (ts : List Thread) → IsFirst first here.at ts → ways_of first ts ≡ []
+        → first ≡ here.at
     first_of [] own none = own
     first_of (t ∷ ts) own none = absurd (no none)
       where
@@ -106,29 +140,47 @@ scanning_from table h entries s p automaton x first here cache best is on is_in 
 
 -- the threads of ways that all began at the first start
 module _ (first : ℕ) where
-  told_first : (w : StoredWay) → w.is_first ≡ true → (λ (b : Bool). ◌≡◌ {A = Thread} (w.place, told_by first (record { first = b; number = None }), []) (started_at first w)) w.is_first
+  told_first : (w : StoredWay) → w.is_first ≡ true → (λ (b : Bool). ◌≡◌ {A = Thread} (
+    w.place,
+    told_by first (record { first = b; number = None }),
+    [],
+  ) (started_at first w)) w.is_first
   told_first w e = ap (λ b. (w.place, told_by first (record { first = b; number = None }), [])) e
 
-  pub threads_first : (ws : List StoredWay) → All (λ way. way.is_first ≡ true) ws → threads_of first (map way_in ws) ≡ map (started_at first) ws
+  pub threads_first : (ws : List StoredWay) → All (λ way. way.is_first ≡ true) ws
+      → threads_of first (map way_in ws) ≡ map (started_at first) ws
   threads_first [] all = refl
   threads_first (w ∷ ws) all =
-      ap (λ (t : Thread). t ∷ threads_of first (map way_in ws)) (told_first w (all 0 w (omega arith))) ∙ ap (λ (ts : List Thread). started_at first w ∷ ts) (threads_first ws (λ k d lt. all (suc k) d (omega (arith, lt))))
+      ap (λ (t : Thread). t ∷ threads_of first (map way_in ws))
+      (told_first w (all 0 w (omega arith)))
+      ∙ ap (λ (ts : List Thread). started_at first w ∷ ts)
+      (threads_first ws (λ k d lt. all (suc k) d (omega (arith, lt))))
 
   same_test : (first == first) ≡ true
   same_test = grind (arith, nat_tests)
 
-  way_first : (w : StoredWay) → w.is_first ≡ true → ◌≡◌ {A = Way} (record { place = w.place; origin = record { first = first == first; number = None } }) (way_in w)
-  way_first w e = ap (λ b. record { place = w.place; origin = record { first = b; number = None } }) (same_test ∙ sym e)
+  way_first : (w : StoredWay) → w.is_first ≡ true
+      → ◌≡◌ {A = Way}
+      (record { place = w.place; origin = record { first = first == first; number = None } })
+      (way_in w)
+  way_first w e =
+      ap (λ b. record { place = w.place; origin = record { first = b; number = None } })
+      (same_test ∙ sym e)
 
-  pub ways_first : (ws : List StoredWay) → All (λ way. way.is_first ≡ true) ws → ways_of first (map (started_at first) ws) ≡ map way_in ws
+  pub ways_first : (ws : List StoredWay) → All (λ way. way.is_first ≡ true) ws
+      → ways_of first (map (started_at first) ws) ≡ map way_in ws
   ways_first [] all = refl
   ways_first (w ∷ ws) all =
-      ap (λ (x : Way). x ∷ ways_of first (map (started_at first) ws)) (way_first w (all 0 w (omega arith))) ∙ ap (λ (xs : List Way). way_in w ∷ xs) (ways_first ws (λ k d lt. all (suc k) d (omega (arith, lt))))
+      ap (λ (x : Way). x ∷ ways_of first (map (started_at first) ws))
+      (way_first w (all 0 w (omega arith)))
+      ∙ ap (λ (xs : List Way). way_in w ∷ xs)
+      (ways_first ws (λ k d lt. all (suc k) d (omega (arith, lt))))
 
 -- fewer places read than there are arrows
 reads_of : (arrows : List (Arrow ℕ)) → reading_arrows arrows ≤ length arrows
 reads_of [] = omega arith
-reads_of (arrow ∷ arrows) = let one = at_most_one arrow.condition in let rest = reads_of arrows in omega (arith, one, rest)
+reads_of (arrow ∷ arrows) =
+    let one = at_most_one arrow.condition in let rest = reads_of arrows in omega (arith, one, rest)
   where
     at_most_one : (condition : Condition) → condition_reads condition ≤ 1
     at_most_one free = omega arith
@@ -145,16 +197,27 @@ reads_within (place ∷ table) =
     let a = sum_by-cons reading_count place table in let b = sum_by-cons arrow_count place table in
     omega (arith, a, b, reads_at place, reads_within table)
 
-below_at : (n first : ℕ) (ws : List StoredWay) (ways : List Way) → map way_in ws ≡ ways → ((k : ℕ) (way : Way) → slice_get ways k ≡ Some way → way.place < n) → (k : ℕ) → k < length (map (started_at first) ws) → (thread_at (map (started_at first) ws) k).0 < n
-below_at n first ws ways e below = from_stored ws (subst (λ (all : List Way). (k : ℕ) (way : Way) → slice_get all k ≡ Some way → way.place < n) (sym e) below)
+below_at : (n first : ℕ) (ws : List StoredWay) (ways : List Way) → map way_in ws ≡ ways
+    → ((k : ℕ) (way : Way) → slice_get ways k ≡ Some way → way.place < n) → (k : ℕ)
+    → k < length (map (started_at first) ws) → (thread_at (map (started_at first) ws) k).0 < n
+below_at n first ws ways e below =
+    from_stored ws
+    (subst (λ (all : List Way). (k : ℕ) (way : Way) → slice_get all k ≡ Some way → way.place < n)
+    (sym e) below)
   where
-    from_stored : (ws : List StoredWay) → ((k : ℕ) (way : Way) → slice_get (map way_in ws) k ≡ Some way → way.place < n) → (k : ℕ) → k < length (map (started_at first) ws) → (thread_at (map (started_at first) ws) k).0 < n
+    from_stored : (ws : List StoredWay)
+        → ((k : ℕ) (way : Way) → slice_get (map way_in ws) k ≡ Some way → way.place < n) → (k : ℕ)
+        → k < length (map (started_at first) ws) → (thread_at (map (started_at first) ws) k).0 < n
     from_stored [] below k lt = absurd (omega (arith, lt))
     from_stored (w ∷ ws) below zero lt = below 0 (way_in w) refl
-    from_stored (w ∷ ws) below (suc k) lt = from_stored ws (λ j way at. below (suc j) way at) k (omega (arith, lt))
+    from_stored (w ∷ ws) below (suc k) lt =
+        from_stored ws (λ j way at. below (suc j) way at) k (omega (arith, lt))
 
-module _ (table : List (Place ℕ)) (h : Text) (entries : List ℕ) (s p : ℕ) (automaton : Automaton) {S : Type 0} (old new : Cache S) (on : IsOnItsWay table h entries s p old) (kept : GoesOnWith old new) (none : best_of new.best ≡ None) where
-  between_again : length new.walk.memory.threads ≤ reading_of table → ThreadsBelow (length table) new.walk.memory.threads → IsBetween table new
+module _ (table : List (Place ℕ)) (h : Text) (entries : List ℕ) (s p : ℕ) (automaton : Automaton)
+    {S : Type 0} (old new : Cache S) (on : IsOnItsWay table h entries s p old)
+    (kept : GoesOnWith old new) (none : best_of new.best ≡ None) where
+  between_again : length new.walk.memory.threads ≤ reading_of table
+      → ThreadsBelow (length table) new.walk.memory.threads → IsBetween table new
   between_again few below = record {
     all_seen = kept.rounds ∙ on.ready.all_seen;
     old_rounds = kept.entered;
@@ -165,63 +228,92 @@ module _ (table : List (Place ℕ)) (h : Text) (entries : List ℕ) (s p : ℕ) 
     stack_room = on.ready.stack_room;
     stack_empty = kept.frames;
     best_width = kept.best_row ∙ on.ready.best_width ∙ sym kept.row;
-    entered_tried = subst (λ (c : StepCounts). c.entered ≤ c.tried) (sym kept.steps) on.ready.entered_tried;
-    looked_entered = subst (λ (c : StepCounts). c.looked ≤ c.entered) (sym kept.steps) on.ready.looked_entered;
+    entered_tried =
+        subst (λ (c : StepCounts). c.entered ≤ c.tried) (sym kept.steps) on.ready.entered_tried;
+    looked_entered =
+        subst (λ (c : StepCounts). c.looked ≤ c.entered) (sym kept.steps) on.ready.looked_entered;
     match_entered = λ some. absurd (some none);
   }
 
   -- it goes on with the ways of the state
-  module _ (q : ℕ) (stuck : Standing) (scanning : IsScanning table entries h s q automaton stuck) (later : p < q) (ws : List StoredWay) (ways : map way_in ws ≡ scanning.state.ways)
-      (all : All (λ way. way.is_first ≡ true) ws) (fits : FitsTable table scanning.state.ways) (no_best : stuck.best ≡ None) (threads : new.walk.memory.threads ≡ map (started_at stuck.first) ws) where
+  module _ (q : ℕ) (stuck : Standing) (scanning : IsScanning table entries h s q automaton stuck)
+      (later : p < q) (ws : List StoredWay) (ways : map way_in ws ≡ scanning.state.ways)
+      (all : All (λ way. way.is_first ≡ true) ws) (fits : FitsTable table scanning.state.ways)
+      (no_best : stuck.best ≡ None)
+      (threads : new.walk.memory.threads ≡ map (started_at stuck.first) ws) where
     few_threads : length new.walk.memory.threads ≤ reading_of table
     few_threads =
-        let same = ap (λ (ts : List Thread). length ts) threads in let n = length-map ws (started_at stuck.first) in let m = length-map ws way_in in let w = ap (λ (xs : List Way). length xs) ways in let few = fits.few in
+        let same = ap (λ (ts : List Thread). length ts) threads in
+        let n = length-map ws (started_at stuck.first) in let m = length-map ws way_in in
+        let w = ap (λ (xs : List Way). length xs) ways in let few = fits.few in
         omega (arith, same, n, m, w, few)
 
     pub taken_up : IsOnItsWay table h entries s q new
     taken_up =
         moved_on table h entries s p q old new on
-        (between_again few_threads (subst (ThreadsBelow (length table)) (sym threads) (below_at (length table) stuck.first ws scanning.state.ways ways fits.below)))
-        kept.steps kept.now later (let few = few_threads in let more = reads_within table in omega (arith, few, more)) kept.row
+        (between_again few_threads (subst (ThreadsBelow (length table)) (sym threads)
+        (below_at (length table) stuck.first ws scanning.state.ways ways fits.below)))
+        kept.steps kept.now later (let few = few_threads in let more = reads_within table in
+        omega (arith, few, more)) kept.row
         (subst (λ ts. IsComing table h entries s (length h) q ts (best_of new.best)) (sym threads)
-        (subst (λ b. IsComing table h entries s (length h) q (map (started_at stuck.first) ws) b) (sym none)
-        (subst (λ ts. IsComing table h entries s (length h) q ts None) (threads_first stuck.first ws all)
-        (subst (λ xs. IsComing table h entries s (length h) q (threads_of stuck.first xs) None) (sym ways)
-        (subst (λ b. IsComing table h entries s (length h) q (threads_of stuck.first scanning.state.ways) (best_told b)) no_best scanning.coming)))))
+        (subst (λ b. IsComing table h entries s (length h) q (map (started_at stuck.first) ws) b)
+        (sym none)
+        (subst (λ ts. IsComing table h entries s (length h) q ts None)
+        (threads_first stuck.first ws all)
+        (subst (λ xs. IsComing table h entries s (length h) q (threads_of stuck.first xs) None)
+        (sym ways)
+        (subst (λ b. IsComing table h entries s (length h) q
+        (threads_of stuck.first scanning.state.ways) (best_told b)) no_best scanning.coming)))))
 
     pub is_in_stuck : IsIn automaton stuck.state stuck.first stuck.here.before new
     is_in_stuck = record {
       state = scanning.state;
       is_state = scanning.is_state;
       ways = ap (ways_of stuck.first) threads ∙ ways_first stuck.first ws all ∙ ways;
-      suits = subst (Suits scanning.state.searching) (ap best_told no_best ∙ sym none) scanning.suits;
+      suits =
+          subst (Suits scanning.state.searching) (ap best_told no_best ∙ sym none) scanning.suits;
       sees = scanning.sees;
     }
 
-    pub first_stuck : (ws ≡ []) ⊎ (stuck.first < stuck.here.at) → (stuck.first ≤ stuck.here.at) × IsFirst stuck.first stuck.here.at new.walk.memory.threads
+    pub first_stuck : (ws ≡ []) ⊎ (stuck.first < stuck.here.at)
+        → (stuck.first ≤ stuck.here.at) × IsFirst stuck.first stuck.here.at new.walk.memory.threads
     first_stuck (inl empty) =
-        let own = scanning.own (sym ways ∙ ap (map way_in) empty) in
-        (omega (arith, own), subst (IsFirst stuck.first stuck.here.at) (sym (threads ∙ ap (map (started_at stuck.first)) empty)) own)
-    first_stuck (inr below) = (omega (arith, below), subst (IsFirst stuck.first stuck.here.at) (sym threads) (by_ways ws ways))
+        let own = scanning.own (sym ways ∙ ap (map way_in) empty) in (
+          omega (arith, own),
+          subst (IsFirst stuck.first stuck.here.at)
+              (sym (threads ∙ ap (map (started_at stuck.first)) empty)) own,
+        )
+    first_stuck (inr below) = (
+      omega (arith, below),
+      subst (IsFirst stuck.first stuck.here.at) (sym threads) (by_ways ws ways),
+    )
       where
-        by_ways : (vs : List StoredWay) → map way_in vs ≡ scanning.state.ways → IsFirst stuck.first stuck.here.at (map (started_at stuck.first) vs)
+        by_ways : (vs : List StoredWay) → map way_in vs ≡ scanning.state.ways
+            → IsFirst stuck.first stuck.here.at (map (started_at stuck.first) vs)
         by_ways [] e = scanning.own (sym e)
         by_ways (v ∷ vs) e = λ f. omega (arith, f, below)
 
   -- or from nothing
-  pub let_gone : (here : Here) (idle : IsIdleAt table entries h s p here) → p < idle.r → new.walk.memory.threads ≡ [] → IsOnItsWay table h entries s idle.r new
+  pub let_gone : (here : Here) (idle : IsIdleAt table entries h s p here) → p < idle.r
+      → new.walk.memory.threads ≡ [] → IsOnItsWay table h entries s idle.r new
   let_gone here idle later threads =
       moved_on table h entries s p idle.r old new on
-      (between_again (let n = ap (λ (ts : List Thread). length ts) threads in omega (arith, n)) (subst (ThreadsBelow (length table)) (sym threads) (λ k lt. absurd (omega (arith, lt)))))
-      kept.steps kept.now later (let n = ap (λ (ts : List Thread). length ts) threads in omega (arith, n)) kept.row
-      (subst (λ ts. IsComing table h entries s (length h) idle.r ts (best_of new.best)) (sym threads) (subst (λ b. IsComing table h entries s (length h) idle.r [] b) (sym none) idle.coming))
+      (between_again (let n = ap (λ (ts : List Thread). length ts) threads in omega (arith, n))
+      (subst (ThreadsBelow (length table)) (sym threads) (λ k lt. absurd (omega (arith, lt)))))
+      kept.steps kept.now later
+      (let n = ap (λ (ts : List Thread). length ts) threads in omega (arith, n)) kept.row
+      (subst (λ ts. IsComing table h entries s (length h) idle.r ts (best_of new.best))
+      (sym threads)
+      (subst (λ b. IsComing table h entries s (length h) idle.r [] b) (sym none) idle.coming))
 
-pub none_by : {A : Type 0} (o : Option A) (told : Bool) → is_some o ≡ not told → told ≡ true → o ≡ None
+pub none_by : {A : Type 0} (o : Option A) (told : Bool) → is_some o ≡ not told → told ≡ true
+    → o ≡ None
 none_by None told e f = refl
 none_by (Some a) told e f = absurd (no (e ∙ ap (λ b. not b) f))
   where
     no : true ≡ false → ⊥
     no e = cc
 
-pub some_by : {A : Type 0} (o : Option A) (told : Bool) → is_some o ≡ not told → told ≡ false → IsSome o
+pub some_by : {A : Type 0} (o : Option A) (told : Bool) → is_some o ≡ not told → told ≡ false
+    → IsSome o
 some_by o told e f = e ∙ ap (λ b. not b) f

@@ -1,5 +1,7 @@
 -- A search that goes on at the same position or at a later one.
-use Rattle.std.proofs.Common.{◌≡◌, ℕ, zero, suc, ◌+◌, ◌-◌, ◌*◌, ◌^◌, ◌<◌, ◌≤◌, ◌⊎◌, inl, inr, Bool, List, [], ◌∷◌, length, Option, Some, None, IfSome, option_map, MatchOption, refl, sym, ap, subst, ◌∙◌, arith}
+use Rattle.std.proofs.Common.{◌≡◌, ℕ, zero, suc, ◌+◌, ◌-◌, ◌*◌, ◌^◌, ◌<◌, ◌≤◌, ◌⊎◌, inl}
+use Rattle.std.proofs.Common.{inr, Bool, List, [], ◌∷◌, length, Option, Some, None, IfSome}
+use Rattle.std.proofs.Common.{option_map, MatchOption, refl, sym, ap, subst, ◌∙◌, arith}
 use Rattle.std.proofs.Math.Nat.{mul-le-mul_left, mul-suc}
 use Rattle.std.proofs.lemmas.Bool.{cases_lt}
 use Rattle.regex_lite_syntax.specs.Text.{Text}
@@ -19,7 +21,8 @@ use Rattle.regex_lite_engine.specs.Walk.Outcomes.{IsFresh, with_start_kept}
 use Rattle.regex_lite_engine.specs.Walk.Searching.{IsBetween, IsHit, TurnsAgain}
 use Rattle.regex_lite_engine.specs.Walk.Standing.{IsHere}
 use Rattle.regex_lite_engine.specs.Walk.Starts.{PassesTo}
-use Rattle.regex_lite_engine.specs.Walk.Turns.{AreDeadAt, AreStartsAt, IsAmong, best_at, best_of, IsComing}
+use Rattle.regex_lite_engine.specs.Walk.Turns.{AreDeadAt, AreStartsAt, IsAmong}
+use Rattle.regex_lite_engine.specs.Walk.Turns.{best_at, best_of, IsComing}
 use Rattle.regex_lite_engine.specs.Walk.Walking.{Best}
 use Rattle.regex_lite_engine.proofs.pikevm.here.OffsetLemmas.{offset_less}
 use Rattle.regex_lite_engine.proofs.pikevm.OptionLemmas.{not_there, same_some}
@@ -27,13 +30,15 @@ use Rattle.regex_lite_engine.proofs.pikevm.PassLemmas.{begun}
 use Rattle.regex_lite_engine.proofs.pikevm.TurnLemmas.{jumped}
 
 -- the only pattern may always start
-pub one_start : (table : List (Place ℕ)) (h : Text) (s p : ℕ) → AreStartsAt table h (s ∷ []) p (record { number = 0; place = s } ∷ [])
+pub one_start : (table : List (Place ℕ)) (h : Text) (s p : ℕ)
+    → AreStartsAt table h (s ∷ []) p (record { number = 0; place = s } ∷ [])
 one_start table h s p = record {
   in_order = (omega arith, refl, tt);
   each = λ number entry is. inl (among number entry is);
 }
   where
-    among : (number entry : ℕ) → IsEntry (s ∷ []) number entry → IsAmong number entry (record { number = 0; place = s } ∷ [])
+    among : (number entry : ℕ) → IsEntry (s ∷ []) number entry
+        → IsAmong number entry (record { number = 0; place = s } ∷ [])
     among zero entry is = inl (refl, sym (same_some is))
     among (suc n) entry is = absurd (not_there is)
 
@@ -45,18 +50,28 @@ more_bound m p r s low later =
 
 module _ (table : List (Place ℕ)) (h : Text) (entries : List ℕ) (s : ℕ) {S : Type 0} where
   -- positions are passed over at which no match can begin
-  pub passed_over : (p : ℕ) (cache : Cache S) (here : Here) → IsOnItsWay table h entries s p cache → cache.walk.memory.threads ≡ [] → best_of cache.best ≡ None →
-      (passes : PassesTo (AreDeadAt table h entries) h p here) → IsOnItsWay table h entries s passes.q cache
+  pub passed_over : (p : ℕ) (cache : Cache S) (here : Here) → IsOnItsWay table h entries s p cache
+      → cache.walk.memory.threads ≡ [] → best_of cache.best ≡ None →
+      (passes : PassesTo (AreDeadAt table h entries) h p here)
+      → IsOnItsWay table h entries s passes.q cache
   passed_over p cache here on idle none passes =
-      let low = on.low in let later = passes.later in let tries = on.tries in let entered = on.entries_left in let rounds = on.rounds in
-      let most : (arrows_of table + length entries) * (p - s) ≤ (arrows_of table + length entries) * (passes.q - s) = mul-le-mul_left (arrows_of table + length entries) (omega (arith, low, later)) in
-      let most_entered : length table * (p - s) ≤ length table * (passes.q - s) = mul-le-mul_left (length table) (omega (arith, low, later)) in
+      let low = on.low in let later = passes.later in let tries = on.tries in
+      let entered = on.entries_left in let rounds = on.rounds in
+      let most : (arrows_of table + length entries) * (p - s)
+      ≤ (arrows_of table + length entries) * (passes.q - s) =
+      mul-le-mul_left (arrows_of table + length entries) (omega (arith, low, later)) in
+      let most_entered : length table * (p - s) ≤ length table * (passes.q - s) =
+      mul-le-mul_left (length table) (omega (arith, low, later)) in
       record {
         low = omega (arith, low, later);
         ready = on.ready;
-        coming = subst (λ b. IsComing table h entries s (length h) passes.q cache.walk.memory.threads b) (sym none)
-            (jumped table h entries s (length h) p passes.q cache.walk.memory.threads idle later passes.passed
-            (subst (λ b. IsComing table h entries s (length h) p cache.walk.memory.threads b) none on.coming));
+        coming =
+            subst (λ b. IsComing table h entries s (length h) passes.q cache.walk.memory.threads b)
+            (sym none)
+            (jumped table h entries s
+            (length h) p passes.q cache.walk.memory.threads idle later passes.passed
+            (subst (λ b. IsComing table h entries s (length h) p cache.walk.memory.threads b) none
+            on.coming));
         tries = omega (arith, tries, most);
         entries_left = omega (arith, entered, most_entered);
         rounds = omega (arith, rounds, low, later);
@@ -64,14 +79,21 @@ module _ (table : List (Place ℕ)) (h : Text) (entries : List ℕ) (s : ℕ) {S
       }
 
   -- the search is taken up at a later position, with no more threads than arrows
-  pub moved_on : (p r : ℕ) (cache now : Cache S) → IsOnItsWay table h entries s p cache → IsBetween table now → now.walk.steps ≡ cache.walk.steps → now.walk.memory.now < 2 ^ 63 → p < r →
-      length now.walk.memory.threads ≤ arrows_of table → length now.walk.memory.row ≡ length cache.walk.memory.row →
-      IsComing table h entries s (length h) r now.walk.memory.threads (best_of now.best) → IsOnItsWay table h entries s r now
+  pub moved_on : (p r : ℕ) (cache now : Cache S) → IsOnItsWay table h entries s p cache
+      → IsBetween table now → now.walk.steps ≡ cache.walk.steps → now.walk.memory.now < 2 ^ 63
+      → p < r →
+      length now.walk.memory.threads ≤ arrows_of table
+      → length now.walk.memory.row ≡ length cache.walk.memory.row →
+      IsComing table h entries s (length h) r now.walk.memory.threads (best_of now.best)
+      → IsOnItsWay table h entries s r now
   moved_on p r cache now on ready steps fresh later few width coming =
       let low = on.low in let tries = on.tries in let entered = on.entries_left in
-      let same_tried : now.walk.steps.tried ≡ cache.walk.steps.tried = ap (λ (c : StepCounts). c.tried) steps in
-      let same_entered : now.walk.steps.entered ≡ cache.walk.steps.entered = ap (λ (c : StepCounts). c.entered) steps in
-      let most = more_bound (arrows_of table + length entries) p r s low later in let most_entered = more_bound (length table) p r s low later in
+      let same_tried : now.walk.steps.tried ≡ cache.walk.steps.tried =
+      ap (λ (c : StepCounts). c.tried) steps in
+      let same_entered : now.walk.steps.entered ≡ cache.walk.steps.entered =
+      ap (λ (c : StepCounts). c.entered) steps in
+      let most = more_bound (arrows_of table + length entries) p r s low later in
+      let most_entered = more_bound (length table) p r s low later in
       record {
         low = omega (arith, low, later);
         ready = ready;
@@ -83,11 +105,16 @@ module _ (table : List (Place ℕ)) (h : Text) (entries : List ℕ) (s : ℕ) {S
       }
 
 -- a search on its way in the haystack did no more than is allowed
-pub bounded_on : (table : List (Place ℕ)) (h : Text) (entries : List ℕ) (s p : ℕ) {S : Type 0} (cache : Cache S) → s ≤ length h → p ≤ length h + 1 → IsOnItsWay table h entries s p cache →
-    IsBoundedBy (length table) (arrows_of table + length entries) h s cache.walk.steps.tried cache.walk.steps.entered cache.walk.steps.looked
+pub bounded_on : (table : List (Place ℕ)) (h : Text) (entries : List ℕ) (s p : ℕ) {S : Type 0}
+    (cache : Cache S)
+    → s ≤ length h → p ≤ length h + 1 → IsOnItsWay table h entries s p cache →
+    IsBoundedBy (length table) (arrows_of table + length entries) h s cache.walk.steps.tried
+    cache.walk.steps.entered cache.walk.steps.looked
 bounded_on table h entries s p cache inside most on =
-    let low = on.low in let tries = on.tries in let all_entered = on.entries_left in let entered = on.ready.entered_tried in let looked = on.ready.looked_entered in
-    let all_tries = mul-le-mul_left (arrows_of table + length entries) (within low) in let all_entries = mul-le-mul_left (length table) (within low) in
+    let low = on.low in let tries = on.tries in let all_entered = on.entries_left in
+    let entered = on.ready.entered_tried in let looked = on.ready.looked_entered in
+    let all_tries = mul-le-mul_left (arrows_of table + length entries) (within low) in
+    let all_entries = mul-le-mul_left (length table) (within low) in
     record {
       few_tried = omega (arith, tries, all_tries);
       entered_tried = entered;
@@ -100,7 +127,8 @@ bounded_on table h entries s p cache inside most on =
     within low = omega (arith, low, inside, most)
 
 -- another start than this offset is the first where there are threads
-pub other_first : (first at : ℕ) (threads : List Thread) → (length threads ≡ 0 → ⊥) → (first ≡ at → ⊥) → IsFirst first at threads
+pub other_first : (first at : ℕ) (threads : List Thread) → (length threads ≡ 0 → ⊥)
+    → (first ≡ at → ⊥) → IsFirst first at threads
 other_first first at [] some other = absurd (some refl)
 other_first first at (t ∷ ts) some other = other
 
@@ -108,7 +136,9 @@ pub own_first : (at : ℕ) (threads : List Thread) → threads ≡ [] → IsFirs
 own_first at threads none = subst (IsFirst at at) (sym none) refl
 
 -- a search without threads is in its state whatever the first start
-pub in_from : {S : Type 0} (automaton : Automaton) (y first first' : ℕ) (before before' : Option ℕ) (cache : Cache S) → before' ≡ before → (cache.walk.memory.threads ≡ []) ⊎ (first' ≡ first) →
+pub in_from : {S : Type 0} (automaton : Automaton) (y first first' : ℕ) (before before' : Option ℕ)
+    (cache : Cache S)
+    → before' ≡ before → (cache.walk.memory.threads ≡ []) ⊎ (first' ≡ first) →
     IsIn automaton y first before cache → IsIn automaton y first' before' cache
 in_from automaton y first first' before before' cache e told is_in = record {
   state = is_in.state;
@@ -118,17 +148,25 @@ in_from automaton y first first' before before' cache e told is_in = record {
   sees = λ looks. ap side_of e ∙ is_in.sees looks;
 }
   where
-    same : (cache.walk.memory.threads ≡ []) ⊎ (first' ≡ first) → ways_of first' cache.walk.memory.threads ≡ ways_of first cache.walk.memory.threads
+    same : (cache.walk.memory.threads ≡ []) ⊎ (first' ≡ first)
+        → ways_of first' cache.walk.memory.threads ≡ ways_of first cache.walk.memory.threads
     same (inl none) = ap (ways_of first') none ∙ sym (ap (ways_of first) none)
     same (inr f) = ap (λ z. ways_of z cache.walk.memory.threads) f
 
-pub state_from : {S : Type 0} (automaton : Automaton) (state : Option ℕ) (first first' : ℕ) (before before' : Option ℕ) (cache : Cache S) → before' ≡ before → (cache.walk.memory.threads ≡ []) ⊎ (first' ≡ first) →
-    MatchOption state (Unit {0}) (λ y. IsIn automaton y first before cache) → MatchOption state (Unit {0}) (λ y. IsIn automaton y first' before' cache)
+pub state_from : {S : Type 0} (automaton : Automaton) (state : Option ℕ) (first first' : ℕ)
+    (before before' : Option ℕ) (cache : Cache S)
+    → before' ≡ before → (cache.walk.memory.threads ≡ []) ⊎ (first' ≡ first) →
+    MatchOption state (Unit {0}) (λ y. IsIn automaton y first before cache)
+    → MatchOption state (Unit {0}) (λ y. IsIn automaton y first' before' cache)
 state_from automaton None first first' before before' cache e told known = tt
-state_from automaton (Some y) first first' before before' cache e told known = in_from automaton y first first' before before' cache e told known
+state_from automaton (Some y) first first' before before' cache e told known =
+    in_from automaton y first first' before before' cache e told known
 
 -- a search that has nothing to go on from is in an empty state
-pub in_empty : {S : Type 0} (automaton : Automaton) (y first : ℕ) (before : Option ℕ) (cache : Cache S) → IsEmptyState automaton y before → cache.walk.memory.threads ≡ [] → best_of cache.best ≡ None → IsIn automaton y first before cache
+pub in_empty : {S : Type 0} (automaton : Automaton) (y first : ℕ) (before : Option ℕ)
+    (cache : Cache S)
+    → IsEmptyState automaton y before → cache.walk.memory.threads ≡ [] → best_of cache.best ≡ None
+    → IsIn automaton y first before cache
 in_empty automaton y first before cache empty none no_match = record {
   state = empty.state;
   is_state = empty.is_state;
@@ -137,54 +175,85 @@ in_empty automaton y first before cache empty none no_match = record {
   sees = λ looks. sym (empty.sees looks);
 }
 
-pub maybe_in_empty : {S : Type 0} (automaton : Automaton) (state : Option ℕ) (first : ℕ) (before : Option ℕ) (cache : Cache S) → MatchOption state (Unit {0}) (λ y. IsEmptyState automaton y before) →
-    cache.walk.memory.threads ≡ [] → best_of cache.best ≡ None → MatchOption state (Unit {0}) (λ y. IsIn automaton y first before cache)
+pub maybe_in_empty : {S : Type 0} (automaton : Automaton) (state : Option ℕ) (first : ℕ)
+    (before : Option ℕ) (cache : Cache S)
+    → MatchOption state (Unit {0}) (λ y. IsEmptyState automaton y before) →
+    cache.walk.memory.threads ≡ [] → best_of cache.best ≡ None
+    → MatchOption state (Unit {0}) (λ y. IsIn automaton y first before cache)
 maybe_in_empty automaton None first before cache empty none no_match = tt
-maybe_in_empty automaton (Some y) first before cache empty none no_match = in_empty automaton y first before cache empty none no_match
+maybe_in_empty automaton (Some y) first before cache empty none no_match =
+    in_empty automaton y first before cache empty none no_match
 
 -- later positions have higher offsets
 pub at_later : (h : Text) (p q : ℕ) (a b : Here) → IsHere h p a → IsHere h q b → p ≤ q → a.at ≤ b.at
 at_later h p q a b is js le = elim (cases_lt p q) [
   | inl lt ↦ (let less = offset_less h p q lt js.inside in omega (arith, less, is.bytes, js.bytes))
-  | inr ge ↦ (let same : offset h p ≡ offset h q = ap (offset h) (let e : p ≡ q = omega (arith, le, ge) in e) in omega (arith, same, is.bytes, js.bytes))
+  | inr ge ↦
+      (let same : offset h p ≡ offset h q =
+      ap (offset h) (let e : p ≡ q = omega (arith, le, ge) in e) in
+      omega (arith, same, is.bytes, js.bytes))
 ]
 
 -- the same offset is the same position
-pub other_at : (h : Text) (p q : ℕ) (a b : Here) → IsHere h p a → IsHere h q b → p ≤ q → (b.at ≡ a.at → ⊥) → p < q
+pub other_at : (h : Text) (p q : ℕ) (a b : Here) → IsHere h p a → IsHere h q b → p ≤ q
+    → (b.at ≡ a.at → ⊥) → p < q
 other_at h p q a b is js le other = elim (cases_lt p q) [
   | inl lt ↦ lt
-  | inr ge ↦ absurd (other (js.bytes ∙ ap (offset h) (let e : q ≡ p = omega (arith, le, ge) in e) ∙ sym is.bytes))
+  | inr ge ↦
+      absurd
+      (other (js.bytes ∙ ap (offset h) (let e : q ≡ p = omega (arith, le, ge) in e) ∙ sym is.bytes))
 ]
 
 -- a search that has not begun is on its way
-pub begun_on : (table : List (Place ℕ)) (h : Text) (entries : List ℕ) (s : ℕ) {S : Type 0} (cache : Cache S) → IsFresh table cache → length cache.walk.memory.row ≡ 0 → IsOnItsWay table h entries s s cache
+pub begun_on : (table : List (Place ℕ)) (h : Text) (entries : List ℕ) (s : ℕ) {S : Type 0}
+    (cache : Cache S)
+    → IsFresh table cache → length cache.walk.memory.row ≡ 0 → IsOnItsWay table h entries s s cache
 begun_on table h entries s cache fresh width =
     let u = begun table h entries s cache fresh in
-    record { low = u.low; ready = u.ready; coming = u.coming; tries = u.tries; entries_left = u.entries; rounds = u.rounds; width = width }
+    record {
+      low = u.low;
+      ready = u.ready;
+      coming = u.coming;
+      tries = u.tries;
+      entries_left = u.entries;
+      rounds = u.rounds;
+      width = width;
+    }
 
 -- a turn was taken from the state, if that was known
-pub turned_from : (table : List (Place ℕ)) (start : ℕ) (automaton : Automaton) (state : Option ℕ) (first : ℕ) (here : Here) (hit : Bool) {S : Type 0} (before now : Cache S) → MatchOption state (Unit {0}) (λ x. IsIn automaton x first here.before before) →
-    TurnsAgain table (record { number = 0; place = start } ∷ []) here (λ _. record { at = Some here.at; number = None }) before now hit → IsHit hit (best_of before.best) (best_of now.best) →
-    IsFirst first here.at before.walk.memory.threads → MatchOption state (Unit {0}) (λ x. HasTurned table (start ∷ []) automaton x first here hit now)
+pub turned_from : (table : List (Place ℕ)) (start : ℕ) (automaton : Automaton) (state : Option ℕ)
+    (first : ℕ) (here : Here) (hit : Bool) {S : Type 0} (before now : Cache S)
+    → MatchOption state (Unit {0}) (λ x. IsIn automaton x first here.before before) →
+    TurnsAgain table (record { number = 0; place = start } ∷ []) here
+    (λ _. record { at = Some here.at; number = None }) before now hit
+    → IsHit hit (best_of before.best) (best_of now.best) →
+    IsFirst first here.at before.walk.memory.threads
+    → MatchOption state (Unit {0})
+    (λ x. HasTurned table (start ∷ []) automaton x first here hit now)
 turned_from table start automaton None first here hit before now known again is_hit own = tt
-turned_from table start automaton (Some x) first here hit before now known again is_hit own = record {
-  before = before;
-  starts = record { number = 0; place = start } ∷ [];
-  told = λ _. record { at = Some here.at; number = None };
-  is_in = known;
-  again = again;
-  is_hit = is_hit;
-  tells = λ number. record { start_told = refl; number_told = tt };
-  is_first = own;
-  suffice = λ h p there is. one_start table h start p;
-}
+turned_from table start automaton (Some x) first here hit before now known again is_hit own =
+    record {
+      before = before;
+      starts = record { number = 0; place = start } ∷ [];
+      told = λ _. record { at = Some here.at; number = None };
+      is_in = known;
+      again = again;
+      is_hit = is_hit;
+      tells = λ number. record { start_told = refl; number_told = tt };
+      is_first = own;
+      suffice = λ h p there is. one_start table h start p;
+    }
 
 -- a match was not complete before a place was entered
-pub match_counted : (best : Best) (span : Option (ℕ × ℕ)) (row : Row) (entered least : ℕ) → best ≡ with_start_kept (best_at span row) → ((best ≡ None → ⊥) → 0 < entered) → least ≤ 1 → IfSome span (λ _. least ≤ entered)
+pub match_counted : (best : Best) (span : Option (ℕ × ℕ)) (row : Row) (entered least : ℕ)
+    → best ≡ with_start_kept (best_at span row) → ((best ≡ None → ⊥) → 0 < entered) → least ≤ 1
+    → IfSome span (λ _. least ≤ entered)
 match_counted best None row entered least is some few = tt
-match_counted best (Some span) row entered least is some few = let one = some (λ e. not_there (sym e ∙ is)) in omega (arith, one, few)
+match_counted best (Some span) row entered least is some few =
+    let one = some (λ e. not_there (sym e ∙ is)) in omega (arith, one, few)
 
-pub end_counted : (best : Best) (end : Option ℕ) (entered : ℕ) → end ≡ option_map (λ b. b.1) best → ((best ≡ None → ⊥) → 0 < entered) → IfSome end (λ _. 0 < entered)
+pub end_counted : (best : Best) (end : Option ℕ) (entered : ℕ) → end ≡ option_map (λ b. b.1) best
+    → ((best ≡ None → ⊥) → 0 < entered) → IfSome end (λ _. 0 < entered)
 end_counted best None entered is some = tt
 end_counted None (Some end) entered is some = absurd (not_there (sym is))
 end_counted (Some best) (Some end) entered is some = some (λ e. not_there (sym e))

@@ -1,12 +1,17 @@
 -- A search that goes on by remembered turns.
-use Rattle.std.proofs.Common.{◌≡◌, ℕ, suc, ◌+◌, ◌≤◌, ◌⊎◌, inl, inr, Bool, true, false, List, [], length, slice_get, Option, Some, None, is_some, option_map, IfSome, refl, sym, ap, subst, ◌∙◌, arith}
+use Rattle.std.proofs.Common.{◌≡◌, ℕ, suc, ◌+◌, ◌≤◌, ◌⊎◌, inl, inr, Bool, true, false}
+use Rattle.std.proofs.Common.{List, [], length, slice_get, Option, Some, None, is_some}
+use Rattle.std.proofs.Common.{option_map, IfSome, refl, sym, ap, subst, ◌∙◌, arith}
 use Rattle.regex_lite_syntax.specs.Text.{Text, before}
 use Rattle.regex_lite_engine.specs.declared.lazy_dfa.scan.Standing.{Standing}
 use Rattle.regex_lite_engine.specs.declared.pikevm.here.Here.{Here}
 use Rattle.regex_lite_engine.specs.Graph.Places.{Place}
-use Rattle.regex_lite_engine.specs.LazyDfa.Automaton.{Automaton, LeadsOn, Origin, State, Suits, Way, best_left, searching_after, threads_of, told_by}
+use Rattle.regex_lite_engine.specs.LazyDfa.Automaton.{Automaton, LeadsOn, Origin, State}
+use Rattle.regex_lite_engine.specs.LazyDfa.Automaton.{Suits, Way, best_left}
+use Rattle.regex_lite_engine.specs.LazyDfa.Automaton.{searching_after, threads_of, told_by}
 use Rattle.regex_lite_engine.specs.LazyDfa.Intervals.{class_of, side_of}
-use Rattle.regex_lite_engine.specs.LazyDfa.Scanning.{best_told, end_told, IsIdleAt, IsScanning, LedTo}
+use Rattle.regex_lite_engine.specs.LazyDfa.Scanning.{best_told, end_told}
+use Rattle.regex_lite_engine.specs.LazyDfa.Scanning.{IsIdleAt, IsScanning, LedTo}
 use Rattle.regex_lite_engine.specs.Walk.Outcomes.{IsBestOutcomeOf, IsNumberedEndOf}
 use Rattle.regex_lite_engine.specs.Walk.Standing.{IsHere}
 use Rattle.regex_lite_engine.specs.Walk.Starts.{PassesTo}
@@ -17,59 +22,90 @@ use Rattle.regex_lite_engine.proofs.pikevm.OptionLemmas.{not_there, same_some}
 use Rattle.regex_lite_engine.proofs.pikevm.ShortestLemmas.{shortest_known}
 use Rattle.regex_lite_engine.proofs.pikevm.TurnLemmas.{jumped}
 
-still_suits : (hit : Option Origin) (searching : Bool) (i at : ℕ) (best : Best) → Suits searching best → Suits (searching_after hit searching) (best_left hit i at best)
+still_suits : (hit : Option Origin) (searching : Bool) (i at : ℕ) (best : Best)
+    → Suits searching best → Suits (searching_after hit searching) (best_left hit i at best)
 still_suits None searching i at best s = s
 still_suits (Some origin) searching i at best s = λ e. not_there (sym e)
 
 -- nobody asks for the first start where there are no ways
-same_threads : (i j : ℕ) (ways : List Way) → (ways ≡ []) ⊎ (j ≡ i) → threads_of i ways ≡ threads_of j ways
+same_threads : (i j : ℕ) (ways : List Way) → (ways ≡ []) ⊎ (j ≡ i)
+    → threads_of i ways ≡ threads_of j ways
 same_threads i j ways (inl e) = ap (threads_of i) e ∙ sym (ap (threads_of j) e)
 same_threads i j ways (inr e) = ap (λ z. threads_of z ways) (sym e)
 
 -- the character before the next position
-pub next_before : (h : Text) (p : ℕ) (here next : Here) → IsHere h p here → IsHere h (p + 1) next → next.before ≡ here.after
+pub next_before : (h : Text) (p : ℕ) (here next : Here) → IsHere h p here → IsHere h (p + 1) next
+    → next.before ≡ here.after
 next_before h p here next is on = on.behind ∙ ap (before h) more ∙ sym is.ahead
   where
     more : p + 1 ≡ suc p
     more = omega arith
 
-module _ (table : List (Place ℕ)) (entries : List ℕ) (h : Text) (low p : ℕ) (automaton : Automaton) (at : Standing) (scanning : IsScanning table entries h low p automaton at) where
-  pub led : (class y : ℕ) (to : State) → slice_get automaton.states y ≡ Some to → LeadsOn table entries automaton.intervals scanning.state class to →
-      class_of automaton.intervals.boundaries at.here.after ≡ class → (best : Option (ℕ × ℕ)) → best_told best ≡ best_left to.hit at.first at.here.at (best_told at.best) →
+module _ (table : List (Place ℕ)) (entries : List ℕ) (h : Text) (low p : ℕ) (automaton : Automaton)
+    (at : Standing) (scanning : IsScanning table entries h low p automaton at) where
+  pub led : (class y : ℕ) (to : State) → slice_get automaton.states y ≡ Some to
+      → LeadsOn table entries automaton.intervals scanning.state class to →
+      class_of automaton.intervals.boundaries at.here.after ≡ class → (best : Option (ℕ × ℕ))
+      → best_told best ≡ best_left to.hit at.first at.here.at (best_told at.best) →
       LedTo table entries h low p automaton at y best
   led class y to to_at leads class_is best left = record {
     state = to;
     is_state = to_at;
-    suits = subst (λ b. Suits b (best_told best)) (sym leads.searching) (subst (Suits (searching_after to.hit scanning.state.searching)) (sym left)
-        (still_suits to.hit scanning.state.searching at.first at.here.at (best_told at.best) scanning.suits));
+    suits =
+        subst (λ b. Suits b (best_told best)) (sym leads.searching)
+        (subst (Suits (searching_after to.hit scanning.state.searching)) (sym left)
+        (still_suits to.hit scanning.state.searching at.first at.here.at
+        (best_told at.best) scanning.suits));
     sees = λ looks. leads.before looks at.here class_is;
-    coming = subst (λ z. IsComing table h entries low (length h) (p + 1) (threads_of at.first to.ways) z) (sym left)
-        (leads.on at.here (record { ahead = class_is; behind = scanning.sees }) at.first scanning.own (best_told at.best) scanning.suits h p low (length h) scanning.is scanning.later scanning.is.inside scanning.coming);
+    coming =
+        subst (λ z. IsComing table h entries low (length h) (p + 1) (threads_of at.first to.ways) z)
+        (sym left)
+        (leads.on at.here (record { ahead = class_is; behind = scanning.sees }) at.first
+        scanning.own (best_told at.best) scanning.suits h p low
+        (length h) scanning.is scanning.later scanning.is.inside scanning.coming);
   }
 
   -- the same, by what is stored
-  pub led_step : (class y : ℕ) (from to : State) → slice_get automaton.states at.state ≡ Some from → slice_get automaton.states y ≡ Some to → LeadsOn table entries automaton.intervals from class to →
-      class_of automaton.intervals.boundaries at.here.after ≡ class → (hit : Option Origin) → to.hit ≡ hit → (best : Option (ℕ × ℕ)) → best_told best ≡ best_left hit at.first at.here.at (best_told at.best) →
+  pub led_step : (class y : ℕ) (from to : State) → slice_get automaton.states at.state ≡ Some from
+      → slice_get automaton.states y ≡ Some to
+      → LeadsOn table entries automaton.intervals from class to →
+      class_of automaton.intervals.boundaries at.here.after ≡ class → (hit : Option Origin)
+      → to.hit ≡ hit → (best : Option (ℕ × ℕ))
+      → best_told best ≡ best_left hit at.first at.here.at (best_told at.best) →
       LedTo table entries h low p automaton at y best
   led_step class y from to from_at to_at leads class_is hit is_hit best left =
-      led class y to to_at (subst (λ s. LeadsOn table entries automaton.intervals s class to) (same_some (sym from_at ∙ scanning.is_state)) leads) class_is best
+      led class y to to_at (subst (λ s. LeadsOn table entries automaton.intervals s class to)
+      (same_some (sym from_at ∙ scanning.is_state)) leads) class_is best
       (left ∙ ap (λ z. best_left z at.first at.here.at (best_told at.best)) (sym is_hit))
 
   -- a turn without a match before it ends the search where it completes one, or at the end
-  pub end_led : at.best ≡ None → (class y : ℕ) (from to : State) → slice_get automaton.states at.state ≡ Some from → LeadsOn table entries automaton.intervals from class to →
-      class_of automaton.intervals.boundaries at.here.after ≡ class → (hit : Option Origin) → to.hit ≡ hit → ((p ≡ length h) ⊎ (best_left hit at.first at.here.at None ≡ None → ⊥)) →
+  pub end_led : at.best ≡ None → (class y : ℕ) (from to : State)
+      → slice_get automaton.states at.state ≡ Some from
+      → LeadsOn table entries automaton.intervals from class to →
+      class_of automaton.intervals.boundaries at.here.after ≡ class → (hit : Option Origin)
+      → to.hit ≡ hit → ((p ≡ length h) ⊎ (best_left hit at.first at.here.at None ≡ None → ⊥)) →
       IsNumberedEndOf table h entries low (best_left hit at.first at.here.at None)
   end_led none class y from to from_at leads class_is hit is_hit over =
-      shortest_known table h entries low p at.here.at (threads_of at.first scanning.state.ways) (threads_of at.first to.ways) None (best_left hit at.first at.here.at None) scanning.later scanning.is.inside
+      shortest_known table h entries low p at.here.at (threads_of at.first scanning.state.ways)
+      (threads_of at.first to.ways) None
+      (best_left hit at.first at.here.at None) scanning.later scanning.is.inside
       refl scanning.is.bytes (ends hit) over before
-      (subst (λ z. IsComing table h entries low (length h) (p + 1) (threads_of at.first to.ways) (best_left z at.first at.here.at None)) is_hit
-      (leads_here.on at.here (record { ahead = class_is; behind = scanning.sees }) at.first scanning.own None suits h p low (length h) scanning.is scanning.later scanning.is.inside before))
+      (subst (λ z. IsComing table h entries low (length h) (p + 1) (threads_of at.first to.ways)
+      (best_left z at.first at.here.at None)) is_hit
+      (leads_here.on at.here
+      (record { ahead = class_is; behind = scanning.sees }) at.first scanning.own None suits h p low
+      (length h) scanning.is scanning.later scanning.is.inside before))
     where
       leads_here : LeadsOn table entries automaton.intervals scanning.state class to
-      leads_here = subst (λ s. LeadsOn table entries automaton.intervals s class to) (same_some (sym from_at ∙ scanning.is_state)) leads
+      leads_here =
+          subst (λ s. LeadsOn table entries automaton.intervals s class to)
+          (same_some (sym from_at ∙ scanning.is_state)) leads
 
-      before : IsComing table h entries low (length h) p (threads_of at.first scanning.state.ways) None
-      before = subst (λ b. IsComing table h entries low (length h) p (threads_of at.first scanning.state.ways) (best_told b)) none scanning.coming
+      before : IsComing table h entries low (length h) p
+          (threads_of at.first scanning.state.ways) None
+      before =
+          subst (λ b. IsComing table h entries low (length h) p
+          (threads_of at.first scanning.state.ways) (best_told b)) none scanning.coming
 
       suits : Suits scanning.state.searching None
       suits = subst (λ b. Suits scanning.state.searching (best_told b)) none scanning.suits
@@ -78,9 +114,13 @@ module _ (table : List (Place ℕ)) (entries : List ℕ) (h : Text) (low p : ℕ
       ends None = inl refl
       ends (Some origin) = inr (told_by at.first origin, [], refl)
 
-  module _ (y : ℕ) (best : Option (ℕ × ℕ)) (to : LedTo table entries h low p automaton at y best) where
-    pub scanned_on : (next : Here) (first : ℕ) → IsHere h (p + 1) next → ((to.state.ways ≡ []) × (first ≡ next.at)) ⊎ ((to.state.ways ≡ [] → ⊥) × (first ≡ at.first)) →
-        IsScanning table entries h low (p + 1) automaton (record { here = next; state = y; first = first; best = best })
+  module _ (y : ℕ) (best : Option (ℕ × ℕ))
+      (to : LedTo table entries h low p automaton at y best) where
+    pub scanned_on : (next : Here) (first : ℕ) → IsHere h (p + 1) next
+        → ((to.state.ways ≡ []) × (first ≡ next.at))
+        ⊎ ((to.state.ways ≡ [] → ⊥) × (first ≡ at.first)) →
+        IsScanning table entries h low (p + 1) automaton
+        (record { here = next; state = y; first = first; best = best })
     scanned_on next first is told = let later = scanning.later in record {
       state = to.state;
       is_state = to.is_state;
@@ -89,59 +129,87 @@ module _ (table : List (Place ℕ)) (entries : List ℕ) (h : Text) (low p : ℕ
       own = own told;
       suits = to.suits;
       sees = λ looks. ap side_of (next_before h p at.here next scanning.is is) ∙ to.sees looks;
-      coming = subst (λ z. IsComing table h entries low (length h) (p + 1) z (best_told best)) (same_threads at.first first to.state.ways (firsts told)) to.coming;
+      coming =
+          subst (λ z. IsComing table h entries low (length h) (p + 1) z (best_told best))
+          (same_threads at.first first to.state.ways (firsts told)) to.coming;
     }
       where
-        own : ((to.state.ways ≡ []) × (first ≡ next.at)) ⊎ ((to.state.ways ≡ [] → ⊥) × (first ≡ at.first)) → to.state.ways ≡ [] → first ≡ next.at
+        own : ((to.state.ways ≡ []) × (first ≡ next.at))
+            ⊎ ((to.state.ways ≡ [] → ⊥) × (first ≡ at.first))
+            → to.state.ways ≡ [] → first ≡ next.at
         own (inl (none, e)) empty = e
         own (inr (some, e)) empty = absurd (some empty)
 
-        firsts : ((to.state.ways ≡ []) × (first ≡ next.at)) ⊎ ((to.state.ways ≡ [] → ⊥) × (first ≡ at.first)) → (to.state.ways ≡ []) ⊎ (first ≡ at.first)
+        firsts : ((to.state.ways ≡ []) × (first ≡ next.at))
+            ⊎ ((to.state.ways ≡ [] → ⊥) × (first ≡ at.first))
+            → (to.state.ways ≡ []) ⊎ (first ≡ at.first)
         firsts (inl (none, e)) = inl none
         firsts (inr (some, e)) = inr e
 
-    pub scan_over : ((at.here.after ≡ None) ⊎ ((best_told best ≡ None → ⊥) × (to.state.ways ≡ []))) → IsBestOutcomeOf table h entries low (best_told best)
+    pub scan_over : ((at.here.after ≡ None) ⊎ ((best_told best ≡ None → ⊥) × (to.state.ways ≡ [])))
+        → IsBestOutcomeOf table h entries low (best_told best)
     scan_over over =
-        ended_all table h entries low p (threads_of at.first to.state.ways) (best_told best) scanning.later scanning.is.inside (at_end (over_at h p at.here scanning.is over)) to.coming
+        ended_all table h entries low p (threads_of at.first to.state.ways) (best_told best)
+        scanning.later scanning.is.inside (at_end (over_at h p at.here scanning.is over)) to.coming
       where
-        at_end : ((p ≡ length h) ⊎ ((best_told best ≡ None → ⊥) × (to.state.ways ≡ []))) → (p ≡ length h) ⊎ ((best_told best ≡ None → ⊥) × (length (threads_of at.first to.state.ways) ≡ 0))
+        at_end : ((p ≡ length h) ⊎ ((best_told best ≡ None → ⊥) × (to.state.ways ≡ [])))
+            → (p ≡ length h)
+            ⊎ ((best_told best ≡ None → ⊥) × (length (threads_of at.first to.state.ways) ≡ 0))
         at_end (inl e) = inl e
         at_end (inr (some, e)) = inr (some, ap (λ ways. length (threads_of at.first ways)) e)
 
   -- positions are passed over at which no match can begin
-  module _ (here : Here) (passes : PassesTo (AreDeadAt table h entries) h p here) (idle : scanning.state.ways ≡ []) (none : best_told at.best ≡ None) where
+  module _ (here : Here) (passes : PassesTo (AreDeadAt table h entries) h p here)
+      (idle : scanning.state.ways ≡ []) (none : best_told at.best ≡ None) where
     pub idle_there : IsComing table h entries low (length h) passes.q [] None
     idle_there =
         jumped table h entries low (length h) p passes.q [] refl passes.later passes.passed
         (subst (λ z. IsComing table h entries low (length h) p [] z) none
-        (subst (λ ways. IsComing table h entries low (length h) p (threads_of at.first ways) (best_told at.best)) idle scanning.coming))
+        (subst (λ ways. IsComing table h entries low (length h) p (threads_of at.first ways)
+        (best_told at.best)) idle scanning.coming))
 
     pub is_idle : IsIdleAt table entries h low p here
     is_idle = record { r = passes.q; later = passes.later; is = passes.is; coming = idle_there }
 
-    pub skipped : (x : ℕ) (state : State) → slice_get automaton.states x ≡ Some state → state.ways ≡ [] → state.searching ≡ true → (automaton.intervals.looks ≡ true → state.before ≡ side_of here.before) →
-        IsScanning table entries h low passes.q automaton (record { here = here; state = x; first = here.at; best = None })
-    skipped x state x_at empty searching sees = let later = scanning.later in let more = passes.later in record {
-      state = state;
-      is_state = x_at;
-      is = passes.is;
-      later = omega (arith, later, more);
-      own = λ e. refl;
-      suits = subst (λ b. Suits b None) (sym searching) refl;
-      sees = λ looks. sym (sees looks);
-      coming = subst (λ ways. IsComing table h entries low (length h) passes.q (threads_of here.at ways) None) (sym empty) idle_there;
-    }
+    pub skipped : (x : ℕ) (state : State) → slice_get automaton.states x ≡ Some state
+        → state.ways ≡ [] → state.searching ≡ true
+        → (automaton.intervals.looks ≡ true → state.before ≡ side_of here.before) →
+        IsScanning table entries h low passes.q automaton
+        (record { here = here; state = x; first = here.at; best = None })
+    skipped x state x_at empty searching sees =
+        let later = scanning.later in let more = passes.later in record {
+          state = state;
+          is_state = x_at;
+          is = passes.is;
+          later = omega (arith, later, more);
+          own = λ e. refl;
+          suits = subst (λ b. Suits b None) (sym searching) refl;
+          sees = λ looks. sym (sees looks);
+          coming =
+              subst
+              (λ ways.
+              IsComing table h entries low (length h) passes.q (threads_of here.at ways) None)
+              (sym empty) idle_there;
+        }
 
 -- at the end of the haystack there is no match
-pub end_none : (table : List (Place ℕ)) (entries : List ℕ) (h : Text) (low p : ℕ) (automaton : Automaton) (at : Standing) → IsScanning table entries h low p automaton at → at.best ≡ None → (y : ℕ) → LedTo table entries h low p automaton at y None →
+pub end_none : (table : List (Place ℕ)) (entries : List ℕ) (h : Text) (low p : ℕ)
+    (automaton : Automaton) (at : Standing)
+    → IsScanning table entries h low p automaton at → at.best ≡ None → (y : ℕ)
+    → LedTo table entries h low p automaton at y None →
     at.here.after ≡ None → IsNumberedEndOf table h entries low None
 end_none table entries h low p automaton at scanning none y to last =
-    shortest_known table h entries low p at.here.at (threads_of at.first scanning.state.ways) (threads_of at.first to.state.ways) None None scanning.later scanning.is.inside refl scanning.is.bytes (inl refl)
+    shortest_known table h entries low p at.here.at (threads_of at.first scanning.state.ways)
+    (threads_of at.first to.state.ways) None None scanning.later scanning.is.inside refl
+    scanning.is.bytes (inl refl)
     (over_at {Q = None ≡ None → ⊥} h p at.here scanning.is (inl last))
-    (subst (λ b. IsComing table h entries low (length h) p (threads_of at.first scanning.state.ways) (best_told b)) none scanning.coming) to.coming
+    (subst (λ b. IsComing table h entries low (length h) p (threads_of at.first scanning.state.ways)
+    (best_told b)) none scanning.coming) to.coming
 
 -- nothing but the end of a match is told
-pub end_alone : (table : List (Place ℕ)) (h : Text) (entries : List ℕ) (s : ℕ) (best : Best) → IsNumberedEndOf table h entries s best → IsNumberedEndOf table h entries s (end_told (option_map (λ b. b.1) best))
+pub end_alone : (table : List (Place ℕ)) (h : Text) (entries : List ℕ) (s : ℕ) (best : Best)
+    → IsNumberedEndOf table h entries s best
+    → IsNumberedEndOf table h entries s (end_told (option_map (λ b. b.1) best))
 end_alone table h entries s None is = is
 end_alone table h entries s (Some best) is = is
 
@@ -149,7 +217,8 @@ pub end_back : (end : Option ℕ) → option_map (λ b. b.1) (end_told end) ≡ 
 end_back None = refl
 end_back (Some end) = refl
 
-pub best_none : (best : Option (ℕ × ℕ)) (told : Bool) → told ≡ is_some best → told ≡ false → best_told best ≡ None
+pub best_none : (best : Option (ℕ × ℕ)) (told : Bool) → told ≡ is_some best → told ≡ false
+    → best_told best ≡ None
 best_none None told e f = refl
 best_none (Some b) told e f = absurd (no (sym e ∙ f))
   where
@@ -157,8 +226,13 @@ best_none (Some b) told e f = absurd (no (sym e ∙ f))
     no e = cc
 
 -- where there was nothing to go on from stays so
-pub still_idle : (table : List (Place ℕ)) (entries : List ℕ) (h : Text) (low p q : ℕ) → p ≤ q → (old new : Option Here) → IfSome old (IsIdleAt table entries h low p) →
-    (new ≡ old) ⊎ IfSome new (IsIdleAt table entries h low q) → IfSome new (IsIdleAt table entries h low p)
-still_idle table entries h low p q le old new idle (inl e) = subst (λ o. IfSome o (IsIdleAt table entries h low p)) (sym e) idle
+pub still_idle : (table : List (Place ℕ)) (entries : List ℕ) (h : Text) (low p q : ℕ) → p ≤ q
+    → (old new : Option Here) → IfSome old (IsIdleAt table entries h low p) →
+    (new ≡ old) ⊎ IfSome new (IsIdleAt table entries h low q)
+    → IfSome new (IsIdleAt table entries h low p)
+still_idle table entries h low p q le old new idle (inl e) =
+    subst (λ o. IfSome o (IsIdleAt table entries h low p)) (sym e) idle
 still_idle table entries h low p q le old None idle (inr there) = tt
-still_idle table entries h low p q le old (Some here) idle (inr there) = let later = there.later in record { r = there.r; later = omega (arith, le, later); is = there.is; coming = there.coming }
+still_idle table entries h low p q le old (Some here) idle (inr there) =
+    let later = there.later in
+    record { r = there.r; later = omega (arith, le, later); is = there.is; coming = there.coming }

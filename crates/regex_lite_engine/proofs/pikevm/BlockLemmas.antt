@@ -1,5 +1,6 @@
 -- Blocks of bytes, which are parts of the haystack.
-use Rattle.std.proofs.Common.{◌≡◌, ◌+◌, ◌-◌, ◌<◌, ◌≤◌, ℕ, false, List, slice_index, take, drop, ap, subst, ◌∙◌, arith}
+use Rattle.std.proofs.Common.{◌≡◌, ◌+◌, ◌-◌, ◌<◌, ◌≤◌, ℕ, false, List}
+use Rattle.std.proofs.Common.{slice_index, take, drop, ap, subst, ◌∙◌, arith}
 use Rattle.std.proofs.lemmas.List.{get_or-take, get_or-drop}
 use Rattle.regex_lite_engine.specs.declared.nfa.prefilter.Prefilter.{Prefilter}
 use Rattle.regex_lite_engine.specs.Nfa.Prefilter.{suits}
@@ -21,6 +22,8 @@ unsuited filter bytes at len more k le lt within none =
     let here = byte_of_block bytes at len k le lt in
     let after : slice_index (take more (drop (at + 1) bytes)) (k - at) ≡ slice_index bytes (k + 1)
     = subst (λ z. slice_index (take more (drop (at + 1) bytes)) z ≡ slice_index bytes (k + 1))
-    (omega (arith, le)) (byte_of_block bytes (at + 1) more (k + 1) (omega (arith, le)) (omega (arith, le, within))) in
+    (omega (arith, le))
+    (byte_of_block bytes (at + 1) more (k + 1) (omega (arith, le)) (omega (arith, le, within))) in
     subst (λ z. suits filter z (slice_index bytes (k + 1)) ≡ false) here
-    (subst (λ z. suits filter (slice_index (take len (drop at bytes)) (k - at)) z ≡ false) after none)
+    (subst (λ z. suits filter (slice_index (take len (drop at bytes)) (k - at)) z ≡ false)
+    after none)

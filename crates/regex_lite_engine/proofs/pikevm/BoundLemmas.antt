@@ -30,10 +30,13 @@ bounded_both haystack s places tries a b c places' tries' a' b' c' most first se
     let looked = first.few_looked in
     let looked' = second.few_looked in
     record {
-      few_tried = omega (arith, min-le_left (a + a') most, tried, tried', add-mul tries tries' positions);
+      few_tried =
+          omega (arith, min-le_left (a + a') most, tried, tried', add-mul tries tries' positions);
       entered_tried = le-min (omega (arith, min-le_left (b + b') most, both, both'))
           (min-le_right (b + b') most);
-      few_entered = omega (arith, min-le_left (b + b') most, entered, entered', add-mul places places' positions);
+      few_entered =
+          omega
+          (arith, min-le_left (b + b') most, entered, entered', add-mul places places' positions);
       few_looked = twice_cut (c + c') (b + b') most (omega (arith, looked, looked'));
       none_beyond = λ lt. (
           let none = first.none_beyond lt in

@@ -3,7 +3,8 @@ use Rattle.std.proofs.Common.{arith}
 use Rattle.regex_lite_engine.specs.Search.Bounds.{StepCounts, StaysCounted}
 
 pub counted_at_first : (steps : StepCounts) → StaysCounted steps steps
-counted_at_first steps = record { tried = omega (arith); entered = omega (arith); looked = omega (arith) }
+counted_at_first steps =
+    record { tried = omega (arith); entered = omega (arith); looked = omega (arith) }
 
 pub still_counted : (first second third : StepCounts) → StaysCounted first second
     → StaysCounted second third → StaysCounted first third

@@ -1,5 +1,7 @@
 -- The end of a search, and its counts.
-use Rattle.std.proofs.Common.{◌≡◌, ℕ, zero, suc, ◌+◌, ◌*◌, ◌-◌, ◌<◌, ◌≤◌, ◌⊎◌, inl, inr, Bool, true, false, List, [], ◌∷◌, length, slice_get, Option, Some, None, if◌then◌else◌, IsTrue, refl, sym, ap, subst, ◌∙◌, arith}
+use Rattle.std.proofs.Common.{◌≡◌, ℕ, zero, suc, ◌+◌, ◌*◌, ◌-◌, ◌<◌, ◌≤◌, ◌⊎◌, inl, inr, Bool}
+use Rattle.std.proofs.Common.{true, false, List, [], ◌∷◌, length, slice_get, Option, Some}
+use Rattle.std.proofs.Common.{None, if◌then◌else◌, IsTrue, refl, sym, ap, subst, ◌∙◌, arith}
 use Rattle.std.specs.Option.{IsSome}
 use Rattle.std.proofs.lemmas.List.{nil_from_length}
 use Rattle.std.proofs.lemmas.Bool.{cases_lt, cases_eq}
@@ -8,11 +10,14 @@ use Rattle.std.proofs.Math.Nat.{mul-le-mul_left, mul-suc}
 use Rattle.regex_lite_syntax.specs.Text.{Text, before, after}
 use Rattle.regex_lite_syntax.specs.Tree.Looks.{holds_between}
 use Rattle.regex_lite_engine.specs.declared.pikevm.here.Here.{Here}
-use Rattle.regex_lite_engine.specs.Graph.Places.{Condition, Arrow, Place, complete, with_arrows, free, holding, reading, taken, behind, arrived, arrow_taken, step_from}
+use Rattle.regex_lite_engine.specs.Graph.Places.{Condition, Arrow, Place, complete}
+use Rattle.regex_lite_engine.specs.Graph.Places.{with_arrows, free, holding, reading, taken}
+use Rattle.regex_lite_engine.specs.Graph.Places.{behind, arrived, arrow_taken, step_from}
 use Rattle.regex_lite_engine.specs.Search.Answer.{Found}
 use Rattle.regex_lite_engine.specs.Search.Marks.{marks_along}
 use Rattle.regex_lite_engine.specs.Walk.Explored.{IsGrown}
-use Rattle.regex_lite_engine.specs.Walk.NumberedAnswer.{place_with, numbered_step, is_end, IsNumberedFound}
+use Rattle.regex_lite_engine.specs.Walk.NumberedAnswer.{place_with, numbered_step}
+use Rattle.regex_lite_engine.specs.Walk.NumberedAnswer.{is_end, IsNumberedFound}
 use Rattle.regex_lite_engine.specs.Walk.NumberedList.{StartsOf, IsOverOf}
 use Rattle.regex_lite_engine.specs.Walk.InStep.{Offer, StartsBelow}
 use Rattle.regex_lite_engine.specs.Walk.Standing.{IsHere}
@@ -25,7 +30,8 @@ use Rattle.regex_lite_engine.proofs.pikevm.TurnLemmas.{only_entry}
 use Rattle.regex_lite_engine.proofs.pikevm.OptionLemmas.{not_there, same_some}
 use Rattle.regex_lite_engine.proofs.pikevm.PositionLemmas as deep
 
-taken_in_text : (h : Text) (a : Condition) (i j : ℕ) → i ≤ length h → taken h a i ≡ Some j → j ≤ length h
+taken_in_text : (h : Text) (a : Condition) (i j : ℕ) → i ≤ length h → taken h a i ≡ Some j
+    → j ≤ length h
 taken_in_text h free i j le e = let same : i ≡ j = same_some e in omega (arith, le, same)
 taken_in_text h (holding l) i j le e = go (holds_between l (before h i) (after h i)) e
   where
@@ -39,10 +45,13 @@ taken_in_text h (reading set) i j le e = go (after h i) refl e
     go (Some c) at e = fits (set c) e
       where
         fits : (b : Bool) → (if b then Some (suc i) else None) ≡ Some j → j ≤ length h
-        fits true e = let within = slice_get_within h i c at in let same : suc i ≡ j = same_some e in omega (arith, within, same)
+        fits true e =
+            let within = slice_get_within h i c at in let same : suc i ≡ j = same_some e in
+            omega (arith, within, same)
         fits false e = absurd (not_there e)
 
-pub step_in_text : (h : Text) (x : Place ℕ) (i k : ℕ) (m : Node) → i ≤ length h → step_from h x i k ≡ Some m → m.1 ≤ length h
+pub step_in_text : (h : Text) (x : Place ℕ) (i k : ℕ) (m : Node) → i ≤ length h
+    → step_from h x i k ≡ Some m → m.1 ≤ length h
 step_in_text h complete i k m le e = absurd (not_there e)
 step_in_text h (with_arrows arrows) i k m le e = go (slice_get arrows k) e
   where
@@ -50,74 +59,116 @@ step_in_text h (with_arrows arrows) i k m le e = go (slice_get arrows k) e
     go None e = absurd (not_there e)
     go (Some a) e = by_end (taken h a.condition i) refl e
       where
-        by_end : (o : Option ℕ) → taken h a.condition i ≡ o → arrived a.to o ≡ Some m → m.1 ≤ length h
+        by_end : (o : Option ℕ) → taken h a.condition i ≡ o → arrived a.to o ≡ Some m
+            → m.1 ≤ length h
         by_end None t e = absurd (not_there e)
-        by_end (Some j) t e = let le' = taken_in_text h a.condition i j le t in let same : j ≡ m.1 = ap (λ (z : Node). z.1) (same_some e) in omega (arith, le', same)
+        by_end (Some j) t e =
+            let le' = taken_in_text h a.condition i j le t in
+            let same : j ≡ m.1 = ap (λ (z : Node). z.1) (same_some e) in omega (arith, le', same)
 
 module _ (table : List (Place ℕ)) (h : Text) (s : List ℕ) (first : ℕ) where
-  nothing_beyond : (p from : ℕ) (recorded : Node → Option (List ℕ)) (coming : List (Offer Node)) (way : Option (List ℕ)) → length h < p →
+  nothing_beyond : (p from : ℕ) (recorded : Node → Option (List ℕ)) (coming : List (Offer Node))
+      (way : Option (List ℕ))
+      → length h < p →
       InStep table h s first (length h) p from recorded coming [] way →
       ((n : Node) (v : List ℕ) → recorded n ≡ Some v → n.1 < p) → p ≡ suc (length h) → coming ≡ []
   nothing_beyond p from recorded [] way past u before at = refl
-  nothing_beyond p from recorded (o ∷ os) way past u before at = absurd (go (u.now_grown o.0 o.1 (inl (refl, refl))) (u.now_stands o.0 o.1 (inl (refl, refl))))
+  nothing_beyond p from recorded (o ∷ os) way past u before at =
+      absurd (go (u.now_grown o.0 o.1 (inl (refl, refl))) (u.now_stands o.0 o.1 (inl (refl, refl))))
     where
-      go : IsGrown Node (numbered_step table h) (is_end table h) (StartsOf s first (length h)) recorded way o.0 o.1 → o.0.1 ≡ p → ⊥
-      go (inl (i, number, entry, low, high, is, e, at')) pos = let same : o.0.1 ≡ i = ap (λ (z : Node). z.1) at' in omega (arith, high, past, pos, same)
+      go : IsGrown Node (numbered_step table h) (is_end table h)
+          (StartsOf s first (length h)) recorded way o.0 o.1
+          → o.0.1 ≡ p → ⊥
+      go (inl (i, number, entry, low, high, is, e, at')) pos =
+          let same : o.0.1 ≡ i = ap (λ (z : Node). z.1) at' in omega (arith, high, past, pos, same)
       go (inr (m, v, k, r, hops, e)) pos =
           let below = before m v r in
-          let le = step_in_text h (place_with table m.0) m.1 k o.0 (omega (arith, below, at)) hops in
+          let le =
+          step_in_text h (place_with table m.0) m.1 k o.0 (omega (arith, below, at)) hops in
           omega (arith, le, past, pos)
 
-  explored : (q from : ℕ) (recorded : Node → Option (List ℕ)) (way : Option (List ℕ)) → ((length h < from) ⊎ ((b : List ℕ) × (way ≡ Some b))) →
-      InStep table h s first (length h) q from recorded [] [] way → IsOverOf table h s first recorded way
+  explored : (q from : ℕ) (recorded : Node → Option (List ℕ)) (way : Option (List ℕ))
+      → ((length h < from) ⊎ ((b : List ℕ) × (way ≡ Some b))) →
+      InStep table h s first (length h) q from recorded [] [] way
+      → IsOverOf table h s first recorded way
   explored q from recorded way enough u =
-      deep.in_step_over Node (numbered_step table h) (StartsOf s first (length h)) (is_end table h) (λ x. x.1) q from recorded way
+      deep.in_step_over Node (numbered_step table h) (StartsOf s first (length h)) (is_end table h)
+      (λ x. x.1) q from recorded way
       (λ front n (i, number, entry, low, high, is, e, f). (i, number ∷ [], e)) (all enough) u
     where
-      all : ((length h < from) ⊎ ((b : List ℕ) × (way ≡ Some b))) → ((front : List ℕ) (n : Node) → StartsOf s first (length h) front n → StartsBelow from front) ⊎ ((b : List ℕ) × (way ≡ Some b))
-      all (inl past) = inl (λ front n (i, number, entry, low, high, is, e, f). subst (StartsBelow from) (sym e) (omega (arith, past, high)))
+      all : ((length h < from) ⊎ ((b : List ℕ) × (way ≡ Some b)))
+          → ((front : List ℕ) (n : Node) → StartsOf s first (length h) front n
+          → StartsBelow from front) ⊎ ((b : List ℕ) × (way ≡ Some b))
+      all (inl past) =
+          inl (λ front n (i, number, entry, low, high, is, e, f).
+          subst (StartsBelow from) (sym e) (omega (arith, past, high)))
       all (inr best) = inr best
 
   -- a search that is over tells the answer
-  pub answered : (best : Best) (recorded : Node → Option (List ℕ)) (way : Option (List ℕ)) → BestHolds table h s best way → IsOverOf table h s first recorded way → IsBestOutcomeOf table h s first best
+  pub answered : (best : Best) (recorded : Node → Option (List ℕ)) (way : Option (List ℕ))
+      → BestHolds table h s best way → IsOverOf table h s first recorded way
+      → IsBestOutcomeOf table h s first best
   answered None recorded way e over =
-      list_answer_when_over table h s first recorded None None (subst (λ z. IsOverOf table h s first recorded z) e over) refl
-  answered (Some b) recorded way (w, e, (q, end, at_end, ends, (j, number, entry, ks, at, is, parts, along, has))) over =
-      let found : Found = record { start = j; end = end; marks = marks_along h (place_with table) (Some (entry, j)) ks } in (
+      list_answer_when_over table h s first recorded None None
+      (subst (λ z. IsOverOf table h s first recorded z) e over) refl
+  answered (Some b) recorded way
+      (w, e, (q, end, at_end, ends, (j, number, entry, ks, at, is, parts, along, has))) over =
+      let found : Found = record {
+        start = j;
+        end = end;
+        marks = marks_along h (place_with table) (Some (entry, j)) ks;
+      } in (
         number,
         found,
-        list_answer_when_over table h s first recorded (Some w) (Some (number, found)) (subst (λ z. IsOverOf table h s first recorded z) e over) (number, entry, found, ks, q, refl, is, parts, along, refl),
+        list_answer_when_over table h s first recorded (Some w) (Some (number, found))
+            (subst (λ z. IsOverOf table h s first recorded z) e over)
+            (number, entry, found, ks, q, refl, is, parts, along, refl),
         at,
         at_end,
         has,
       )
 
   pub ended_all : (p : ℕ) (cur : List Thread) (best : Best) → first ≤ p → p ≤ length h →
-      ((p ≡ length h) ⊎ ((best ≡ None → ⊥) × (length cur ≡ 0))) → IsComing table h s first (length h) (p + 1) cur best → IsBestOutcomeOf table h s first best
+      ((p ≡ length h) ⊎ ((best ≡ None → ⊥) × (length cur ≡ 0)))
+      → IsComing table h s first (length h) (p + 1) cur best → IsBestOutcomeOf table h s first best
   ended_all p cur best low high over u = go over
     where
-      with_none : u.coming ≡ [] → ((length h < u.from) ⊎ ((b : List ℕ) × (u.way ≡ Some b))) → IsBestOutcomeOf table h s first best
-      with_none e enough = answered best u.recorded u.way u.best_holds (explored (p + 1) u.from u.recorded u.way enough
-          (subst (λ z. InStep table h s first (length h) (p + 1) u.from u.recorded z [] u.way) e u.in_step))
+      with_none : u.coming ≡ [] → ((length h < u.from) ⊎ ((b : List ℕ) × (u.way ≡ Some b)))
+          → IsBestOutcomeOf table h s first best
+      with_none e enough =
+          answered best u.recorded u.way u.best_holds
+          (explored (p + 1) u.from u.recorded u.way enough
+          (subst (λ z. InStep table h s first (length h) (p + 1) u.from u.recorded z [] u.way) e
+          u.in_step))
 
-      way_of : (b : Best) → BestHolds table h s b u.way → (b ≡ None → ⊥) → (w : List ℕ) × (u.way ≡ Some w)
+      way_of : (b : Best) → BestHolds table h s b u.way → (b ≡ None → ⊥)
+          → (w : List ℕ) × (u.way ≡ Some w)
       way_of None e d = absurd (d refl)
       way_of (Some x) (w, e, held) d = (w, e)
 
-      at_end : (b : Best) → BestHolds table h s b u.way → FromIs (p + 1) u.from b → p ≡ length h → (length h < u.from) ⊎ ((w : List ℕ) × (u.way ≡ Some w))
+      at_end : (b : Best) → BestHolds table h s b u.way → FromIs (p + 1) u.from b → p ≡ length h
+          → (length h < u.from) ⊎ ((w : List ℕ) × (u.way ≡ Some w))
       at_end None e is same = inl (omega (arith, is, same))
       at_end (Some x) (w, e, held) is same = inr (w, e)
 
-      go : (p ≡ length h) ⊎ ((best ≡ None → ⊥) × (length cur ≡ 0)) → IsBestOutcomeOf table h s first best
-      go (inl same) = with_none (nothing_beyond (p + 1) u.from u.recorded u.coming u.way (omega (arith, same)) u.in_step u.before (omega (arith, same))) (at_end best u.best_holds u.from_is same)
-      go (inr (some, empty)) = let all = u.all in with_none (nil_from_length u.coming (omega (arith, all, empty))) (inr (way_of best u.best_holds some))
+      go : (p ≡ length h) ⊎ ((best ≡ None → ⊥) × (length cur ≡ 0))
+          → IsBestOutcomeOf table h s first best
+      go (inl same) =
+          with_none (nothing_beyond (p + 1) u.from u.recorded u.coming u.way (omega (arith, same))
+          u.in_step u.before (omega (arith, same))) (at_end best u.best_holds u.from_is same)
+      go (inr (some, empty)) =
+          let all = u.all in with_none (nil_from_length u.coming (omega (arith, all, empty)))
+          (inr (way_of best u.best_holds some))
 
 -- of one pattern
-pub one_best : (table : List (Place ℕ)) (h : Text) (s first : ℕ) (best : Best) → IsBestOutcomeOf table h (s ∷ []) first best → IsBestOutcome table h s first best
-one_best table h s first None none = λ i q j way m. none i 0 way q j (record { entry = s; is_entry = refl; is_match = m })
+pub one_best : (table : List (Place ℕ)) (h : Text) (s first : ℕ) (best : Best)
+    → IsBestOutcomeOf table h (s ∷ []) first best → IsBestOutcome table h s first best
+one_best table h s first None none = λ i q j way m.
+    none i 0 way q j (record { entry = s; is_entry = refl; is_match = m })
 one_best table h s first (Some b) (number, found, is, from, to, held) = (
   found,
-  subst (λ z. IsNumberedFound table h z first found) (sym (only_entry s number is.entry is.is_entry).1) is.answer,
+  subst (λ z. IsNumberedFound table h z first found)
+      (sym (only_entry s number is.entry is.is_entry).1) is.answer,
   from.start_told,
   to,
   held,
@@ -144,7 +195,8 @@ step_below p l r e f le = go (cases_eq p l)
     go (inr d) = omega (arith, le, d)
 
 -- at the end of the text
-pub over_at : {Q : Type 0} (h : Text) (p : ℕ) (x : Here) → IsHere h p x → (x.after ≡ None) ⊎ Q → (p ≡ length h) ⊎ Q
+pub over_at : {Q : Type 0} (h : Text) (p : ℕ) (x : Here) → IsHere h p x → (x.after ≡ None) ⊎ Q
+    → (p ≡ length h) ⊎ Q
 over_at h p x is (inr q) = inr q
 over_at h p x is (inl e) = inl (go (cases_lt p (length h)))
   where

@@ -1,5 +1,6 @@
 -- What a walk keeps true when it comes to a match.
-use Rattle.std.proofs.Common.{◌≡◌, ℕ, ◌≤◌, ◌⊎◌, inl, inr, Bool, IsTrue, List, [], ◌∷◌, ◌++◌, Option, Some, None, refl, sym, ap, subst, ◌∙◌}
+use Rattle.std.proofs.Common.{◌≡◌, ℕ, ◌≤◌, ◌⊎◌, inl, inr, Bool, IsTrue, List, [], ◌∷◌}
+use Rattle.std.proofs.Common.{◌++◌, Option, Some, None, refl, sym, ap, subst, ◌∙◌}
 use Rattle.regex_lite_engine.specs.Search.Preference.{IsPreferred}
 use Rattle.regex_lite_engine.specs.Walk.Explored.{NotAfter, IsAnswered, IsGrown}
 use Rattle.regex_lite_engine.specs.Walk.InStep as walk
@@ -24,9 +25,11 @@ module _ (N : Type 0) (step : N → ℕ → Option N) (same : (x y : N) → (x �
   Recorded = N → Option (List ℕ)
 
   abbrev IsInStep : ℕ → ℕ → Recorded → List Offer → List Offer → Option (List ℕ) → Type 0
-  IsInStep p from recorded now next best = walk.IsInStep N step IsStart is_end position p from recorded now next best
+  IsInStep p from recorded now next best =
+      walk.IsInStep N step IsStart is_end position p from recorded now next best
 
-  module _ (p from : ℕ) (recorded : Recorded) (n : N) (w : List ℕ) (fresh : recorded n ≡ None) (rest next : List Offer) (best : Option (List ℕ))
+  module _ (p from : ℕ) (recorded : Recorded) (n : N) (w : List ℕ) (fresh : recorded n ≡ None)
+      (rest next : List Offer) (best : Option (List ℕ))
       (u : IsInStep p from recorded ((n, w) ∷ rest) next best) where
     abbrev extended : Recorded
     extended = records.extended N same recorded n w
@@ -43,12 +46,19 @@ module _ (N : Type 0) (step : N → ℕ → Option N) (same : (x y : N) → (x �
     back : (m : N) (v : List ℕ) → extended m ≡ Some v → ((m ≡ n) × (v ≡ w)) ⊎ (recorded m ≡ Some v)
     back = records.back N same recorded n w
 
-    -- a match is complete there: it is the best so far, and what is left at this position is dropped
-    pub in_step_complete : IsTrue (is_end n) → ((k : ℕ) → step n k ≡ None) → IsInStep p from extended [] next (Some w)
+    -- a match is complete there: it is the best so far, and what is left at this position is
+    -- dropped
+    pub in_step_complete : IsTrue (is_end n) → ((k : ℕ) → step n k ≡ None)
+        → IsInStep p from extended [] next (Some w)
     in_step_complete ends no_arrow = record {
-      grown = λ m v r. regrown m v (records.grown_extended N same recorded n w fresh step is_end IsStart best u.grown (u.now_grown n w here) m v r);
+      grown = λ m v r.
+          regrown m v
+          (records.grown_extended N same recorded n w fresh step is_end IsStart best u.grown
+          (u.now_grown n w here) m v r);
       now_grown = λ m v i. absurd i;
-      next_grown = λ m v i. regrown m v (records.grown_still N same recorded n w fresh step is_end IsStart best m v (u.next_grown m v i));
+      next_grown = λ m v i.
+          regrown m v (records.grown_still N same recorded n w fresh step is_end IsStart best m v
+          (u.next_grown m v i));
       starts = λ front m is below. or_dead (settle m front) (u.starts front m is below);
       arrows = λ m v k l r s. by_back m v k l s (back m v r);
       best_ends = λ b e. (n, ends, extended_here ∙ e);
@@ -59,12 +69,15 @@ module _ (N : Type 0) (step : N → ℕ → Option N) (same : (x y : N) → (x �
       ahead = λ m v l x i r q. absurd i;
       now_stands = λ m v i. absurd i;
       next_stands = u.next_stands;
-      past = deep.past_now N step same width no_more IsStart is_end position p from recorded n w fresh rest next best u;
+      past =
+          deep.past_now N step same width no_more IsStart is_end position p from recorded n w fresh
+          rest next best u;
       now_below = λ m v i. absurd i;
       next_below = u.next_below;
       best_below = λ b e. subst (λ z. StartsBelow from z) (same_some e) (u.now_below n w here);
       now_better = λ m v b i e. absurd i;
-      next_better = λ m v b i e. subst (λ z. IsPreferred v z) (same_some e) (u.behind m v n w i here);
+      next_better = λ m v b i e.
+          subst (λ z. IsPreferred v z) (same_some e) (u.behind m v n w i here);
     }
       where
         regrown : (m : N) (v : List ℕ) → IsGrown N step is_end IsStart extended best m v →
@@ -72,20 +85,31 @@ module _ (N : Type 0) (step : N → ℕ → Option N) (same : (x y : N) → (x �
         regrown m v (inl g) = inl g
         regrown m v (inr g) = inr g
 
-        settle : (m : N) (x : List ℕ) → IsAnswered N step is_end IsStart recorded best m x ⊎ (In m x ((n, w) ∷ rest) ⊎ In m x next) →
+        settle : (m : N) (x : List ℕ)
+            → IsAnswered N step is_end IsStart recorded best m x
+            ⊎ (In m x ((n, w) ∷ rest) ⊎ In m x next) →
             IsAnswered N step is_end IsStart extended (Some w) m x ⊎ (⊥ ⊎ In m x next)
         settle m x (inl (inl (v, r, le))) = inl (inl (v, kept m v r, le))
-        settle m x (inl (inr (b, e, lt))) = inl (inr (w, refl, Before-trans w b x (preferred_before w b (u.now_better n w b here e)) lt))
+        settle m x (inl (inr (b, e, lt))) =
+            inl (inr
+            (w, refl, Before-trans w b x (preferred_before w b (u.now_better n w b here e)) lt))
         settle m x (inr (inr i)) = inr (inr i)
-        settle m x (inr (inl (inr i))) = inl (inr (w, refl, preferred_before w x (u.now_ordered.0 m x i)))
-        settle m x (inr (inl (inl e))) = inl (inl (w, ap extended e.0 ∙ extended_here, inl (sym e.1)))
+        settle m x (inr (inl (inr i))) =
+            inl (inr (w, refl, preferred_before w x (u.now_ordered.0 m x i)))
+        settle m x (inr (inl (inl e))) =
+            inl (inl (w, ap extended e.0 ∙ extended_here, inl (sym e.1)))
 
-        by_back : (m : N) (v : List ℕ) (k : ℕ) (l : N) → step m k ≡ Some l → ((m ≡ n) × (v ≡ w)) ⊎ (recorded m ≡ Some v) →
-            IsAnswered N step is_end IsStart extended (Some w) l (v ++ k ∷ []) ⊎ (⊥ ⊎ In l (v ++ k ∷ []) next)
+        by_back : (m : N) (v : List ℕ) (k : ℕ) (l : N) → step m k ≡ Some l
+            → ((m ≡ n) × (v ≡ w)) ⊎ (recorded m ≡ Some v) →
+            IsAnswered N step is_end IsStart extended (Some w) l (v ++ k ∷ [])
+            ⊎ (⊥ ⊎ In l (v ++ k ∷ []) next)
         by_back m v k l s (inr r) = settle l (v ++ k ∷ []) (u.arrows m v k l r s)
-        by_back m v k l s (inl e) = absurd (not_there (sym (no_arrow k) ∙ ap (λ z. step z k) (sym e.0) ∙ s))
+        by_back m v k l s (inl e) =
+            absurd (not_there (sym (no_arrow k) ∙ ap (λ z. step z k) (sym e.0) ∙ s))
 
-        by_end : (m : N) (v : List ℕ) → IsTrue (is_end m) → ((m ≡ n) × (v ≡ w)) ⊎ (recorded m ≡ Some v) → NotAfter w v
+        by_end : (m : N) (v : List ℕ) → IsTrue (is_end m)
+            → ((m ≡ n) × (v ≡ w)) ⊎ (recorded m ≡ Some v) → NotAfter w v
         by_end m v e (inl f) = inl (sym f.1)
         by_end m v e (inr r) = let b = u.best_least m v e r in
-            NotAfter-trans w b.0 v (inr (preferred_before w b.0 (u.now_better n w b.0 here b.1))) b.2
+            NotAfter-trans w b.0 v
+            (inr (preferred_before w b.0 (u.now_better n w b.0 here b.1))) b.2

@@ -1,5 +1,6 @@
 -- What a search for several patterns tells: the answer of the list, by offsets.
-use Rattle.std.proofs.Common.{◌≡◌, refl, ℕ, ◌+◌, ◌<◌, ◌≤◌, ◌↔◌, List, [], ◌∷◌, All, IsTrue, length, slice_index, Option, Some, None, ap, sym, subst, ◌∙◌, arith}
+use Rattle.std.proofs.Common.{◌≡◌, refl, ℕ, ◌+◌, ◌<◌, ◌≤◌, ◌↔◌, List, [], ◌∷◌, All, IsTrue}
+use Rattle.std.proofs.Common.{length, slice_index, Option, Some, None, ap, sym, subst, ◌∙◌, arith}
 use Rattle.std.specs.Prelude.{chars, is_some, option_map}
 use Rattle.std.proofs.lemmas.List.{length-map}
 use Rattle.std.proofs.lemmas.List.Sums.{sum_by-cons}
@@ -8,18 +9,22 @@ use Rattle.regex_lite_syntax.specs.Tree.{Tree}
 use Rattle.regex_lite_engine.specs.declared.pikevm.search.Outcome.{Outcome}
 use Rattle.regex_lite_engine.specs.Graph.PlaceCounts.{whole_arrows}
 use Rattle.regex_lite_engine.specs.Graph.Renumbered.{arrows_of}
-use Rattle.regex_lite_engine.specs.Graph.SideBySide.{AreRegular, arrows_of_all, places_of_all, tries_of_all}
+use Rattle.regex_lite_engine.specs.Graph.SideBySide.{AreRegular, arrows_of_all}
+use Rattle.regex_lite_engine.specs.Graph.SideBySide.{places_of_all, tries_of_all}
 use Rattle.regex_lite_engine.specs.Graph.Stored.{place_of}
 use Rattle.regex_lite_engine.specs.Graph.StoredList.{IsGraphOfList, StoredList, table_of_list}
 use Rattle.regex_lite_engine.specs.Search.Answer.{Found, HasMatchFrom, IsMatchFrom}
 use Rattle.regex_lite_engine.specs.Search.AnswerOfList.{AnyMatchesFrom, HasTree, IsAnswerOfList}
 use Rattle.regex_lite_engine.specs.Search.Bounds.{IsBoundedBy, StepCounts}
 use Rattle.regex_lite_engine.specs.Search.Offsets.{position_at, search_start}
-use Rattle.regex_lite_engine.specs.Search.Outcomes.{HasCostOfList, IsOutcomeOfList, IsSpanOutcomeOfList}
+use Rattle.regex_lite_engine.specs.Search.Outcomes.{HasCostOfList, IsOutcomeOfList}
+use Rattle.regex_lite_engine.specs.Search.Outcomes.{IsSpanOutcomeOfList}
 use Rattle.regex_lite_engine.specs.Walk.NumberedList.{IsEntry, IsMatchOfAny, IsNumberedAnswerOf}
-use Rattle.regex_lite_engine.specs.Walk.Outcomes.{IsBestOutcomeOf, IsNumberedEndOf, numbered_at, numbered_told, with_origin_kept}
+use Rattle.regex_lite_engine.specs.Walk.Outcomes.{IsBestOutcomeOf, IsNumberedEndOf}
+use Rattle.regex_lite_engine.specs.Walk.Outcomes.{numbered_at, numbered_told, with_origin_kept}
 use Rattle.regex_lite_engine.specs.Walk.Walking.{Best}
-use Rattle.regex_lite_engine.proofs.laws.several.NumberedListLemmas.{any_numbered, any_of_numbers, list_answer_of_numbers}
+use Rattle.regex_lite_engine.proofs.laws.several.NumberedListLemmas.{any_numbered, any_of_numbers}
+use Rattle.regex_lite_engine.proofs.laws.several.NumberedListLemmas.{list_answer_of_numbers}
 use Rattle.regex_lite_engine.proofs.pikevm.OptionLemmas.{same_some}
 use Rattle.regex_lite_engine.proofs.pikevm.TurnLemmas.{only_entry}
 
@@ -130,11 +135,13 @@ module _ (trees : List Tree) (list : StoredList) (is : IsGraphOfList trees list)
 
       -- its own matches over numbers
       numbered : Here → (i k : ℕ) × (way : List ℕ) × (q j : ℕ)
-          × IsMatchOfAny (table_of_list list) (chars haystack) (slice_index list.entries number ∷ [])
+          × IsMatchOfAny (table_of_list list) (chars haystack)
+          (slice_index list.entries number ∷ [])
           (position_at haystack start) i k way q j
       numbered (i, j, match) =
           let (q, way, m) = any_numbered trees (chars haystack) (table_of_list list) list.entries
-          is.name is.written is.entries regular (position_at haystack start) number i j tree there match in (
+          is.name is.written is.entries regular
+          (position_at haystack start) number i j tree there match in (
             i,
             0,
             way,
@@ -148,7 +155,8 @@ module _ (trees : List Tree) (list : StoredList) (is : IsGraphOfList trees list)
           )
 
       pub one_told : (best : Best)
-          → IsNumberedEndOf (table_of_list list) (chars haystack) (slice_index list.entries number ∷ [])
+          → IsNumberedEndOf (table_of_list list) (chars haystack)
+          (slice_index list.entries number ∷ [])
           (position_at haystack start) best
           → IsTrue (is_some (option_map (λ z. z.1) best)) ↔ Here
       one_told None none = (
@@ -160,9 +168,18 @@ module _ (trees : List Tree) (list : StoredList) (is : IsGraphOfList trees list)
           there_is : Here
           there_is =
               let m = shortest.is_match in
-              let (same, entry) = only_entry (slice_index list.entries number) shortest.number m.entry m.is_entry in
+              let (same, entry) =
+              only_entry (slice_index list.entries number) shortest.number m.entry m.is_entry in
               let (other, known, match) = any_of_numbers trees (chars haystack) (table_of_list list)
               list.entries is.name is.written is.entries regular (position_at haystack start)
               shortest.start number shortest.way shortest.last end
-              (record { entry = m.entry; is_entry = own ∙ ap Some entry; is_match = m.is_match }) in
-              (shortest.start, end, subst (λ t. IsMatchFrom t (chars haystack) (position_at haystack start) shortest.start end) (same_some (sym known ∙ there)) match)
+              (record {
+                entry = m.entry;
+                is_entry = own ∙ ap Some entry;
+                is_match = m.is_match;
+              }) in (
+                shortest.start,
+                end,
+                subst (λ t. IsMatchFrom t (chars haystack) (position_at haystack start)
+                    shortest.start end) (same_some (sym known ∙ there)) match,
+              )

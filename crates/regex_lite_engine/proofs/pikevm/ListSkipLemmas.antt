@@ -1,5 +1,7 @@
 -- Positions at which no match of several patterns can begin, and the bytes of their characters.
-use Rattle.std.proofs.Common.{◌≡◌, ℕ, zero, suc, ◌+◌, ◌<◌, ◌≤◌, ◌⊎◌, inl, inr, ◌&&◌, ◌||◌, false, List, length, slice_get, slice_index, Some, sym, ap, subst, ◌∙◌, arith}
+use Rattle.std.proofs.Common.{◌≡◌, ℕ, zero, suc, ◌+◌, ◌<◌, ◌≤◌, ◌⊎◌, inl, inr}
+use Rattle.std.proofs.Common.{◌&&◌, ◌||◌, false, List, length, slice_get}
+use Rattle.std.proofs.Common.{slice_index, Some, sym, ap, subst, ◌∙◌, arith}
 use Rattle.std.specs.Prelude.{IsUtf8, chars}
 use Rattle.std.proofs.lemmas.Bool.{cases_lt}
 use Rattle.std.proofs.lemmas.Option.{slice_get_within}
@@ -12,7 +14,8 @@ use Rattle.regex_lite_engine.specs.Search.Offsets.{offset}
 use Rattle.regex_lite_engine.specs.Walk.Standing.{IsHere}
 use Rattle.regex_lite_engine.specs.Walk.Starts.{AreListHeadsOf, PassesTo}
 use Rattle.regex_lite_engine.specs.Walk.Turns.{AreDeadAt}
-use Rattle.regex_lite_engine.proofs.pikevm.SkipLemmas.{ascii_there, begins_later, first_byte, inside, next_at, there}
+use Rattle.regex_lite_engine.proofs.pikevm.SkipLemmas.{ascii_there, begins_later}
+use Rattle.regex_lite_engine.proofs.pikevm.SkipLemmas.{first_byte, inside, next_at, there}
 use Rattle.regex_lite_engine.proofs.pikevm.here.OffsetLemmas.{offset_less}
 
 module _ (table : List (Place ℕ)) (entries : List ℕ) (heads : ListHeads)

@@ -1,5 +1,7 @@
 -- Rows of slots, and the marks that they hold.
-use Rattle.std.proofs.Common.{rules, ◌≡◌, ℕ, zero, suc, ◌≤◌, ◌⊎◌, inl, inr, Bool, true, false, List, [], ◌∷◌, ◌++◌, length, set, slice_get, if◌then◌else◌, ◌==◌, Option, Some, None, option_map, refl, sym, ap, ◌∙◌, arith}
+use Rattle.std.proofs.Common.{rules, ◌≡◌, ℕ, zero, suc, ◌≤◌, ◌⊎◌, inl, inr, Bool, true, false}
+use Rattle.std.proofs.Common.{List, [], ◌∷◌, ◌++◌, length, set, slice_get, if◌then◌else◌}
+use Rattle.std.proofs.Common.{◌==◌, Option, Some, None, option_map, refl, sym, ap, ◌∙◌, arith}
 use Rattle.std.specs.Option.{option_or}
 use Rattle.std.proofs.lemmas.Option.{slice_get_within}
 use Rattle.std.proofs.lemmas.Bool.Decides.{nat_tests}
@@ -48,16 +50,21 @@ same_slots haystack row marks others same has k o e =
 -- the slot is set
 pub slots_set : (haystack : Text) (row : Row) (marks : Marks) (slot p : ℕ)
     → HasSlots haystack row marks
-    → HasSlots haystack (set row slot (Some (offset haystack p))) (over (marked (Some slot) p) marks)
-slots_set haystack row marks slot p has k o e = by_case (got_after_set row slot k (Some (offset haystack p)) o e)
+    → HasSlots haystack (set row slot (Some (offset haystack p)))
+    (over (marked (Some slot) p) marks)
+slots_set haystack row marks slot p has k o e =
+    by_case (got_after_set row slot k (Some (offset haystack p)) o e)
   where
-    by_case : ((k ≡ slot) × (o ≡ Some (offset haystack p))) ⊎ ((k ≡ slot → ⊥) × (slice_get row k ≡ Some o))
+    by_case : ((k ≡ slot) × (o ≡ Some (offset haystack p)))
+        ⊎ ((k ≡ slot → ⊥) × (slice_get row k ≡ Some o))
         → o ≡ option_map (offset haystack) (over (marked (Some slot) p) marks k)
     by_case (inl (d, f)) =
         f ∙ sym (ap (λ z. option_map (offset haystack) (option_or z (marks k)))
         (ap (marked (Some slot) p) d ∙ marked_here slot p))
     by_case (inr (d, f)) =
-        has k o f ∙ sym (ap (λ z. option_map (offset haystack) (option_or z (marks k))) (marked_other slot p k d))
+        has k o f
+        ∙ sym
+        (ap (λ z. option_map (offset haystack) (option_or z (marks k))) (marked_other slot p k d))
 
 -- a slot after the row
 pub slots_past : (haystack : Text) (row : Row) (marks : Marks) (slot p : ℕ) → length row ≤ slot
@@ -83,9 +90,12 @@ marks_append haystack place [] n m a k e =
     alone None {y} e = ap (λ z. option_or z None) e
     alone (Some v) {y} e = ap (λ z. option_or z (Some v)) e
 marks_append haystack place (j ∷ ks) n m a k (l, s, rest) =
-    ap (λ o. option_or (marks_along haystack place o (ks ++ a ∷ []) k) (marked (mark_of (place n.0) j) n.1 k)) s
-    ∙ ap (λ z. option_or z (marked (mark_of (place n.0) j) n.1 k)) (marks_append haystack place ks l m a k rest)
-    ∙ grouped (marked (mark_of (place m.0) a) m.1 k) (marks_along haystack place (Some l) ks k) (marked (mark_of (place n.0) j) n.1 k)
+    ap (λ o. option_or (marks_along haystack place o (ks ++ a ∷ []) k)
+    (marked (mark_of (place n.0) j) n.1 k)) s
+    ∙ ap (λ z. option_or z (marked (mark_of (place n.0) j) n.1 k))
+    (marks_append haystack place ks l m a k rest)
+    ∙ grouped (marked (mark_of (place m.0) a) m.1 k) (marks_along haystack place (Some l) ks k)
+    (marked (mark_of (place n.0) j) n.1 k)
     ∙ ap (λ o. option_or (marked (mark_of (place m.0) a) m.1 k)
     (option_or (marks_along haystack place o ks k) (marked (mark_of (place n.0) j) n.1 k))) (sym s)
   where

@@ -1,5 +1,6 @@
 -- The only start of a search for one pattern.
-use Rattle.std.proofs.Common.{◌<◌, ◌≤◌, ◌∷◌, [], ℕ, zero, suc, Bool, true, false, length, if◌then◌else◌, arith}
+use Rattle.std.proofs.Common.{◌<◌, ◌≤◌, ◌∷◌, [], ℕ, zero, suc, Bool}
+use Rattle.std.proofs.Common.{true, false, length, if◌then◌else◌, arith}
 use Rattle.std.specs.List.{All}
 use Rattle.regex_lite_engine.specs.declared.pikevm.patterns.Start.{Start}
 

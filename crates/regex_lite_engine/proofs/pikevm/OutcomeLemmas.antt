@@ -1,5 +1,6 @@
 -- What a search tells: where it starts, that its counts fit, and the tree's answer by offsets.
-use Rattle.std.proofs.Common.{◌≡◌, ℕ, ◌+◌, ◌*◌, ◌^◌, ◌<◌, ◌≤◌, List, [], length, Option, Some, None, sym, subst, ◌∙◌, arith}
+use Rattle.std.proofs.Common.{◌≡◌, ℕ, ◌+◌, ◌*◌, ◌^◌, ◌<◌, ◌≤◌, List, [], length}
+use Rattle.std.proofs.Common.{Option, Some, None, sym, subst, ◌∙◌, arith}
 use Rattle.std.specs.Prelude.{IsUtf8, chars, option_map}
 use Rattle.std.proofs.lemmas.List.{length-map}
 use Rattle.std.proofs.lemmas.Str.{encodes-chars, length-le-encodes}
@@ -15,10 +16,14 @@ use Rattle.regex_lite_engine.specs.Search.Bounds.{IsBounded, characters_left}
 use Rattle.regex_lite_engine.specs.Search.Answer.{IsAnswer, IsShortest}
 use Rattle.regex_lite_engine.specs.Search.Offsets.{position_at, search_start}
 use Rattle.regex_lite_engine.specs.Search.Outcomes.{IsSpanOutcome, IsOutcome, IsEndOutcome}
-use Rattle.regex_lite_engine.specs.Walk.Outcomes.{IsNumberedOutcome, IsNumberedEnd, IsCountable, CanCount, match_told}
+use Rattle.regex_lite_engine.specs.Walk.Outcomes.{IsNumberedOutcome, IsNumberedEnd}
+use Rattle.regex_lite_engine.specs.Walk.Outcomes.{IsCountable, CanCount, match_told}
 use Rattle.regex_lite_engine.specs.Walk.Turns.{best_at}
 use Rattle.regex_lite_engine.specs.Walk.Walking.{Best}
-use Rattle.regex_lite_engine.proofs.laws.search.NumberedAnswerLemmas.{answer_of_numbers, shortest_of_numbers}
+use Rattle.regex_lite_engine.proofs.laws.search.NumberedAnswerLemmas.{
+  answer_of_numbers,
+  shortest_of_numbers,
+}
 
 -- there are no more characters than bytes
 pub few_chars : (bytes : List ℕ) → IsUtf8 bytes → length (chars bytes) ≤ length bytes
@@ -60,11 +65,14 @@ pub cost_told : (tree : Tree) (graph : StoredGraph) → IsGraphOf tree graph
     → IsBounded (whole_places tree) (whole_arrows tree) (chars haystack)
     (search_start haystack start) tried entered looked
 cost_told tree graph is haystack start inside tried entered looked bounded =
-    subst (λ z. IsBounded (whole_places tree) (whole_arrows tree) (chars haystack) z tried entered looked)
+    subst
+    (λ z. IsBounded (whole_places tree) (whole_arrows tree) (chars haystack) z tried entered looked)
     (sym (start_inside haystack start inside))
-    (subst (λ z. IsBounded (whole_places tree) z (chars haystack) (position_at haystack start) tried entered looked)
+    (subst (λ z. IsBounded (whole_places tree) z (chars haystack)
+    (position_at haystack start) tried entered looked)
     is.each_arrow
-    (subst (λ z. IsBounded z (arrows_of (table_of graph)) (chars haystack) (position_at haystack start) tried entered looked)
+    (subst (λ z. IsBounded z (arrows_of (table_of graph)) (chars haystack)
+    (position_at haystack start) tried entered looked)
     (length-map graph.places place_of ∙ is.places) bounded))
 
 module _ (tree : Tree) (regular : IsRegular tree) (graph : StoredGraph)

@@ -1,5 +1,7 @@
 -- A search stays in the part of the table in which its patterns are entered, and pays for no other.
-use Rattle.std.proofs.Common.{◌≡◌, ℕ, zero, suc, ◌+◌, ◌<◌, ◌≤◌, ◌==◌, List, [], ◌∷◌, length, take, drop, slice_index, sum_by, if◌then◌else◌, Option, Some, sym, ap, subst, arith}
+use Rattle.std.proofs.Common.{◌≡◌, ℕ, zero, suc, ◌+◌, ◌<◌, ◌≤◌, ◌==◌, List, []}
+use Rattle.std.proofs.Common.{◌∷◌, length, take, drop, slice_index, sum_by}
+use Rattle.std.proofs.Common.{if◌then◌else◌, Option, Some, sym, ap, subst, arith}
 use Rattle.std.proofs.lemmas.Bool.{ne_eqb}
 use Rattle.std.proofs.lemmas.List.{length-take}
 use Rattle.std.proofs.lemmas.List.Sums.{sum_by-cons}
@@ -21,15 +23,18 @@ pub recorded_within : (table : List (Place ℕ)) (h : Text) (s : List ℕ) (firs
     → InStep table h s first last p from recorded now next way
     → (n : Node) (v : List ℕ) → recorded n ≡ Some v → IsWithin low len n.0
 recorded_within table h s first last low len part p from recorded now next way in_step n v known =
-    let t = traced Node (numbered_step table h) (is_end table h) (StartsOf s first last) recorded way in_step.grown n v known in
+    let t = traced Node (numbered_step table h) (is_end table h)
+    (StartsOf s first last) recorded way in_step.grown n v known in
     let (i, number, entry, above, below, is_entry, front, start) = t.is_start in
     leads_within h table (IsWithin low len) within part.closed t.arrows t.start n
-    (subst (λ (z : Node). IsWithin low len z.0) (sym start) (part.entered number entry is_entry)) t.along
+    (subst (λ (z : Node). IsWithin low len z.0) (sym start) (part.entered number entry is_entry))
+    t.along
   where
     within : (q : ℕ) → IsWithin low len q → q < length table
     within q inside = let high = part.inside in omega (arith, high, inside.1)
 
-not_entered : (now round value : ℕ) → (round ≡ now → ⊥) → (if round == now then 0 else value) ≡ value
+not_entered : (now round value : ℕ) → (round ≡ now → ⊥)
+    → (if round == now then 0 else value) ≡ value
 not_entered now round value other = ap (λ b. if b then 0 else value) (ne_eqb round now other)
 
 -- where just places of the part were entered in this round, the others are left

@@ -16,7 +16,8 @@ use Rattle.regex_lite_engine.proofs.pikevm.TurnLemmas.{none_coming}
 
 module _ (table : List (Place ℕ)) (haystack : Text) (entries : List ℕ) (s : ℕ) where
   -- a search that has not begun
-  pub begun : {S : Type 0} (cache : Cache S) → IsFresh table cache → IsUnderWay table haystack entries s s cache
+  pub begun : {S : Type 0} (cache : Cache S) → IsFresh table cache
+      → IsUnderWay table haystack entries s s cache
   begun cache fresh =
       let none = fresh.no_threads in
       let tried = fresh.no_tries in
@@ -25,8 +26,11 @@ module _ (table : List (Place ℕ)) (haystack : Text) (entries : List ℕ) (s : 
       record {
         low = omega arith;
         ready = fresh.between;
-        coming = subst (λ z. IsComing table haystack entries s (length haystack) s cache.walk.memory.threads z)
-            (sym fresh.none) (none_coming table haystack entries s (length haystack) cache.walk.memory.threads none);
+        coming =
+            subst
+            (λ z. IsComing table haystack entries s (length haystack) s cache.walk.memory.threads z)
+            (sym fresh.none)
+            (none_coming table haystack entries s (length haystack) cache.walk.memory.threads none);
         tries = omega (arith, tried, ap length none);
         entries = omega (arith, entered);
         own = λ low len part. record {
@@ -72,7 +76,8 @@ module _ (table : List (Place ℕ)) (haystack : Text) (entries : List ℕ) (s : 
   -- a search that has gone over a position of the haystack did no more than is allowed
   pub bounded : {S : Type 0} (q : ℕ) (cache : Cache S) → s ≤ q → q ≤ length haystack
       → IsUnderWay table haystack entries s (q + 1) cache
-      → IsBoundedBy (length table) (arrows_of table + length entries) haystack s cache.walk.steps.tried
+      → IsBoundedBy (length table)
+      (arrows_of table + length entries) haystack s cache.walk.steps.tried
       cache.walk.steps.entered cache.walk.steps.looked
   bounded q cache low high on =
       let tries = on.tries in

@@ -1,16 +1,21 @@
 -- The first position at which a match is complete.
-use Rattle.std.proofs.Common.{◌≡◌, refl, ℕ, suc, ◌+◌, ◌<◌, ◌≤◌, ◌⊎◌, inl, inr, Bool, true, false, IsTrue, List, [], ◌∷◌, ◌++◌, length, slice_get, Option, Some, None, if◌then◌else◌, sym, ap, subst, ◌∙◌, arith}
+use Rattle.std.proofs.Common.{◌≡◌, refl, ℕ, suc, ◌+◌, ◌<◌, ◌≤◌, ◌⊎◌, inl, inr, Bool, true}
+use Rattle.std.proofs.Common.{false, IsTrue, List, [], ◌∷◌, ◌++◌, length, slice_get, Option}
+use Rattle.std.proofs.Common.{Some, None, if◌then◌else◌, sym, ap, subst, ◌∙◌, arith}
 use Rattle.std.proofs.lemmas.Bool.{cases_lt}
 use Rattle.regex_lite_syntax.specs.Text.{Text, before, after}
 use Rattle.regex_lite_syntax.specs.Tree.Looks.{holds_between}
 use Rattle.regex_lite_syntax.proofs.ListLemmas.{same_head, same_tail}
-use Rattle.regex_lite_engine.specs.Graph.Places.{Condition, Arrow, Place, complete, with_arrows, free, holding, reading, taken, behind, arrived, arrow_taken, step_from}
+use Rattle.regex_lite_engine.specs.Graph.Places.{Condition, Arrow, Place, complete}
+use Rattle.regex_lite_engine.specs.Graph.Places.{with_arrows, free, holding, reading, taken}
+use Rattle.regex_lite_engine.specs.Graph.Places.{behind, arrived, arrow_taken, step_from}
 use Rattle.regex_lite_engine.specs.Graph.Ways.{Leads, NoneTwice}
 use Rattle.regex_lite_engine.specs.Search.Offsets.{offset}
 use Rattle.regex_lite_engine.specs.Walk.Beginnings.{Told}
 use Rattle.regex_lite_engine.specs.Walk.Explored.{IsAnswered, IsDead}
 use Rattle.regex_lite_engine.specs.Walk.NumberedList.{IsEntry, StartsOf, IsMatchOfAny}
-use Rattle.regex_lite_engine.specs.Walk.NumberedAnswer.{place_with, numbered_step, is_end, IsNumberedMatch}
+use Rattle.regex_lite_engine.specs.Walk.NumberedAnswer.{place_with, numbered_step}
+use Rattle.regex_lite_engine.specs.Walk.NumberedAnswer.{is_end, IsNumberedMatch}
 use Rattle.regex_lite_engine.specs.Walk.InStep.{Offer, In}
 use Rattle.regex_lite_engine.specs.Walk.Machine.{Row, Thread}
 use Rattle.regex_lite_engine.specs.Walk.Outcomes.{IsNumberedEnd, IsNumberedEndOf}

@@ -1,5 +1,9 @@
 -- Positions at which no match can begin, and the bytes of their characters.
-use Rattle.std.proofs.Common.{◌≡◌, ℕ, zero, suc, ◌+◌, ◌*◌, ◌-◌, ◌<◌, ◌≤◌, ◌⊎◌, inl, inr, Bool, true, false, IsTrue, List, [], ◌∷◌, ◌++◌, length, take, drop, sum_by, slice_get, slice_index, slice_index_or, nat_lt, if◌then◌else◌, ◌&&◌, ◌||◌, Option, Some, None, refl, sym, ap, subst, ◌∙◌, arith, length-drop}
+use Rattle.std.proofs.Common.{◌≡◌, ℕ, zero, suc, ◌+◌, ◌*◌, ◌-◌, ◌<◌, ◌≤◌, ◌⊎◌, inl, inr}
+use Rattle.std.proofs.Common.{Bool, true, false, IsTrue, List, [], ◌∷◌, ◌++◌, length}
+use Rattle.std.proofs.Common.{take, drop, sum_by, slice_get, slice_index}
+use Rattle.std.proofs.Common.{slice_index_or, nat_lt, if◌then◌else◌, ◌&&◌, ◌||◌, Option}
+use Rattle.std.proofs.Common.{Some, None, refl, sym, ap, subst, ◌∙◌, arith, length-drop}
 use Rattle.std.specs.Prelude.{IsUtf8, IsCharBoundary, MatchOption, chars, is_none}
 use Rattle.std.specs.Char.{len_utf8}
 use lib.Utf8.{encode, encodes}
@@ -24,7 +28,9 @@ use Rattle.regex_lite_engine.specs.Walk.Turns.{IsComing}
 use Rattle.regex_lite_engine.specs.Walk.Walking.{Best}
 use Rattle.regex_lite_engine.proofs.pikevm.OptionLemmas.{not_there, same_some}
 use Rattle.regex_lite_engine.proofs.pikevm.TurnLemmas.{jumped}
-use Rattle.regex_lite_engine.proofs.pikevm.here.OffsetLemmas.{length_encodes, offset_next, offset_less, offset_most, rest_at, boundary_at}
+use Rattle.regex_lite_engine.proofs.pikevm.here.OffsetLemmas.{length_encodes, offset_next}
+use Rattle.regex_lite_engine.proofs.pikevm.here.OffsetLemmas.{offset_less, offset_most}
+use Rattle.regex_lite_engine.proofs.pikevm.here.OffsetLemmas.{rest_at, boundary_at}
 
 never_both : (a : Bool) → (a && false) ≡ true → ⊥
 never_both true e = cc
@@ -43,7 +49,8 @@ stops_outside s byte below above e =
 -- the scan stops at a boundary
 pub stops_between : (s : Starts) (bs : List ℕ) (at : ℕ) → at ≤ length bs
     → (at < length bs → stops_at s (slice_index bs at) ≡ true) → IsCharBoundary bs at
-stops_between s bs at le stops = (le, λ lt high. go (cases_lt (slice_index bs at) 192) high (stops lt))
+stops_between s bs at le stops =
+    (le, λ lt high. go (cases_lt (slice_index bs at) 192) high (stops lt))
   where
     go : (slice_index bs at < 192) ⊎ (192 ≤ slice_index bs at) → 128 ≤ slice_index bs at
         → stops_at s (slice_index bs at) ≡ true → 192 ≤ slice_index bs at
@@ -292,7 +299,8 @@ module _ (heads : Heads) (bs : List ℕ) (p q : ℕ) (x y : Here) (u : IsUtf8 bs
       go : (q < p) ⊎ (p ≤ q) → p ≤ q
       go (inr le') = le'
       go (inl lt) =
-          let less = offset_less (chars bs) q p lt is.inside in absurd (omega (arith, less, a, b, le))
+          let less = offset_less (chars bs) q p lt is.inside in
+          absurd (omega (arith, less, a, b, le))
 
   never_later : (i : ℕ) → p < i → i < q → NeverBegins heads (chars bs) i
   never_later zero low high = absurd (omega (arith, low))
@@ -302,7 +310,8 @@ module _ (heads : Heads) (bs : List ℕ) (p q : ℕ) (x y : Here) (u : IsUtf8 bs
       let more = offset_less (chars bs) p (suc i) low (omega (arith, high, within)) in
       elim (pass (offset (chars bs) (suc i)) (omega (arith, a, more)) (omega (arith, b, less))) [
         | inl off ↦
-            let none = first_byte heads.first bs (suc i) next.0 u next.1 (omega (arith, high, within))
+            let none =
+            first_byte heads.first bs (suc i) next.0 u next.1 (omega (arith, high, within))
             (omega (arith, less, b, most))
             ∙ off in
             inl (begins_later heads.first (chars bs) i
@@ -354,7 +363,8 @@ pub record Onward (table : List (Place ℕ)) (h : Text) (s : List ℕ) (first la
   pub is : IsHere h q x
   pub coming : IsComing table h s first last q threads best
 
-pub onward : (table : List (Place ℕ)) (h : Text) (s : List ℕ) (first last p : ℕ) (threads : List Thread)
+pub onward : (table : List (Place ℕ)) (h : Text) (s : List ℕ) (first last p : ℕ)
+    (threads : List Thread)
     (best : Best) (x : Here) → GoesOnAt table h s threads best p x
     → IsComing table h s first last p threads best → Onward table h s first last p threads best x
 onward table h s first last p threads best x (inl is) u =

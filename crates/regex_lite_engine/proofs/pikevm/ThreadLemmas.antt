@@ -1,5 +1,6 @@
 -- Lists of threads that are the same, or have one more.
-use Rattle.std.proofs.Common.{◌≡◌, ℕ, zero, suc, ◌+◌, ◌-◌, ◌<◌, ◌≤◌, slice_get, Some, List, [], ◌∷◌, ◌++◌, length, refl, ap, ◌∙◌, arith, length-append}
+use Rattle.std.proofs.Common.{◌≡◌, ℕ, zero, suc, ◌+◌, ◌-◌, ◌<◌, ◌≤◌, slice_get, Some, List}
+use Rattle.std.proofs.Common.{[], ◌∷◌, ◌++◌, length, refl, ap, ◌∙◌, arith, length-append}
 use Rattle.regex_lite_engine.specs.declared.pikevm.patterns.Start.{Start}
 use Rattle.regex_lite_engine.specs.Walk.Beginnings.{Told}
 use Rattle.regex_lite_engine.specs.Walk.Entering.{Pushed, Same}
@@ -11,7 +12,8 @@ at_end : (ts : List Thread) (thread : Thread) → thread_at (ts ++ thread ∷ []
 at_end [] thread = refl
 at_end (t ∷ ts) thread = at_end ts thread
 
-pub at_front : (ts more : List Thread) (k : ℕ) → k < length ts → thread_at (ts ++ more) k ≡ thread_at ts k
+pub at_front : (ts more : List Thread) (k : ℕ) → k < length ts
+    → thread_at (ts ++ more) k ≡ thread_at ts k
 at_front [] more k lt = absurd (omega (arith, lt))
 at_front (t ∷ ts) more zero lt = refl
 at_front (t ∷ ts) more (suc k) lt = at_front ts more k (omega (arith, lt))
@@ -30,20 +32,25 @@ begun_at told blank (first ∷ starts) zero start e =
     ap (λ (s : Start). (s.place, told s.number, blank)) (same_some e)
 begun_at told blank (first ∷ starts) (suc k) start e = begun_at told blank starts k start e
 
-pub at_back : (ts more : List Thread) (k : ℕ) → length ts ≤ k → thread_at (ts ++ more) k ≡ thread_at more (k - length ts)
+pub at_back : (ts more : List Thread) (k : ℕ) → length ts ≤ k
+    → thread_at (ts ++ more) k ≡ thread_at more (k - length ts)
 at_back [] more k le = let same : k ≡ k - 0 = omega arith in ap (thread_at more) same
 at_back (t ∷ ts) more zero le = absurd (omega (arith, le))
-at_back (t ∷ ts) more (suc k) le = let same : k - length ts ≡ suc k - suc (length ts) = omega arith in at_back ts more k (omega (arith, le)) ∙ ap (thread_at more) same
+at_back (t ∷ ts) more (suc k) le =
+    let same : k - length ts ≡ suc k - suc (length ts) = omega arith in
+    at_back ts more k (omega (arith, le)) ∙ ap (thread_at more) same
 
 pub same_len : {before after : List Thread} → Same before after → length after ≡ length before
 same_len same = ap length same
 
-pub same_at : {before after : List Thread} → Same before after → (k : ℕ) → thread_at after k ≡ thread_at before k
+pub same_at : {before after : List Thread} → Same before after → (k : ℕ)
+    → thread_at after k ≡ thread_at before k
 same_at same k = ap (λ ts. thread_at ts k) same
 
 module _ (before after : List Thread) (thread : Thread) (pushed : Pushed before after thread) where
   pub pushed_len : length after ≡ length before + 1
-  pushed_len = let long = length-append before (thread ∷ []) in omega (arith, ap length pushed, long)
+  pushed_len =
+      let long = length-append before (thread ∷ []) in omega (arith, ap length pushed, long)
 
   pub pushed_last : thread_at after (length before) ≡ thread
   pushed_last = ap (λ ts. thread_at ts (length before)) pushed ∙ at_end before thread

@@ -1,5 +1,6 @@
 -- What a search that goes depth first keeps.
-use Rattle.std.specs.Prelude.{◌+◌, ◌-◌, ◌*◌, ℕ, Bool, true, false, List, ◌∷◌, Option, Some, None, slice_index_or}
+use Rattle.std.specs.Prelude.{◌+◌, ◌-◌, ◌*◌, ℕ, Bool, true, false, List}
+use Rattle.std.specs.Prelude.{◌∷◌, Option, Some, None, slice_index_or}
 use Rattle.regex_lite_engine.specs.declared.backtrack.frame.Frame as code
 use Rattle.regex_lite_engine.specs.declared.backtrack.frame.Frame.TheVariants as stored
 use Rattle.regex_lite_engine.specs.declared.backtrack.enter.Onward.{Onward}

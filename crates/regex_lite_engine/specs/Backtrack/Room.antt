@@ -1,7 +1,10 @@
 -- The working memory suffices for what is left to do, and what is left bounds the counts.
-use Rattle.std.specs.Prelude.{◌≡◌, ◌+◌, ◌-◌, ◌*◌, ◌^◌, ◌≤◌, ◌<◌, ℕ, zero, suc, Bool, true, false, List, [], ◌∷◌, length, chars, Some, IsCharBoundary, slice_index_or, if◌then◌else◌}
+use Rattle.std.specs.Prelude.{◌≡◌, ◌+◌, ◌-◌, ◌*◌, ◌^◌, ◌≤◌, ◌<◌, ℕ, zero, suc}
+use Rattle.std.specs.Prelude.{Bool, true, false, List, [], ◌∷◌, length, chars}
+use Rattle.std.specs.Prelude.{Some, IsCharBoundary, slice_index_or, if◌then◌else◌}
 use Rattle.regex_lite_engine.specs.declared.backtrack.walk.Walk.{Walk}
-use Rattle.regex_lite_engine.specs.Backtrack.Machine.{Frame, explore, restore, Pairs, Held, pair_number}
+use Rattle.regex_lite_engine.specs.Backtrack.Machine.{Frame, explore, restore}
+use Rattle.regex_lite_engine.specs.Backtrack.Machine.{Pairs, Held, pair_number}
 use Rattle.regex_lite_engine.specs.Backtrack.Walking.{IsWalking}
 use Rattle.regex_lite_engine.specs.Graph.Places.{Place, kept_back_with}
 use Rattle.regex_lite_engine.specs.Graph.Renumbered.{arrow_count}

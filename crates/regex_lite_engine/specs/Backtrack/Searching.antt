@@ -1,8 +1,10 @@
 -- A search that goes depth first, start by start.
-use Rattle.std.specs.Prelude.{◌≡◌, ◌+◌, ◌-◌, ◌*◌, ◌≤◌, ◌<◌, ℕ, false, List, [], ◌∷◌, length, chars, replicate, slice_set, Option, Some, None, is_some, sum_by, unwrap_or}
+use Rattle.std.specs.Prelude.{◌≡◌, ◌+◌, ◌-◌, ◌*◌, ◌≤◌, ◌<◌, ℕ, false, List, [], ◌∷◌, length, chars}
+use Rattle.std.specs.Prelude.{replicate, slice_set, Option, Some, None, is_some, sum_by, unwrap_or}
 use Rattle.regex_lite_engine.specs.declared.backtrack.walk.Walk.{Walk}
 use Rattle.regex_lite_engine.specs.Backtrack.Machine.{Frame, explore, restore}
-use Rattle.regex_lite_engine.specs.Backtrack.Room.{AreAll, HasRoom, Keeps, WalksTo, due_entries, due_tries}
+use Rattle.regex_lite_engine.specs.Backtrack.Room.{AreAll, HasRoom, Keeps, WalksTo}
+use Rattle.regex_lite_engine.specs.Backtrack.Room.{due_entries, due_tries}
 use Rattle.regex_lite_engine.specs.Backtrack.Walking.{IsWalking}
 use Rattle.regex_lite_engine.specs.Graph.Places.{Place, kept_back_with}
 use Rattle.regex_lite_engine.specs.Graph.Renumbered.{arrows_of}

@@ -1,5 +1,6 @@
 -- What a search that goes depth first keeps true of the ways that it follows.
-use Rattle.std.specs.Prelude.{◌≡◌, ◌≤◌, ◌<◌, ℕ, true, List, [], ◌∷◌, length, slice_set, Option, Some}
+use Rattle.std.specs.Prelude.{◌≡◌, ◌≤◌, ◌<◌, ℕ, true, List, []}
+use Rattle.std.specs.Prelude.{◌∷◌, length, slice_set, Option, Some}
 use Rattle.regex_lite_syntax.specs.Text.{Text}
 use Rattle.regex_lite_syntax.specs.Tree.Matches.{IsPosition}
 use Rattle.regex_lite_engine.specs.Backtrack.DepthFirst.{IsDepthFirst}

@@ -1,6 +1,7 @@
 -- Addresses of places in a tree, and where a tree is entered.
 use Rattle.std.specs.Prelude.{ℕ, zero, suc, List, [], ◌∷◌, ◌++◌}
-use Rattle.regex_lite_syntax.specs.Tree.{Tree, Trees, empty, character, class, look, repetition, capture, concat, alternation, none, more}
+use Rattle.regex_lite_syntax.specs.Tree.{Tree, Trees, empty, character, class, look}
+use Rattle.regex_lite_syntax.specs.Tree.{repetition, capture, concat, alternation, none, more}
 
 -- An address leads into the tree. Part, branch or copy k of a tree is at k + 1, and then come the
 -- numbers of an address inside it. The tree's own place k is at 0 and k

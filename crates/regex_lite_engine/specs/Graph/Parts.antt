@@ -1,5 +1,6 @@
 -- A part of a table: places in a row that no arrow leaves.
-use Rattle.std.specs.Prelude.{◌≡◌, ◌+◌, ◌≤◌, ◌<◌, ◌∷◌, [], ℕ, List, length, slice_get, take, drop, Some}
+use Rattle.std.specs.Prelude.{◌≡◌, ◌+◌, ◌≤◌, ◌<◌, ◌∷◌, [], ℕ, List}
+use Rattle.std.specs.Prelude.{length, slice_get, take, drop, Some}
 use Rattle.regex_lite_syntax.specs.Tree.{Tree}
 use Rattle.regex_lite_engine.specs.Graph.PlaceCounts.{whole_places, whole_arrows}
 use Rattle.regex_lite_engine.specs.Graph.Places.{Place}

@@ -1,6 +1,7 @@
 -- A table of numbered places as what stands at addresses, and the graph of a tree: the tree's
 -- written-out pattern with numbers in the place of addresses.
-use Rattle.std.specs.Prelude.{◌≡◌, ◌<◌, ℕ, List, map, option_map, length, slice_get, slice_index_or, Some, None, sum_by}
+use Rattle.std.specs.Prelude.{◌≡◌, ◌<◌, ℕ, List, map, option_map, length}
+use Rattle.std.specs.Prelude.{slice_get, slice_index_or, Some, None, sum_by}
 use Rattle.regex_lite_syntax.specs.Tree.{Tree}
 use Rattle.regex_lite_syntax.specs.Tree.Properties.{captures_len, group_name, static_captures_len}
 use Rattle.regex_lite_syntax.specs.Tree.Views.{text_of_name}

@@ -2,9 +2,11 @@
 use Rattle.std.specs.Prelude.{◌+◌, ◌*◌, ◌^◌, ◌<◌, ◌≤◌, ℕ, Option, Some, None, sum_by}
 use Rattle.std.specs.Char.{len_utf8}
 use Rattle.regex_lite_syntax.specs.declared.error.ErrorKind.{ErrorKind}
-use Rattle.regex_lite_syntax.specs.declared.error.ErrorKind.TheVariants.{Size, Places, Slots, Memory}
+use Rattle.regex_lite_syntax.specs.declared.error.ErrorKind.TheVariants.{Size, Places, Slots}
+use Rattle.regex_lite_syntax.specs.declared.error.ErrorKind.TheVariants.{Memory}
 use Rattle.regex_lite_syntax.specs.Text.{Text}
-use Rattle.regex_lite_syntax.specs.Tree.{Tree, Trees, empty, character, class, look, repetition, capture, concat, alternation, none, more}
+use Rattle.regex_lite_syntax.specs.Tree.{Tree, Trees, empty, character, class, look}
+use Rattle.regex_lite_syntax.specs.Tree.{repetition, capture, concat, alternation, none, more}
 use Rattle.regex_lite_syntax.specs.Tree.Properties.{greatest_index, captures_len}
 use Rattle.regex_lite_engine.specs.Graph.PlaceCounts.{whole_places, choice_arrows, ranges}
 

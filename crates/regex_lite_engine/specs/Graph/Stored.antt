@@ -1,8 +1,11 @@
 -- Graphs as they are stored: a table of numbered places, and what is known of it.
-use Rattle.std.specs.Prelude.{◌≡◌, ℕ, ◌^◌, ◌<◌, List, [], ◌∷◌, map, length, slice_get, sum_by, Option, Some}
+use Rattle.std.specs.Prelude.{◌≡◌, ℕ, ◌^◌, ◌<◌, List, [], ◌∷◌, map}
+use Rattle.std.specs.Prelude.{length, slice_get, sum_by, Option, Some}
 use Rattle.std.specs.declared.alloc.Global.{Global}
 use Rattle.std.specs.declared.rc.RcStr.{RcStr}
-use Rattle.regex_lite_engine.specs.Graph.Places.{Arrow, Place, complete, with_arrows, go, go_marking, go_holding, one_char, one_of, reading_of, kept_back_of, kept_back_with}
+use Rattle.regex_lite_engine.specs.Graph.Places.{Arrow, Place, complete, with_arrows, go}
+use Rattle.regex_lite_engine.specs.Graph.Places.{go_marking, go_holding, one_char, one_of}
+use Rattle.regex_lite_engine.specs.Graph.Places.{reading_of, kept_back_of, kept_back_with}
 use Rattle.regex_lite_engine.specs.declared.nfa.place.Place as code
 use Rattle.regex_lite_engine.specs.declared.nfa.place.Place.TheVariants as stored
 use Rattle.regex_lite_engine.specs.declared.nfa.kept_back.KeptBack.{KeptBack}

@@ -1,5 +1,6 @@
 -- The graph of several patterns as it is stored, and what a search for them needs of it.
-use Rattle.std.specs.Prelude.{◌≡◌, ℕ, List, map, length, option_map, slice_get, slice_index_or, Option, Some, None}
+use Rattle.std.specs.Prelude.{◌≡◌, ℕ, List, map, length, option_map}
+use Rattle.std.specs.Prelude.{slice_get, slice_index_or, Option, Some, None}
 use Rattle.std.specs.declared.alloc.Global.{Global}
 use Rattle.std.specs.declared.rc.RcStr.{RcStr}
 use Rattle.regex_lite_syntax.specs.Tree.{Tree}
@@ -11,7 +12,8 @@ use Rattle.regex_lite_engine.specs.Graph.Addresses.{Address}
 use Rattle.regex_lite_engine.specs.Graph.Parts.{HaveOwnParts}
 use Rattle.regex_lite_engine.specs.Graph.Places.{Place}
 use Rattle.regex_lite_engine.specs.Graph.Renumbered.{IsRenumbered, arrows_of}
-use Rattle.regex_lite_engine.specs.Graph.SideBySide.{AreEntries, arrows_of_all, places_of_all, side_by_side}
+use Rattle.regex_lite_engine.specs.Graph.SideBySide.{AreEntries, arrows_of_all}
+use Rattle.regex_lite_engine.specs.Graph.SideBySide.{places_of_all, side_by_side}
 use Rattle.regex_lite_engine.specs.Graph.Stored.{place_of}
 
 -- what is stored of the groups of one pattern: their names by index, and how many at least take

@@ -1,11 +1,14 @@
 -- A pattern written out as places with ordered arrows: one row of a table for each kind of tree.
 use Rattle.std.specs.Prelude.{ℕ, zero, suc, ◌+◌, ◌*◌, List, [], ◌∷◌, map, Some, None, unwrap_or}
 use Rattle.regex_lite_syntax.specs.Text.{Text}
-use Rattle.regex_lite_syntax.specs.Tree.{Tree, Trees, empty, character, class, look, repetition, capture, concat, alternation, none, more}
+use Rattle.regex_lite_syntax.specs.Tree.{Tree, Trees, empty, character, class, look}
+use Rattle.regex_lite_syntax.specs.Tree.{repetition, capture, concat, alternation, none, more}
 use Rattle.regex_lite_syntax.specs.Tree.Properties.{nullable}
-use Rattle.regex_lite_engine.specs.Graph.Places.{Place, complete, with_arrows, go, go_marking, go_holding, one_char, one_of, step}
+use Rattle.regex_lite_engine.specs.Graph.Places.{Place, complete, with_arrows, go, go_marking}
+use Rattle.regex_lite_engine.specs.Graph.Places.{go_holding, one_char, one_of, step}
 use Rattle.regex_lite_engine.specs.Graph.Ways.{IsWay}
-use Rattle.regex_lite_engine.specs.Graph.Addresses.{Address, part, own, entry, chain_entry, branch_entries}
+use Rattle.regex_lite_engine.specs.Graph.Addresses.{Address, part, own, entry}
+use Rattle.regex_lite_engine.specs.Graph.Addresses.{chain_entry, branch_entries}
 use Rattle.regex_lite_engine.specs.Graph.Repetitions.{Content, repetition_row}
 
 -- a tree of one place

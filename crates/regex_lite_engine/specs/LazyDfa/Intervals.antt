@@ -1,5 +1,6 @@
 -- Classes of characters that no place of a graph tells apart: those between the same boundaries.
-use Rattle.std.specs.Prelude.{◌≡◌, ◌+◌, ◌⊎◌, ℕ, suc, Bool, true, false, All, List, [], ◌∷◌, Option, Some, None, is_none, length, nat_le, slice_get}
+use Rattle.std.specs.Prelude.{◌≡◌, ◌+◌, ◌⊎◌, ℕ, suc, Bool, true, false, All, List, []}
+use Rattle.std.specs.Prelude.{◌∷◌, Option, Some, None, is_none, length, nat_le, slice_get}
 use Rattle.regex_lite_syntax.specs.declared.class.ClassRange.{ClassRange}
 use Rattle.regex_lite_syntax.specs.Text.{the}
 use Rattle.regex_lite_syntax.specs.Tree.Looks.{is, is_word}
@@ -75,7 +76,8 @@ side_of c = record {
   is_word = is_word c;
 }
 
--- the next characters are of one class, and where there are looks, they see the same of those before
+-- the next characters are of one class, and where there are looks, they see the same of those
+-- before
 pub record LooksAlike (intervals : Intervals) (here there : Here) : Type 0 where
   pub ahead : class_of intervals.boundaries here.after ≡ class_of intervals.boundaries there.after
   pub behind : intervals.looks ≡ true → side_of here.before ≡ side_of there.before

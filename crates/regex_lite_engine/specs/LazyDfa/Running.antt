@@ -1,5 +1,6 @@
 -- A search that remembers its turns and goes by those that it remembers.
-use Rattle.std.specs.Prelude.{◌≡◌, ◌+◌, ◌-◌, ◌*◌, ◌^◌, ◌≤◌, ◌<◌, ℕ, List, [], MatchOption, None, Some, length, slice_index}
+use Rattle.std.specs.Prelude.{◌≡◌, ◌+◌, ◌-◌, ◌*◌, ◌^◌, ◌≤◌, ◌<◌, ℕ, List, []}
+use Rattle.std.specs.Prelude.{MatchOption, None, Some, length, slice_index}
 use Rattle.regex_lite_syntax.specs.Text.{Text}
 use Rattle.regex_lite_engine.specs.declared.lazy_dfa.run.Progress.{Progress}
 use Rattle.regex_lite_engine.specs.declared.lazy_dfa.state.StoredWay.{StoredWay}
@@ -28,7 +29,8 @@ module _ (table : List (Place ℕ)) (haystack : Text) (entries : List ℕ) (s : 
     pub width : length cache.walk.memory.row ≡ 0
 
   -- that is where it stands, and its state, if that is known
-  pub record Stands {S : Type 0} (automaton : Automaton) (at : Progress) (cache : Cache S) : Type 0 where
+  pub record Stands {S : Type 0} (automaton : Automaton) (at : Progress) (cache : Cache S)
+      : Type 0 where
     pub p : ℕ
     pub is : IsHere haystack p at.here
     pub on : IsOnItsWay p cache

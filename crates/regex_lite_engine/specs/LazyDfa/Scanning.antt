@@ -1,5 +1,6 @@
 -- A search that goes by remembered turns.
-use Rattle.std.specs.Prelude.{◌≡◌, ◌+◌, ◌≤◌, ℕ, Bool, true, false, List, [], length, slice_get, IfSome, Option, None, Some}
+use Rattle.std.specs.Prelude.{◌≡◌, ◌+◌, ◌≤◌, ℕ, Bool, true, false, List, []}
+use Rattle.std.specs.Prelude.{length, slice_get, IfSome, Option, None, Some}
 use Rattle.regex_lite_syntax.specs.Text.{Text}
 use Rattle.regex_lite_engine.specs.declared.lazy_dfa.scan.Scanned as code
 use Rattle.regex_lite_engine.specs.declared.lazy_dfa.scan.Scanned.TheVariants as stored

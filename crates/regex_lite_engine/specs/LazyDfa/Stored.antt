@@ -1,5 +1,6 @@
 -- How the states of the lazy automaton are stored.
-use Rattle.std.specs.Prelude.{◌+◌, ◌≤◌, ℕ, true, false, All, List, take, drop, map, Option, Some, None}
+use Rattle.std.specs.Prelude.{◌+◌, ◌≤◌, ℕ, true, false, All, List}
+use Rattle.std.specs.Prelude.{take, drop, map, Option, Some, None}
 use Rattle.regex_lite_engine.specs.declared.lazy_dfa.state.Hit as code
 use Rattle.regex_lite_engine.specs.declared.lazy_dfa.state.Hit.TheVariants as stored
 use Rattle.regex_lite_engine.specs.declared.lazy_dfa.state.StoredState.{StoredState}

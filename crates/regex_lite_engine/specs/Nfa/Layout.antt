@@ -1,10 +1,13 @@
 -- The order in which a tree's places are written: numbered from `base` on, the last part first, so
 -- that the number of what follows is known.
-use Rattle.std.specs.Prelude.{◌≡◌, ℕ, zero, suc, ◌+◌, ◌-◌, ◌*◌, Bool, true, false, List, [], ◌∷◌, ◌++◌, length, map, Option, Some, None}
-use Rattle.regex_lite_syntax.specs.Tree.{Tree, Trees, empty, character, class, look, repetition, capture, concat, alternation, none, more}
+use Rattle.std.specs.Prelude.{◌≡◌, ℕ, zero, suc, ◌+◌, ◌-◌, ◌*◌, Bool, true, false}
+use Rattle.std.specs.Prelude.{List, [], ◌∷◌, ◌++◌, length, map, Option, Some, None}
+use Rattle.regex_lite_syntax.specs.Tree.{Tree, Trees, empty, character, class, look}
+use Rattle.regex_lite_syntax.specs.Tree.{repetition, capture, concat, alternation, none, more}
 use Rattle.regex_lite_syntax.specs.Tree.Properties.{nullable}
 use Rattle.regex_lite_engine.specs.Graph.PlaceCounts.{whole_places}
-use Rattle.regex_lite_engine.specs.Graph.Places.{Place, complete, with_arrows, go, go_marking, go_holding, choice, one_char, one_of}
+use Rattle.regex_lite_engine.specs.Graph.Places.{Place, complete, with_arrows, go, go_marking}
+use Rattle.regex_lite_engine.specs.Graph.Places.{go_holding, choice, one_char, one_of}
 
 -- places, and the number of the one where they are entered
 abbrev pub Fragment : Type 0

@@ -1,5 +1,7 @@
 -- Which of several patterns may start at a position, by the characters around it.
-use Rattle.std.specs.Prelude.{◌≡◌, ◌==◌, ◌⊎◌, ◌+◌, ◌-◌, ◌*◌, ◌<◌, ◌≤◌, ℕ, suc, Bool, true, false, ◌&&◌, ◌||◌, nat_lt, not, if◌then◌else◌, List, filter, length, map, slice_get, slice_index, Option, Some, None, is_none}
+use Rattle.std.specs.Prelude.{◌≡◌, ◌==◌, ◌⊎◌, ◌+◌, ◌-◌, ◌*◌, ◌<◌, ◌≤◌, ℕ, suc, Bool, true}
+use Rattle.std.specs.Prelude.{false, ◌&&◌, ◌||◌, nat_lt, not, if◌then◌else◌, List, filter}
+use Rattle.std.specs.Prelude.{length, map, slice_get, slice_index, Option, Some, None, is_none}
 use Rattle.std.specs.Int.{bit_at}
 use Rattle.std.specs.List.{list_any, range_with_len}
 use Rattle.regex_lite_syntax.specs.AsciiMaps.{bit_of_words}

@@ -1,9 +1,11 @@
 -- What a prefilter tells of the bytes at which a match can begin.
-use Rattle.std.specs.Prelude.{◌≡◌, ◌+◌, ◌<◌, ℕ, Bool, true, false, ◌&&◌, nat_eq, nat_le, List, length, slice_index}
+use Rattle.std.specs.Prelude.{◌≡◌, ◌+◌, ◌<◌, ℕ, Bool, true, false, ◌&&◌}
+use Rattle.std.specs.Prelude.{nat_eq, nat_le, List, length, slice_index}
 use Rattle.std.specs.List.{list_any}
 use Rattle.regex_lite_engine.specs.declared.nfa.heads.Heads.{Heads}
 use Rattle.regex_lite_engine.specs.declared.nfa.prefilter.Prefilter.{Prefilter}
-use Rattle.regex_lite_engine.specs.declared.nfa.prefilter.Prefilter.TheVariants.{Pair, Four, Eight, Range}
+use Rattle.regex_lite_engine.specs.declared.nfa.prefilter.Prefilter.TheVariants.{Pair, Four, Eight}
+use Rattle.regex_lite_engine.specs.declared.nfa.prefilter.Prefilter.TheVariants.{Range}
 use Rattle.regex_lite_engine.specs.declared.nfa.starts.Starts.{Starts}
 use Rattle.regex_lite_engine.specs.Nfa.Heads.{IsPassed}
 use Rattle.regex_lite_engine.specs.Nfa.Starts.{stops_at}

@@ -1,5 +1,6 @@
 -- Where a match can begin, by the characters beside a position.
-use Rattle.std.specs.Prelude.{◌≡◌, ◌⊎◌, ℕ, Bool, true, false, ◌&&◌, ◌||◌, Option, Some, None, is_none, IsTrue, if◌then◌else◌, nat_lt, slice_index_or, List}
+use Rattle.std.specs.Prelude.{◌≡◌, ◌⊎◌, ℕ, Bool, true, false, ◌&&◌, ◌||◌, Option, Some, None}
+use Rattle.std.specs.Prelude.{is_none, IsTrue, if◌then◌else◌, nat_lt, slice_index_or, List}
 use Rattle.std.specs.List.{list_any}
 use Rattle.regex_lite_syntax.specs.Text.{Text, before, after}
 use Rattle.regex_lite_syntax.specs.Sets.{Set}

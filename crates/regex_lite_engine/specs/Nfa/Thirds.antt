@@ -1,5 +1,6 @@
 -- With which third character a match of one of several patterns can go on.
-use Rattle.std.specs.Prelude.{◌≡◌, ◌==◌, ◌%◌, ℕ, suc, Bool, true, List, slice_get, Option, Some, None}
+use Rattle.std.specs.Prelude.{◌≡◌, ◌==◌, ◌%◌, ℕ, suc, Bool, true}
+use Rattle.std.specs.Prelude.{List, slice_get, Option, Some, None}
 use Rattle.std.specs.Int.{bit_at}
 use Rattle.regex_lite_syntax.specs.Text.{Text, after}
 use Rattle.regex_lite_syntax.specs.Tree.{Tree}

@@ -1,5 +1,6 @@
 -- The positions of a haystack in the definitions, and its offsets as calls take and answer them.
-use Rattle.std.specs.Prelude.{◌≡◌, ◌+◌, ◌-◌, ℕ, List, Option, length, take, sum_by, chars, option_map, slice_get, Some}
+use Rattle.std.specs.Prelude.{◌≡◌, ◌+◌, ◌-◌, ℕ, List, Option, length, take}
+use Rattle.std.specs.Prelude.{sum_by, chars, option_map, slice_get, Some}
 use Rattle.std.specs.Char.{len_utf8}
 use Rattle.regex_lite_syntax.specs.Text.{Text}
 use Rattle.regex_lite_syntax.specs.Tree.Matches.{IsPosition}

@@ -1,9 +1,11 @@
 -- A turn that holds again: at another position that looks the same, where something else is told of
 -- where the ways began, and no slots are kept.
-use Rattle.std.specs.Prelude.{◌≡◌, ℕ, Bool, true, false, List, [], ◌∷◌, map, slice_get, Option, Some, None}
+use Rattle.std.specs.Prelude.{◌≡◌, ℕ, Bool, true, false, List, []}
+use Rattle.std.specs.Prelude.{◌∷◌, map, slice_get, Option, Some, None}
 use Rattle.regex_lite_syntax.specs.Tree.Looks.{holds_between}
 use Rattle.regex_lite_engine.specs.declared.pikevm.here.Here.{Here}
-use Rattle.regex_lite_engine.specs.Graph.Places.{Arrow, Condition, free, holding, reading, Place, complete, with_arrows}
+use Rattle.regex_lite_engine.specs.Graph.Places.{Arrow, Condition, free, holding}
+use Rattle.regex_lite_engine.specs.Graph.Places.{reading, Place, complete, with_arrows}
 use Rattle.regex_lite_engine.specs.Walk.Beginnings.{Told}
 use Rattle.regex_lite_engine.specs.Walk.Entering.{reads}
 use Rattle.regex_lite_engine.specs.Walk.Machine.{Thread}

@@ -1,5 +1,7 @@
 -- How the working memory of a search lies in its cells and rows.
-use Rattle.std.specs.Prelude.{◌≡◌, Bool, true, ◌+◌, ◌-◌, ◌*◌, ◌≤◌, ◌<◌, ℕ, List, [], ◌++◌, take, drop, reverse, replicate, length, map, None, slice_index, slice_index_or}
+use Rattle.std.specs.Prelude.{◌≡◌, Bool, true, ◌+◌, ◌-◌, ◌*◌, ◌≤◌, ◌<◌, ℕ}
+use Rattle.std.specs.Prelude.{List, [], ◌++◌, take, drop, reverse, replicate}
+use Rattle.std.specs.Prelude.{length, map, None, slice_index, slice_index_or}
 use Rattle.std.specs.List.{range_with_len}
 use Rattle.regex_lite_engine.specs.declared.pikevm.cell.Cell.{Cell}
 use Rattle.regex_lite_engine.specs.declared.pikevm.cell.Frame as code

@@ -1,7 +1,8 @@
 -- What a search of a graph with ordered arrows has done when it is over: at each node that it
 -- entered it recorded a way. A way here is a list of numbers: first those that tell its start, and
 -- then those of its arrows. So the ways from an earlier start come first.
-use Rattle.std.specs.Prelude.{◌≡◌, ◌<◌, ◌≤◌, ◌⊎◌, ℕ, Bool, IsTrue, List, [], ◌∷◌, ◌++◌, Option, Some, None}
+use Rattle.std.specs.Prelude.{◌≡◌, ◌<◌, ◌≤◌, ◌⊎◌, ℕ, Bool, IsTrue}
+use Rattle.std.specs.Prelude.{List, [], ◌∷◌, ◌++◌, Option, Some, None}
 use Rattle.regex_lite_engine.specs.Graph.Ways.{Leads, IsWay}
 
 -- where they first differ, the one has the smaller number, or it ends there

@@ -1,13 +1,15 @@
 -- The answer of a search for several patterns in a graph whose places have numbers. Each pattern is
 -- entered at a place of its own.
-use Rattle.std.specs.Prelude.{◌≡◌, ◌≤◌, ◌<◌, ◌⊎◌, ℕ, List, [], ◌∷◌, Option, Some, None, length, slice_get}
+use Rattle.std.specs.Prelude.{◌≡◌, ◌≤◌, ◌<◌, ◌⊎◌, ℕ, List, [], ◌∷◌}
+use Rattle.std.specs.Prelude.{Option, Some, None, length, slice_get}
 use Rattle.regex_lite_syntax.specs.Text.{Text}
 use Rattle.regex_lite_engine.specs.Graph.Places.{Place}
 use Rattle.regex_lite_engine.specs.Graph.Ways.{Leads}
 use Rattle.regex_lite_engine.specs.Search.Marks.{marks_along}
 use Rattle.regex_lite_engine.specs.Search.Answer.{Found}
 use Rattle.regex_lite_engine.specs.Walk.Explored.{IsExplored}
-use Rattle.regex_lite_engine.specs.Walk.NumberedAnswer.{place_with, numbered_step, is_end, IsNumberedMatch, IsNumberedFound}
+use Rattle.regex_lite_engine.specs.Walk.NumberedAnswer.{place_with, numbered_step, is_end}
+use Rattle.regex_lite_engine.specs.Walk.NumberedAnswer.{IsNumberedMatch, IsNumberedFound}
 
 -- the pattern with this number is entered at this place
 abbrev pub IsEntry : (entries : List ℕ) → (number entry : ℕ) → Type 0

@@ -1,6 +1,7 @@
 -- The working memory suffices for what is left to do at a position, and what is left bounds the
 -- counts.
-use Rattle.std.specs.Prelude.{◌≡◌, ◌+◌, ◌^◌, ◌≤◌, ◌<◌, ◌==◌, ℕ, Bool, true, false, List, [], ◌∷◌, length, Some, slice_index, if◌then◌else◌}
+use Rattle.std.specs.Prelude.{◌≡◌, ◌+◌, ◌^◌, ◌≤◌, ◌<◌, ◌==◌, ℕ, Bool, true, false}
+use Rattle.std.specs.Prelude.{List, [], ◌∷◌, length, Some, slice_index, if◌then◌else◌}
 use Rattle.regex_lite_syntax.specs.Text.{Text}
 use Rattle.regex_lite_engine.specs.Walk.Beginnings.{Told}
 use Rattle.regex_lite_engine.specs.declared.pikevm.here.Here.{Here}
@@ -8,7 +9,8 @@ use Rattle.regex_lite_engine.specs.declared.pikevm.walk.Walk.{Walk}
 use Rattle.regex_lite_engine.specs.Graph.Places.{Place, kept_back, reading_count, reading_of}
 use Rattle.regex_lite_engine.specs.Graph.Renumbered.{arrow_count}
 use Rattle.regex_lite_engine.specs.Walk.Again.{AreAlike, all_retold}
-use Rattle.regex_lite_engine.specs.Walk.Machine.{Row, Frame, explore, restore, Thread, thread_at, State}
+use Rattle.regex_lite_engine.specs.Walk.Machine.{Row, Frame, explore, restore}
+use Rattle.regex_lite_engine.specs.Walk.Machine.{Thread, thread_at, State}
 use Rattle.regex_lite_engine.specs.Walk.Standing.{IsHere}
 use Rattle.regex_lite_engine.specs.Walk.Walking.{Best, IsWalking}
 

@@ -12,7 +12,8 @@ use Rattle.regex_lite_engine.specs.Walk.Beginnings.{Told, Tells}
 use Rattle.regex_lite_engine.specs.Walk.Machine.{Thread, thread_at}
 use Rattle.regex_lite_engine.specs.Walk.Room.{KeepsPosition, ThreadsBelow, due_tries, due_entries}
 use Rattle.regex_lite_engine.specs.Walk.Standing.{IsHere}
-use Rattle.regex_lite_engine.specs.Walk.Turns.{best_of, with_starts, AreStartsAt, IsComing, StepsTo, IsReady}
+use Rattle.regex_lite_engine.specs.Walk.Turns.{best_of, with_starts, AreStartsAt}
+use Rattle.regex_lite_engine.specs.Walk.Turns.{IsComing, StepsTo, IsReady}
 use Rattle.regex_lite_engine.specs.Walk.Walking.{Best}
 
 -- the ways that are followed at a position: its threads, and its own starts
@@ -73,8 +74,8 @@ module _ (table : List (Place ℕ)) where
       cache'.walk.memory.rounds (all_retold tell cache'.walk.memory.next)
       (best_again tell there.at hit (best_of cache'.best) best)
 
-  -- a turn holds again wherever it looks the same and the same starts suffice, as long as there is a
-  -- match in both or in neither
+  -- a turn holds again wherever it looks the same and the same starts suffice, as long as there is
+  -- a match in both or in neither
   abbrev pub TurnsAgain : {S : Type 0} → List Start → Here → (told : ℕ → Told) → Cache S → Cache S
       → (hit : Bool) → Type 0
   TurnsAgain starts here told cache cache' hit =

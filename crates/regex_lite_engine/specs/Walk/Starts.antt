@@ -1,5 +1,6 @@
 -- Where a match can begin in a graph, and the positions that a search passes over.
-use Rattle.std.specs.Prelude.{◌≡◌, ◌≤◌, ◌<◌, ◌⊎◌, ℕ, suc, false, List, [], None, length, slice_index}
+use Rattle.std.specs.Prelude.{◌≡◌, ◌≤◌, ◌<◌, ◌⊎◌, ℕ, suc, false}
+use Rattle.std.specs.Prelude.{List, [], None, length, slice_index}
 use Rattle.regex_lite_syntax.specs.Text.{Text, after}
 use Rattle.regex_lite_engine.specs.declared.nfa.heads.Heads.{Heads}
 use Rattle.regex_lite_engine.specs.declared.nfa.list_heads.ListHeads.{ListHeads}

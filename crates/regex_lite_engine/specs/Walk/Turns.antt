@@ -1,5 +1,6 @@
 -- The threads of one position, and from one position to the next.
-use Rattle.std.specs.Prelude.{◌≡◌, ◌≤◌, ◌<◌, ◌⊎◌, ℕ, suc, List, [], ◌∷◌, ◌++◌, length, replicate, slice_get, slice_index, Option, Some, None}
+use Rattle.std.specs.Prelude.{◌≡◌, ◌≤◌, ◌<◌, ◌⊎◌, ℕ, suc, List, [], ◌∷◌, ◌++◌, length}
+use Rattle.std.specs.Prelude.{replicate, slice_get, slice_index, Option, Some, None}
 use Rattle.regex_lite_syntax.specs.Text.{Text}
 use Rattle.regex_lite_engine.specs.declared.pikevm.here.Here.{Here}
 use Rattle.regex_lite_engine.specs.declared.pikevm.patterns.Start.{Start}
@@ -10,7 +11,8 @@ use Rattle.regex_lite_engine.specs.Walk.NumberedAnswer.{numbered_step, is_end}
 use Rattle.regex_lite_engine.specs.Walk.InStep.{Offer}
 use Rattle.regex_lite_engine.specs.Walk.Machine.{Row, Thread, thread_at, State, BestState}
 use Rattle.regex_lite_engine.specs.Walk.Standing.{IsHere}
-use Rattle.regex_lite_engine.specs.Walk.Walking.{Node, Best, ThreadsHold, BestHolds, InStep, IsWalking}
+use Rattle.regex_lite_engine.specs.Walk.Walking.{Node, Best, ThreadsHold}
+use Rattle.regex_lite_engine.specs.Walk.Walking.{BestHolds, InStep, IsWalking}
 use Rattle.regex_lite_engine.specs.Walk.NumberedList.{IsEntry}
 use Rattle.regex_lite_engine.specs.Walk.Room.{ThreadsBelow}
 

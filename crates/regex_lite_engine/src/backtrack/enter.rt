@@ -1,5 +1,6 @@
 //! One place entered: where the way goes on, and what is left for later.
-ghost use Rattle.std.specs.Prelude.{◌≡◌, ◌+◌, ◌-◌, ◌≤◌, ◌++◌, None, Some, false, IsCharBoundary, MatchOption, chars, length, map};
+ghost use Rattle.std.specs.Prelude.{◌≡◌, ◌+◌, ◌-◌, ◌≤◌, ◌++◌, None, Some, false};
+ghost use Rattle.std.specs.Prelude.{IsCharBoundary, MatchOption, chars, length, map};
 ghost use Rattle.std.specs.Char.{len_utf8};
 ghost use Rattle.regex_lite_syntax.specs.Ranges.{in_ranges};
 ghost use Rattle.regex_lite_syntax.specs.Sets.{just};

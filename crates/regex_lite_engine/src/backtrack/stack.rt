@@ -1,5 +1,7 @@
 //! The way that a search follows, and what it has left of others.
-ghost use Rattle.std.specs.Prelude.{◌≡◌, ◌+◌, ◌-◌, ◌≤◌, ◌<◌, ◌++◌, ◌⊎◌, [], ◌∷◌, Some, None, IfOk, MatchOption, length, map, drop, replicate, slice_set, slice_index_or};
+ghost use Rattle.std.specs.Prelude.{◌≡◌, ◌+◌, ◌-◌, ◌≤◌, ◌<◌, ◌++◌, ◌⊎◌, [], ◌∷◌};
+ghost use Rattle.std.specs.Prelude.{Some, None, IfOk, MatchOption, length, map};
+ghost use Rattle.std.specs.Prelude.{drop, replicate, slice_set, slice_index_or};
 ghost use Rattle.regex_lite_engine.specs.Backtrack.Machine.{explore, frame_of, restore};
 
 use crate::backtrack::frame::Frame;

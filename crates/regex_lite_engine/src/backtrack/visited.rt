@@ -1,5 +1,7 @@
 //! The pairs of a place and an offset that a search has entered.
-ghost use Rattle.std.specs.Prelude.{◌≡◌, ◌+◌, ◌-◌, ◌*◌, ◌≤◌, ◌<◌, ◌↔◌, ◌++◌, ℕ, IfOk, IsTrue, false, true, length, replicate, slice_index_or, slice_set, vec_capacity};
+ghost use Rattle.std.specs.Prelude.{◌≡◌, ◌+◌, ◌-◌, ◌*◌, ◌≤◌, ◌<◌, ◌↔◌, ◌++◌, ℕ};
+ghost use Rattle.std.specs.Prelude.{IfOk, IsTrue, false, true, length, replicate};
+ghost use Rattle.std.specs.Prelude.{slice_index_or, slice_set, vec_capacity};
 ghost use Rattle.regex_lite_engine.specs.Backtrack.Bits.{bits_of, room_of, words_of};
 ghost use Rattle.regex_lite_engine.specs.Backtrack.Machine.{pair_number, was_entered};
 

@@ -1,5 +1,6 @@
 //! What a lazy automaton remembers.
-ghost use Rattle.std.specs.Prelude.{◌≡◌, ◌+◌, ◌≤◌, ◌<◌, ◌++◌, ◌∷◌, [], ℕ, IfOk, IfSome, Some, length, map, slice_get, slice_set, true};
+ghost use Rattle.std.specs.Prelude.{◌≡◌, ◌+◌, ◌≤◌, ◌<◌, ◌++◌, ◌∷◌, [], ℕ, IfOk, IfSome};
+ghost use Rattle.std.specs.Prelude.{Some, length, map, slice_get, slice_set, true};
 ghost use Rattle.regex_lite_engine.specs.LazyDfa.Automaton.{State, unknown};
 ghost use Rattle.regex_lite_engine.specs.LazyDfa.Extending.{Extends, IsState};
 ghost use Rattle.regex_lite_engine.specs.LazyDfa.Stored.{hit_in, way_in};

@@ -1,6 +1,7 @@
 //! The characters at which what places read begins and ends.
 ghost use Rattle.std.specs.Prelude.{◌≡◌, ◌≤◌, ◌<◌, ◌+◌, All, IfOk, true, length};
-ghost use Rattle.regex_lite_engine.specs.LazyDfa.Intervals.{AreBounded, IsBoundary, IsBoundedPlace, character_bounds, look_bounds};
+ghost use Rattle.regex_lite_engine.specs.LazyDfa.Intervals.{AreBounded, IsBoundary, IsBoundedPlace};
+ghost use Rattle.regex_lite_engine.specs.LazyDfa.Intervals.{character_bounds, look_bounds};
 ghost use Rattle.regex_lite_engine.specs.LazyDfa.Boundaries.{Grows};
 
 use crate::nfa::place::Place;

@@ -1,6 +1,8 @@
 //! Classes of characters that no place of a graph distinguishes.
-ghost use Rattle.std.specs.Prelude.{◌≡◌, ◌+◌, ◌≤◌, ◌<◌, ℕ, IfOk, IfSome, length, nat_le, slice_index};
-ghost use Rattle.regex_lite_engine.specs.LazyDfa.Intervals.{AreIntervalsOf, class_of, interval_of, tick};
+ghost use Rattle.std.specs.Prelude.{◌≡◌, ◌+◌, ◌≤◌, ◌<◌, ℕ, IfOk, IfSome};
+ghost use Rattle.std.specs.Prelude.{length, nat_le, slice_index};
+ghost use Rattle.regex_lite_engine.specs.LazyDfa.Intervals.{AreIntervalsOf, class_of};
+ghost use Rattle.regex_lite_engine.specs.LazyDfa.Intervals.{interval_of, tick};
 
 use crate::lazy_dfa::boundaries::Boundaries;
 use crate::nfa::place::Place;

@@ -1,5 +1,7 @@
 //! A whole search that remembers its turns, and goes by those that it remembers.
-ghost use Rattle.std.specs.Prelude.{◌≡◌, ◌+◌, ◌<◌, ◌≤◌, ◌⊎◌, ◌∷◌, [], ℕ, List, All, IfSome, IsCharBoundary, IsSome, IsTrue, MatchOption, None, Some, chars, length, true};
+ghost use Rattle.std.specs.Prelude.{◌≡◌, ◌+◌, ◌<◌, ◌≤◌, ◌⊎◌, ◌∷◌, [], ℕ, List};
+ghost use Rattle.std.specs.Prelude.{All, IfSome, IsCharBoundary, IsSome, IsTrue};
+ghost use Rattle.std.specs.Prelude.{MatchOption, None, Some, chars, length, true};
 ghost use Rattle.regex_lite_syntax.specs.Text.{Text};
 ghost use Rattle.regex_lite_engine.specs.declared.lazy_dfa.scan.Scanned.TheVariants.{Stuck};
 ghost use Rattle.regex_lite_engine.specs.declared.nfa.place.Place.{Place};
@@ -29,9 +31,9 @@ use crate::pikevm::run::is_over;
 use crate::pikevm::turn::Cache;
 
 impl LazyDfa {
-    /// Where the most preferred match starts and ends, from the least start at or after this offset.
-    /// No turn is looked up before the search has entered so many places, none or one: before the
-    /// first turn, a new automaton has none.
+    /// Where the most preferred match starts and ends, from the least start at or after this
+    /// offset. No turn is looked up before the search has entered so many places, none or one:
+    /// before the first turn, a new automaton has none.
     // Not inlined, so that a search without an automaton has no more than the test for it.
     #[inline(never)]
     pub(crate) fn find(

@@ -1,7 +1,9 @@
 //! Turns of a search, remembered.
-ghost use Rattle.std.specs.Prelude.{◌≡◌, ◌∷◌, [], ◌<◌, ◌≤◌, ◌++◌, ℕ, IfSome, MatchOption, Some, length, map, slice_get, true};
+ghost use Rattle.std.specs.Prelude.{◌≡◌, ◌∷◌, [], ◌<◌, ◌≤◌, ◌++◌, ℕ, IfSome};
+ghost use Rattle.std.specs.Prelude.{MatchOption, Some, length, map, slice_get, true};
 ghost use Rattle.regex_lite_engine.specs.Graph.Stored.{table_of};
-ghost use Rattle.regex_lite_engine.specs.LazyDfa.Automaton.{FitsTable, Remembers, State, hit_of, searching_after, ways_of};
+ghost use Rattle.regex_lite_engine.specs.LazyDfa.Automaton.{FitsTable, Remembers, State};
+ghost use Rattle.regex_lite_engine.specs.LazyDfa.Automaton.{hit_of, searching_after, ways_of};
 ghost use Rattle.regex_lite_engine.specs.LazyDfa.Intervals.{side_of};
 ghost use Rattle.regex_lite_engine.specs.LazyDfa.Learning.{HasTurned, IsIn};
 ghost use Rattle.regex_lite_engine.specs.LazyDfa.Stored.{hit_in};

@@ -31,9 +31,9 @@ pub(crate) fn pays_once(graph: &Graph, bytes: usize) -> bool {
     pays(graph, bytes)
 }
 
-/// Whether it pays if slots are kept. The automaton then finds where matches start, and a search from
-/// there their slots. By measurement it doesn't pay if one of a few bytes begins each match. In a
-/// graph of few places the memory for both stays small.
+/// Whether it pays if slots are kept. The automaton then finds where matches start, and a search
+/// from there their slots. By measurement it doesn't pay if one of a few bytes begins each match.
+/// In a graph of few places the memory for both stays small.
 pub(crate) fn pays_with_slots(graph: &Graph, bytes: usize) -> bool {
     let many_begin = match graph.prefilter() {
         None | Some(Prefilter::Range(_, _)) => true,

@@ -1,10 +1,13 @@
 //! Searches that remember their turns, and go by those that they remember.
-ghost use Rattle.std.specs.Prelude.{◌≡◌, ◌∷◌, [], ◌<◌, ◌≤◌, ◌^◌, ◌+◌, ℕ, List, IsCharBoundary, IsSome, MatchOption, None, Some, chars, length, map, slice_index, true};
+ghost use Rattle.std.specs.Prelude.{◌≡◌, ◌∷◌, [], ◌<◌, ◌≤◌, ◌^◌, ◌+◌, ℕ, List};
+ghost use Rattle.std.specs.Prelude.{IsCharBoundary, IsSome, MatchOption, None};
+ghost use Rattle.std.specs.Prelude.{Some, chars, length, map, slice_index, true};
 ghost use Rattle.regex_lite_engine.specs.Graph.Places.{Place};
 ghost use Rattle.regex_lite_engine.specs.Graph.Stored.{table_of};
 ghost use Rattle.regex_lite_engine.specs.LazyDfa.Automaton.{Automaton};
 ghost use Rattle.regex_lite_engine.specs.LazyDfa.Learning.{IsIn};
-ghost use Rattle.regex_lite_engine.specs.LazyDfa.Running.{GoesOnWith, IsOnItsWay, Stands, started_at};
+ghost use Rattle.regex_lite_engine.specs.LazyDfa.Running.{GoesOnWith, IsOnItsWay};
+ghost use Rattle.regex_lite_engine.specs.LazyDfa.Running.{Stands, started_at};
 ghost use Rattle.regex_lite_engine.specs.Search.Bounds.{characters_left};
 ghost use Rattle.regex_lite_engine.specs.Search.Offsets.{position_at};
 ghost use Rattle.regex_lite_engine.specs.Walk.Outcomes.{CanCount, IsFresh};

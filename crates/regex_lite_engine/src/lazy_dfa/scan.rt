@@ -1,10 +1,12 @@
 //! Searches that go on by remembered turns, without a try.
-ghost use Rattle.std.specs.Prelude.{◌≡◌, ◌↔◌, ◌+◌, ◌<◌, ◌≤◌, ◌⊎◌, ◌∷◌, [], ℕ, IfSome, IsSome, IsTrue, None, Some, chars, length, slice_get, true};
+ghost use Rattle.std.specs.Prelude.{◌≡◌, ◌↔◌, ◌+◌, ◌<◌, ◌≤◌, ◌⊎◌, ◌∷◌, [], ℕ, IfSome, IsSome};
+ghost use Rattle.std.specs.Prelude.{IsTrue, None, Some, chars, length, slice_get, true};
 ghost use Rattle.regex_lite_syntax.specs.Text.{Text};
 ghost use Rattle.regex_lite_engine.specs.Graph.Stored.{table_of};
 ghost use Rattle.regex_lite_engine.specs.LazyDfa.Automaton.{IsEmptyState, Remembers, State};
 ghost use Rattle.regex_lite_engine.specs.LazyDfa.Intervals.{side_of};
-ghost use Rattle.regex_lite_engine.specs.LazyDfa.Scanning.{best_told, IsIdleAt, IsScanning, LedTo, ScansTo};
+ghost use Rattle.regex_lite_engine.specs.LazyDfa.Scanning.{best_told, IsIdleAt};
+ghost use Rattle.regex_lite_engine.specs.LazyDfa.Scanning.{IsScanning, LedTo, ScansTo};
 ghost use Rattle.regex_lite_engine.specs.Walk.Standing.{IsHere};
 
 use crate::Graph;

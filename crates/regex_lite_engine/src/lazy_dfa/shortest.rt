@@ -1,11 +1,13 @@
 //! A search for the least end of any match that remembers its turns.
-ghost use Rattle.std.specs.Prelude.{◌≡◌, ◌+◌, ◌<◌, ◌≤◌, ◌∷◌, [], ℕ, IfSome, IsCharBoundary, MatchOption, None, chars, length};
+ghost use Rattle.std.specs.Prelude.{◌≡◌, ◌+◌, ◌<◌, ◌≤◌, ◌∷◌, [], ℕ, IfSome};
+ghost use Rattle.std.specs.Prelude.{IsCharBoundary, MatchOption, None, chars, length};
 ghost use Rattle.regex_lite_syntax.specs.Text.{Text};
 ghost use Rattle.regex_lite_engine.specs.Graph.Renumbered.{arrows_of};
 ghost use Rattle.regex_lite_engine.specs.Graph.Stored.{table_of};
 ghost use Rattle.regex_lite_engine.specs.LazyDfa.Automaton.{Remembers};
 ghost use Rattle.regex_lite_engine.specs.LazyDfa.Running.{Stands};
-ghost use Rattle.regex_lite_engine.specs.LazyDfa.Scanning.{EndsOrLeads, IsScanning, ScansToEnd, end_told};
+ghost use Rattle.regex_lite_engine.specs.LazyDfa.Scanning.{EndsOrLeads, IsScanning};
+ghost use Rattle.regex_lite_engine.specs.LazyDfa.Scanning.{ScansToEnd, end_told};
 ghost use Rattle.regex_lite_engine.specs.Search.Bounds.{IsBoundedBy, characters_left};
 ghost use Rattle.regex_lite_engine.specs.Search.Offsets.{position_at};
 ghost use Rattle.regex_lite_engine.specs.Walk.Outcomes.{CanCount, IsFresh, IsNumberedEndOf};
@@ -100,9 +102,9 @@ impl LazyDfa {
         }
     }
 
-    /// Goes by turns that are remembered, once a place was entered: a new automaton has none before.
-    /// Returns the end where they lead to one. Else the search goes on where they end, or where it
-    /// was.
+    /// Goes by turns that are remembered, once a place was entered: a new automaton has none
+    /// before. Returns the end where they lead to one. Else the search goes on where they end, or
+    /// where it was.
     fn look_for_end(
         &self,
         graph: &Graph,

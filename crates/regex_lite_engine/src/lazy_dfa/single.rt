@@ -1,5 +1,6 @@
 //! Searches by themselves that remember their turns.
-ghost use Rattle.std.specs.Prelude.{◌≡◌, ◌<◌, ◌+◌, ◌∷◌, [], IfOk, IfSome, IsCharBoundary, chars, length};
+ghost use Rattle.std.specs.Prelude.{◌≡◌, ◌<◌, ◌+◌, ◌∷◌, [], IfOk, IfSome};
+ghost use Rattle.std.specs.Prelude.{IsCharBoundary, chars, length};
 ghost use Rattle.regex_lite_syntax.specs.Tree.{Tree};
 ghost use Rattle.regex_lite_syntax.specs.Tree.Regular.{IsRegular};
 ghost use Rattle.regex_lite_engine.specs.Graph.Renumbered.{IsGraphOf, arrows_of};
@@ -8,7 +9,8 @@ ghost use Rattle.regex_lite_engine.specs.LazyDfa.Scanning.{best_told, end_told};
 ghost use Rattle.regex_lite_engine.specs.Search.Bounds.{IsBoundedBy, characters_left};
 ghost use Rattle.regex_lite_engine.specs.Search.Offsets.{position_at};
 ghost use Rattle.regex_lite_engine.specs.Search.Outcomes.{HasCost, IsEndOutcome, IsOutcome};
-ghost use Rattle.regex_lite_engine.specs.Walk.Outcomes.{CanCount, IsBestOutcomeOf, IsFresh, IsNumberedEndOf, match_told};
+ghost use Rattle.regex_lite_engine.specs.Walk.Outcomes.{CanCount, IsBestOutcomeOf, IsFresh};
+ghost use Rattle.regex_lite_engine.specs.Walk.Outcomes.{IsNumberedEndOf, match_told};
 ghost use Rattle.regex_lite_engine.specs.Walk.Turns.{best_at};
 
 use crate::Graph;
@@ -21,7 +23,8 @@ use crate::pikevm::turn::Cache;
 use std::alloc::{AllocError, Global};
 
 /// A search takes this number of turns before it gets an automaton. A match near the start is found
-/// sooner than one is made, which takes some 2,000 instructions and two or three requests for memory.
+/// sooner than one is made, which takes some 2,000 instructions and two or three requests for
+/// memory.
 const TURNS_WITHOUT: u32 = 64;
 
 impl Graph {
@@ -103,8 +106,8 @@ impl Graph {
         dfa.find_from(self, cache, haystack, known, 1)
     }
 
-    /// Where the first match ends that a search by itself comes to. It gets an automaton if it isn't
-    /// over soon.
+    /// Where the first match ends that a search by itself comes to. It gets an automaton if it
+    /// isn't over soon.
     fn find_shortest_once(
         &self,
         alloc: Global,

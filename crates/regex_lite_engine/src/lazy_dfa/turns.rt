@@ -57,8 +57,8 @@ impl Cache<usize> {
         }
     }
 
-    /// Goes on by ordinary turns up to the first match that ends, and by no more than this number of
-    /// them, if there is one. Returns where the search stands. None if it is over.
+    /// Goes on by ordinary turns up to the first match that ends, and by no more than this number
+    /// of them, if there is one. Returns where the search stands. None if it is over.
     pub(super) fn take_turns_to_end(
         &mut self,
         graph: &Graph,

@@ -5,11 +5,13 @@
 //! stored. It then stops at the greatest one, and the pattern passes the size limit all the same.
 ghost use Rattle.std.specs.Prelude.{◌≡◌, ◌+◌, ◌*◌, ◌^◌, ◌<◌, ℕ, Bool, map, option_map};
 ghost use Rattle.regex_lite_syntax.specs.Tree.Regular.{IsRegular};
-ghost use Rattle.regex_lite_syntax.specs.Tree.{Tree, Trees, class, repetition, capture, concat, alternation, none, more, trees};
+ghost use Rattle.regex_lite_syntax.specs.Tree.{Tree, Trees, class, repetition, capture};
+ghost use Rattle.regex_lite_syntax.specs.Tree.{concat, alternation, none, more, trees};
 ghost use Rattle.regex_lite_syntax.specs.Tree.Properties.{captures_len, static_captures_len};
 ghost use Rattle.regex_lite_syntax.specs.Tree.Views.{text_of_name, tree_of};
 ghost use Rattle.regex_lite_engine.specs.Graph.Size.{name_size};
-ghost use Rattle.regex_lite_engine.specs.Graph.PlaceCounts.{whole_places, whole_arrows, reading_places};
+ghost use Rattle.regex_lite_engine.specs.Graph.PlaceCounts.{whole_places, whole_arrows};
+ghost use Rattle.regex_lite_engine.specs.Graph.PlaceCounts.{reading_places};
 ghost use Rattle.regex_lite_engine.specs.Nfa.Saturation.{saturated, AreCountsOf, AreSumsOf};
 
 mod copies;

@@ -1,5 +1,6 @@
 //! What is known of the groups of one pattern.
-ghost use Rattle.std.specs.Prelude.{◌≡◌, ◌^◌, ◌<◌, ℕ, length, map, option_map, slice_index_or, None, IfOk};
+ghost use Rattle.std.specs.Prelude.{◌≡◌, ◌^◌, ◌<◌, ℕ, length, map};
+ghost use Rattle.std.specs.Prelude.{option_map, slice_index_or, None, IfOk};
 ghost use Rattle.regex_lite_syntax.specs.Tree.Properties.{captures_len, group_name};
 ghost use Rattle.regex_lite_syntax.specs.Tree.Views.{text_of_name, tree_of};
 ghost use Rattle.regex_lite_engine.specs.Graph.PlaceCounts.{whole_places};

@@ -5,7 +5,8 @@ ghost use Rattle.regex_lite_syntax.specs.Tree.{repetition, concat, alternation, 
 ghost use Rattle.regex_lite_syntax.specs.Tree.Matches.{Matches};
 ghost use Rattle.regex_lite_syntax.specs.Tree.Views.{tree_of};
 ghost use Rattle.regex_lite_engine.specs.declared.nfa.heads.Head.TheVariants.{One};
-ghost use Rattle.regex_lite_engine.specs.Nfa.Heads.{AreHeadsOfTree, AreSecondOfTree, IsCutOff, Reads, ReadsEach};
+ghost use Rattle.regex_lite_engine.specs.Nfa.Heads.{AreHeadsOfTree, AreSecondOfTree};
+ghost use Rattle.regex_lite_engine.specs.Nfa.Heads.{IsCutOff, Reads, ReadsEach};
 ghost use Rattle.regex_lite_engine.specs.Nfa.Starts.{IsGrown};
 
 use crate::nfa::starts::Starts;

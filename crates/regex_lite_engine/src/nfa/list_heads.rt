@@ -4,10 +4,13 @@
 //! pattern. The patterns that may start at a position are in the rows of both characters there. At
 //! most positions there is none, which a set of second characters for each first one shows at once.
 //! The third character rules out most of those that are left.
-ghost use Rattle.std.specs.Prelude.{◌≡◌, ◌==◌, ◌&&◌, ◌||◌, ◌<◌, ◌*◌, ◌++◌, [], ◌∷◌, ℕ, List, IfOk, length, map};
+ghost use Rattle.std.specs.Prelude.{◌≡◌, ◌==◌, ◌&&◌, ◌||◌, ◌<◌, ◌*◌, ◌++◌};
+ghost use Rattle.std.specs.Prelude.{[], ◌∷◌, ℕ, List, IfOk, length, map};
 ghost use Rattle.regex_lite_syntax.specs.Tree.Views.{tree_of};
 ghost use Rattle.regex_lite_engine.specs.declared.nfa.heads.Heads.{Heads};
-ghost use Rattle.regex_lite_engine.specs.Nfa.ListHeads.{goes_on_with, has, in_set, ArePairsWith, AreHeadsOfTrees, IsIndexOf, IsSized, belongs, row_count};
+ghost use Rattle.regex_lite_engine.specs.Nfa.ListHeads.{goes_on_with, has, in_set};
+ghost use Rattle.regex_lite_engine.specs.Nfa.ListHeads.{ArePairsWith, AreHeadsOfTrees};
+ghost use Rattle.regex_lite_engine.specs.Nfa.ListHeads.{IsIndexOf, IsSized, belongs, row_count};
 
 mod ascii_set;
 mod pairs;

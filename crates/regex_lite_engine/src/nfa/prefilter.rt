@@ -1,8 +1,15 @@
 //! The bytes with which a match can begin, where they are few: a block of the haystack is compared
 //! with all of them at once.
-ghost use Rattle.std.specs.Prelude.{◌≡◌, ◌≤◌, ◌<◌, ◌+◌, ◌*◌, ℕ, IfSome, IsTrue, false, true, length, slice_index};
-ghost use Rattle.regex_lite_engine.specs.declared.nfa.prefilter.Prefilter.TheVariants.{Pair, Four, Eight, Range};
-ghost use Rattle.regex_lite_engine.specs.Nfa.Prefilter.{is_among, suits, AreAllBytes, IsPrefilterOf, StandsBelow};
+ghost use Rattle.std.specs.Prelude.{◌≡◌, ◌≤◌, ◌<◌, ◌+◌, ◌*◌, ℕ, IfSome};
+ghost use Rattle.std.specs.Prelude.{IsTrue, false, true, length, slice_index};
+ghost use Rattle.regex_lite_engine.specs.declared.nfa.prefilter.Prefilter.TheVariants.{
+  Pair,
+  Four,
+  Eight,
+  Range,
+};
+ghost use Rattle.regex_lite_engine.specs.Nfa.Prefilter.{is_among, suits, AreAllBytes};
+ghost use Rattle.regex_lite_engine.specs.Nfa.Prefilter.{IsPrefilterOf, StandsBelow};
 ghost use Rattle.regex_lite_engine.specs.Nfa.Starts.{stops_at};
 
 use crate::nfa::heads::Heads;

@@ -1,10 +1,13 @@
 //! The characters with which a match can begin, found by one walk over the tree.
-ghost use Rattle.std.specs.Prelude.{◌≡◌, ◌≤◌, ◌<◌, ◌+◌, ◌*◌, [], ◌∷◌, ℕ, IsTrue, false, true, map, slice_index};
+ghost use Rattle.std.specs.Prelude.{◌≡◌, ◌≤◌, ◌<◌, ◌+◌, ◌*◌, [], ◌∷◌, ℕ};
+ghost use Rattle.std.specs.Prelude.{IsTrue, false, true, map, slice_index};
 ghost use Rattle.regex_lite_syntax.specs.Ranges.{in_ranges};
 ghost use Rattle.regex_lite_syntax.specs.Sets.{just, span};
 ghost use Rattle.regex_lite_syntax.specs.Tree.{look, class, repetition, concat, alternation, trees};
 ghost use Rattle.regex_lite_syntax.specs.Tree.Views.{tree_of};
-ghost use Rattle.regex_lite_engine.specs.Nfa.Starts.{begins_with, may_begin, stops_at, IsGrown, IsUnion, IsUnionOf, HasAll, BeginsOrPasses, AreStartsOfTree};
+ghost use Rattle.regex_lite_engine.specs.Nfa.Starts.{begins_with, may_begin, stops_at};
+ghost use Rattle.regex_lite_engine.specs.Nfa.Starts.{IsGrown, IsUnion, IsUnionOf, HasAll};
+ghost use Rattle.regex_lite_engine.specs.Nfa.Starts.{BeginsOrPasses, AreStartsOfTree};
 
 use regex_lite_syntax::{Class, ClassRange, Hir, Look};
 

@@ -1,5 +1,6 @@
 //! Numbered places in a table: what the graph of one pattern and that of several have in common.
-ghost use Rattle.std.specs.Prelude.{◌≡◌, ◌+◌, ◌^◌, ◌<◌, length, map, slice_get, sum_by, IfOk, IfSome, Some};
+ghost use Rattle.std.specs.Prelude.{◌≡◌, ◌+◌, ◌^◌, ◌<◌, length, map};
+ghost use Rattle.std.specs.Prelude.{slice_get, sum_by, IfOk, IfSome, Some};
 ghost use Rattle.regex_lite_engine.specs.Graph.Places.{kept_back_of, kept_back_with, reading_of};
 ghost use Rattle.regex_lite_engine.specs.Graph.Renumbered.{arrows_of};
 ghost use Rattle.regex_lite_engine.specs.LazyDfa.Intervals.{AreIntervalsOf};
@@ -26,7 +27,8 @@ pub(crate) struct Table {
 impl Model for Table {
     ghost use Rattle.std.specs.Prelude.{◌≡◌, map};
     ghost use Rattle.regex_lite_engine.specs.Graph.Renumbered.{arrows_of};
-    ghost use Rattle.regex_lite_engine.specs.Graph.Stored.{StoredTable, IsClosed, IsKeptBackOf, place_of};
+    ghost use Rattle.regex_lite_engine.specs.Graph.Stored.{StoredTable, IsClosed};
+    ghost use Rattle.regex_lite_engine.specs.Graph.Stored.{IsKeptBackOf, place_of};
 
     ghost Value = { StoredTable };
 

@@ -1,6 +1,7 @@
 //! Trees written out as a table of places. The last part of each is written first, so that the
 //! number of what follows is known.
-ghost use Rattle.std.specs.Prelude.{◌≡◌, ◌<◌, ◌≤◌, ◌+◌, ◌*◌, ◌^◌, [], ◌∷◌, ◌++◌, All, length, map, drop, slice_set, slice_index_or, IfOk};
+ghost use Rattle.std.specs.Prelude.{◌≡◌, ◌<◌, ◌≤◌, ◌+◌, ◌*◌, ◌^◌, [], ◌∷◌, ◌++◌, All};
+ghost use Rattle.std.specs.Prelude.{length, map, drop, slice_set, slice_index_or, IfOk};
 ghost use Rattle.regex_lite_syntax.specs.Tree.{trees};
 ghost use Rattle.regex_lite_syntax.specs.Tree.Views.{tree_of};
 ghost use Rattle.regex_lite_syntax.specs.Tree.Properties.{greatest_index, greatest_index_in};
@@ -8,7 +9,10 @@ ghost use Rattle.regex_lite_engine.specs.Graph.Places.{complete, choice};
 ghost use Rattle.regex_lite_engine.specs.Graph.Stored.{place_of};
 ghost use Rattle.regex_lite_engine.specs.Graph.PlaceCounts.{places, places_in, whole_places};
 ghost use Rattle.regex_lite_engine.specs.Graph.SideBySide.{places_of_all};
-ghost use Rattle.regex_lite_engine.specs.Nfa.Layout.{IsAdded, layout, capture_layout, chain_layout, branches_layout, alternation_layout, pattern_layout, pattern_table, patterns_table, patterns_entries};
+ghost use Rattle.regex_lite_engine.specs.Nfa.Layout.{IsAdded, layout, capture_layout, chain_layout};
+ghost use Rattle.regex_lite_engine.specs.Nfa.Layout.{branches_layout, alternation_layout};
+ghost use Rattle.regex_lite_engine.specs.Nfa.Layout.{pattern_layout, pattern_table, patterns_table};
+ghost use Rattle.regex_lite_engine.specs.Nfa.Layout.{patterns_entries};
 
 mod repetition;
 

@@ -110,7 +110,8 @@ impl Best<usize> {
 }
 
 impl Best<Origin> {
-    ghost use Rattle.regex_lite_engine.specs.Walk.Outcomes.{numbered_at, numbered_told, with_origin_kept};
+    ghost use Rattle.regex_lite_engine.specs.Walk.Outcomes.{numbered_at, numbered_told};
+    ghost use Rattle.regex_lite_engine.specs.Walk.Outcomes.{with_origin_kept};
     ghost use Rattle.regex_lite_engine.specs.Walk.Turns.{best_of};
 
     /// The number of its pattern, and where it starts and where it ends.

@@ -4,7 +4,8 @@ ghost use Rattle.regex_lite_syntax.specs.Ranges.{in_ranges};
 ghost use Rattle.regex_lite_syntax.specs.Sets.{just};
 ghost use Rattle.regex_lite_engine.specs.Graph.Places.{kept_back};
 ghost use Rattle.regex_lite_engine.specs.Graph.Stored.{place_of};
-ghost use Rattle.regex_lite_engine.specs.Walk.Entering.{completes, onto, reads, Enters, ReadsOn, SlotMarked};
+ghost use Rattle.regex_lite_engine.specs.Walk.Entering.{completes, onto, reads};
+ghost use Rattle.regex_lite_engine.specs.Walk.Entering.{Enters, ReadsOn, SlotMarked};
 ghost use Rattle.regex_lite_engine.specs.Walk.Machine.{explore};
 
 use crate::nfa::class::MappedClass;

@@ -1,5 +1,6 @@
 //! Where a search stands in the haystack.
-ghost use Rattle.std.specs.Prelude.{◌≡◌, ◌+◌, ◌^◌, ◌<◌, ℕ, IsSome, IsCharBoundary, chars, drop, slice_get};
+ghost use Rattle.std.specs.Prelude.{◌≡◌, ◌+◌, ◌^◌, ◌<◌, ℕ, IsSome};
+ghost use Rattle.std.specs.Prelude.{IsCharBoundary, chars, drop, slice_get};
 ghost use Rattle.std.specs.Char.{len_utf8};
 ghost use Rattle.regex_lite_syntax.specs.Text.{before};
 ghost use Rattle.regex_lite_engine.specs.Search.Offsets.{position_at, IsOffset};

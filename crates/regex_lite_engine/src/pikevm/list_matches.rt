@@ -1,5 +1,6 @@
 //! Which of several patterns match: each is searched for by itself, in the same memory.
-ghost use Rattle.std.specs.Prelude.{◌≡◌, ◌<◌, ◌⊎◌, ◌+◌, ◌↔◌, List, ℕ, IfOk, IsTrue, IsCharBoundary, chars, false, length, slice_index_or};
+ghost use Rattle.std.specs.Prelude.{◌≡◌, ◌<◌, ◌⊎◌, ◌+◌, ◌↔◌, List, ℕ, IfOk, IsTrue};
+ghost use Rattle.std.specs.Prelude.{IsCharBoundary, chars, false, length, slice_index_or};
 ghost use Rattle.regex_lite_syntax.specs.Tree.{Tree};
 ghost use Rattle.regex_lite_engine.specs.Graph.PlaceCounts.{whole_arrows, whole_places};
 ghost use Rattle.regex_lite_engine.specs.Graph.SideBySide.{AreRegular, places_of_all, tries_of_all};

@@ -1,5 +1,6 @@
 //! Several patterns, which are searched for at once.
-ghost use Rattle.std.specs.Prelude.{◌≡◌, ◌^◌, ◌≤◌, ◌<◌, ℕ, suc, All, IfOk, chars, filter, length, vec_capacity};
+ghost use Rattle.std.specs.Prelude.{◌≡◌, ◌^◌, ◌≤◌, ◌<◌, ℕ, suc, All, IfOk};
+ghost use Rattle.std.specs.Prelude.{chars, filter, length, vec_capacity};
 ghost use Rattle.std.specs.List.{range_with_len};
 ghost use Rattle.std.proofs.Props.{props};
 ghost use Rattle.regex_lite_syntax.specs.Text.{after};

@@ -1,5 +1,6 @@
 //! Searches for several patterns at once.
-ghost use Rattle.std.specs.Prelude.{◌≡◌, ◌<◌, ◌⊎◌, ◌↔◌, List, IfOk, IfSome, IsTrue, IsCharBoundary, chars, length};
+ghost use Rattle.std.specs.Prelude.{◌≡◌, ◌<◌, ◌⊎◌, ◌↔◌, List, IfOk, IfSome};
+ghost use Rattle.std.specs.Prelude.{IsTrue, IsCharBoundary, chars, length};
 ghost use Rattle.regex_lite_syntax.specs.Tree.{Tree};
 ghost use Rattle.regex_lite_engine.specs.Graph.SideBySide.{AreRegular};
 ghost use Rattle.regex_lite_engine.specs.Graph.StoredList.{IsGraphOfList};

@@ -1,5 +1,6 @@
 //! The positions at which none of several patterns can start, which a search passes over.
-ghost use Rattle.std.specs.Prelude.{◌≡◌, ◌≤◌, ◌<◌, ◌+◌, ℕ, IsCharBoundary, IsTrue, chars, false, length, slice_index};
+ghost use Rattle.std.specs.Prelude.{◌≡◌, ◌≤◌, ◌<◌, ◌+◌, ℕ, IsCharBoundary};
+ghost use Rattle.std.specs.Prelude.{IsTrue, chars, false, length, slice_index};
 ghost use Rattle.regex_lite_engine.specs.Graph.StoredList.{table_of_list};
 ghost use Rattle.regex_lite_engine.specs.Nfa.ListHeads.{IsPassedByAll};
 ghost use Rattle.regex_lite_engine.specs.Nfa.Starts.{stops_at};

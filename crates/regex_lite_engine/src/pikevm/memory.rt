@@ -1,5 +1,6 @@
 //! All that a search works in.
-ghost use Rattle.std.specs.Prelude.{◌≡◌, ◌+◌, ◌*◌, ◌^◌, ◌≤◌, ◌<◌, [], ℕ, IfOk, length, map, slice_index, slice_set, vec_capacity};
+ghost use Rattle.std.specs.Prelude.{◌≡◌, ◌+◌, ◌*◌, ◌^◌, ◌≤◌, ◌<◌, [], ℕ, IfOk, length};
+ghost use Rattle.std.specs.Prelude.{map, slice_index, slice_set, vec_capacity};
 ghost use Rattle.regex_lite_engine.specs.Walk.Cells.{round_in};
 
 use crate::pikevm::beginning::Beginning;
@@ -19,8 +20,8 @@ const FEW: usize = 32;
 /// The working memory of a search. It is asked for by one request, or by two where slots are kept.
 #[derive(Drop)]
 pub struct Memory<S: Beginning> {
-    /// One for each place of the graph from `low` on. There is room for all, and those that a search
-    /// doesn't come to are not written: it needs few of them where the text is short.
+    /// One for each place of the graph from `low` on. There is room for all, and those that a
+    /// search doesn't come to are not written: it needs few of them where the text is short.
     pub(super) cells: Vec<Cell<S>>,
     /// The places below this one have no cell yet, and were not entered. The graph is written from
     /// its end, so that a search begins with the highest.
@@ -44,7 +45,8 @@ pub struct Memory<S: Beginning> {
 impl<S: Beginning> Model for Memory<S> {
     ghost use Rattle.std.specs.Prelude.{vec_capacity};
     ghost use Rattle.regex_lite_engine.specs.Walk.Machine.{State};
-    ghost use Rattle.regex_lite_engine.specs.Walk.Cells.{rounds_in, frames_in, nth_row, threads_on, other, HoldTogether};
+    ghost use Rattle.regex_lite_engine.specs.Walk.Cells.{rounds_in, frames_in, nth_row};
+    ghost use Rattle.regex_lite_engine.specs.Walk.Cells.{threads_on, other, HoldTogether};
 
     ghost Value = { State };
 

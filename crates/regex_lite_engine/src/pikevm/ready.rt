@@ -1,5 +1,6 @@
 //! Cells are made ready when a search first reaches them.
-ghost use Rattle.std.specs.Prelude.{◌≡◌, ◌+◌, ◌-◌, ◌≤◌, ◌<◌, ◌++◌, length, map, take, drop, replicate, true, vec_capacity};
+ghost use Rattle.std.specs.Prelude.{◌≡◌, ◌+◌, ◌-◌, ◌≤◌, ◌<◌, ◌++◌, length, map};
+ghost use Rattle.std.specs.Prelude.{take, drop, replicate, true, vec_capacity};
 ghost use Rattle.regex_lite_engine.specs.Walk.Cells.{round_in, without_round, MakesReady};
 
 use crate::pikevm::beginning::Beginning;

@@ -1,5 +1,6 @@
 //! Rows of slots.
-ghost use Rattle.std.specs.Prelude.{◌≡◌, ◌+◌, ◌-◌, ◌≤◌, ◌<◌, ◌⊎◌, [], ◌++◌, IfOk, None, length, take, drop, replicate, slice_index_or, slice_set, vec_capacity};
+ghost use Rattle.std.specs.Prelude.{◌≡◌, ◌+◌, ◌-◌, ◌≤◌, ◌<◌, ◌⊎◌, [], ◌++◌, IfOk, None, length};
+ghost use Rattle.std.specs.Prelude.{take, drop, replicate, slice_index_or, slice_set, vec_capacity};
 ghost use Rattle.regex_lite_engine.specs.Walk.Cells.{padded};
 
 use crate::pikevm::slot::Slot;

@@ -129,8 +129,8 @@ impl<'g> Searcher<'g> {
     }
 }
 
-/// An automaton of this graph that remembers nothing yet, on the heap: most searchers have none, and
-/// are moved about often.
+/// An automaton of this graph that remembers nothing yet, on the heap: most searchers have none,
+/// and are moved about often.
 // Not inlined, so that to make a searcher without one costs no more for it.
 #[inline(never)]
 fn automaton_for(alloc: Global, graph: &Graph) -> Option<Box<LazyDfa>>

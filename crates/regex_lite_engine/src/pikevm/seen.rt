@@ -1,6 +1,7 @@
 //! The places that were entered at the position that a search has come to: a set that is emptied in
 //! one step.
-ghost use Rattle.std.specs.Prelude.{◌≡◌, ◌+◌, ◌<◌, ◌^◌, ◌↔◌, IsTrue, true, length, slice_index, slice_set};
+ghost use Rattle.std.specs.Prelude.{◌≡◌, ◌+◌, ◌<◌, ◌^◌, ◌↔◌, IsTrue};
+ghost use Rattle.std.specs.Prelude.{true, length, slice_index, slice_set};
 
 use crate::pikevm::beginning::Beginning;
 use crate::pikevm::memory::Memory;

@@ -1,5 +1,6 @@
 //! The positions at which no match can start, which a search passes over.
-ghost use Rattle.std.specs.Prelude.{◌≡◌, ◌≤◌, ◌<◌, ◌+◌, ◌⊎◌, ℕ, IfSome, IsTrue, false, true, chars, length, slice_index};
+ghost use Rattle.std.specs.Prelude.{◌≡◌, ◌≤◌, ◌<◌, ◌+◌, ◌⊎◌, ℕ, IfSome, IsTrue};
+ghost use Rattle.std.specs.Prelude.{false, true, chars, length, slice_index};
 ghost use Rattle.regex_lite_engine.specs.Nfa.Heads.{IsCutOff, IsPassed, NeverBegins};
 ghost use Rattle.regex_lite_engine.specs.Nfa.Prefilter.{suits, IsPrefilterOf};
 ghost use Rattle.regex_lite_engine.specs.Nfa.Starts.{may_begin, stops_at};

@@ -1,6 +1,7 @@
 //! Where a search goes on at a position and at the next: places in the order of their preference,
 //! each with where its way began and with a row of slots.
-ghost use Rattle.std.specs.Prelude.{◌≡◌, ◌+◌, ◌^◌, ◌<◌, ◌++◌, [], ◌∷◌, None, length, replicate, true};
+ghost use Rattle.std.specs.Prelude.{◌≡◌, ◌+◌, ◌^◌, ◌<◌, ◌++◌, [], ◌∷◌};
+ghost use Rattle.std.specs.Prelude.{None, length, replicate, true};
 ghost use Rattle.regex_lite_engine.specs.Walk.Cells.{row_on};
 ghost use Rattle.regex_lite_engine.specs.Walk.Machine.{thread_at};
 

@@ -1,5 +1,6 @@
 //! One position of the haystack: its threads are followed in order, and leave those of the next.
-ghost use Rattle.std.specs.Prelude.{◌≡◌, ◌+◌, ◌^◌, ◌≤◌, ◌<◌, ◌⊎◌, [], List, ℕ, All, None, length, true};
+ghost use Rattle.std.specs.Prelude.{◌≡◌, ◌+◌, ◌^◌, ◌≤◌, ◌<◌, ◌⊎◌, []};
+ghost use Rattle.std.specs.Prelude.{List, ℕ, All, None, length, true};
 ghost use Rattle.regex_lite_engine.specs.Graph.Renumbered.{arrows_of};
 ghost use Rattle.regex_lite_engine.specs.Search.Bounds.{StaysCounted};
 ghost use Rattle.regex_lite_engine.specs.Walk.Beginnings.{Told};
@@ -24,12 +25,14 @@ impl<S: Beginning> Cache<S> {
     ghost use Rattle.regex_lite_engine.specs.Walk.Room.{HasRoom};
     ghost use Rattle.regex_lite_engine.specs.Walk.Turns.{AreStartsAt, EndsAt, IsComing};
     ghost use Rattle.regex_lite_engine.specs.Graph.Parts.{IsOwnPart};
-    ghost use Rattle.regex_lite_engine.specs.Walk.Searching.{ways_at, IsPlaced, Follows, FollowsAgain, IsHit, TurnsAgain, IsBetween, SpendsWithin};
+    ghost use Rattle.regex_lite_engine.specs.Walk.Searching.{ways_at, IsPlaced, Follows};
+    ghost use Rattle.regex_lite_engine.specs.Walk.Searching.{FollowsAgain, IsHit, TurnsAgain};
+    ghost use Rattle.regex_lite_engine.specs.Walk.Searching.{IsBetween, SpendsWithin};
 
     /// Goes over the position. Its own starts come last, and only while there is no match. Returns
     /// whether a match is complete there.
-    // Inlined with all that it calls, though searches with an automaton call it too: else a turn costs
-    // a quarter more.
+    // Inlined with all that it calls, though searches with an automaton call it too: else a turn
+    // costs a quarter more.
     #[inline(always)]
     pub fn turn<P: Patterns>(&mut self, patterns: &P, here: Here) -> bool
         requires ready { IsBetween (P.table patterns.now) self.old }

@@ -1,5 +1,6 @@
 //! The walk over one position: from a place over all that its arrows lead to without reading.
-ghost use Rattle.std.specs.Prelude.{◌≡◌, ◌+◌, ◌≤◌, ◌<◌, ◌++◌, [], ◌∷◌, None, length, replicate, true};
+ghost use Rattle.std.specs.Prelude.{◌≡◌, ◌+◌, ◌≤◌, ◌<◌, ◌++◌, [], ◌∷◌};
+ghost use Rattle.std.specs.Prelude.{None, length, replicate, true};
 ghost use Rattle.regex_lite_engine.specs.Graph.Stored.{places_of};
 ghost use Rattle.regex_lite_engine.specs.Search.Bounds.{StaysCounted};
 ghost use Rattle.regex_lite_engine.specs.Walk.Entering.{completes, onto};

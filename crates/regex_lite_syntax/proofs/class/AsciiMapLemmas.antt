@@ -1,11 +1,15 @@
 -- The bits of maps of ASCII characters.
-use Rattle.std.proofs.Common.{◌≡◌, ℕ, zero, suc, Bool, true, false, IsTrue, refl, List, length, take, get_or, ◌+◌, ◌-◌, ◌*◌, ◌/◌, ◌%◌, ◌^◌, ◌<◌, ◌||◌, ◌==◌, [], ◌∷◌, bit_and, bit_or, ap, sym, ◌∙◌, arith, inl, inr}
+use Rattle.std.proofs.Common.{◌≡◌, ℕ, zero, suc, Bool, true, false, IsTrue, refl, List}
+use Rattle.std.proofs.Common.{length, take, get_or, ◌+◌, ◌-◌, ◌*◌, ◌/◌, ◌%◌, ◌^◌, ◌<◌, ◌||◌}
+use Rattle.std.proofs.Common.{◌==◌, [], ◌∷◌, bit_and, bit_or, ap, sym, ◌∙◌, arith, inl, inr}
 use Rattle.std.specs.Int.{bit_at}
 use Rattle.std.specs.Char.{is_ascii}
 use Rattle.std.proofs.lemmas.Bool.{cases_lt}
 use Rattle.std.proofs.lemmas.Bool.Decides.{nat_tests}
 use Rattle.std.proofs.lemmas.Nat.{shr-shr}
-use Rattle.std.proofs.lemmas.Nat.Bits.{ones_shl, ones_shr, bit_at_and, bit_at_or, bit_at-lt, bit_at_cat_low, bit_at_mask_inside, bit_at_mask_below, bit_at_ones, bit_at_ones_above}
+use Rattle.std.proofs.lemmas.Nat.Bits.{ones_shl, ones_shr, bit_at_and, bit_at_or}
+use Rattle.std.proofs.lemmas.Nat.Bits.{bit_at-lt, bit_at_cat_low, bit_at_mask_inside}
+use Rattle.std.proofs.lemmas.Nat.Bits.{bit_at_mask_below, bit_at_ones, bit_at_ones_above}
 use Rattle.regex_lite_syntax.specs.Characters.{is_between}
 use Rattle.regex_lite_syntax.specs.declared.class.ClassRange.{ClassRange}
 use Rattle.regex_lite_syntax.specs.Sets.{span}
@@ -15,24 +19,29 @@ use Rattle.regex_lite_syntax.specs.AsciiMaps.{bit_of_words}
 
 -- `MAX << start & MAX >> (127 - end)` has the ones from the start to the end
 pub bits_between : (start end c : ℕ) → start < 128 → end < 128 → c < 128
-    → (bit_at (bit_and ((2 ^ 128 - 1) * 2 ^ start % 2 ^ 128) ((2 ^ 128 - 1) / 2 ^ (127 - end))) c == 1)
+    → (bit_at (bit_and ((2 ^ 128 - 1) * 2 ^ start % 2 ^ 128) ((2 ^ 128 - 1) / 2 ^ (127 - end))) c
+    == 1)
     ≡ is_between start end c
 bits_between start end c starts ends within =
-    let from : (2 ^ 128 - 1) * 2 ^ start % 2 ^ 128 ≡ 2 ^ 128 - 2 ^ start = ones_shl 128 start (omega arith) in
-    let to : (2 ^ 128 - 1) / 2 ^ (127 - end) ≡ 2 ^ (128 - (127 - end)) - 1 = ones_shr 128 (127 - end) (omega arith) in
+    let from : (2 ^ 128 - 1) * 2 ^ start % 2 ^ 128 ≡ 2 ^ 128 - 2 ^ start =
+    ones_shl 128 start (omega arith) in
+    let to : (2 ^ 128 - 1) / 2 ^ (127 - end) ≡ 2 ^ (128 - (127 - end)) - 1 =
+    ones_shr 128 (127 - end) (omega arith) in
     let exponent : 128 - (127 - end) ≡ end + 1 = omega arith in
     rw (from, to, exponent, bit_at_and)
     (elim (cases_lt c start) [
       | inl before ↦ rw (bit_at_mask_below start 128 c before) (grind (arith, nat_tests))
       | inr at ↦ rw (bit_at_mask_inside start 128 c at within)
           (elim (cases_lt end c) [
-            | inl behind ↦ rw (bit_at_ones_above (end + 1) c (omega arith)) (grind (arith, nat_tests))
+            | inl behind ↦
+                rw (bit_at_ones_above (end + 1) c (omega arith)) (grind (arith, nat_tests))
             | inr upto ↦ rw (bit_at_ones (end + 1) c (omega arith)) (grind (arith, nat_tests))
           ])
     ])
 
 -- the ones of either number
-pub bits_of_either : (a b c : ℕ) → (bit_at (bit_or a b) c == 1) ≡ ((bit_at a c == 1) || (bit_at b c == 1))
+pub bits_of_either : (a b c : ℕ)
+    → (bit_at (bit_or a b) c == 1) ≡ ((bit_at a c == 1) || (bit_at b c == 1))
 bits_of_either a b c =
     let bit_of_a : bit_at a c < 2 = bit_at-lt a c in
     let bit_of_b : bit_at b c < 2 = bit_at-lt b c in
@@ -46,7 +55,8 @@ bits_of_words map c within = elim (cases_lt c 64) [
       let word : c / 64 ≡ 0 = omega arith in
       let bit : c % 64 ≡ c = omega arith in
       let parts : map ≡ map / 2 ^ 64 * 2 ^ 64 + map % 2 ^ 64 = omega arith in
-      rw (word, bit) (sym (bit_at_cat_low (map / 2 ^ 64) 64 (map % 2 ^ 64) c low) ∙ ap (λ n. bit_at n c) (sym parts))
+      rw (word, bit) (sym (bit_at_cat_low (map / 2 ^ 64) 64 (map % 2 ^ 64) c low)
+      ∙ ap (λ n. bit_at n c) (sym parts))
   | inr high ↦
       let word : c / 64 ≡ 1 = omega arith in
       let bit : c % 64 ≡ c - 64 = omega arith in

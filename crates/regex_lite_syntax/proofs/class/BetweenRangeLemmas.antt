@@ -1,5 +1,6 @@
 -- The characters between ranges.
-use Rattle.std.proofs.Common.{◌≡◌, sym, ap, ℕ, ◌<◌, ◌≤◌, Bool, not, ◌&&◌, ◌||◌, List, [], ◌∷◌, IsTrue, nat_le, nat_lt, arith, Option, Some, None}
+use Rattle.std.proofs.Common.{◌≡◌, sym, ap, ℕ, ◌<◌, ◌≤◌, Bool, not, ◌&&◌, ◌||◌, List, []}
+use Rattle.std.proofs.Common.{◌∷◌, IsTrue, nat_le, nat_lt, arith, Option, Some, None}
 use Rattle.std.specs.Option.{MatchOption}
 use Rattle.std.proofs.lemmas.Bool.Decides.{nat_tests}
 use Rattle.regex_lite_syntax.specs.Characters.{is_character}
@@ -15,14 +16,17 @@ between start end c = is_character c && (nat_le start c && nat_lt c end)
 
 -- up to the character before is up to before the character
 pub span_before : (start previous : Option ℕ) (end c : ℕ)
-    → MatchOption previous (end ≡ 0) (λ last. IsTrue (is_character last) × (next_character last ≡ end))
+    → MatchOption previous (end ≡ 0)
+    (λ last. IsTrue (is_character last) × (next_character last ≡ end))
     → span_of start previous c ≡ between (start_of start) end c
 span_before None previous end c h = grind (arith, nat_tests)
 span_before (Some start) None end c h = grind (arith, nat_tests)
-span_before (Some start) (Some last) end c h = grind (arith, nat_tests, next_above last, next_least last c)
+span_before (Some start) (Some last) end c h =
+    grind (arith, nat_tests, next_above last, next_least last c)
 
 -- what follows a range starts at the next character
-pub start_next : (next : Option ℕ) (c : ℕ) → MatchOption next (c ≡ 0x10FFFF) (λ d. (c < 0x10FFFF) × (d ≡ next_character c))
+pub start_next : (next : Option ℕ) (c : ℕ)
+    → MatchOption next (c ≡ 0x10FFFF) (λ d. (c < 0x10FFFF) × (d ≡ next_character c))
     → start_of next ≡ next_character c
 start_next None c h = sym (ap next_character h)
 start_next (Some d) c h = h.1
@@ -33,10 +37,12 @@ pub before_next : (n start end c : ℕ) (before after : Bool) → n ≤ end → 
 before_next n start end c before after l b e held = grind (arith, nat_tests, next_above end)
 
 -- one more range, and the gap before it
-pub gap_step : (n start end c : ℕ) (before old new : Bool) → n ≤ start → start ≤ end → (IsTrue before → c < n)
+pub gap_step : (n start end c : ℕ) (before old new : Bool) → n ≤ start → start ≤ end
+    → (IsTrue before → c < n)
     → old ≡ (nat_lt c n && (is_character c && not before)) → new ≡ (old || between n start c)
     → new ≡ (nat_lt c (next_character end) && (is_character c && not (before || span start end c)))
-gap_step n start end c before old new l m b o e = grind (arith, nat_tests, next_above end, next_least end c)
+gap_step n start end c before old new l m b o e =
+    grind (arith, nat_tests, next_above end, next_least end c)
 
 pub runs_sooner : (n m : ℕ) (ranges : List ClassRange) → n ≤ m → AreRuns m ranges → AreRuns n ranges
 runs_sooner n m [] l a = tt

@@ -1,5 +1,6 @@
 -- The one run that may hold a character, among runs in order.
-use Rattle.std.proofs.Common.{◌≡◌, refl, ℕ, zero, suc, ◌+◌, ◌<◌, ◌≤◌, true, false, List, [], ◌∷◌, IsTrue, arith, length, get_or, ltb, leb}
+use Rattle.std.proofs.Common.{◌≡◌, refl, ℕ, zero, suc, ◌+◌, ◌<◌, ◌≤◌, true, false}
+use Rattle.std.proofs.Common.{List, [], ◌∷◌, IsTrue, arith, length, get_or, ltb, leb}
 use Rattle.std.specs.List.Sorted.{IsNonDecreasingBy, IsPartitionPoint}
 use Rattle.std.proofs.lemmas.Bool.Decides.{nat_tests}
 use Rattle.regex_lite_syntax.specs.Characters.{is_character}
@@ -8,7 +9,8 @@ use Rattle.regex_lite_syntax.specs.Ranges.{in_ranges, next_character, AreRuns}
 use Rattle.regex_lite_syntax.proofs.RangeLemmas.{next_above, runs_from}
 
 -- runs end no sooner than they may start
-ends_from : (n : ℕ) (ranges : List ClassRange) (i : ℕ) (d : ClassRange) → AreRuns n ranges → i < length ranges
+ends_from : (n : ℕ) (ranges : List ClassRange) (i : ℕ) (d : ClassRange) → AreRuns n ranges
+    → i < length ranges
     → n ≤ (get_or ranges i d).end
 ends_from n [] i d runs inside = absurd (omega (arith, inside))
 ends_from n (r ∷ ranges) zero d runs inside = omega (arith, runs.0, runs.3)
@@ -17,7 +19,8 @@ ends_from n (r ∷ ranges) (suc i) d runs inside =
     omega (arith, later, runs.0, runs.3, next_above r.end)
 
 -- and in order
-pub ends_rise : (n : ℕ) (ranges : List ClassRange) → AreRuns n ranges → IsNonDecreasingBy (λ r. r.end) ranges
+pub ends_rise : (n : ℕ) (ranges : List ClassRange) → AreRuns n ranges
+    → IsNonDecreasingBy (λ r. r.end) ranges
 ends_rise n [] runs i j d le inside = absurd (omega (arith, inside))
 ends_rise n (r ∷ ranges) runs zero zero d le inside = omega arith
 ends_rise n (r ∷ ranges) runs zero (suc j) d le inside =
@@ -25,13 +28,15 @@ ends_rise n (r ∷ ranges) runs zero (suc j) d le inside =
     omega (arith, later, next_above r.end)
 ends_rise n (r ∷ ranges) runs (suc i) zero d le inside = absurd (omega (arith, le))
 ends_rise n (r ∷ ranges) runs (suc i) (suc j) d le inside =
-    ends_rise (next_character r.end + 1) ranges runs.4 i j d (omega (arith, le)) (omega (arith, inside))
+    ends_rise (next_character r.end + 1) ranges runs.4 i j d (omega (arith, le))
+    (omega (arith, inside))
 
 -- where runs end before the character up to a place, and from there on do not
 abbrev pub Parts : ℕ → List ClassRange → ℕ → Type 0
 Parts c ranges i = IsPartitionPoint (λ r. ltb r.end c ≡ true) (λ r. ltb r.end c ≡ false) ranges i
 
-parts_rest : (c : ℕ) (r : ClassRange) (ranges : List ClassRange) (i : ℕ) → Parts c (r ∷ ranges) (suc i) → Parts c ranges i
+parts_rest : (c : ℕ) (r : ClassRange) (ranges : List ClassRange) (i : ℕ)
+    → Parts c (r ∷ ranges) (suc i) → Parts c ranges i
 parts_rest c r ranges i parts = (
   λ k d from below. parts.0 (suc k) d (omega arith) (omega (arith, below)),
   λ k d from below. parts.1 (suc k) d (omega (arith, from)) (omega (arith, below)),
@@ -48,7 +53,8 @@ held_nowhere c (r ∷ ranges) (suc i) parts over =
     grind (arith, nat_tests)
 
 -- else the run at the place alone may hold it
-pub held_there : (c n : ℕ) (ranges : List ClassRange) (i : ℕ) (d : ClassRange) → IsTrue (is_character c) → AreRuns n ranges → Parts c ranges i
+pub held_there : (c n : ℕ) (ranges : List ClassRange) (i : ℕ) (d : ClassRange)
+    → IsTrue (is_character c) → AreRuns n ranges → Parts c ranges i
     → i < length ranges → in_ranges ranges c ≡ leb (get_or ranges i d).start c
 held_there c n [] i d is runs parts inside = absurd (omega (arith, inside))
 held_there c n (r ∷ ranges) zero d is runs parts inside =
@@ -56,6 +62,7 @@ held_there c n (r ∷ ranges) zero d is runs parts inside =
     let rest = runs_from (next_character r.end + 1) ranges c runs.4 in
     grind (arith, nat_tests, next_above r.end)
 held_there c n (r ∷ ranges) (suc i) d is runs parts inside =
-    let rest = held_there c (next_character r.end + 1) ranges i d is runs.4 (parts_rest c r ranges i parts) (omega (arith, inside)) in
+    let rest = held_there c (next_character r.end + 1) ranges i d is runs.4
+    (parts_rest c r ranges i parts) (omega (arith, inside)) in
     let before = parts.0 0 r (omega arith) (omega arith) in
     grind (arith, nat_tests)

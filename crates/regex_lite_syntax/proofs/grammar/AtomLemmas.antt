@@ -1,5 +1,6 @@
 -- An item that is no group is read in one way.
-use Rattle.std.proofs.Common.{◌≡◌, ◌≢◌, refl, sym, ◌∙◌, ap, subst, ℕ, Bool, true, false, ◌&&◌, ◌∷◌, MatchBool}
+use Rattle.std.proofs.Common.{◌≡◌, ◌≢◌, refl, sym, ◌∙◌, ap, subst, ℕ}
+use Rattle.std.proofs.Common.{Bool, true, false, ◌&&◌, ◌∷◌, MatchBool}
 use Rattle.std.proofs.lemmas.Bool.{both_ways, ne_eqb}
 use Rattle.regex_lite_syntax.specs.declared.flags.Flags.{Flags}
 use Rattle.regex_lite_syntax.specs.Text.{Text, the}
@@ -8,7 +9,9 @@ use Rattle.regex_lite_syntax.specs.Sets.{Set, just, case_closure}
 use Rattle.regex_lite_syntax.specs.Grammar.Escapes.{Primitive, one, some_of, look_at, Escape}
 use Rattle.regex_lite_syntax.specs.Grammar.Classes.{BracketedClass}
 use Rattle.regex_lite_syntax.specs.Tree.{Tree, character, class}
-use Rattle.regex_lite_syntax.specs.Grammar.Atoms.{is_literal, AtomKind, single, escape, bracketed, no_atom, atom_kind, IsClassOf, PrimitiveTree, AtomFrom, Atom}
+use Rattle.regex_lite_syntax.specs.Grammar.Atoms.{is_literal, AtomKind, single, escape}
+use Rattle.regex_lite_syntax.specs.Grammar.Atoms.{bracketed, no_atom, atom_kind, IsClassOf}
+use Rattle.regex_lite_syntax.specs.Grammar.Atoms.{PrimitiveTree, AtomFrom, Atom}
 use Rattle.regex_lite_syntax.proofs.ListLemmas.{same_head, same_tail}
 use Rattle.regex_lite_syntax.proofs.grammar.EscapeLemmas.{escape_once}
 use Rattle.regex_lite_syntax.proofs.grammar.ClassLemmas.{class_once}
@@ -27,7 +30,8 @@ one_tree c true a b p q = class_tree_once (case_closure (just c)) a b p q
 one_tree c false a b p q = p ∙ sym q
 
 -- and so has a primitive
-pub piece_tree_once : (flags : Flags) (p : Primitive) (a b : Tree) → PrimitiveTree flags p a → PrimitiveTree flags p b → a ≡ b
+pub piece_tree_once : (flags : Flags) (p : Primitive) (a b : Tree) → PrimitiveTree flags p a
+    → PrimitiveTree flags p b → a ≡ b
 piece_tree_once flags (one c) a b p q = one_tree c (flags.case_insensitive && is_letter c) a b p q
 piece_tree_once flags (some_of s) a b p q = class_tree_once s a b p q
 piece_tree_once flags (look_at test) a b p q = p ∙ sym q
@@ -40,19 +44,23 @@ atom_from_once escape flags t past rest rest' a b p q =
     let same = escape_once flags.ignore_whitespace past rest rest' p.0 q.0 p.1 q.1 in
     (same.0, piece_tree_once flags q.0 a b (subst (λ x. PrimitiveTree flags x a) same.1 p.2) q.2)
 atom_from_once bracketed flags t past rest rest' a b p q =
-    let same = class_once flags.case_insensitive flags.ignore_whitespace t rest rest' p.0 q.0 p.1 q.1 in
+    let same =
+    class_once flags.case_insensitive flags.ignore_whitespace t rest rest' p.0 q.0 p.1 q.1 in
     (same.0, class_tree_once q.0 a b (subst (λ x. IsClassOf x a) same.1 p.2) q.2)
 atom_from_once no_atom flags t past rest rest' a b p q = absurd p
 
 -- the rest of an item, by the character that stands first
-pub from_first : (flags : Flags) (t rest : Text) (a : Tree) (c : ℕ) (u : Text) → t ≡ c ∷ u → Atom flags t rest a
+pub from_first : (flags : Flags) (t rest : Text) (a : Tree) (c : ℕ) (u : Text) → t ≡ c ∷ u
+    → Atom flags t rest a
     → AtomFrom (atom_kind flags c) flags t u rest a
 from_first flags t rest a c u e d =
     let same = sym d.begins ∙ e in
-    let past = subst (λ v. AtomFrom (atom_kind flags d.first) flags t v rest a) (same_tail same) d.goes_on in
+    let past =
+    subst (λ v. AtomFrom (atom_kind flags d.first) flags t v rest a) (same_tail same) d.goes_on in
     subst (λ x. AtomFrom (atom_kind flags x) flags t u rest a) (same_head same) past
 
-pub atom_once : (flags : Flags) (t rest rest' : Text) (a b : Tree) → Atom flags t rest a → Atom flags t rest' b
+pub atom_once : (flags : Flags) (t rest rest' : Text) (a b : Tree) → Atom flags t rest a
+    → Atom flags t rest' b
     → (rest ≡ rest') × (a ≡ b)
 atom_once flags t rest rest' a b p q =
     let from = from_first flags t rest' b p.first p.past_first p.begins q in
@@ -124,40 +132,50 @@ other_kind flags c sign literal =
     ) refl
 
 -- an item of one character
-pub single_atom : (flags : Flags) (primitive : Primitive) (c : ℕ) (t rest : Text) (a : Tree) → t ≡ c ∷ rest
+pub single_atom : (flags : Flags) (primitive : Primitive) (c : ℕ) (t rest : Text) (a : Tree)
+    → t ≡ c ∷ rest
     → atom_kind flags c ≡ single primitive → PrimitiveTree flags primitive a → Atom flags t rest a
-single_atom flags primitive c t rest a e kind tree = atom_by flags (single primitive) c t rest rest a e kind (refl, tree)
+single_atom flags primitive c t rest a e kind tree =
+    atom_by flags (single primitive) c t rest rest a e kind (refl, tree)
 
 -- so a character that stands for itself
 pub literal_atom : (flags : Flags) (c : ℕ) (t rest : Text) (a : Tree) → t ≡ c ∷ rest
-    → is_literal flags.ignore_whitespace c ≡ true → PrimitiveTree flags (one c) a → Atom flags t rest a
+    → is_literal flags.ignore_whitespace c ≡ true → PrimitiveTree flags (one c) a
+    → Atom flags t rest a
 literal_atom flags c t rest a e literal tree =
     let sign = literal_no_sign flags.ignore_whitespace c literal in
     single_atom flags (one c) c t rest a e (literal_kind flags c sign literal) tree
 
 -- but a character that neither stands for itself nor is a sign begins no item that is no group
-pub no_literal : (flags : Flags) (t rest : Text) (a : Tree) (c : ℕ) (u : Text) → t ≡ c ∷ u → NoSign c
+pub no_literal : (flags : Flags) (t rest : Text) (a : Tree) (c : ℕ) (u : Text) → t ≡ c ∷ u
+    → NoSign c
     → is_literal flags.ignore_whitespace c ≡ false → Atom flags t rest a → ⊥
 no_literal flags t rest a c u e sign literal d =
     no_atom_at flags t rest a c u e (other_kind flags c sign literal) d
 
 -- an escape
-pub escape_atom : (flags : Flags) (t past rest : Text) (p : Primitive) (a : Tree) → t ≡ the "\\" ∷ past
+pub escape_atom : (flags : Flags) (t past rest : Text) (p : Primitive) (a : Tree)
+    → t ≡ the "\\" ∷ past
     → Escape flags.ignore_whitespace past rest p → PrimitiveTree flags p a → Atom flags t rest a
-escape_atom flags t past rest p a e d tree = atom_by flags escape (the "\\") t past rest a e refl (p, d, tree)
+escape_atom flags t past rest p a e d tree =
+    atom_by flags escape (the "\\") t past rest a e refl (p, d, tree)
 
 pub no_escape : (flags : Flags) (t past rest : Text) (a : Tree) → t ≡ the "\\" ∷ past
-    → ((rest : Text) (p : Primitive) → Escape flags.ignore_whitespace past rest p → ⊥) → Atom flags t rest a → ⊥
+    → ((rest : Text) (p : Primitive) → Escape flags.ignore_whitespace past rest p → ⊥)
+    → Atom flags t rest a → ⊥
 no_escape flags t past rest a e none d =
     let from = by_kind flags escape (the "\\") t past rest a e refl d in none rest from.0 from.1
 
 -- a bracketed class
 pub class_atom : (flags : Flags) (t past rest : Text) (s : Set) (a : Tree) → t ≡ the "[" ∷ past
-    → BracketedClass flags.case_insensitive flags.ignore_whitespace t rest s → IsClassOf s a → Atom flags t rest a
-class_atom flags t past rest s a e d tree = atom_by flags bracketed (the "[") t past rest a e refl (s, d, tree)
+    → BracketedClass flags.case_insensitive flags.ignore_whitespace t rest s → IsClassOf s a
+    → Atom flags t rest a
+class_atom flags t past rest s a e d tree =
+    atom_by flags bracketed (the "[") t past rest a e refl (s, d, tree)
 
 pub no_class : (flags : Flags) (t past rest : Text) (a : Tree) → t ≡ the "[" ∷ past
-    → ((rest : Text) (s : Set) → BracketedClass flags.case_insensitive flags.ignore_whitespace t rest s → ⊥)
+    → ((rest : Text) (s : Set)
+    → BracketedClass flags.case_insensitive flags.ignore_whitespace t rest s → ⊥)
     → Atom flags t rest a → ⊥
 no_class flags t past rest a e none d =
     let from = by_kind flags bracketed (the "[") t past rest a e refl d in none rest from.0 from.1

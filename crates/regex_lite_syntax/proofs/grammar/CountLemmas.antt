@@ -1,19 +1,24 @@
 -- Counted operators are read in one way, and their bounds are in order.
-use Rattle.std.proofs.Common.{inl, inr, ◌≡◌, refl, sym, ◌∙◌, ap, subst, ℕ, ◌≤◌, Bool, ◌∷◌, Option, Some, None, arith}
+use Rattle.std.proofs.Common.{inl, inr, ◌≡◌, refl, sym, ◌∙◌, ap, subst, ℕ}
+use Rattle.std.proofs.Common.{◌≤◌, Bool, ◌∷◌, Option, Some, None, arith}
 use Rattle.regex_lite_syntax.specs.Text.{Text, Begins, the}
 use Rattle.regex_lite_syntax.specs.Grammar.Gaps.{Gap, WholeGap}
-use Rattle.regex_lite_syntax.specs.Grammar.Counted.{Number, EndsNumber, Limit, Counted, exactly, at_least, between}
+use Rattle.regex_lite_syntax.specs.Grammar.Counted.{Number, EndsNumber, Limit, Counted}
+use Rattle.regex_lite_syntax.specs.Grammar.Counted.{exactly, at_least, between}
 use Rattle.regex_lite_syntax.proofs.ListLemmas.{same_head, same_tail}
 use Rattle.regex_lite_syntax.proofs.grammar.GapLemmas.{empty_gap, gap_once}
 use Rattle.regex_lite_syntax.proofs.grammar.SpacedLemmas.{printed_ends, whole_gap_leads}
-use Rattle.regex_lite_syntax.proofs.grammar.NumberLemmas.{ender_ends, ends_side, no_digit_before, no_number, number_once, side_of}
+use Rattle.regex_lite_syntax.proofs.grammar.NumberLemmas.{ender_ends, ends_side, no_digit_before}
+use Rattle.regex_lite_syntax.proofs.grammar.NumberLemmas.{no_number, number_once, side_of}
 
 -- past a comma stands a number, unless the brace that closes stands there
-pub limit_is_number : {verbose : Bool} {most : Option ℕ} {t rest : Text} (u : Text) → WholeGap verbose t u
+pub limit_is_number : {verbose : Bool} {most : Option ℕ} {t rest : Text} (u : Text)
+    → WholeGap verbose t u
     → (Begins (the "}") u → ⊥) → Limit verbose t rest most
     → (n : ℕ) × (most ≡ Some n) × Number verbose t (the "}" ∷ rest) n
 limit_is_number {verbose} {most = None} {t} {rest} u whole open_still closes =
-    let here = whole_gap_leads verbose t u _ whole closes (printed_ends (the "}") rest (omega arith) (omega arith)) in
+    let here = whole_gap_leads verbose t u _ whole closes
+    (printed_ends (the "}") rest (omega arith) (omega arith)) in
     absurd (open_still (subst (λ v. Begins (the "}") v) (sym here) refl))
 limit_is_number {verbose} {most = Some n} {t} {rest} u whole open_still number = (n, refl, number)
 
@@ -32,7 +37,8 @@ limit_or_none verbose t rest rest' n closes number =
     (side_of verbose t _ closes, ends_side verbose _ (ender_ends (the "}" ∷ rest) ends))
     (no_digit_before verbose (the "}" ∷ rest) (the "}" ∷ rest) here ends) number
 
-pub limit_once : (verbose : Bool) (t r s : Text) (m m' : Option ℕ) → Limit verbose t r m → Limit verbose t s m'
+pub limit_once : (verbose : Bool) (t r s : Text) (m m' : Option ℕ) → Limit verbose t r m
+    → Limit verbose t s m'
     → (r ≡ s) × (m ≡ m')
 limit_once verbose t r s None None a b =
     let closed = gap_once verbose t _ _ a b (printed_ends (the "}") r (omega arith) (omega arith))
@@ -41,7 +47,8 @@ limit_once verbose t r s None None a b =
 limit_once verbose t r s None (Some n) a b = absurd (limit_or_none verbose t r _ n a b)
 limit_once verbose t r s (Some n) None a b = absurd (limit_or_none verbose t s _ n b a)
 limit_once verbose t r s (Some n) (Some n') a b =
-    let same = number_once verbose t _ _ n' n b a (inr refl) (inr refl) in (same_tail same.0, ap Some same.1)
+    let same = number_once verbose t _ _ n' n b a (inr refl) (inr refl) in
+    (same_tail same.0, ap Some same.1)
 
 -- what follows the first number of a counted operator
 pub data PastMin (verbose : Bool) (u rest : Text) (least : ℕ) (most : Option ℕ) : Type 0 where
@@ -50,14 +57,17 @@ pub data PastMin (verbose : Bool) (u rest : Text) (least : ℕ) (most : Option �
       → ((n : ℕ) → most ≡ Some n → least ≤ n) → PastMin verbose u rest least most
 
 -- a counted operator from its first number on
-pub first_number : {verbose : Bool} {t rest : Text} {least : ℕ} {most : Option ℕ} → Counted verbose t rest least most
+pub first_number : {verbose : Bool} {t rest : Text} {least : ℕ} {most : Option ℕ}
+    → Counted verbose t rest least most
     → (u : Text) × Number verbose t u least × EndsNumber u × PastMin verbose u rest least most
-first_number {verbose} {t} {rest} {least} {most} (exactly p is) = (the "}" ∷ rest, p, inr refl, closed refl is)
+first_number {verbose} {t} {rest} {least} {most} (exactly p is) =
+    (the "}" ∷ rest, p, inr refl, closed refl is)
 first_number {verbose} {t} {rest} {least} {most} (at_least past p closes is) = (
   the "," ∷ past,
   p,
   inl refl,
-  limited past refl (subst (λ m. Limit verbose past rest m) (sym is) closes) (λ n some. cc (is, some)),
+  limited past refl (subst (λ m. Limit verbose past rest m) (sym is) closes)
+      (λ n some. cc (is, some)),
 )
 first_number {verbose} {t} {rest} {least} {most} (between past n p q order is) = (
   the "," ∷ past,
@@ -75,13 +85,15 @@ past_min {verbose} {t} {u} {rest} {n} {least} {most} only counted =
     let from = first_number counted in
     let same = only from.0 least from.1 from.2 in (
       subst (λ v. EndsNumber v) same.0 from.2,
-      subst (λ m. PastMin verbose u rest m most) same.1 (subst (λ v. PastMin verbose v rest least most) same.0 from.3),
+      subst (λ m. PastMin verbose u rest m most) same.1
+          (subst (λ v. PastMin verbose v rest least most) same.0 from.3),
       same.1,
     )
 
 past_min_once : (verbose : Bool) (u r s : Text) (n : ℕ) (m m' : Option ℕ) → PastMin verbose u r n m
     → PastMin verbose u s n m' → (r ≡ s) × (m ≡ m')
-past_min_once verbose u r s n m m' (closed e is) (closed e' is') = (same_tail (sym e ∙ e'), is ∙ sym is')
+past_min_once verbose u r s n m m' (closed e is) (closed e' is') =
+    (same_tail (sym e ∙ e'), is ∙ sym is')
 past_min_once verbose u r s n m m' (closed e is) (limited past' e' l' order') =
     let clash = same_head (sym e ∙ e') in absurd (omega (arith, clash))
 past_min_once verbose u r s n m m' (limited past e l order) (closed e' is') =
@@ -91,7 +103,8 @@ past_min_once verbose u r s n m m' (limited past e l order) (limited past' e' l'
     (subst (λ v. Limit verbose v s m') (sym (same_tail (sym e ∙ e'))) l')
 
 -- past a comma comes the limit
-pub limit_past : {verbose : Bool} {rest : Text} {n : ℕ} {most : Option ℕ} (u past : Text) (c : ℕ) → u ≡ c ∷ past
+pub limit_past : {verbose : Bool} {rest : Text} {n : ℕ} {most : Option ℕ} (u past : Text) (c : ℕ)
+    → u ≡ c ∷ past
     → c ≡ the "," → PastMin verbose u rest n most
     → Limit verbose past rest most × ((k : ℕ) → most ≡ Some k → n ≤ k)
 limit_past {verbose} {rest} {n} {most} u past c here is (closed e all) =
@@ -99,7 +112,8 @@ limit_past {verbose} {rest} {n} {most} u past c here is (closed e all) =
 limit_past {verbose} {rest} {n} {most} u past c here is (limited past' e limit order) =
     (subst (λ v. Limit verbose v rest most) (sym (same_tail (sym here ∙ e))) limit, order)
 
-pub counted_to : {verbose : Bool} {t rest : Text} {least : ℕ} (most : Option ℕ) (u past : Text) (c : ℕ)
+pub counted_to : {verbose : Bool} {t rest : Text} {least : ℕ} (most : Option ℕ)
+    (u past : Text) (c : ℕ)
     → Number verbose t u least → u ≡ c ∷ past → c ≡ the "," → Limit verbose past rest most
     → ((n : ℕ) → most ≡ Some n → least ≤ n) → Counted verbose t rest least most
 counted_to {verbose} {t} {rest} {least} most u past c p here is limit order =
@@ -111,11 +125,13 @@ counted_to {verbose} {t} {rest} {least} most u past c p here is limit order =
     go (Some n) q number in_order = between past n q number (in_order n refl) refl
 
 -- a counted operator ends at one place, and has one pair of bounds
-pub counted_once : (verbose : Bool) (t r s : Text) (l l' : ℕ) (m m' : Option ℕ) → Counted verbose t r l m
+pub counted_once : (verbose : Bool) (t r s : Text) (l l' : ℕ) (m m' : Option ℕ)
+    → Counted verbose t r l m
     → Counted verbose t s l' m' → (r ≡ s) × (l ≡ l') × (m ≡ m')
 counted_once verbose t r s l l' m m' a b =
     let from = first_number a in
-    let past = past_min (λ rest n p ends. number_once verbose t from.0 rest l n from.1 p from.2 ends) b in
+    let past =
+    past_min (λ rest n p ends. number_once verbose t from.0 rest l n from.1 p from.2 ends) b in
     let same = past_min_once verbose from.0 r s l m m' from.3 past.1 in
     (same.0, sym past.2, same.1)
 

@@ -1,15 +1,44 @@
 -- An escape is read in one way.
-use Rattle.std.proofs.Common.{◌≡◌, refl, sym, ◌∙◌, ap, subst, ℕ, ◌<◌, length, Bool, false, [], ◌∷◌, IsTrue, Some, arith, rules}
+use Rattle.std.proofs.Common.{◌≡◌, refl, sym, ◌∙◌, ap, subst, ℕ, ◌<◌, length}
+use Rattle.std.proofs.Common.{Bool, false, [], ◌∷◌, IsTrue, Some, arith, rules}
 use Rattle.std.proofs.lemmas.Bool.{both_ways}
 use Rattle.regex_lite_syntax.specs.declared.hir.look.Look.{Look}
 use Rattle.regex_lite_syntax.specs.Text.{Text, Begins, the}
 use Rattle.regex_lite_syntax.specs.Characters.{is_hex_digit, number_of}
 use Rattle.regex_lite_syntax.specs.Grammar.Gaps.{Gap, WholeGap, Spaced}
-use Rattle.regex_lite_syntax.specs.Grammar.Escapes.{Primitive, one, look_at, EscapeKind, gives, word_boundary, hexadecimal, refused, escape_kind, FixedDigits, BracedDigits, Hexadecimal, fixed, braced, is_boundary_character, boundary_named, BoundaryName, BeginsCount, WordBoundary, alone, before_count, named, EscapeFrom, Escape}
+use Rattle.regex_lite_syntax.specs.Grammar.Escapes.{
+  Primitive,
+  one,
+  look_at,
+  EscapeKind,
+  gives,
+  word_boundary,
+  hexadecimal,
+  refused,
+  escape_kind,
+  FixedDigits,
+  BracedDigits,
+  Hexadecimal,
+  fixed,
+  braced,
+  is_boundary_character,
+  boundary_named,
+  BoundaryName,
+  BeginsCount,
+  WordBoundary,
+  alone,
+  before_count,
+  named,
+  EscapeFrom,
+  Escape,
+}
 use Rattle.regex_lite_syntax.specs.Parser.ClassReadings.{Lacks}
 use Rattle.regex_lite_syntax.proofs.ListLemmas.{same_head, same_tail}
 use Rattle.regex_lite_syntax.proofs.grammar.GapLemmas.{gap_once}
-use Rattle.regex_lite_syntax.proofs.grammar.SpacedLemmas.{printed_ends, hex_digits_end, boundary_characters_end, not_spaced, whole_gap_leads, spaced_once, spaced_to_brace_once}
+use Rattle.regex_lite_syntax.proofs.grammar.SpacedLemmas.{printed_ends, hex_digits_end}
+use Rattle.regex_lite_syntax.proofs.grammar.SpacedLemmas.{boundary_characters_end}
+use Rattle.regex_lite_syntax.proofs.grammar.SpacedLemmas.{not_spaced, whole_gap_leads}
+use Rattle.regex_lite_syntax.proofs.grammar.SpacedLemmas.{spaced_once, spaced_to_brace_once}
 
 -- where a digit stands past a gap, no brace opens past one
 digit_or_brace : (verbose : Bool) (digits t rest opened : Text) → 0 < length digits
@@ -28,7 +57,8 @@ fixed_or_braced verbose n t rest opened c some f opens =
 pub hexadecimal_once : (verbose : Bool) (n : ℕ) (t r s : Text) (c d : ℕ) → 0 < n
     → Hexadecimal verbose n t r c → Hexadecimal verbose n t s d → (r ≡ s) × (c ≡ d)
 hexadecimal_once verbose n t r s c d some (fixed a) (fixed b) =
-    let same = spaced_once verbose is_hex_digit a.digits b.digits t r s hex_digits_end a.written b.written
+    let same =
+    spaced_once verbose is_hex_digit a.digits b.digits t r s hex_digits_end a.written b.written
     (a.count ∙ sym b.count) in
     (same.1, a.value ∙ ap (number_of 16) same.0 ∙ sym b.value)
 hexadecimal_once verbose n t r s c d some (fixed a) (braced opened g b) =
@@ -36,7 +66,8 @@ hexadecimal_once verbose n t r s c d some (fixed a) (braced opened g b) =
 hexadecimal_once verbose n t r s c d some (braced opened g a) (fixed b) =
     absurd (fixed_or_braced verbose n t s opened d some b g)
 hexadecimal_once verbose n t r s c d some (braced opened g a) (braced opened' h b) =
-    let start = same_tail (gap_once verbose t _ _ g h (printed_ends (the "{") opened (omega arith) (omega arith))
+    let start = same_tail
+    (gap_once verbose t _ _ g h (printed_ends (the "{") opened (omega arith) (omega arith))
     (printed_ends (the "{") opened' (omega arith) (omega arith))) in
     let same = spaced_to_brace_once verbose is_hex_digit a.digits b.digits opened a.last b.last r s
     hex_digits_end refl a.written a.closes
@@ -45,17 +76,22 @@ hexadecimal_once verbose n t r s c d some (braced opened g a) (braced opened' h 
 
 -- where a brace opens past the whole gap, the number stands in it
 pub from_braces : (verbose : Bool) (n : ℕ) (t u opened rest : Text) (c d : ℕ) → WholeGap verbose t u
-    → u ≡ d ∷ opened → d ≡ the "{" → BracedDigits verbose opened rest c → Hexadecimal verbose n t rest c
+    → u ≡ d ∷ opened → d ≡ the "{" → BracedDigits verbose opened rest c
+    → Hexadecimal verbose n t rest c
 from_braces verbose n t u opened rest c d whole here opens b =
-    braced opened (subst (λ e. Gap verbose t (e ∷ opened)) opens (subst (λ v. Gap verbose t v) here whole.0)) b
+    braced opened
+    (subst (λ e. Gap verbose t (e ∷ opened)) opens (subst (λ v. Gap verbose t v) here whole.0)) b
 
-pub in_braces : (verbose : Bool) (n : ℕ) (t u opened rest : Text) (c d : ℕ) → 0 < n → WholeGap verbose t u
-    → u ≡ d ∷ opened → d ≡ the "{" → Hexadecimal verbose n t rest c → BracedDigits verbose opened rest c
+pub in_braces : (verbose : Bool) (n : ℕ) (t u opened rest : Text) (c d : ℕ) → 0 < n
+    → WholeGap verbose t u
+    → u ≡ d ∷ opened → d ≡ the "{" → Hexadecimal verbose n t rest c
+    → BracedDigits verbose opened rest c
 in_braces verbose n t u opened rest c d some whole here opens (fixed f) =
     absurd (fixed_or_braced verbose n t rest opened c some f
     (subst (λ e. Gap verbose t (e ∷ opened)) opens (subst (λ v. Gap verbose t v) here whole.0)))
 in_braces verbose n t u opened rest c d some whole here opens (braced opened' g b) =
-    let same = whole_gap_leads verbose t u _ whole g (printed_ends (the "{") opened' (omega arith) (omega arith)) in
+    let same = whole_gap_leads verbose t u _ whole g
+    (printed_ends (the "{") opened' (omega arith) (omega arith)) in
     subst (λ v. BracedDigits verbose v rest c) (same_tail (sym same ∙ here)) b
 
 -- where none opens, the number has so many digits
@@ -63,18 +99,22 @@ pub without_braces : (verbose : Bool) (n : ℕ) (t u rest : Text) (c : ℕ) → 
     → (Begins (the "{") u → ⊥) → Hexadecimal verbose n t rest c → FixedDigits verbose n t rest c
 without_braces verbose n t u rest c whole closed (fixed f) = f
 without_braces verbose n t u rest c whole closed (braced opened g b) =
-    let same = whole_gap_leads verbose t u _ whole g (printed_ends (the "{") opened (omega arith) (omega arith)) in
+    let same = whole_gap_leads verbose t u _ whole g
+    (printed_ends (the "{") opened (omega arith) (omega arith)) in
     absurd (closed (subst (λ v. Begins (the "{") v) (sym same) refl))
 
 -- where a name begins, no counted operator does
-name_or_count : (verbose : Bool) (name opened last : Text) (look : Look) → boundary_named name ≡ Some look
+name_or_count : (verbose : Bool) (name opened last : Text) (look : Look)
+    → boundary_named name ≡ Some look
     → Spaced verbose is_boundary_character name opened last → BeginsCount verbose opened → ⊥
 name_or_count verbose [] opened last look e written count = cc
 name_or_count verbose (c ∷ name) opened last look e written count =
     count.no_name c written.0 written.1 written.2
 
-named_or_count : (verbose : Bool) (t opened opened' rest : Text) (look : Look) → t ≡ the "{" ∷ opened
-    → t ≡ the "{" ∷ opened' → BoundaryName verbose opened rest look → BeginsCount verbose opened' → ⊥
+named_or_count : (verbose : Bool) (t opened opened' rest : Text) (look : Look)
+    → t ≡ the "{" ∷ opened
+    → t ≡ the "{" ∷ opened' → BoundaryName verbose opened rest look
+    → BeginsCount verbose opened' → ⊥
 named_or_count verbose t opened opened' rest look e e' b count =
     name_or_count verbose b.name opened b.last look b.named b.written
     (subst (λ u. BeginsCount verbose u) (same_tail (sym e' ∙ e)) count)
@@ -93,49 +133,64 @@ name_once verbose t r s look look' a b =
 -- a brace opens, and past the whole gap stands no character
 pub no_boundary : (verbose : Bool) (t opened u rest : Text) (look : Look) → t ≡ the "{" ∷ opened
     → WholeGap verbose opened u → u ≡ [] → WordBoundary verbose t rest look → ⊥
-no_boundary verbose t opened u rest look opens whole end (alone n e l) = n (brace_begins t opened opens)
+no_boundary verbose t opened u rest look opens whole end (alone n e l) =
+    n (brace_begins t opened opens)
 no_boundary verbose t opened u rest look opens whole end (before_count opened' b count e l) =
     let same = same_tail (sym opens ∙ b) in
-    count.goes_on (subst (λ v. Gap verbose v []) same (subst (λ v. Gap verbose opened v) end whole.0))
-no_boundary verbose t opened u rest look opens whole end (named opened' b n) = go n.name n.named n.written
+    count.goes_on
+    (subst (λ v. Gap verbose v []) same (subst (λ v. Gap verbose opened v) end whole.0))
+no_boundary verbose t opened u rest look opens whole end (named opened' b n) =
+    go n.name n.named n.written
   where
-    go : (name : Text) → boundary_named name ≡ Some look → Spaced verbose is_boundary_character name opened' n.last
+    go : (name : Text) → boundary_named name ≡ Some look
+        → Spaced verbose is_boundary_character name opened' n.last
         → ⊥
     go [] is written = cc
     go (c ∷ name) is written =
-        not_spaced verbose is_boundary_character c name opened u n.last boundary_characters_end whole
+        not_spaced verbose is_boundary_character c name opened u n.last
+        boundary_characters_end whole
         (subst (λ v. Lacks is_boundary_character v) (sym end) tt)
-        (subst (λ v. Spaced verbose is_boundary_character (c ∷ name) v n.last) (same_tail (sym b ∙ opens)) written)
+        (subst (λ v. Spaced verbose is_boundary_character (c ∷ name) v n.last)
+        (same_tail (sym b ∙ opens)) written)
 
 -- a brace opens, and past the whole gap stands a character of a name
-pub name_in_braces : (verbose : Bool) (t opened u past rest : Text) (c : ℕ) (look : Look) → t ≡ the "{" ∷ opened
+pub name_in_braces : (verbose : Bool) (t opened u past rest : Text) (c : ℕ) (look : Look)
+    → t ≡ the "{" ∷ opened
     → WholeGap verbose opened u → u ≡ c ∷ past → IsTrue (is_boundary_character c)
     → WordBoundary verbose t rest look → BoundaryName verbose opened rest look
 name_in_braces verbose t opened u past rest c look opens whole here is (alone n e l) =
     absurd (n (brace_begins t opened opens))
-name_in_braces verbose t opened u past rest c look opens whole here is (before_count opened' b count e l) =
+name_in_braces verbose t opened u past rest c look opens whole here is
+    (before_count opened' b count e l) =
     let same = same_tail (sym opens ∙ b) in
     absurd (count.no_name c past
-    (subst (λ v. Gap verbose v (c ∷ past)) same (subst (λ v. Gap verbose opened v) here whole.0)) is)
+    (subst (λ v. Gap verbose v (c ∷ past)) same (subst (λ v. Gap verbose opened v) here whole.0))
+    is)
 name_in_braces verbose t opened u past rest c look opens whole here is (named opened' b n) =
     subst (λ v. BoundaryName verbose v rest look) (same_tail (sym b ∙ opens)) n
 
 -- past the whole gap stands a character that begins no name
-pub begins_count : (verbose : Bool) (opened u past : Text) (c : ℕ) → WholeGap verbose opened u → u ≡ c ∷ past
+pub begins_count : (verbose : Bool) (opened u past : Text) (c : ℕ) → WholeGap verbose opened u
+    → u ≡ c ∷ past
     → is_boundary_character c ≡ false → BeginsCount verbose opened
 begins_count verbose opened u past c whole here other = record {
   goes_on = λ gap. let end = whole_gap_leads verbose opened u [] whole gap tt in cc (end, here);
   no_name = λ d rest gap is.
-      let same = sym (whole_gap_leads verbose opened u _ whole gap (boundary_characters_end d rest is)) ∙ here in
+      let same =
+      sym (whole_gap_leads verbose opened u _ whole gap (boundary_characters_end d rest is))
+      ∙ here in
       both_ways (is_boundary_character d) (ap is_boundary_character (same_head same) ∙ other) is;
 }
 
-pub boundary_once : (verbose : Bool) (t r s : Text) (look look' : Look) → WordBoundary verbose t r look
+pub boundary_once : (verbose : Bool) (t r s : Text) (look look' : Look)
+    → WordBoundary verbose t r look
     → WordBoundary verbose t s look' → (r ≡ s) × (look ≡ look')
 boundary_once verbose t r s look look' (alone n e l) (alone n' e' l') = (sym e ∙ e', l ∙ sym l')
-boundary_once verbose t r s look look' (alone n e l) (before_count o b c e' l') = absurd (n (brace_begins t o b))
+boundary_once verbose t r s look look' (alone n e l) (before_count o b c e' l') =
+    absurd (n (brace_begins t o b))
 boundary_once verbose t r s look look' (alone n e l) (named o b a) = absurd (n (brace_begins t o b))
-boundary_once verbose t r s look look' (before_count o b c e l) (alone n e' l') = absurd (n (brace_begins t o b))
+boundary_once verbose t r s look look' (before_count o b c e l) (alone n e' l') =
+    absurd (n (brace_begins t o b))
 boundary_once verbose t r s look look' (before_count o b c e l) (before_count o' b' c' e' l') =
     (sym e ∙ e', l ∙ sym l')
 boundary_once verbose t r s look look' (before_count o b c e l) (named o' b' a) =
@@ -155,7 +210,8 @@ AsksForSome _ = Unit {0}
 pub asks_for_some : (c : ℕ) → AsksForSome (escape_kind c)
 asks_for_some c = search rules
 
-escape_from_once : (kind : EscapeKind) (verbose : Bool) (t r s : Text) (p q : Primitive) → AsksForSome kind
+escape_from_once : (kind : EscapeKind) (verbose : Bool) (t r s : Text) (p q : Primitive)
+    → AsksForSome kind
     → EscapeFrom kind verbose t r p → EscapeFrom kind verbose t s q → (r ≡ s) × (p ≡ q)
 escape_from_once (gives k) verbose t r s p q some a b = (sym a.0 ∙ b.0, a.1 ∙ sym b.1)
 escape_from_once word_boundary verbose t r s p q some a b =
@@ -167,7 +223,8 @@ escape_from_once (hexadecimal n) verbose t r s p q some a b =
 escape_from_once refused verbose t r s p q some a b = absurd a
 
 -- an escape goes on as the character after the backslash asks
-pub escape_from : (verbose : Bool) (t past rest : Text) (p : Primitive) (c : ℕ) (kind : EscapeKind) → t ≡ c ∷ past
+pub escape_from : (verbose : Bool) (t past rest : Text) (p : Primitive) (c : ℕ) (kind : EscapeKind)
+    → t ≡ c ∷ past
     → kind ≡ escape_kind c → Escape verbose t rest p → EscapeFrom kind verbose past rest p
 escape_from verbose t past rest p c kind e asked escape =
     let same = sym escape.begins ∙ e in
@@ -175,7 +232,8 @@ escape_from verbose t past rest p c kind e asked escape =
     (subst (λ k. EscapeFrom k verbose escape.past_first rest p)
     (ap escape_kind (same_head same) ∙ sym asked) escape.goes_on)
 
-pub escape_as : (verbose : Bool) (t past rest : Text) (p : Primitive) (c : ℕ) (kind : EscapeKind) → t ≡ c ∷ past
+pub escape_as : (verbose : Bool) (t past rest : Text) (p : Primitive) (c : ℕ) (kind : EscapeKind)
+    → t ≡ c ∷ past
     → kind ≡ escape_kind c → EscapeFrom kind verbose past rest p → Escape verbose t rest p
 escape_as verbose t past rest p c kind e asked goes_on = record {
   first = c;
@@ -184,8 +242,10 @@ escape_as verbose t past rest p c kind e asked goes_on = record {
   goes_on = subst (λ k. EscapeFrom k verbose past rest p) asked goes_on;
 }
 
-pub escape_once : (verbose : Bool) (t r s : Text) (p q : Primitive) → Escape verbose t r p → Escape verbose t s q
+pub escape_once : (verbose : Bool) (t r s : Text) (p q : Primitive) → Escape verbose t r p
+    → Escape verbose t s q
     → (r ≡ s) × (p ≡ q)
 escape_once verbose t r s p q a b =
-    escape_from_once (escape_kind a.first) verbose a.past_first r s p q (asks_for_some a.first) a.goes_on
+    escape_from_once (escape_kind a.first) verbose a.past_first r s p q
+    (asks_for_some a.first) a.goes_on
     (escape_from verbose t a.past_first s q a.first _ a.begins refl b)

@@ -1,5 +1,6 @@
 -- What the grammar makes of an escaped text.
-use Rattle.std.proofs.Common.{◌≡◌, refl, sym, ◌∙◌, ap, subst, cond, ℕ, Bool, true, false, not, ◌&&◌, ◌==◌, List, [], ◌∷◌, ◌++◌, map, codes, inl, inr, MatchBool}
+use Rattle.std.proofs.Common.{◌≡◌, refl, sym, ◌∙◌, ap, subst, cond, ℕ, Bool, true, false, not}
+use Rattle.std.proofs.Common.{◌&&◌, ◌==◌, List, [], ◌∷◌, ◌++◌, map, codes, inl, inr, MatchBool}
 use Rattle.std.specs.List.{list_any, list_all}
 use Rattle.std.proofs.lemmas.Bool.{and_parts, eqb-true, false≢true, or_cases}
 use Rattle.std.proofs.lemmas.List.{append_assoc, append-nil}
@@ -9,7 +10,9 @@ use Rattle.regex_lite_syntax.specs.Characters.{is_letter, AreCharacters}
 use Rattle.regex_lite_syntax.specs.Sets.{just, case_closure}
 use Rattle.regex_lite_syntax.specs.Tree.{Tree, character}
 use Rattle.regex_lite_syntax.specs.Escaped.{is_meta_character, escaped, literal}
-use Rattle.regex_lite_syntax.specs.Grammar.Escapes.{one, some_of, look_at, EscapeKind, gives, word_boundary, hexadecimal, refused, escape_kind}
+use Rattle.regex_lite_syntax.specs.Grammar.Escapes.{one, some_of, look_at, EscapeKind}
+use Rattle.regex_lite_syntax.specs.Grammar.Escapes.{gives, word_boundary, hexadecimal}
+use Rattle.regex_lite_syntax.specs.Grammar.Escapes.{refused, escape_kind}
 use Rattle.regex_lite_syntax.specs.Grammar.Atoms.{is_literal, IsClassOf, PrimitiveTree, Atom}
 use Rattle.regex_lite_syntax.specs.Grammar.Points.{Point, onward, start}
 use Rattle.regex_lite_syntax.specs.Grammar.{Grammar, Branch, atom, nothing, item, only}
@@ -59,10 +62,12 @@ other_is_literal c other =
       | false ↦ λ none. refl
     ]) refl
 
-module _ (flags : Flags) (no_case : flags.case_insensitive ≡ false) (no_spacing : flags.ignore_whitespace ≡ false) where
+module _ (flags : Flags) (no_case : flags.case_insensitive ≡ false)
+    (no_spacing : flags.ignore_whitespace ≡ false) where
   one_tree : (c : ℕ) → PrimitiveTree flags (one c) (character c)
   one_tree c =
-      subst (λ i. MatchBool (i && is_letter c) (IsClassOf (case_closure (just c)) (character c)) (character c ≡ character c))
+      subst (λ i. MatchBool (i && is_letter c) (IsClassOf (case_closure (just c)) (character c))
+      (character c ≡ character c))
       (sym no_case) refl
 
   first_atom : (c : ℕ) (t : Text) → Atom flags (escaped (c ∷ t)) (escaped t) (character c)
@@ -71,12 +76,14 @@ module _ (flags : Flags) (no_case : flags.case_insensitive ≡ false) (no_spacin
       → Atom flags (cond b (the "\\" ∷ c ∷ escaped t) (c ∷ escaped t)) (escaped t) (character c)) [
         | true ↦ λ meta.
             escape_atom flags _ (c ∷ escaped t) (escaped t) (one c) (character c) refl
-            (escape_as flags.ignore_whitespace _ (escaped t) (escaped t) (one c) c (gives (one c)) refl
+            (escape_as flags.ignore_whitespace _ (escaped t) (escaped t) (one c) c
+            (gives (one c)) refl
             (stands_for_itself c meta) (refl, refl))
             (one_tree c)
         | false ↦ λ other.
             literal_atom flags c _ (escaped t) (character c) refl
-            (subst (λ v. is_literal v c ≡ true) (sym no_spacing) (other_is_literal c other)) (one_tree c)
+            (subst (λ v. is_literal v c ≡ true) (sym no_spacing) (other_is_literal c other))
+            (one_tree c)
       ]) refl
 
   module _ (whole : Text) where
@@ -87,22 +94,27 @@ module _ (flags : Flags) (no_case : flags.case_insensitive ≡ false) (no_spacin
     -- the branch goes on with the characters that are left
     rest_of_branch : (before : List Tree) (t : Text) → Branch 0 (start flags whole) (at t) before
         → Branch 0 (start flags whole) (at []) (before ++ map character t)
-    rest_of_branch before [] branch = subst (Branch 0 (start flags whole) (at [])) (sym (append-nil before)) branch
+    rest_of_branch before [] branch =
+        subst (Branch 0 (start flags whole) (at [])) (sym (append-nil before)) branch
     rest_of_branch before (c ∷ t) branch =
-        subst (Branch 0 (start flags whole) (at [])) (append_assoc before (character c ∷ []) (map character t))
+        subst (Branch 0 (start flags whole) (at []))
+        (append_assoc before (character c ∷ []) (map character t))
         (rest_of_branch (before ++ character c ∷ []) t
         (item (at (c ∷ t)) (at (c ∷ t)) before (character c) branch
-        (empty_gap flags.ignore_whitespace (escaped (c ∷ t)), refl) (atom (first_atom c t) refl) refl))
+        (empty_gap flags.ignore_whitespace (escaped (c ∷ t)), refl)
+        (atom (first_atom c t) refl) refl))
 
 escaped_characters : (text : Text) → AreCharacters text → AreCharacters (escaped text)
 escaped_characters [] all = tt
 escaped_characters (c ∷ t) all =
-    elim (is_meta_character c) as (λ b. AreCharacters (cond b (the "\\" ∷ c ∷ escaped t) (c ∷ escaped t))) [
+    elim (is_meta_character c)
+    as (λ b. AreCharacters (cond b (the "\\" ∷ c ∷ escaped t) (c ∷ escaped t))) [
       | true ↦ (refl, (all.0, escaped_characters t all.1))
       | false ↦ (all.0, escaped_characters t all.1)
     ]
 
-pub escaped_literal : (flags : Flags) (text : Text) → flags.case_insensitive ≡ false → flags.ignore_whitespace ≡ false
+pub escaped_literal : (flags : Flags) (text : Text) → flags.case_insensitive ≡ false
+    → flags.ignore_whitespace ≡ false
     → AreCharacters text → Grammar flags (escaped text) (literal text) 0 0
 escaped_literal flags text no_case no_spacing all = record {
   characters = escaped_characters text all;

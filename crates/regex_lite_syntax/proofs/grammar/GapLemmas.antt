@@ -1,5 +1,6 @@
 -- A gap that is as long as it can be ends at one place.
-use Rattle.std.proofs.Common.{inl, inr, ◌≡◌, refl, sym, ◌∙◌, ap, subst, ℕ, Bool, true, false, [], ◌∷◌, IsTrue}
+use Rattle.std.proofs.Common.{inl, inr, ◌≡◌, refl, sym, ◌∙◌, ap, subst}
+use Rattle.std.proofs.Common.{ℕ, Bool, true, false, [], ◌∷◌, IsTrue}
 use Rattle.std.proofs.lemmas.Bool.{both_ways, not-true}
 use Rattle.regex_lite_syntax.specs.Text.{Text, the}
 use Rattle.regex_lite_syntax.specs.Characters.{is_white_space}
@@ -16,7 +17,8 @@ ends_nothing true = tt
 ends_nothing false = tt
 
 -- a character that is neither white space nor `#` ends a gap
-pub ends_before : (verbose : Bool) (c : ℕ) (rest t : Text) → t ≡ c ∷ rest → EndsGap true (c ∷ rest) → EndsGap verbose t
+pub ends_before : (verbose : Bool) (c : ℕ) (rest t : Text) → t ≡ c ∷ rest → EndsGap true (c ∷ rest)
+    → EndsGap verbose t
 ends_before verbose c rest t e ends = ends_any verbose t (subst (λ u. EndsGap true u) (sym e) ends)
 
 pub empty_gap : (verbose : Bool) (t : Text) → Gap verbose t t
@@ -25,7 +27,8 @@ empty_gap false t = refl
 
 no_white : (c : ℕ) (t u : Text) → u ≡ c ∷ t → EndsGap true u → IsTrue (is_white_space c) → ⊥
 no_white c t u e ends white =
-    let here = subst (λ v. EndsGap true v) e ends in both_ways (is_white_space c) (not-true _ here.0) white
+    let here = subst (λ v. EndsGap true v) e ends in
+    both_ways (is_white_space c) (not-true _ here.0) white
 
 no_sign : (c : ℕ) (t u : Text) → u ≡ c ∷ t → EndsGap true u → c ≡ the "#" → ⊥
 no_sign c t u e ends sign = let here = subst (λ v. EndsGap true v) e ends in here.1 sign
@@ -33,7 +36,8 @@ no_sign c t u e ends sign = let here = subst (λ v. EndsGap true v) e ends in he
 sign_or_white : (c : ℕ) → c ≡ the "#" → IsTrue (is_white_space c) → ⊥
 sign_or_white c sign white = both_ways (is_white_space c) (ap is_white_space sign) white
 
-scan_once : (in_comment : Bool) (t u v : Text) → Scan in_comment t u → Scan in_comment t v → EndsGap true u
+scan_once : (in_comment : Bool) (t u v : Text) → Scan in_comment t u → Scan in_comment t v
+    → EndsGap true u
     → EndsGap true v → u ≡ v
 scan_once in_comment [] u v b d ue ve = b ∙ sym d
 scan_once false (c ∷ t) u v (inl b) (inl d) ue ve = b ∙ sym d
@@ -50,17 +54,22 @@ scan_once true (c ∷ t) u v (inl b) (inr d) ue ve = absurd (d.0 b.0)
 scan_once true (c ∷ t) u v (inr b) (inl d) ue ve = absurd (b.0 d.0)
 scan_once true (c ∷ t) u v (inr b) (inr d) ue ve = scan_once true t u v b.1 d.1 ue ve
 
-pub blank_once : (t u v : Text) → Spacing t u → Spacing t v → EndsGap true u → EndsGap true v → u ≡ v
-blank_once t u v b d ue ve = scan_once false t u v (scan_of_spacing t u b) (scan_of_spacing t v d) ue ve
+pub blank_once : (t u v : Text) → Spacing t u → Spacing t v → EndsGap true u
+    → EndsGap true v → u ≡ v
+blank_once t u v b d ue ve =
+    scan_once false t u v (scan_of_spacing t u b) (scan_of_spacing t v d) ue ve
 
-pub whole_gap_once : (verbose : Bool) (t u v : Text) → WholeGap verbose t u → WholeGap verbose t v → u ≡ v
+pub whole_gap_once : (verbose : Bool) (t u v : Text) → WholeGap verbose t u
+    → WholeGap verbose t v → u ≡ v
 whole_gap_once true t u v g h = blank_once t u v g.0 h.0 g.1 h.1
 whole_gap_once false t u v g h = g.0 ∙ sym h.0
 
 -- two gaps that end before what no gap goes on with end at one place
-pub gap_once : (verbose : Bool) (t u v : Text) → Gap verbose t u → Gap verbose t v → EndsGap true u → EndsGap true v
+pub gap_once : (verbose : Bool) (t u v : Text) → Gap verbose t u → Gap verbose t v → EndsGap true u
+    → EndsGap true v
     → u ≡ v
-gap_once verbose t u v g h ue ve = whole_gap_once verbose t u v (g, ends_any verbose u ue) (h, ends_any verbose v ve)
+gap_once verbose t u v g h ue ve =
+    whole_gap_once verbose t u v (g, ends_any verbose u ue) (h, ends_any verbose v ve)
 
 -- where no gap can go on, the gap is empty
 scan_at_end : (t u : Text) → EndsGap true t → Scan false t u → u ≡ t

@@ -1,17 +1,22 @@
 -- The head of a group and a directive are read in one way, and do not stand at one place.
-use Rattle.std.proofs.Common.{◌≡◌, ◌≢◌, refl, sym, ◌∙◌, ap, subst, ℕ, ◌+◌, Bool, true, ◌∷◌, Some, None, arith}
+use Rattle.std.proofs.Common.{◌≡◌, ◌≢◌, refl, sym, ◌∙◌, ap, subst, ℕ}
+use Rattle.std.proofs.Common.{◌+◌, Bool, true, ◌∷◌, Some, None, arith}
 use Rattle.regex_lite_syntax.specs.declared.flags.Flags.{Flags}
 use Rattle.regex_lite_syntax.specs.Text.{Text, Begins, the}
 use Rattle.regex_lite_syntax.specs.Grammar.Gaps.{Gap, EndsGap, WholeGap}
 use Rattle.regex_lite_syntax.specs.Grammar.FlagLetters.{FlagLetters}
 use Rattle.regex_lite_syntax.specs.Grammar.GroupNames.{Named}
 use Rattle.regex_lite_syntax.specs.Grammar.Points.{Point}
-use Rattle.regex_lite_syntax.specs.Grammar.Heads.{GroupKind, capturing, numbered_on, named_on, inside, Head, numbered, named, plain, Directive, sets}
+use Rattle.regex_lite_syntax.specs.Grammar.Heads.{GroupKind, capturing, numbered_on}
+use Rattle.regex_lite_syntax.specs.Grammar.Heads.{named_on, inside, Head, numbered}
+use Rattle.regex_lite_syntax.specs.Grammar.Heads.{named, plain, Directive, sets}
 use Rattle.regex_lite_syntax.proofs.ListLemmas.{same_tail}
 use Rattle.regex_lite_syntax.proofs.grammar.GapLemmas.{ends_any, gap_once, whole_gap_once}
-use Rattle.regex_lite_syntax.proofs.grammar.FlagLetterLemmas.{colon_ends_flags, paren_ends_flags, letters_once, other_end}
+use Rattle.regex_lite_syntax.proofs.grammar.FlagLetterLemmas.{colon_ends_flags, paren_ends_flags}
+use Rattle.regex_lite_syntax.proofs.grammar.FlagLetterLemmas.{letters_once, other_end}
 use Rattle.regex_lite_syntax.proofs.grammar.NameLemmas.{named_once}
-use Rattle.regex_lite_syntax.proofs.grammar.NameOpeningLemmas.{named_question, named_or_plain, named_or_directive}
+use Rattle.regex_lite_syntax.proofs.grammar.NameOpeningLemmas.{named_question, named_or_plain}
+use Rattle.regex_lite_syntax.proofs.grammar.NameOpeningLemmas.{named_or_directive}
 
 pub ends_before_question : (t : Text) → EndsGap true (the "?" ∷ t)
 ends_before_question t = (refl, λ e. omega (arith, e))
@@ -23,14 +28,16 @@ named_ends t rest name n =
 
 -- what stands past a group's `(` where no gap goes on
 same_first : (verbose : Bool) (t opened opened' first first' : Text) → t ≡ the "(" ∷ opened
-    → t ≡ the "(" ∷ opened' → Gap verbose opened first → Gap verbose opened' first' → EndsGap true first
+    → t ≡ the "(" ∷ opened' → Gap verbose opened first → Gap verbose opened' first'
+    → EndsGap true first
     → EndsGap true first' → first ≡ first'
 same_first verbose t opened opened' first first' e e' g g' ends ends' =
     let from = subst (λ u. Gap verbose u first') (sym (same_tail (sym e ∙ e'))) g' in
     gap_once verbose opened first first' g from ends ends'
 
 -- what stands past a group's `(` and `?`
-same_past : (verbose : Bool) (t opened opened' rest rest' : Text) → t ≡ the "(" ∷ opened → t ≡ the "(" ∷ opened'
+same_past : (verbose : Bool) (t opened opened' rest rest' : Text) → t ≡ the "(" ∷ opened
+    → t ≡ the "(" ∷ opened'
     → Gap verbose opened (the "?" ∷ rest) → Gap verbose opened' (the "?" ∷ rest') → rest ≡ rest'
 same_past verbose t opened opened' rest rest' e e' g g' =
     let ends = ends_before_question rest in
@@ -48,15 +55,18 @@ bare_or_named : (verbose : Bool) (t rest opened first past name : Text) → t �
     → Gap verbose opened first → Named first past name → ⊥
 bare_or_named verbose t rest opened first past name e none e' g n =
     let question = named_question first past name n in
-    bare_or_question verbose t rest opened question.0 e none e' (subst (λ u. Gap verbose opened u) question.1 g)
+    bare_or_question verbose t rest opened question.0 e none e'
+    (subst (λ u. Gap verbose opened u) question.1 g)
 
 -- a name's text stands past a group's `(` where flags do
-same_named : (verbose : Bool) (t opened opened' first first' rest name : Text) → t ≡ the "(" ∷ opened
+same_named : (verbose : Bool) (t opened opened' first first' rest name : Text)
+    → t ≡ the "(" ∷ opened
     → t ≡ the "(" ∷ opened' → Gap verbose opened first → Gap verbose opened' (the "?" ∷ first')
     → Named first rest name → Named (the "?" ∷ first') rest name
 same_named verbose t opened opened' first first' rest name e e' g g' n =
     let ends = named_ends first rest name n in
-    let same = same_first verbose t opened opened' _ _ e e' g g' ends (ends_before_question first') in
+    let same =
+    same_first verbose t opened opened' _ _ e e' g g' ends (ends_before_question first') in
     subst (λ u. Named u rest name) same n
 
 -- two heads lead to the same
@@ -64,7 +74,8 @@ pub record SameHead (p p' : Point) (kind kind' : GroupKind) : Type 0 where
   pub same_point : p ≡ p'
   pub same_kind : kind ≡ kind'
 
-pub head_once : {level : ℕ} {p q q' : Point} {kind kind' : GroupKind} → Head level p q kind → Head level p q' kind'
+pub head_once : {level : ℕ} {p q q' : Point} {kind kind' : GroupKind} → Head level p q kind
+    → Head level p q' kind'
     → SameHead q q' kind kind'
 head_once {level} {p} (numbered r e none h k) (numbered r' e' none' h' k') =
     let points = ap (λ t. numbered_on (inside level p p.flags t)) (same_tail (sym e ∙ e')) in
@@ -77,7 +88,8 @@ head_once {p} (named o f r w e g n h k) (numbered r' e' none' h' k') =
     absurd (bare_or_named p.flags.ignore_whitespace p.rest r' o f r w e' none' e g n)
 head_once {level} {p} (named o f r w e g n h k) (named o' f' r' w' e' g' n' h' k') =
     let ends = named_ends f r w n in
-    let first = same_first p.flags.ignore_whitespace p.rest o o' f f' e e' g g' ends (named_ends f' r' w' n') in
+    let first =
+    same_first p.flags.ignore_whitespace p.rest o o' f f' e e' g g' ends (named_ends f' r' w' n') in
     let same = named_once f r r' w w' n (subst (λ t. Named t r' w') (sym first) n') in
     let further = ap (λ t. named_on (numbered_on (inside level p p.flags t)) w) same.0 in
     let called = ap (λ v. named_on (numbered_on (inside level p p.flags r')) v) same.1 in
@@ -108,7 +120,8 @@ directive_once {p} (sets o f r new e g n letters h) (sets o' f' r' new' e' g' n'
     let flags = ap (λ x. record p { rest = r; flags = x }) same.0 in
     h ∙ flags ∙ ap (λ t. record p { rest = t; flags = new' }) same.2 ∙ sym h'
 
-pub head_or_directive : {level : ℕ} {p q q' : Point} {kind : GroupKind} → Head level p q kind → Directive p q' → ⊥
+pub head_or_directive : {level : ℕ} {p q q' : Point} {kind : GroupKind} → Head level p q kind
+    → Directive p q' → ⊥
 head_or_directive {p} (numbered r e none h k) (sets o' f' r' new' e' g' n' letters' h') =
     bare_or_question p.flags.ignore_whitespace p.rest r o' f' e none e' g'
 head_or_directive {p} (named o f r w e g n h k) (sets o' f' r' new' e' g' n' letters' h') =
@@ -117,7 +130,8 @@ head_or_directive {p} (named o f r w e g n h k) (sets o' f' r' new' e' g' n' let
 head_or_directive {p} (plain o f r new e g letters h k) (sets o' f' r' new' e' g' n' letters' h') =
     let past = same_past p.flags.ignore_whitespace p.rest o o' f f' e e' g g' in
     let from = subst (λ t. FlagLetters p.flags t (the ")" ∷ r') new') (sym past) letters' in
-    other_end p.flags new new' f (the ":") (the ")") r r' colon_ends_flags paren_ends_flags (λ c. omega (arith, c))
+    other_end p.flags new new' f (the ":") (the ")") r r' colon_ends_flags paren_ends_flags
+    (λ c. omega (arith, c))
     letters from
 
 -- where no `?` stands past the gap after a `(`, a numbered group begins
@@ -129,17 +143,20 @@ numbered_head level p rest u e whole none = numbered rest e no_question refl ref
     no_question : (first : Text) → Gap p.flags.ignore_whitespace rest (the "?" ∷ first) → ⊥
     no_question first g =
         let ends = ends_any p.flags.ignore_whitespace _ (ends_before_question first) in
-        let same = whole_gap_once p.flags.ignore_whitespace rest u (the "?" ∷ first) whole (g, ends) in
+        let same =
+        whole_gap_once p.flags.ignore_whitespace rest u (the "?" ∷ first) whole (g, ends) in
         none (subst (λ t. Begins (the "?") t) (sym same) refl)
 
 -- where a name stands in its brackets, a named group begins
 pub named_head : (level : ℕ) (p : Point) (opened first rest name : Text) → p.rest ≡ the "(" ∷ opened
     → Gap p.flags.ignore_whitespace opened first → Named first rest name
-    → Head level p (named_on (numbered_on (inside level p p.flags rest)) name) (capturing (p.groups + 1) (Some name))
+    → Head level p (named_on (numbered_on (inside level p p.flags rest)) name)
+    (capturing (p.groups + 1) (Some name))
 named_head level p opened first rest name e g n = named opened first rest name e g n refl refl
 
 -- what stands past the gap after a `(` and a `?` shows that no group begins there
-pub no_head : (level : ℕ) (p q : Point) (kind : GroupKind) (opened first : Text) → p.rest ≡ the "(" ∷ opened
+pub no_head : (level : ℕ) (p q : Point) (kind : GroupKind) (opened first : Text)
+    → p.rest ≡ the "(" ∷ opened
     → WholeGap p.flags.ignore_whitespace opened (the "?" ∷ first)
     → ((rest name : Text) → Named (the "?" ∷ first) rest name → ⊥)
     → ((rest : Text) (new : Flags) → FlagLetters p.flags first (the ":" ∷ rest) new → ⊥)
@@ -160,4 +177,5 @@ pub no_directive : (p q : Point) (opened first : Text) → p.rest ≡ the "(" �
     → Directive p q → ⊥
 no_directive p q opened first e whole none (sets o f r new e' g n letters h) =
     let past = same_past p.flags.ignore_whitespace p.rest o opened f first e' e g whole.0 in
-    none r new (λ empty. n (past ∙ empty)) (subst (λ t. FlagLetters p.flags t (the ")" ∷ r) new) past letters)
+    none r new (λ empty. n (past ∙ empty))
+    (subst (λ t. FlagLetters p.flags t (the ")" ∷ r) new) past letters)

@@ -1,16 +1,21 @@
 -- Names of groups are read in one way, and differ.
-use Rattle.std.proofs.Common.{◌≡◌, ◌≢◌, refl, sym, ◌∙◌, subst, ℕ, length, List, [], ◌∷◌, ◌++◌, IsTrue, Contains, arith}
-use Rattle.std.proofs.lemmas.List.{get_or_append_left, get_or_default, get_or_push, length-append, length_push}
+use Rattle.std.proofs.Common.{◌≡◌, ◌≢◌, refl, sym, ◌∙◌, subst, ℕ, length}
+use Rattle.std.proofs.Common.{List, [], ◌∷◌, ◌++◌, IsTrue, Contains, arith}
+use Rattle.std.proofs.lemmas.List.{get_or_append_left, get_or_default}
+use Rattle.std.proofs.lemmas.List.{get_or_push, length-append, length_push}
 use Rattle.std.proofs.lemmas.List.Quantifiers.{all_pairs_push}
 use Rattle.regex_lite_syntax.specs.Text.{Text, the}
-use Rattle.regex_lite_syntax.specs.Grammar.GroupNames.{begins_name, is_no_end, NameWritten, NameOpening, with_p, without_p, Named, NamesDiffer}
+use Rattle.regex_lite_syntax.specs.Grammar.GroupNames.{begins_name, is_no_end}
+use Rattle.regex_lite_syntax.specs.Grammar.GroupNames.{NameWritten, NameOpening, with_p}
+use Rattle.regex_lite_syntax.specs.Grammar.GroupNames.{without_p, Named, NamesDiffer}
 use Rattle.regex_lite_syntax.proofs.ListLemmas.{same_head, same_tail}
 use Rattle.regex_lite_syntax.proofs.grammar.WordLemmas.{word_once}
 use Rattle.regex_lite_syntax.proofs.grammar.NameReadingLemmas.{first_of_name}
 
 pub written_once : (t r s w v : Text) → NameWritten t r w → NameWritten t s v → (r ≡ s) × (w ≡ v)
 written_once t r s w v a b =
-    let same = word_once is_no_end w v t (the ">" ∷ r) (the ">" ∷ s) a.written b.written a.inside b.inside
+    let same =
+    word_once is_no_end w v t (the ">" ∷ r) (the ">" ∷ s) a.written b.written a.inside b.inside
     refl refl in
     (same_tail same.1, same.0)
 
@@ -28,12 +33,15 @@ named_once t r s w v a b =
     written_once a.past r s w v a.called (subst (λ u. NameWritten u s v) (sym past) b.called)
 
 -- after what stands before a name, the name is all that is left to read
-pub past_opening : (t past rest name : Text) → NameOpening t past → Named t rest name → NameWritten past rest name
+pub past_opening : (t past rest name : Text) → NameOpening t past → Named t rest name
+    → NameWritten past rest name
 past_opening t past rest name opens named =
-    subst (λ u. NameWritten u rest name) (opening_once t named.past past named.opens opens) named.called
+    subst (λ u. NameWritten u rest name)
+    (opening_once t named.past past named.opens opens) named.called
 
 -- past `?<` stands a character that may begin a name
-pub named_begins : (t past rest name : Text) (c : ℕ) → t ≡ the "?" ∷ the "<" ∷ c ∷ past → Named t rest name
+pub named_begins : (t past rest name : Text) (c : ℕ) → t ≡ the "?" ∷ the "<" ∷ c ∷ past
+    → Named t rest name
     → IsTrue (begins_name c)
 named_begins t past rest name c here named =
     let written = past_opening t (c ∷ past) rest name (without_p here) named in
@@ -56,7 +64,9 @@ differ_before names more differ i j d before inside same =
     ∙ sym (get_or_append_left names more d j inside))
 
 -- but no other
-pub no_second : (names : List Text) (name : Text) → Contains names name → NamesDiffer (names ++ name ∷ []) → ⊥
+pub no_second : (names : List Text) (name : Text) → Contains names name
+    → NamesDiffer (names ++ name ∷ []) → ⊥
 no_second names name (k, inside, is) differ =
     differ k (length names) name inside (omega (arith, length_push names name))
-    (get_or_append_left names (name ∷ []) name k inside ∙ is ∙ sym (get_or_push names name name (length names) refl))
+    (get_or_append_left names (name ∷ []) name k inside ∙ is
+    ∙ sym (get_or_push names name name (length names) refl))

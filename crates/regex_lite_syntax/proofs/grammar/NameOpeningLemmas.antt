@@ -5,7 +5,8 @@ use Rattle.regex_lite_syntax.specs.Text.{Text, the}
 use Rattle.regex_lite_syntax.specs.Grammar.FlagLetters.{FlagLetters}
 use Rattle.regex_lite_syntax.specs.Grammar.GroupNames.{NameOpening, with_p, without_p, Named}
 use Rattle.regex_lite_syntax.proofs.ListLemmas.{same_head, same_tail}
-use Rattle.regex_lite_syntax.proofs.grammar.FlagLetterLemmas.{EndsFlags, colon_ends_flags, paren_ends_flags, flags_elsewhere}
+use Rattle.regex_lite_syntax.proofs.grammar.FlagLetterLemmas.{EndsFlags, colon_ends_flags}
+use Rattle.regex_lite_syntax.proofs.grammar.FlagLetterLemmas.{paren_ends_flags, flags_elsewhere}
 
 p_ends_flags : EndsFlags (the "P")
 p_ends_flags = record { no_letter = refl; no_dash = λ e. omega (arith, e) }
@@ -25,29 +26,36 @@ named_question t rest name n = opening_question t n.past n.opens
 pub opening_or_plain : (old new : Flags) (t past rest : Text) → NameOpening (the "?" ∷ t) past
     → FlagLetters old t (the ":" ∷ rest) new → ⊥
 opening_or_plain old new t past rest (with_p e) letters =
-    flags_elsewhere old new t (the "<" ∷ past) (the "P") (the ":") rest p_ends_flags colon_ends_flags (same_tail e)
+    flags_elsewhere old new t (the "<" ∷ past) (the "P")
+    (the ":") rest p_ends_flags colon_ends_flags (same_tail e)
     (λ c. omega (arith, c)) letters
 opening_or_plain old new t past rest (without_p e) letters =
-    flags_elsewhere old new t past (the "<") (the ":") rest less_ends_flags colon_ends_flags (same_tail e)
+    flags_elsewhere old new t past (the "<") (the ":") rest less_ends_flags colon_ends_flags
+    (same_tail e)
     (λ c. omega (arith, c)) letters
 
 -- nor to a `)`
 pub opening_or_directive : (old new : Flags) (t past rest : Text) → NameOpening (the "?" ∷ t) past
     → FlagLetters old t (the ")" ∷ rest) new → ⊥
 opening_or_directive old new t past rest (with_p e) letters =
-    flags_elsewhere old new t (the "<" ∷ past) (the "P") (the ")") rest p_ends_flags paren_ends_flags (same_tail e)
+    flags_elsewhere old new t (the "<" ∷ past) (the "P")
+    (the ")") rest p_ends_flags paren_ends_flags (same_tail e)
     (λ c. omega (arith, c)) letters
 opening_or_directive old new t past rest (without_p e) letters =
-    flags_elsewhere old new t past (the "<") (the ")") rest less_ends_flags paren_ends_flags (same_tail e)
+    flags_elsewhere old new t past (the "<") (the ")") rest less_ends_flags paren_ends_flags
+    (same_tail e)
     (λ c. omega (arith, c)) letters
 
 pub named_or_plain : (old new : Flags) (t rest name rest' : Text) → Named (the "?" ∷ t) rest name
     → FlagLetters old t (the ":" ∷ rest') new → ⊥
-named_or_plain old new t rest name rest' n letters = opening_or_plain old new t n.past rest' n.opens letters
+named_or_plain old new t rest name rest' n letters =
+    opening_or_plain old new t n.past rest' n.opens letters
 
-pub named_or_directive : (old new : Flags) (t rest name rest' : Text) → Named (the "?" ∷ t) rest name
+pub named_or_directive : (old new : Flags) (t rest name rest' : Text)
+    → Named (the "?" ∷ t) rest name
     → FlagLetters old t (the ")" ∷ rest') new → ⊥
-named_or_directive old new t rest name rest' n letters = opening_or_directive old new t n.past rest' n.opens letters
+named_or_directive old new t rest name rest' n letters =
+    opening_or_directive old new t n.past rest' n.opens letters
 
 -- no name is opened by a `?` and another character
 pub no_opening : (c : ℕ) (t past : Text) → c ≢ the "P" → c ≢ the "<"

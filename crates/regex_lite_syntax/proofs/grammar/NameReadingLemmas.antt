@@ -1,12 +1,14 @@
 -- The characters of a name, one after another.
-use Rattle.std.proofs.Common.{◌≡◌, ◌≢◌, refl, sym, ◌∙◌, ap, subst, ℕ, ◌+◌, ◌-◌, ◌<◌, ◌≤◌, length, [], ◌∷◌, ◌++◌, drop, take, slice_range, IsTrue, arith}
+use Rattle.std.proofs.Common.{◌≡◌, ◌≢◌, refl, sym, ◌∙◌, ap, subst, ℕ, ◌+◌, ◌-◌, ◌<◌, ◌≤◌}
+use Rattle.std.proofs.Common.{length, [], ◌∷◌, ◌++◌, drop, take, slice_range, IsTrue, arith}
 use Rattle.std.specs.List.{list_all, AllPass}
 use Rattle.std.proofs.lemmas.List.Sums.{AllPass-from_list_all, list_all-from_AllPass}
 use Rattle.std.proofs.lemmas.Bool.{and_from, and_parts, eqb-false, not-true, ne_eqb, not_from_false}
 use Rattle.std.proofs.lemmas.List.{drop_more, drop-drop, take-append-drop}
 use Rattle.std.proofs.lemmas.List.Edits.{between_more}
 use Rattle.regex_lite_syntax.specs.Text.{Text, the}
-use Rattle.regex_lite_syntax.specs.Grammar.GroupNames.{begins_name, continues_name, is_name, is_no_end, NameWritten}
+use Rattle.regex_lite_syntax.specs.Grammar.GroupNames.{begins_name, continues_name}
+use Rattle.regex_lite_syntax.specs.Grammar.GroupNames.{is_name, is_no_end, NameWritten}
 use Rattle.regex_lite_syntax.proofs.ListLemmas.{same_head, same_tail}
 use Rattle.regex_lite_syntax.proofs.grammar.WordLemmas.{pass_push}
 
@@ -22,17 +24,21 @@ no_end c h = eqb-false c (the ">") (not-true _ h)
 
 nothing_spelled : (name t rest : Text) (c : ℕ) → t ≡ [] → t ≡ name ++ c ∷ rest → ⊥
 nothing_spelled [] t rest c none s = cc
-nothing_spelled (d ∷ ds) t rest c none s = let here : t ≡ d ∷ (ds ++ c ∷ rest) = s in cc (none, here)
+nothing_spelled (d ∷ ds) t rest c none s =
+    let here : t ≡ d ∷ (ds ++ c ∷ rest) = s in cc (none, here)
 
 pub nothing_left_at_end : {t rest : Text} → t ≡ [] → NameLeft t rest → ⊥
 nothing_left_at_end {t} {rest} none n = nothing_spelled n.name t rest (the ">") none n.written
 
 -- the first character of a name, and the rest of it
-pub first_of_name : {t rest name : Text} (c : ℕ) (past : Text) → t ≡ c ∷ past → NameWritten t rest name
+pub first_of_name : {t rest name : Text} (c : ℕ) (past : Text) → t ≡ c ∷ past
+    → NameWritten t rest name
     → IsTrue (begins_name c) × (c ≢ the ">") × NameLeft past rest
-first_of_name {t} {rest} {name} c past here w = go name w.written (list_all-from_AllPass is_no_end name w.inside) w.is_a_name
+first_of_name {t} {rest} {name} c past here w =
+    go name w.written (list_all-from_AllPass is_no_end name w.inside) w.is_a_name
   where
-    go : (name : Text) → t ≡ name ++ the ">" ∷ rest → IsTrue (list_all is_no_end name) → IsTrue (is_name name)
+    go : (name : Text) → t ≡ name ++ the ">" ∷ rest → IsTrue (list_all is_no_end name)
+        → IsTrue (is_name name)
         → IsTrue (begins_name c) × (c ≢ the ">") × NameLeft past rest
     go [] written inside is = cc
     go (d ∷ ds) written inside is =
@@ -50,7 +56,8 @@ first_of_name {t} {rest} {name} c past here w = go name w.written (list_all-from
         )
 
 -- a further character that does not end the name, and the rest of it
-pub next_of_name : {t rest : Text} (c : ℕ) (past : Text) → t ≡ c ∷ past → c ≢ the ">" → NameLeft t rest
+pub next_of_name : {t rest : Text} (c : ℕ) (past : Text) → t ≡ c ∷ past → c ≢ the ">"
+    → NameLeft t rest
     → IsTrue (continues_name c) × NameLeft past rest
 next_of_name {t} {rest} c past here going n = go n.name n.written n.inside n.continues
   where
@@ -78,13 +85,15 @@ pub record NameSoFar (name : Text) : Type 0 where
 is_inside : (c : ℕ) → c ≢ the ">" → IsTrue (is_no_end c)
 is_inside c going = not_from_false _ (ne_eqb c (the ">") going)
 
-all_continue : (name : Text) (c : ℕ) → IsTrue (list_all continues_name name) → IsTrue (continues_name c)
+all_continue : (name : Text) (c : ℕ) → IsTrue (list_all continues_name name)
+    → IsTrue (continues_name c)
     → IsTrue (list_all continues_name (name ++ c ∷ []))
 all_continue [] c h continues = and_from _ _ continues refl
 all_continue (d ∷ ds) c h continues =
     let parts = and_parts _ _ h in and_from _ _ parts.0 (all_continue ds c parts.1 continues)
 
-all_inside : (name : Text) (c : ℕ) → AllPass is_no_end name → c ≢ the ">" → AllPass is_no_end (name ++ c ∷ [])
+all_inside : (name : Text) (c : ℕ) → AllPass is_no_end name → c ≢ the ">"
+    → AllPass is_no_end (name ++ c ∷ [])
 all_inside name c h going = pass_push is_no_end name c h (is_inside c going)
 
 still_name : (name : Text) (c : ℕ) → IsTrue (is_name name) → IsTrue (continues_name c)
@@ -93,11 +102,15 @@ still_name [] c h continues = cc
 still_name (d ∷ ds) c h continues =
     let parts = and_parts _ _ h in and_from _ _ parts.0 (all_continue ds c parts.1 continues)
 
-pub name_goes_on : (name longer : Text) (c : ℕ) → longer ≡ name ++ c ∷ [] → IsTrue (continues_name c)
+pub name_goes_on : (name longer : Text) (c : ℕ) → longer ≡ name ++ c ∷ []
+    → IsTrue (continues_name c)
     → c ≢ the ">" → NameSoFar name → NameSoFar longer
 name_goes_on name longer c is continues going n =
     subst (λ w. NameSoFar w) (sym is)
-    (record { inside = all_inside name c n.inside going; is_a_name = still_name name c n.is_a_name continues })
+    (record {
+      inside = all_inside name c n.inside going;
+      is_a_name = still_name name c n.is_a_name continues;
+    })
 
 range_spelled : (t : Text) (at end : ℕ) → at ≤ end → drop at t ≡ slice_range t at end ++ drop end t
 range_spelled t at end inside =
@@ -107,7 +120,8 @@ range_spelled t at end inside =
 
 -- the name that stands from one index to another, where the `>` stands that ends it
 pub name_read : (t rest : Text) (at end last c : ℕ) → at ≤ end → last ≡ end → drop end t ≡ c ∷ rest
-    → c ≡ the ">" → NameSoFar (slice_range t at end) → NameWritten (drop at t) rest (slice_range t at last)
+    → c ≡ the ">" → NameSoFar (slice_range t at end)
+    → NameWritten (drop at t) rest (slice_range t at last)
 name_read t rest at end last c inside is_last here ends n =
     subst (λ i. NameWritten (drop at t) rest (slice_range t at i)) (sym is_last)
     (record {
@@ -118,14 +132,16 @@ name_read t rest at end last c inside is_last here ends n =
     })
 
 -- a part that goes on by one character
-pub range_more : (t past : Text) (at end : ℕ) (c : ℕ) → at ≤ end → end < length t → drop end t ≡ c ∷ past
+pub range_more : (t past : Text) (at end : ℕ) (c : ℕ) → at ≤ end → end < length t
+    → drop end t ≡ c ∷ past
     → slice_range t at (end + 1) ≡ slice_range t at end ++ c ∷ []
 range_more t past at end c inside before here =
     let item = same_head (sym (drop_more t end c before) ∙ here) in
     between_more t at end c inside before ∙ ap (λ d. slice_range t at end ++ d ∷ []) item
 
 -- the first character of a name has been read
-pub name_begun : (t past : Text) (at c : ℕ) → at < length t → drop at t ≡ c ∷ past → IsTrue (begins_name c) → c ≢ the ">"
+pub name_begun : (t past : Text) (at c : ℕ) → at < length t → drop at t ≡ c ∷ past
+    → IsTrue (begins_name c) → c ≢ the ">"
     → NameSoFar (slice_range t at (at + 1))
 name_begun t past at c before here begins going =
     let nothing : at - at ≡ 0 = omega arith in

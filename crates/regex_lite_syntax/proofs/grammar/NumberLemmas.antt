@@ -1,24 +1,31 @@
 -- Numbers with what may stand on their sides are read in one way.
-use Rattle.std.proofs.Common.{inl, inr, ◌≡◌, refl, sym, ◌∙◌, ap, subst, ℕ, ◌+◌, ◌*◌, ◌^◌, ◌<◌, ◌≤◌, length, Bool, true, false, [], ◌∷◌, ◌++◌, fold, IsTrue, arith, length-append}
+use Rattle.std.proofs.Common.{inl, inr, ◌≡◌, refl, sym, ◌∙◌, ap, subst, ℕ, ◌+◌}
+use Rattle.std.proofs.Common.{◌*◌, ◌^◌, ◌<◌, ◌≤◌, length, Bool, true, false, []}
+use Rattle.std.proofs.Common.{◌∷◌, ◌++◌, fold, IsTrue, arith, length-append}
 use Rattle.std.proofs.lemmas.Bool.{and_parts, both_ways, leb-true, not-true}
 use Rattle.std.proofs.lemmas.List.Sums.{fold-append}
 use Rattle.regex_lite_syntax.specs.Text.{Text, the}
 use Rattle.regex_lite_syntax.specs.Characters.{is_white_space, is_digit, digit_value, number_of}
-use Rattle.regex_lite_syntax.specs.Grammar.Gaps.{Spacing, no_more, further, Gap, EndsGap, WholeGap, Spaced}
-use Rattle.regex_lite_syntax.specs.Grammar.Counted.{WhiteSpace, Side, EndsSide, WholeSide, Number, EndsNumber}
+use Rattle.regex_lite_syntax.specs.Grammar.Gaps.{Spacing, no_more, further, Gap}
+use Rattle.regex_lite_syntax.specs.Grammar.Gaps.{EndsGap, WholeGap, Spaced}
+use Rattle.regex_lite_syntax.specs.Grammar.Counted.{WhiteSpace, Side, EndsSide}
+use Rattle.regex_lite_syntax.specs.Grammar.Counted.{WholeSide, Number, EndsNumber}
 use Rattle.regex_lite_syntax.proofs.ListLemmas.{same_head, same_tail}
 use Rattle.regex_lite_syntax.proofs.grammar.GapLemmas.{blank_once, empty_gap, ends_any, gap_once}
 use Rattle.regex_lite_syntax.proofs.grammar.SpacedLemmas.{EndsGaps, printed_ends, whole_gap_leads}
 
 -- WhiteSpace space and sides.
 
-white_once : (t u v : Text) → WhiteSpace t u → WhiteSpace t v → EndsSide false u → EndsSide false v → u ≡ v
+white_once : (t u v : Text) → WhiteSpace t u → WhiteSpace t v → EndsSide false u
+    → EndsSide false v → u ≡ v
 white_once [] u v w x ue ve = w ∙ sym x
 white_once (c ∷ t) u v (inl w) (inl x) ue ve = w ∙ sym x
 white_once (c ∷ t) u v (inl w) (inr x) ue ve =
-    let ends = subst (λ y. EndsSide false y) w ue in absurd (both_ways (is_white_space c) (not-true _ ends) x.0)
+    let ends = subst (λ y. EndsSide false y) w ue in
+    absurd (both_ways (is_white_space c) (not-true _ ends) x.0)
 white_once (c ∷ t) u v (inr w) (inl x) ue ve =
-    let ends = subst (λ y. EndsSide false y) x ve in absurd (both_ways (is_white_space c) (not-true _ ends) w.0)
+    let ends = subst (λ y. EndsSide false y) x ve in
+    absurd (both_ways (is_white_space c) (not-true _ ends) w.0)
 white_once (c ∷ t) u v (inr w) (inr x) ue ve = white_once t u v w.1 x.1 ue ve
 
 empty_white : (t : Text) → WhiteSpace t t
@@ -31,16 +38,19 @@ ends_side true t ends = ends
 ends_side false [] ends = tt
 ends_side false (c ∷ t) ends = ends.0
 
-whole_side_once : (verbose : Bool) (t u v : Text) → WholeSide verbose t u → WholeSide verbose t v → u ≡ v
+whole_side_once : (verbose : Bool) (t u v : Text) → WholeSide verbose t u
+    → WholeSide verbose t v → u ≡ v
 whole_side_once true t u v g h = blank_once t u v g.0 h.0 g.1 h.1
 whole_side_once false t u v g h = white_once t u v g.0 h.0 g.1 h.1
 
 -- a whole side leads where any side leads that ends before what no gap goes on with
-side_leads : (verbose : Bool) (t u v : Text) → WholeSide verbose t u → Side verbose t v → EndsGap true v → u ≡ v
+side_leads : (verbose : Bool) (t u v : Text) → WholeSide verbose t u → Side verbose t v
+    → EndsGap true v → u ≡ v
 side_leads verbose t u v whole side ends =
     whole_side_once verbose t u v whole (side, ends_side verbose v ends)
 
-side_once : (verbose : Bool) (t u v : Text) → Side verbose t u → Side verbose t v → EndsGap true u → EndsGap true v
+side_once : (verbose : Bool) (t u v : Text) → Side verbose t u → Side verbose t v → EndsGap true u
+    → EndsGap true v
     → u ≡ v
 side_once verbose t u v a b ue ve = side_leads verbose t u v (a, ends_side verbose u ue) b ve
 
@@ -65,14 +75,16 @@ digit_bounds c digit =
 
 digits_end : EndsGaps is_digit
 digits_end c t digit =
-    let bounds = digit_bounds c digit in printed_ends c t (omega (arith, bounds)) (omega (arith, bounds))
+    let bounds = digit_bounds c digit in
+    printed_ends c t (omega (arith, bounds)) (omega (arith, bounds))
 
 -- no digit stands past the gap
 abbrev pub NoDigit : (verbose : Bool) → Text → Type 0
 NoDigit verbose t = (c : ℕ) (rest : Text) → Gap verbose t (c ∷ rest) → IsTrue (is_digit c) → ⊥
 
 -- a digit further
-spaced_more : (verbose : Bool) (ds : Text) (c : ℕ) (t u past : Text) → Spaced verbose is_digit ds t u
+spaced_more : (verbose : Bool) (ds : Text) (c : ℕ) (t u past : Text)
+    → Spaced verbose is_digit ds t u
     → Gap verbose u (c ∷ past) → IsTrue (is_digit c) → Spaced verbose is_digit (ds ++ c ∷ []) t past
 spaced_more verbose [] c t u past s gap is =
     (past, subst (λ v. Gap verbose v (c ∷ past)) (sym s) gap, is, refl)
@@ -93,7 +105,8 @@ spaced_prefix verbose (d ∷ ds) (e ∷ es) t u last a b none =
     (subst (λ v. Spaced verbose is_digit es v last) (same_tail first) b.3) none in
     (more.0, cc (same_head first, more.1), more.2)
 
-number_grows : (digits : Text) (number : ℕ) → number ≤ fold (λ n d. n * 10 + digit_value d) number digits
+number_grows : (digits : Text) (number : ℕ)
+    → number ≤ fold (λ n d. n * 10 + digit_value d) number digits
 number_grows [] number = omega arith
 number_grows (d ∷ digits) number =
     let further = number_grows digits (number * 10 + digit_value d) in omega (arith, further)
@@ -125,9 +138,11 @@ other_ender u past c here no_comma no_brace ends = go (subst (λ v. EndsNumber v
     go (inl is) = no_comma is
     go (inr is) = no_brace is
 
-pub no_digit_before : (verbose : Bool) (t rest : Text) → Side verbose t rest → EndsNumber rest → NoDigit verbose t
+pub no_digit_before : (verbose : Bool) (t rest : Text) → Side verbose t rest → EndsNumber rest
+    → NoDigit verbose t
 no_digit_before verbose t rest side ends c past gap digit =
-    let same = side_once verbose t rest (c ∷ past) side (side_of verbose t _ gap) (ender_ends rest ends)
+    let same =
+    side_once verbose t rest (c ∷ past) side (side_of verbose t _ gap) (ender_ends rest ends)
     (digits_end c past digit) in
     ender_no_digit c past (subst (λ u. EndsNumber u) same ends) digit
 
@@ -138,23 +153,27 @@ no_digit_past verbose t u whole none c rest gap digit =
     none c rest (whole_gap_leads verbose t u (c ∷ rest) whole gap (digits_end c rest digit)) digit
 
 -- the first digit that a number has past a whole side
-digits_past_side : (verbose : Bool) (es t u first last : Text) → WholeSide verbose t u → Side verbose t first
+digits_past_side : (verbose : Bool) (es t u first last : Text) → WholeSide verbose t u
+    → Side verbose t first
     → 0 < length es → Spaced verbose is_digit es first last → Spaced verbose is_digit es u last
 digits_past_side verbose [] t u first last whole side some s = absurd (omega (arith, some))
 digits_past_side verbose (e ∷ es) t u first last whole side some s =
-    let here = side_leads verbose t u (e ∷ s.0) whole (side_on verbose t first _ side s.1) (digits_end e s.0 s.2) in
+    let here = side_leads verbose t u (e ∷ s.0) whole (side_on verbose t first _ side s.1)
+    (digits_end e s.0 s.2) in
     (s.0, subst (λ v. Gap verbose v (e ∷ s.0)) (sym here) (empty_gap verbose (e ∷ s.0)), s.2, s.3)
 
 -- Numbers.
 
--- digits that have been read from `t` to `u`, over so many characters, and the number that they write
+-- digits that have been read from `t` to `u`, over so many characters, and the number that they
+-- write
 pub record DigitsRead (verbose : Bool) (read : ℕ) (t u : Text) (n : ℕ) : Type 0 where
   pub digits : Text
   pub written : Spaced verbose is_digit digits t u
   pub some : 0 < read → 0 < length digits
   pub value : n ≡ number_of 10 digits
 
-pub no_digits_read : (verbose : Bool) (read : ℕ) (t : Text) → read ≡ 0 → DigitsRead verbose read t t 0
+pub no_digits_read : (verbose : Bool) (read : ℕ) (t : Text) → read ≡ 0
+    → DigitsRead verbose read t t 0
 no_digits_read verbose read t none = record {
   digits = [];
   written = refl;
@@ -162,8 +181,10 @@ no_digits_read verbose read t none = record {
   value = refl;
 }
 
-pub digit_read : {verbose : Bool} {read read' n m v : ℕ} {t u past : Text} → DigitsRead verbose read t u n
-    → (c : ℕ) × Gap verbose u (c ∷ past) × IsTrue (is_digit c) × (v ≡ digit_value c) → m ≡ n * 10 + v
+pub digit_read : {verbose : Bool} {read read' n m v : ℕ} {t u past : Text}
+    → DigitsRead verbose read t u n
+    → (c : ℕ) × Gap verbose u (c ∷ past) × IsTrue (is_digit c) × (v ≡ digit_value c)
+    → m ≡ n * 10 + v
     → DigitsRead verbose read' t past m
 digit_read {verbose} {read} {read'} {n} {m} {v} {t} {u} {past} d (c, gap, digit, is) more = record {
   digits = d.digits ++ c ∷ [];
@@ -175,34 +196,45 @@ digit_read {verbose} {read} {read'} {n} {m} {v} {t} {u} {past} d (c, gap, digit,
 -- a number begins with the digits that have been read
 number_begins : {verbose : Bool} {read n m : ℕ} {t first u rest : Text} → WholeSide verbose t first
     → DigitsRead verbose read first u n → (p : Number verbose t rest m) → EndsNumber rest
-    → (more : Text) × Spaced verbose is_digit more u p.last × (m ≡ fold (λ n d. n * 10 + digit_value d) n more)
+    → (more : Text) × Spaced verbose is_digit more u p.last
+    × (m ≡ fold (λ n d. n * 10 + digit_value d) n more)
 number_begins {verbose} {read} {n} {m} {t} {first} {u} {rest} whole d p ends =
-    let all = digits_past_side verbose p.digits t first p.first p.last whole p.before p.some p.written in
+    let all =
+    digits_past_side verbose p.digits t first p.first p.last whole p.before p.some p.written in
     let split = spaced_prefix verbose d.digits p.digits first u p.last d.written all
     (no_digit_before verbose p.last rest p.after ends) in (
       split.0,
       split.2,
-      cc (p.value, d.value, split.1, fold-append (λ n d. n * 10 + digit_value d) 0 d.digits split.0),
+      cc (
+        p.value,
+        d.value,
+        split.1,
+        fold-append (λ n d. n * 10 + digit_value d) 0 d.digits split.0,
+      ),
     )
 
-pub number_too_large : {verbose : Bool} {read n m : ℕ} {t first u rest : Text} → WholeSide verbose t first
+pub number_too_large : {verbose : Bool} {read n m : ℕ} {t first u rest : Text}
+    → WholeSide verbose t first
     → DigitsRead verbose read first u n → 2 ^ 32 ≤ n → Number verbose t rest m → EndsNumber rest → ⊥
 number_too_large {verbose} {read} {n} {m} {t} {first} {u} {rest} whole d large p ends =
     let begins = number_begins whole d p ends in
     let grown = number_grows begins.0 n in
     omega (arith, p.in_range, begins.2, grown, large)
 
-pub no_number : {verbose : Bool} {m : ℕ} {t rest : Text} (first : Text) → WholeSide verbose t first → NoDigit verbose first
+pub no_number : {verbose : Bool} {m : ℕ} {t rest : Text} (first : Text) → WholeSide verbose t first
+    → NoDigit verbose first
     → Number verbose t rest m → ⊥
 no_number {verbose} {m} {t} {rest} first whole none p =
-    go p.digits p.some (digits_past_side verbose p.digits t first p.first p.last whole p.before p.some p.written)
+    go p.digits p.some
+    (digits_past_side verbose p.digits t first p.first p.last whole p.before p.some p.written)
   where
     go : (ds : Text) → 0 < length ds → Spaced verbose is_digit ds first p.last → ⊥
     go [] some s = omega (arith, some)
     go (d ∷ ds) some s = none d s.0 s.1 s.2
 
 pub number_read : {verbose : Bool} {read n : ℕ} {t first u rest : Text} → WholeSide verbose t first
-    → DigitsRead verbose read first u n → 0 < read → WholeSide verbose u rest → n < 2 ^ 32 → Number verbose t rest n
+    → DigitsRead verbose read first u n → 0 < read → WholeSide verbose u rest → n < 2 ^ 32
+    → Number verbose t rest n
 number_read {verbose} {read} {n} {t} {first} {u} {rest} before d some after small = record {
   first = first;
   last = u;
@@ -216,13 +248,15 @@ number_read {verbose} {read} {n} {t} {first} {u} {rest} before d some after smal
 }
 
 -- where all digits have been read, no other number stands there
-pub number_only : {verbose : Bool} {read n m : ℕ} {t first u rest rest' : Text} → WholeSide verbose t first
+pub number_only : {verbose : Bool} {read n m : ℕ} {t first u rest rest' : Text}
+    → WholeSide verbose t first
     → DigitsRead verbose read first u n → NoDigit verbose u → WholeSide verbose u rest
     → Number verbose t rest' m → EndsNumber rest' → (rest' ≡ rest) × (m ≡ n)
 number_only {verbose} {read} {n} {m} {t} {first} {u} {rest} {rest'} before d none after p ends =
     let begins = number_begins before d p ends in go begins.0 begins.1 begins.2
   where
-    go : (more : Text) → Spaced verbose is_digit more u p.last → m ≡ fold (λ n d. n * 10 + digit_value d) n more
+    go : (more : Text) → Spaced verbose is_digit more u p.last
+        → m ≡ fold (λ n d. n * 10 + digit_value d) n more
         → (rest' ≡ rest) × (m ≡ n)
     go [] s value = (
       sym (side_leads verbose u rest rest' after (subst (λ v. Side verbose v rest') (sym s) p.after)
@@ -231,16 +265,19 @@ number_only {verbose} {read} {n} {m} {t} {first} {u} {rest} {rest'} before d non
     )
     go (d ∷ ds) s value = absurd (none d s.0 s.1 s.2)
 
-pub number_once : (verbose : Bool) (t r s : Text) (n m : ℕ) → Number verbose t r n → Number verbose t s m
+pub number_once : (verbose : Bool) (t r s : Text) (n m : ℕ) → Number verbose t r n
+    → Number verbose t s m
     → EndsNumber r → EndsNumber s → (s ≡ r) × (m ≡ n)
 number_once verbose t r s n m p q ends_p ends_q = go p.digits p.some p.written p.value
   where
-    go : (ds : Text) → 0 < length ds → Spaced verbose is_digit ds p.first p.last → n ≡ number_of 10 ds
+    go : (ds : Text) → 0 < length ds → Spaced verbose is_digit ds p.first p.last
+        → n ≡ number_of 10 ds
         → (s ≡ r) × (m ≡ n)
     go [] some w value = absurd (omega (arith, some))
     go (d ∷ ds) some w value =
         let ends = ends_side verbose _ (digits_end d w.0 w.2) in
-        let whole : WholeSide verbose t (d ∷ w.0) = (side_on verbose t p.first _ p.before w.1, ends) in
+        let whole : WholeSide verbose t (d ∷ w.0) =
+        (side_on verbose t p.first _ p.before w.1, ends) in
         let read : DigitsRead verbose 1 (d ∷ w.0) p.last n = record {
           digits = d ∷ ds;
           written = (w.0, empty_gap verbose (d ∷ w.0), w.2, w.3);
@@ -251,7 +288,9 @@ number_once verbose t r s n m p q ends_p ends_q = go p.digits p.some p.written p
         (p.after, ends_side verbose r (ender_ends r ends_p)) q ends_q
 
 -- no number stands there where nothing is left past the gap
-pub nothing_left : {verbose : Bool} {n : ℕ} {t rest : Text} → WholeGap verbose t [] → Number verbose t rest n → ⊥
+pub nothing_left : {verbose : Bool} {n : ℕ} {t rest : Text} → WholeGap verbose t []
+    → Number verbose t rest n → ⊥
 nothing_left {verbose} {n} {t} {rest} whole p =
     no_number [] (side_of verbose t [] whole.0, ends_side verbose [] tt)
-    (no_digit_past verbose [] [] (empty_gap verbose [], ends_any verbose [] tt) (λ c past here digit. cc here)) p
+    (no_digit_past verbose [] [] (empty_gap verbose [], ends_any verbose [] tt)
+    (λ c past here digit. cc here)) p

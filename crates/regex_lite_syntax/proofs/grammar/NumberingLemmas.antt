@@ -1,5 +1,6 @@
 -- The groups of a pattern are numbered in order.
-use Rattle.std.proofs.Common.{◌≡◌, ◌≤◌, refl, sym, ap, subst, ◌∙◌, arith, ℕ, ◌+◌, Bool, true, false, ◌&&◌, List, [], ◌∷◌, ◌++◌, MatchBool}
+use Rattle.std.proofs.Common.{◌≡◌, ◌≤◌, refl, sym, ap, subst, ◌∙◌, arith, ℕ, ◌+◌}
+use Rattle.std.proofs.Common.{Bool, true, false, ◌&&◌, List, [], ◌∷◌, ◌++◌, MatchBool}
 use Rattle.regex_lite_syntax.specs.declared.flags.Flags.{Flags}
 use Rattle.regex_lite_syntax.specs.Text.{Text}
 use Rattle.regex_lite_syntax.specs.Characters.{is_letter}
@@ -7,12 +8,19 @@ use Rattle.regex_lite_syntax.specs.Sets.{Set, just, case_closure}
 use Rattle.regex_lite_syntax.specs.Grammar.Escapes.{Primitive, one, some_of, look_at}
 use Rattle.regex_lite_syntax.specs.Tree.{Tree, character, sequence_of, choice_of, repeated}
 use Rattle.regex_lite_syntax.specs.Tree.Properties.{greatest_index}
-use Rattle.regex_lite_syntax.specs.Grammar.Atoms.{AtomKind, single, escape, bracketed, no_atom, atom_kind, IsClassOf, PrimitiveTree, AtomFrom, Atom}
+use Rattle.regex_lite_syntax.specs.Grammar.Atoms.{AtomKind, single, escape, bracketed}
+use Rattle.regex_lite_syntax.specs.Grammar.Atoms.{no_atom, atom_kind, IsClassOf}
+use Rattle.regex_lite_syntax.specs.Grammar.Atoms.{PrimitiveTree, AtomFrom, Atom}
 use Rattle.regex_lite_syntax.specs.Grammar.Points.{Point, PastGap}
-use Rattle.regex_lite_syntax.specs.Grammar.Heads.{GroupKind, group_tree, Head, numbered, named, plain, Directive, sets}
-use Rattle.regex_lite_syntax.specs.Grammar.{Item, atom, group, Branch, nothing, item, directive, Alternatives, only, further, Grammar}
+use Rattle.regex_lite_syntax.specs.Grammar.Heads.{GroupKind, group_tree, Head, numbered}
+use Rattle.regex_lite_syntax.specs.Grammar.Heads.{named, plain, Directive, sets}
+use Rattle.regex_lite_syntax.specs.Grammar.{Item, atom, group, Branch, nothing, item}
+use Rattle.regex_lite_syntax.specs.Grammar.{directive, Alternatives, only, further, Grammar}
 use Rattle.regex_lite_syntax.specs.Grammar.Branch.{operator}
-use Rattle.regex_lite_syntax.proofs.grammar.NumberedTreeLemmas.{IsNumbered, Within, AllWithin, all_with, all_without, leaf, sequence_within, choice_within, repeated_within}
+use Rattle.regex_lite_syntax.proofs.grammar.NumberedTreeLemmas.{IsNumbered, Within, AllWithin}
+use Rattle.regex_lite_syntax.proofs.grammar.NumberedTreeLemmas.{all_with, all_without, leaf}
+use Rattle.regex_lite_syntax.proofs.grammar.NumberedTreeLemmas.{sequence_within, choice_within}
+use Rattle.regex_lite_syntax.proofs.grammar.NumberedTreeLemmas.{repeated_within}
 
 -- a tree without groups
 abbrev HasNoGroups : Tree → Type 0

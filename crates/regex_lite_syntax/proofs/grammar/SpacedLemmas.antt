@@ -1,6 +1,8 @@
 -- Characters of one kind, each with a gap before it, are read in one way.
-use Rattle.std.proofs.Common.{inl, inr, ◌≡◌, refl, sym, ◌∙◌, subst, ℕ, ◌≤◌, length, Bool, true, false, ◌&&◌, ◌||◌, nat_le, [], ◌∷◌, IsTrue, arith}
-use Rattle.std.proofs.lemmas.Bool.{agree_below_at, and_from, and_parts, both_ways, eqb-true, le-leb, leb-true, not_from_false, or_cases}
+use Rattle.std.proofs.Common.{inl, inr, ◌≡◌, refl, sym, ◌∙◌, subst, ℕ, ◌≤◌, length, Bool}
+use Rattle.std.proofs.Common.{true, false, ◌&&◌, ◌||◌, nat_le, [], ◌∷◌, IsTrue, arith}
+use Rattle.std.proofs.lemmas.Bool.{agree_below_at, and_from, and_parts, both_ways}
+use Rattle.std.proofs.lemmas.Bool.{eqb-true, le-leb, leb-true, not_from_false, or_cases}
 use Rattle.regex_lite_syntax.specs.Text.{Text, Begins, the}
 use Rattle.regex_lite_syntax.specs.Characters.{is_white_space, is_between, is_letter, is_hex_digit}
 use Rattle.regex_lite_syntax.specs.Grammar.Gaps.{Gap, EndsGap, WholeGap, Spaced}
@@ -16,14 +18,16 @@ EndsGaps kind = (c : ℕ) (t : Text) → IsTrue (kind c) → EndsGap true (c ∷
 -- the ASCII characters past `#` that are printed are no white space
 pub printed_ends : (c : ℕ) (t : Text) → 36 ≤ c → c ≤ 126 → EndsGap true (c ∷ t)
 printed_ends c t low high =
-    let whiteness = agree_below_at (λ d. nat_le 36 d && is_white_space d) (λ _. false) 127 c refl (omega arith) in
+    let whiteness =
+    agree_below_at (λ d. nat_le 36 d && is_white_space d) (λ _. false) 127 c refl (omega arith) in
     (not_from_false _ (no_white (is_white_space c) whiteness), λ sign. omega (arith, sign))
   where
     no_white : (white : Bool) → (nat_le 36 c && white) ≡ false → white ≡ false
     no_white true e = absurd (both_ways _ e (and_from _ true (le-leb 36 c low) refl))
     no_white false e = refl
 
-between_ends : (first last c : ℕ) (t : Text) → 36 ≤ first → last ≤ 126 → IsTrue (is_between first last c)
+between_ends : (first last c : ℕ) (t : Text) → 36 ≤ first → last ≤ 126
+    → IsTrue (is_between first last c)
     → EndsGap true (c ∷ t)
 between_ends first last c t low high inside =
     let bounds = and_parts _ _ inside in
@@ -42,7 +46,8 @@ letters_end c t =
 pub boundary_characters_end : EndsGaps is_boundary_character
 boundary_characters_end c t =
     either _ _ (letters_end c t)
-    (λ is_dash. let e = eqb-true c (the "-") is_dash in printed_ends c t (omega (arith, e)) (omega (arith, e)))
+    (λ is_dash. let e = eqb-true c (the "-") is_dash in
+    printed_ends c t (omega (arith, e)) (omega (arith, e)))
 
 pub hex_digits_end : EndsGaps is_hex_digit
 hex_digits_end c t =
@@ -52,20 +57,25 @@ hex_digits_end c t =
     (between_ends 0x41 0x46 c t (omega arith) (omega arith))
 
 -- a whole gap leads where any gap leads that ends before what no gap goes on with
-pub whole_gap_leads : (verbose : Bool) (t u v : Text) → WholeGap verbose t u → Gap verbose t v → EndsGap true v
+pub whole_gap_leads : (verbose : Bool) (t u v : Text) → WholeGap verbose t u → Gap verbose t v
+    → EndsGap true v
     → u ≡ v
-whole_gap_leads verbose t u v whole gap ends = whole_gap_once verbose t u v whole (gap, ends_any verbose v ends)
+whole_gap_leads verbose t u v whole gap ends =
+    whole_gap_once verbose t u v whole (gap, ends_any verbose v ends)
 
 -- where the characters have ended, the brace that closes stands past the whole gap
 pub brace_past : (verbose : Bool) (t u last rest : Text) → WholeGap verbose t u → t ≡ last
     → Gap verbose last (the "}" ∷ rest) → u ≡ the "}" ∷ rest
 brace_past verbose t u last rest whole ended closes =
-    whole_gap_leads verbose t u _ whole (subst (λ v. Gap verbose v (the "}" ∷ rest)) (sym ended) closes)
+    whole_gap_leads verbose t u _ whole
+    (subst (λ v. Gap verbose v (the "}" ∷ rest)) (sym ended) closes)
     (printed_ends (the "}") rest (omega arith) (omega arith))
 
--- a gap that ends before `}` and one that ends before a character of another kind do not stand at one place
+-- a gap that ends before `}` and one that ends before a character of another kind do not stand at
+-- one place
 brace_or_other : (verbose : Bool) (kind : ℕ → Bool) (t past rest : Text) (c : ℕ) → EndsGaps kind
-    → kind (the "}") ≡ false → Gap verbose t (c ∷ past) → IsTrue (kind c) → Gap verbose t (the "}" ∷ rest) → ⊥
+    → kind (the "}") ≡ false → Gap verbose t (c ∷ past) → IsTrue (kind c)
+    → Gap verbose t (the "}" ∷ rest) → ⊥
 brace_or_other verbose kind t past rest c ends other gap is_kind closing =
     let same = gap_once verbose t _ _ gap closing (ends c past is_kind)
     (printed_ends (the "}") rest (omega arith) (omega arith)) in
@@ -73,7 +83,8 @@ brace_or_other verbose kind t past rest c ends other gap is_kind closing =
 
 -- as many characters, from one place
 pub spaced_once : (verbose : Bool) (kind : ℕ → Bool) (cs ds t r s : Text) → EndsGaps kind
-    → Spaced verbose kind cs t r → Spaced verbose kind ds t s → length cs ≡ length ds → (cs ≡ ds) × (r ≡ s)
+    → Spaced verbose kind cs t r → Spaced verbose kind ds t s → length cs ≡ length ds
+    → (cs ≡ ds) × (r ≡ s)
 spaced_once verbose kind [] [] t r s ends a b e = (refl, sym a ∙ b)
 spaced_once verbose kind [] (d ∷ ds) t r s ends a b e = absurd (omega (arith, e))
 spaced_once verbose kind (c ∷ cs) [] t r s ends a b e = absurd (omega (arith, e))
@@ -84,7 +95,8 @@ spaced_once verbose kind (c ∷ cs) (d ∷ ds) t r s ends a b e =
     (cc (same_head first, rest.0), rest.1)
 
 -- characters from one place up to a `}`, which is none of them
-pub spaced_to_brace_once : (verbose : Bool) (kind : ℕ → Bool) (cs ds t last last' r s : Text) → EndsGaps kind
+pub spaced_to_brace_once : (verbose : Bool) (kind : ℕ → Bool) (cs ds t last last' r s : Text)
+    → EndsGaps kind
     → kind (the "}") ≡ false
     → Spaced verbose kind cs t last → Gap verbose last (the "}" ∷ r)
     → Spaced verbose kind ds t last' → Gap verbose last' (the "}" ∷ s) → (cs ≡ ds) × (r ≡ s)
@@ -107,7 +119,8 @@ spaced_to_brace_once verbose kind (c ∷ cs) (d ∷ ds) t last last' r s ends ot
     (cc (same_head first, rest.0), rest.1)
 
 -- past the whole gap stands the first of the characters
-pub next_spaced : (verbose : Bool) (kind : ℕ → Bool) (c d : ℕ) (ds t u past last : Text) → EndsGaps kind
+pub next_spaced : (verbose : Bool) (kind : ℕ → Bool) (c d : ℕ) (ds t u past last : Text)
+    → EndsGaps kind
     → WholeGap verbose t u → u ≡ c ∷ past → Spaced verbose kind (d ∷ ds) t last
     → (d ≡ c) × Spaced verbose kind ds past last
 next_spaced verbose kind c d ds t u past last ends whole here s =
@@ -120,8 +133,10 @@ spaced_begins verbose kind c cs t u last ends whole s =
     let same = whole_gap_leads verbose t u _ whole s.1 (ends c s.0 s.2) in
     subst (λ v. Begins c v) (sym same) refl
 
-pub spaced_before : (verbose : Bool) (kind : ℕ → Bool) (c : ℕ) (cs t u past last : Text) → WholeGap verbose t u
-    → u ≡ c ∷ past → IsTrue (kind c) → Spaced verbose kind cs past last → Spaced verbose kind (c ∷ cs) t last
+pub spaced_before : (verbose : Bool) (kind : ℕ → Bool) (c : ℕ) (cs t u past last : Text)
+    → WholeGap verbose t u
+    → u ≡ c ∷ past → IsTrue (kind c) → Spaced verbose kind cs past last
+    → Spaced verbose kind (c ∷ cs) t last
 spaced_before verbose kind c cs t u past last whole here is_kind s =
     (past, subst (λ v. Gap verbose t v) here whole.0, is_kind, s)
 

@@ -1,5 +1,6 @@
 -- Characters of one kind that stand one after another, up to one of another kind.
-use Rattle.std.proofs.Common.{◌≡◌, refl, sym, ◌∙◌, ap, subst, ℕ, ◌+◌, ◌-◌, ◌<◌, ◌≤◌, length, take, drop, get_or, Bool, [], ◌∷◌, ◌++◌, IsTrue, arith, append_assoc}
+use Rattle.std.proofs.Common.{◌≡◌, refl, sym, ◌∙◌, ap, subst, ℕ, ◌+◌, ◌-◌, ◌<◌, ◌≤◌, length, take}
+use Rattle.std.proofs.Common.{drop, get_or, Bool, [], ◌∷◌, ◌++◌, IsTrue, arith, append_assoc}
 use Rattle.std.proofs.lemmas.Bool.{both_ways, and_from, and_parts}
 use Rattle.std.proofs.lemmas.List.{take_more, get_or-drop, length-drop}
 use Rattle.std.specs.List.{AllPass, list_all}
@@ -10,7 +11,8 @@ use Rattle.regex_lite_syntax.specs.Parser.ClassReadings.{Lacks}
 use Rattle.regex_lite_syntax.proofs.ListLemmas.{same_head, same_tail}
 
 -- a word that is as long as it can be is the only one
-longest_once : (kind : ℕ → Bool) (v w t r s : Text) → t ≡ v ++ r → t ≡ w ++ s → IsTrue (list_all kind v)
+longest_once : (kind : ℕ → Bool) (v w t r s : Text) → t ≡ v ++ r → t ≡ w ++ s
+    → IsTrue (list_all kind v)
     → IsTrue (list_all kind w) → Lacks kind r → Lacks kind s → (v ≡ w) × (r ≡ s)
 longest_once kind [] [] t r s a b p q lr ls = (refl, sym a ∙ b)
 longest_once kind [] (d ∷ w) t r s a b p q lr ls =
@@ -25,16 +27,20 @@ longest_once kind (c ∷ v) (d ∷ w) t r s a b p q lr ls =
     let heads = same_head same in
     (cc (heads, rest.0), rest.1)
 
-pub word_once : (kind : ℕ → Bool) (v w t r s : Text) → t ≡ v ++ r → t ≡ w ++ s → AllPass kind v → AllPass kind w
+pub word_once : (kind : ℕ → Bool) (v w t r s : Text) → t ≡ v ++ r → t ≡ w ++ s → AllPass kind v
+    → AllPass kind w
     → Lacks kind r → Lacks kind s → (v ≡ w) × (r ≡ s)
 word_once kind v w t r s a b p q lr ls =
-    longest_once kind v w t r s a b (list_all-from_AllPass kind v p) (list_all-from_AllPass kind w q) lr ls
+    longest_once kind v w t r s a b (list_all-from_AllPass kind v p)
+    (list_all-from_AllPass kind w q) lr ls
 
 -- one more character
-pub pass_push : (kind : ℕ → Bool) (w : Text) (c : ℕ) → AllPass kind w → IsTrue (kind c) → AllPass kind (w ++ c ∷ [])
+pub pass_push : (kind : ℕ → Bool) (w : Text) (c : ℕ) → AllPass kind w → IsTrue (kind c)
+    → AllPass kind (w ++ c ∷ [])
 pass_push kind w c p h =
     AllPass-from_list_all kind (w ++ c ∷ [])
-    (list_all-append kind w (c ∷ []) ∙ and_from _ _ (list_all-from_AllPass kind w p) (and_from _ _ h refl))
+    (list_all-append kind w (c ∷ [])
+    ∙ and_from _ _ (list_all-from_AllPass kind w p) (and_from _ _ h refl))
 
 pub spelled_push : (w t u v : Text) (c : ℕ) → t ≡ w ++ u → u ≡ c ∷ v → t ≡ (w ++ c ∷ []) ++ v
 spelled_push w t u v c s e = s ∙ ap (λ x. w ++ x) e ∙ sym (append_assoc w (c ∷ []) v)
@@ -46,4 +52,5 @@ take_push xs at end c l h e =
     let place : at + (end - at) ≡ end = omega arith in
     ap (λ n. take n (drop at xs)) longer
     ∙ take_more (drop at xs) (end - at) 0 (simp length-drop (omega arith))
-    ∙ ap (λ d. take (end - at) (drop at xs) ++ d ∷ []) (get_or-drop at xs (end - at) 0 ∙ ap (λ n. get_or xs n 0) place ∙ sym e)
+    ∙ ap (λ d. take (end - at) (drop at xs) ++ d ∷ [])
+    (get_or-drop at xs (end - at) 0 ∙ ap (λ n. get_or xs n 0) place ∙ sym e)

@@ -1,5 +1,6 @@
 -- How deep the trees of a list are, from some index on.
-use Rattle.std.proofs.Common.{◌≡◌, sym, ◌∙◌, ap, ℕ, ◌+◌, ◌<◌, ◌≤◌, max, List, ◌∷◌, map, drop, length, get_or}
+use Rattle.std.proofs.Common.{◌≡◌, sym, ◌∙◌, ap, ℕ, ◌+◌, ◌<◌, ◌≤◌, max}
+use Rattle.std.proofs.Common.{List, ◌∷◌, map, drop, length, get_or}
 use Rattle.std.proofs.lemmas.List.{drop_more, drop_all}
 use Rattle.regex_lite_syntax.specs.declared.hir.Hir.{Hir}
 use Rattle.regex_lite_syntax.specs.Tree.{trees}
@@ -9,7 +10,8 @@ use Rattle.regex_lite_syntax.specs.Tree.Views.{tree_of}
 unfoldable pub depth_from : List Hir → ℕ → ℕ
 depth_from parts i = depth_of_list (trees (map tree_of (drop i parts)))
 
-pub depth_more : (parts : List Hir) (i : ℕ) (part : Hir) → i < length parts → part ≡ get_or parts i part
+pub depth_more : (parts : List Hir) (i : ℕ) (part : Hir) → i < length parts
+    → part ≡ get_or parts i part
     → depth_from parts i ≡ max (depth (tree_of part)) (depth_from parts (i + 1))
 unfolding depth_from
 depth_more parts i part inside is =
@@ -18,4 +20,5 @@ depth_more parts i part inside is =
 
 pub depth_last : (parts : List Hir) (i : ℕ) → length parts ≤ i → depth_from parts i ≡ 0
 unfolding depth_from
-depth_last parts i over = ap (λ rest. depth_of_list (trees (map tree_of rest))) (drop_all i parts over)
+depth_last parts i over =
+    ap (λ rest. depth_of_list (trees (map tree_of rest))) (drop_all i parts over)

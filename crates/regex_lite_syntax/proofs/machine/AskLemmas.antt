@@ -1,16 +1,21 @@
 -- What the first character of a part asks for, and that no gap goes on with it.
-use Rattle.std.proofs.Common.{inl, inr, ◌⊎◌, ◌≡◌, ◌≢◌, refl, sym, ◌∙◌, ap, subst, ℕ, Bool, true, false, ◌∷◌, Option, Some, None, ◌==◌, arith}
-use Rattle.std.proofs.lemmas.Bool.{cases_Bool, cases_eq, ne_eqb, eqb-false, and_parts, or_parts, not-true}
+use Rattle.std.proofs.Common.{inl, inr, ◌⊎◌, ◌≡◌, ◌≢◌, refl, sym, ◌∙◌, ap, subst, ℕ}
+use Rattle.std.proofs.Common.{Bool, true, false, ◌∷◌, Option, Some, None, ◌==◌, arith}
+use Rattle.std.proofs.lemmas.Bool.{cases_Bool, cases_eq, ne_eqb, eqb-false}
+use Rattle.std.proofs.lemmas.Bool.{and_parts, or_parts, not-true}
 use Rattle.regex_lite_syntax.specs.declared.flags.Flags.{Flags}
 use Rattle.regex_lite_syntax.specs.Text.{Text, the}
 use Rattle.regex_lite_syntax.specs.Characters.{is_white_space}
 use Rattle.regex_lite_syntax.specs.Grammar.Gaps.{EndsGap}
 use Rattle.regex_lite_syntax.specs.Tree.{Tree}
-use Rattle.regex_lite_syntax.specs.Grammar.Operators.{times, Operator, uncounted, uncounted_lazy, counted, counted_lazy}
+use Rattle.regex_lite_syntax.specs.Grammar.Operators.{times, Operator, uncounted}
+use Rattle.regex_lite_syntax.specs.Grammar.Operators.{uncounted_lazy, counted, counted_lazy}
 use Rattle.regex_lite_syntax.specs.Grammar.Atoms.{is_literal, no_atom, atom_kind, Atom}
 use Rattle.regex_lite_syntax.specs.Grammar.Points.{Point}
-use Rattle.regex_lite_syntax.specs.Grammar.Heads.{GroupKind, Head, numbered, named, plain, Directive, sets}
-use Rattle.regex_lite_syntax.specs.Parser.Machine.{Kind, paren, closing, bar, operator, atom, kind_at}
+use Rattle.regex_lite_syntax.specs.Grammar.Heads.{GroupKind, Head, numbered}
+use Rattle.regex_lite_syntax.specs.Grammar.Heads.{named, plain, Directive, sets}
+use Rattle.regex_lite_syntax.specs.Parser.Machine.{Kind, paren, closing, bar}
+use Rattle.regex_lite_syntax.specs.Parser.Machine.{operator, atom, kind_at}
 use Rattle.regex_lite_syntax.proofs.grammar.GapLemmas.{ends_any, ends_before}
 use Rattle.regex_lite_syntax.proofs.grammar.AtomLemmas.{NoSign, no_atom_at, no_literal}
 
@@ -26,22 +31,27 @@ asks verbose c t rest k e ends kind =
     record { ends = ends_before verbose c rest t e ends; kind_is = ap kind_at e ∙ kind }
 
 pub asks_paren : (verbose : Bool) (t rest : Text) → t ≡ the "(" ∷ rest → Asks verbose t paren
-asks_paren verbose t rest e = asks verbose (the "(") t rest paren e (refl, λ h. omega (arith, h)) refl
+asks_paren verbose t rest e =
+    asks verbose (the "(") t rest paren e (refl, λ h. omega (arith, h)) refl
 
 pub asks_closing : (verbose : Bool) (t rest : Text) → t ≡ the ")" ∷ rest → Asks verbose t closing
-asks_closing verbose t rest e = asks verbose (the ")") t rest closing e (refl, λ h. omega (arith, h)) refl
+asks_closing verbose t rest e =
+    asks verbose (the ")") t rest closing e (refl, λ h. omega (arith, h)) refl
 
 pub asks_bar : (verbose : Bool) (t rest : Text) → t ≡ the "|" ∷ rest → Asks verbose t bar
 asks_bar verbose t rest e = asks verbose (the "|") t rest bar e (refl, λ h. omega (arith, h)) refl
 
 pub asks_brace : (verbose : Bool) (t rest : Text) → t ≡ the "{" ∷ rest → Asks verbose t operator
-asks_brace verbose t rest e = asks verbose (the "{") t rest operator e (refl, λ h. omega (arith, h)) refl
+asks_brace verbose t rest e =
+    asks verbose (the "{") t rest operator e (refl, λ h. omega (arith, h)) refl
 
 pub asks_head : {level : ℕ} {p q : Point} {kind : GroupKind} → Head level p q kind
     → Asks p.flags.ignore_whitespace p.rest paren
 asks_head {p} (numbered rest e none h k) = asks_paren p.flags.ignore_whitespace p.rest rest e
-asks_head {p} (named opened first rest name e g n h k) = asks_paren p.flags.ignore_whitespace p.rest opened e
-asks_head {p} (plain opened first rest new e g letters h k) = asks_paren p.flags.ignore_whitespace p.rest opened e
+asks_head {p} (named opened first rest name e g n h k) =
+    asks_paren p.flags.ignore_whitespace p.rest opened e
+asks_head {p} (plain opened first rest new e g letters h k) =
+    asks_paren p.flags.ignore_whitespace p.rest opened e
 
 pub asks_directive : {p q : Point} → Directive p q → Asks p.flags.ignore_whitespace p.rest paren
 asks_directive {p} (sets opened first rest new e g n letters h) =
@@ -49,10 +59,12 @@ asks_directive {p} (sets opened first rest new e g n letters h) =
 
 no_bounds : (c : ℕ) → (c ≢ the "?") → (c ≢ the "*") → (c ≢ the "+") → times c ≡ None
 no_bounds c no_question no_asterisk no_plus =
-    rw (ne_eqb c (the "?") no_question, ne_eqb c (the "*") no_asterisk, ne_eqb c (the "+") no_plus) refl
+    rw (ne_eqb c (the "?") no_question, ne_eqb c (the "*") no_asterisk, ne_eqb c (the "+") no_plus)
+    refl
 
 -- the characters that have times
-bounded : (c : ℕ) (b : ℕ × Option ℕ) → times c ≡ Some b → (c ≡ the "?") ⊎ ((c ≡ the "*") ⊎ (c ≡ the "+"))
+bounded : (c : ℕ) (b : ℕ × Option ℕ) → times c ≡ Some b
+    → (c ≡ the "?") ⊎ ((c ≡ the "*") ⊎ (c ≡ the "+"))
 bounded c b has = one_of (cases_eq c (the "?")) (cases_eq c (the "*")) (cases_eq c (the "+"))
   where
     one_of : (c ≡ the "?") ⊎ (c ≢ the "?") → (c ≡ the "*") ⊎ (c ≢ the "*")
@@ -63,11 +75,13 @@ bounded c b has = one_of (cases_eq c (the "?")) (cases_eq c (the "*")) (cases_eq
     one_of (inr no_question) (inr no_asterisk) (inr no_plus) =
         let none = no_bounds c no_question no_asterisk no_plus in absurd (cc (has, none))
 
-pub asks_bounded : (verbose : Bool) (c : ℕ) (b : ℕ × Option ℕ) (t rest : Text) → t ≡ c ∷ rest → times c ≡ Some b
+pub asks_bounded : (verbose : Bool) (c : ℕ) (b : ℕ × Option ℕ) (t rest : Text) → t ≡ c ∷ rest
+    → times c ≡ Some b
     → Asks verbose t operator
 asks_bounded verbose c b t rest e has = by_character (bounded c b has)
   where
-    at_character : (d : ℕ) → c ≡ d → EndsGap true (d ∷ rest) → kind_at (d ∷ rest) ≡ operator → Asks verbose t operator
+    at_character : (d : ℕ) → c ≡ d → EndsGap true (d ∷ rest) → kind_at (d ∷ rest) ≡ operator
+        → Asks verbose t operator
     at_character d h ends kind = asks verbose d t rest operator (e ∙ ap (λ x. x ∷ rest) h) ends kind
 
     by_character : (c ≡ the "?") ⊎ ((c ≡ the "*") ⊎ (c ≡ the "+")) → Asks verbose t operator
@@ -77,8 +91,10 @@ asks_bounded verbose c b t rest e has = by_character (bounded c b has)
 
 pub asks_operator : {flags : Flags} {t rest : Text} {least : ℕ} {most : Option ℕ} {greedy : Bool}
     → Operator flags t rest least most greedy → (verbose : Bool) → Asks verbose t operator
-asks_operator {t} {rest} {least} {most} (uncounted c e b n g) verbose = asks_bounded verbose c (least, most) t rest e b
-asks_operator {t} {rest} {least} {most} (uncounted_lazy c e b g) verbose = asks_bounded verbose c (least, most) t _ e b
+asks_operator {t} {rest} {least} {most} (uncounted c e b n g) verbose =
+    asks_bounded verbose c (least, most) t rest e b
+asks_operator {t} {rest} {least} {most} (uncounted_lazy c e b g) verbose =
+    asks_bounded verbose c (least, most) t _ e b
 asks_operator {t} (counted opened e k n g) verbose = asks_brace verbose t opened e
 asks_operator {t} (counted_lazy opened past e k q g) verbose = asks_brace verbose t opened e
 
@@ -100,12 +116,14 @@ atom_kind_is flags t rest a d =
     ap kind_at d.begins ∙ no_group (no (the "|") refl) (no (the "{") refl) none
   where
     no : (c : ℕ) → atom_kind flags c ≡ no_atom → d.first ≢ c
-    no c kind e = no_atom_at flags t rest a c d.past_first (d.begins ∙ ap (λ x. x ∷ d.past_first) e) kind d
+    no c kind e =
+        no_atom_at flags t rest a c d.past_first (d.begins ∙ ap (λ x. x ∷ d.past_first) e) kind d
 
     none : times d.first ≡ None
     none = no_bounds d.first (no (the "?") refl) (no (the "*") refl) (no (the "+") refl)
 
-literal_ends : (verbose : Bool) (c : ℕ) (t : Text) → is_literal verbose c ≡ true → EndsGap verbose (c ∷ t)
+literal_ends : (verbose : Bool) (c : ℕ) (t : Text) → is_literal verbose c ≡ true
+    → EndsGap verbose (c ∷ t)
 literal_ends false c t e = tt
 literal_ends true c t e =
     let both = and_parts _ _ e in
@@ -115,13 +133,15 @@ literal_ends true c t e =
 -- a sign ends a gap
 sign_or_none : (c : ℕ) (t : Text) → EndsGap true (c ∷ t) ⊎ NoSign c
 sign_or_none c t =
-    by_sign (cases_eq c (the ".")) (cases_eq c (the "^")) (cases_eq c (the "$")) (cases_eq c (the "\\"))
+    by_sign (cases_eq c (the ".")) (cases_eq c (the "^")) (cases_eq c (the "$"))
+    (cases_eq c (the "\\"))
     (cases_eq c (the "["))
   where
     sign : (d : ℕ) → EndsGap true (d ∷ t) → c ≡ d → EndsGap true (c ∷ t) ⊎ NoSign c
     sign d ends e = inl (ends_before true d t (c ∷ t) (ap (λ x. x ∷ t) e) ends)
 
-    by_sign : (c ≡ the ".") ⊎ (c ≢ the ".") → (c ≡ the "^") ⊎ (c ≢ the "^") → (c ≡ the "$") ⊎ (c ≢ the "$")
+    by_sign : (c ≡ the ".") ⊎ (c ≢ the ".") → (c ≡ the "^") ⊎ (c ≢ the "^")
+        → (c ≡ the "$") ⊎ (c ≢ the "$")
         → (c ≡ the "\\") ⊎ (c ≢ the "\\") → (c ≡ the "[") ⊎ (c ≢ the "[")
         → EndsGap true (c ∷ t) ⊎ NoSign c
     by_sign (inl e) _ _ _ _ = sign (the ".") (refl, λ h. omega (arith, h)) e
@@ -138,7 +158,8 @@ sign_or_none c t =
           no_bracket = bracket;
         })
 
-atom_ends : (flags : Flags) (t rest : Text) (a : Tree) → Atom flags t rest a → EndsGap flags.ignore_whitespace t
+atom_ends : (flags : Flags) (t rest : Text) (a : Tree) → Atom flags t rest a
+    → EndsGap flags.ignore_whitespace t
 atom_ends flags t rest a d =
     let first = first_ends (cases_Bool literal) (sign_or_none d.first d.past_first) in
     subst (λ u. EndsGap flags.ignore_whitespace u) (sym d.begins) first
@@ -146,13 +167,16 @@ atom_ends flags t rest a d =
     literal : Bool
     literal = is_literal flags.ignore_whitespace d.first
 
-    first_ends : (literal ≡ true) ⊎ (literal ≡ false) → EndsGap true (d.first ∷ d.past_first) ⊎ NoSign d.first
+    first_ends : (literal ≡ true) ⊎ (literal ≡ false)
+        → EndsGap true (d.first ∷ d.past_first) ⊎ NoSign d.first
         → EndsGap flags.ignore_whitespace (d.first ∷ d.past_first)
     first_ends (inl stands) _ = literal_ends flags.ignore_whitespace d.first d.past_first stands
-    first_ends (inr other) (inl ends) = ends_any flags.ignore_whitespace (d.first ∷ d.past_first) ends
+    first_ends (inr other) (inl ends) =
+        ends_any flags.ignore_whitespace (d.first ∷ d.past_first) ends
     first_ends (inr other) (inr none) =
         absurd (no_literal flags t rest a d.first d.past_first d.begins none other d)
 
-pub asks_atom : (flags : Flags) (t rest : Text) (a : Tree) → Atom flags t rest a → Asks flags.ignore_whitespace t atom
+pub asks_atom : (flags : Flags) (t rest : Text) (a : Tree) → Atom flags t rest a
+    → Asks flags.ignore_whitespace t atom
 asks_atom flags t rest a d =
     record { ends = atom_ends flags t rest a d; kind_is = atom_kind_is flags t rest a d }

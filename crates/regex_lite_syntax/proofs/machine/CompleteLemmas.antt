@@ -1,5 +1,6 @@
 -- What the grammar derives, the machine runs.
-use Rattle.std.proofs.Common.{◌≡◌, refl, sym, ◌∙◌, ap, subst, ℕ, ◌+◌, Bool, length, List, [], ◌∷◌, ◌++◌, Option, add-one}
+use Rattle.std.proofs.Common.{◌≡◌, refl, sym, ◌∙◌, ap, subst, ℕ, ◌+◌, Bool}
+use Rattle.std.proofs.Common.{length, List, [], ◌∷◌, ◌++◌, Option, add-one}
 use Rattle.regex_lite_syntax.specs.declared.flags.Flags.{Flags}
 use Rattle.regex_lite_syntax.specs.Text.{Text, the}
 use Rattle.regex_lite_syntax.specs.Grammar.Gaps.{Gap}
@@ -9,15 +10,19 @@ use Rattle.regex_lite_syntax.specs.Grammar.Atoms.{Atom}
 use Rattle.regex_lite_syntax.specs.Grammar.GroupNames.{NamesDiffer}
 use Rattle.regex_lite_syntax.specs.Grammar.Points.{Point, onward, PastGap}
 use Rattle.regex_lite_syntax.specs.Grammar.Heads.{GroupKind, group_tree, outside, Head, Directive}
-use Rattle.regex_lite_syntax.specs.Grammar.{Item, atom, group, Branch, nothing, item, directive, Alternatives, only, further, Grammar}
+use Rattle.regex_lite_syntax.specs.Grammar.{Item, atom, group, Branch, nothing, item}
+use Rattle.regex_lite_syntax.specs.Grammar.{directive, Alternatives, only, further, Grammar}
 use Rattle.regex_lite_syntax.specs.Grammar.Branch.{operator}
-use Rattle.regex_lite_syntax.specs.Parser.Machine.{Frame, State, first_state, ended, opened, closed, parted, with_items, LeadsOn, stay, go}
+use Rattle.regex_lite_syntax.specs.Parser.Machine.{Frame, State, first_state, ended, opened}
+use Rattle.regex_lite_syntax.specs.Parser.Machine.{closed, parted, with_items, LeadsOn, stay, go}
 use Rattle.regex_lite_syntax.proofs.machine.OneStepLemmas.{leads_to, leads_as}
-use Rattle.regex_lite_syntax.proofs.machine.StepLemmas.{step_open, step_direct, step_close, step_part, step_operate, step_atom}
+use Rattle.regex_lite_syntax.proofs.machine.StepLemmas.{step_open, step_direct, step_close}
+use Rattle.regex_lite_syntax.proofs.machine.StepLemmas.{step_part, step_operate, step_atom}
 
 -- the state with these parts
 abbrev pub standing : Point → List Frame → (branches items : List Tree) → State
-standing p frames branches items = record { point = p; frames = frames; branches = branches; items = items }
+standing p frames branches items =
+    record { point = p; frames = frames; branches = branches; items = items }
 
 -- the last branch is under way, and those before it are ended
 pub record Underway (p q : Point) (frames : List Frame) (branches : List Tree) : Type 0 where
@@ -26,7 +31,8 @@ pub record Underway (p q : Point) (frames : List Frame) (branches : List Tree) :
   pub leads : LeadsOn (standing p frames [] []) (standing q frames before items)
   pub branches_are : branches ≡ before ++ sequence_of items ∷ []
 
-over_atom : (p here q : Point) (a : Tree) (frames : List Frame) (branches items : List Tree) → PastGap p here
+over_atom : (p here q : Point) (a : Tree) (frames : List Frame) (branches items : List Tree)
+    → PastGap p here
     → Atom here.flags here.rest q.rest a → q ≡ onward here q.rest
     → LeadsOn (standing p frames branches items) (standing q frames branches (items ++ a ∷ []))
 unfolding with_items
@@ -34,8 +40,10 @@ over_atom p here q a frames branches items past d e =
     let st = step_atom (standing p frames branches items) here q.rest a past d in
     go _ st (stay (cc e))
 
-over_operator : (p here q : Point) (least : ℕ) (most : Option ℕ) (greedy : Bool) (frames : List Frame)
-    (branches before : List Tree) (a : Tree) → PastGap p here → Operator here.flags here.rest q.rest least most greedy
+over_operator : (p here q : Point) (least : ℕ) (most : Option ℕ) (greedy : Bool)
+    (frames : List Frame)
+    (branches before : List Tree) (a : Tree) → PastGap p here
+    → Operator here.flags here.rest q.rest least most greedy
     → q ≡ onward here q.rest
     → LeadsOn (standing p frames branches (before ++ a ∷ []))
     (standing q frames branches (before ++ repeated least most greedy a ∷ []))
@@ -45,13 +53,16 @@ over_operator p here q least most greedy frames branches before a past o e =
     let st = step_operate s here q.rest before a least most greedy past refl o in
     go _ st (stay (cc e))
 
-over_directive : (p here q : Point) (frames : List Frame) (branches items : List Tree) → PastGap p here
-    → Directive here q → LeadsOn (standing p frames branches items) (standing q frames branches items)
+over_directive : (p here q : Point) (frames : List Frame) (branches items : List Tree)
+    → PastGap p here
+    → Directive here q
+    → LeadsOn (standing p frames branches items) (standing q frames branches items)
 unfolding with_items
 over_directive p here q frames branches items past d =
     go _ (step_direct (standing p frames branches items) here q past d) (stay refl)
 
-over_bar : (p here : Point) (rest : Text) (frames : List Frame) (branches items : List Tree) → PastGap p here
+over_bar : (p here : Point) (rest : Text) (frames : List Frame) (branches items : List Tree)
+    → PastGap p here
     → here.rest ≡ the "|" ∷ rest
     → LeadsOn (standing p frames branches items)
     (standing (onward here rest) frames (branches ++ sequence_of items ∷ []) [])
@@ -64,36 +75,45 @@ abbrev frame_at : Point → GroupKind → (branches items : List Tree) → Frame
 frame_at here kind branches items =
     record { flags = here.flags; kind = kind; branches = branches; items = items }
 
-into_group : (level : ℕ) (p here first : Point) (kind : GroupKind) (frames : List Frame) (branches items : List Tree)
+into_group : (level : ℕ) (p here first : Point) (kind : GroupKind) (frames : List Frame)
+    (branches items : List Tree)
     → level ≡ length frames → PastGap p here → Head level here first kind
-    → LeadsOn (standing p frames branches items) (standing first (frame_at here kind branches items ∷ frames) [] [])
+    → LeadsOn (standing p frames branches items)
+    (standing first (frame_at here kind branches items ∷ frames) [] [])
 unfolding opened
 into_group level p here first kind frames branches items depth past head =
     let at_depth = subst (λ n. Head n here first kind) depth head in
     go _ (step_open (standing p frames branches items) here first kind past at_depth) (stay refl)
 
-out_of_group : (p end : Point) (rest : Text) (f : Frame) (frames : List Frame) (branches items : List Tree)
+out_of_group : (p end : Point) (rest : Text) (f : Frame) (frames : List Frame)
+    (branches items : List Tree)
     → PastGap p end → end.rest ≡ the ")" ∷ rest
     → LeadsOn (standing p (f ∷ frames) branches items)
     (standing (record end { rest = rest; flags = f.flags }) frames f.branches
     (f.items ++ group_tree f.kind (choice_of (branches ++ sequence_of items ∷ [])) ∷ []))
 unfolding closed
 out_of_group p end rest f frames branches items past e =
-    go _ (step_close (standing p (f ∷ frames) branches items) end f frames rest past e refl) (stay refl)
+    go _ (step_close (standing p (f ∷ frames) branches items) end f frames rest past e refl)
+    (stay refl)
 
 -- a group as a whole, where its alternatives lead from its head to its end
-over_group : (level : ℕ) (p here first last end : Point) (kind : GroupKind) (rest : Text) (frames : List Frame)
-    (branches items inner : List Tree) → level ≡ length frames → PastGap p here → Head level here first kind
+over_group : (level : ℕ) (p here first last end : Point) (kind : GroupKind) (rest : Text)
+    (frames : List Frame)
+    (branches items inner : List Tree) → level ≡ length frames → PastGap p here
+    → Head level here first kind
     → Underway first last (frame_at here kind branches items ∷ frames) inner → PastGap last end
     → end.rest ≡ the ")" ∷ rest
     → LeadsOn (standing p frames branches items)
-    (standing (outside here end rest) frames branches (items ++ group_tree kind (choice_of inner) ∷ []))
-over_group level p here first last end kind rest frames branches items inner depth past head u past_last e =
+    (standing (outside here end rest) frames branches
+    (items ++ group_tree kind (choice_of inner) ∷ []))
+over_group level p here first last end kind rest frames branches items inner depth past head u
+    past_last e =
     let f = frame_at here kind branches items in
     let into = into_group level p here first kind frames branches items depth past head in
     let out = out_of_group last end rest f frames u.before u.items past_last e in
     let trees = ap (λ x. items ++ group_tree kind (choice_of x) ∷ []) (sym u.branches_are) in
-    leads_as (leads_to into (leads_to u.leads out)) (ap (standing (outside here end rest) frames branches) trees)
+    leads_as (leads_to into (leads_to u.leads out))
+    (ap (standing (outside here end rest) frames branches) trees)
 
 -- the next branch is under way
 next_branch : (p last here q : Point) (rest : Text) (frames : List Frame) (before items : List Tree)
@@ -106,43 +126,57 @@ next_branch p last here q rest frames before items u past e l =
     leads_to (leads_as (leads_to u.leads bar) begun) l
 
 mutual
-  item_leads : {level : ℕ} {here q : Point} {a : Tree} → Item level here q a → (p : Point) (frames : List Frame)
+  item_leads : {level : ℕ} {here q : Point} {a : Tree} → Item level here q a
+      → (p : Point) (frames : List Frame)
       (branches items : List Tree) → level ≡ length frames → PastGap p here
       → LeadsOn (standing p frames branches items) (standing q frames branches (items ++ a ∷ []))
   item_leads {here} {q} {a} (atom d e) p frames branches items depth past =
       over_atom p here q a frames branches items past d e
-  item_leads {level} {here} (group first last end kind inner rest head d past_last c e a_is) p frames branches items
+  item_leads {level} {here}
+      (group first last end kind inner rest head d past_last c e a_is) p frames branches items
       depth past =
       let f = frame_at here kind branches items in
       let u = alternatives_lead d (f ∷ frames) (ap (λ n. n + 1) depth ∙ add-one (length frames)) in
       let over =
-      over_group level p here first last end kind rest frames branches items inner depth past head u past_last c in
+      over_group level p here first last end kind rest frames branches items inner depth past head u
+      past_last c in
       leads_as over (cc (e, a_is))
 
-  branch_leads : {level : ℕ} {p q : Point} {items : List Tree} → Branch level p q items → (frames : List Frame)
+  branch_leads : {level : ℕ} {p q : Point} {items : List Tree} → Branch level p q items
+      → (frames : List Frame)
       (branches : List Tree) → level ≡ length frames
       → LeadsOn (standing p frames branches []) (standing q frames branches items)
   branch_leads (nothing e items_are) frames branches depth = stay (cc (e, items_are))
   branch_leads (item last here before a d past i items_are) frames branches depth =
       let one_more = item_leads i last frames branches before depth past in
       leads_as (leads_to (branch_leads d frames branches depth) one_more) (cc items_are)
-  branch_leads {q} (operator last here before a least most greedy d past o e items_are) frames branches depth =
+  branch_leads {q} (operator last here before a least most greedy d past o e items_are) frames
+      branches depth =
       let over = over_operator last here q least most greedy frames branches before a past o e in
       leads_as (leads_to (branch_leads d frames branches depth) over) (cc items_are)
   branch_leads {q} {items} (directive last here d past s) frames branches depth =
       let over = over_directive last here q frames branches items past s in
       leads_to (branch_leads d frames branches depth) over
 
-  alternatives_lead : {level : ℕ} {p q : Point} {branches : List Tree} → Alternatives level p q branches
+  alternatives_lead : {level : ℕ} {p q : Point} {branches : List Tree}
+      → Alternatives level p q branches
       → (frames : List Frame) → level ≡ length frames → Underway p q frames branches
   alternatives_lead (only items d branches_are) frames depth =
-      record { before = []; items = items; leads = branch_leads d frames [] depth; branches_are = branches_are }
-  alternatives_lead {p} {q} (further last here before items rest d past e b branches_are) frames depth =
+      record {
+        before = [];
+        items = items;
+        leads = branch_leads d frames [] depth;
+        branches_are = branches_are;
+      }
+  alternatives_lead {p} {q} (further last here before items rest d past e b branches_are)
+      frames depth =
       let u = alternatives_lead d frames depth in
       record {
         before = before;
         items = items;
-        leads = next_branch p last here q rest frames before items u past e (branch_leads b frames before depth);
+        leads =
+            next_branch p last here q rest frames before items u past e
+            (branch_leads b frames before depth);
         branches_are = branches_are;
       }
 

@@ -1,10 +1,15 @@
 -- How deep groups stand in one another along a run.
-use Rattle.std.proofs.Common.{inl, inr, ◌≡◌, sym, ap, subst, ℕ, ◌+◌, ◌≤◌, max, length, ◌∷◌, add-one, arith}
+use Rattle.std.proofs.Common.{inl, inr, ◌≡◌, sym, ap, subst, ℕ, ◌+◌}
+use Rattle.std.proofs.Common.{◌≤◌, max, length, ◌∷◌, add-one, arith}
 use Rattle.regex_lite_syntax.specs.declared.flags.Flags.{Flags}
 use Rattle.regex_lite_syntax.specs.Text.{Text, the}
 use Rattle.regex_lite_syntax.specs.Grammar.Points.{Point, PastGap}
-use Rattle.regex_lite_syntax.specs.Grammar.Heads.{GroupKind, Head, numbered, named, plain, Directive, sets}
-use Rattle.regex_lite_syntax.specs.Parser.Machine.{State, first_state, opened, closed, parted, with_items, Kind, stop, paren, closing, bar, operator, atom, kind_at, Does, Step, LeadsOn, stay, go}
+use Rattle.regex_lite_syntax.specs.Grammar.Heads.{GroupKind, Head, numbered}
+use Rattle.regex_lite_syntax.specs.Grammar.Heads.{named, plain, Directive, sets}
+use Rattle.regex_lite_syntax.specs.Parser.Machine.{State, first_state, opened, closed}
+use Rattle.regex_lite_syntax.specs.Parser.Machine.{parted, with_items, Kind, stop, paren}
+use Rattle.regex_lite_syntax.specs.Parser.Machine.{closing, bar, operator, atom, kind_at}
+use Rattle.regex_lite_syntax.specs.Parser.Machine.{Does, Step, LeadsOn, stay, go}
 
 -- a head begins with a `(`
 pub head_opens : {level : ℕ} {p q : Point} {kind : GroupKind} → Head level p q kind
@@ -14,7 +19,8 @@ head_opens (named o f r name e g n h k) = (o, e)
 head_opens (plain o f r new e g letters h k) = (o, e)
 
 -- past it one group more stands in the others
-head_deepest : {level : ℕ} {p q : Point} {kind : GroupKind} → Head level p q kind → q.deepest ≡ max p.deepest (level + 1)
+head_deepest : {level : ℕ} {p q : Point} {kind : GroupKind} → Head level p q kind
+    → q.deepest ≡ max p.deepest (level + 1)
 head_deepest (numbered r e none h k) = ap (λ (x : Point). x.deepest) h
 head_deepest (named o f r name e g n h k) = ap (λ (x : Point). x.deepest) h
 head_deepest (plain o f r new e g letters h k) = ap (λ (x : Point). x.deepest) h
@@ -36,26 +42,37 @@ does_deepen stop s p q d = absurd d
 does_deepen paren s p q (inl d) =
     let deepest = head_deepest d.2 in
     let one_more = add-one (length s.frames) in
-    deepens_as d.3 (record { within = omega (arith, deepest, one_more); keeps = λ h. omega (arith, deepest, one_more, h) })
+    deepens_as d.3
+    (record {
+      within = omega (arith, deepest, one_more);
+      keeps = λ h. omega (arith, deepest, one_more, h);
+    })
 does_deepen paren s p q (inr d) =
     let deepest = directive_deepest d.1 in
-    deepens_as d.2 (record { within = omega (arith, deepest); keeps = λ h. omega (arith, deepest, h) })
+    deepens_as d.2
+    (record { within = omega (arith, deepest); keeps = λ h. omega (arith, deepest, h) })
 does_deepen closing s p q d =
     let fewer = ap length d.4 in
     deepens_as d.5 (record { within = omega arith; keeps = λ h. omega (arith, fewer, h) })
-does_deepen bar s p q d = deepens_as d.2 (record { within = omega arith; keeps = λ h. omega (arith, h) })
-does_deepen operator s p q d = deepens_as d.8 (record { within = omega arith; keeps = λ h. omega (arith, h) })
-does_deepen atom s p q d = deepens_as d.3 (record { within = omega arith; keeps = λ h. omega (arith, h) })
+does_deepen bar s p q d =
+    deepens_as d.2 (record { within = omega arith; keeps = λ h. omega (arith, h) })
+does_deepen operator s p q d =
+    deepens_as d.8 (record { within = omega arith; keeps = λ h. omega (arith, h) })
+does_deepen atom s p q d =
+    deepens_as d.3 (record { within = omega arith; keeps = λ h. omega (arith, h) })
 
 same_deepest : (p q : Point) → PastGap p q → q.deepest ≡ p.deepest
 same_deepest p q past = ap (λ (x : Point). x.deepest) past.1
 
 -- groups come to stand in one another no deeper than so many are open
-pub step_deepest : {s q : State} → Step s q → q.point.deepest ≤ max s.point.deepest (length q.frames)
+pub step_deepest : {s q : State} → Step s q
+    → q.point.deepest ≤ max s.point.deepest (length q.frames)
 step_deepest {s} {q} st =
-    let d = does_deepen (kind_at st.past.rest) s st.past q st.does in omega (arith, d.within, same_deepest s.point st.past st.gap)
+    let d = does_deepen (kind_at st.past.rest) s st.past q st.does in
+    omega (arith, d.within, same_deepest s.point st.past st.gap)
 
-deep_on : {s q : State} → length s.frames ≤ s.point.deepest → LeadsOn s q → length q.frames ≤ q.point.deepest
+deep_on : {s q : State} → length s.frames ≤ s.point.deepest → LeadsOn s q
+    → length q.frames ≤ q.point.deepest
 deep_on {s} h (stay e) = subst (λ (x : State). length x.frames ≤ x.point.deepest) e h
 deep_on {s} h (go m st l) =
     let d = does_deepen (kind_at st.past.rest) s st.past m st.does in
@@ -63,6 +80,7 @@ deep_on {s} h (go m st l) =
     deep_on (d.keeps (omega (arith, gap, h))) l
 
 -- and as deep as that they have stood
-pub frames_deep : {flags : Flags} {pattern : Text} {s : State} → LeadsOn (first_state flags pattern) s
+pub frames_deep : {flags : Flags} {pattern : Text} {s : State}
+    → LeadsOn (first_state flags pattern) s
     → length s.frames ≤ s.point.deepest
 frames_deep l = deep_on (omega arith) l

@@ -1,19 +1,26 @@
 -- What is counted along a run: groups, their depth and names only grow, and each group takes a `(`.
-use Rattle.std.proofs.Common.{inl, inr, ◌≡◌, refl, sym, ◌∙◌, ap, subst, ℕ, ◌+◌, ◌≤◌, length, List, [], ◌∷◌, ◌++◌, Option, append_assoc, add-one, arith}
+use Rattle.std.proofs.Common.{inl, inr, ◌≡◌, refl, sym, ◌∙◌, ap, subst, ℕ, ◌+◌, ◌≤◌, length}
+use Rattle.std.proofs.Common.{List, [], ◌∷◌, ◌++◌, Option, append_assoc, add-one, arith}
 use Rattle.std.proofs.lemmas.List.{append-nil}
 use Rattle.regex_lite_syntax.specs.declared.flags.Flags.{Flags}
 use Rattle.regex_lite_syntax.specs.Text.{Text, the}
 use Rattle.regex_lite_syntax.specs.Tree.{Tree}
 use Rattle.regex_lite_syntax.specs.Grammar.GroupNames.{NamesDiffer}
 use Rattle.regex_lite_syntax.specs.Grammar.Points.{Point, PastGap}
-use Rattle.regex_lite_syntax.specs.Grammar.Heads.{GroupKind, capturing, non_capturing, Head, numbered, named, plain, Directive, sets}
+use Rattle.regex_lite_syntax.specs.Grammar.Heads.{GroupKind, capturing, non_capturing, Head}
+use Rattle.regex_lite_syntax.specs.Grammar.Heads.{numbered, named, plain, Directive, sets}
 use Rattle.regex_lite_syntax.specs.Grammar.{Grammar}
-use Rattle.regex_lite_syntax.specs.Parser.Machine.{State, first_state, opened, closed, parted, with_items, Kind, stop, paren, closing, bar, operator, atom, kind_at, Does, LeadsOn, stay, go}
+use Rattle.regex_lite_syntax.specs.Parser.Machine.{State, first_state, opened, closed, parted}
+use Rattle.regex_lite_syntax.specs.Parser.Machine.{with_items, Kind, stop, paren, closing, bar}
+use Rattle.regex_lite_syntax.specs.Parser.Machine.{operator, atom, kind_at, Does, LeadsOn, stay, go}
 use Rattle.regex_lite_syntax.proofs.machine.OneStepLemmas.{meets, at_end, leads_step}
 use Rattle.regex_lite_syntax.proofs.machine.CompleteLemmas.{complete}
 use Rattle.regex_lite_syntax.proofs.machine.StepLemmas.{step_open}
 use Rattle.regex_lite_syntax.proofs.grammar.NameLemmas.{differ_before}
-use Rattle.regex_lite_syntax.proofs.machine.ParenLemmas.{parens, one_paren, NoMore, nothing_read, then_read, past_first, one_read, gap_reads, gap_and_one, operator_reads, atom_reads, letters_read, named_reads}
+use Rattle.regex_lite_syntax.proofs.machine.ParenLemmas.{parens, one_paren, NoMore, nothing_read}
+use Rattle.regex_lite_syntax.proofs.machine.ParenLemmas.{then_read, past_first, one_read}
+use Rattle.regex_lite_syntax.proofs.machine.ParenLemmas.{gap_reads, gap_and_one, operator_reads}
+use Rattle.regex_lite_syntax.proofs.machine.ParenLemmas.{atom_reads, letters_read, named_reads}
 
 -- at the second point as much has been counted as at the first, or more
 pub record Grows (p q : Point) : Type 0 where
@@ -22,7 +29,8 @@ pub record Grows (p q : Point) : Type 0 where
   pub more : List Text
   pub names_grow : q.names ≡ p.names ++ more
 
-same_counts : {p q : Point} → q.deepest ≡ p.deepest → q.groups ≡ p.groups → q.names ≡ p.names → Grows p q
+same_counts : {p q : Point} → q.deepest ≡ p.deepest → q.groups ≡ p.groups → q.names ≡ p.names
+    → Grows p q
 same_counts {p} {q} deepest groups names = record {
   deepest_grows = omega (arith, deepest);
   groups_grow = omega (arith, groups);
@@ -35,7 +43,8 @@ grows_on {p} a b = record {
   deepest_grows = omega (arith, a.deepest_grows, b.deepest_grows);
   groups_grow = omega (arith, a.groups_grow, b.groups_grow);
   more = a.more ++ b.more;
-  names_grow = b.names_grow ∙ ap (λ xs. xs ++ b.more) a.names_grow ∙ append_assoc p.names a.more b.more;
+  names_grow =
+      b.names_grow ∙ ap (λ xs. xs ++ b.more) a.names_grow ∙ append_assoc p.names a.more b.more;
 }
 
 gap_grows : {p q : Point} → PastGap p q → Grows p q
@@ -67,22 +76,30 @@ head_grows {p} (plain o f r new e g letters h k) =
     })
 
 directive_grows : {p q : Point} → Directive p q → Grows p q
-directive_grows {p} (sets o f r new e g n letters h) = subst (λ x. Grows p x) (sym h) (same_counts refl refl refl)
+directive_grows {p} (sets o f r new e g n letters h) =
+    subst (λ x. Grows p x) (sym h) (same_counts refl refl refl)
 
 does_grows : (k : Kind) (s : State) (p : Point) (q : State) → Does k s p q → Grows p q.point
 unfolding opened closed parted with_items
 does_grows stop s p q d = absurd d
 does_grows paren s p q (inl d) = subst (λ (x : State). Grows p x.point) (sym d.3) (head_grows d.2)
-does_grows paren s p q (inr d) = subst (λ (x : State). Grows p x.point) (sym d.2) (directive_grows d.1)
-does_grows closing s p q d = subst (λ (x : State). Grows p x.point) (sym d.5) (same_counts refl refl refl)
-does_grows bar s p q d = subst (λ (x : State). Grows p x.point) (sym d.2) (same_counts refl refl refl)
-does_grows operator s p q d = subst (λ (x : State). Grows p x.point) (sym d.8) (same_counts refl refl refl)
-does_grows atom s p q d = subst (λ (x : State). Grows p x.point) (sym d.3) (same_counts refl refl refl)
+does_grows paren s p q (inr d) =
+    subst (λ (x : State). Grows p x.point) (sym d.2) (directive_grows d.1)
+does_grows closing s p q d =
+    subst (λ (x : State). Grows p x.point) (sym d.5) (same_counts refl refl refl)
+does_grows bar s p q d =
+    subst (λ (x : State). Grows p x.point) (sym d.2) (same_counts refl refl refl)
+does_grows operator s p q d =
+    subst (λ (x : State). Grows p x.point) (sym d.8) (same_counts refl refl refl)
+does_grows atom s p q d =
+    subst (λ (x : State). Grows p x.point) (sym d.3) (same_counts refl refl refl)
 
 pub leads_grow : {s q : State} → LeadsOn s q → Grows s.point q.point
-leads_grow {s} (stay e) = subst (λ (x : State). Grows s.point x.point) e (same_counts refl refl refl)
+leads_grow {s} (stay e) =
+    subst (λ (x : State). Grows s.point x.point) e (same_counts refl refl refl)
 leads_grow {s} (go m st l) =
-    let step = grows_on (gap_grows st.gap) (does_grows (kind_at st.past.rest) s st.past m st.does) in
+    let step =
+    grows_on (gap_grows st.gap) (does_grows (kind_at st.past.rest) s st.past m st.does) in
     grows_on step (leads_grow l)
 
 -- so many groups and so deep a pattern has at least that has been read up to this point
@@ -93,7 +110,8 @@ pub record Reaches (p : Point) (groups deepest : ℕ) : Type 0 where
 
 -- each pattern that has a tree, where a run leads to the state: the tree's own run passes it too
 pub reaches : {flags : Flags} {pattern : Text} {tree : Tree} {groups deepest : ℕ} {s : State}
-    → LeadsOn (first_state flags pattern) s → Grammar flags pattern tree groups deepest → Reaches s.point groups deepest
+    → LeadsOn (first_state flags pattern) s → Grammar flags pattern tree groups deepest
+    → Reaches s.point groups deepest
 reaches {flags} {pattern} {tree} {groups} {deepest} {s} l g =
     let u = complete flags pattern tree groups deepest g in
     let grown = leads_grow (meets l u.leads (λ q st. at_end u.last q u.ends st)) in
@@ -110,19 +128,23 @@ IsNumbered (capturing index name) = Unit {0}
 
 head_numbers : {level : ℕ} {p q : Point} {kind : GroupKind} → Head level p q kind → IsNumbered kind
     → p.groups + 1 ≤ q.groups
-head_numbers {p} (numbered r e none h k) is = subst (λ (x : Point). p.groups + 1 ≤ x.groups) (sym h) (omega arith)
+head_numbers {p} (numbered r e none h k) is =
+    subst (λ (x : Point). p.groups + 1 ≤ x.groups) (sym h) (omega arith)
 head_numbers {p} (named o f r name e g n h k) is =
     subst (λ (x : Point). p.groups + 1 ≤ x.groups) (sym h) (omega arith)
 head_numbers (plain o f r new e g letters h k) is = absurd (subst (λ x. IsNumbered x) k is)
 
 -- where a numbered group opens, a pattern that has a tree has as many of them
-pub opens_number : {flags : Flags} {pattern : Text} {tree : Tree} {groups deepest index : ℕ} {name : Option Text}
+pub opens_number : {flags : Flags} {pattern : Text} {tree : Tree} {groups deepest index : ℕ}
+    {name : Option Text}
     (s : State) (here first : Point) → LeadsOn (first_state flags pattern) s → PastGap s.point here
-    → Head (length s.frames) here first (capturing index name) → Grammar flags pattern tree groups deepest
+    → Head (length s.frames) here first (capturing index name)
+    → Grammar flags pattern tree groups deepest
     → s.point.groups + 1 ≤ groups
 unfolding opened
 opens_number {index} {name} s here first l past head g =
-    let reached = reaches (leads_step l (step_open s here first (capturing index name) past head)) g in
+    let reached =
+    reaches (leads_step l (step_open s here first (capturing index name) past head)) g in
     let before = gap_grows past in
     omega (arith, before.groups_grow, head_numbers head tt, reached.groups_reach)
 
@@ -144,11 +166,13 @@ head_takes {p} (numbered r e none h k) =
     (record { opened = r; opens = e; reads = nothing_read refl; numbers = omega arith })
 head_takes {p} (named o f r name e g n h k) =
     let reads = then_read (gap_reads p.flags.ignore_whitespace o f g) (named_reads n) in
-    subst (λ x. TakesParen p x) (sym h) (record { opened = o; opens = e; reads = reads; numbers = omega arith })
+    subst (λ x. TakesParen p x) (sym h)
+    (record { opened = o; opens = e; reads = reads; numbers = omega arith })
 head_takes {p} (plain o f r new e g letters h k) =
     let question = gap_and_one p.flags.ignore_whitespace o f (the "?") g in
     let reads = then_read question (then_read (letters_read letters) (past_first (the ":") r)) in
-    subst (λ x. TakesParen p x) (sym h) (record { opened = o; opens = e; reads = reads; numbers = omega arith })
+    subst (λ x. TakesParen p x) (sym h)
+    (record { opened = o; opens = e; reads = reads; numbers = omega arith })
 
 pub directive_reads : {p q : Point} → Directive p q → NoMore p.rest q.rest
 directive_reads {p} (sets o f r new e g n letters h) =
@@ -185,13 +209,16 @@ spends_one {s} {q} {p} past head one_more =
       groups_spend = omega (arith, before.within, head.reads.within, taken, groups, head.numbers);
     }
 
-does_spend : (k : Kind) (s : State) (p : Point) (q : State) → PastGap s.point p → Does k s p q → Spends s q
+does_spend : (k : Kind) (s : State) (p : Point) (q : State) → PastGap s.point p → Does k s p q
+    → Spends s q
 unfolding opened closed parted with_items
 does_spend stop s p q past d = absurd d
 does_spend paren s p q past (inl d) =
-    subst (λ x. Spends s x) (sym d.3) (spends_one past (head_takes d.2) (sym (add-one (length s.frames))))
+    subst (λ x. Spends s x) (sym d.3)
+    (spends_one past (head_takes d.2) (sym (add-one (length s.frames))))
 does_spend paren s p q past (inr d) =
-    subst (λ x. Spends s x) (sym d.2) (spends_none past (directive_reads d.1) (omega arith) (directive_numbers d.1))
+    subst (λ x. Spends s x) (sym d.2)
+    (spends_none past (directive_reads d.1) (omega arith) (directive_numbers d.1))
 does_spend closing s p q past d =
     let fewer = ap length d.4 in
     subst (λ x. Spends s x) (sym d.5) (spends_none past (one_read d.3) (omega (arith, fewer)) refl)
@@ -215,12 +242,14 @@ leads_spend {s} (go m st l) =
     }
 
 -- of the `(` of a pattern each open group has taken one
-pub frames_in_parens : {flags : Flags} {pattern : Text} {s : State} → LeadsOn (first_state flags pattern) s
+pub frames_in_parens : {flags : Flags} {pattern : Text} {s : State}
+    → LeadsOn (first_state flags pattern) s
     → length s.frames + parens s.point.rest ≤ parens pattern
 frames_in_parens l = let spent = leads_spend l in omega (arith, spent.frames_spend)
 
 -- and each numbered one
-pub groups_in_parens : {flags : Flags} {pattern : Text} {s : State} → LeadsOn (first_state flags pattern) s
+pub groups_in_parens : {flags : Flags} {pattern : Text} {s : State}
+    → LeadsOn (first_state flags pattern) s
     → s.point.groups + parens s.point.rest ≤ parens pattern
 groups_in_parens l = let spent = leads_spend l in omega (arith, spent.groups_spend)
 
@@ -230,5 +259,7 @@ pub more_parens : {flags : Flags} {pattern : Text} (s : State) (here : Point) (b
     → (length s.frames + 1 ≤ parens pattern) × (s.point.groups + 1 ≤ parens pattern)
 more_parens s here begun l past e =
     let before = past_gap_reads past in
-    let taken = ap parens e ∙ one_paren begun in
-    (omega (arith, before.within, taken, frames_in_parens l), omega (arith, before.within, taken, groups_in_parens l))
+    let taken = ap parens e ∙ one_paren begun in (
+      omega (arith, before.within, taken, frames_in_parens l),
+      omega (arith, before.within, taken, groups_in_parens l),
+    )

@@ -3,12 +3,16 @@ use Rattle.std.proofs.Common.{inl, inr, ◌≡◌, refl, sym, ◌∙◌, ap, sub
 use Rattle.regex_lite_syntax.specs.Text.{Text}
 use Rattle.regex_lite_syntax.specs.Grammar.Gaps.{Gap, EndsGap, WholeGap}
 use Rattle.regex_lite_syntax.specs.Grammar.Points.{Point, onward, PastGap}
-use Rattle.regex_lite_syntax.specs.Parser.Machine.{State, opened, closed, parted, with_items, Kind, stop, paren, closing, bar, operator, atom, kind_at, Does, Step, LeadsOn, stay, go}
+use Rattle.regex_lite_syntax.specs.Parser.Machine.{State, opened, closed, parted, with_items}
+use Rattle.regex_lite_syntax.specs.Parser.Machine.{Kind, stop, paren, closing, bar, operator}
+use Rattle.regex_lite_syntax.specs.Parser.Machine.{atom, kind_at, Does, Step, LeadsOn, stay, go}
 use Rattle.regex_lite_syntax.proofs.ListLemmas.{same_head, same_tail, snoc_same}
-use Rattle.regex_lite_syntax.proofs.grammar.GapLemmas.{empty_gap, gap_at_end, gap_to_end, whole_gap_once}
+use Rattle.regex_lite_syntax.proofs.grammar.GapLemmas.{empty_gap, gap_at_end}
+use Rattle.regex_lite_syntax.proofs.grammar.GapLemmas.{gap_to_end, whole_gap_once}
 use Rattle.regex_lite_syntax.proofs.grammar.OperatorLemmas.{operator_once}
 use Rattle.regex_lite_syntax.proofs.grammar.AtomLemmas.{atom_once}
-use Rattle.regex_lite_syntax.proofs.grammar.HeadLemmas.{head_once, directive_once, head_or_directive}
+use Rattle.regex_lite_syntax.proofs.grammar.HeadLemmas.{head_once, directive_once}
+use Rattle.regex_lite_syntax.proofs.grammar.HeadLemmas.{head_or_directive}
 
 does_once : (k : Kind) (s : State) (p : Point) (a b : State) → Does k s p a → Does k s p b → a ≡ b
 does_once stop s p a b u v = absurd u
@@ -21,7 +25,8 @@ does_once paren s p a b (inr u) (inr v) = cc (u.2, v.2, directive_once u.1 v.1)
 does_once closing s p a b u v =
     let frames = sym u.4 ∙ v.4 in
     cc (u.5, v.5, same_tail (sym u.3 ∙ v.3), same_head frames, same_tail frames)
-does_once bar s p a b u v = u.2 ∙ ap (λ t. parted s (onward p t)) (same_tail (sym u.1 ∙ v.1)) ∙ sym v.2
+does_once bar s p a b u v =
+    u.2 ∙ ap (λ t. parted s (onward p t)) (same_tail (sym u.1 ∙ v.1)) ∙ sym v.2
 does_once operator s p a b u v =
     let items = snoc_same u.1 v.1 u.2 v.2 (sym u.6 ∙ v.6) in
     let same = operator_once u.7 v.7 in
@@ -31,16 +36,21 @@ does_once atom s p a b u v =
     cc (u.3, v.3, same.0, same.1)
 
 -- past a gap that is as long as it can be there is one point
-pub past_gap_once : (p q r : Point) → PastGap p q → PastGap p r → EndsGap p.flags.ignore_whitespace q.rest
+pub past_gap_once : (p q r : Point) → PastGap p q → PastGap p r
+    → EndsGap p.flags.ignore_whitespace q.rest
     → EndsGap p.flags.ignore_whitespace r.rest → q ≡ r
 past_gap_once p q r u v eq er =
-    u.1 ∙ ap (onward p) (whole_gap_once p.flags.ignore_whitespace p.rest q.rest r.rest (u.0, eq) (v.0, er)) ∙ sym v.1
+    u.1
+    ∙ ap (onward p)
+    (whole_gap_once p.flags.ignore_whitespace p.rest q.rest r.rest (u.0, eq) (v.0, er))
+    ∙ sym v.1
 
 -- a state has at most one step
 pub step_once : (s a b : State) → Step s a → Step s b → a ≡ b
 step_once s a b u v =
     let e = past_gap_once s.point u.past v.past u.gap v.gap u.ends v.ends in
-    does_once (kind_at u.past.rest) s u.past a b u.does (subst (λ p. Does (kind_at p.rest) s p b) (sym e) v.does)
+    does_once (kind_at u.past.rest) s u.past a b u.does
+    (subst (λ p. Does (kind_at p.rest) s p b) (sym e) v.does)
 
 pub leads_to : {s m q : State} → LeadsOn s m → LeadsOn m q → LeadsOn s q
 leads_to {s} {m} {q} (stay e) l = subst (λ x. LeadsOn x q) (sym e) l
@@ -64,12 +74,14 @@ ends (stay e) stuck = e
 ends (go m st l) stuck = absurd (stuck m st)
 
 -- two states that are reached and have no step are one
-pub one_end : {s a b : State} → LeadsOn s a → LeadsOn s b → ((q : State) → Step a q → ⊥) → ((q : State) → Step b q → ⊥)
+pub one_end : {s a b : State} → LeadsOn s a → LeadsOn s b → ((q : State) → Step a q → ⊥)
+    → ((q : State) → Step b q → ⊥)
     → a ≡ b
 one_end l l' stuck stuck' = ends (meets l l' stuck') stuck
 
 -- what is done at a point does not depend on the point of the state
-does_from : (k : Kind) (s : State) (here p : Point) (q : State) → Does k s p q → Does k (record s { point = here }) p q
+does_from : (k : Kind) (s : State) (here p : Point) (q : State) → Does k s p q
+    → Does k (record s { point = here }) p q
 unfolding opened closed parted with_items
 does_from stop s here p q d = d
 does_from paren s here p q d = d
@@ -83,7 +95,8 @@ abbrev pub moved : State → Text → State
 moved s u = record s { point = onward s.point u }
 
 -- a step past a whole gap is a step before it
-pub step_over_gap : (s q : State) (u : Text) → WholeGap s.point.flags.ignore_whitespace s.point.rest u
+pub step_over_gap : (s q : State) (u : Text)
+    → WholeGap s.point.flags.ignore_whitespace s.point.rest u
     → Step (moved s u) q → Step s q
 step_over_gap s q u whole st =
     let verbose = s.point.flags.ignore_whitespace in
@@ -96,7 +109,8 @@ step_over_gap s q u whole st =
     }
 
 -- and a step before it is a step past it
-pub step_past_gap : (s q : State) (u : Text) → WholeGap s.point.flags.ignore_whitespace s.point.rest u → Step s q
+pub step_past_gap : (s q : State) (u : Text)
+    → WholeGap s.point.flags.ignore_whitespace s.point.rest u → Step s q
     → Step (moved s u) q
 step_past_gap s q u whole st =
     let verbose = s.point.flags.ignore_whitespace in

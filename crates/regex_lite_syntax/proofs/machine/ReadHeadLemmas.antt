@@ -1,5 +1,7 @@
--- What the parser reads of a group's head is a step of the machine, and where it refuses there is none.
-use Rattle.std.proofs.Common.{List, inl, inr, ◌≡◌, ◌≢◌, refl, sym, ◌∙◌, ap, subst, ◌+◌, [], ◌∷◌, ◌++◌, Some, None, Contains, length}
+-- What the parser reads of a group's head is a step of the machine, and where it refuses there is
+-- none.
+use Rattle.std.proofs.Common.{List, inl, inr, ◌≡◌, ◌≢◌, refl, sym, ◌∙◌, ap, subst}
+use Rattle.std.proofs.Common.{◌+◌, [], ◌∷◌, ◌++◌, Some, None, Contains, length}
 use Rattle.std.specs.Prelude.{max as greatest}
 use Rattle.regex_lite_syntax.specs.declared.flags.Flags.{Flags}
 use Rattle.regex_lite_syntax.specs.declared.parse.Parser.{Parser}
@@ -8,27 +10,33 @@ use Rattle.regex_lite_syntax.specs.Grammar.Gaps.{Gap, WholeGap}
 use Rattle.regex_lite_syntax.specs.Grammar.FlagLetters.{FlagLetters}
 use Rattle.regex_lite_syntax.specs.Parser.FlagRuns.{EndedFlags}
 use Rattle.regex_lite_syntax.specs.Grammar.GroupNames.{NameWritten, NameOpening, Named, NamesDiffer}
-use Rattle.regex_lite_syntax.specs.Grammar.Heads.{non_capturing, capturing, numbered_on, named_on, inside, Head, plain, Directive, sets}
+use Rattle.regex_lite_syntax.specs.Grammar.Heads.{non_capturing, capturing, numbered_on}
+use Rattle.regex_lite_syntax.specs.Grammar.Heads.{named_on, inside, Head, plain, Directive, sets}
 use Rattle.regex_lite_syntax.specs.Parser.Machine.{State, Step, opened, with_items}
-use Rattle.regex_lite_syntax.specs.Parser.States.{state, StepsTo, CanRead, BeginsCapture, OpensGroup, OpensCapture, Directs}
+use Rattle.regex_lite_syntax.specs.Parser.States.{state, StepsTo, CanRead, BeginsCapture}
+use Rattle.regex_lite_syntax.specs.Parser.States.{OpensGroup, OpensCapture, Directs}
 use Rattle.regex_lite_syntax.proofs.grammar.NameLemmas.{differ_more, no_second}
 use Rattle.regex_lite_syntax.proofs.grammar.HeadLemmas.{numbered_head, named_head}
 use Rattle.regex_lite_syntax.proofs.machine.OneStepLemmas.{step_once}
-use Rattle.regex_lite_syntax.proofs.machine.StepLemmas.{at_once, step_open, step_named, step_direct, no_flags, no_name, no_empty}
+use Rattle.regex_lite_syntax.proofs.machine.StepLemmas.{at_once, step_open, step_named}
+use Rattle.regex_lite_syntax.proofs.machine.StepLemmas.{step_direct, no_flags, no_name, no_empty}
 use Rattle.regex_lite_syntax.proofs.machine.ReadStepLemmas.{fresh_step}
 
 -- a group under flags
 pub reads_head : (p q : Parser) (t begun first rest : Text) (new : Flags) → t ≡ the "(" ∷ begun
     → Gap p.here.flags.ignore_whitespace begun (the "?" ∷ first)
-    → FlagLetters p.here.flags first (the ":" ∷ rest) new → OpensGroup p q non_capturing new → StepsTo p q t rest
+    → FlagLetters p.here.flags first (the ":" ∷ rest) new → OpensGroup p q non_capturing new
+    → StepsTo p q t rest
 unfolding state opened
 reads_head p q t begun first rest new e gap letters opens d =
     let s = state p t d in
     let level = length s.frames in
     let into = inside level s.point new rest in
-    let head : Head level s.point into non_capturing = plain begun first rest new e gap letters refl refl in (
+    let head : Head level s.point into non_capturing =
+    plain begun first rest new e gap letters refl refl in (
       greatest d (level + 1),
-      fresh_step (step_open s s.point into non_capturing (at_once s.point) head) (opens t rest d) refl,
+      fresh_step (step_open s s.point into non_capturing (at_once s.point) head)
+          (opens t rest d) refl,
     )
 
 pub reads_directive : (p q : Parser) (t begun first rest : Text) (new : Flags) → t ≡ the "(" ∷ begun
@@ -43,24 +51,30 @@ reads_directive p q t begun first rest new e gap some letters directs d =
 
 -- a group that is numbered alone
 pub reads_numbered : (p q : Parser) (t rest u : Text) → t ≡ the "(" ∷ rest
-    → WholeGap p.here.flags.ignore_whitespace rest u → (Begins (the "?") u → ⊥) → OpensCapture p q None
+    → WholeGap p.here.flags.ignore_whitespace rest u → (Begins (the "?") u → ⊥)
+    → OpensCapture p q None
     → StepsTo p q t rest
 unfolding state opened
 reads_numbered p q t rest u e whole none opens d =
     let s = state p t d in
     let level = length s.frames in
-    let head = numbered_head level s.point rest u e whole none in
-    (greatest d (level + 1), fresh_step (step_open s s.point _ _ (at_once s.point) head) (opens t rest d) refl)
+    let head = numbered_head level s.point rest u e whole none in (
+      greatest d (level + 1),
+      fresh_step (step_open s s.point _ _ (at_once s.point) head) (opens t rest d) refl,
+    )
 
 pub begins_numbered : (p : Parser) (t rest u : Text) → t ≡ the "(" ∷ rest
     → WholeGap p.here.flags.ignore_whitespace rest u → (Begins (the "?") u → ⊥) → BeginsCapture p t
 unfolding state
-begins_numbered p t rest u e whole none =
-    (None, λ d. let s = state p t d in (_, numbered_head (length s.frames) s.point rest u e whole none))
+begins_numbered p t rest u e whole none = (
+  None,
+  λ d. let s = state p t d in (_, numbered_head (length s.frames) s.point rest u e whole none),
+)
 
 -- a group with a name, where the parser has first noted the name
 pub reads_named : (p q : Parser) (noted : List Text) (t begun first rest name : Text)
-    → t ≡ the "(" ∷ begun → WholeGap p.here.flags.ignore_whitespace begun first → Named first rest name
+    → t ≡ the "(" ∷ begun → WholeGap p.here.flags.ignore_whitespace begun first
+    → Named first rest name
     → (Contains p.names name → ⊥)
     → noted ≡ p.names ++ name ∷ []
     → OpensCapture (record p { names = noted }) q (Some name) → StepsTo p q t rest
@@ -82,10 +96,14 @@ reads_named p q noted t begun first rest name e whole named fresh is opens d =
     )
 
 pub begins_named : (p : Parser) (t begun first rest name : Text) → t ≡ the "(" ∷ begun
-    → WholeGap p.here.flags.ignore_whitespace begun first → Named first rest name → BeginsCapture p t
+    → WholeGap p.here.flags.ignore_whitespace begun first → Named first rest name
+    → BeginsCapture p t
 unfolding state
-begins_named p t begun first rest name e whole named =
-    (Some name, λ d. let s = state p t d in (_, named_head (length s.frames) s.point begun first rest name e whole.0 named))
+begins_named p t begun first rest name e whole named = (
+  Some name,
+  λ d. let s = state p t d in
+      (_, named_head (length s.frames) s.point begun first rest name e whole.0 named),
+)
 
 -- where a name is opened and none follows, nothing can be read
 pub reads_no_name : (p : Parser) (t begun first past : Text) → t ≡ the "(" ∷ begun
@@ -120,11 +138,13 @@ reads_no_flags p t begun u first e whole begins unnamed none can =
     no_flags s can.1 s.point begun first (at_once s.point) e gap
     (λ rest name named. unnamed rest name (subst (λ v. Named v rest name) (sym begins) named))
     (λ rest new letters. none (the ":" ∷ rest) new (record { letters = letters; ends = inl refl }))
-    (λ rest new letters. none (the ")" ∷ rest) new (record { letters = letters; ends = inr refl })) can.2
+    (λ rest new letters. none (the ")" ∷ rest) new (record { letters = letters; ends = inr refl }))
+    can.2
 
 -- nor where nothing stands there
 pub reads_no_empty : (p : Parser) (t begun u rest : Text) → t ≡ the "(" ∷ begun
-    → WholeGap p.here.flags.ignore_whitespace begun u → u ≡ the "?" ∷ the ")" ∷ rest → CanRead p t → ⊥
+    → WholeGap p.here.flags.ignore_whitespace begun u → u ≡ the "?" ∷ the ")" ∷ rest
+    → CanRead p t → ⊥
 unfolding state
 reads_no_empty p t begun u rest e whole begins can =
     let s = state p t can.0 in

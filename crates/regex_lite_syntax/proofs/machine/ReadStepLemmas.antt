@@ -1,5 +1,6 @@
 -- What the parser reads is a step of the machine, and where it refuses there is none.
-use Rattle.std.proofs.Common.{◌≡◌, refl, sym, ◌∙◌, ap, subst, ℕ, Bool, List, [], ◌∷◌, ◌++◌, Option, Some, map, reverse}
+use Rattle.std.proofs.Common.{◌≡◌, refl, sym, ◌∙◌, ap, subst, ℕ, Bool, List}
+use Rattle.std.proofs.Common.{[], ◌∷◌, ◌++◌, Option, Some, map, reverse}
 use Rattle.regex_lite_syntax.specs.declared.parse.Parser.{Parser}
 use Rattle.regex_lite_syntax.specs.Text.{Text, the}
 use Rattle.regex_lite_syntax.specs.Grammar.Gaps.{EndsGap}
@@ -9,55 +10,72 @@ use Rattle.regex_lite_syntax.specs.Grammar.Operators.{times, Operator}
 use Rattle.regex_lite_syntax.specs.Grammar.Atoms.{Atom}
 use Rattle.regex_lite_syntax.specs.Grammar.GroupNames.{NamesDiffer}
 use Rattle.regex_lite_syntax.specs.Tree.Views.{tree_of}
-use Rattle.regex_lite_syntax.specs.Parser.Machine.{State, Step, closed, parted, with_items, BeginsAtom}
-use Rattle.regex_lite_syntax.specs.Parser.States.{frame_of, state, FreshStep, StepsTo, CanRead, Closes, EndsBranch, Adds}
-use Rattle.regex_lite_syntax.proofs.machine.StepLemmas.{at_once, step_close, step_part, step_operate, step_atom, no_close, no_operand, no_counted_operand, no_counts, no_item}
+use Rattle.regex_lite_syntax.specs.Parser.Machine.{State, Step, closed, parted}
+use Rattle.regex_lite_syntax.specs.Parser.Machine.{with_items, BeginsAtom}
+use Rattle.regex_lite_syntax.specs.Parser.States.{frame_of, state, FreshStep, StepsTo}
+use Rattle.regex_lite_syntax.specs.Parser.States.{CanRead, Closes, EndsBranch, Adds}
+use Rattle.regex_lite_syntax.proofs.machine.StepLemmas.{at_once, step_close, step_part}
+use Rattle.regex_lite_syntax.proofs.machine.StepLemmas.{step_operate, step_atom, no_close}
+use Rattle.regex_lite_syntax.proofs.machine.StepLemmas.{no_operand, no_counted_operand}
+use Rattle.regex_lite_syntax.proofs.machine.StepLemmas.{no_counts, no_item}
 
 -- a step that adds no name
 pub fresh_step : {s q x : State} → Step s x → q ≡ x → x.point.names ≡ s.point.names → FreshStep s q
 fresh_step {s} st is same = (
   subst (λ x. Step s x) (sym is) st,
-  λ differ. subst (λ names. NamesDiffer names) (sym (ap (λ (x : State). x.point.names) is ∙ same)) differ,
+  λ differ.
+      subst (λ names. NamesDiffer names) (sym (ap (λ (x : State). x.point.names) is ∙ same)) differ,
 )
 
-pub reads_end : (p q : Parser) (t rest : Text) → t ≡ the ")" ∷ rest → Closes p q → StepsTo p q t rest
+pub reads_end : (p q : Parser) (t rest : Text) → t ≡ the ")" ∷ rest → Closes p q
+    → StepsTo p q t rest
 unfolding state closed
 reads_end p q t rest e closes d =
     let s = state p t d in
     let c = closes t rest d in
     (d, fresh_step (step_close s s.point c.0 c.1 rest (at_once s.point) e c.2) c.3 refl)
 
-pub reads_no_end : (p : Parser) (t rest : Text) → t ≡ the ")" ∷ rest → p.below.items ≡ [] → CanRead p t → ⊥
+pub reads_no_end : (p : Parser) (t rest : Text) → t ≡ the ")" ∷ rest → p.below.items ≡ []
+    → CanRead p t → ⊥
 unfolding state
 reads_no_end p t rest e none can =
     let s = state p t can.0 in
-    no_close s can.1 s.point rest (at_once s.point) e (ap (λ xs. reverse (map frame_of xs)) none) can.2
+    no_close s can.1 s.point rest (at_once s.point) e
+    (ap (λ xs. reverse (map frame_of xs)) none) can.2
 
-pub reads_bar : (p q : Parser) (t rest : Text) → t ≡ the "|" ∷ rest → EndsBranch p q → StepsTo p q t rest
+pub reads_bar : (p q : Parser) (t rest : Text) → t ≡ the "|" ∷ rest → EndsBranch p q
+    → StepsTo p q t rest
 unfolding state parted
 reads_bar p q t rest e parts d =
     let s = state p t d in
     (d, fresh_step (step_part s s.point rest (at_once s.point) e) (parts t rest d) refl)
 
 -- an operator takes the last item, and adds it again repeated
-pub reads_repeated : (p q : Parser) (t rest : Text) (items : List Tree) (a : Tree) (least : ℕ) (most : Option ℕ)
+pub reads_repeated : (p q : Parser) (t rest : Text) (items : List Tree) (a : Tree) (least : ℕ)
+    (most : Option ℕ)
     (greedy : Bool) → map tree_of p.here.items.items ≡ items ++ a ∷ []
     → ((d : ℕ) → state q rest d
-    ≡ with_items (state p t d) (record (state p t d).point { rest = rest }) (items ++ repeated least most greedy a ∷ []))
+    ≡ with_items (state p t d) (record (state p t d).point { rest = rest })
+    (items ++ repeated least most greedy a ∷ []))
     → Operator p.here.flags t rest least most greedy → StepsTo p q t rest
 unfolding state with_items
 reads_repeated p q t rest items a least most greedy last repeats o d =
-    let s = state p t d in
-    (d, fresh_step (step_operate s s.point rest items a least most greedy (at_once s.point) last o) (repeats d) refl)
+    let s = state p t d in (
+      d,
+      fresh_step (step_operate s s.point rest items a least most greedy (at_once s.point) last o)
+          (repeats d) refl,
+    )
 
-pub reads_no_operator : (p : Parser) (t rest : Text) (c : ℕ) (b : ℕ × Option ℕ) → t ≡ c ∷ rest → times c ≡ Some b
+pub reads_no_operator : (p : Parser) (t rest : Text) (c : ℕ) (b : ℕ × Option ℕ) → t ≡ c ∷ rest
+    → times c ≡ Some b
     → p.here.items.items ≡ [] → CanRead p t → ⊥
 unfolding state
 reads_no_operator p t rest c b e has none can =
     let s = state p t can.0 in
     no_operand s can.1 s.point c b rest (at_once s.point) e has (ap (map tree_of) none) can.2
 
-pub reads_no_counted : (p : Parser) (t rest : Text) → t ≡ the "{" ∷ rest → p.here.items.items ≡ [] → CanRead p t
+pub reads_no_counted : (p : Parser) (t rest : Text) → t ≡ the "{" ∷ rest → p.here.items.items ≡ []
+    → CanRead p t
     → ⊥
 unfolding state
 reads_no_counted p t rest e none can =
@@ -65,20 +83,23 @@ reads_no_counted p t rest e none can =
     no_counted_operand s can.1 s.point rest (at_once s.point) e (ap (map tree_of) none) can.2
 
 pub reads_no_counts : (p : Parser) (t rest : Text) → t ≡ the "{" ∷ rest
-    → ((past : Text) (least : ℕ) (most : Option ℕ) → Counted p.here.flags.ignore_whitespace rest past least most → ⊥)
+    → ((past : Text) (least : ℕ) (most : Option ℕ)
+    → Counted p.here.flags.ignore_whitespace rest past least most → ⊥)
     → CanRead p t → ⊥
 unfolding state
 reads_no_counts p t rest e none can =
     let s = state p t can.0 in
     no_counts s can.1 s.point rest (at_once s.point) e none can.2
 
-pub reads_atom : (p q : Parser) (t rest : Text) (a : Tree) → Atom p.here.flags t rest a → Adds p q a → StepsTo p q t rest
+pub reads_atom : (p q : Parser) (t rest : Text) (a : Tree) → Atom p.here.flags t rest a → Adds p q a
+    → StepsTo p q t rest
 unfolding state with_items
 reads_atom p q t rest a d adds n =
     let s = state p t n in
     (n, fresh_step (step_atom s s.point rest a (at_once s.point) d) (adds t rest n) refl)
 
-pub reads_no_atom : (p : Parser) (t : Text) → EndsGap p.here.flags.ignore_whitespace t → BeginsAtom t
+pub reads_no_atom : (p : Parser) (t : Text) → EndsGap p.here.flags.ignore_whitespace t
+    → BeginsAtom t
     → ((rest : Text) (a : Tree) → Atom p.here.flags t rest a → ⊥) → CanRead p t → ⊥
 unfolding state
 reads_no_atom p t ends begins none can =

@@ -1,34 +1,47 @@
 -- The trees of patterns are regular: characters are Unicode scalar values, sets are given by their
 -- runs, repetitions are in order, groups are numbered from 1, and lists have two parts or more.
-use Rattle.std.proofs.Common.{◌≡◌, ◌≤◌, refl, sym, subst, arith, ℕ, zero, suc, Bool, true, false, ◌&&◌, List, [], ◌∷◌, ◌++◌, Option, Some, None, MatchBool, IsTrue, rules}
+use Rattle.std.proofs.Common.{◌≡◌, ◌≤◌, refl, sym, subst, arith, ℕ, zero, suc}
+use Rattle.std.proofs.Common.{Bool, true, false, ◌&&◌, List, [], ◌∷◌, ◌++◌}
+use Rattle.std.proofs.Common.{Option, Some, None, MatchBool, IsTrue, rules}
 use Rattle.regex_lite_syntax.specs.declared.flags.Flags.{Flags}
 use Rattle.regex_lite_syntax.specs.Text.{Text}
 use Rattle.regex_lite_syntax.specs.Characters.{is_character, is_letter, AreCharacters}
 use Rattle.regex_lite_syntax.specs.Sets.{Set, just, case_closure}
-use Rattle.regex_lite_syntax.specs.Grammar.Escapes.{Primitive, one, some_of, look_at, EscapeKind, gives, word_boundary, hexadecimal, refused, escape_kind, Hexadecimal, fixed, braced, EscapeFrom, Escape}
+use Rattle.regex_lite_syntax.specs.Grammar.Escapes.{Primitive, one, some_of, look_at, EscapeKind}
+use Rattle.regex_lite_syntax.specs.Grammar.Escapes.{gives, word_boundary, hexadecimal, refused}
+use Rattle.regex_lite_syntax.specs.Grammar.Escapes.{escape_kind, Hexadecimal, fixed, braced}
+use Rattle.regex_lite_syntax.specs.Grammar.Escapes.{EscapeFrom, Escape}
 use Rattle.regex_lite_syntax.specs.Tree.{Tree, character, trees, sequence_of, choice_of, repeated}
 use Rattle.regex_lite_syntax.specs.Grammar.Counted.{Counted}
-use Rattle.regex_lite_syntax.specs.Grammar.Operators.{times, Operator, uncounted, uncounted_lazy, counted, counted_lazy}
-use Rattle.regex_lite_syntax.specs.Grammar.Atoms.{AtomKind, single, escape, bracketed, no_atom, atom_kind, IsClassOf, PrimitiveTree, AtomFrom, Atom}
+use Rattle.regex_lite_syntax.specs.Grammar.Operators.{times, Operator, uncounted}
+use Rattle.regex_lite_syntax.specs.Grammar.Operators.{uncounted_lazy, counted, counted_lazy}
+use Rattle.regex_lite_syntax.specs.Grammar.Atoms.{AtomKind, single, escape, bracketed}
+use Rattle.regex_lite_syntax.specs.Grammar.Atoms.{no_atom, atom_kind, IsClassOf}
+use Rattle.regex_lite_syntax.specs.Grammar.Atoms.{PrimitiveTree, AtomFrom, Atom}
 use Rattle.regex_lite_syntax.specs.Grammar.Points.{Point}
-use Rattle.regex_lite_syntax.specs.Grammar.Heads.{GroupKind, non_capturing, capturing, group_tree, Head, numbered, named, plain}
-use Rattle.regex_lite_syntax.specs.Grammar.{Item, atom, group, Branch, nothing, item, directive, Alternatives, only, further, Grammar}
+use Rattle.regex_lite_syntax.specs.Grammar.Heads.{GroupKind, non_capturing, capturing}
+use Rattle.regex_lite_syntax.specs.Grammar.Heads.{group_tree, Head, numbered, named, plain}
+use Rattle.regex_lite_syntax.specs.Grammar.{Item, atom, group, Branch, nothing, item}
+use Rattle.regex_lite_syntax.specs.Grammar.{directive, Alternatives, only, further, Grammar}
 use Rattle.regex_lite_syntax.specs.Grammar.Branch.{operator}
 use Rattle.regex_lite_syntax.specs.Tree.Regular.{InOrder, IsRegular, AreRegular}
 use Rattle.regex_lite_syntax.proofs.grammar.CountLemmas.{counted_in_order}
 use Rattle.regex_lite_syntax.proofs.machine.ParenLemmas.{operator_reads, atom_reads}
-use Rattle.regex_lite_syntax.proofs.machine.GrowthLemmas.{head_takes, directive_reads, past_gap_reads}
+use Rattle.regex_lite_syntax.proofs.machine.GrowthLemmas.{head_takes, directive_reads}
+use Rattle.regex_lite_syntax.proofs.machine.GrowthLemmas.{past_gap_reads}
 
 -- each of the trees is regular
 abbrev pub AllRegular : List Tree → Type 0
 AllRegular [] = Unit {0}
 AllRegular (a ∷ rest) = IsRegular a × AllRegular rest
 
-all_with : (before : List Tree) (a : Tree) → AllRegular before → IsRegular a → AllRegular (before ++ a ∷ [])
+all_with : (before : List Tree) (a : Tree) → AllRegular before → IsRegular a
+    → AllRegular (before ++ a ∷ [])
 all_with [] a regular last = (last, tt)
 all_with (b ∷ before) a regular last = (regular.0, all_with before a regular.1 last)
 
-all_without : (before : List Tree) (a : Tree) → AllRegular (before ++ a ∷ []) → AllRegular before × IsRegular a
+all_without : (before : List Tree) (a : Tree) → AllRegular (before ++ a ∷ [])
+    → AllRegular before × IsRegular a
 all_without [] a regular = (tt, regular.0)
 all_without (b ∷ before) a regular =
     let split = all_without before a regular.1 in ((regular.0, split.0), split.1)
@@ -47,7 +60,8 @@ choice_regular [] regular = tt
 choice_regular (a ∷ []) regular = regular.0
 choice_regular (a ∷ b ∷ rest) regular = (tt, are_regular (a ∷ b ∷ rest) regular)
 
-pub repeated_regular : (least : ℕ) (most : Option ℕ) (greedy : Bool) (a : Tree) → InOrder least most → IsRegular a
+pub repeated_regular : (least : ℕ) (most : Option ℕ) (greedy : Bool) (a : Tree) → InOrder least most
+    → IsRegular a
     → IsRegular (repeated least most greedy a)
 repeated_regular zero None greedy a order regular = (order, regular)
 repeated_regular zero (Some zero) greedy a order regular = tt
@@ -84,12 +98,14 @@ AreInOrder (Some b) = InOrder b.0 b.1
 bounds_in_order : (c : ℕ) → AreInOrder (times c)
 bounds_in_order c = search rules
 
-counts_in_order : (verbose : Bool) (t rest : Text) (least : ℕ) (most : Option ℕ) → Counted verbose t rest least most
+counts_in_order : (verbose : Bool) (t rest : Text) (least : ℕ) (most : Option ℕ)
+    → Counted verbose t rest least most
     → InOrder least most
 counts_in_order verbose t rest least None k = tt
 counts_in_order verbose t rest least (Some most) k = counted_in_order k refl
 
-pub operator_in_order : {flags : Flags} {t rest : Text} {least : ℕ} {most : Option ℕ} {greedy : Bool}
+pub operator_in_order : {flags : Flags} {t rest : Text} {least : ℕ} {most : Option ℕ}
+    {greedy : Bool}
     → Operator flags t rest least most greedy → InOrder least most
 operator_in_order (uncounted c e b n g) = subst (λ x. AreInOrder x) b (bounds_in_order c)
 operator_in_order (uncounted_lazy c e b g) = subst (λ x. AreInOrder x) b (bounds_in_order c)
@@ -112,8 +128,10 @@ Names (one c) = IsTrue (is_character c)
 Names (some_of s) = Unit {0}
 Names (look_at test) = Unit {0}
 
-primitive_regular : (flags : Flags) (p : Primitive) (a : Tree) → Names p → PrimitiveTree flags p a → IsRegular a
-primitive_regular flags (one c) a is of = one_regular c (flags.case_insensitive && is_letter c) a is of
+primitive_regular : (flags : Flags) (p : Primitive) (a : Tree) → Names p → PrimitiveTree flags p a
+    → IsRegular a
+primitive_regular flags (one c) a is of =
+    one_regular c (flags.case_insensitive && is_letter c) a is of
 primitive_regular flags (some_of s) a is of = class_regular s a of
 primitive_regular flags (look_at test) a is of = subst (λ x. IsRegular x) (sym of) tt
 
@@ -127,12 +145,14 @@ EscapeNames refused = Unit {0}
 escape_kind_names : (c : ℕ) → IsTrue (is_character c) → EscapeNames (escape_kind c)
 escape_kind_names c is = search rules
 
-hexadecimal_names : {verbose : Bool} {n : ℕ} {t rest : Text} {c : ℕ} → Hexadecimal verbose n t rest c
+hexadecimal_names : {verbose : Bool} {n : ℕ} {t rest : Text} {c : ℕ}
+    → Hexadecimal verbose n t rest c
     → IsTrue (is_character c)
 hexadecimal_names (fixed d) = subst (λ c. IsTrue (is_character c)) (sym d.value) d.scalar
 hexadecimal_names (braced opened g d) = subst (λ c. IsTrue (is_character c)) (sym d.value) d.scalar
 
-escape_from_names : (k : EscapeKind) (verbose : Bool) (t rest : Text) (p : Primitive) → EscapeNames k
+escape_from_names : (k : EscapeKind) (verbose : Bool) (t rest : Text) (p : Primitive)
+    → EscapeNames k
     → EscapeFrom k verbose t rest p → Names p
 escape_from_names (gives q) verbose t rest p is d = subst (λ x. Names x) (sym d.1) is
 escape_from_names word_boundary verbose t rest p is d = subst (λ x. Names x) (sym d.2) tt
@@ -140,10 +160,12 @@ escape_from_names (hexadecimal n) verbose t rest p is d =
     subst (λ x. Names x) (sym d.2) (hexadecimal_names d.1)
 escape_from_names refused verbose t rest p is d = absurd d
 
-escape_names : (verbose : Bool) (t rest : Text) (p : Primitive) → AreCharacters t → Escape verbose t rest p → Names p
+escape_names : (verbose : Bool) (t rest : Text) (p : Primitive) → AreCharacters t
+    → Escape verbose t rest p → Names p
 escape_names verbose t rest p all d =
     let first = (subst (λ u. AreCharacters u) d.begins all).0 in
-    escape_from_names (escape_kind d.first) verbose d.past_first rest p (escape_kind_names d.first first) d.goes_on
+    escape_from_names (escape_kind d.first) verbose d.past_first rest p
+    (escape_kind_names d.first first) d.goes_on
 
 -- what an item of one character names is a character
 abbrev AtomNames : AtomKind → Type 0
@@ -155,7 +177,8 @@ AtomNames no_atom = Unit {0}
 atom_kind_names : (flags : Flags) (c : ℕ) → IsTrue (is_character c) → AtomNames (atom_kind flags c)
 atom_kind_names flags c is = search rules
 
-atom_from_regular : (k : AtomKind) (flags : Flags) (t past rest : Text) (a : Tree) → AtomNames k → AreCharacters past
+atom_from_regular : (k : AtomKind) (flags : Flags) (t past rest : Text) (a : Tree) → AtomNames k
+    → AreCharacters past
     → AtomFrom k flags t past rest a → IsRegular a
 atom_from_regular (single p) flags t past rest a is all d = primitive_regular flags p a is d.1
 atom_from_regular escape flags t past rest a is all d =
@@ -163,10 +186,12 @@ atom_from_regular escape flags t past rest a is all d =
 atom_from_regular bracketed flags t past rest a is all d = class_regular d.0 a d.2
 atom_from_regular no_atom flags t past rest a is all d = absurd d
 
-pub atom_regular : (flags : Flags) (t rest : Text) (a : Tree) → AreCharacters t → Atom flags t rest a → IsRegular a
+pub atom_regular : (flags : Flags) (t rest : Text) (a : Tree) → AreCharacters t
+    → Atom flags t rest a → IsRegular a
 atom_regular flags t rest a all d =
     let split = subst (λ u. AreCharacters u) d.begins all in
-    atom_from_regular (atom_kind flags d.first) flags t d.past_first rest a (atom_kind_names flags d.first split.0)
+    atom_from_regular (atom_kind flags d.first) flags t d.past_first rest a
+    (atom_kind_names flags d.first split.0)
     split.1 d.goes_on
 
 -- the trees are regular, and what is left are characters
@@ -176,20 +201,28 @@ RegularTo items q = AllRegular items × AreCharacters q.rest
 mutual
   item_regular : {level : ℕ} {p q : Point} {a : Tree} → Item level p q a → AreCharacters p.rest
       → IsRegular a × AreCharacters q.rest
-  item_regular {p} {q} {a} (atom d e) all =
-      (atom_regular p.flags p.rest q.rest a all d, (atom_reads p.flags p.rest q.rest a d).characters all)
+  item_regular {p} {q} {a} (atom d e) all = (
+    atom_regular p.flags p.rest q.rest a all d,
+    (atom_reads p.flags p.rest q.rest a d).characters all,
+  )
   item_regular {q} (group first last end kind branches rest head d past c e a_is) all =
       let opens = head_takes head in
       let begun = opens.reads.characters (subst (λ u. AreCharacters u) opens.opens all).1 in
       let inner = alternatives_regular d begun in
       let closes = subst (λ u. AreCharacters u) c ((past_gap_reads past).characters inner.1) in
-      let whole = group_regular kind (choice_of branches) (head_numbered head) (choice_regular branches inner.0) in
-      (subst (λ x. IsRegular x) (sym a_is) whole, subst (λ (x : Point). AreCharacters x.rest) (sym e) closes.1)
+      let whole = group_regular kind (choice_of branches) (head_numbered head)
+      (choice_regular branches inner.0) in (
+        subst (λ x. IsRegular x) (sym a_is) whole,
+        subst (λ (x : Point). AreCharacters x.rest) (sym e) closes.1,
+      )
 
-  branch_regular : {level : ℕ} {p q : Point} {items : List Tree} → Branch level p q items → AreCharacters p.rest
+  branch_regular : {level : ℕ} {p q : Point} {items : List Tree} → Branch level p q items
+      → AreCharacters p.rest
       → RegularTo items q
-  branch_regular {p} (nothing e items_are) all =
-      (subst (λ x. AllRegular x) (sym items_are) tt, subst (λ (x : Point). AreCharacters x.rest) e all)
+  branch_regular {p} (nothing e items_are) all = (
+    subst (λ x. AllRegular x) (sym items_are) tt,
+    subst (λ (x : Point). AreCharacters x.rest) e all,
+  )
   branch_regular (item last here before a d past i items_are) all =
       let first = branch_regular d all in
       let new = item_regular i ((past_gap_reads past).characters first.1) in
@@ -205,7 +238,8 @@ mutual
       let first = branch_regular d all in
       (first.0, (directive_reads s).characters ((past_gap_reads past).characters first.1))
 
-  alternatives_regular : {level : ℕ} {p q : Point} {branches : List Tree} → Alternatives level p q branches
+  alternatives_regular : {level : ℕ} {p q : Point} {branches : List Tree}
+      → Alternatives level p q branches
       → AreCharacters p.rest → RegularTo branches q
   alternatives_regular (only items d branches_are) all =
       let whole = branch_regular d all in

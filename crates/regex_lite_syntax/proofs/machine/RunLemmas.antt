@@ -1,5 +1,6 @@
 -- What the parser has come to says of the pattern.
-use Rattle.std.proofs.Common.{inl, inr, ◌≡◌, ◌≢◌, refl, sym, ◌∙◌, ap, subst, ℕ, ◌+◌, ◌^◌, ◌<◌, ◌≤◌, List, [], map, reverse, length, arith}
+use Rattle.std.proofs.Common.{inl, inr, ◌≡◌, ◌≢◌, refl, sym, ◌∙◌, ap, subst, ℕ, ◌+◌}
+use Rattle.std.proofs.Common.{◌^◌, ◌<◌, ◌≤◌, List, [], map, reverse, length, arith}
 use Rattle.std.proofs.lemmas.List.{length-reverse, length-map}
 use Rattle.regex_lite_syntax.specs.Characters.{AreCharacters}
 use Rattle.regex_lite_syntax.specs.declared.flags.Flags.{Flags}
@@ -12,21 +13,26 @@ use Rattle.regex_lite_syntax.specs.Grammar.Gaps.{Gap, WholeGap}
 use Rattle.regex_lite_syntax.specs.Tree.{Tree}
 use Rattle.regex_lite_syntax.specs.Grammar.GroupNames.{NamesDiffer}
 use Rattle.regex_lite_syntax.specs.Grammar.{Grammar, HasTree}
-use Rattle.regex_lite_syntax.specs.Limits.{depth, IsAdmitted, IsDueToPattern, PassesNesting, PassesGroups, NestingRefused, GroupsRefused}
+use Rattle.regex_lite_syntax.specs.Limits.{depth, IsAdmitted, IsDueToPattern, PassesNesting}
+use Rattle.regex_lite_syntax.specs.Limits.{PassesGroups, NestingRefused, GroupsRefused}
 use Rattle.regex_lite_syntax.specs.Tree.Regular.{IsRegular}
 use Rattle.regex_lite_syntax.specs.Parser.Machine.{LeadsOn, first_state}
-use Rattle.regex_lite_syntax.specs.Parser.States.{frame_of, state, StepsTo, CanRead, BeginsCapture, BeginsTooMany, Finishes, FinishesTooDeep}
+use Rattle.regex_lite_syntax.specs.Parser.States.{frame_of, state, StepsTo, CanRead, BeginsCapture}
+use Rattle.regex_lite_syntax.specs.Parser.States.{BeginsTooMany, Finishes, FinishesTooDeep}
 use Rattle.regex_lite_syntax.proofs.grammar.GapLemmas.{gap_to_end}
-use Rattle.regex_lite_syntax.proofs.machine.OneStepLemmas.{step_over_gap, step_past_gap, at_end, leads_step}
+use Rattle.regex_lite_syntax.proofs.machine.OneStepLemmas.{step_over_gap, step_past_gap}
+use Rattle.regex_lite_syntax.proofs.machine.OneStepLemmas.{at_end, leads_step}
 use Rattle.regex_lite_syntax.proofs.machine.StateLemmas.{none_left}
 use Rattle.regex_lite_syntax.proofs.machine.SoundLemmas.{sound}
 use Rattle.regex_lite_syntax.proofs.machine.WholeLemmas.{refuses, grammar_once}
 use Rattle.regex_lite_syntax.proofs.machine.RegularLemmas.{grammar_regular}
-use Rattle.regex_lite_syntax.proofs.machine.GrowthLemmas.{reaches, frames_in_parens, opens_number, more_parens}
+use Rattle.regex_lite_syntax.proofs.machine.GrowthLemmas.{reaches, frames_in_parens}
+use Rattle.regex_lite_syntax.proofs.machine.GrowthLemmas.{opens_number, more_parens}
 use Rattle.regex_lite_syntax.proofs.machine.DepthLemmas.{head_opens, step_deepest, frames_deep}
 
 -- under these flags the parser has come from the pattern to this text, within the limit
-pub record Reaches (flags : Flags) (nest_limit : ℕ) (pattern : Text) (p : Parser) (rest : Text) : Type 0 where
+pub record Reaches (flags : Flags) (nest_limit : ℕ) (pattern : Text) (p : Parser) (rest : Text)
+    : Type 0 where
   pub deepest : ℕ
   pub leads : LeadsOn (first_state flags pattern) (state p rest deepest)
   pub within : deepest ≤ nest_limit
@@ -40,7 +46,8 @@ frames_are p t d = length-reverse (map frame_of p.below.items) ∙ length-map p.
 
 -- over a gap and what stands past it
 pub reaches_next : (flags : Flags) (nest_limit : ℕ) (pattern : Text) (p q : Parser) (t u v : Text)
-    → Reaches flags nest_limit pattern p t → WholeGap p.here.flags.ignore_whitespace t u → StepsTo p q u v
+    → Reaches flags nest_limit pattern p t → WholeGap p.here.flags.ignore_whitespace t u
+    → StepsTo p q u v
     → length q.below.items ≤ nest_limit → Reaches flags nest_limit pattern q v
 unfolding state
 reaches_next flags nest_limit pattern p q t u v r whole reads shallow =
@@ -56,7 +63,8 @@ reaches_next flags nest_limit pattern p q t u v r whole reads shallow =
 
 -- where more groups are open than the limit
 pub too_deep : (flags : Flags) (nest_limit : ℕ) (pattern : Text) (p q : Parser) (t u v : Text)
-    → Reaches flags nest_limit pattern p t → WholeGap p.here.flags.ignore_whitespace t u → StepsTo p q u v
+    → Reaches flags nest_limit pattern p t → WholeGap p.here.flags.ignore_whitespace t u
+    → StepsTo p q u v
     → nest_limit < length q.below.items → NestingRefused flags nest_limit pattern
 unfolding state
 too_deep flags nest_limit pattern p q t u v r whole reads deep =
@@ -71,22 +79,28 @@ too_deep flags nest_limit pattern p q t u v r whole reads deep =
     }
 
 -- at the end with no group open
-pub reaches_tree : (flags : Flags) (nest_limit : ℕ) (pattern : Text) (p : Parser) (t : Text) (a : Tree)
-    → (r : Reaches flags nest_limit pattern p t) → Gap p.here.flags.ignore_whitespace t [] → Finishes p a
+pub reaches_tree : (flags : Flags) (nest_limit : ℕ) (pattern : Text) (p : Parser) (t : Text)
+    (a : Tree)
+    → (r : Reaches flags nest_limit pattern p t) → Gap p.here.flags.ignore_whitespace t []
+    → Finishes p a
     → Grammar flags pattern a p.groups r.deepest
 unfolding state
 reaches_tree flags nest_limit pattern p t a r gap finishes =
     let f = finishes t r.deepest in
     let s = state p t r.deepest in
-    subst (λ b. Grammar flags pattern b p.groups r.deepest) (sym f.1) (sound flags pattern s r.leads f.0 gap r.differ r.characters)
+    subst (λ b. Grammar flags pattern b p.groups r.deepest) (sym f.1)
+    (sound flags pattern s r.leads f.0 gap r.differ r.characters)
 
 pub admitted : (flags : Flags) (nest_limit : ℕ) (pattern : Text) (p : Parser) (t : Text) (a : Tree)
-    → Reaches flags nest_limit pattern p t → Gap p.here.flags.ignore_whitespace t [] → p.groups < 2 ^ 32
+    → Reaches flags nest_limit pattern p t → Gap p.here.flags.ignore_whitespace t []
+    → p.groups < 2 ^ 32
     → Finishes p a → (nest_limit < depth a → ⊥)
     → IsAdmitted flags nest_limit pattern a × IsRegular a
 admitted flags nest_limit pattern p t a r gap few finishes shallow =
-    let g = reaches_tree flags nest_limit pattern p t a r gap finishes in
-    ((p.groups, r.deepest, g, within, λ many. omega (arith, many, few)), grammar_regular flags pattern a p.groups r.deepest g)
+    let g = reaches_tree flags nest_limit pattern p t a r gap finishes in (
+      (p.groups, r.deepest, g, within, λ many. omega (arith, many, few)),
+      grammar_regular flags pattern a p.groups r.deepest g,
+    )
   where
     within : PassesNesting nest_limit a r.deepest → ⊥
     within (inl deep) = omega (arith, deep, r.within)
@@ -98,7 +112,8 @@ no_levels f xs e =
 
 -- with a group open there is no tree
 open_refused : (flags : Flags) (nest_limit : ℕ) (pattern : Text) (p : Parser) (t : Text)
-    → Reaches flags nest_limit pattern p t → Gap p.here.flags.ignore_whitespace t [] → (p.below.items ≡ [] → ⊥)
+    → Reaches flags nest_limit pattern p t → Gap p.here.flags.ignore_whitespace t []
+    → (p.below.items ≡ [] → ⊥)
     → HasTree flags pattern → ⊥
 unfolding state
 open_refused flags nest_limit pattern p t r gap open_groups =
@@ -108,7 +123,8 @@ open_refused flags nest_limit pattern p t r gap open_groups =
 
 -- and with a tree that is too deep no other
 tree_refused : (flags : Flags) (nest_limit : ℕ) (pattern : Text) (a : Tree) (groups deepest : ℕ)
-    → Grammar flags pattern a groups deepest → nest_limit < depth a → NestingRefused flags nest_limit pattern
+    → Grammar flags pattern a groups deepest → nest_limit < depth a
+    → NestingRefused flags nest_limit pattern
 tree_refused flags nest_limit pattern a groups deepest g deep = record {
   with_tree = λ tree groups' deepest' h.
       let same = grammar_once flags pattern a tree groups groups' deepest deepest' g h in
@@ -116,10 +132,13 @@ tree_refused flags nest_limit pattern a groups deepest g deep = record {
   without = λ none. absurd (none (a, (groups, deepest, g)));
 }
 
-pub end_says : (flags : Flags) (nest_limit : ℕ) (pattern : Text) (p : Parser) (t : Text) (k : ErrorKind)
-    → Reaches flags nest_limit pattern p t → Gap p.here.flags.ignore_whitespace t [] → Refuses k (p.below.items ≢ []) (FinishesTooDeep p nest_limit) ⊥
+pub end_says : (flags : Flags) (nest_limit : ℕ) (pattern : Text) (p : Parser) (t : Text)
+    (k : ErrorKind)
+    → Reaches flags nest_limit pattern p t → Gap p.here.flags.ignore_whitespace t []
+    → Refuses k (p.below.items ≢ []) (FinishesTooDeep p nest_limit) ⊥
     → IsDueToPattern flags nest_limit pattern k
-end_says flags nest_limit pattern p t kind.Syntax r gap d = open_refused flags nest_limit pattern p t r gap d
+end_says flags nest_limit pattern p t kind.Syntax r gap d =
+    open_refused flags nest_limit pattern p t r gap d
 end_says flags nest_limit pattern p t kind.Nesting r gap d =
     let g = reaches_tree flags nest_limit pattern p t d.0 r gap d.1 in
     tree_refused flags nest_limit pattern d.0 p.groups r.deepest g d.2
@@ -132,14 +151,20 @@ end_says flags nest_limit pattern p t kind.Replace r gap d = absurd d
 
 -- before the end with nothing to be read, there is no tree either
 stuck_refused : (flags : Flags) (nest_limit : ℕ) (pattern : Text) (p : Parser) (t u : Text)
-    → Reaches flags nest_limit pattern p t → WholeGap p.here.flags.ignore_whitespace t u → (u ≡ [] → ⊥)
+    → Reaches flags nest_limit pattern p t → WholeGap p.here.flags.ignore_whitespace t u
+    → (u ≡ [] → ⊥)
     → (CanRead p u → ⊥) → HasTree flags pattern → ⊥
 unfolding state
 stuck_refused flags nest_limit pattern p t u r whole more stuck has =
     let s = state p t r.deepest in
     let verbose = p.here.flags.ignore_whitespace in
     refuses flags pattern s r.leads
-    (λ q st. stuck (r.deepest, q, step_past_gap s q u whole st, (reaches (leads_step r.leads st) has.1.2).names_differ))
+    (λ q st. stuck (
+      r.deepest,
+      q,
+      step_past_gap s q u whole st,
+      (reaches (leads_step r.leads st) has.1.2).names_differ,
+    ))
     (λ _ gap. more (gap_to_end verbose t u whole gap)) has
 
 -- where a further group can't be numbered
@@ -155,12 +180,15 @@ number_refused flags nest_limit pattern p t u r whole many capture =
     let more = more_parens s here begun.0 r.leads (whole.0, refl) begun.1 in
     record {
       with_tree = λ tree groups deepest g.
-          let number = opens_number s here head.0 r.leads (whole.0, refl) head.1 g in omega (arith, many, number);
+          let number = opens_number s here head.0 r.leads (whole.0, refl) head.1 g in
+          omega (arith, many, number);
       without = λ none. omega (arith, many, more.1);
     }
 
-pub step_says : (flags : Flags) (nest_limit : ℕ) (pattern : Text) (p : Parser) (t u : Text) (k : ErrorKind)
-    → Reaches flags nest_limit pattern p t → WholeGap p.here.flags.ignore_whitespace t u → (u ≡ [] → ⊥)
+pub step_says : (flags : Flags) (nest_limit : ℕ) (pattern : Text) (p : Parser) (t u : Text)
+    (k : ErrorKind)
+    → Reaches flags nest_limit pattern p t → WholeGap p.here.flags.ignore_whitespace t u
+    → (u ≡ [] → ⊥)
     → Refuses k (¬ CanRead p u) ⊥ (BeginsTooMany p u) → IsDueToPattern flags nest_limit pattern k
 step_says flags nest_limit pattern p t u kind.Syntax r whole more d =
     stuck_refused flags nest_limit pattern p t u r whole more d

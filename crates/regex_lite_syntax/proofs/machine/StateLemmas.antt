@@ -8,7 +8,8 @@ map_pushed f new old x e = ap (map f) e ∙ map_push f old x
 
 pub reverse_pushed : {X Y : Type 0} (f : X → Y) (new old : List X) (x : X) → new ≡ old ++ x ∷ []
     → reverse (map f new) ≡ f x ∷ reverse (map f old)
-reverse_pushed f new old x e = ap reverse (map_pushed f new old x e) ∙ reverse-append (map f old) (f x ∷ [])
+reverse_pushed f new old x e =
+    ap reverse (map_pushed f new old x e) ∙ reverse-append (map f old) (f x ∷ [])
 
 pub none_left : {X : Type 0} (xs : List X) → length xs ≡ 0 → xs ≡ []
 none_left [] e = refl

@@ -12,7 +12,8 @@ use Rattle.regex_lite_syntax.specs.Refusals.{Refuses, Denies}
 use Rattle.regex_lite_syntax.specs.Parser.States.{CanRead, BeginsCapture, BeginsTooMany}
 
 -- a refusal that says the one says what follows from it
-pub refuses_more : (k : ErrorKind) (s n g s' n' g' : Type 0) → (s → s') → (n → n') → (g → g') → Refuses k s n g
+pub refuses_more : (k : ErrorKind) (s n g s' n' g' : Type 0) → (s → s') → (n → n') → (g → g')
+    → Refuses k s n g
     → Refuses k s' n' g'
 refuses_more kind.Syntax s n g s' n' g' of_s of_n of_g says = of_s says
 refuses_more kind.Nesting s n g s' n' g' of_s of_n of_g says = of_n says
@@ -27,19 +28,23 @@ refuses_more kind.Replace s n g s' n' g' of_s of_n of_g says = absurd says
 pub denial_refuses : (e : Error) (reading s n g : Type 0) → ((reading → ⊥) → s) → Denies e reading
     → Refuses (kind_of e) s n g
 denial_refuses e reading s n g of_none denied =
-    refuses_more (kind_of e) (reading → ⊥) ⊥ ⊥ s n g of_none (λ none. absurd none) (λ none. absurd none) denied
+    refuses_more (kind_of e) (reading → ⊥) ⊥ ⊥ s n g of_none (λ none. absurd none)
+    (λ none. absurd none) denied
 
 -- what denies the one reading denies each that would give it
-pub denies_part : (e : Error) (whole part : Type 0) → (part → whole) → Denies e whole → Denies e part
+pub denies_part : (e : Error) (whole part : Type 0) → (part → whole) → Denies e whole
+    → Denies e part
 denies_part e whole part whole_of denied =
     denial_refuses e whole (part → ⊥) ⊥ ⊥ (λ none p. none (whole_of p)) denied
 
 -- the same where a pure reader refuses
-pub none_of_part : {T E whole part : Type 0} (r : Result T E) → (part → whole) → OnErr r (¬ whole) → OnErr r (¬ part)
+pub none_of_part : {T E whole part : Type 0} (r : Result T E) → (part → whole) → OnErr r (¬ whole)
+    → OnErr r (¬ part)
 none_of_part r whole_of none = on_err_weaker r (λ no p. no (whole_of p)) none
 
 -- what refuses to number a group that begins there refuses to read on
-pub number_refuses : (e : Error) (p : Parser) (t : Text) → Refuses (kind_of e) ⊥ ⊥ (PassesGroups (p.groups + 1))
+pub number_refuses : (e : Error) (p : Parser) (t : Text)
+    → Refuses (kind_of e) ⊥ ⊥ (PassesGroups (p.groups + 1))
     → BeginsCapture p t → Refuses (kind_of e) (¬ CanRead p t) ⊥ (BeginsTooMany p t)
 number_refuses e p t says begins =
     refuses_more (kind_of e) ⊥ ⊥ (PassesGroups (p.groups + 1)) (¬ CanRead p t) ⊥ (BeginsTooMany p t)

@@ -1,5 +1,6 @@
 -- What is left of a text at an index.
-use Rattle.std.proofs.Common.{◌≡◌, sym, ◌∙◌, ap, subst, ℕ, ◌+◌, ◌<◌, ◌≤◌, drop, length, [], ◌∷◌, get_or, arith, add-one}
+use Rattle.std.proofs.Common.{◌≡◌, sym, ◌∙◌, ap, subst, ℕ, ◌+◌, ◌<◌, ◌≤◌}
+use Rattle.std.proofs.Common.{drop, length, [], ◌∷◌, get_or, arith, add-one}
 use Rattle.std.proofs.Math.Seq.{drop-cons}
 use Rattle.std.proofs.lemmas.List.{drop_all, get_or_read}
 use Rattle.regex_lite_syntax.specs.Text.{Text, Begins}
@@ -8,11 +9,14 @@ use Rattle.regex_lite_syntax.specs.Text.{Text, Begins}
 pub drop_at : (xs : Text) (i : ℕ) → i < length xs → drop i xs ≡ get_or xs i 0 ∷ drop (i + 1) xs
 drop_at xs i h = rw add-one (drop-cons xs i 0 h)
 
-pub drop_char : (xs : Text) (i x : ℕ) → i < length xs → x ≡ get_or xs i x → drop i xs ≡ x ∷ drop (i + 1) xs
-drop_char xs i x h e = drop_at xs i h ∙ ap (λ y. y ∷ drop (i + 1) xs) (sym (get_or_read xs i x h e 0))
+pub drop_char : (xs : Text) (i x : ℕ) → i < length xs → x ≡ get_or xs i x
+    → drop i xs ≡ x ∷ drop (i + 1) xs
+drop_char xs i x h e =
+    drop_at xs i h ∙ ap (λ y. y ∷ drop (i + 1) xs) (sym (get_or_read xs i x h e 0))
 
 -- the text at the index begins with this character
-pub drop_begins : (xs : Text) (i c : ℕ) → i < length xs → Begins c (drop i xs) → drop i xs ≡ c ∷ drop (i + 1) xs
+pub drop_begins : (xs : Text) (i c : ℕ) → i < length xs → Begins c (drop i xs)
+    → drop i xs ≡ c ∷ drop (i + 1) xs
 drop_begins xs i c h begins =
     let e = drop_at xs i h in
     e ∙ ap (λ y. y ∷ drop (i + 1) xs) (subst (λ t. Begins c t) e begins)
@@ -21,5 +25,6 @@ pub left_at_end : (xs : Text) (i : ℕ) → i ≡ length xs → drop i xs ≡ []
 left_at_end xs i e = drop_all i xs (omega (arith, e))
 
 -- before the end some character stands there
-pub left_inside : (xs : Text) (i : ℕ) → i ≤ length xs → (i ≡ length xs → ⊥) → drop i xs ≡ get_or xs i 0 ∷ drop (i + 1) xs
+pub left_inside : (xs : Text) (i : ℕ) → i ≤ length xs → (i ≡ length xs → ⊥)
+    → drop i xs ≡ get_or xs i 0 ∷ drop (i + 1) xs
 left_inside xs i l more = drop_at xs i (omega (arith, l, more))

@@ -1,9 +1,11 @@
 -- The items that are no groups.
-use Rattle.std.specs.Prelude.{◌≡◌, ℕ, Bool, not, ◌&&◌, ◌||◌, ◌==◌, List, ◌∷◌, MatchBool, if◌then◌else◌}
+use Rattle.std.specs.Prelude.{◌≡◌, ℕ, Bool, not, ◌&&◌, ◌||◌, ◌==◌}
+use Rattle.std.specs.Prelude.{List, ◌∷◌, MatchBool, if◌then◌else◌}
 use Rattle.regex_lite_syntax.specs.declared.flags.Flags.{Flags}
 use Rattle.regex_lite_syntax.specs.declared.class.ClassRange.{ClassRange}
 use Rattle.regex_lite_syntax.specs.declared.hir.look.Look.{Look}
-use Rattle.regex_lite_syntax.specs.declared.hir.look.Look.TheVariants.{Start, End, StartLF, EndLF, StartCRLF, EndCRLF}
+use Rattle.regex_lite_syntax.specs.declared.hir.look.Look.TheVariants.{Start, End, StartLF}
+use Rattle.regex_lite_syntax.specs.declared.hir.look.Look.TheVariants.{EndLF, StartCRLF, EndCRLF}
 use Rattle.regex_lite_syntax.specs.Text.{Text, the, ◌∈◌}
 use Rattle.regex_lite_syntax.specs.Characters.{is_character, is_white_space, is_letter}
 use Rattle.regex_lite_syntax.specs.Sets.{Set, just, case_closure}

@@ -1,5 +1,6 @@
 -- Bracketed classes.
-use Rattle.std.specs.Prelude.{◌≡◌, ◌≢◌, ℕ, zero, suc, ◌≤◌, Bool, true, false, not, ◌&&◌, nat_lt, List, [], ◌∷◌, ◌++◌, Some, IsTrue, codes, if◌then◌else◌}
+use Rattle.std.specs.Prelude.{◌≡◌, ◌≢◌, ℕ, zero, suc, ◌≤◌, Bool, true, false, not, ◌&&◌}
+use Rattle.std.specs.Prelude.{nat_lt, List, [], ◌∷◌, ◌++◌, Some, IsTrue, codes, if◌then◌else◌}
 use Rattle.std.specs.List.{AllPass}
 use Rattle.regex_lite_syntax.specs.Text.{Text, Begins, the, ◌∈◌}
 use Rattle.regex_lite_syntax.specs.Characters.{is_lower, is_white_space}

@@ -1,5 +1,6 @@
 -- Counted operators, from after the brace that opens them.
-use Rattle.std.specs.Prelude.{◌≡◌, ◌⊎◌, ℕ, ◌^◌, ◌<◌, ◌≤◌, Bool, true, false, not, [], ◌∷◌, length, Option, Some, None, IsTrue}
+use Rattle.std.specs.Prelude.{◌≡◌, ◌⊎◌, ℕ, ◌^◌, ◌<◌, ◌≤◌, Bool, true, false}
+use Rattle.std.specs.Prelude.{not, [], ◌∷◌, length, Option, Some, None, IsTrue}
 use Rattle.regex_lite_syntax.specs.Text.{Text, Begins, the}
 use Rattle.regex_lite_syntax.specs.Characters.{is_white_space, is_digit, number_of}
 use Rattle.regex_lite_syntax.specs.Grammar.Gaps.{Spacing, Gap, EndsGap, Spaced}

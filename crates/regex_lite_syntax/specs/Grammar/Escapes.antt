@@ -1,10 +1,12 @@
 -- Escapes: a backslash and what follows it.
-use Rattle.std.specs.Prelude.{◌≡◌, ℕ, ◌<◌, Bool, not, ◌&&◌, ◌||◌, ◌==◌, nat_lt, [], ◌∷◌, length, Option, Some, None, IsTrue, codes, if◌then◌else◌}
+use Rattle.std.specs.Prelude.{◌≡◌, ℕ, ◌<◌, Bool, not, ◌&&◌, ◌||◌, ◌==◌, nat_lt, [], ◌∷◌}
+use Rattle.std.specs.Prelude.{length, Option, Some, None, IsTrue, codes, if◌then◌else◌}
 use Prim.Native.String.{String}
 use Rattle.regex_lite_syntax.specs.declared.hir.look.Look.{Look}
 use Rattle.regex_lite_syntax.specs.declared.hir.look.Look.TheVariants as looks
 use Rattle.regex_lite_syntax.specs.Text.{Text, Begins, is_text, the}
-use Rattle.regex_lite_syntax.specs.Characters.{is_character, is_letter, is_digit, is_hex_digit, number_of}
+use Rattle.regex_lite_syntax.specs.Characters.{is_character, is_letter, is_digit}
+use Rattle.regex_lite_syntax.specs.Characters.{is_hex_digit, number_of}
 use Rattle.regex_lite_syntax.specs.Grammar.Gaps.{Gap, Spaced}
 use Rattle.regex_lite_syntax.specs.Sets.{Set, complement}
 use Rattle.regex_lite_syntax.specs.NamedSets.{members, digit, space, word}

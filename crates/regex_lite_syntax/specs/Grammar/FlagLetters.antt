@@ -1,5 +1,6 @@
 -- Flags that are written in a pattern.
-use Rattle.std.specs.Prelude.{◌≡◌, ℕ, ◌<◌, Bool, true, false, not, ◌&&◌, ◌==◌, [], ◌∷◌, ◌++◌, length, IsTrue, if◌then◌else◌}
+use Rattle.std.specs.Prelude.{◌≡◌, ℕ, ◌<◌, Bool, true, false, not, ◌&&◌, ◌==◌}
+use Rattle.std.specs.Prelude.{[], ◌∷◌, ◌++◌, length, IsTrue, if◌then◌else◌}
 use Rattle.regex_lite_syntax.specs.declared.flags.Flags.{Flags}
 use Rattle.std.specs.List.{AllPass}
 use Rattle.regex_lite_syntax.specs.Text.{Text, the, ◌∈◌}

@@ -1,10 +1,12 @@
 -- Names of capturing groups.
-use Rattle.std.specs.Prelude.{◌≡◌, ◌≢◌, ℕ, Bool, true, false, not, ◌&&◌, ◌||◌, ◌==◌, List, [], ◌∷◌, ◌++◌, IsTrue, AllPairs, codes}
+use Rattle.std.specs.Prelude.{◌≡◌, ◌≢◌, ℕ, Bool, true, false, not, ◌&&◌, ◌||◌}
+use Rattle.std.specs.Prelude.{◌==◌, List, [], ◌∷◌, ◌++◌, IsTrue, AllPairs, codes}
 use Rattle.std.specs.List.{list_all, AllPass}
 use Rattle.unicode.specs.Binary.{is_alphabetic}
 use Rattle.unicode.specs.GeneralCategory.{general_category}
 use Rattle.unicode.specs.declared.properties.GeneralCategory.{GeneralCategory}
-use Rattle.unicode.specs.declared.properties.GeneralCategory.TheVariants.{DecimalNumber, LetterNumber, OtherNumber}
+use Rattle.unicode.specs.declared.properties.GeneralCategory.TheVariants.{DecimalNumber}
+use Rattle.unicode.specs.declared.properties.GeneralCategory.TheVariants.{LetterNumber, OtherNumber}
 use Rattle.regex_lite_syntax.specs.Text.{Text, the, ◌∈◌}
 
 -- the categories of numbers: Nd, Nl and No

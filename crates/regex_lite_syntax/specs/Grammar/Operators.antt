@@ -1,5 +1,6 @@
 -- The operators that repeat an item.
-use Rattle.std.specs.Prelude.{◌≡◌, ℕ, Bool, true, false, not, ◌==◌, ◌∷◌, Option, Some, None, if◌then◌else◌}
+use Rattle.std.specs.Prelude.{◌≡◌, ℕ, Bool, true, false, not, ◌==◌}
+use Rattle.std.specs.Prelude.{◌∷◌, Option, Some, None, if◌then◌else◌}
 use Rattle.regex_lite_syntax.specs.declared.flags.Flags.{Flags}
 use Rattle.regex_lite_syntax.specs.Text.{Text, Begins, the}
 use Rattle.regex_lite_syntax.specs.Grammar.Gaps.{Gap}

@@ -1,7 +1,11 @@
 -- What the readers of a class give, as what the grammar gives.
 use Rattle.std.specs.Prelude.{◌≡◌, ◌≤◌, ℕ, Bool, false, List, [], ◌∷◌, IsTrue, codes}
 use Rattle.regex_lite_syntax.specs.declared.class.named.NamedSet.{NamedSet}
-use Rattle.regex_lite_syntax.specs.declared.class.named.NamedSet.TheVariants.{Alnum, Alpha, Ascii, Blank, Cntrl, Digit, Graph, Lower, Print, Punct, Space, Upper, Word, Xdigit}
+use Rattle.regex_lite_syntax.specs.declared.class.named.NamedSet.TheVariants.{Alnum, Alpha, Ascii}
+use Rattle.regex_lite_syntax.specs.declared.class.named.NamedSet.TheVariants.{Blank, Cntrl, Digit}
+use Rattle.regex_lite_syntax.specs.declared.class.named.NamedSet.TheVariants.{Graph, Lower, Print}
+use Rattle.regex_lite_syntax.specs.declared.class.named.NamedSet.TheVariants.{Punct, Space, Upper}
+use Rattle.regex_lite_syntax.specs.declared.class.named.NamedSet.TheVariants.{Word, Xdigit}
 use Rattle.regex_lite_syntax.specs.declared.parse.bracket.item.Element.{Element}
 use Rattle.regex_lite_syntax.specs.declared.parse.bracket.item.Element.TheVariants as elements
 use Rattle.regex_lite_syntax.specs.declared.parse.bracket.item.Item.{Item}

@@ -8,7 +8,8 @@ use Rattle.regex_lite_syntax.specs.declared.class.named.NamedSet.{NamedSet}
 use Rattle.regex_lite_syntax.specs.Sets.{Set, complement}
 use Rattle.regex_lite_syntax.specs.NamedSets.{members}
 use Rattle.regex_lite_syntax.specs.Parser.SetNames.{name_of}
-use Rattle.regex_lite_syntax.specs.Grammar.Escapes.{Primitive, one, some_of, look_at, EscapeKind, gives, word_boundary, hexadecimal, refused}
+use Rattle.regex_lite_syntax.specs.Grammar.Escapes.{Primitive, one, some_of, look_at, EscapeKind}
+use Rattle.regex_lite_syntax.specs.Grammar.Escapes.{gives, word_boundary, hexadecimal, refused}
 
 -- the set with a name, or all other characters
 abbrev pub named_or_not : NamedSet → (negated : Bool) → Set

@@ -1,7 +1,9 @@
 -- The sets of the code by their names.
 use Rattle.regex_lite_syntax.specs.declared.class.named.NamedSet.{NamedSet}
 use Rattle.regex_lite_syntax.specs.declared.class.named.NamedSet.TheVariants as sets
-use Rattle.regex_lite_syntax.specs.NamedSets.{SetName, alnum, alpha, ascii, blank, cntrl, digit, graph, lower, print, punct, space, upper, word, xdigit}
+use Rattle.regex_lite_syntax.specs.NamedSets.{SetName, alnum, alpha, ascii, blank}
+use Rattle.regex_lite_syntax.specs.NamedSets.{cntrl, digit, graph, lower, print}
+use Rattle.regex_lite_syntax.specs.NamedSets.{punct, space, upper, word, xdigit}
 
 -- the name of the set
 abbrev pub name_of : NamedSet → SetName

@@ -1,17 +1,23 @@
 -- The parser as a state of the machine, and what each of its steps does to it.
-use Rattle.std.specs.Prelude.{◌≡◌, ℕ, ◌+◌, ◌<◌, ◌≤◌, List, [], ◌∷◌, ◌++◌, Option, map, option_map, reverse, length, drop}
+use Rattle.std.specs.Prelude.{◌≡◌, ℕ, ◌+◌, ◌<◌, ◌≤◌, List, [], ◌∷◌, ◌++◌}
+use Rattle.std.specs.Prelude.{Option, map, option_map, reverse, length, drop}
 use Rattle.std.specs.Prelude.{max as greatest}
 use Rattle.regex_lite_syntax.specs.declared.flags.Flags.{Flags}
 use Rattle.regex_lite_syntax.specs.declared.parse.level.OpenGroup.{OpenGroup}
 use Rattle.regex_lite_syntax.specs.declared.parse.level.GroupKind.{GroupKind as Kind}
-use Rattle.regex_lite_syntax.specs.declared.parse.level.GroupKind.TheVariants.{NonCapturing, Capturing}
+use Rattle.regex_lite_syntax.specs.declared.parse.level.GroupKind.TheVariants.{
+  NonCapturing,
+  Capturing,
+}
 use Rattle.regex_lite_syntax.specs.declared.parse.Parser.{Parser}
 use Rattle.regex_lite_syntax.specs.Text.{Text}
 use Rattle.regex_lite_syntax.specs.Tree.{Tree, choice_of}
 use Rattle.regex_lite_syntax.specs.Grammar.GroupNames.{NamesDiffer}
 use Rattle.regex_lite_syntax.specs.Grammar.Points.{Point, onward}
-use Rattle.regex_lite_syntax.specs.Grammar.Heads.{GroupKind, non_capturing, capturing, numbered_on, inside, Head}
-use Rattle.regex_lite_syntax.specs.Parser.Machine.{Frame, State, Step, ended, opened, closed, parted, with_items}
+use Rattle.regex_lite_syntax.specs.Grammar.Heads.{GroupKind, non_capturing, capturing}
+use Rattle.regex_lite_syntax.specs.Grammar.Heads.{numbered_on, inside, Head}
+use Rattle.regex_lite_syntax.specs.Parser.Machine.{Frame, State, Step, ended, opened}
+use Rattle.regex_lite_syntax.specs.Parser.Machine.{closed, parted, with_items}
 use Rattle.regex_lite_syntax.specs.Limits.{PassesGroups, depth}
 use Rattle.regex_lite_syntax.specs.Tree.Views.{text_of_name, tree_of}
 

@@ -1,7 +1,12 @@
 -- Where each look holds, by the characters beside a position of the whole haystack.
-use Rattle.std.specs.Prelude.{ℕ, Bool, false, not, ◌&&◌, ◌||◌, ◌==◌, Option, Some, None, is_none, IsTrue}
+use Rattle.std.specs.Prelude.{ℕ, Bool, false, not, ◌&&◌, ◌||◌, ◌==◌}
+use Rattle.std.specs.Prelude.{Option, Some, None, is_none, IsTrue}
 use Rattle.regex_lite_syntax.specs.declared.hir.look.Look.{Look}
-use Rattle.regex_lite_syntax.specs.declared.hir.look.Look.TheVariants.{Start, End, StartLF, EndLF, StartCRLF, EndCRLF, Word, WordNegate, WordStart, WordEnd, WordStartHalf, WordEndHalf}
+use Rattle.regex_lite_syntax.specs.declared.hir.look.Look.TheVariants.{Start, End, StartLF, EndLF}
+use Rattle.regex_lite_syntax.specs.declared.hir.look.Look.TheVariants.{StartCRLF, EndCRLF, Word}
+use Rattle.regex_lite_syntax.specs.declared.hir.look.Look.TheVariants.{WordNegate, WordStart}
+use Rattle.regex_lite_syntax.specs.declared.hir.look.Look.TheVariants.{WordEnd, WordStartHalf}
+use Rattle.regex_lite_syntax.specs.declared.hir.look.Look.TheVariants.{WordEndHalf}
 use Rattle.regex_lite_syntax.specs.Text.{Text, before, after, the}
 use Rattle.regex_lite_syntax.specs.NamedSets.{members, word}
 

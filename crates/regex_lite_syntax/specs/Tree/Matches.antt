@@ -3,7 +3,8 @@ use Rattle.std.specs.Prelude.{◌≡◌, ◌⊎◌, ◌≤◌, ℕ, zero, suc, O
 use Rattle.regex_lite_syntax.specs.Text.{Text, after}
 use Rattle.regex_lite_syntax.specs.Ranges.{in_ranges}
 use Rattle.regex_lite_syntax.specs.Tree.Looks.{Holds}
-use Rattle.regex_lite_syntax.specs.Tree.{Tree, empty, character, class, look, capture, repetition, concat, alternation, Trees, none, more}
+use Rattle.regex_lite_syntax.specs.Tree.{Tree, empty, character, class, look, capture}
+use Rattle.regex_lite_syntax.specs.Tree.{repetition, concat, alternation, Trees, none, more}
 
 -- a position of the haystack: one before each character, and one at its end
 abbrev pub IsPosition : Text → ℕ → Type 0

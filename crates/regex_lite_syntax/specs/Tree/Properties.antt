@@ -1,8 +1,10 @@
 -- Properties of a tree: whether it can match the empty text, and what it says of its groups.
-use Rattle.std.specs.Prelude.{ℕ, zero, suc, ◌≡◌, ◌+◌, ◌^◌, ◌==◌, nat_lt, max, Bool, true, false, ◌&&◌, ◌||◌, Option, Some, None, if◌then◌else◌}
+use Rattle.std.specs.Prelude.{ℕ, zero, suc, ◌≡◌, ◌+◌, ◌^◌, ◌==◌, nat_lt, max, Bool, true}
+use Rattle.std.specs.Prelude.{false, ◌&&◌, ◌||◌, Option, Some, None, if◌then◌else◌}
 use Rattle.std.specs.Option.{option_or}
 use Rattle.regex_lite_syntax.specs.Text.{Text}
-use Rattle.regex_lite_syntax.specs.Tree.{Tree, Trees, empty, character, class, look, repetition, capture, concat, alternation, none, more}
+use Rattle.regex_lite_syntax.specs.Tree.{Tree, Trees, empty, character, class, look}
+use Rattle.regex_lite_syntax.specs.Tree.{repetition, capture, concat, alternation, none, more}
 use Rattle.regex_lite_syntax.specs.declared.hir.properties.Properties.{Properties}
 
 -- no pass is needed

@@ -2,7 +2,8 @@
 use Rattle.std.specs.Prelude.{◌≤◌, ℕ, Option, Some, None, IsTrue}
 use Rattle.regex_lite_syntax.specs.Characters.{is_character}
 use Rattle.regex_lite_syntax.specs.Ranges.{AreRuns}
-use Rattle.regex_lite_syntax.specs.Tree.{Tree, Trees, empty, character, class, look, repetition, capture, concat, alternation, none, more}
+use Rattle.regex_lite_syntax.specs.Tree.{Tree, Trees, empty, character, class, look}
+use Rattle.regex_lite_syntax.specs.Tree.{repetition, capture, concat, alternation, none, more}
 
 -- at most so many, where there is a limit
 abbrev pub InOrder : (least : ℕ) → (most : Option ℕ) → Type 0

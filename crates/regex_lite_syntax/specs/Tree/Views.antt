@@ -4,7 +4,8 @@ use Rattle.std.specs.Rc.{rc_str_bytes}
 use Rattle.std.specs.declared.alloc.Global.{Global}
 use Rattle.std.specs.declared.rc.RcStr.{RcStr}
 use Rattle.regex_lite_syntax.specs.Text.{Text}
-use Rattle.regex_lite_syntax.specs.Tree.{Tree, trees, empty, character, class, look, repetition, capture, concat, alternation}
+use Rattle.regex_lite_syntax.specs.Tree.{Tree, trees, empty, character, class, look}
+use Rattle.regex_lite_syntax.specs.Tree.{repetition, capture, concat, alternation}
 use Rattle.regex_lite_syntax.specs.declared.hir.Hir.{Hir}
 use Rattle.regex_lite_syntax.specs.declared.hir.Hir.TheOpen.{Hir-F}
 use Rattle.regex_lite_syntax.specs.declared.hir.Hir.TheFolds.{fold-Hir}

@@ -1,5 +1,6 @@
 //! The other case of ASCII letters.
-ghost use Rattle.std.specs.Prelude.{◌≡◌, ℕ, ◌+◌, ◌-◌, ◌<◌, ◌≤◌, ◌||◌, ◌&&◌, min, max, MatchOption, OnOk};
+ghost use Rattle.std.specs.Prelude.{◌≡◌, ℕ, ◌+◌, ◌-◌, ◌<◌, ◌≤◌, ◌||◌};
+ghost use Rattle.std.specs.Prelude.{◌&&◌, min, max, MatchOption, OnOk};
 ghost use Rattle.regex_lite_syntax.specs.Characters.{is_letter, is_lower, is_upper, other_case};
 ghost use Rattle.regex_lite_syntax.specs.Sets.{span, case_closure};
 ghost use Rattle.regex_lite_syntax.specs.Ranges.{in_ranges};

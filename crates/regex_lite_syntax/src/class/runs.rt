@@ -1,5 +1,6 @@
 //! Ranges that are joined where no character stands between them.
-ghost use Rattle.std.specs.Prelude.{◌≡◌, ℕ, ◌+◌, ◌<◌, ◌≤◌, ◌||◌, All, MatchBool, OnOk, length, take, drop};
+ghost use Rattle.std.specs.Prelude.{◌≡◌, ℕ, ◌+◌, ◌<◌, ◌≤◌, ◌||◌, All};
+ghost use Rattle.std.specs.Prelude.{MatchBool, OnOk, length, take, drop};
 ghost use Rattle.std.specs.List.Sorted.{IsNonDecreasingBy};
 ghost use Rattle.regex_lite_syntax.specs.Sets.{span};
 ghost use Rattle.regex_lite_syntax.specs.Ranges.{in_ranges, next_character, AreRuns, AreRunsOf};

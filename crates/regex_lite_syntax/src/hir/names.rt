@@ -1,6 +1,9 @@
 //! The names of a tree's groups.
-ghost use Rattle.std.specs.Prelude.{◌≡◌, ◌<◌, ℕ, None, IfOk, length, map, option_map, slice_index_or};
-ghost use Rattle.regex_lite_syntax.specs.Tree.Properties.{captures_len, greatest_index, greatest_index_in, group_name, group_name_in};
+ghost use Rattle.std.specs.Prelude.{◌≡◌, ◌<◌, ℕ, None, IfOk, length};
+ghost use Rattle.std.specs.Prelude.{map, option_map, slice_index_or};
+ghost use Rattle.regex_lite_syntax.specs.Tree.Properties.{captures_len, greatest_index};
+ghost use Rattle.regex_lite_syntax.specs.Tree.Properties.{greatest_index_in};
+ghost use Rattle.regex_lite_syntax.specs.Tree.Properties.{group_name, group_name_in};
 ghost use Rattle.regex_lite_syntax.specs.Tree.{trees as trees_of};
 ghost use Rattle.regex_lite_syntax.specs.Tree.NameTables.{AddsNames, name_if_at};
 ghost use Rattle.regex_lite_syntax.specs.Tree.Views.{text_of_name, tree_of};

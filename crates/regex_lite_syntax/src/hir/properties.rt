@@ -2,9 +2,12 @@
 //! numbered and how many take part in every match.
 ghost use Rattle.std.specs.Prelude.{◌≡◌, ℕ, Bool, Option, map, option_map};
 ghost use Rattle.regex_lite_syntax.specs.Text.{Text};
-ghost use Rattle.regex_lite_syntax.specs.Tree.{Tree, Trees, repetition, capture, concat, alternation, none, more, trees as trees_of};
+ghost use Rattle.regex_lite_syntax.specs.Tree.{Tree, Trees, repetition, capture, concat};
+ghost use Rattle.regex_lite_syntax.specs.Tree.{alternation, none, more, trees as trees_of};
 ghost use Rattle.regex_lite_syntax.specs.Tree.Views.{tree_of};
-ghost use Rattle.regex_lite_syntax.specs.Tree.Properties.{nullable, all_nullable, any_nullable, sum, common, in_passes, in_32_bits, ArePropertiesOf};
+ghost use Rattle.regex_lite_syntax.specs.Tree.Properties.{nullable, all_nullable, any_nullable};
+ghost use Rattle.regex_lite_syntax.specs.Tree.Properties.{sum, common, in_passes, in_32_bits};
+ghost use Rattle.regex_lite_syntax.specs.Tree.Properties.{ArePropertiesOf};
 
 use super::Hir;
 

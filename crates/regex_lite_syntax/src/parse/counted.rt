@@ -1,9 +1,11 @@
 //! Counted operators: how often they repeat, in braces.
-ghost use Rattle.std.specs.Prelude.{◌≡◌, ℕ, ◌+◌, ◌*◌, ◌^◌, ◌<◌, ◌≤◌, ◌∷◌, drop, length, Option, IsTrue, IfOk, OnErr, IfSome, IfNone, SomeIff};
+ghost use Rattle.std.specs.Prelude.{◌≡◌, ℕ, ◌+◌, ◌*◌, ◌^◌, ◌<◌, ◌≤◌, ◌∷◌, drop, length};
+ghost use Rattle.std.specs.Prelude.{Option, IsTrue, IfOk, OnErr, IfSome, IfNone, SomeIff};
 ghost use Rattle.regex_lite_syntax.specs.Text.{Text};
 ghost use Rattle.regex_lite_syntax.specs.Characters.{is_digit, digit_value};
 ghost use Rattle.regex_lite_syntax.specs.Grammar.Gaps.{Gap};
-ghost use Rattle.regex_lite_syntax.specs.Grammar.Counted.{WholeSide, Number, EndsNumber, Limit, Counted};
+ghost use Rattle.regex_lite_syntax.specs.Grammar.Counted.{WholeSide, Number};
+ghost use Rattle.regex_lite_syntax.specs.Grammar.Counted.{EndsNumber, Limit, Counted};
 
 use crate::error::SyntaxFault;
 use crate::parse::gap::{is_white_space_char, skip_gap};

@@ -4,7 +4,9 @@ ghost use Rattle.regex_lite_syntax.specs.Text.{Text};
 ghost use Rattle.regex_lite_syntax.specs.Sets.{complement};
 ghost use Rattle.regex_lite_syntax.specs.NamedSets.{members};
 ghost use Rattle.regex_lite_syntax.specs.Parser.SetNames.{name_of};
-ghost use Rattle.regex_lite_syntax.specs.Grammar.Escapes.{Primitive as Given, Escape, one, some_of, gives, refused, escape_kind, is_escapable};
+ghost use Rattle.regex_lite_syntax.specs.Grammar.Escapes.{Primitive as Given, Escape};
+ghost use Rattle.regex_lite_syntax.specs.Grammar.Escapes.{one, some_of, gives, refused};
+ghost use Rattle.regex_lite_syntax.specs.Grammar.Escapes.{escape_kind, is_escapable};
 ghost use Rattle.regex_lite_syntax.specs.Parser.Readings.{primitive_of, escape_kind_of};
 
 mod boundary;

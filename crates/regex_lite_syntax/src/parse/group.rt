@@ -1,5 +1,6 @@
 //! Groups and directives.
-ghost use Rattle.std.specs.Prelude.{◌≡◌, ◌<◌, ◌≤◌, ◌+◌, ◌∷◌, [], true, false, drop, length, option_map, IfOk, IfErr, OnOk};
+ghost use Rattle.std.specs.Prelude.{◌≡◌, ◌<◌, ◌≤◌, ◌+◌, ◌∷◌, [], true, false};
+ghost use Rattle.std.specs.Prelude.{drop, length, option_map, IfOk, IfErr, OnOk};
 ghost use Rattle.regex_lite_syntax.specs.Errors.{kind_of};
 ghost use Rattle.regex_lite_syntax.specs.Limits.{PassesGroups};
 ghost use Rattle.regex_lite_syntax.specs.Text.{Text, the};
@@ -7,7 +8,9 @@ ghost use Rattle.regex_lite_syntax.specs.Grammar.Gaps.{WholeGap};
 ghost use Rattle.regex_lite_syntax.specs.Grammar.GroupNames.{NameOpening, Named};
 ghost use Rattle.regex_lite_syntax.specs.Tree.Views.{text_of_name};
 ghost use Rattle.regex_lite_syntax.specs.Refusals.{Refuses};
-ghost use Rattle.regex_lite_syntax.specs.Parser.States.{group_kind, Advances, CanRead, BeginsTooMany, OpensGroup, OpensCapture, Closes, Directs};
+ghost use Rattle.regex_lite_syntax.specs.Parser.States.{group_kind, Advances, CanRead};
+ghost use Rattle.regex_lite_syntax.specs.Parser.States.{BeginsTooMany, OpensGroup};
+ghost use Rattle.regex_lite_syntax.specs.Parser.States.{OpensCapture, Closes, Directs};
 
 use crate::error::{Error, SyntaxFault};
 use crate::flags::Flags;

@@ -1,9 +1,11 @@
 //! Flags that are written in a pattern.
-ghost use Rattle.std.specs.Prelude.{◌≡◌, ◌<◌, ◌≤◌, ◌++◌, IsTrue, true, false, drop, length, slice_range, codes, IfOk, OnErr, OnSome};
+ghost use Rattle.std.specs.Prelude.{◌≡◌, ◌<◌, ◌≤◌, ◌++◌, IsTrue, true, false, drop};
+ghost use Rattle.std.specs.Prelude.{length, slice_range, codes, IfOk, OnErr, OnSome};
 ghost use Rattle.regex_lite_syntax.specs.declared.flags.Flags.{Flags};
 ghost use Rattle.regex_lite_syntax.specs.Text.{Text, ◌∈◌};
 ghost use Rattle.regex_lite_syntax.specs.Characters.{is_one_of};
-ghost use Rattle.regex_lite_syntax.specs.Grammar.FlagLetters.{is_flag_letter, with_flag, with_flags, all_differ};
+ghost use Rattle.regex_lite_syntax.specs.Grammar.FlagLetters.{is_flag_letter, with_flag};
+ghost use Rattle.regex_lite_syntax.specs.Grammar.FlagLetters.{with_flags, all_differ};
 ghost use Rattle.regex_lite_syntax.specs.Parser.FlagRuns.{EndedFlags, LetterRun};
 
 use crate::error::SyntaxFault;

@@ -1,7 +1,9 @@
 //! Names of capturing groups.
-ghost use Rattle.std.specs.Prelude.{◌≡◌, ◌<◌, ◌≤◌, ◌-◌, ◌↔◌, drop, length, chars as chars_of, slice_range, IsTrue, Contains, IfOk, OnErr, IfSome, IfNone};
+ghost use Rattle.std.specs.Prelude.{◌≡◌, ◌<◌, ◌≤◌, ◌-◌, ◌↔◌, drop, length, chars as chars_of};
+ghost use Rattle.std.specs.Prelude.{slice_range, IsTrue, Contains, IfOk, OnErr, IfSome, IfNone};
 ghost use Rattle.regex_lite_syntax.specs.Text.{Text};
-ghost use Rattle.regex_lite_syntax.specs.Grammar.GroupNames.{begins_name, continues_name, NameWritten, NameOpening, Named};
+ghost use Rattle.regex_lite_syntax.specs.Grammar.GroupNames.{begins_name, continues_name};
+ghost use Rattle.regex_lite_syntax.specs.Grammar.GroupNames.{NameWritten, NameOpening, Named};
 ghost use Rattle.regex_lite_syntax.specs.Tree.Views.{text_of_name, names_of};
 
 use crate::error::SyntaxFault;

@@ -1,5 +1,6 @@
 //! Single characters of a pattern, by their index.
-ghost use Rattle.std.specs.Prelude.{◌≡◌, ◌<◌, ◌≤◌, ◌+◌, [], ◌∷◌, IsTrue, false, MatchOption, drop, length};
+ghost use Rattle.std.specs.Prelude.{◌≡◌, ◌<◌, ◌≤◌, ◌+◌, [], ◌∷◌, IsTrue};
+ghost use Rattle.std.specs.Prelude.{false, MatchOption, drop, length};
 ghost use Rattle.regex_lite_syntax.specs.Text.{Begins};
 
 /// The character at the index, if one is left there.

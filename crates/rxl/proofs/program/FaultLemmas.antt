@@ -1,5 +1,6 @@
 -- From what went wrong to what the fault says.
-use Rattle.std.proofs.Common.{◌≡◌, inl, inr, ℕ, Bool, true, false, Result, Ok, Err, IfErr, IsErrAnd, List, [], Option, Some, None, IfSome, IsUtf8, refl, sym, ◌∙◌, subst}
+use Rattle.std.proofs.Common.{◌≡◌, inl, inr, ℕ, Bool, true, false, Result, Ok, Err, IfErr, IsErrAnd}
+use Rattle.std.proofs.Common.{List, [], Option, Some, None, IfSome, IsUtf8, refl, sym, ◌∙◌, subst}
 use Rattle.std.specs.Borrow.{Bor}
 use Rattle.std.specs.Io.KnownBytes.{Appends}
 use Rattle.std.proofs.lemmas.List.{append-nil}
@@ -8,7 +9,8 @@ use Rattle.regex_lite.specs.Replacing.{Begins}
 use Rattle.rxl.specs.declared.command.Command.{Command}
 use Rattle.rxl.specs.declared.command.Command.TheVariants.{Ask, Escape}
 use Rattle.rxl.specs.declared.fault.Fault.{Fault}
-use Rattle.rxl.specs.declared.fault.Fault.TheVariants.{Usage, NotUtf8, Unreadable, Unwritten, Refused}
+use Rattle.rxl.specs.declared.fault.Fault.TheVariants.{Usage, NotUtf8, Unreadable}
+use Rattle.rxl.specs.declared.fault.Fault.TheVariants.{Unwritten, Refused}
 use Rattle.rxl.specs.Faults.{Ends, IsCutShort, IsFaultOf, IsReported, IsReportedAs, line_of_fault}
 use Rattle.rxl.specs.Output.{IsWritten}
 

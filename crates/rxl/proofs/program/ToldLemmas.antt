@@ -1,5 +1,6 @@
 -- From what is printed for a question to what a run tells.
-use Rattle.std.proofs.Common.{◌≡◌, ℕ, Bool, true, false, List, [], Option, Some, None, Result, Ok, Err, IfOk, IfSome, IsTrue, IsUtf8, ◌↔◌, refl, sym, subst}
+use Rattle.std.proofs.Common.{◌≡◌, ℕ, Bool, true, false, List, [], Option, Some, None, Result}
+use Rattle.std.proofs.Common.{Ok, Err, IfOk, IfSome, IsTrue, IsUtf8, ◌↔◌, refl, sym, subst}
 use Rattle.std.specs.Prelude.{⊤}
 use Rattle.std.specs.Borrow.{Bor}
 use Rattle.std.specs.Io.KnownBytes.{Appends}
@@ -25,7 +26,8 @@ pub answered_by_print : (question : Question) (pattern : List ℕ) (input : Opti
     → IsQuestionAnswered question pattern input found text
 answered_by_print question pattern None re haystack re_is accepted whole is_utf8 found text prints =
     record { accepted = accepted; is_text = tt; prints = tt }
-answered_by_print question pattern (Some known) re haystack re_is accepted whole is_utf8 found text prints =
+answered_by_print question pattern (Some known) re haystack re_is accepted whole is_utf8 found
+    text prints =
     record {
       accepted = accepted;
       is_text = subst IsUtf8 whole is_utf8;

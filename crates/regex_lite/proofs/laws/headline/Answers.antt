@@ -15,7 +15,8 @@ returns c =
     let regex_is = c.in_ok-regex.ensures.ok in
     record {
       accepted = on_ok told (IsAccepted settings) c.in_ok-regex.ensures.accepted;
-      complete = of_error told (λ e. e ≡ out_of_memory) (λ e. IsAccepted settings → e ≡ out_of_memory)
+      complete =
+          of_error told (λ e. e ≡ out_of_memory) (λ e. IsAccepted settings → e ≡ out_of_memory)
           (λ e is accepted. is) search.refused;
       refused = of_error told (λ e. e ≡ out_of_memory) (λ e. IsDue settings e)
           (λ e is. subst (IsDue settings) (sym is) (inl tt)) search.refused;

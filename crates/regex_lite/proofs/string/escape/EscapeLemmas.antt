@@ -1,5 +1,6 @@
 -- One character more of an escaped text.
-use Rattle.std.proofs.Common.{◌≡◌, refl, sym, ◌∙◌, ap, cond, ℕ, Bool, true, false, List, [], ◌∷◌, ◌++◌, length, chars, IsUtf8}
+use Rattle.std.proofs.Common.{◌≡◌, refl, sym, ◌∙◌, ap, cond, ℕ, Bool, true}
+use Rattle.std.proofs.Common.{false, List, [], ◌∷◌, ◌++◌, length, chars, IsUtf8}
 use Rattle.std.specs.Prelude.{encode_utf8_all}
 use Rattle.std.proofs.lemmas.List.{append_assoc, append-nil}
 use Rattle.std.proofs.lemmas.Str.{chars-nil, chars_past_char}
@@ -17,12 +18,14 @@ first_written : (c : ℕ) (t : Text) (meta : Bool) → is_meta_character c ≡ m
 first_written c t true is = rw is refl
 first_written c t false is = rw is refl
 
-pub one_more : (old here new bytes rest whole : List ℕ) (c : ℕ) (meta : Bool) → IsUtf8 bytes → bytes ≡ encode c ++ rest
+pub one_more : (old here new bytes rest whole : List ℕ) (c : ℕ) (meta : Bool) → IsUtf8 bytes
+    → bytes ≡ encode c ++ rest
     → is_meta_character c ≡ meta → here ≡ old ++ mark meta → new ≡ here ++ encode c
     → old ++ escaped_pattern bytes ≡ whole → new ++ escaped_pattern rest ≡ whole
 one_more old here new bytes rest whole c meta utf8 cut is marked written so_far =
     let step : escaped_pattern bytes ≡ mark meta ++ (encode c ++ escaped_pattern rest) =
-    ap (λ t. encode_utf8_all (escaped t)) (chars_past_char bytes rest c utf8 cut) ∙ first_written c (chars rest) meta is in
+    ap (λ t. encode_utf8_all (escaped t)) (chars_past_char bytes rest c utf8 cut)
+    ∙ first_written c (chars rest) meta is in
     rw (written, marked) (simp append_assoc (ap (λ x. old ++ x) (sym step) ∙ so_far))
 
 -- at the end the whole is written
@@ -30,6 +33,7 @@ no_more : (bytes : List ℕ) → length bytes ≡ 0 → escaped_pattern bytes �
 no_more [] none = ap (λ t. encode_utf8_all (escaped t)) chars-nil
 no_more (b ∷ bytes) none = absurd (cc)
 
-pub all_written : (old bytes whole : List ℕ) → length bytes ≡ 0 → old ++ escaped_pattern bytes ≡ whole → old ≡ whole
+pub all_written : (old bytes whole : List ℕ) → length bytes ≡ 0
+    → old ++ escaped_pattern bytes ≡ whole → old ≡ whole
 all_written old bytes whole none so_far =
     sym (append-nil old) ∙ ap (λ x. old ++ x) (sym (no_more bytes none)) ∙ so_far

@@ -1,7 +1,8 @@
 //! Searches for several patterns that return their cost.
 ghost use Rattle.std.specs.Prelude.{◌≡◌, ◌<◌, ◌↔◌, IfOk, IfErr, IfSome, IsTrue};
 ghost use Rattle.regex_lite_syntax.specs.Errors.{out_of_memory};
-ghost use Rattle.regex_lite.specs.RegexListSearches.{AnyMatches, AreOfPattern, IsWithinListCost, TellsGroupsOfList, TellsMatchOfList};
+ghost use Rattle.regex_lite.specs.RegexListSearches.{AnyMatches, AreOfPattern, IsWithinListCost};
+ghost use Rattle.regex_lite.specs.RegexListSearches.{TellsGroupsOfList, TellsMatchOfList};
 ghost use Rattle.regex_lite.specs.Searches.{CanStartAt};
 
 use crate::string::captures::Captures;

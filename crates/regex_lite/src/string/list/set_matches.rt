@@ -1,5 +1,6 @@
 //! Which patterns of a list match.
-ghost use Rattle.std.specs.Prelude.{◌≡◌, ◌<◌, ◌↔◌, ℕ, IfOk, IfErr, IsTrue, Some, false, length, slice_get, slice_index_or, true};
+ghost use Rattle.std.specs.Prelude.{◌≡◌, ◌<◌, ◌↔◌, ℕ, IfOk, IfErr, IsTrue, Some};
+ghost use Rattle.std.specs.Prelude.{false, length, slice_get, slice_index_or, true};
 ghost use Rattle.regex_lite_syntax.specs.Errors.{out_of_memory};
 
 use regex_lite_syntax::Error;

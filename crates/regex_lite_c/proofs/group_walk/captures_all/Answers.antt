@@ -1,30 +1,37 @@
-use Rattle.std.proofs.Common.{◌≡◌, ◌∙◌, ◌⊎◌, ◌≤◌, ℕ, List, IsUtf8, IsCharBoundary, ap, arith, inl, inr, subst, unwrap_or}
+use Rattle.std.proofs.Common.{◌≡◌, ◌∙◌, ◌⊎◌, ◌≤◌, ℕ, List, IsUtf8, IsCharBoundary}
+use Rattle.std.proofs.Common.{ap, arith, inl, inr, subst, unwrap_or}
 use Rattle.regex_lite.specs.Ahead.{after}
 use Rattle.regex_lite.specs.Expression.{Expression}
 use Rattle.regex_lite_c.specs.GroupWalks.{IsFilled, IsGroupWalkAnswer}
 use Rattle.regex_lite_c.specs.Walks.{ended_of}
-use Rattle.regex_lite_c.specs.declared.answer.TheConstants.{YES, NOT_TEXT, BAD_OFFSET, OUT_OF_MEMORY, NO_ROOM}
+use Rattle.regex_lite_c.specs.declared.answer.TheConstants.{YES, NOT_TEXT, BAD_OFFSET}
+use Rattle.regex_lite_c.specs.declared.answer.TheConstants.{OUT_OF_MEMORY, NO_ROOM}
 use Rattle.regex_lite_c.specs.declared.types.Span.{Span}
 use Rattle.regex_lite_c.specs.declared.types.Walk.{Walk}
 use Rattle.regex_lite_c.proofs.group_walk.captures_all.Goals as goal
 
-not_three : (answer : ℕ) → (answer ≤ YES) ⊎ ((answer ≡ OUT_OF_MEMORY) ⊎ (answer ≡ NO_ROOM)) → answer ≡ NOT_TEXT → ⊥
+not_three : (answer : ℕ) → (answer ≤ YES) ⊎ ((answer ≡ OUT_OF_MEMORY) ⊎ (answer ≡ NO_ROOM))
+    → answer ≡ NOT_TEXT → ⊥
 not_three answer (inl few) is = omega (arith, few, is)
 not_three answer (inr (inl memory)) is = omega (arith, memory, is)
 not_three answer (inr (inr room)) is = omega (arith, room, is)
 
-not_four : (answer : ℕ) → (answer ≤ YES) ⊎ ((answer ≡ OUT_OF_MEMORY) ⊎ (answer ≡ NO_ROOM)) → answer ≡ BAD_OFFSET → ⊥
+not_four : (answer : ℕ) → (answer ≤ YES) ⊎ ((answer ≡ OUT_OF_MEMORY) ⊎ (answer ≡ NO_ROOM))
+    → answer ≡ BAD_OFFSET → ⊥
 not_four answer (inl few) is = omega (arith, few, is)
 not_four answer (inr (inl memory)) is = omega (arith, memory, is)
 not_four answer (inr (inr room)) is = omega (arith, room, is)
 
 one_of_more : (answer : ℕ) → (answer ≤ YES) ⊎ ((answer ≡ OUT_OF_MEMORY) ⊎ (answer ≡ NO_ROOM))
-    → (answer ≤ YES) ⊎ ((answer ≡ NOT_TEXT) ⊎ ((answer ≡ BAD_OFFSET) ⊎ ((answer ≡ OUT_OF_MEMORY) ⊎ (answer ≡ NO_ROOM))))
+    → (answer ≤ YES)
+    ⊎ ((answer ≡ NOT_TEXT)
+    ⊎ ((answer ≡ BAD_OFFSET) ⊎ ((answer ≡ OUT_OF_MEMORY) ⊎ (answer ≡ NO_ROOM))))
 one_of_more answer (inl few) = inl few
 one_of_more answer (inr rest) = inr (inr (inr rest))
 
 -- with a text that can be searched from there on, what was filled is the answer
-told : (re : Expression) (bytes : List ℕ) (old_walk walk : Walk) (old new : List Span) (count answer : ℕ)
+told : (re : Expression) (bytes : List ℕ) (old_walk walk : Walk) (old new : List Span)
+    (count answer : ℕ)
     → IsUtf8 bytes → IsCharBoundary bytes (unwrap_or (ended_of old_walk) 0)
     → IsFilled (after re bytes (ended_of old_walk)) old_walk walk old new count answer
     → IsGroupWalkAnswer re bytes old_walk walk old new count answer
@@ -35,7 +42,8 @@ told re bytes old_walk walk old new count answer utf8 boundary is = record {
   same = is.same;
   refused = record {
     not_text = (λ wrong. absurd (not_three answer is.one_of wrong), λ wrong. absurd (wrong utf8));
-    bad_offset = (λ wrong. absurd (not_four answer is.one_of wrong), λ wrong. absurd (wrong.1 boundary));
+    bad_offset =
+        (λ wrong. absurd (not_four answer is.one_of wrong), λ wrong. absurd (wrong.1 boundary));
   };
   one_of = one_of_more answer is.one_of;
 }
@@ -46,7 +54,10 @@ returns-in-Ok-captures_iter_after c =
     let bytes = c.args.text.now in
     let ended = c.ended-ended.ensures in
     let text = c.in-Ok.ensures in
-    let is = c.in-Ok-captures_iter_after.ensures.ahead ∙ ap (λ b. after re b c.ended-ended.result) text.0 ∙ ap (after re bytes) ended in
-    told re bytes c.args.walk.now c.fill_groups.new.walk c.args.spans.now c.fill_groups.new.spans c.fill_groups.new.count c.fill_groups.result text.1
+    let is = c.in-Ok-captures_iter_after.ensures.ahead
+    ∙ ap (λ b. after re b c.ended-ended.result) text.0 ∙ ap (after re bytes) ended in
+    told re bytes c.args.walk.now c.fill_groups.new.walk c.args.spans.now c.fill_groups.new.spans
+    c.fill_groups.new.count c.fill_groups.result text.1
     (subst (IsCharBoundary bytes) (c.unwrap_or.ensures ∙ ap (λ e. unwrap_or e 0) ended) text.2)
-    (subst (λ a. IsFilled a c.args.walk.now c.fill_groups.new.walk c.args.spans.now c.fill_groups.new.spans c.fill_groups.new.count c.fill_groups.result) is c.fill_groups.ensures)
+    (subst (λ a. IsFilled a c.args.walk.now c.fill_groups.new.walk c.args.spans.now
+    c.fill_groups.new.spans c.fill_groups.new.count c.fill_groups.result) is c.fill_groups.ensures)

@@ -1,4 +1,5 @@
-use Rattle.std.proofs.Common.{◌≡◌, ◌≤◌, ◌<◌, ℕ, List, Some, IsUtf8, IsCharBoundary, arith, inl, inr, length, subst}
+use Rattle.std.proofs.Common.{◌≡◌, ◌≤◌, ◌<◌, ℕ, List, Some, IsUtf8}
+use Rattle.std.proofs.Common.{IsCharBoundary, arith, inl, inr, length, subst}
 use Rattle.std.proofs.lemmas.Bool.{cases_lt}
 use Rattle.regex_lite.specs.Expression.{Expression}
 use Rattle.regex_lite.specs.Groups.{Groups}
@@ -8,12 +9,15 @@ use Rattle.regex_lite_c.specs.declared.answer.TheConstants.{YES, NO_ROOM}
 use Rattle.regex_lite_c.specs.declared.types.Span.{Span}
 use Rattle.regex_lite_c.proofs.groups.captures_at.Goals as goal
 
-groups_told : (re : Expression) (bytes : List ℕ) (start : ℕ) (old new : List Span) (old_count count answer : ℕ) (groups : Groups)
-    → TellsGroups re bytes start (Some groups) → IsUtf8 bytes → IsCharBoundary bytes start → count ≡ length groups.spans
+groups_told : (re : Expression) (bytes : List ℕ) (start : ℕ) (old new : List Span)
+    (old_count count answer : ℕ) (groups : Groups)
+    → TellsGroups re bytes start (Some groups) → IsUtf8 bytes → IsCharBoundary bytes start
+    → count ≡ length groups.spans
     → (count ≤ length old → (answer ≡ YES) × AreWritten groups.spans old new)
     → (length old < count → (answer ≡ NO_ROOM) × (new ≡ old))
     → IsGroupsAnswer re bytes start old new old_count count answer
-groups_told re bytes start old new old_count count answer groups told utf8 boundary number written no_room =
+groups_told re bytes start old new old_count count answer groups told utf8 boundary number written
+    no_room =
     elim (cases_lt (length old) count) [
       | inr within ↦ let is = (written within).0 in record {
         found = λ _. (groups, (told, number), (written within).1);
@@ -23,7 +27,8 @@ groups_told re bytes start old new old_count count answer groups told utf8 bound
         same_count = λ wrong _. absurd (wrong is);
         refused = record {
           not_text = (λ wrong. absurd (omega (arith, is, wrong)), λ wrong. absurd (wrong utf8));
-          bad_offset = (λ wrong. absurd (omega (arith, is, wrong)), λ wrong. absurd (wrong.1 boundary));
+          bad_offset =
+              (λ wrong. absurd (omega (arith, is, wrong)), λ wrong. absurd (wrong.1 boundary));
         };
         one_of = inl (omega (arith, is));
       }
@@ -35,7 +40,8 @@ groups_told re bytes start old new old_count count answer groups told utf8 bound
         same_count = λ _ wrong. absurd (wrong is);
         refused = record {
           not_text = (λ wrong. absurd (omega (arith, is, wrong)), λ wrong. absurd (wrong utf8));
-          bad_offset = (λ wrong. absurd (omega (arith, is, wrong)), λ wrong. absurd (wrong.1 boundary));
+          bad_offset =
+              (λ wrong. absurd (omega (arith, is, wrong)), λ wrong. absurd (wrong.1 boundary));
         };
         one_of = inr (inr (inr (inr is)));
       }
@@ -45,7 +51,9 @@ pub returns-in-Ok-Some : goal.returns-in-Ok-Some
 returns-in-Ok-Some c =
     let re = c.args.regex.now in
     let start = c.args.start in
-    let told = subst (TellsGroups re c.args.text.now start) c.in-Ok-Some.field-0-is c.in-Ok-Some.ensures.found in
-    groups_told re c.args.text.now start c.args.spans.now c.write_groups.new.spans c.args.count.now c.write_groups.new.count c.write_groups.result c.in-Ok-Some.caps
+    let told = subst (TellsGroups re c.args.text.now start) c.in-Ok-Some.field-0-is
+    c.in-Ok-Some.ensures.found in
+    groups_told re c.args.text.now start c.args.spans.now c.write_groups.new.spans c.args.count.now
+    c.write_groups.new.count c.write_groups.result c.in-Ok-Some.caps
     told c.utf8.text c.requires
     c.write_groups.ensures.count c.write_groups.ensures.written c.write_groups.ensures.no_room

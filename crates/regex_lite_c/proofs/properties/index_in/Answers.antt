@@ -11,5 +11,7 @@ shown name = option_map (λ own. own.now) name
 
 pub returns : goal.returns
 returns c =
-    position_from_yields_List {v = shown} (is_named c.args.name.now) c.position.new.self (record { 0 = c.args.name }) c.position.result c.position.ensures.ran
-    (YieldsList-from_first shown names_left (names_left c.args.names) refl) (λ x b q called. search (rules, called))
+    position_from_yields_List {v = shown} (is_named c.args.name.now) c.position.new.self
+    (record { 0 = c.args.name }) c.position.result c.position.ensures.ran
+    (YieldsList-from_first shown names_left (names_left c.args.names) refl)
+    (λ x b q called. search (rules, called))

@@ -5,15 +5,22 @@ use Rattle.regex_lite_c.specs.Rooms.{IsWritten}
 use Rattle.regex_lite_c.specs.declared.answer.TheConstants.{NOT_TEXT, OUT_OF_MEMORY}
 use Rattle.regex_lite_c.proofs.replace.replace.Goals as goal
 
-not_refused : (text old new : List ℕ) (len answer : ℕ) → IsWritten text old new len answer → (answer ≡ NOT_TEXT) ⊎ (answer ≡ OUT_OF_MEMORY) → ⊥
+not_refused : (text old new : List ℕ) (len answer : ℕ) → IsWritten text old new len answer
+    → (answer ≡ NOT_TEXT) ⊎ (answer ≡ OUT_OF_MEMORY) → ⊥
 not_refused text old new len answer is wrong =
     elim (cases_lt (length old) (length text)) [
-      | inr within ↦ let yes = (is.written within).0 in elim wrong [ inl bad ↦ omega (arith, yes, bad) | inr bad ↦ omega (arith, yes, bad) ]
-      | inl above ↦ let no = (is.no_room above).0 in elim wrong [ inl bad ↦ omega (arith, no, bad) | inr bad ↦ omega (arith, no, bad) ]
+      | inr within ↦
+          let yes = (is.written within).0 in
+          elim wrong [ inl bad ↦ omega (arith, yes, bad) | inr bad ↦ omega (arith, yes, bad) ]
+      | inl above ↦
+          let no = (is.no_room above).0 in
+          elim wrong [ inl bad ↦ omega (arith, no, bad) | inr bad ↦ omega (arith, no, bad) ]
     ]
 
-text_told : (AreTexts : Type 0) (Says : List ℕ → Type 0) (text old new : List ℕ) (old_len len answer : ℕ)
-    → AreTexts → Says text → IsWritten text old new len answer → IsTextAnswer AreTexts Says old new old_len len answer
+text_told : (AreTexts : Type 0) (Says : List ℕ → Type 0) (text old new : List ℕ)
+    (old_len len answer : ℕ)
+    → AreTexts → Says text → IsWritten text old new len answer
+    → IsTextAnswer AreTexts Says old new old_len len answer
 text_told AreTexts Says text old new old_len len answer are says is =
     let never = not_refused text old new len answer is in
     record {
@@ -29,9 +36,11 @@ returns-in-Ok-replaced-clause-answer c =
     let text = c.in-Ok.ensures.cases in
     let template = c.in-Ok-from_utf8.ensures.cases in
     let bytes = sym (c.as_bytes.ensures.value ∙ c.as_str.ensures.value) in
-    text_told _ (IsReplaced re c.args.text.now c.args.template.now how) c.as_bytes.result.now c.args.room.now c.write.new.room how.len c.write.new.len c.write.result
+    text_told _ (IsReplaced re c.args.text.now c.args.template.now how) c.as_bytes.result.now
+    c.args.room.now c.write.new.room how.len c.write.new.len c.write.result
     (text.1, template.1)
     (subst (λ t. IsReplaced re t c.args.template.now how c.as_bytes.result.now) text.0
     (subst (λ t. IsReplaced re c.in-Ok.text.now t how c.as_bytes.result.now) template.0
-    (subst (IsReplaced re c.in-Ok.text.now c.in-Ok-from_utf8.template.now how) bytes c.in-Ok-replaced.ensures)))
+    (subst (IsReplaced re c.in-Ok.text.now c.in-Ok-from_utf8.template.now how) bytes
+    c.in-Ok-replaced.ensures)))
     c.write.ensures

@@ -1,4 +1,5 @@
-use Rattle.std.proofs.Common.{◌≡◌, ◌<◌, ◌∙◌, ℕ, zero, suc, List, IsUtf8, IsCharBoundary, None, ap, arith, inl, refl, subst, unwrap_or}
+use Rattle.std.proofs.Common.{◌≡◌, ◌<◌, ◌∙◌, ℕ, zero, suc, List, IsUtf8, IsCharBoundary}
+use Rattle.std.proofs.Common.{None, ap, arith, inl, refl, subst, unwrap_or}
 use Rattle.regex_lite.specs.Ahead.{ComesNext, after}
 use Rattle.regex_lite.specs.Expression.{Expression}
 use Rattle.regex_lite_c.specs.Walks.{AreListed, GoesOnAfter, IsWalkAnswer, ended_of}
@@ -8,10 +9,13 @@ use Rattle.regex_lite_c.specs.declared.types.Walk.{Walk}
 use Rattle.regex_lite_c.proofs.walk.find_all.Goals as goal
 
 -- with a text that can be searched from there on, what was listed is the answer
-walk_told : (re : Expression) (bytes : List ℕ) (old_walk walk : Walk) (old new : List Span) (count answer : ℕ)
+walk_told : (re : Expression) (bytes : List ℕ) (old_walk walk : Walk) (old new : List Span)
+    (count answer : ℕ)
     → IsUtf8 bytes → IsCharBoundary bytes (unwrap_or (ended_of old_walk) 0)
-    → (0 < count → (answer ≡ YES) × AreListed (after re bytes (ended_of old_walk)) old new count × GoesOnAfter new count walk)
-    → (count ≡ 0 → (answer ≡ NO) × ComesNext (after re bytes (ended_of old_walk)) None × (walk ≡ old_walk) × (new ≡ old))
+    → (0 < count → (answer ≡ YES) × AreListed (after re bytes (ended_of old_walk)) old new count
+    × GoesOnAfter new count walk)
+    → (count ≡ 0 → (answer ≡ NO) × ComesNext (after re bytes (ended_of old_walk)) None
+    × (walk ≡ old_walk) × (new ≡ old))
     → IsWalkAnswer re bytes old_walk walk old new count answer
 walk_told re bytes old_walk walk old new zero answer utf8 boundary some none =
     let told = none refl in
@@ -23,7 +27,8 @@ walk_told re bytes old_walk walk old new zero answer utf8 boundary some none =
       no_room = λ wrong. absurd (omega (arith, is, wrong));
       refused = record {
         not_text = (λ wrong. absurd (omega (arith, is, wrong)), λ wrong. absurd (wrong utf8));
-        bad_offset = (λ wrong. absurd (omega (arith, is, wrong)), λ wrong. absurd (wrong.1 boundary));
+        bad_offset =
+            (λ wrong. absurd (omega (arith, is, wrong)), λ wrong. absurd (wrong.1 boundary));
       };
       one_of = inl (omega (arith, is));
     }
@@ -37,7 +42,8 @@ walk_told re bytes old_walk walk old new (suc n) answer utf8 boundary some none 
       no_room = λ wrong. absurd (omega (arith, is, wrong));
       refused = record {
         not_text = (λ wrong. absurd (omega (arith, is, wrong)), λ wrong. absurd (wrong utf8));
-        bad_offset = (λ wrong. absurd (omega (arith, is, wrong)), λ wrong. absurd (wrong.1 boundary));
+        bad_offset =
+            (λ wrong. absurd (omega (arith, is, wrong)), λ wrong. absurd (wrong.1 boundary));
       };
       one_of = inl (omega (arith, is));
     }
@@ -50,8 +56,15 @@ returns-in-Ok-find_iter_after c =
     let text = c.in-Ok.ensures in
     let found = c.list.ensures.found in
     let none = c.list.ensures.none in
-    let is = c.in-Ok-find_iter_after.ensures.ahead ∙ ap (λ b. after re b c.ended-ended.result) text.0 ∙ ap (after re bytes) ended in
-    walk_told re bytes c.args.walk.now c.list.new.walk c.args.spans.now c.list.new.spans c.list.new.count c.list.result text.1
+    let is = c.in-Ok-find_iter_after.ensures.ahead
+    ∙ ap (λ b. after re b c.ended-ended.result) text.0 ∙ ap (after re bytes) ended in
+    walk_told re bytes c.args.walk.now c.list.new.walk c.args.spans.now c.list.new.spans
+    c.list.new.count c.list.result text.1
     (subst (IsCharBoundary bytes) (c.unwrap_or.ensures ∙ ap (λ e. unwrap_or e 0) ended) text.2)
-    (λ some. let told = found some in (told.0, subst (λ a. AreListed a c.args.spans.now c.list.new.spans c.list.new.count) is told.1, told.2))
-    (λ zero_found. let told = none zero_found in (told.0, subst (λ a. ComesNext a None) is told.1, told.2, told.3))
+    (λ some. let told = found some in (
+      told.0,
+      subst (λ a. AreListed a c.args.spans.now c.list.new.spans c.list.new.count) is told.1,
+      told.2,
+    ))
+    (λ zero_found. let told = none zero_found in
+    (told.0, subst (λ a. ComesNext a None) is told.1, told.2, told.3))

@@ -1,7 +1,9 @@
 use Rattle.std.proofs.Common.{◌≡◌, ◌≤◌, ◌<◌, ◌^◌, ◌+◌, length, true, get_or, ap, ◌∙◌, arith, rules}
 use Rattle.std.proofs.lemmas.List.{take_all}
 use Rattle.regex_lite_syntax.specs.Characters.{is_digit, number_of}
-use Rattle.regex_lite_engine.proofs.interpolate.IndexLemmas.{number_of_first, number_of_one_more, value_of_digit, too_large, digits_are_index}
+use Rattle.regex_lite_engine.proofs.interpolate.IndexLemmas.{number_of_first}
+use Rattle.regex_lite_engine.proofs.interpolate.IndexLemmas.{number_of_one_more, value_of_digit}
+use Rattle.regex_lite_engine.proofs.interpolate.IndexLemmas.{too_large, digits_are_index}
 use Rattle.regex_lite_engine.proofs.interpolate.parse_index.Goals as goal
 
 pub returns-in_err-index : goal.returns-in_err-index

@@ -1,5 +1,6 @@
 -- A search has one answer, and it is a match.
-use Rattle.std.proofs.Common.{◌≡◌, ◌<◌, ◌≤◌, refl, sym, ap, subst, ◌∙◌, inl, inr, ℕ, zero, suc, ◌+◌, Option, Some, None, length, le_antisymm, IsSome, ◌↔◌, arith}
+use Rattle.std.proofs.Common.{◌≡◌, ◌<◌, ◌≤◌, refl, sym, ap, subst, ◌∙◌, inl, inr, ℕ, zero, suc}
+use Rattle.std.proofs.Common.{◌+◌, Option, Some, None, length, le_antisymm, IsSome, ◌↔◌, arith}
 use Rattle.std.proofs.lemmas.Bool.{cases_eq, cases_lt}
 use Rattle.regex_lite_syntax.specs.Text.{Text}
 use Rattle.regex_lite_syntax.specs.Tree.{Tree}
@@ -8,7 +9,8 @@ use Rattle.regex_lite_syntax.specs.Tree.Matches.{Matches, IsPosition}
 use Rattle.regex_lite_engine.specs.Graph.Addresses.{Address}
 use Rattle.regex_lite_engine.specs.Graph.WrittenOut.{start_address, end_address, IsWayThrough}
 use Rattle.regex_lite_engine.specs.Search.Marks.{marks_of_way}
-use Rattle.regex_lite_engine.specs.Search.Answer.{IsMatchFrom, HasMatchFrom, Found, IsFound, IsAnswer}
+use Rattle.regex_lite_engine.specs.Search.Answer.{IsMatchFrom, HasMatchFrom}
+use Rattle.regex_lite_engine.specs.Search.Answer.{Found, IsFound, IsAnswer}
 use Rattle.regex_lite_engine.proofs.laws.LeadsLemmas.{same_some, leads_to_one}
 use Rattle.regex_lite_engine.proofs.laws.PatternWayLemmas.{match_way, walk_match}
 use Rattle.regex_lite_engine.proofs.laws.answer.OrderLemmas.{one_best}

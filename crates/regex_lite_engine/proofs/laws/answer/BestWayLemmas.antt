@@ -1,16 +1,20 @@
 -- From a position there is a most preferred way, if there is a way.
-use Rattle.std.proofs.Common.{◌≤◌, ◌<◌, ◌⊎◌, inl, inr, ap, subst, ℕ, List, ◌∷◌, ◌++◌, length, Option}
+use Rattle.std.proofs.Common.{◌≤◌, ◌<◌, ◌⊎◌, inl, inr, ap, subst}
+use Rattle.std.proofs.Common.{ℕ, List, ◌∷◌, ◌++◌, length, Option}
 use Rattle.regex_lite_syntax.specs.Text.{Text}
 use Rattle.regex_lite_syntax.specs.Tree.{Tree}
 use Rattle.regex_lite_engine.specs.Graph.Ways.{Leads}
 use Rattle.regex_lite_engine.specs.Graph.Addresses.{Address}
-use Rattle.regex_lite_engine.specs.Graph.WrittenOut.{start_address, end_address, place_of_pattern, IsWayThrough}
+use Rattle.regex_lite_engine.specs.Graph.WrittenOut.{start_address, end_address}
+use Rattle.regex_lite_engine.specs.Graph.WrittenOut.{place_of_pattern, IsWayThrough}
 use Rattle.regex_lite_engine.proofs.laws.answer.LeastLemmas.{Least, NoList, least}
-use Rattle.regex_lite_engine.proofs.laws.answer.FreshLemmas.{Fresh, fresh_short, fresh_once, once_fresh, fresh_or_not, leads_or_not}
+use Rattle.regex_lite_engine.proofs.laws.answer.FreshLemmas.{Fresh, fresh_short, fresh_once}
+use Rattle.regex_lite_engine.proofs.laws.answer.FreshLemmas.{once_fresh, fresh_or_not, leads_or_not}
 use Rattle.regex_lite_engine.proofs.laws.LeadsLemmas.{leads_split, leads_to_one}
 use Rattle.regex_lite_engine.proofs.laws.PatternWayLemmas.{one_or_two_addresses, one_or_two}
 use Rattle.regex_lite_engine.proofs.laws.answer.OrderLemmas.{total}
-use Rattle.regex_lite_engine.proofs.laws.answer.ReachLemmas.{arrows_at, few_arrows, walks, Way, all_pairs, on_walk}
+use Rattle.regex_lite_engine.proofs.laws.answer.ReachLemmas.{arrows_at, few_arrows, walks}
+use Rattle.regex_lite_engine.proofs.laws.answer.ReachLemmas.{Way, all_pairs, on_walk}
 
 module _ (tree : Tree) (haystack : Text) where
   abbrev on : Address × ℕ → ℕ → Option (Address × ℕ)
@@ -61,7 +65,8 @@ module _ (tree : Tree) (haystack : Text) where
       λ k ks way. (
           let parts = leads_split on us (k ∷ ks) (start_address, i) (end_address, way.0) way.1.0 in
           let same = leads_to_one on us (start_address, i) parts.0 m parts.1 along in
-          let rest = subst (λ z. Leads (Address × ℕ) on z (k ∷ ks) (end_address, way.0)) same parts.2 in
+          let rest =
+          subst (λ z. Leads (Address × ℕ) on z (k ∷ ks) (end_address, way.0)) same parts.2 in
           few_arrows haystack (place_of_pattern tree m.0) m.1 k rest.0 rest.1),
     )
   ]

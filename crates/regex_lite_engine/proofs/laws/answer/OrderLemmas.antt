@@ -1,5 +1,6 @@
 -- Preference is total on ways.
-use Rattle.std.proofs.Common.{◌≡◌, ◌<◌, refl, sym, ap, subst, ◌∙◌, ◌⊎◌, inl, inr, ℕ, List, [], ◌∷◌, ◌++◌, Option, Some, None, arith}
+use Rattle.std.proofs.Common.{◌≡◌, ◌<◌, refl, sym, ap, subst, ◌∙◌, ◌⊎◌, inl, inr}
+use Rattle.std.proofs.Common.{ℕ, List, [], ◌∷◌, ◌++◌, Option, Some, None, arith}
 use Rattle.std.proofs.lemmas.Bool.{cases_order}
 use Rattle.regex_lite_syntax.specs.Text.{Text}
 use Rattle.regex_lite_syntax.specs.Tree.{Tree}
@@ -48,7 +49,8 @@ module _ {A : Type 0} (haystack : Text) (place : A → Place A) (end : A)
   compared (k ∷ a) (l ∷ b) n i j (next, s, p) (other, t, q) = elim (cases_order k l) [
     | inl e ↦ same e (
         let one : other ≡ next = same_some (sym t ∙ ap (step haystack place n) (sym e) ∙ s) in
-        compared a b next i j p (subst (λ z. Leads (A × ℕ) (step haystack place) z b (end, j)) one q))
+        compared a b next i j p
+        (subst (λ z. Leads (A × ℕ) (step haystack place) z b (end, j)) one q))
     | inr order ↦ elim order [
       | inl less ↦ inr (inl (inl less))
       | inr greater ↦ inr (inr (inl greater))

@@ -1,14 +1,19 @@
 -- A walk through a pattern to its end goes by finitely many places and positions.
-use Rattle.std.proofs.Common.{◌≡◌, ◌<◌, ◌≤◌, refl, sym, ap, subst, inl, inr, ℕ, zero, suc, Bool, true, false, List, [], ◌∷◌, ◌++◌, map, Option, Some, None, slice_get, length, unwrap_or, if◌then◌else◌, arith}
+use Rattle.std.proofs.Common.{◌≡◌, ◌<◌, ◌≤◌, refl, sym, ap, subst, inl, inr, ℕ, zero, suc}
+use Rattle.std.proofs.Common.{Bool, true, false, List, [], ◌∷◌, ◌++◌, map, Option, Some}
+use Rattle.std.proofs.Common.{None, slice_get, length, unwrap_or, if◌then◌else◌, arith}
 use Rattle.std.proofs.lemmas.Bool.{cases_eq}
 use Rattle.regex_lite_syntax.specs.Text.{Text, before, after}
 use Rattle.regex_lite_syntax.specs.Sets.{Set}
 use Rattle.regex_lite_syntax.specs.Tree.Looks.{holds_between}
 use Rattle.regex_lite_syntax.specs.Tree.{Tree}
 use Rattle.regex_lite_engine.specs.Graph.Ways.{Leads}
-use Rattle.regex_lite_engine.specs.Graph.Places.{Arrow, Place, Condition, complete, with_arrows, free, holding, reading, behind, taken, arrived, arrow_taken, step, step_from}
+use Rattle.regex_lite_engine.specs.Graph.Places.{Arrow, Place, Condition, complete}
+use Rattle.regex_lite_engine.specs.Graph.Places.{with_arrows, free, holding, reading, behind}
+use Rattle.regex_lite_engine.specs.Graph.Places.{taken, arrived, arrow_taken, step, step_from}
 use Rattle.regex_lite_engine.specs.Graph.Addresses.{Address}
-use Rattle.regex_lite_engine.specs.Graph.WrittenOut.{whole, start_address, end_address, written_out, place_of_pattern, IsWayThrough}
+use Rattle.regex_lite_engine.specs.Graph.WrittenOut.{whole, start_address, end_address}
+use Rattle.regex_lite_engine.specs.Graph.WrittenOut.{written_out, place_of_pattern, IsWayThrough}
 use Rattle.regex_lite_engine.proofs.nfa.AddressLemmas.{addresses}
 use Rattle.regex_lite_engine.proofs.nfa.AmongLemmas.{Among}
 use Rattle.regex_lite_engine.proofs.nfa.ListedAddressLemmas.{listed_tree}
@@ -145,7 +150,8 @@ module _ (tree : Tree) where
   with_arrow haystack a i k next s = by_content (written_out tree a) refl s
     where
       by_content : (o : Option (Place Address)) → written_out tree a ≡ o
-          → step_from haystack (unwrap_or o (with_arrows [])) i k ≡ Some next → Among a all_addresses
+          → step_from haystack (unwrap_or o (with_arrows [])) i k ≡ Some next
+          → Among a all_addresses
       by_content None e s = absurd (
           let less = few_arrows haystack (with_arrows []) i k next s in
           none_less k less)

@@ -1,14 +1,17 @@
 -- What walks mark where a repetition stands.
-use Rattle.std.proofs.Common.{◌≡◌, refl, sym, ap, subst, ◌∙◌, ℕ, zero, suc, ◌+◌, ◌-◌, ◌≤◌, Bool, true, false, Option, Some, None, arith}
+use Rattle.std.proofs.Common.{◌≡◌, refl, sym, ap, subst, ◌∙◌, ℕ, zero, suc, ◌+◌, ◌-◌}
+use Rattle.std.proofs.Common.{◌≤◌, Bool, true, false, Option, Some, None, arith}
 use Rattle.regex_lite_syntax.specs.Text.{Text}
 use Rattle.regex_lite_syntax.specs.Tree.Matches.{AtMost}
 use Rattle.regex_lite_syntax.specs.Tree.Regular.{InOrder}
 use Rattle.regex_lite_engine.specs.Graph.Places.{Place, complete, choice}
-use Rattle.regex_lite_engine.proofs.laws.StandingLemmas.{InRow, InChoices, IsNullableStar, IsBetween, IsBounded, IsRepetition}
+use Rattle.regex_lite_engine.proofs.laws.StandingLemmas.{InRow, InChoices, IsNullableStar}
+use Rattle.regex_lite_engine.proofs.laws.StandingLemmas.{IsBetween, IsBounded, IsRepetition}
 use Rattle.regex_lite_engine.specs.Search.Marks.{Marks, no_marks, over}
 use Rattle.regex_lite_engine.proofs.laws.list.EntryLemmas.{over_assoc, over_none}
 use Rattle.regex_lite_engine.proofs.laws.groups.MarkingLemmas.{MarkedPasses}
-use Rattle.regex_lite_engine.proofs.laws.groups.MarkedWalkLemmas.{Each, fewer, no_walk, weaken, by_go, by_choice}
+use Rattle.regex_lite_engine.proofs.laws.groups.MarkedWalkLemmas.{Each, fewer, no_walk}
+use Rattle.regex_lite_engine.proofs.laws.groups.MarkedWalkLemmas.{weaken, by_go, by_choice}
 
 -- the property of marks that are laid over these
 abbrev pub Behind : (Marks → ℕ → Type 0) → Marks → Marks → ℕ → Type 0
@@ -71,7 +74,8 @@ module _ {A : Type 0} {haystack : Text} {place : A → Place A} {end : A}
     in_loop zero {turn} i P chosen stands follows = no_walk final turn i P
     in_loop (suc n) {turn} {first} {exit} i P chosen stands follows =
         let stopped = fewer final n exit i P (plain P (follows i no_marks 0 (refl, refl))) in
-        let pass = inside first turn i n P stands (λ k m made. in_loop n k (Behind P m) chosen stands
+        let pass =
+        inside first turn i n P stands (λ k m made. in_loop n k (Behind P m) chosen stands
         (λ l later count others. fewer final n exit l (Behind (Behind P m) later)
         (together P m later
         (follows l (over later m) (suc count) (k, m, later, made, others, refl))))) in
@@ -134,11 +138,13 @@ module _ {A : Type 0} {haystack : Text} {place : A → Place A} {end : A}
     in_bounded (suc m) zero i n P row follows =
         in_row (suc m) i n P row
         (λ k marks made. follows k marks (suc m) (omega arith) (omega arith) made)
-    in_bounded zero (suc zero) i n P stands follows = in_between zero (suc zero) i n P stands follows
+    in_bounded zero (suc zero) i n P stands follows =
+        in_between zero (suc zero) i n P stands follows
     in_bounded zero (suc (suc d)) {enter} i n P (turn, entered, stands) follows =
         by_go final n enter turn i P entered
         (in_between zero (suc (suc d)) i n P stands follows)
-    in_bounded (suc m) (suc d) i n P stands follows = in_between (suc m) (suc d) i n P stands follows
+    in_bounded (suc m) (suc d) i n P stands follows =
+        in_between (suc m) (suc d) i n P stands follows
 
     pub in_repetition : (least : ℕ) (most : Option ℕ) (nullable_body : Bool) {enter exit : A}
         (i n : ℕ) (P : Marks → ℕ → Type 0) → InOrder least most

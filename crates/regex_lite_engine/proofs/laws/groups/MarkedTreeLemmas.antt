@@ -1,27 +1,34 @@
 -- What walks mark where a tree stands: what a match of the tree may mark.
-use Rattle.std.proofs.Common.{◌≡◌, inl, inr, refl, sym, ap, subst, ◌∙◌, ◌<◌, ℕ, zero, suc, ◌+◌, ◌*◌, List, [], ◌∷◌, length, Option, Some, None, slice_get, arith}
+use Rattle.std.proofs.Common.{◌≡◌, inl, inr, refl, sym, ap, subst, ◌∙◌, ◌<◌, ℕ, zero, suc, ◌+◌}
+use Rattle.std.proofs.Common.{◌*◌, List, [], ◌∷◌, length, Option, Some, None, slice_get, arith}
 use Rattle.std.proofs.lemmas.Bool.{eqb-true}
 use Rattle.regex_lite_syntax.specs.declared.class.ClassRange.{ClassRange}
 use Rattle.regex_lite_syntax.specs.Text.{Text, before, after}
 use Rattle.regex_lite_syntax.specs.Ranges.{in_ranges}
 use Rattle.regex_lite_syntax.specs.Sets.{just}
 use Rattle.regex_lite_syntax.specs.Tree.Looks.{holds_between}
-use Rattle.regex_lite_syntax.specs.Tree.{Tree, Trees, empty, character, class, look, repetition, capture, concat, alternation, none, more}
+use Rattle.regex_lite_syntax.specs.Tree.{Tree, Trees, empty, character, class, look}
+use Rattle.regex_lite_syntax.specs.Tree.{repetition, capture, concat, alternation, none, more}
 use Rattle.regex_lite_syntax.specs.Tree.Properties.{nullable}
 use Rattle.regex_lite_syntax.specs.Tree.Regular.{IsRegular, AreRegular}
 use Rattle.regex_lite_engine.specs.Graph.Ways.{Leads}
-use Rattle.regex_lite_engine.specs.Graph.Places.{Place, complete, go_holding, go_reading, one_of, step}
+use Rattle.regex_lite_engine.specs.Graph.Places.{Place, complete, go_holding}
+use Rattle.regex_lite_engine.specs.Graph.Places.{go_reading, one_of, step}
 use Rattle.regex_lite_engine.specs.Graph.Addresses.{Address}
-use Rattle.regex_lite_engine.specs.Graph.WrittenOut.{whole, start_address, end_address, place_of_pattern, IsWayThrough}
+use Rattle.regex_lite_engine.specs.Graph.WrittenOut.{whole, start_address, end_address}
+use Rattle.regex_lite_engine.specs.Graph.WrittenOut.{place_of_pattern, IsWayThrough}
 use Rattle.regex_lite_engine.proofs.laws.LeadsLemmas.{same_some}
 use Rattle.regex_lite_engine.proofs.laws.StandingLemmas.{Stands, StandInChain, StandAsBranches}
 use Rattle.regex_lite_engine.proofs.laws.WrittenTreeLemmas.{whole_stands}
-use Rattle.regex_lite_engine.specs.Search.Marks.{Marks, no_marks, marked, over, marks_along, marks_of_way}
+use Rattle.regex_lite_engine.specs.Search.Marks.{Marks, no_marks, marked, over}
+use Rattle.regex_lite_engine.specs.Search.Marks.{marks_along, marks_of_way}
 use Rattle.regex_lite_engine.proofs.laws.list.EntryLemmas.{over_assoc}
 use Rattle.regex_lite_engine.proofs.laws.groups.MarkingLemmas.{Marking, MarkingChain, MarkingBranch}
 use Rattle.regex_lite_engine.proofs.laws.WalkMatchLemmas.{if_test, was_read}
-use Rattle.regex_lite_engine.proofs.laws.groups.MarkedWalkLemmas.{Each, fewer, by_go, by_test, by_mark, by_arrows, by_branches}
-use Rattle.regex_lite_engine.proofs.laws.groups.MarkedPassLemmas.{Behind, plain, together, in_repetition}
+use Rattle.regex_lite_engine.proofs.laws.groups.MarkedWalkLemmas.{Each, fewer, by_go, by_test}
+use Rattle.regex_lite_engine.proofs.laws.groups.MarkedWalkLemmas.{by_mark, by_arrows, by_branches}
+use Rattle.regex_lite_engine.proofs.laws.groups.MarkedPassLemmas.{Behind, plain, together}
+use Rattle.regex_lite_engine.proofs.laws.groups.MarkedPassLemmas.{in_repetition}
 
 module _ {A : Type 0} {haystack : Text} {place : A → Place A} {end : A}
     (final : place end ≡ complete) where

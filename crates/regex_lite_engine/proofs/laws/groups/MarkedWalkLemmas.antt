@@ -1,11 +1,16 @@
 -- Walks with few arrows that lead to the end, and what they mark.
-use Rattle.std.proofs.Common.{◌≡◌, ◌<◌, refl, sym, ap, subst, ◌∙◌, ℕ, zero, suc, Bool, true, false, List, [], ◌∷◌, map, length, Option, Some, None, option_map, slice_get, arith}
+use Rattle.std.proofs.Common.{◌≡◌, ◌<◌, refl, sym, ap, subst, ◌∙◌, ℕ, zero, suc}
+use Rattle.std.proofs.Common.{Bool, true, false, List, [], ◌∷◌, map, length}
+use Rattle.std.proofs.Common.{Option, Some, None, option_map, slice_get, arith}
 use Rattle.std.proofs.lemmas.Option.{slice_get-map}
 use Rattle.regex_lite_syntax.specs.Text.{Text}
 use Rattle.regex_lite_engine.specs.Graph.Ways.{Leads}
-use Rattle.regex_lite_engine.specs.Graph.Places.{Arrow, Place, complete, with_arrows, go, go_marking, choice, taken, arrived, arrow_taken, step, step_from}
+use Rattle.regex_lite_engine.specs.Graph.Places.{Arrow, Place, complete, with_arrows}
+use Rattle.regex_lite_engine.specs.Graph.Places.{go, go_marking, choice, taken}
+use Rattle.regex_lite_engine.specs.Graph.Places.{arrived, arrow_taken, step, step_from}
 use Rattle.regex_lite_engine.proofs.laws.LeadsLemmas.{same_some}
-use Rattle.regex_lite_engine.specs.Search.Marks.{Marks, marked, over, mark_of, mark_of_arrow, marks_along}
+use Rattle.regex_lite_engine.specs.Search.Marks.{Marks, marked, over, mark_of}
+use Rattle.regex_lite_engine.specs.Search.Marks.{mark_of_arrow, marks_along}
 use Rattle.regex_lite_engine.proofs.laws.list.EntryLemmas.{over_unmarked}
 
 -- each walk of fewer than n arrows from the place to the end has these marks and this end

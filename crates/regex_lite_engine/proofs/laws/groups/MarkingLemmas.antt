@@ -3,7 +3,8 @@ use Rattle.std.proofs.Common.{◌≡◌, ◌⊎◌, ◌≤◌, ℕ, zero, suc, �
 use Rattle.regex_lite_syntax.specs.Text.{Text, after}
 use Rattle.regex_lite_syntax.specs.Ranges.{in_ranges}
 use Rattle.regex_lite_syntax.specs.Tree.Looks.{Holds}
-use Rattle.regex_lite_syntax.specs.Tree.{Tree, empty, character, class, look, capture, repetition, concat, alternation, Trees, none, more}
+use Rattle.regex_lite_syntax.specs.Tree.{Tree, empty, character, class, look, capture}
+use Rattle.regex_lite_syntax.specs.Tree.{repetition, concat, alternation, Trees, none, more}
 use Rattle.regex_lite_syntax.specs.Tree.Matches.{AtMost}
 use Rattle.regex_lite_engine.specs.Search.Marks.{Marks, no_marks, marked, over}
 

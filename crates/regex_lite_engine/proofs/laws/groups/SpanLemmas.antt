@@ -1,9 +1,11 @@
 -- The spans of groups: each lies between where the match starts and where it ends.
-use Rattle.std.proofs.Common.{◌≡◌, ◌≢◌, ◌≤◌, ◌⊎◌, inl, inr, refl, sym, ap, subst, ◌∙◌, ℕ, zero, suc, ◌+◌, ◌*◌, ◌==◌, true, false, Option, Some, None, is_some, arith}
+use Rattle.std.proofs.Common.{◌≡◌, ◌≢◌, ◌≤◌, ◌⊎◌, inl, inr, refl, sym, ap, subst, ◌∙◌, ℕ, zero}
+use Rattle.std.proofs.Common.{suc, ◌+◌, ◌*◌, ◌==◌, true, false, Option, Some, None, is_some, arith}
 use Rattle.std.proofs.lemmas.Bool.{cases_eq}
 use Rattle.std.proofs.lemmas.Bool.Decides.{nat_tests}
 use Rattle.regex_lite_syntax.specs.Text.{Text}
-use Rattle.regex_lite_syntax.specs.Tree.{Tree, Trees, empty, character, class, look, repetition, capture, concat, alternation, none, more}
+use Rattle.regex_lite_syntax.specs.Tree.{Tree, Trees, empty, character, class, look}
+use Rattle.regex_lite_syntax.specs.Tree.{repetition, capture, concat, alternation, none, more}
 use Rattle.std.specs.Option.{option_or, option_zip}
 use Rattle.regex_lite_syntax.specs.Tree.Regular.{IsRegular, AreRegular}
 use Rattle.regex_lite_engine.proofs.laws.LeadsLemmas.{same_some}
@@ -11,7 +13,8 @@ use Rattle.regex_lite_engine.specs.Graph.WrittenOut.{whole}
 use Rattle.regex_lite_engine.specs.Search.Marks.{Marks, no_marks, over, span}
 use Rattle.regex_lite_engine.specs.Search.Answer.{Found, IsFound}
 use Rattle.regex_lite_engine.specs.SearchLaws.{HasGroupsInside}
-use Rattle.regex_lite_engine.proofs.laws.groups.MarkingLemmas.{Marking, MarkingChain, MarkingBranch, MarkedPasses, around}
+use Rattle.regex_lite_engine.proofs.laws.groups.MarkingLemmas.{Marking, MarkingChain}
+use Rattle.regex_lite_engine.proofs.laws.groups.MarkingLemmas.{MarkingBranch, MarkedPasses, around}
 use Rattle.regex_lite_engine.proofs.laws.groups.MarkedTreeLemmas.{marked_way}
 
 -- two slots hold nothing, or positions in order between i and j

@@ -1,5 +1,6 @@
 -- How many groups take part, counted in rows of groups.
-use Rattle.std.proofs.Common.{◌≡◌, ◌≤◌, refl, ap, ◌∙◌, ℕ, zero, suc, ◌+◌, ◌-◌, ◌*◌, ◌==◌, Bool, true, false, Option, Some, None, is_some, if◌then◌else◌, arith}
+use Rattle.std.proofs.Common.{◌≡◌, ◌≤◌, refl, ap, ◌∙◌, ℕ, zero, suc, ◌+◌, ◌-◌, ◌*◌, ◌==◌, Bool}
+use Rattle.std.proofs.Common.{true, false, Option, Some, None, is_some, if◌then◌else◌, arith}
 use Rattle.std.specs.Option.{option_or, option_zip}
 use Rattle.std.proofs.lemmas.Bool.Decides.{nat_tests}
 use Rattle.regex_lite_engine.specs.Search.Marks.{Marks, over, span, taking_part}

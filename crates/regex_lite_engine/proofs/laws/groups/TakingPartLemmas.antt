@@ -1,18 +1,25 @@
 -- At least the static number of groups take part in a match.
-use Rattle.std.proofs.Common.{◌≡◌, ◌≤◌, ◌<◌, inl, inr, refl, sym, ap, subst, ◌∙◌, ℕ, zero, suc, ◌+◌, ◌-◌, ◌*◌, ◌==◌, max, Bool, true, false, Option, Some, None, is_some, if◌then◌else◌, arith}
+use Rattle.std.proofs.Common.{◌≡◌, ◌≤◌, ◌<◌, inl, inr, refl, sym, ap, subst, ◌∙◌, ℕ}
+use Rattle.std.proofs.Common.{zero, suc, ◌+◌, ◌-◌, ◌*◌, ◌==◌, max, Bool, true, false}
+use Rattle.std.proofs.Common.{Option, Some, None, is_some, if◌then◌else◌, arith}
 use Rattle.std.proofs.lemmas.Bool.Decides.{nat_tests}
 use Rattle.regex_lite_syntax.specs.Text.{Text}
-use Rattle.regex_lite_syntax.specs.Tree.{Tree, Trees, empty, character, class, look, repetition, capture, concat, alternation, none, more}
-use Rattle.regex_lite_syntax.specs.Tree.Properties.{greatest_index, greatest_index_in, captures_len, sum, common, in_passes, static_groups, static_sum, static_common, static_captures_len}
+use Rattle.regex_lite_syntax.specs.Tree.{Tree, Trees, empty, character, class, look}
+use Rattle.regex_lite_syntax.specs.Tree.{repetition, capture, concat, alternation, none, more}
+use Rattle.regex_lite_syntax.specs.Tree.Properties.{greatest_index, greatest_index_in, captures_len}
+use Rattle.regex_lite_syntax.specs.Tree.Properties.{sum, common, in_passes, static_groups}
+use Rattle.regex_lite_syntax.specs.Tree.Properties.{static_sum, static_common, static_captures_len}
 use Rattle.regex_lite_syntax.specs.Tree.Regular.{IsRegular}
 use Rattle.regex_lite_engine.specs.Graph.WrittenOut.{whole}
 use Rattle.regex_lite_engine.proofs.laws.LeadsLemmas.{same_some}
 use Rattle.regex_lite_engine.specs.Search.Marks.{Marks, marked, over, span, taking_part}
 use Rattle.regex_lite_syntax.proofs.grammar.NumberedTreeLemmas.{IsNumbered, AreNumbered}
 use Rattle.regex_lite_engine.specs.Search.Answer.{Found, IsFound}
-use Rattle.regex_lite_engine.proofs.laws.groups.MarkingLemmas.{Marking, MarkingChain, MarkingBranch, MarkedPasses, around}
+use Rattle.regex_lite_engine.proofs.laws.groups.MarkingLemmas.{Marking, MarkingChain}
+use Rattle.regex_lite_engine.proofs.laws.groups.MarkingLemmas.{MarkingBranch, MarkedPasses, around}
 use Rattle.regex_lite_engine.proofs.laws.groups.MarkedTreeLemmas.{marked_way}
-use Rattle.regex_lite_engine.proofs.laws.groups.TakingCountLemmas.{one_if, earlier_stay, later_stay, two_rows, of_more, own_part}
+use Rattle.regex_lite_engine.proofs.laws.groups.TakingCountLemmas.{one_if, earlier_stay, later_stay}
+use Rattle.regex_lite_engine.proofs.laws.groups.TakingCountLemmas.{two_rows, of_more, own_part}
 
 sum_is : (a b : Option ℕ) (n : ℕ) → sum a b ≡ Some n
     → (k : ℕ) × (l : ℕ) × (a ≡ Some k) × (b ≡ Some l) × (n ≡ k + l)
@@ -20,7 +27,8 @@ sum_is None b n e = absurd cc
 sum_is (Some a) None n e = absurd cc
 sum_is (Some a) (Some b) n e = (a, b, refl, refl, sym (same_some e))
 
-if_same : (test : Bool) (a n : ℕ) → (if test then Some a else None) ≡ Some n → (test ≡ true) × (a ≡ n)
+if_same : (test : Bool) (a n : ℕ) → (if test then Some a else None) ≡ Some n
+    → (test ≡ true) × (a ≡ n)
 if_same true a n e = (refl, same_some e)
 if_same false a n e = absurd cc
 

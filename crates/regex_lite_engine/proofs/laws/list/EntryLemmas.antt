@@ -1,5 +1,6 @@
 -- Lists of entries: going on from each is associative, and so is laying marks over others.
-use Rattle.std.proofs.Common.{◌≡◌, refl, sym, ap, ◌∙◌, ℕ, List, [], ◌∷◌, ◌++◌, map, Option, Some, None, append_assoc, append-nil}
+use Rattle.std.proofs.Common.{◌≡◌, refl, sym, ap, ◌∙◌, ℕ, List, [], ◌∷◌, ◌++◌}
+use Rattle.std.proofs.Common.{map, Option, Some, None, append_assoc, append-nil}
 use Rattle.std.proofs.lemmas.List.{map-append}
 use Rattle.std.specs.Option.{option_or}
 use Rattle.regex_lite_engine.specs.Search.Marks.{Marks, no_marks, marked, over}
@@ -32,7 +33,8 @@ behind_none marks none (e ∷ list) =
     cc (first, later)
 
 pub behind_both : (first later : Marks) (list : List Entry)
-    → map (behind_marks first) (map (behind_marks later) list) ≡ map (behind_marks (over later first)) list
+    → map (behind_marks first) (map (behind_marks later) list)
+    ≡ map (behind_marks (over later first)) list
 behind_both first later [] = refl
 behind_both first later (e ∷ list) =
     let here : behind_marks first (behind_marks later e) ≡ behind_marks (over later first) e
@@ -55,7 +57,8 @@ onward_behind marks (e ∷ list) next =
     let parts = ap (λ first. first ++ onward (map (behind_marks marks) list) next) here in
     let later = ap (λ rest. map (behind_marks marks) (map (behind_marks e.1) (next e.0)) ++ rest)
     (onward_behind marks list next) in
-    parts ∙ later ∙ sym (map-append (behind_marks marks) (map (behind_marks e.1) (next e.0)) (onward list next))
+    parts ∙ later
+    ∙ sym (map-append (behind_marks marks) (map (behind_marks e.1) (next e.0)) (onward list next))
 
 pub onward_assoc : (list : List Entry) (next further : ℕ → List Entry)
     → onward (onward list next) further ≡ onward list (λ j. onward (next j) further)
@@ -64,7 +67,8 @@ onward_assoc (e ∷ list) next further =
     let first = map (behind_marks e.1) (next e.0) in
     onward_append first (onward list next) further
     ∙ ap (λ xs. xs ++ onward (onward list next) further) (onward_behind e.1 (next e.0) further)
-    ∙ ap (λ xs. map (behind_marks e.1) (onward (next e.0) further) ++ xs) (onward_assoc list next further)
+    ∙ ap (λ xs. map (behind_marks e.1) (onward (next e.0) further) ++ xs)
+    (onward_assoc list next further)
 
 -- where nothing follows
 pub onward_nothing : (list : List Entry) → onward list (λ j. []) ≡ []

@@ -1,10 +1,13 @@
 -- The walks from a place in the order of preference, each with its end and marks.
-use Rattle.std.proofs.Common.{◌≡◌, refl, sym, ap, subst, ◌∙◌, ℕ, suc, Bool, true, false, List, [], ◌∷◌, ◌++◌, map, Option, Some, None, if◌then◌else◌, append-nil}
+use Rattle.std.proofs.Common.{◌≡◌, refl, sym, ap, subst, ◌∙◌, ℕ, suc, Bool, true, false, List}
+use Rattle.std.proofs.Common.{[], ◌∷◌, ◌++◌, map, Option, Some, None, if◌then◌else◌, append-nil}
 use Rattle.regex_lite_syntax.specs.Text.{Text, before, after}
 use Rattle.regex_lite_syntax.specs.Sets.{Set}
 use Rattle.regex_lite_syntax.specs.declared.hir.look.Look.{Look}
 use Rattle.regex_lite_syntax.specs.Tree.Looks.{holds_between}
-use Rattle.regex_lite_engine.specs.Graph.Places.{Arrow, Place, complete, with_arrows, go, go_marking, go_holding, go_reading, choice, behind, taken}
+use Rattle.regex_lite_engine.specs.Graph.Places.{Arrow, Place, complete, with_arrows}
+use Rattle.regex_lite_engine.specs.Graph.Places.{go, go_marking, go_holding}
+use Rattle.regex_lite_engine.specs.Graph.Places.{go_reading, choice, behind, taken}
 use Rattle.regex_lite_engine.specs.Search.Marks.{marked}
 use Rattle.regex_lite_engine.specs.Search.PreferenceList.{Entry, behind_marks, stop, read, onward}
 use Rattle.regex_lite_engine.proofs.laws.list.EntryLemmas.{over_unmarked, behind_none, onward_stop}

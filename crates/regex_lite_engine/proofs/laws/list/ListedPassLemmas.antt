@@ -1,13 +1,18 @@
 -- What is listed where a repetition stands whose body reads, if it has no limit.
-use Rattle.std.proofs.Common.{◌≡◌, refl, sym, ap, subst, ◌∙◌, ℕ, zero, suc, ◌+◌, ◌-◌, ◌≤◌, Bool, true, false, List, [], ◌++◌, Option, Some, None, if◌then◌else◌, length, append-nil, arith}
+use Rattle.std.proofs.Common.{◌≡◌, refl, sym, ap, subst, ◌∙◌, ℕ, zero, suc, ◌+◌}
+use Rattle.std.proofs.Common.{◌-◌, ◌≤◌, Bool, true, false, List, [], ◌++◌, Option}
+use Rattle.std.proofs.Common.{Some, None, if◌then◌else◌, length, append-nil, arith}
 use Rattle.regex_lite_syntax.specs.Text.{Text}
 use Rattle.regex_lite_syntax.specs.Tree.Matches.{Passes, AtMost}
 use Rattle.regex_lite_syntax.specs.Tree.Regular.{InOrder}
 use Rattle.regex_lite_engine.specs.Graph.Places.{Place, choice}
 use Rattle.regex_lite_engine.proofs.laws.WalkPassLemmas.{both_passes}
-use Rattle.regex_lite_engine.proofs.laws.StandingLemmas.{InRow, InChoices, IsBetween, IsBounded, IsRepetition}
-use Rattle.regex_lite_engine.specs.Search.PreferenceList.{Entry, stop, onward, passes, up_to, further}
-use Rattle.regex_lite_engine.proofs.laws.list.EntryLemmas.{onward_append, onward_assoc, onward_stop, onward_nothing}
+use Rattle.regex_lite_engine.proofs.laws.StandingLemmas.{InRow, InChoices, IsBetween}
+use Rattle.regex_lite_engine.proofs.laws.StandingLemmas.{IsBounded, IsRepetition}
+use Rattle.regex_lite_engine.specs.Search.PreferenceList.{Entry, stop, onward}
+use Rattle.regex_lite_engine.specs.Search.PreferenceList.{passes, up_to, further}
+use Rattle.regex_lite_engine.proofs.laws.list.EntryLemmas.{onward_append, onward_assoc}
+use Rattle.regex_lite_engine.proofs.laws.list.EntryLemmas.{onward_stop, onward_nothing}
 use Rattle.regex_lite_engine.proofs.laws.list.ReadingLemmas.{Reads}
 use Rattle.regex_lite_engine.proofs.laws.list.ListedLemmas.{Listed, as_listed, by_go, by_choice}
 
@@ -120,7 +125,8 @@ module _ {A : Type 0} {haystack : Text} {place : A → Place A} {end : A} (greed
       → IsBetween place greedy Body least above enter exit
       → ((j n : ℕ) → least ≤ n → n ≤ least + above → Passes Pass n i j
       → Listed haystack place end exit j (next j))
-      → Listed haystack place end enter i (onward (passes least body (up_to above greedy body) i) next)
+      → Listed haystack place end enter i
+      (onward (passes least body (up_to above greedy body) i) next)
   in_between least above i next (turn, join, row, choices, joined) follows =
       let on = λ (j : ℕ). onward (up_to above greedy body j) next in
       let all = in_row least i on row (λ k first. in_choices above k next choices
@@ -132,7 +138,8 @@ module _ {A : Type 0} {haystack : Text} {place : A → Place A} {end : A} (greed
       → IsBounded place greedy Body least above enter exit
       → ((j n : ℕ) → least ≤ n → n ≤ least + above → Passes Pass n i j
       → Listed haystack place end exit j (next j))
-      → Listed haystack place end enter i (onward (passes least body (up_to above greedy body) i) next)
+      → Listed haystack place end enter i
+      (onward (passes least body (up_to above greedy body) i) next)
   in_bounded zero zero i next joined follows =
       let here = by_go joined (follows i 0 (omega arith) (omega arith) refl) in
       as_listed (sym (onward_stop i next)) here
@@ -141,10 +148,12 @@ module _ {A : Type 0} {haystack : Text} {place : A → Place A} {end : A} (greed
       (λ j made. follows j (suc m) (omega arith) (omega arith) made) in
       let plain = no_more_passes body (suc m) i next in
       as_listed (sym (onward_passes body (suc m) i stop next ∙ plain)) all
-  in_bounded zero (suc zero) i next stands follows = in_between zero (suc zero) i next stands follows
+  in_bounded zero (suc zero) i next stands follows =
+      in_between zero (suc zero) i next stands follows
   in_bounded zero (suc (suc d)) i next (turn, entered, stands) follows =
       by_go entered (in_between zero (suc (suc d)) i next stands follows)
-  in_bounded (suc m) (suc d) i next stands follows = in_between (suc m) (suc d) i next stands follows
+  in_bounded (suc m) (suc d) i next stands follows =
+      in_between (suc m) (suc d) i next stands follows
 
   pub in_repetition : (least : ℕ) (most : Option ℕ) (nullable_body : Bool) {enter exit : A} (i : ℕ)
       (next : ℕ → List Entry) → InOrder least most → LoopReads haystack Pass most nullable_body

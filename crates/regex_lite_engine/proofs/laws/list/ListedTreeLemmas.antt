@@ -1,12 +1,14 @@
 -- What is listed where a tree stands: its own list, and what follows each of its ends.
-use Rattle.std.proofs.Common.{◌≡◌, inl, inr, refl, sym, ap, subst, ◌∙◌, ℕ, ◌+◌, ◌*◌, List, [], ◌∷◌, ◌++◌, map, Option, Some, None, append-nil}
+use Rattle.std.proofs.Common.{◌≡◌, inl, inr, refl, sym, ap, subst, ◌∙◌, ℕ, ◌+◌, ◌*◌}
+use Rattle.std.proofs.Common.{List, [], ◌∷◌, ◌++◌, map, Option, Some, None, append-nil}
 use Rattle.std.proofs.lemmas.Bool.{eqb-true}
 use Rattle.regex_lite_syntax.specs.declared.class.ClassRange.{ClassRange}
 use Rattle.regex_lite_syntax.specs.Text.{Text, before, after}
 use Rattle.regex_lite_syntax.specs.Ranges.{in_ranges}
 use Rattle.regex_lite_syntax.specs.Sets.{just}
 use Rattle.regex_lite_syntax.specs.Tree.Looks.{holds_between}
-use Rattle.regex_lite_syntax.specs.Tree.{Tree, Trees, empty, character, class, look, repetition, capture, concat, alternation, none, more}
+use Rattle.regex_lite_syntax.specs.Tree.{Tree, Trees, empty, character, class, look}
+use Rattle.regex_lite_syntax.specs.Tree.{repetition, capture, concat, alternation, none, more}
 use Rattle.regex_lite_syntax.specs.Tree.Properties.{nullable}
 use Rattle.regex_lite_syntax.specs.Tree.Regular.{IsRegular, AreRegular}
 use Rattle.regex_lite_syntax.specs.Tree.Matches.{Matches, Chain, SomeBranch}
@@ -14,10 +16,15 @@ use Rattle.regex_lite_engine.specs.Graph.Places.{Place, go, one_of}
 use Rattle.regex_lite_engine.proofs.laws.WalkMatchLemmas.{if_test, was_read}
 use Rattle.regex_lite_engine.proofs.laws.StandingLemmas.{Stands, StandInChain, StandAsBranches}
 use Rattle.regex_lite_engine.specs.Search.Marks.{marked}
-use Rattle.regex_lite_engine.specs.Search.PreferenceList.{Entry, behind_marks, read, onward, marking, preference_list, list_of_chain, list_of_branches, ReadsInPasses, HasReadingLoops, HaveReadingLoops}
+use Rattle.regex_lite_engine.specs.Search.PreferenceList.{Entry, behind_marks, read, onward}
+use Rattle.regex_lite_engine.specs.Search.PreferenceList.{marking, preference_list, list_of_chain}
+use Rattle.regex_lite_engine.specs.Search.PreferenceList.{list_of_branches, ReadsInPasses}
+use Rattle.regex_lite_engine.specs.Search.PreferenceList.{HasReadingLoops, HaveReadingLoops}
 use Rattle.regex_lite_engine.proofs.laws.list.EntryLemmas.{onward_append, onward_assoc, onward_stop}
 use Rattle.regex_lite_engine.proofs.laws.list.ReadingLemmas.{reads}
-use Rattle.regex_lite_engine.proofs.laws.list.ListedLemmas.{Listed, branching, ListedBy, over_all, fitting, as_listed, by_go, by_mark, by_reading, by_look, unmarked}
+use Rattle.regex_lite_engine.proofs.laws.list.ListedLemmas.{Listed, branching, ListedBy, over_all}
+use Rattle.regex_lite_engine.proofs.laws.list.ListedLemmas.{fitting, as_listed, by_go, by_mark}
+use Rattle.regex_lite_engine.proofs.laws.list.ListedLemmas.{by_reading, by_look, unmarked}
 use Rattle.regex_lite_engine.proofs.laws.list.ListedPassLemmas.{LoopReads, in_repetition}
 
 none_read : (i : ℕ) (next : Option ℕ) → read (in_ranges []) i next ≡ []
@@ -57,7 +64,8 @@ module _ {A : Type 0} {haystack : Text} {place : A → Place A} {end : A} where
       → Listed haystack place end a k (onward (preference_list haystack body k) on))
       → (name : Option Text) → Stands place (capture index name body) enter exit
       → ((j : ℕ) → Matches haystack body i j → Listed haystack place end exit j (next j))
-      → Listed haystack place end enter i (onward (preference_list haystack (capture index name body) i) next)
+      → Listed haystack place end enter i
+      (onward (preference_list haystack (capture index name body) i) next)
   listed_group index body enter exit i next inside name (first, close, opened, stands, closed)
       follows =
       let last = 2 * index + 1 in
@@ -91,7 +99,8 @@ module _ {A : Type 0} {haystack : Text} {place : A → Place A} {end : A} where
         (λ j fits. follows j (if_test holds i j fits))
     listed_tree (repetition least most greedy body) enter exit i next regular reading stands
         follows =
-        in_repetition greedy (Matches haystack body) (Stands place body) (preference_list haystack body)
+        in_repetition greedy (Matches haystack body) (Stands place body)
+        (preference_list haystack body)
         (λ a b k on s f. listed_tree body a b k on regular.1 reading.1 s f) least most
         (nullable body) i next regular.0 (loop_reads haystack most body reading.0) stands
         (λ j n low high passes. follows j (n, low, high, passes))
@@ -118,13 +127,16 @@ module _ {A : Type 0} {haystack : Text} {place : A → Place A} {end : A} where
         let all = listed_tree a enter via i on regular.0 reading.0 stands (λ k m.
         listed_chain rest via exit k next regular.1 reading.1 later
         (λ j chain. follows j (k, m, chain))) in
-        as_listed (sym (onward_assoc (preference_list haystack a i) (list_of_chain haystack rest) next)) all
+        as_listed
+        (sym (onward_assoc (preference_list haystack a i) (list_of_chain haystack rest) next)) all
 
-    listed_branches : (branches : Trees) (firsts : List A) (join : A) (i : ℕ) (next : ℕ → List Entry)
+    listed_branches : (branches : Trees) (firsts : List A) (join : A) (i : ℕ)
+        (next : ℕ → List Entry)
         → AreRegular branches → HaveReadingLoops branches
         → StandAsBranches place branches firsts join
         → ((j : ℕ) → SomeBranch haystack branches i j → Listed haystack place end join j (next j))
-        → ListedBy haystack place end (map go firsts) i (onward (list_of_branches haystack branches i) next)
+        → ListedBy haystack place end (map go firsts) i
+        (onward (list_of_branches haystack branches i) next)
     listed_branches none [] join i next regular reading stand follows = over_all refl
     listed_branches none (b ∷ firsts) join i next regular reading stand follows = absurd stand
     listed_branches (more a rest) [] join i next regular reading stand follows = absurd stand
@@ -135,6 +147,7 @@ module _ {A : Type 0} {haystack : Text} {place : A → Place A} {end : A} where
         (λ j m. follows j (inl m)) in
         let later = listed_branches rest firsts join i next regular.1 reading.1 stand.1
         (λ j some. follows j (inr some)) in
-        let parts = onward_append (preference_list haystack a i) (list_of_branches haystack rest i) next
+        let parts =
+        onward_append (preference_list haystack a i) (list_of_branches haystack rest i) next
         ∙ ap (λ xs. xs ++ there) (sym (unmarked i here)) in
         fitting i here there refl first later parts

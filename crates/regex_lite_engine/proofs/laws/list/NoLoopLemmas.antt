@@ -1,12 +1,15 @@
 -- Where walks are listed, no walk comes to a place twice at one position.
-use Rattle.std.proofs.Common.{◌≡◌, refl, sym, ap, subst, ◌∙◌, ℕ, zero, suc, List, [], ◌∷◌, ◌++◌, Some, None, slice_get}
+use Rattle.std.proofs.Common.{◌≡◌, refl, sym, ap, subst, ◌∙◌, ℕ, zero, suc}
+use Rattle.std.proofs.Common.{List, [], ◌∷◌, ◌++◌, Some, None, slice_get}
 use Rattle.regex_lite_syntax.specs.Text.{Text}
 use Rattle.regex_lite_syntax.proofs.ListLemmas.{no_last}
 use Rattle.regex_lite_engine.specs.Graph.Ways.{Leads, NoneTwice}
-use Rattle.regex_lite_engine.specs.Graph.Places.{Arrow, Place, complete, with_arrows, arrived, arrow_taken, step, step_from}
+use Rattle.regex_lite_engine.specs.Graph.Places.{Arrow, Place, complete, with_arrows}
+use Rattle.regex_lite_engine.specs.Graph.Places.{arrived, arrow_taken, step, step_from}
 use Rattle.regex_lite_engine.proofs.laws.LeadsLemmas.{same_some, leads_append}
 use Rattle.regex_lite_engine.specs.Search.PreferenceList.{Entry}
-use Rattle.regex_lite_engine.proofs.laws.list.ListedLemmas.{Listed, ListedBy, completed, branching, over_all, blocked, fitting}
+use Rattle.regex_lite_engine.proofs.laws.list.ListedLemmas.{Listed, ListedBy, completed}
+use Rattle.regex_lite_engine.proofs.laws.list.ListedLemmas.{branching, over_all, blocked, fitting}
 
 module _ {A : Type 0} (haystack : Text) (place : A → Place A) (end : A)
   where
@@ -22,7 +25,8 @@ module _ {A : Type 0} (haystack : Text) (place : A → Place A) (end : A)
         (next, s, refl) in
         no_last ks k (sym (none (ks ++ k ∷ []) on))
 
-    pub next_of : (a : A) (i k : ℕ) (arrows : List (Arrow A)) (next : A × ℕ) → place a ≡ with_arrows arrows
+    pub next_of : (a : A) (i k : ℕ) (arrows : List (Arrow A)) (next : A × ℕ)
+        → place a ≡ with_arrows arrows
         → step haystack place (a, i) k ≡ Some next
         → arrow_taken haystack i (slice_get arrows k) ≡ Some next
     next_of a i k arrows next e s = subst (λ p. step_from haystack p i k ≡ Some next) e s
@@ -34,7 +38,8 @@ module _ {A : Type 0} (haystack : Text) (place : A → Place A) (end : A)
         cc
 
     mutual
-      no_loop : {a : A} {i : ℕ} {list : List Entry} → Listed haystack place end a i list → NoLoop (a, i)
+      no_loop : {a : A} {i : ℕ} {list : List Entry} → Listed haystack place end a i list
+          → NoLoop (a, i)
       no_loop {a} {i} (completed here e same) = stays
         where
           stays : NoLoop (a, i)

@@ -1,7 +1,9 @@
 -- The preference lists of some trees, computed: where each match ends, and the spans of its groups.
-use Rattle.std.proofs.Common.{◌≡◌, refl, ℕ, List, [], ◌∷◌, map, true, false, Option, Some, None, codes}
+use Rattle.std.proofs.Common.{◌≡◌, refl, ℕ, List, [], ◌∷◌, map, true}
+use Rattle.std.proofs.Common.{false, Option, Some, None, codes}
 use Rattle.regex_lite_syntax.specs.Text.{Text, the}
-use Rattle.regex_lite_syntax.specs.Tree.{Tree, Trees, character, repetition, capture, concat, alternation, none, more}
+use Rattle.regex_lite_syntax.specs.Tree.{Tree, Trees, character, repetition}
+use Rattle.regex_lite_syntax.specs.Tree.{capture, concat, alternation, none, more}
 use Rattle.regex_lite_engine.specs.Graph.WrittenOut.{whole}
 use Rattle.regex_lite_engine.specs.Search.Marks.{span}
 use Rattle.regex_lite_engine.specs.Search.PreferenceList.{preference_list}

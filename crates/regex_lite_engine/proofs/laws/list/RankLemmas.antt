@@ -8,7 +8,8 @@ use Rattle.regex_lite_engine.specs.SearchLaws.{IsBefore}
 use Rattle.regex_lite_engine.proofs.laws.InLemmas.{In}
 
 -- the walks have these ends and marks, each preferred to those after it
-abbrev pub Rank : (Walk : List ℕ → ℕ → Type 0) → (List ℕ → Marks) → List (List ℕ) → List Entry → Type 0
+abbrev pub Rank : (Walk : List ℕ → ℕ → Type 0) → (List ℕ → Marks) → List (List ℕ)
+    → List Entry → Type 0
 Rank Walk marks [] [] = Unit {0}
 Rank Walk marks [] (e ∷ list) = ⊥
 Rank Walk marks (way ∷ ways) [] = ⊥
@@ -16,7 +17,8 @@ Rank Walk marks (way ∷ ways) (e ∷ list) =
     Walk way e.0 × (e.1 ≡ marks way) × IsBefore way ways × Rank Walk marks ways list
 
 -- the walks are all there are
-pub record Ranking (Walk : List ℕ → ℕ → Type 0) (marks : List ℕ → Marks) (list : List Entry) : Type 0 where
+pub record Ranking (Walk : List ℕ → ℕ → Type 0) (marks : List ℕ → Marks) (list : List Entry)
+    : Type 0 where
   pub ways : List (List ℕ)
   pub rank : Rank Walk marks ways list
   pub all : (ks : List ℕ) (j : ℕ) → Walk ks j → In ks ways
@@ -55,7 +57,8 @@ before_map f keeps way (x ∷ ways) before =
 module _ (Walk Longer : List ℕ → ℕ → Type 0) (marks longer : List ℕ → Marks) (f : List ℕ → List ℕ)
     (g : Entry → Entry) (keeps : (a b : List ℕ) → IsPreferred a b → IsPreferred (f a) (f b))
     (walk : (ks : List ℕ) (e : Entry) → Walk ks e.0 → Longer (f ks) (g e).0)
-    (same : (ks : List ℕ) (e : Entry) → Walk ks e.0 → e.1 ≡ marks ks → (g e).1 ≡ longer (f ks)) where
+    (same : (ks : List ℕ) (e : Entry) → Walk ks e.0 → e.1 ≡ marks ks
+    → (g e).1 ≡ longer (f ks)) where
   pub rank_map : (ways : List (List ℕ)) (list : List Entry) → Rank Walk marks ways list
       → Rank Longer longer (map f ways) (map g list)
   rank_map [] [] p = tt

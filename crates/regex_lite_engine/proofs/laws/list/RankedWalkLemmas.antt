@@ -1,20 +1,28 @@
 -- What is listed is of all walks, the preferred first.
-use Rattle.std.proofs.Common.{◌≡◌, refl, sym, ap, subst, ◌∙◌, inl, inr, ℕ, zero, suc, List, [], ◌∷◌, ◌++◌, map, Some, None, slice_get, arith}
+use Rattle.std.proofs.Common.{◌≡◌, refl, sym, ap, subst, ◌∙◌, inl, inr, ℕ, zero, suc}
+use Rattle.std.proofs.Common.{List, [], ◌∷◌, ◌++◌, map, Some, None, slice_get, arith}
 use Rattle.regex_lite_syntax.specs.Text.{Text}
 use Rattle.regex_lite_syntax.specs.Tree.{Tree}
 use Rattle.regex_lite_syntax.specs.Tree.Regular.{IsRegular}
 use Rattle.regex_lite_engine.specs.Graph.Ways.{Leads}
-use Rattle.regex_lite_engine.specs.Graph.Places.{Arrow, Place, complete, with_arrows, taken, arrived, arrow_taken, step, step_from}
-use Rattle.regex_lite_engine.specs.Graph.WrittenOut.{whole, start_address, end_address, place_of_pattern, IsWayThrough}
+use Rattle.regex_lite_engine.specs.Graph.Places.{Arrow, Place, complete, with_arrows, taken}
+use Rattle.regex_lite_engine.specs.Graph.Places.{arrived, arrow_taken, step, step_from}
+use Rattle.regex_lite_engine.specs.Graph.WrittenOut.{whole, start_address, end_address}
+use Rattle.regex_lite_engine.specs.Graph.WrittenOut.{place_of_pattern, IsWayThrough}
 use Rattle.regex_lite_engine.proofs.laws.LeadsLemmas.{same_some}
-use Rattle.regex_lite_engine.specs.Search.Marks.{Marks, no_marks, marked, over, mark_of, mark_of_arrow, marks_along}
-use Rattle.regex_lite_engine.specs.Search.PreferenceList.{Entry, behind_marks, stop, preference_list, HasReadingLoops}
+use Rattle.regex_lite_engine.specs.Search.Marks.{Marks, no_marks, marked, over}
+use Rattle.regex_lite_engine.specs.Search.Marks.{mark_of, mark_of_arrow, marks_along}
+use Rattle.regex_lite_engine.specs.Search.PreferenceList.{Entry, behind_marks, stop}
+use Rattle.regex_lite_engine.specs.Search.PreferenceList.{preference_list, HasReadingLoops}
 use Rattle.regex_lite_engine.specs.SearchLaws.{IsBefore, AreRanked}
-use Rattle.regex_lite_engine.proofs.laws.list.ListedLemmas.{Listed, ListedBy, completed, branching, over_all, blocked, fitting}
+use Rattle.regex_lite_engine.proofs.laws.list.ListedLemmas.{Listed, ListedBy, completed}
+use Rattle.regex_lite_engine.proofs.laws.list.ListedLemmas.{branching, over_all, blocked, fitting}
 use Rattle.regex_lite_engine.proofs.laws.list.NoLoopLemmas.{complete_stays}
 use Rattle.regex_lite_engine.proofs.laws.list.WholeListLemmas.{listed_whole, walk_is_way}
 use Rattle.regex_lite_engine.proofs.laws.InLemmas.{In, in_left, in_right, in_map}
-use Rattle.regex_lite_engine.proofs.laws.list.RankLemmas.{Rank, Ranking, AllBefore, rank_both, rank_map, same_list, greater, greater_keeps}
+use Rattle.regex_lite_engine.proofs.laws.list.RankLemmas.{Rank, Ranking, AllBefore}
+use Rattle.regex_lite_engine.proofs.laws.list.RankLemmas.{rank_both, rank_map, same_list}
+use Rattle.regex_lite_engine.proofs.laws.list.RankLemmas.{greater, greater_keeps}
 
 module _ {A : Type 0} (haystack : Text) (place : A → Place A) (end : A) where
   -- the arrows lead to where a match is complete, at position j
@@ -134,7 +142,8 @@ module _ {A : Type 0} (haystack : Text) (place : A → Place A) (end : A) where
           (CompletesBy (arrow ∷ arrows) i)
           (λ ks. marks_along haystack place (Some (arrow.to, j)) ks)
           (marks_by (arrow ∷ arrows) i) (λ ks. 0 ∷ ks)
-          (behind_marks (marked arrow.mark i)) (λ a b before. inr (refl, before)) walk same r.ways here
+          (behind_marks (marked arrow.mark i))
+          (λ a b before. inr (refl, before)) walk same r.ways here
           r.rank
 
       each : (ks : List ℕ) (n : ℕ) → CompletesBy (arrow ∷ arrows) i ks n
@@ -222,7 +231,8 @@ module _ {A : Type 0} (haystack : Text) (place : A → Place A) (end : A) where
         without_first arrow arrows i list gone (ranking_by final listed)
     ranking_by {i = i} final (fitting {arrow} {arrows} j here there fits listed others all) =
         subst (λ list. IsRankingBy (arrow ∷ arrows) i list) (sym all)
-        (with_first arrow arrows i j here there fits (ranking final listed) (ranking_by final others))
+        (with_first arrow arrows i j here there fits (ranking final listed)
+        (ranking_by final others))
 
 number_of : (way : List ℕ) (ways : List (List ℕ)) → In way ways
     → (k : ℕ) × (slice_get ways k ≡ Some way)
@@ -231,7 +241,8 @@ number_of way (x ∷ ways) (inl e) = (0, ap Some e)
 number_of way (x ∷ ways) (inr is) = let later = number_of way ways is in (suc later.0, later.1)
 
 pub all_ranked : (tree : Tree) (haystack : Text) (i : ℕ) → IsRegular tree → HasReadingLoops tree
-    → (ways : List (List ℕ)) × AreRanked tree haystack i ways (preference_list haystack (whole tree) i)
+    → (ways : List (List ℕ))
+    × AreRanked tree haystack i ways (preference_list haystack (whole tree) i)
     × ((way : List ℕ) (j : ℕ) → IsWayThrough tree haystack i way j
     → (k : ℕ) × (slice_get ways k ≡ Some way))
 all_ranked tree haystack i regular reading = (

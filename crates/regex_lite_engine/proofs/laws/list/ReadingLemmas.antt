@@ -1,7 +1,9 @@
 -- A match never goes back, and that of a tree that is not nullable reads a character.
-use Rattle.std.proofs.Common.{◌≡◌, ◌<◌, ◌≤◌, inl, inr, refl, ℕ, zero, suc, Bool, true, false, ◌&&◌, ◌||◌, Some, length, [], ◌∷◌, arith}
+use Rattle.std.proofs.Common.{◌≡◌, ◌<◌, ◌≤◌, inl, inr, refl, ℕ, zero, suc, Bool}
+use Rattle.std.proofs.Common.{true, false, ◌&&◌, ◌||◌, Some, length, [], ◌∷◌, arith}
 use Rattle.regex_lite_syntax.specs.Text.{Text, after}
-use Rattle.regex_lite_syntax.specs.Tree.{Tree, Trees, empty, character, class, look, repetition, capture, concat, alternation, none, more}
+use Rattle.regex_lite_syntax.specs.Tree.{Tree, Trees, empty, character, class, look}
+use Rattle.regex_lite_syntax.specs.Tree.{repetition, capture, concat, alternation, none, more}
 use Rattle.regex_lite_syntax.specs.Tree.Properties.{is_zero, nullable, all_nullable, any_nullable}
 use Rattle.regex_lite_syntax.specs.Tree.Matches.{Matches, Chain, SomeBranch, Passes}
 
@@ -83,7 +85,8 @@ module _ (haystack : Text) where
     branch_forward (more a rest) i j (inr some) = branch_forward rest i j some
 
   mutual
-    pub reads : (tree : Tree) (i j : ℕ) → nullable tree ≡ false → Matches haystack tree i j → Reads i j
+    pub reads : (tree : Tree) (i j : ℕ) → nullable tree ≡ false → Matches haystack tree i j
+        → Reads i j
     reads empty i j e m = absurd cc
     reads (character c) i j e (there, f) = reads_one i j c there f
     reads (class ranges) i j e (c, there, is, f) = reads_one i j c there f

@@ -1,5 +1,6 @@
 -- Lists that are cut in two in several ways.
-use Rattle.std.proofs.Common.{◌≡◌, refl, sym, ap, ◌∙◌, ◌⊎◌, inl, inr, ℕ, List, [], ◌∷◌, ◌++◌, append-nil}
+use Rattle.std.proofs.Common.{◌≡◌, refl, sym, ap, ◌∙◌, ◌⊎◌, inl, inr}
+use Rattle.std.proofs.Common.{ℕ, List, [], ◌∷◌, ◌++◌, append-nil}
 use Rattle.regex_lite_syntax.proofs.ListLemmas.{same_head, same_tail}
 
 -- what stands behind the same beginning is the same

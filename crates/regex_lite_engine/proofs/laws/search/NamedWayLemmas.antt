@@ -1,5 +1,6 @@
 -- Two graphs whose nodes differ in their names alone have the same ways.
-use Rattle.std.proofs.Common.{◌≡◌, refl, sym, ap, subst, ◌∙◌, ℕ, List, [], ◌∷◌, Option, Some, None, option_map}
+use Rattle.std.proofs.Common.{◌≡◌, refl, sym, ap, subst, ◌∙◌, ℕ, List}
+use Rattle.std.proofs.Common.{[], ◌∷◌, Option, Some, None, option_map}
 use Rattle.regex_lite_engine.specs.Graph.Ways.{Leads, NoneTwice, IsWay}
 use Rattle.regex_lite_engine.proofs.laws.LeadsLemmas.{same_some}
 

@@ -9,9 +9,12 @@ use Rattle.regex_lite_engine.specs.Graph.WrittenOut.{start_address, written_out,
 use Rattle.regex_lite_engine.specs.Graph.Renumbered.{IsRenumbered, IsNumberOf}
 use Rattle.regex_lite_engine.specs.Search.Marks.{marks_along}
 use Rattle.regex_lite_engine.specs.Search.Answer.{IsMatchFrom, Found, IsAnswer, IsShortest}
-use Rattle.regex_lite_engine.specs.Walk.NumberedAnswer.{IsNumberedMatch, IsNumberedAnswer, IsNumberedShortest}
+use Rattle.regex_lite_engine.specs.Walk.NumberedAnswer.{IsNumberedMatch, IsNumberedAnswer}
+use Rattle.regex_lite_engine.specs.Walk.NumberedAnswer.{IsNumberedShortest}
 use Rattle.regex_lite_engine.proofs.laws.PatternWayLemmas.{match_way, walk_match}
-use Rattle.regex_lite_engine.proofs.laws.search.NumberedWayLemmas.{IsPart, IsPartNumber, whole_part, whole_number, marks_named, begins, in_numbers, in_addresses}
+use Rattle.regex_lite_engine.proofs.laws.search.NumberedWayLemmas.{IsPart, IsPartNumber, whole_part}
+use Rattle.regex_lite_engine.proofs.laws.search.NumberedWayLemmas.{whole_number, marks_named}
+use Rattle.regex_lite_engine.proofs.laws.search.NumberedWayLemmas.{begins, in_numbers, in_addresses}
 
 module _ (tree : Tree) (haystack : Text) (table : List (Place ℕ)) (start : ℕ)
     (name : ℕ → Address) (Part : ℕ → Type 0) (r : IsPart (written_out tree) name table Part)
@@ -49,10 +52,12 @@ module _ (tree : Tree) (haystack : Text) (table : List (Place ℕ)) (start : ℕ
         let (q, way, numbered) = numbered_match s i j m in is.least i q j way numbered);
     way = is.way;
     most_preferred = record {
-      is_way = in_addresses tree haystack table start name Part r first found.start is.last found.end
+      is_way =
+          in_addresses tree haystack table start name Part r first found.start is.last found.end
           is.way is.is_way;
       preferred = λ other j p. (
-          let numbered = in_numbers tree haystack table start name Part r first found.start j other p in
+          let numbered =
+          in_numbers tree haystack table start name Part r first found.start j other p in
           is.preferred other numbered.0 j numbered.1);
     };
     marks = is.marks
@@ -81,12 +86,14 @@ module _ (tree : Tree) (haystack : Text) (table : List (Place ℕ)) (start : ℕ
       → IsNumberedAnswer table haystack start s answer → IsAnswer tree haystack s answer
   answer_of_numbers =
       answer_of_part tree haystack table start name (λ q. q < length table)
-      (whole_part (written_out tree) name table r) (whole_number name table start_address start first)
+      (whole_part (written_out tree) name table r)
+      (whole_number name table start_address start first)
       regular
 
   pub shortest_of_numbers : (s : ℕ) (answer : Option ℕ)
       → IsNumberedShortest table haystack start s answer → IsShortest tree haystack s answer
   shortest_of_numbers =
       shortest_of_part tree haystack table start name (λ q. q < length table)
-      (whole_part (written_out tree) name table r) (whole_number name table start_address start first)
+      (whole_part (written_out tree) name table r)
+      (whole_number name table start_address start first)
       regular

@@ -1,20 +1,27 @@
 -- Ways through a table of numbered places are ways through the places at the addresses that the
 -- numbers stand for.
-use Rattle.std.proofs.Common.{◌≡◌, ◌<◌, refl, sym, ap, subst, ◌∙◌, ℕ, zero, suc, IsTrue, List, [], ◌∷◌, length, slice_get, Option, Some, None, option_map, unwrap_or, arith}
+use Rattle.std.proofs.Common.{◌≡◌, ◌<◌, refl, sym, ap, subst, ◌∙◌, ℕ, zero}
+use Rattle.std.proofs.Common.{suc, IsTrue, List, [], ◌∷◌, length, slice_get}
+use Rattle.std.proofs.Common.{Option, Some, None, option_map, unwrap_or, arith}
 use Rattle.std.proofs.lemmas.Option.{slice_get-map}
 use Rattle.regex_lite_syntax.specs.Text.{Text}
 use Rattle.regex_lite_syntax.specs.Tree.{Tree}
 use Rattle.regex_lite_engine.specs.Graph.Ways.{IsWay, Leads}
-use Rattle.regex_lite_engine.specs.Graph.Places.{Arrow, Place, complete, with_arrows, taken, arrived, arrow_taken, step, step_from, renamed, renamed_arrow}
+use Rattle.regex_lite_engine.specs.Graph.Places.{Arrow, Place, complete, with_arrows}
+use Rattle.regex_lite_engine.specs.Graph.Places.{taken, arrived, arrow_taken, step}
+use Rattle.regex_lite_engine.specs.Graph.Places.{step_from, renamed, renamed_arrow}
 use Rattle.regex_lite_engine.specs.Graph.Addresses.{Address}
 use Rattle.regex_lite_engine.specs.Graph.Repetitions.{Content}
-use Rattle.regex_lite_engine.specs.Graph.WrittenOut.{start_address, end_address, written_out, place_of_pattern, IsWayThrough}
+use Rattle.regex_lite_engine.specs.Graph.WrittenOut.{start_address, end_address, written_out}
+use Rattle.regex_lite_engine.specs.Graph.WrittenOut.{place_of_pattern, IsWayThrough}
 use Rattle.regex_lite_engine.specs.Graph.Stored.{LeadBelow, LeadsBelow, LeadInto, LeadsInto}
 use Rattle.regex_lite_engine.specs.Graph.Renumbered.{IsRenumbered, IsNumberOf}
 use Rattle.regex_lite_engine.specs.Search.Marks.{over, marked, mark_of, mark_of_arrow, marks_along}
-use Rattle.regex_lite_engine.specs.Walk.NumberedAnswer.{place_with, is_complete, numbered_step, IsNumberedWay}
+use Rattle.regex_lite_engine.specs.Walk.NumberedAnswer.{place_with, is_complete}
+use Rattle.regex_lite_engine.specs.Walk.NumberedAnswer.{numbered_step, IsNumberedWay}
 use Rattle.regex_lite_engine.proofs.laws.LeadsLemmas.{same_some}
-use Rattle.regex_lite_engine.proofs.laws.search.NamedWayLemmas.{known_on, unnamed_walk, named_way, unnamed_way}
+use Rattle.regex_lite_engine.proofs.laws.search.NamedWayLemmas.{known_on, unnamed_walk}
+use Rattle.regex_lite_engine.proofs.laws.search.NamedWayLemmas.{named_way, unnamed_way}
 use Rattle.regex_lite_engine.proofs.laws.search.OneEndLemmas.{one_end}
 
 place_within : {X : Type 0} (list : List X) (q : ℕ) (other : X) → q < length list
@@ -257,5 +264,6 @@ module _ (tree : Tree) (haystack : Text) (table : List (Place ℕ)) (start : ℕ
       first.inside way in
       let written = written_at q known ∙ ap (λ p. Some (renamed name p)) is_end in
       let at : name q ≡ end_address = one_end tree (name q) written in
-      let ended = subst (λ a. IsWay (Address × ℕ) in_pattern (named (start, i)) ks (a, j)) at there in
+      let ended =
+      subst (λ a. IsWay (Address × ℕ) in_pattern (named (start, i)) ks (a, j)) at there in
       subst (λ n. IsWay (Address × ℕ) in_pattern n ks (end_address, j)) (sym (begins i)) ended

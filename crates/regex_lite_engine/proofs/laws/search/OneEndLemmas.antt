@@ -1,11 +1,18 @@
 -- A written-out pattern has one place where a match is complete.
-use Rattle.std.proofs.Common.{◌≡◌, refl, subst, ℕ, zero, suc, ◌-◌, Bool, true, false, [], ◌∷◌, Option, Some, None}
-use Rattle.regex_lite_syntax.specs.Tree.{Tree, Trees, empty, character, class, look, repetition, capture, concat, alternation, none, more}
+use Rattle.std.proofs.Common.{◌≡◌, refl, subst, ℕ, zero, suc, ◌-◌, Bool}
+use Rattle.std.proofs.Common.{true, false, [], ◌∷◌, Option, Some, None}
+use Rattle.regex_lite_syntax.specs.Tree.{Tree, Trees, empty, character, class, look}
+use Rattle.regex_lite_syntax.specs.Tree.{repetition, capture, concat, alternation, none, more}
 use Rattle.regex_lite_syntax.specs.Tree.Properties.{nullable}
 use Rattle.regex_lite_engine.specs.Graph.Places.{complete, with_arrows, choice, one_of}
 use Rattle.regex_lite_engine.specs.Graph.Addresses.{Address, part, own, entry}
-use Rattle.regex_lite_engine.specs.Graph.Repetitions.{Content, in_copies, no_place, choice_at, in_choices, optional_row, star_row, nullable_star_row, at_least_row, exactly_row, between_row, bounded_row, repetition_row}
-use Rattle.regex_lite_engine.specs.Graph.WrittenOut.{capture_row, place_at, place_in_chain, place_in_branch, whole, end_address, written_out}
+use Rattle.regex_lite_engine.specs.Graph.Repetitions.{Content, in_copies, no_place, choice_at}
+use Rattle.regex_lite_engine.specs.Graph.Repetitions.{in_choices, optional_row, star_row}
+use Rattle.regex_lite_engine.specs.Graph.Repetitions.{nullable_star_row, at_least_row, exactly_row}
+use Rattle.regex_lite_engine.specs.Graph.Repetitions.{between_row, bounded_row, repetition_row}
+use Rattle.regex_lite_engine.specs.Graph.WrittenOut.{capture_row, place_at}
+use Rattle.regex_lite_engine.specs.Graph.WrittenOut.{place_in_chain, place_in_branch}
+use Rattle.regex_lite_engine.specs.Graph.WrittenOut.{whole, end_address, written_out}
 
 -- where there is a place, no match is complete there
 abbrev HasArrows : Content → Type 0

@@ -1,5 +1,6 @@
 -- What a search over a table of numbered places has found when it is over is its answer.
-use Rattle.std.proofs.Common.{◌≡◌, ◌≤◌, ◌⊎◌, inl, inr, refl, sym, ap, subst, ◌∙◌, ℕ, Bool, IsTrue, List, [], ◌∷◌, ◌++◌, Option, Some, None, length, arith}
+use Rattle.std.proofs.Common.{◌≡◌, ◌≤◌, ◌⊎◌, inl, inr, refl, sym, ap, subst, ◌∙◌, ℕ, Bool}
+use Rattle.std.proofs.Common.{IsTrue, List, [], ◌∷◌, ◌++◌, Option, Some, None, length, arith}
 use Rattle.regex_lite_syntax.specs.Text.{Text}
 use Rattle.regex_lite_syntax.proofs.ListLemmas.{same_head, same_tail}
 use Rattle.regex_lite_engine.specs.Graph.Ways.{Leads, IsWay}
@@ -7,8 +8,11 @@ use Rattle.regex_lite_engine.specs.Graph.Places.{Place, complete, with_arrows, s
 use Rattle.regex_lite_engine.specs.Search.Marks.{marks_along}
 use Rattle.regex_lite_engine.specs.Search.Preference.{IsPreferred}
 use Rattle.regex_lite_engine.specs.Search.Answer.{Found}
-use Rattle.regex_lite_engine.specs.Walk.Explored.{Before, NotAfter, StartsAt, StartsDiffer, IsWhole, IsFirst}
-use Rattle.regex_lite_engine.specs.Walk.NumberedAnswer.{place_with, is_complete, numbered_step, is_end, IsNumberedWay, IsNumberedMatch, IsNumberedAnswer, IsOver, IsOfWay}
+use Rattle.regex_lite_engine.specs.Walk.Explored.{Before, NotAfter, StartsAt}
+use Rattle.regex_lite_engine.specs.Walk.Explored.{StartsDiffer, IsWhole, IsFirst}
+use Rattle.regex_lite_engine.specs.Walk.NumberedAnswer.{place_with, is_complete, numbered_step}
+use Rattle.regex_lite_engine.specs.Walk.NumberedAnswer.{is_end, IsNumberedWay, IsNumberedMatch}
+use Rattle.regex_lite_engine.specs.Walk.NumberedAnswer.{IsNumberedAnswer, IsOver, IsOfWay}
 use Rattle.regex_lite_engine.proofs.laws.LeadsLemmas.{same_some, leads_to_one}
 use Rattle.regex_lite_engine.proofs.laws.search.SearchLawLemmas.{search_law}
 

@@ -1,9 +1,12 @@
 -- What a search has recorded: each way begins at a start, and comes to no node twice.
-use Rattle.std.proofs.Common.{◌≡◌, refl, sym, ap, subst, ◌∙◌, ◌<◌, ◌⊎◌, inl, inr, ℕ, zero, suc, Bool, List, [], ◌∷◌, ◌++◌, length, Option, Some, arith, append_assoc, append-nil, length-append}
+use Rattle.std.proofs.Common.{◌≡◌, refl, sym, ap, subst, ◌∙◌, ◌<◌, ◌⊎◌, inl, inr, ℕ}
+use Rattle.std.proofs.Common.{zero, suc, Bool, List, [], ◌∷◌, ◌++◌, length, Option}
+use Rattle.std.proofs.Common.{Some, arith, append_assoc, append-nil, length-append}
 use Rattle.regex_lite_engine.specs.Graph.Ways.{Leads, NoneTwice}
 use Rattle.regex_lite_engine.specs.Walk.Explored.{StartsDiffer, IsGrown}
 use Rattle.regex_lite_engine.proofs.laws.LeadsLemmas.{same_some, leads_append, leads_to_one}
-use Rattle.regex_lite_engine.proofs.laws.search.CutLemmas.{rest_of, same_rest, no_rest, both_empty, cut_snoc}
+use Rattle.regex_lite_engine.proofs.laws.search.CutLemmas.{rest_of, same_rest, no_rest}
+use Rattle.regex_lite_engine.proofs.laws.search.CutLemmas.{both_empty, cut_snoc}
 
 module _ (N : Type 0) (step : N → ℕ → Option N) (is_end : N → Bool)
     (IsStart : (front : List ℕ) → N → Type 0) (recorded : N → Option (List ℕ))

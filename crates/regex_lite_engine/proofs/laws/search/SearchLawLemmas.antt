@@ -1,11 +1,15 @@
 -- The best way of a search that is over is the first of all ways.
-use Rattle.std.proofs.Common.{◌≡◌, refl, sym, ap, subst, ◌∙◌, ◌⊎◌, inl, inr, ℕ, Bool, IsTrue, List, [], ◌∷◌, ◌++◌, Option, Some, None, append_assoc, append-nil}
+use Rattle.std.proofs.Common.{◌≡◌, refl, sym, ap, subst, ◌∙◌, ◌⊎◌, inl, inr, ℕ, Bool, IsTrue}
+use Rattle.std.proofs.Common.{List, [], ◌∷◌, ◌++◌, Option, Some, None, append_assoc, append-nil}
 use Rattle.regex_lite_engine.specs.Graph.Ways.{Leads, NoneTwice}
-use Rattle.regex_lite_engine.specs.Walk.Explored.{NotAfter, StartsDiffer, IsWhole, IsFirst, IsDead, IsAnswered, IsExplored}
-use Rattle.regex_lite_engine.proofs.laws.LeadsLemmas.{same_some, leads_append, leads_split, leads_to_one}
+use Rattle.regex_lite_engine.specs.Walk.Explored.{NotAfter, StartsDiffer, IsWhole}
+use Rattle.regex_lite_engine.specs.Walk.Explored.{IsFirst, IsDead, IsAnswered, IsExplored}
+use Rattle.regex_lite_engine.proofs.laws.LeadsLemmas.{same_some, leads_append}
+use Rattle.regex_lite_engine.proofs.laws.LeadsLemmas.{leads_split, leads_to_one}
 use Rattle.regex_lite_engine.proofs.laws.search.CutLemmas.{rest_of}
 use Rattle.regex_lite_engine.proofs.laws.search.RecordedWayLemmas.{Traced, traced, recorded_once}
-use Rattle.regex_lite_engine.proofs.laws.search.WayOrderLemmas.{NotAfter-trans, NotAfter-append, GoesOn, NotAfter-snoc}
+use Rattle.regex_lite_engine.proofs.laws.search.WayOrderLemmas.{NotAfter-trans, NotAfter-append}
+use Rattle.regex_lite_engine.proofs.laws.search.WayOrderLemmas.{GoesOn, NotAfter-snoc}
 
 module _ {N : Type 0} {step : N → ℕ → Option N} {is_end : N → Bool}
     {IsStart : (front : List ℕ) → N → Type 0} {recorded : N → Option (List ℕ)}
@@ -120,7 +124,8 @@ module _ {N : Type 0} {step : N → ℕ → Option N} {is_end : N → Bool}
         ends = ends;
         is_way = (
           t.along,
-          recorded_once N step is_end IsStart recorded best differ x.grown n way t.front t.arrows t.start t.is_start r t.parts,
+          recorded_once N step is_end IsStart recorded best differ x.grown n way t.front t.arrows
+              t.start t.is_start r t.parts,
         );
       }
 

@@ -1,5 +1,6 @@
 -- The order of ways.
-use Rattle.std.proofs.Common.{◌≡◌, ℕ, ◌<◌, ◌⊎◌, inl, inr, ⊎_elim, List, [], ◌∷◌, ◌++◌, refl, sym, ap, subst, ◌∙◌, lt_trans}
+use Rattle.std.proofs.Common.{◌≡◌, ℕ, ◌<◌, ◌⊎◌, inl, inr, ⊎_elim, List, []}
+use Rattle.std.proofs.Common.{◌∷◌, ◌++◌, refl, sym, ap, subst, ◌∙◌, lt_trans}
 use Rattle.regex_lite_engine.specs.Walk.Explored.{Before, NotAfter}
 
 pub Before-trans : (a b c : List ℕ) → Before a b → Before b c → Before a c

@@ -1,12 +1,16 @@
 -- A search for several patterns has one answer.
-use Rattle.std.proofs.Common.{◌≡◌, ◌<◌, ◌≤◌, refl, sym, ap, subst, ◌∙◌, inl, inr, ℕ, zero, suc, List, [], ◌∷◌, Option, Some, None, slice_get, le_antisymm, IsSome, ◌↔◌, arith}
+use Rattle.std.proofs.Common.{◌≡◌, ◌<◌, ◌≤◌, refl, sym, ap, subst, ◌∙◌, inl}
+use Rattle.std.proofs.Common.{inr, ℕ, zero, suc, List, [], ◌∷◌, Option, Some}
+use Rattle.std.proofs.Common.{None, slice_get, le_antisymm, IsSome, ◌↔◌, arith}
 use Rattle.std.proofs.lemmas.Bool.{cases_lt}
 use Rattle.regex_lite_syntax.specs.Text.{Text}
 use Rattle.regex_lite_syntax.specs.Tree.{Tree}
 use Rattle.regex_lite_syntax.specs.Tree.Regular.{IsRegular}
 use Rattle.regex_lite_syntax.specs.Tree.Matches.{Matches}
-use Rattle.regex_lite_engine.specs.Search.Answer.{IsMatchFrom, HasMatchFrom, Found, IsFound, IsAnswer}
-use Rattle.regex_lite_engine.specs.Search.AnswerOfList.{HasTree, AnyMatchesFrom, IsFoundInList, IsAnswerOfList}
+use Rattle.regex_lite_engine.specs.Search.Answer.{IsMatchFrom, HasMatchFrom}
+use Rattle.regex_lite_engine.specs.Search.Answer.{Found, IsFound, IsAnswer}
+use Rattle.regex_lite_engine.specs.Search.AnswerOfList.{HasTree, AnyMatchesFrom}
+use Rattle.regex_lite_engine.specs.Search.AnswerOfList.{IsFoundInList, IsAnswerOfList}
 use Rattle.regex_lite_engine.specs.ListSearchLaws.{by_itself}
 use Rattle.regex_lite_engine.proofs.laws.LeadsLemmas.{same_some}
 use Rattle.regex_lite_engine.proofs.laws.answer.AnswerLemmas.{has_answer, found_match, one_answer}
@@ -76,7 +80,8 @@ module _ (tree : Tree) (rest : List Tree) (haystack : Text) (s : ℕ) where
       least : (k i j : ℕ) (other : Tree) → HasTree (tree ∷ rest) k other
           → IsMatchFrom other haystack s i j → g.start ≤ i
       least zero i j other there m =
-          let less = later i j (subst (λ t. IsMatchFrom t haystack s i j) (sym (same_some there)) m) in
+          let less =
+          later i j (subst (λ t. IsMatchFrom t haystack s i j) (sym (same_some there)) m) in
           omega (arith, less)
       least (suc k) i j other there m = is.least k i j other there m
 
@@ -105,8 +110,10 @@ module _ (tree : Tree) (rest : List Tree) (haystack : Text) (s : ℕ) where
       by_number zero other there m =
           none (subst (λ t. HasMatchFrom t haystack s) (sym (same_some there)) m)
       by_number (suc k) other there m = gone (k, other, there, m)
-  choose (Some f) is None gone =
-      (Some (0, f), own_first f is (λ k i j other there m. absurd (gone (k, other, there, (i, j, m)))))
+  choose (Some f) is None gone = (
+    Some (0, f),
+    own_first f is (λ k i j other there m. absurd (gone (k, other, there, (i, j, m)))),
+  )
   choose None none (Some (n, g)) is =
       (Some (suc n, g), later_first n g is (λ i j m. absurd (none (i, j, m))))
   choose (Some f) p (Some (n, g)) q = elim (cases_lt g.start f.start) [
@@ -117,7 +124,8 @@ module _ (tree : Tree) (rest : List Tree) (haystack : Text) (s : ℕ) where
     | inr le ↦ (
       Some (0, f),
       own_first f p
-          (λ k i j other there m. (let more = q.least k i j other there m in omega (arith, more, le))),
+          (λ k i j other there m.
+          (let more = q.least k i j other there m in omega (arith, more, le))),
     )
   ]
 
@@ -141,7 +149,8 @@ module _ (trees : List Tree) (haystack : Text)
       record { from = is.from; inside = m.inside; matches = m.matches }
 
   one_list_found : (k l : ℕ) (f g : Found) → IsFoundInList trees haystack s k f
-      → IsFoundInList trees haystack s l g → ◌≡◌ {A = Option (ℕ × Found)} (Some (k, f)) (Some (l, g))
+      → IsFoundInList trees haystack s l g
+      → ◌≡◌ {A = Option (ℕ × Found)} (Some (k, f)) (Some (l, g))
   one_list_found k l f g p q = λ t. Some (number t, found t)
     where
       start : f.start ≡ g.start
@@ -153,7 +162,8 @@ module _ (trees : List Tree) (haystack : Text)
       p_matches = subst (λ z. Matches haystack p.tree z f.end) start (list_match k f p).matches
 
       q_matches : Matches haystack q.tree f.start g.end
-      q_matches = subst (λ z. Matches haystack q.tree z g.end) (sym start) (list_match l g q).matches
+      q_matches =
+          subst (λ z. Matches haystack q.tree z g.end) (sym start) (list_match l g q).matches
 
       number : k ≡ l
       number = le_antisymm

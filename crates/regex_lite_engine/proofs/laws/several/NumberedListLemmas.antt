@@ -10,9 +10,14 @@ use Rattle.regex_lite_engine.specs.Graph.SideBySide.{AreEntries, AreRegular, sid
 use Rattle.regex_lite_engine.specs.Search.Answer.{IsMatchFrom, Found}
 use Rattle.regex_lite_engine.specs.Search.AnswerOfList.{HasTree, IsAnswerOfList}
 use Rattle.regex_lite_engine.specs.Walk.NumberedList.{IsMatchOfAny, IsNumberedAnswerOf}
-use Rattle.regex_lite_engine.proofs.laws.search.NumberedAnswerLemmas.{numbered_match, match_of_numbers, answer_of_part}
+use Rattle.regex_lite_engine.proofs.laws.search.NumberedAnswerLemmas.{
+  numbered_match,
+  match_of_numbers,
+  answer_of_part,
+}
 use Rattle.regex_lite_engine.proofs.laws.several.ListAnswerLemmas.{from_its_start}
-use Rattle.regex_lite_engine.proofs.laws.several.PartLemmas.{InPattern, name_in_pattern, part_of_list, entry_of_part}
+use Rattle.regex_lite_engine.proofs.laws.several.PartLemmas.{InPattern, name_in_pattern}
+use Rattle.regex_lite_engine.proofs.laws.several.PartLemmas.{part_of_list, entry_of_part}
 
 module _ (trees : List Tree) (haystack : Text) (table : List (Place ℕ)) (entries : List ℕ)
     (name : ℕ → Address) (r : IsRenumbered (side_by_side trees) name table)

@@ -1,5 +1,6 @@
 -- What a search for several patterns has found when it is over is its answer.
-use Rattle.std.proofs.Common.{◌≡◌, ◌<◌, ◌≤◌, ◌⊎◌, inl, inr, refl, sym, ap, subst, ◌∙◌, ℕ, IsTrue, List, [], ◌∷◌, ◌++◌, Option, Some, None, length, slice_get, arith}
+use Rattle.std.proofs.Common.{◌≡◌, ◌<◌, ◌≤◌, ◌⊎◌, inl, inr, refl, sym, ap, subst, ◌∙◌, ℕ, IsTrue}
+use Rattle.std.proofs.Common.{List, [], ◌∷◌, ◌++◌, Option, Some, None, length, slice_get, arith}
 use Rattle.regex_lite_syntax.specs.Text.{Text}
 use Rattle.regex_lite_syntax.proofs.ListLemmas.{same_head, same_tail}
 use Rattle.regex_lite_engine.specs.Graph.Ways.{Leads, IsWay}
@@ -8,8 +9,11 @@ use Rattle.regex_lite_engine.specs.Search.Marks.{marks_along}
 use Rattle.regex_lite_engine.specs.Search.Preference.{IsPreferred}
 use Rattle.regex_lite_engine.specs.Search.Answer.{Found}
 use Rattle.regex_lite_engine.specs.Walk.Explored.{NotAfter, StartsDiffer, IsWhole, IsFirst}
-use Rattle.regex_lite_engine.specs.Walk.NumberedAnswer.{place_with, numbered_step, is_end, IsNumberedWay, IsNumberedMatch, IsNumberedFound}
-use Rattle.regex_lite_engine.specs.Walk.NumberedList.{IsEntry, StartsOf, IsMatchOfAny, IsNumberedAnswerOf, IsOverOf, IsOfWayOf}
+use Rattle.regex_lite_engine.specs.Walk.NumberedAnswer.{place_with, numbered_step}
+use Rattle.regex_lite_engine.specs.Walk.NumberedAnswer.{is_end, IsNumberedWay}
+use Rattle.regex_lite_engine.specs.Walk.NumberedAnswer.{IsNumberedMatch, IsNumberedFound}
+use Rattle.regex_lite_engine.specs.Walk.NumberedList.{IsEntry, StartsOf, IsMatchOfAny}
+use Rattle.regex_lite_engine.specs.Walk.NumberedList.{IsNumberedAnswerOf, IsOverOf, IsOfWayOf}
 use Rattle.regex_lite_engine.proofs.laws.LeadsLemmas.{same_some, leads_to_one}
 use Rattle.regex_lite_engine.proofs.laws.search.OverLemmas.{before_preferred}
 use Rattle.regex_lite_engine.proofs.laws.search.SearchLawLemmas.{search_law}
@@ -116,7 +120,8 @@ module _ (table : List (Place ℕ)) (haystack : Text) (entries : List ℕ) (s : 
 
     here : IsNumberedMatch table haystack entry s found.start way n.last n.to
     here = moved n.at n.way n.entry (same_head n.parts) (same_tail (same_tail n.parts))
-        (same_entry number n.number entry n.entry (same_head (same_tail n.parts)) is_entry n.is_entry)
+        (same_entry number n.number entry n.entry
+        (same_head (same_tail n.parts)) is_entry n.is_entry)
         n.matches
       where
         moved : (i : ℕ) (arrows : List ℕ) (x : ℕ) → found.start ≡ i → way ≡ arrows → entry ≡ x
@@ -143,7 +148,8 @@ module _ (table : List (Place ℕ)) (haystack : Text) (entries : List ℕ) (s : 
         → IsMatchOfAny table haystack entries s i k other p j
         → Later found.start number i k way other
     compared i k other p j m =
-        later found.start number i k way other (first.1 (i ∷ (k ∷ other)) (whole_of i k other p j m))
+        later found.start number i k way other
+        (first.1 (i ∷ (k ∷ other)) (whole_of i k other p j m))
 
     of_own : (i : ℕ) (other : List ℕ) (p j : ℕ)
         → IsNumberedMatch table haystack entry s i other p j
@@ -187,7 +193,8 @@ module _ (table : List (Place ℕ)) (haystack : Text) (entries : List ℕ) (s : 
       last = q;
       is_way = is_way;
       preferred = λ other p j m. by_order other p j m
-          (compared found.start number other p j (of_own found.start other p j (from_here other p j m)));
+          (compared found.start number other p j
+          (of_own found.start other p j (from_here other p j m)));
       marks = marks;
     }
 

@@ -1,8 +1,10 @@
 -- Of a table that stands for several patterns, the places of one pattern stand for that pattern.
-use Rattle.std.proofs.Common.{◌≡◌, ◌<◌, refl, sym, ap, ◌∙◌, ℕ, List, [], ◌∷◌, length, map, slice_get, Some}
+use Rattle.std.proofs.Common.{◌≡◌, ◌<◌, refl, sym, ap, ◌∙◌, ℕ, List}
+use Rattle.std.proofs.Common.{[], ◌∷◌, length, map, slice_get, Some}
 use Rattle.regex_lite_syntax.specs.Tree.{Tree}
 use Rattle.regex_lite_syntax.proofs.ListLemmas.{same_head, same_tail}
-use Rattle.regex_lite_engine.specs.Graph.Places.{Arrow, Place, complete, with_arrows, renamed, renamed_arrow}
+use Rattle.regex_lite_engine.specs.Graph.Places.{Arrow, Place, complete, with_arrows}
+use Rattle.regex_lite_engine.specs.Graph.Places.{renamed, renamed_arrow}
 use Rattle.regex_lite_engine.specs.Graph.Addresses.{Address}
 use Rattle.regex_lite_engine.specs.Graph.WrittenOut.{written_out, start_address}
 use Rattle.regex_lite_engine.specs.Graph.Stored.{LeadBelow, LeadsBelow, LeadInto, LeadsInto}
@@ -13,7 +15,8 @@ use Rattle.regex_lite_engine.proofs.laws.search.NamedWayLemmas.{mapped_back}
 use Rattle.regex_lite_engine.proofs.laws.search.NumberedWayLemmas.{IsPart, IsPartNumber}
 
 renamed_arrows_twice : {A B C : Type 0} (f : A → B) (g : B → C) (arrows : List (Arrow A))
-    → map (renamed_arrow g) (map (renamed_arrow f) arrows) ≡ map (renamed_arrow (λ a. g (f a))) arrows
+    → map (renamed_arrow g) (map (renamed_arrow f) arrows)
+    ≡ map (renamed_arrow (λ a. g (f a))) arrows
 renamed_arrows_twice f g [] = refl
 renamed_arrows_twice f g (arrow ∷ arrows) =
     ap (λ z. renamed_arrow (λ a. g (f a)) arrow ∷ z) (renamed_arrows_twice f g arrows)
@@ -62,7 +65,8 @@ module _ (trees : List Tree) (number : ℕ) (tree : Tree) (there : HasTree trees
       let here : in_pattern number (Some tree) a ≡ Some (renamed name place)
       = sym (ap (λ o. in_pattern number o a) there) ∙ ap (side_by_side trees) (sym e)
       ∙ r.alike q place at in
-      let back = mapped_back (renamed (λ b. number ∷ b)) (written_out tree a) (renamed name place) here in
+      let back =
+      mapped_back (renamed (λ b. number ∷ b)) (written_out tree a) (renamed name place) here in
       record { own = back.0; is = back.1; same = back.2 }
 
   own_place : (own : Place Address) (place : Place ℕ)

@@ -1,14 +1,20 @@
 -- The places in the layout of a tree have as many arrows as the tree.
-use Rattle.std.proofs.Common.{◌≡◌, refl, ap, ◌∙◌, arith, ℕ, zero, suc, ◌+◌, ◌-◌, ◌*◌, Bool, true, false, List, [], ◌∷◌, ◌++◌, map, length, Option, Some, None}
+use Rattle.std.proofs.Common.{◌≡◌, refl, ap, ◌∙◌, arith, ℕ, zero, suc, ◌+◌, ◌-◌, ◌*◌, Bool}
+use Rattle.std.proofs.Common.{true, false, List, [], ◌∷◌, ◌++◌, map, length, Option, Some, None}
 use Rattle.std.proofs.lemmas.List.{length-map}
 use Rattle.std.proofs.lemmas.List.Sums.{sum_by-cons}
 use Rattle.regex_lite_syntax.specs.declared.class.ClassRange.{ClassRange}
-use Rattle.regex_lite_syntax.specs.Tree.{Tree, Trees, empty, character, class, look, repetition, capture, concat, alternation, none, more}
+use Rattle.regex_lite_syntax.specs.Tree.{Tree, Trees, empty, character, class, look}
+use Rattle.regex_lite_syntax.specs.Tree.{repetition, capture, concat, alternation, none, more}
 use Rattle.regex_lite_syntax.specs.Tree.Properties.{nullable}
 use Rattle.regex_lite_engine.specs.Graph.Places.{Place, with_arrows, go, go_marking, choice, one_of}
 use Rattle.regex_lite_engine.specs.Graph.Renumbered.{arrow_count, arrows_of}
-use Rattle.regex_lite_engine.specs.Graph.PlaceCounts.{copies, bounded_arrows, own_arrows, class_arrows, arrows, arrows_in, count, whole_arrows}
-use Rattle.regex_lite_engine.specs.Nfa.Layout.{Fragment, copies_layout, choices_layout, star_layout, bounded_layout, repetition_layout, layout, chain_layout, branches_layout}
+use Rattle.regex_lite_engine.specs.Graph.PlaceCounts.{copies, bounded_arrows}
+use Rattle.regex_lite_engine.specs.Graph.PlaceCounts.{own_arrows, class_arrows, arrows}
+use Rattle.regex_lite_engine.specs.Graph.PlaceCounts.{arrows_in, count, whole_arrows}
+use Rattle.regex_lite_engine.specs.Nfa.Layout.{Fragment, copies_layout, choices_layout}
+use Rattle.regex_lite_engine.specs.Nfa.Layout.{star_layout, bounded_layout, repetition_layout}
+use Rattle.regex_lite_engine.specs.Nfa.Layout.{layout, chain_layout, branches_layout}
 use Rattle.regex_lite_engine.specs.Nfa.Layout.{pattern_table, whole_table}
 
 -- the sum by recursion on the list, which `sum_by` is not
@@ -182,7 +188,8 @@ mutual
         total_branches rest now exit,
       )
 
-pub arrows_pattern : (tree : Tree) (base : ℕ) → arrows_of (pattern_table tree base) ≡ whole_arrows tree
+pub arrows_pattern : (tree : Tree) (base : ℕ)
+    → arrows_of (pattern_table tree base) ≡ whole_arrows tree
 arrows_pattern tree base =
     total_is (pattern_table tree base)
     ∙ (let inner = layout tree (base + 1 + 1) (base + 1) in

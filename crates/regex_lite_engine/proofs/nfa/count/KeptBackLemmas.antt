@@ -1,14 +1,21 @@
 -- A search keeps back less at the places in the layout of a tree than there are.
-use Rattle.std.proofs.Common.{◌≡◌, ◌≤◌, ◌<◌, refl, ap, ◌∙◌, arith, ℕ, zero, suc, ◌+◌, ◌-◌, ◌*◌, Bool, true, false, List, [], ◌∷◌, ◌++◌, map, length, Option, Some, None}
+use Rattle.std.proofs.Common.{◌≡◌, ◌≤◌, ◌<◌, refl, ap, ◌∙◌, arith, ℕ, zero}
+use Rattle.std.proofs.Common.{suc, ◌+◌, ◌-◌, ◌*◌, Bool, true, false, List}
+use Rattle.std.proofs.Common.{[], ◌∷◌, ◌++◌, map, length, Option, Some, None}
 use Rattle.std.proofs.lemmas.List.{length-map}
 use Rattle.std.proofs.lemmas.List.Sums.{sum_by-cons}
 use Rattle.regex_lite_syntax.specs.declared.class.ClassRange.{ClassRange}
-use Rattle.regex_lite_syntax.specs.Tree.{Tree, Trees, empty, character, class, look, repetition, capture, concat, alternation, none, more}
+use Rattle.regex_lite_syntax.specs.Tree.{Tree, Trees, empty, character, class, look}
+use Rattle.regex_lite_syntax.specs.Tree.{repetition, capture, concat, alternation, none, more}
 use Rattle.regex_lite_syntax.specs.Tree.Properties.{nullable}
 use Rattle.regex_lite_syntax.specs.Tree.Regular.{IsRegular, AreRegular}
-use Rattle.regex_lite_engine.specs.Graph.Places.{Place, with_arrows, go, go_marking, choice, one_of, kept_back, kept_back_of}
-use Rattle.regex_lite_engine.specs.Graph.PlaceCounts.{copies, bounded_places, own_places, places, places_in, count, whole_places}
-use Rattle.regex_lite_engine.specs.Nfa.Layout.{Fragment, copies_layout, choices_layout, star_layout, bounded_layout, repetition_layout, layout, chain_layout, branches_layout}
+use Rattle.regex_lite_engine.specs.Graph.Places.{Place, with_arrows, go, go_marking}
+use Rattle.regex_lite_engine.specs.Graph.Places.{choice, one_of, kept_back, kept_back_of}
+use Rattle.regex_lite_engine.specs.Graph.PlaceCounts.{copies, bounded_places, own_places}
+use Rattle.regex_lite_engine.specs.Graph.PlaceCounts.{places, places_in, count, whole_places}
+use Rattle.regex_lite_engine.specs.Nfa.Layout.{Fragment, copies_layout, choices_layout}
+use Rattle.regex_lite_engine.specs.Nfa.Layout.{star_layout, bounded_layout, repetition_layout}
+use Rattle.regex_lite_engine.specs.Nfa.Layout.{layout, chain_layout, branches_layout}
 use Rattle.regex_lite_engine.specs.Nfa.Layout.{pattern_table, whole_table}
 
 -- the sum by recursion on the list, which `sum_by` is not

@@ -1,5 +1,6 @@
 -- What a name takes, by the bytes of its text.
-use Rattle.std.proofs.Common.{◌≡◌, refl, ◌==◌, Bool, true, false, Option, Some, None, ap, ◌∙◌, ℕ, List, [], ◌∷◌, length, Global, length-append, arith}
+use Rattle.std.proofs.Common.{◌≡◌, refl, ◌==◌, Bool, true, false, Option, Some, None, ap}
+use Rattle.std.proofs.Common.{◌∙◌, ℕ, List, [], ◌∷◌, length, Global, length-append, arith}
 use Rattle.std.specs.Char.{len_utf8}
 use Rattle.std.specs.List.{sum_by}
 use Rattle.std.proofs.Math.Utf8.{encode, encodes}
@@ -9,7 +10,8 @@ use Rattle.std.specs.Option.{option_or}
 use Rattle.std.specs.Rc.{rc_str_bytes}
 use Rattle.std.specs.declared.rc.RcStr.{RcStr}
 use Rattle.regex_lite_syntax.specs.Text.{Text}
-use Rattle.regex_lite_syntax.specs.Tree.{Tree, Trees, empty, character, class, look, repetition, capture, concat, alternation, none, more}
+use Rattle.regex_lite_syntax.specs.Tree.{Tree, Trees, empty, character, class, look}
+use Rattle.regex_lite_syntax.specs.Tree.{repetition, capture, concat, alternation, none, more}
 use Rattle.regex_lite_syntax.specs.Tree.Properties.{name_if, group_name, group_name_in}
 use Rattle.regex_lite_syntax.specs.Tree.Views.{text_of_name}
 use Rattle.regex_lite_engine.specs.Graph.Size.{name_size, names_size, names_size_in}
@@ -18,7 +20,13 @@ use Rattle.regex_lite_engine.specs.Graph.Size.{name_size, names_size, names_size
 bytes_of : (cs : List ℕ) → sum_by len_utf8 cs ≡ length (encodes cs)
 bytes_of [] = refl
 bytes_of (c ∷ cs) =
-    omega (arith, sum_by-cons len_utf8 c cs, length-append (encode c) (encodes cs), length-encode c, bytes_of cs)
+    omega (
+      arith,
+      sum_by-cons len_utf8 c cs,
+      length-append (encode c) (encodes cs),
+      length-encode c,
+      bytes_of cs,
+    )
 
 pub name_length : (name : RcStr Global)
     → sum_by len_utf8 (text_of_name name) ≡ length (rc_str_bytes name)

@@ -1,10 +1,15 @@
 -- The layout of a tree has as many places as the tree.
-use Rattle.std.proofs.Common.{◌≡◌, refl, arith, ℕ, zero, suc, ◌+◌, ◌-◌, ◌*◌, Bool, true, false, [], ◌∷◌, ◌++◌, map, length, length-append, Option, Some, None}
-use Rattle.regex_lite_syntax.specs.Tree.{Tree, Trees, empty, character, class, look, repetition, capture, concat, alternation, none, more}
+use Rattle.std.proofs.Common.{◌≡◌, refl, arith, ℕ, zero, suc, ◌+◌, ◌-◌, ◌*◌, Bool, true, false}
+use Rattle.std.proofs.Common.{[], ◌∷◌, ◌++◌, map, length, length-append, Option, Some, None}
+use Rattle.regex_lite_syntax.specs.Tree.{Tree, Trees, empty, character, class, look}
+use Rattle.regex_lite_syntax.specs.Tree.{repetition, capture, concat, alternation, none, more}
 use Rattle.regex_lite_syntax.specs.Tree.Properties.{nullable}
 use Rattle.regex_lite_engine.specs.Graph.Places.{with_arrows, go, go_marking, choice}
-use Rattle.regex_lite_engine.specs.Graph.PlaceCounts.{copies, bounded_places, own_places, places, places_in, whole_places}
-use Rattle.regex_lite_engine.specs.Nfa.Layout.{Fragment, copies_layout, choices_layout, star_layout, bounded_layout, repetition_layout, layout, chain_layout, branches_layout}
+use Rattle.regex_lite_engine.specs.Graph.PlaceCounts.{copies, bounded_places, own_places}
+use Rattle.regex_lite_engine.specs.Graph.PlaceCounts.{places, places_in, whole_places}
+use Rattle.regex_lite_engine.specs.Nfa.Layout.{Fragment, copies_layout, choices_layout}
+use Rattle.regex_lite_engine.specs.Nfa.Layout.{star_layout, bounded_layout, repetition_layout}
+use Rattle.regex_lite_engine.specs.Nfa.Layout.{layout, chain_layout, branches_layout}
 use Rattle.regex_lite_engine.specs.Nfa.Layout.{pattern_table, whole_table}
 
 module _ (greedy : Bool) (body : ℕ → ℕ → Fragment) (b : ℕ)

@@ -1,13 +1,19 @@
 -- As many places in the layout of a tree read a character as in the tree.
-use Rattle.std.proofs.Common.{◌≡◌, ◌≤◌, refl, ap, ◌∙◌, arith, ℕ, zero, suc, ◌+◌, ◌-◌, ◌*◌, Bool, true, false, List, [], ◌∷◌, ◌++◌, map, length, Option, Some, None}
+use Rattle.std.proofs.Common.{◌≡◌, ◌≤◌, refl, ap, ◌∙◌, arith, ℕ, zero, suc, ◌+◌, ◌-◌, ◌*◌, Bool}
+use Rattle.std.proofs.Common.{true, false, List, [], ◌∷◌, ◌++◌, map, length, Option, Some, None}
 use Rattle.std.proofs.Math.Nat.{mul-le-mul_left}
 use Rattle.std.proofs.lemmas.List.Sums.{sum_by-cons}
 use Rattle.regex_lite_syntax.specs.declared.class.ClassRange.{ClassRange}
-use Rattle.regex_lite_syntax.specs.Tree.{Tree, Trees, empty, character, class, look, repetition, capture, concat, alternation, none, more}
+use Rattle.regex_lite_syntax.specs.Tree.{Tree, Trees, empty, character, class, look}
+use Rattle.regex_lite_syntax.specs.Tree.{repetition, capture, concat, alternation, none, more}
 use Rattle.regex_lite_syntax.specs.Tree.Properties.{nullable}
-use Rattle.regex_lite_engine.specs.Graph.Places.{Place, with_arrows, go, go_marking, choice, one_of, reading_arrows, reading_count, reading_of}
-use Rattle.regex_lite_engine.specs.Graph.PlaceCounts.{copies, class_arrows, places, places_in, reading_places, reading_places_in}
-use Rattle.regex_lite_engine.specs.Nfa.Layout.{Fragment, copies_layout, choices_layout, star_layout, bounded_layout, repetition_layout, layout, chain_layout, branches_layout}
+use Rattle.regex_lite_engine.specs.Graph.Places.{Place, with_arrows, go, go_marking, choice}
+use Rattle.regex_lite_engine.specs.Graph.Places.{one_of, reading_arrows, reading_count, reading_of}
+use Rattle.regex_lite_engine.specs.Graph.PlaceCounts.{copies, class_arrows, places, places_in}
+use Rattle.regex_lite_engine.specs.Graph.PlaceCounts.{reading_places, reading_places_in}
+use Rattle.regex_lite_engine.specs.Nfa.Layout.{Fragment, copies_layout, choices_layout}
+use Rattle.regex_lite_engine.specs.Nfa.Layout.{star_layout, bounded_layout, repetition_layout}
+use Rattle.regex_lite_engine.specs.Nfa.Layout.{layout, chain_layout, branches_layout}
 use Rattle.regex_lite_engine.specs.Nfa.Layout.{pattern_table, whole_table}
 
 -- the sum by recursion on the list, which `sum_by` is not

@@ -1,9 +1,12 @@
 -- How many groups at least take part in every match: no more than there are places.
-use Rattle.std.proofs.Common.{◌≡◌, refl, ◌≤◌, ◌<◌, ◌^◌, ℕ, zero, suc, ◌+◌, ◌-◌, ◌*◌, ◌==◌, Bool, true, false, if◌then◌else◌, nat_lt, Option, Some, None, IfSome, arith}
+use Rattle.std.proofs.Common.{◌≡◌, refl, ◌≤◌, ◌<◌, ◌^◌, ℕ, zero, suc, ◌+◌, ◌-◌, ◌*◌, ◌==◌, Bool}
+use Rattle.std.proofs.Common.{true, false, if◌then◌else◌, nat_lt, Option, Some, None, IfSome, arith}
 use Rattle.std.proofs.Math.Nat.{suc-mul}
 use Rattle.std.proofs.lemmas.Bool.Decides.{nat_tests}
-use Rattle.regex_lite_syntax.specs.Tree.{Tree, Trees, empty, character, class, look, repetition, capture, concat, alternation, none, more}
-use Rattle.regex_lite_syntax.specs.Tree.Properties.{nullable, sum, common, in_passes, in_32_bits, static_groups, static_sum, static_common}
+use Rattle.regex_lite_syntax.specs.Tree.{Tree, Trees, empty, character, class, look}
+use Rattle.regex_lite_syntax.specs.Tree.{repetition, capture, concat, alternation, none, more}
+use Rattle.regex_lite_syntax.specs.Tree.Properties.{nullable, sum, common, in_passes, in_32_bits}
+use Rattle.regex_lite_syntax.specs.Tree.Properties.{static_groups, static_sum, static_common}
 use Rattle.regex_lite_engine.specs.Graph.PlaceCounts.{places, places_in, copies, own_places}
 
 -- at most so many, where it is known
@@ -32,7 +35,8 @@ one_copy : (n b own : ℕ) → 0 < n → b ≤ n * b + own
 one_copy zero b own some = absurd (omega arith)
 one_copy (suc n) b own some = omega (arith, suc-mul n b)
 
-few_passes : (least : ℕ) (most : Option ℕ) (nullable_body : Bool) (groups : Option ℕ) (b : ℕ) → Few groups b
+few_passes : (least : ℕ) (most : Option ℕ) (nullable_body : Bool) (groups : Option ℕ) (b : ℕ)
+    → Few groups b
     → Few (in_passes least groups) (copies least most * b + own_places least most nullable_body)
 few_passes zero most nullable_body None b few = tt
 few_passes zero most nullable_body (Some zero) b few = omega arith
@@ -63,7 +67,8 @@ mutual
   static_sum_few : (parts : Trees) → Few (static_sum parts) (places_in parts)
   static_sum_few none = omega arith
   static_sum_few (more a rest) =
-      few_sum (static_groups a) (static_sum rest) (places a) (places_in rest) (static_few a) (static_sum_few rest)
+      few_sum (static_groups a) (static_sum rest) (places a) (places_in rest) (static_few a)
+      (static_sum_few rest)
 
   static_common_few : (branches : Trees) → Few (static_common branches) (places_in branches)
   static_common_few none = omega arith
@@ -71,7 +76,8 @@ mutual
       few_more (static_groups a) (places a) (places a + 0) (omega arith) (static_few a)
   static_common_few (more a (more b rest)) =
       let groups = common (static_groups a) (static_common (more b rest)) in
-      let here = few_common (static_groups a) (static_common (more b rest)) (places a) (static_few a) in
+      let here =
+      few_common (static_groups a) (static_common (more b rest)) (places a) (static_few a) in
       few_more groups (places a) (places a + places_in (more b rest)) (omega arith) here
 
 held : (groups : Option ℕ) (most : ℕ) → Few groups most → most < 2 ^ 32 → in_32_bits groups ≡ groups
@@ -80,5 +86,6 @@ held (Some n) most few less =
     let small : nat_lt n (2 ^ 32) ≡ true = grind (arith, nat_tests) in rw small refl
 
 -- 32 bits hold it, where they hold the number of the places
-pub static_held : (tree : Tree) → places tree < 2 ^ 32 → in_32_bits (static_groups tree) ≡ static_groups tree
+pub static_held : (tree : Tree) → places tree < 2 ^ 32
+    → in_32_bits (static_groups tree) ≡ static_groups tree
 static_held tree less = held (static_groups tree) (places tree) (static_few tree) less

@@ -1,5 +1,6 @@
 -- What several patterns take together, one after another.
-use Rattle.std.proofs.Common.{◌≡◌, ◌≤◌, ◌<◌, sym, ap, ◌∙◌, arith, refl, ℕ, suc, ◌+◌, ◌*◌, List, [], ◌∷◌, map, drop, length, get_or, slice_get, Some, option_map}
+use Rattle.std.proofs.Common.{◌≡◌, ◌≤◌, ◌<◌, sym, ap, ◌∙◌, arith, refl, ℕ, suc, ◌+◌, ◌*◌, List}
+use Rattle.std.proofs.Common.{[], ◌∷◌, map, drop, length, get_or, slice_get, Some, option_map}
 use Rattle.std.proofs.lemmas.List.{drop_more}
 use Rattle.std.proofs.lemmas.List.Sums.{sum_by-cons}
 use Rattle.std.proofs.lemmas.Option.{slice_get-get_or, slice_get-map}

@@ -1,5 +1,6 @@
 -- What is read at the beginning of a match, while second characters are added.
-use Rattle.std.proofs.Common.{◌≡◌, ℕ, zero, suc, ◌<◌, ◌⊎◌, inl, inr, Bool, Option, sym, subst, ◌∙◌, arith}
+use Rattle.std.proofs.Common.{◌≡◌, ℕ, zero, suc, ◌<◌, ◌⊎◌, inl, inr}
+use Rattle.std.proofs.Common.{Bool, Option, sym, subst, ◌∙◌, arith}
 use Rattle.regex_lite_syntax.specs.Text.{Text}
 use Rattle.regex_lite_syntax.specs.Tree.{Tree, Trees, repetition, more}
 use Rattle.regex_lite_syntax.specs.Tree.Matches.{Matches, Passes, Chain, SomeBranch}
@@ -63,7 +64,8 @@ pub part_read : (a : Tree) (rest : Trees) (s t : Starts) (before after : Head) (
 part_read a rest s t before after h i j step (k, read, (m, here, on)) = (m, step k m read here, on)
 
 -- with one branch more
-pub branch_read : (a : Tree) (rest : Trees) (s t : Starts) (before after : Head) (h : Text) (i j : ℕ)
+pub branch_read : (a : Tree) (rest : Trees) (s t : Starts) (before after : Head) (h : Text)
+    (i j : ℕ)
     → (Reads s h i j before → Reads t h i j after)
     → (Matches h a i j → Reads t h i j after)
     → Reads s h i j before ⊎ SomeBranch h (more a rest) i j

@@ -1,10 +1,12 @@
 -- What is kept back at places, summed up from the first on.
-use Rattle.std.proofs.Common.{◌≡◌, ◌≤◌, ◌<◌, refl, ap, ◌∙◌, arith, ℕ, suc, ◌+◌, ◌-◌, List, [], ◌∷◌, map, length, drop, get_or, sum_by, Option, Some, None}
+use Rattle.std.proofs.Common.{◌≡◌, ◌≤◌, ◌<◌, refl, ap, ◌∙◌, arith, ℕ, suc, ◌+◌, ◌-◌, List}
+use Rattle.std.proofs.Common.{[], ◌∷◌, map, length, drop, get_or, sum_by, Option, Some, None}
 use Rattle.std.proofs.Math.Seq.{drop-cons}
 use Rattle.std.proofs.lemmas.List.{length-map}
 use Rattle.std.proofs.lemmas.List.Sums.{sum_by-cons}
 use Rattle.regex_lite_engine.specs.declared.nfa.place.Place as code
-use Rattle.regex_lite_engine.specs.Graph.Places.{Place, complete, with_arrows, go, kept_back, kept_back_of, kept_marks, kept_back_with}
+use Rattle.regex_lite_engine.specs.Graph.Places.{Place, complete, with_arrows, go, kept_back}
+use Rattle.regex_lite_engine.specs.Graph.Places.{kept_back_of, kept_marks, kept_back_with}
 use Rattle.regex_lite_engine.specs.Graph.Stored.{place_of}
 
 few_marks : (slot : Option ℕ) → kept_marks slot 0 ≡ 0
@@ -17,7 +19,8 @@ few_at (with_arrows []) = omega arith
 few_at (with_arrows (arrow ∷ arrows)) = let none = few_marks arrow.mark in omega (arith, none)
 
 -- it is less without slots
-pub few_without_slots : (table : List (Place ℕ)) → sum_by (kept_back_with 0) table ≤ kept_back_of table
+pub few_without_slots : (table : List (Place ℕ))
+    → sum_by (kept_back_with 0) table ≤ kept_back_of table
 few_without_slots [] = omega arith
 few_without_slots (place ∷ table) =
     let a = sum_by-cons (kept_back_with 0) place table in

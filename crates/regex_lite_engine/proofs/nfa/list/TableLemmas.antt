@@ -1,6 +1,7 @@
 -- The table of several patterns: its arrows lead to its own places, and each pattern is entered at
 -- one of them.
-use Rattle.std.proofs.Common.{◌≡◌, ◌≤◌, ◌<◌, refl, sym, ap, subst, ◌∙◌, arith, ℕ, suc, ◌+◌, ◌^◌, List, [], ◌∷◌, All, length, get_or, map, option_map}
+use Rattle.std.proofs.Common.{◌≡◌, ◌≤◌, ◌<◌, refl, sym, ap, subst, ◌∙◌, arith, ℕ, suc, ◌+◌}
+use Rattle.std.proofs.Common.{◌^◌, List, [], ◌∷◌, All, length, get_or, map, option_map}
 use Rattle.std.proofs.lemmas.List.{length-map}
 use Rattle.std.proofs.lemmas.List.Sums.{sum_by-append, sum_by-cons}
 use Rattle.std.proofs.lemmas.Option.{slice_get-get_or, slice_get-map}
@@ -10,7 +11,8 @@ use Rattle.regex_lite_engine.specs.Graph.Places.{kept_back, kept_back_of, readin
 use Rattle.regex_lite_engine.specs.Graph.Parts.{HaveOwnParts}
 use Rattle.regex_lite_engine.specs.Graph.PlaceCounts.{whole_places, reading_places}
 use Rattle.regex_lite_engine.specs.Graph.Renumbered.{IsRenumbered}
-use Rattle.regex_lite_engine.specs.Graph.SideBySide.{AreEntries, AreRegular, arrows_of_all, places_of_all, side_by_side}
+use Rattle.regex_lite_engine.specs.Graph.SideBySide.{AreEntries, AreRegular, arrows_of_all}
+use Rattle.regex_lite_engine.specs.Graph.SideBySide.{places_of_all, side_by_side}
 use Rattle.regex_lite_engine.specs.Graph.Stored.{IsClosed, LeadsBelow, place_of}
 use Rattle.regex_lite_engine.specs.declared.nfa.place.Place as code
 use Rattle.regex_lite_engine.specs.Nfa.Layout.{pattern_table, patterns_table, patterns_entries}
@@ -18,7 +20,9 @@ use Rattle.regex_lite_engine.specs.Nfa.Totals.{reading_of_all}
 use Rattle.regex_lite_engine.proofs.nfa.count.KeptBackLemmas.{kept_back_pattern}
 use Rattle.regex_lite_engine.proofs.nfa.count.ReadingCountLemmas.{reading_pattern}
 use Rattle.regex_lite_engine.proofs.nfa.count.TotalLemmas.{arrows_all_few, reading_all_few}
-use Rattle.regex_lite_engine.proofs.nfa.write.SeveralLemmas.{places_add_up, name_of_patterns, side_by_side_renumbered, are_entries, own_parts}
+use Rattle.regex_lite_engine.proofs.nfa.write.SeveralLemmas.{places_add_up, name_of_patterns}
+use Rattle.regex_lite_engine.proofs.nfa.write.SeveralLemmas.{side_by_side_renumbered}
+use Rattle.regex_lite_engine.proofs.nfa.write.SeveralLemmas.{are_entries, own_parts}
 
 -- as many places read a character as in all patterns
 reading_adds_up : (trees : List Tree) (base : ℕ)

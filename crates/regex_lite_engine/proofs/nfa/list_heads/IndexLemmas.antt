@@ -1,5 +1,8 @@
 -- The index of several patterns with one pattern more, and what it tells of each.
-use Rattle.std.proofs.Common.{◌≡◌, ◌==◌, ℕ, zero, suc, refl, ◌+◌, ◌*◌, ◌<◌, ◌≤◌, ◌⊎◌, inl, inr, ◌-◌, ◌&&◌, ◌||◌, Bool, true, false, nat_lt, if◌then◌else◌, List, [], ◌∷◌, ◌++◌, length, slice_get, Option, Some, None, ap, sym, subst, ◌∙◌, arith}
+use Rattle.std.proofs.Common.{◌≡◌, ◌==◌, ℕ, zero, suc, refl, ◌+◌, ◌*◌, ◌<◌, ◌≤◌, ◌⊎◌}
+use Rattle.std.proofs.Common.{inl, inr, ◌-◌, ◌&&◌, ◌||◌, Bool, true, false, nat_lt}
+use Rattle.std.proofs.Common.{if◌then◌else◌, List, [], ◌∷◌, ◌++◌, length, slice_get}
+use Rattle.std.proofs.Common.{Option, Some, None, ap, sym, subst, ◌∙◌, arith}
 use Rattle.std.specs.Prelude.{MatchOption}
 use Rattle.std.specs.List.{list_any}
 use Rattle.std.proofs.lemmas.Bool.{cases_lt, cases_eq}
@@ -10,7 +13,9 @@ use Rattle.regex_lite_syntax.specs.Tree.{Tree}
 use Rattle.regex_lite_engine.specs.declared.nfa.heads.Heads.{Heads}
 use Rattle.regex_lite_engine.specs.declared.nfa.list_heads.ListHeads.{ListHeads}
 use Rattle.regex_lite_engine.specs.Nfa.Heads.{AreHeadsOfTree}
-use Rattle.regex_lite_engine.specs.Nfa.ListHeads.{AreEachHeadsOf, begins_with_pair, belongs, column, first_row, goes_on_with, has, IsIndexOf, IsWalkable, one_belongs, second_row}
+use Rattle.regex_lite_engine.specs.Nfa.ListHeads.{AreEachHeadsOf, begins_with_pair, belongs}
+use Rattle.regex_lite_engine.specs.Nfa.ListHeads.{column, first_row, goes_on_with, has}
+use Rattle.regex_lite_engine.specs.Nfa.ListHeads.{IsIndexOf, IsWalkable, one_belongs, second_row}
 use Rattle.regex_lite_engine.specs.Nfa.Starts.{begins_with}
 use Rattle.regex_lite_engine.proofs.pikevm.OptionLemmas.{same_some}
 

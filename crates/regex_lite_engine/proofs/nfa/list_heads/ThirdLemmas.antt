@@ -1,19 +1,24 @@
 -- The masks of third characters.
-use Rattle.std.proofs.Common.{◌≡◌, ◌==◌, ◌-◌, ◌*◌, ◌%◌, ◌^◌, ◌<◌, ◌||◌, ◌&&◌, ◌++◌, [], ◌∷◌, inl, inr, ℕ, suc, Bool, cond, true, false, IsTrue, List, Option, Some, refl, ap, sym, subst, ◌∙◌, bit_or, get_or, length, length-append, slice_get, arith, w32}
+use Rattle.std.proofs.Common.{◌≡◌, ◌==◌, ◌-◌, ◌*◌, ◌%◌, ◌^◌, ◌<◌, ◌||◌, ◌&&◌, ◌++◌, []}
+use Rattle.std.proofs.Common.{◌∷◌, inl, inr, ℕ, suc, Bool, cond, true, false, IsTrue}
+use Rattle.std.proofs.Common.{List, Option, Some, refl, ap, sym, subst, ◌∙◌, bit_or}
+use Rattle.std.proofs.Common.{get_or, length, length-append, slice_get, arith, w32}
 use Rattle.std.specs.Int.{bit_at}
 use Rattle.std.specs.Prelude.{None, filter, is_none}
 use Rattle.std.proofs.Math.ListN.{get_or-append}
 use Rattle.std.proofs.Math.Seq.{get_or-append_seam}
 use Rattle.std.proofs.lemmas.Bool.{cases_eq, cases_lt}
 use Rattle.std.proofs.lemmas.Nat.Bits.{bit_at_ones, bit_at_set_same, bit_at_set_other}
-use Rattle.std.proofs.lemmas.Option.{slice_get-get_or, slice_get_cases, slice_get_past, slice_get_within, get_or_from_slice_get}
+use Rattle.std.proofs.lemmas.Option.{slice_get-get_or, slice_get_cases, slice_get_past}
+use Rattle.std.proofs.lemmas.Option.{slice_get_within, get_or_from_slice_get}
 use Rattle.regex_lite_syntax.specs.Text.{Text, after}
 use Rattle.regex_lite_syntax.specs.Tree.{Tree}
 use Rattle.regex_lite_syntax.specs.Tree.Matches.{Matches}
 use Rattle.regex_lite_engine.specs.declared.nfa.list_heads.thirds.Thirds.{Thirds}
 use Rattle.regex_lite_engine.specs.declared.nfa.starts.Starts.{Starts}
 use Rattle.regex_lite_engine.specs.Nfa.Starts.{begins_with, may_begin}
-use Rattle.regex_lite_engine.specs.Nfa.Thirds.{in_mask, in_some_mask, may_go_on, AreMasksOf, IsThirdOfTree}
+use Rattle.regex_lite_engine.specs.Nfa.Thirds.{in_mask, in_some_mask, may_go_on}
+use Rattle.regex_lite_engine.specs.Nfa.Thirds.{AreMasksOf, IsThirdOfTree}
 use Rattle.regex_lite_engine.proofs.pikevm.OptionLemmas.{same_some}
 
 pub all_in_mask : (c : ℕ) → in_mask (2 ^ 32 - 1) c ≡ true
@@ -87,7 +92,8 @@ filter_twice f g (k ∷ numbers) = by_first (f k) (filter_twice f g numbers)
     by_first false rest = rest
 
 -- none is left out where there is no third character
-pub all_go_on : (thirds : Thirds) (numbers : List ℕ) → numbers ≡ filter (may_go_on thirds None) numbers
+pub all_go_on : (thirds : Thirds) (numbers : List ℕ)
+    → numbers ≡ filter (may_go_on thirds None) numbers
 all_go_on thirds [] = refl
 all_go_on thirds (k ∷ numbers) = ap (λ rest. k ∷ rest) (all_go_on thirds numbers)
 

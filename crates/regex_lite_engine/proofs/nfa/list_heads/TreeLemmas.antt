@@ -1,5 +1,7 @@
 -- Where the index leaves a pattern out, its tree does not match.
-use Rattle.std.proofs.Common.{◌≡◌, ℕ, zero, suc, refl, ◌+◌, ◌-◌, ◌<◌, inl, inr, ◌&&◌, ◌||◌, Bool, true, false, IsTrue, List, [], ◌∷◌, length, map, nat_lt, if◌then◌else◌, slice_get, Option, Some, None, ap, sym, ◌∙◌, arith}
+use Rattle.std.proofs.Common.{◌≡◌, ℕ, zero, suc, refl, ◌+◌, ◌-◌, ◌<◌, inl, inr, ◌&&◌, ◌||◌}
+use Rattle.std.proofs.Common.{Bool, true, false, IsTrue, List, [], ◌∷◌, length, map, nat_lt}
+use Rattle.std.proofs.Common.{if◌then◌else◌, slice_get, Option, Some, None, ap, sym, ◌∙◌, arith}
 use Rattle.std.specs.Prelude.{IfSome, is_none, option_map}
 use Rattle.std.specs.List.{list_any}
 use Rattle.std.proofs.lemmas.Bool.{cases_lt}
@@ -12,7 +14,9 @@ use Rattle.regex_lite_engine.specs.declared.nfa.heads.Heads.{Heads}
 use Rattle.regex_lite_engine.specs.declared.nfa.list_heads.ListHeads.{ListHeads}
 use Rattle.regex_lite_engine.specs.declared.nfa.starts.Starts.{Starts}
 use Rattle.regex_lite_engine.specs.Nfa.Heads.{AreHeadsOfTree, AreSecondOfTree}
-use Rattle.regex_lite_engine.specs.Nfa.ListHeads.{belongs, column, first_row, goes_on_with, has, may_start, may_start_at, one_belongs, second_row, start_row, IsIndexOf}
+use Rattle.regex_lite_engine.specs.Nfa.ListHeads.{belongs, column, first_row, goes_on_with}
+use Rattle.regex_lite_engine.specs.Nfa.ListHeads.{has, may_start, may_start_at, one_belongs}
+use Rattle.regex_lite_engine.specs.Nfa.ListHeads.{second_row, start_row, IsIndexOf}
 use Rattle.regex_lite_engine.specs.Nfa.Starts.{begins_with, may_begin, IsGrown, IsUnionOf, MayBegin}
 use Rattle.regex_lite_engine.proofs.nfa.starts.StartLemmas.{begins_as_one, may_grown}
 use Rattle.regex_lite_engine.proofs.pikevm.OptionLemmas.{not_there, same_some}

@@ -1,5 +1,7 @@
 -- The words of the rows, and the numbers of the patterns that may start.
-use Rattle.std.proofs.Common.{◌≡◌, ◌==◌, ℕ, zero, suc, refl, ◌+◌, ◌*◌, ◌-◌, ◌%◌, ◌<◌, ◌≤◌, ◌&&◌, ◌||◌, Bool, true, false, cond, List, [], ◌∷◌, ◌++◌, length, min, max, bit_and, bit_or, slice_index, Option, Some, None, ap, sym, ◌∙◌, arith}
+use Rattle.std.proofs.Common.{◌≡◌, ◌==◌, ℕ, zero, suc, refl, ◌+◌, ◌*◌, ◌-◌, ◌%◌, ◌<◌, ◌≤◌, ◌&&◌}
+use Rattle.std.proofs.Common.{◌||◌, Bool, true, false, cond, List, [], ◌∷◌, ◌++◌, length, min, max}
+use Rattle.std.proofs.Common.{bit_and, bit_or, slice_index, Option, Some, None, ap, sym, ◌∙◌, arith}
 use Rattle.std.specs.Int.{bit_at}
 use Rattle.std.specs.List.{filter, range_with_len}
 use Rattle.std.specs.Prelude.{is_none, option_map, unwrap_or}
@@ -8,8 +10,10 @@ use Rattle.std.proofs.lemmas.List.{append-nil, length-append}
 use Rattle.std.proofs.lemmas.Nat.Bits.{bit_at-lt, bit_at_and, bit_at_or}
 use Rattle.regex_lite_engine.specs.declared.nfa.list_heads.ListHeads.{ListHeads}
 use Rattle.regex_lite_engine.specs.declared.nfa.list_heads.rows.Rows.{Rows}
-use Rattle.regex_lite_engine.specs.Nfa.ListHeads.{column, first_row, has, may_start, second_row, set_from, start_row, IsWalkable, NeverBeginsWith}
-use Rattle.regex_lite_engine.proofs.nfa.list_heads.NumberLemmas.{filter_none, filter_parts, set_passes}
+use Rattle.regex_lite_engine.specs.Nfa.ListHeads.{column, first_row, has, may_start, second_row}
+use Rattle.regex_lite_engine.specs.Nfa.ListHeads.{set_from, start_row, IsWalkable, NeverBeginsWith}
+use Rattle.regex_lite_engine.proofs.nfa.list_heads.NumberLemmas.{filter_none}
+use Rattle.regex_lite_engine.proofs.nfa.list_heads.NumberLemmas.{filter_parts, set_passes}
 use Rattle.regex_lite_engine.proofs.nfa.list_heads.RowBitLemmas.{word_of_bit}
 
 both_bits : (a b : ℕ) → a < 2 → b < 2 → (min a b == 1) ≡ ((a == 1) && (b == 1))

@@ -1,5 +1,6 @@
 -- Bytes that are written one after another.
-use Rattle.std.proofs.Common.{rules, inl, inr, sym, ◌≡◌, ◌∷◌, [], ◌<◌, ◌≤◌, ℕ, suc, true, List, length, slice_index, slice_set, nat_eq, ◌∙◌, refl, arith}
+use Rattle.std.proofs.Common.{rules, inl, inr, sym, ◌≡◌, ◌∷◌, [], ◌<◌, ◌≤◌, ℕ, suc, true}
+use Rattle.std.proofs.Common.{List, length, slice_index, slice_set, nat_eq, ◌∙◌, refl, arith}
 use Rattle.std.proofs.lemmas.Bool.{cases_eq}
 use Rattle.std.proofs.lemmas.Bool.Decides.{nat_tests}
 use Rattle.std.proofs.lemmas.List.{get_or-set_same, get_or-set_other}
@@ -9,8 +10,11 @@ use Rattle.regex_lite_engine.specs.Nfa.Prefilter.{is_among, StandsBelow}
 -- what is written after them leaves them there
 pub stands_still : (bytes : List ℕ) (at new len byte : ℕ) → len ≤ at → StandsBelow bytes len byte
     → StandsBelow (slice_set bytes at new) len byte
-stands_still bytes at new len byte above (i, below, is) =
-    (i, below, get_or-set_other bytes at i new _ (λ same. absurd (omega (arith, above, below, same))) ∙ is)
+stands_still bytes at new len byte above (i, below, is) = (
+  i,
+  below,
+  get_or-set_other bytes at i new _ (λ same. absurd (omega (arith, above, below, same))) ∙ is,
+)
 
 -- it is one of them then
 pub stands_new : (bytes : List ℕ) (at new : ℕ) → at < length bytes
@@ -21,7 +25,8 @@ stands_new bytes at new within = (at, omega (arith), get_or-set_same bytes at ne
 pub stands_among : (bytes : List ℕ) (len byte : ℕ) → len ≤ length bytes → StandsBelow bytes len byte
     → is_among bytes byte ≡ true
 stands_among bytes len byte room (i, below, is) =
-    list_any_at (λ own. nat_eq byte own) bytes i _ (omega (arith, room, below)) (same (slice_index bytes i) is)
+    list_any_at (λ own. nat_eq byte own) bytes i _ (omega (arith, room, below))
+    (same (slice_index bytes i) is)
   where
     same : (own : ℕ) → own ≡ byte → nat_eq byte own ≡ true
     same own e = grind (arith, nat_tests)
@@ -29,7 +34,8 @@ stands_among bytes len byte room (i, below, is) =
 -- eight bytes are those at the eight places
 pub eight : (bytes : List ℕ) → length bytes ≡ 8
     → slice_index bytes 0 ∷ (slice_index bytes 1 ∷ (slice_index bytes 2 ∷ (slice_index bytes 3
-    ∷ (slice_index bytes 4 ∷ (slice_index bytes 5 ∷ (slice_index bytes 6 ∷ (slice_index bytes 7 ∷ [])))))))
+    ∷ (slice_index bytes 4
+    ∷ (slice_index bytes 5 ∷ (slice_index bytes 6 ∷ (slice_index bytes 7 ∷ [])))))))
     ≡ bytes
 eight [] is = absurd (omega (arith, is))
 eight (a ∷ []) is = absurd (omega (arith, is))

@@ -1,5 +1,8 @@
 -- Where a match can begin, while characters are added, and what a tree can begin with.
-use Rattle.std.proofs.Common.{◌≡◌, ℕ, zero, suc, ◌+◌, ◌<◌, ◌≤◌, ◌⊎◌, inl, inr, Bool, true, false, IsTrue, List, [], ◌∷◌, length, take, get_or, Option, Some, None, refl, sym, ap, subst, ◌∙◌, arith, nat_lt, slice_index_or, if◌then◌else◌, ◌&&◌, ◌||◌}
+use Rattle.std.proofs.Common.{◌≡◌, ℕ, zero, suc, ◌+◌, ◌<◌, ◌≤◌, ◌⊎◌, inl, inr, Bool}
+use Rattle.std.proofs.Common.{true, false, IsTrue, List, [], ◌∷◌, length, take, get_or}
+use Rattle.std.proofs.Common.{Option, Some, None, refl, sym, ap, subst, ◌∙◌, arith}
+use Rattle.std.proofs.Common.{nat_lt, slice_index_or, if◌then◌else◌, ◌&&◌, ◌||◌}
 use Rattle.std.specs.Prelude.{replicate, is_none, slice_set, min}
 use Rattle.std.specs.Char.{is_ascii}
 use Rattle.std.proofs.lemmas.Bool.{cases_lt}
@@ -13,7 +16,8 @@ use Rattle.regex_lite_syntax.specs.Text.{Text, before, after}
 use Rattle.regex_lite_syntax.specs.Tree.{Tree, Trees, repetition, more}
 use Rattle.regex_lite_syntax.specs.Tree.Matches.{Matches, Passes, Chain, SomeBranch}
 use Rattle.regex_lite_engine.specs.declared.nfa.starts.Starts.{Starts}
-use Rattle.regex_lite_engine.specs.Nfa.Starts.{begins_with, may_begin, MayBegin, IsGrown, BeginsOrPasses}
+use Rattle.regex_lite_engine.specs.Nfa.Starts.{begins_with, may_begin, MayBegin}
+use Rattle.regex_lite_engine.specs.Nfa.Starts.{IsGrown, BeginsOrPasses}
 
 pub one_is_true : (a b : Bool) → (a || b) ≡ true → (a ≡ true) ⊎ (b ≡ true)
 one_is_true true b e = inl refl
@@ -26,7 +30,8 @@ all_true (suc n) (suc c) = all_true n c
 
 pub everywhere_begins : (s : Starts) → s.any ≡ true → s.ascii ≡ replicate 128 true
     → s.others ≡ true → (c : ℕ) → begins_with s c ≡ true
-everywhere_begins s any ascii others c = ap (λ z. z && inside (nat_lt c 128)) any ∙ by_test (nat_lt c 128)
+everywhere_begins s any ascii others c =
+    ap (λ z. z && inside (nat_lt c 128)) any ∙ by_test (nat_lt c 128)
   where
     inside : Bool → Bool
     inside b = if b then slice_index_or s.ascii c true else s.others
@@ -96,11 +101,18 @@ set_grown s t k any ascii others at_start = record {
     by_any : (a : Bool) → s.any ≡ a → (c : ℕ) → begins_with s c ≡ true → begins_with t c ≡ true
     by_any true e c b =
         ap (λ z. z && (if nat_lt c 128 then slice_index_or t.ascii c true else t.others)) (any ∙ e)
-        ∙ by_ascii c (nat_lt c 128) (sym (ap (λ z. z && (if nat_lt c 128 then slice_index_or s.ascii c true else s.others)) e) ∙ b)
-    by_any false e c b = absurd (let none = sym (ap (λ z. z && (if nat_lt c 128 then slice_index_or s.ascii c true else s.others)) e) ∙ b in cc)
+        ∙ by_ascii c (nat_lt c 128)
+        (sym (ap (λ z. z && (if nat_lt c 128 then slice_index_or s.ascii c true else s.others)) e)
+        ∙ b)
+    by_any false e c b =
+        absurd (let none =
+        sym (ap (λ z. z && (if nat_lt c 128 then slice_index_or s.ascii c true else s.others)) e)
+        ∙ b in
+        cc)
 
 -- a character of the range was added
-pub in_span : (s : Starts) (start end c : ℕ) → s.any ≡ true → (is_ascii end ≡ false → s.others ≡ true)
+pub in_span : (s : Starts) (start end c : ℕ) → s.any ≡ true
+    → (is_ascii end ≡ false → s.others ≡ true)
     → ((d : ℕ) → start ≤ d → d < min (end + 1) 128 → slice_index_or s.ascii d true ≡ true)
     → span start end c ≡ true → begins_with s c ≡ true
 in_span s start end c any others filled inside =
@@ -182,7 +194,8 @@ may_with s h i c next begins =
     (subst (λ z. IsTrue (z || (s.at_start && is_none (before h i)))) (sym begins) refl)
 
 -- the haystack's start
-pub may_at_start : (s : Starts) (h : Text) (i : ℕ) → s.at_start ≡ true → IsTrue (is_none (before h i))
+pub may_at_start : (s : Starts) (h : Text) (i : ℕ) → s.at_start ≡ true
+    → IsTrue (is_none (before h i))
     → MayBegin s h i
 may_at_start s h i at_start none = by_next (after h i)
   where
@@ -219,7 +232,8 @@ pub repetition_begins : (least : ℕ) (most : Option ℕ) (greedy : Bool) (body 
     (passable result : Bool) → (passable ≡ true → IsTrue result) → (least ≡ 0 → IsTrue result)
     → BeginsOrPasses body s passable
     → BeginsOrPasses (repetition least most greedy body) s result
-repetition_begins least most greedy body s passable result by_body by_least each h i j (n, low, high, passes) =
+repetition_begins least most greedy body s passable result by_body by_least each h i j
+    (n, low, high, passes) =
     by_passes least n low passes by_least
   where
     by_passes : (least n : ℕ) → least ≤ n → Passes (Matches h body) n i j

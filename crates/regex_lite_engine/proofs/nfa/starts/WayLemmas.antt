@@ -1,5 +1,6 @@
 -- Where the tree of a graph does not match, no arrows of the graph lead to a complete match.
-use Rattle.std.proofs.Common.{◌≡◌, ◌≢◌, ◌<◌, length, ◌⊎◌, inl, inr, sym, ap, subst, ◌∙◌, arith, ℕ, suc, List, Option, Some, None, slice_get}
+use Rattle.std.proofs.Common.{◌≡◌, ◌≢◌, ◌<◌, length, ◌⊎◌, inl, inr, sym, ap, subst}
+use Rattle.std.proofs.Common.{◌∙◌, arith, ℕ, suc, List, Option, Some, None, slice_get}
 use Rattle.std.specs.Prelude.{IfSome, MatchOption}
 use Rattle.std.proofs.lemmas.Bool.{cases_eq}
 use Rattle.std.proofs.lemmas.Option.{slice_get_within}
@@ -25,12 +26,16 @@ use Rattle.regex_lite_engine.specs.declared.nfa.list_heads.ListHeads.{ListHeads}
 use Rattle.regex_lite_engine.specs.declared.nfa.starts.Starts.{Starts}
 use Rattle.regex_lite_engine.proofs.nfa.list_heads.IndexLemmas.{walkable}
 use Rattle.regex_lite_engine.proofs.nfa.list_heads.ThirdLemmas.{stuck_matches}
-use Rattle.regex_lite_engine.proofs.nfa.list_heads.TreeLemmas.{left_out_matches, none_matches, there_is}
-use Rattle.regex_lite_engine.proofs.laws.several.PartLemmas.{name_in_pattern, InPattern, part_of_list, entry_of_part}
-use Rattle.regex_lite_engine.proofs.nfa.write.RenumberingLemmas.{whole_names, renumbered, starts as starts_there}
+use Rattle.regex_lite_engine.proofs.nfa.list_heads.TreeLemmas.{left_out_matches}
+use Rattle.regex_lite_engine.proofs.nfa.list_heads.TreeLemmas.{none_matches, there_is}
+use Rattle.regex_lite_engine.proofs.laws.several.PartLemmas.{name_in_pattern, InPattern}
+use Rattle.regex_lite_engine.proofs.laws.several.PartLemmas.{part_of_list, entry_of_part}
+use Rattle.regex_lite_engine.proofs.nfa.write.RenumberingLemmas.{whole_names, renumbered}
+use Rattle.regex_lite_engine.proofs.nfa.write.RenumberingLemmas.{starts as starts_there}
 use Rattle.regex_lite_engine.proofs.laws.LoopLemmas.{without_loops}
 use Rattle.regex_lite_engine.proofs.laws.PatternWayLemmas.{walk_match}
-use Rattle.regex_lite_engine.proofs.laws.search.NumberedWayLemmas.{IsPart, IsPartNumber, whole_part, whole_number, in_addresses}
+use Rattle.regex_lite_engine.proofs.laws.search.NumberedWayLemmas.{IsPart, IsPartNumber, whole_part}
+use Rattle.regex_lite_engine.proofs.laws.search.NumberedWayLemmas.{whole_number, in_addresses}
 
 one_or_two : (m n : ℕ × ℕ) → (m ≡ n) ⊎ (m ≢ n)
 one_or_two (q, i) (p, j) = elim (cases_eq q p) [
@@ -45,7 +50,8 @@ pub dead_without_match : (tree : Tree) (haystack : Text) (table : List (Place �
     (name : ℕ → Address) (Part : ℕ → Type 0) → IsPart (written_out tree) name table Part
     → IsPartNumber name Part start_address start → IsRegular tree → (i : ℕ)
     → ((j : ℕ) → Matches haystack tree i j → ⊥) → IsDeadAt table haystack start i
-dead_without_match tree haystack table start name Part r first regular i none arrows end ends leads =
+dead_without_match tree haystack table start name Part r first regular i none arrows end
+    ends leads =
     let way = without_loops (numbered_step table haystack) one_or_two arrows (start, i) end leads in
     let through = in_addresses tree haystack table start name Part r first i end.0 end.1 way.0
     (record { is_way = way.1; ends = ends }) in

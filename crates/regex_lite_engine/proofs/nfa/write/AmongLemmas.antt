@@ -1,5 +1,6 @@
 -- That an address is in a list of addresses.
-use Rattle.std.proofs.Common.{◌≡◌, ◌<◌, refl, ap, subst, arith, ℕ, suc, ◌+◌, ◌⊎◌, inl, inr, List, [], ◌∷◌, ◌++◌, length, get_or}
+use Rattle.std.proofs.Common.{◌≡◌, ◌<◌, refl, ap, subst, arith, ℕ, suc, ◌+◌, ◌⊎◌}
+use Rattle.std.proofs.Common.{inl, inr, List, [], ◌∷◌, ◌++◌, length, get_or}
 use Rattle.regex_lite_engine.specs.Graph.Addresses.{Address}
 use Rattle.regex_lite_engine.proofs.nfa.write.AddressLemmas.{own_place, in_part, framed}
 

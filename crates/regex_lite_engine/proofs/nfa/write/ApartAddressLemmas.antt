@@ -1,10 +1,18 @@
 -- No address comes twice among the addresses of a tree's places.
-use Rattle.std.proofs.Common.{◌≡◌, ◌<◌, ◌≤◌, refl, ap, arith, ℕ, zero, suc, ◌+◌, ◌-◌, ◌⊎◌, inl, inr, Bool, true, false, List, [], ◌∷◌, ◌++◌, Option, Some, None}
-use Rattle.regex_lite_syntax.specs.Tree.{Tree, Trees, empty, character, class, look, repetition, capture, concat, alternation, none, more}
+use Rattle.std.proofs.Common.{◌≡◌, ◌<◌, ◌≤◌, refl, ap, arith, ℕ, zero, suc, ◌+◌, ◌-◌, ◌⊎◌, inl}
+use Rattle.std.proofs.Common.{inr, Bool, true, false, List, [], ◌∷◌, ◌++◌, Option, Some, None}
+use Rattle.regex_lite_syntax.specs.Tree.{Tree, Trees, empty, character, class, look}
+use Rattle.regex_lite_syntax.specs.Tree.{repetition, capture, concat, alternation, none, more}
 use Rattle.regex_lite_syntax.specs.Tree.Properties.{nullable}
 use Rattle.regex_lite_engine.specs.Graph.Addresses.{Address}
-use Rattle.regex_lite_engine.proofs.nfa.write.AddressLemmas.{own_place, in_part, framed, copies_addresses, choices_addresses, bounded_addresses, repetition_addresses, addresses, chain_addresses, branches_addresses}
-use Rattle.regex_lite_engine.proofs.nfa.write.ApartLemmas.{Each, Apart, each_weaker, each_both, apart_both, apart_first, apart_last, apart_part}
+use Rattle.regex_lite_engine.proofs.nfa.write.AddressLemmas.{own_place, in_part, framed}
+use Rattle.regex_lite_engine.proofs.nfa.write.AddressLemmas.{copies_addresses, choices_addresses}
+use Rattle.regex_lite_engine.proofs.nfa.write.AddressLemmas.{bounded_addresses}
+use Rattle.regex_lite_engine.proofs.nfa.write.AddressLemmas.{repetition_addresses, addresses}
+use Rattle.regex_lite_engine.proofs.nfa.write.AddressLemmas.{chain_addresses, branches_addresses}
+use Rattle.regex_lite_engine.proofs.nfa.write.ApartLemmas.{Each, Apart, each_weaker}
+use Rattle.regex_lite_engine.proofs.nfa.write.ApartLemmas.{each_both, apart_both, apart_first}
+use Rattle.regex_lite_engine.proofs.nfa.write.ApartLemmas.{apart_last, apart_part}
 
 -- one more than the part that the address leads into, or else 0
 abbrev pub part_of : Address → ℕ

@@ -1,5 +1,6 @@
 -- Lists of addresses in which none comes twice.
-use Rattle.std.proofs.Common.{◌≡◌, ◌<◌, refl, sym, ap, subst, arith, ℕ, zero, suc, List, [], ◌∷◌, ◌++◌, length, get_or}
+use Rattle.std.proofs.Common.{◌≡◌, ◌<◌, refl, sym, ap, subst, arith, ℕ, zero}
+use Rattle.std.proofs.Common.{suc, List, [], ◌∷◌, ◌++◌, length, get_or}
 use Rattle.regex_lite_engine.specs.Graph.Addresses.{Address}
 use Rattle.regex_lite_engine.proofs.nfa.write.AddressLemmas.{in_part}
 

@@ -1,13 +1,19 @@
 -- Each address at which a tree has a place is among the addresses of the tree.
 use Rattle.std.proofs.Common.{◌≡◌, refl, ℕ, zero, suc, ◌+◌, inl, inr, List, [], ◌∷◌, Some}
-use Rattle.regex_lite_syntax.specs.Tree.{Tree, Trees, empty, character, class, look, repetition, capture, concat, alternation, none, more}
+use Rattle.regex_lite_syntax.specs.Tree.{Tree, Trees, empty, character, class, look}
+use Rattle.regex_lite_syntax.specs.Tree.{repetition, capture, concat, alternation, none, more}
 use Rattle.regex_lite_syntax.specs.Tree.Properties.{nullable}
 use Rattle.regex_lite_engine.specs.Graph.Places.{Place}
 use Rattle.regex_lite_engine.specs.Graph.Addresses.{Address, part, own, entry, branch_entries}
 use Rattle.regex_lite_engine.specs.Graph.Repetitions.{Content}
-use Rattle.regex_lite_engine.specs.Graph.WrittenOut.{leaf_row, capture_row, alternation_row, concat_row, place_at, place_in_chain, place_in_branch}
-use Rattle.regex_lite_engine.proofs.nfa.write.AddressLemmas.{own_place, in_part, framed, addresses, chain_addresses, branches_addresses}
-use Rattle.regex_lite_engine.proofs.nfa.write.AmongLemmas.{Among, among_left, among_right, among_last, among_part, among_framed, from_0, from_first, from_later}
+use Rattle.regex_lite_engine.specs.Graph.WrittenOut.{leaf_row, capture_row}
+use Rattle.regex_lite_engine.specs.Graph.WrittenOut.{alternation_row, concat_row, place_at}
+use Rattle.regex_lite_engine.specs.Graph.WrittenOut.{place_in_chain, place_in_branch}
+use Rattle.regex_lite_engine.proofs.nfa.write.AddressLemmas.{own_place, in_part, framed, addresses}
+use Rattle.regex_lite_engine.proofs.nfa.write.AddressLemmas.{chain_addresses, branches_addresses}
+use Rattle.regex_lite_engine.proofs.nfa.write.AmongLemmas.{Among, among_left, among_right}
+use Rattle.regex_lite_engine.proofs.nfa.write.AmongLemmas.{among_last, among_part, among_framed}
+use Rattle.regex_lite_engine.proofs.nfa.write.AmongLemmas.{from_0, from_first, from_later}
 use Rattle.regex_lite_engine.proofs.nfa.write.ListedRowLemmas.{ListsAll, listed_repetition}
 
 listed_leaf : (own_content : Place Address) (a : Address) (place : Place Address)

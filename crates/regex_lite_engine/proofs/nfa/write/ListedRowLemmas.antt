@@ -1,11 +1,20 @@
 -- Each address at which a repetition has a place is among its addresses, given that of its body.
-use Rattle.std.proofs.Common.{◌≡◌, refl, sym, subst, ◌∙◌, arith, ℕ, zero, suc, ◌+◌, ◌-◌, ◌⊎◌, inl, inr, Bool, true, false, List, [], ◌∷◌, ◌++◌, Option, Some, None}
+use Rattle.std.proofs.Common.{◌≡◌, refl, sym, subst, ◌∙◌, arith, ℕ, zero, suc, ◌+◌, ◌-◌, ◌⊎◌, inl}
+use Rattle.std.proofs.Common.{inr, Bool, true, false, List, [], ◌∷◌, ◌++◌, Option, Some, None}
 use Rattle.regex_lite_engine.specs.Graph.Places.{Place}
 use Rattle.regex_lite_engine.specs.Graph.Addresses.{Address, part, own}
-use Rattle.regex_lite_engine.specs.Graph.Repetitions.{Content, in_copies, no_place, choice_at, in_choices, optional_row, star_row, nullable_star_row, at_least_row, exactly_row, between_row, bounded_row, repetition_row}
-use Rattle.regex_lite_engine.proofs.nfa.write.AddressLemmas.{own_place, in_part, framed, copies_addresses, choices_addresses, bounded_addresses, repetition_addresses}
+use Rattle.regex_lite_engine.specs.Graph.Repetitions.{Content, in_copies, no_place, choice_at}
+use Rattle.regex_lite_engine.specs.Graph.Repetitions.{in_choices, optional_row, star_row}
+use Rattle.regex_lite_engine.specs.Graph.Repetitions.{nullable_star_row, at_least_row, exactly_row}
+use Rattle.regex_lite_engine.specs.Graph.Repetitions.{between_row, bounded_row, repetition_row}
+use Rattle.regex_lite_engine.proofs.nfa.write.AddressLemmas.{own_place, in_part, framed}
+use Rattle.regex_lite_engine.proofs.nfa.write.AddressLemmas.{copies_addresses, choices_addresses}
+use Rattle.regex_lite_engine.proofs.nfa.write.AddressLemmas.{bounded_addresses}
+use Rattle.regex_lite_engine.proofs.nfa.write.AddressLemmas.{repetition_addresses}
 use Rattle.regex_lite_engine.proofs.nfa.write.CopyRowLemmas.{copies_before}
-use Rattle.regex_lite_engine.proofs.nfa.write.AmongLemmas.{Among, among_left, among_right, among_last, among_part, among_framed, from_0, from_first, from_later}
+use Rattle.regex_lite_engine.proofs.nfa.write.AmongLemmas.{Among, among_left, among_right}
+use Rattle.regex_lite_engine.proofs.nfa.write.AmongLemmas.{among_last, among_part, among_framed}
+use Rattle.regex_lite_engine.proofs.nfa.write.AmongLemmas.{from_0, from_first, from_later}
 
 -- the list has each address at which there is a place inside
 abbrev pub ListsAll : (inside : Address → (exit : Address) → Address → Content) → List Address

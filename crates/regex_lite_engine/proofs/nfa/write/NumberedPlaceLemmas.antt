@@ -1,7 +1,9 @@
 -- Single places with numbers in the place of addresses.
-use Rattle.std.proofs.Common.{◌≡◌, refl, sym, ap, ◌∙◌, ℕ, Bool, true, false, List, [], ◌∷◌, map, Option, Some, None}
+use Rattle.std.proofs.Common.{◌≡◌, refl, sym, ap, ◌∙◌, ℕ, Bool, true, false}
+use Rattle.std.proofs.Common.{List, [], ◌∷◌, map, Option, Some, None}
 use Rattle.regex_lite_syntax.specs.declared.class.ClassRange.{ClassRange}
-use Rattle.regex_lite_engine.specs.Graph.Places.{Condition, Place, with_arrows, go, choice, one_of, free, renamed, renamed_arrow}
+use Rattle.regex_lite_engine.specs.Graph.Places.{Condition, Place, with_arrows, go, choice}
+use Rattle.regex_lite_engine.specs.Graph.Places.{one_of, free, renamed, renamed_arrow}
 use Rattle.regex_lite_engine.specs.Graph.Addresses.{Address}
 use Rattle.regex_lite_engine.specs.Graph.Repetitions.{Content}
 use Rattle.regex_lite_engine.specs.Graph.Stored.{LeadInto, LeadsInto}
@@ -9,7 +11,8 @@ use Rattle.regex_lite_engine.proofs.nfa.write.NumberingLemmas.{Numbering, Inside
 
 -- the place with this one arrow
 abbrev pub one_arrow : {A : Type 0} → Condition → (mark : Option ℕ) → A → Place A
-one_arrow condition mark to = with_arrows (record { condition = condition; mark = mark; to = to } ∷ [])
+one_arrow condition mark to =
+    with_arrows (record { condition = condition; mark = mark; to = to } ∷ [])
 
 module _ (by : Numbering) where
   -- the place is that one with numbers in the place of addresses
@@ -45,7 +48,8 @@ module _ (by : Numbering) where
   numbered_choice false n m a b r s = two_arrows m n b a s r
 
   numbered_arrows : (ns : List ℕ) (list : List Address) → StandAll ns list
-      → (map (renamed_arrow by.address) (map go ns) ≡ map go list) × LeadInto (Inside by) (map go ns)
+      → (map (renamed_arrow by.address) (map go ns) ≡ map go list)
+      × LeadInto (Inside by) (map go ns)
   numbered_arrows [] [] r = (refl, tt)
   numbered_arrows [] (a ∷ list) r = absurd r
   numbered_arrows (n ∷ ns) [] r = absurd r
@@ -65,7 +69,8 @@ module _ (by : Numbering) where
     arrow_at condition mark n to e r =
         is_at (one_arrow condition mark n) _ e (numbered_arrow condition mark n to r)
 
-    pub go_at : (n : ℕ) (to : Address) → content a ≡ Some (with_arrows (go to ∷ [])) → Stands by n to
+    pub go_at : (n : ℕ) (to : Address) → content a ≡ Some (with_arrows (go to ∷ []))
+        → Stands by n to
         → IsAt by content a (with_arrows (go n ∷ []))
     go_at n to e r = arrow_at free None n to e r
 
@@ -80,7 +85,8 @@ module _ (by : Numbering) where
     chosen_at greedy n m to other e r s =
         is_at (choice greedy n m) _ e (numbered_choice greedy n m to other r s)
 
-    pub branches_at : (ns : List ℕ) (list : List Address) → content a ≡ Some (with_arrows (map go list))
+    pub branches_at : (ns : List ℕ) (list : List Address)
+        → content a ≡ Some (with_arrows (map go list))
         → StandAll ns list → IsAt by content a (with_arrows (map go ns))
     branches_at ns list e r =
         let all = numbered_arrows ns list r in

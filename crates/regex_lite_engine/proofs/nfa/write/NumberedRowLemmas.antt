@@ -1,12 +1,23 @@
 -- The layout of a repetition is its row of the written-out pattern, where that of its body is.
-use Rattle.std.proofs.Common.{◌≡◌, refl, sym, ap, subst, ◌∙◌, arith, ℕ, zero, suc, ◌+◌, ◌-◌, Bool, true, false, [], ◌∷◌, ◌++◌, length, append-nil, Option, Some, None}
+use Rattle.std.proofs.Common.{◌≡◌, refl, sym, ap, subst, ◌∙◌, arith, ℕ, zero, suc, ◌+◌, ◌-◌, Bool}
+use Rattle.std.proofs.Common.{true, false, [], ◌∷◌, ◌++◌, length, append-nil, Option, Some, None}
 use Rattle.regex_lite_engine.specs.Graph.Places.{Place, choice}
 use Rattle.regex_lite_engine.specs.Graph.Addresses.{Address, part, own, repetition_entry}
-use Rattle.regex_lite_engine.specs.Graph.Repetitions.{Content, next_copy, in_copies, no_place, choice_at, next_choice, in_choices, exactly_row, bounded_row, repetition_row}
-use Rattle.regex_lite_engine.specs.Nfa.Layout.{copies_layout, choices_layout, star_layout, bounded_layout, repetition_layout}
-use Rattle.regex_lite_engine.proofs.nfa.write.AddressLemmas.{own_place, in_part, copies_addresses, choices_addresses, bounded_addresses, repetition_addresses}
-use Rattle.regex_lite_engine.proofs.nfa.write.CopyRowLemmas.{PartsAre, parts_from_0, first_part, later_parts, copy_last, next_before, copies_before, behind_copies}
-use Rattle.regex_lite_engine.proofs.nfa.write.NumberingLemmas.{Numbering, Body, Stands, InRow, AreAt, Fits, both_at, row_first, row_behind, fits_part, fits_before, fits_last}
+use Rattle.regex_lite_engine.specs.Graph.Repetitions.{Content, next_copy, in_copies, no_place}
+use Rattle.regex_lite_engine.specs.Graph.Repetitions.{choice_at, next_choice, in_choices}
+use Rattle.regex_lite_engine.specs.Graph.Repetitions.{exactly_row, bounded_row, repetition_row}
+use Rattle.regex_lite_engine.specs.Nfa.Layout.{copies_layout, choices_layout, star_layout}
+use Rattle.regex_lite_engine.specs.Nfa.Layout.{bounded_layout, repetition_layout}
+use Rattle.regex_lite_engine.proofs.nfa.write.AddressLemmas.{own_place, in_part, copies_addresses}
+use Rattle.regex_lite_engine.proofs.nfa.write.AddressLemmas.{choices_addresses, bounded_addresses}
+use Rattle.regex_lite_engine.proofs.nfa.write.AddressLemmas.{repetition_addresses}
+use Rattle.regex_lite_engine.proofs.nfa.write.CopyRowLemmas.{PartsAre, parts_from_0, first_part}
+use Rattle.regex_lite_engine.proofs.nfa.write.CopyRowLemmas.{later_parts, copy_last, next_before}
+use Rattle.regex_lite_engine.proofs.nfa.write.CopyRowLemmas.{copies_before, behind_copies}
+use Rattle.regex_lite_engine.proofs.nfa.write.NumberingLemmas.{Numbering, Body, Stands, InRow}
+use Rattle.regex_lite_engine.proofs.nfa.write.NumberingLemmas.{AreAt, Fits, both_at, row_first}
+use Rattle.regex_lite_engine.proofs.nfa.write.NumberingLemmas.{row_behind, fits_part}
+use Rattle.regex_lite_engine.proofs.nfa.write.NumberingLemmas.{fits_before, fits_last}
 use Rattle.regex_lite_engine.proofs.nfa.write.NumberedPlaceLemmas.{go_at, chosen_at}
 
 module _ (by : Numbering) (pre : Address) (greedy : Bool) (b : Body by) where

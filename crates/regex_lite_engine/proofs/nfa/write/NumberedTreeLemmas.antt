@@ -1,19 +1,27 @@
 -- The layout of a tree is its row of the written-out pattern, wherever it is written.
 use Rattle.std.proofs.Common.{refl, ℕ, suc, ◌+◌, ◌*◌, [], ◌∷◌, length, Option, Some, None}
-use Rattle.regex_lite_syntax.specs.Tree.{Tree, Trees, empty, character, class, look, repetition, capture, concat, alternation, none, more}
+use Rattle.regex_lite_syntax.specs.Tree.{Tree, Trees, empty, character, class, look}
+use Rattle.regex_lite_syntax.specs.Tree.{repetition, capture, concat, alternation, none, more}
 use Rattle.regex_lite_syntax.specs.Text.{Text}
 use Rattle.regex_lite_syntax.specs.Sets.{just}
 use Rattle.regex_lite_syntax.specs.Tree.Properties.{nullable}
 use Rattle.regex_lite_syntax.specs.Tree.Regular.{IsRegular, AreRegular}
 use Rattle.regex_lite_engine.specs.Graph.Places.{free, holding, reading}
-use Rattle.regex_lite_engine.specs.Graph.Addresses.{Address, part, own, entry, chain_entry, branch_entries}
+use Rattle.regex_lite_engine.specs.Graph.Addresses.{Address, part, own, entry}
+use Rattle.regex_lite_engine.specs.Graph.Addresses.{chain_entry, branch_entries}
 use Rattle.regex_lite_engine.specs.Graph.Repetitions.{Content}
 use Rattle.regex_lite_engine.specs.Graph.WrittenOut.{place_at, place_in_chain, place_in_branch}
 use Rattle.regex_lite_engine.specs.Nfa.Layout.{layout, chain_layout, branches_layout}
-use Rattle.regex_lite_engine.proofs.nfa.write.AddressLemmas.{own_place, in_part, addresses, chain_addresses, branches_addresses}
-use Rattle.regex_lite_engine.proofs.nfa.write.CopyRowLemmas.{PartsAre, parts_from_0, first_part, later_parts}
-use Rattle.regex_lite_engine.proofs.nfa.write.NumberingLemmas.{Numbering, Body, Stands, InRow, AreAt, Fits, both_at, row_first, row_behind, fits_part, fits_before, fits_last}
-use Rattle.regex_lite_engine.proofs.nfa.write.NumberedPlaceLemmas.{StandAll, arrow_at, go_at, set_at, branches_at}
+use Rattle.regex_lite_engine.proofs.nfa.write.AddressLemmas.{own_place, in_part, addresses}
+use Rattle.regex_lite_engine.proofs.nfa.write.AddressLemmas.{chain_addresses, branches_addresses}
+use Rattle.regex_lite_engine.proofs.nfa.write.CopyRowLemmas.{PartsAre, parts_from_0}
+use Rattle.regex_lite_engine.proofs.nfa.write.CopyRowLemmas.{first_part, later_parts}
+use Rattle.regex_lite_engine.proofs.nfa.write.NumberingLemmas.{Numbering, Body, Stands, InRow}
+use Rattle.regex_lite_engine.proofs.nfa.write.NumberingLemmas.{AreAt, Fits, both_at, row_first}
+use Rattle.regex_lite_engine.proofs.nfa.write.NumberingLemmas.{row_behind, fits_part}
+use Rattle.regex_lite_engine.proofs.nfa.write.NumberingLemmas.{fits_before, fits_last}
+use Rattle.regex_lite_engine.proofs.nfa.write.NumberedPlaceLemmas.{StandAll, arrow_at, go_at}
+use Rattle.regex_lite_engine.proofs.nfa.write.NumberedPlaceLemmas.{set_at, branches_at}
 use Rattle.regex_lite_engine.proofs.nfa.write.NumberedRowLemmas.{fits_repetition}
 
 module _ (by : Numbering) where

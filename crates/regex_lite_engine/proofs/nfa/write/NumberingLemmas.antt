@@ -1,5 +1,6 @@
 -- Numbers in the place of addresses, and that places in a row are what stands at their addresses.
-use Rattle.std.proofs.Common.{◌≡◌, ◌<◌, ◌≤◌, refl, sym, ap, subst, ◌∙◌, arith, ℕ, suc, ◌+◌, List, [], ◌∷◌, ◌++◌, length, append_assoc, Some}
+use Rattle.std.proofs.Common.{◌≡◌, ◌<◌, ◌≤◌, refl, sym, ap, subst, ◌∙◌, arith, ℕ, suc}
+use Rattle.std.proofs.Common.{◌+◌, List, [], ◌∷◌, ◌++◌, length, append_assoc, Some}
 use Rattle.regex_lite_engine.specs.Graph.Places.{Place, renamed}
 use Rattle.regex_lite_engine.specs.Graph.Addresses.{Address, part}
 use Rattle.regex_lite_engine.specs.Graph.Repetitions.{Content}

@@ -1,23 +1,32 @@
 -- The layout of the whole pattern is the written-out one, with numbers in the place of addresses.
-use Rattle.std.proofs.Common.{◌≡◌, ◌<◌, ◌≤◌, ◌-◌, refl, sym, ap, subst, ◌∙◌, arith, ℕ, zero, suc, ◌+◌, inl, inr, List, [], ◌∷◌, ◌++◌, length, get_or, slice_get, append_assoc, length-append, Some, None, ◌^◌, map, option_map}
+use Rattle.std.proofs.Common.{◌≡◌, ◌<◌, ◌≤◌, ◌-◌, refl, sym, ap, subst, ◌∙◌, arith, ℕ, zero, suc}
+use Rattle.std.proofs.Common.{◌+◌, inl, inr, List, [], ◌∷◌, ◌++◌, length, get_or, slice_get}
+use Rattle.std.proofs.Common.{append_assoc, length-append, Some, None, ◌^◌, map, option_map}
 use Rattle.std.proofs.lemmas.List.{length-map}
 use Rattle.std.proofs.lemmas.Option.{slice_get-map}
 use Rattle.std.proofs.Math.Seq.{get_or-append_seam}
 use Rattle.regex_lite_syntax.specs.Tree.{Tree}
 use Rattle.regex_lite_syntax.specs.Tree.Regular.{IsRegular}
-use Rattle.regex_lite_engine.specs.Graph.Places.{Arrow, Place, complete, with_arrows, kept_back_of, reading_of}
+use Rattle.regex_lite_engine.specs.Graph.Places.{Arrow, Place, complete, with_arrows}
+use Rattle.regex_lite_engine.specs.Graph.Places.{kept_back_of, reading_of}
 use Rattle.regex_lite_engine.specs.Graph.Addresses.{Address, entry}
 use Rattle.regex_lite_engine.specs.Graph.Repetitions.{Content}
-use Rattle.regex_lite_engine.specs.Graph.WrittenOut.{start_address, end_address, place_at, whole, written_out}
+use Rattle.regex_lite_engine.specs.Graph.WrittenOut.{start_address, end_address}
+use Rattle.regex_lite_engine.specs.Graph.WrittenOut.{place_at, whole, written_out}
 use Rattle.regex_lite_engine.specs.Graph.Renumbered.{IsRenumbered, IsNumberOf}
-use Rattle.regex_lite_engine.specs.Graph.Stored.{IsClosed, LeadBelow, LeadsBelow, LeadInto, LeadsInto, place_of}
+use Rattle.regex_lite_engine.specs.Graph.Stored.{IsClosed, LeadBelow, LeadsBelow}
+use Rattle.regex_lite_engine.specs.Graph.Stored.{LeadInto, LeadsInto, place_of}
 use Rattle.regex_lite_engine.specs.declared.nfa.place.Place as code
-use Rattle.regex_lite_engine.specs.Nfa.Layout.{pattern_layout, pattern_table, whole_layout, whole_table}
+use Rattle.regex_lite_engine.specs.Nfa.Layout.{pattern_layout, pattern_table}
+use Rattle.regex_lite_engine.specs.Nfa.Layout.{whole_layout, whole_table}
 use Rattle.regex_lite_engine.proofs.nfa.write.AddressLemmas.{in_part, addresses}
-use Rattle.regex_lite_engine.proofs.nfa.write.NumberingLemmas.{Numbering, Stands, InRow, IsAt, AreAt, Fits, as_many, part_at}
+use Rattle.regex_lite_engine.proofs.nfa.write.NumberingLemmas.{Numbering, Stands, InRow, IsAt}
+use Rattle.regex_lite_engine.proofs.nfa.write.NumberingLemmas.{AreAt, Fits, as_many, part_at}
 use Rattle.regex_lite_engine.proofs.nfa.write.NumberedTreeLemmas.{fits_capture, fits_tree}
-use Rattle.regex_lite_engine.proofs.nfa.write.ApartLemmas.{Apart, apart_first, apart_part, apart_get}
-use Rattle.regex_lite_engine.proofs.nfa.write.ApartAddressLemmas.{InPart, each_in_part, apart_addresses}
+use Rattle.regex_lite_engine.proofs.nfa.write.ApartLemmas.{Apart, apart_first}
+use Rattle.regex_lite_engine.proofs.nfa.write.ApartLemmas.{apart_part, apart_get}
+use Rattle.regex_lite_engine.proofs.nfa.write.ApartAddressLemmas.{InPart, each_in_part}
+use Rattle.regex_lite_engine.proofs.nfa.write.ApartAddressLemmas.{apart_addresses}
 use Rattle.regex_lite_engine.proofs.nfa.write.AmongLemmas.{Among, among_part, number_of}
 use Rattle.regex_lite_engine.proofs.nfa.write.ListedAddressLemmas.{listed_tree}
 
@@ -149,7 +158,8 @@ module _ (tree : Tree) (regular : IsRegular tree) where
       → LeadsBelow (length (whole_table tree)) place
   arrows_inside q place e =
       let same : 0 + length all ≡ length (whole_table tree) = omega (arith, as_long) in
-      subst (λ n. LeadsBelow n place) same (leads_below 0 (0 + length all) place (place_is q place e).1)
+      subst (λ n. LeadsBelow n place) same
+      (leads_below 0 (0 + length all) place (place_is q place e).1)
 
   pub whole_names : ℕ → Address
   whole_names = (by 0).address
@@ -165,7 +175,10 @@ module _ (tree : Tree) (regular : IsRegular tree) where
 
   pub starts : IsNumberOf whole_names (whole_table tree) start_address (whole_layout tree).1
   unfolding whole_names
-  starts = record { inside = omega (arith, as_long, (pattern_fits 0).0.1.1); same = (pattern_fits 0).0.0 }
+  starts = record {
+    inside = omega (arith, as_long, (pattern_fits 0).0.1.1);
+    same = (pattern_fits 0).0.0;
+  }
 
   module _ (places : List code.Place) (table_is : map place_of places ≡ whole_table tree) where
     as_many_places : length (whole_table tree) ≡ length places

@@ -1,5 +1,6 @@
 -- What a part of a list of trees takes, beside what is after it.
-use Rattle.std.proofs.Common.{◌≡◌, ◌≤◌, ◌<◌, ℕ, zero, suc, ◌+◌, List, [], ◌∷◌, map, drop, length, get_or, ap, arith}
+use Rattle.std.proofs.Common.{◌≡◌, ◌≤◌, ◌<◌, ℕ, zero, suc, ◌+◌, List, []}
+use Rattle.std.proofs.Common.{◌∷◌, map, drop, length, get_or, ap, arith}
 use Rattle.regex_lite_syntax.specs.declared.hir.Hir.{Hir}
 use Rattle.regex_lite_syntax.specs.Tree.{trees}
 use Rattle.regex_lite_syntax.specs.Tree.Views.{tree_of}

@@ -1,6 +1,9 @@
 -- Patterns that are laid out one after another are the patterns written out side by side, with
 -- numbers in the place of addresses; and their places and arrows add up.
-use Rattle.std.proofs.Common.{◌≡◌, ◌<◌, ◌≤◌, ◌-◌, refl, sym, ap, subst, ◌∙◌, arith, inl, inr, ℕ, zero, suc, ◌+◌, List, [], ◌∷◌, ◌++◌, length, get_or, slice_get, take, drop, length-append, Some, None, Option, map, option_map, nat_lt, true, false, if◌then◌else◌}
+use Rattle.std.proofs.Common.{◌≡◌, ◌<◌, ◌≤◌, ◌-◌, refl, sym, ap, subst, ◌∙◌, arith, inl}
+use Rattle.std.proofs.Common.{inr, ℕ, zero, suc, ◌+◌, List, [], ◌∷◌, ◌++◌, length, get_or}
+use Rattle.std.proofs.Common.{slice_get, take, drop, length-append, Some, None, Option}
+use Rattle.std.proofs.Common.{map, option_map, nat_lt, true, false, if◌then◌else◌}
 use Rattle.std.proofs.Math.Seq.{take-append_seam, drop-append-add}
 use Rattle.std.proofs.lemmas.Bool.{cases_lt}
 use Rattle.std.proofs.lemmas.Bool.Decides.{nat_tests}
@@ -9,16 +12,20 @@ use Rattle.std.proofs.lemmas.Option.{slice_get_within}
 use Rattle.regex_lite_syntax.specs.Tree.{Tree}
 use Rattle.regex_lite_syntax.specs.Tree.Regular.{IsRegular}
 use Rattle.regex_lite_syntax.proofs.ListLemmas.{same_head, same_tail}
-use Rattle.regex_lite_engine.specs.Graph.Places.{Arrow, Place, complete, with_arrows, renamed, renamed_arrow}
+use Rattle.regex_lite_engine.specs.Graph.Places.{Arrow, Place, complete, with_arrows}
+use Rattle.regex_lite_engine.specs.Graph.Places.{renamed, renamed_arrow}
 use Rattle.regex_lite_engine.specs.Graph.Addresses.{Address}
 use Rattle.regex_lite_engine.specs.Graph.WrittenOut.{written_out, start_address}
 use Rattle.regex_lite_engine.specs.Graph.PlaceCounts.{whole_places, whole_arrows}
 use Rattle.regex_lite_engine.specs.Graph.Parts.{HaveOwnParts, IsWithin, row_of}
 use Rattle.regex_lite_engine.specs.Graph.Stored.{LeadInto, LeadsInto, LeadsBelow}
-use Rattle.regex_lite_engine.specs.Graph.Renumbered.{arrow_count, arrows_of, IsRenumbered, IsNumberOf}
-use Rattle.regex_lite_engine.specs.Graph.SideBySide.{in_pattern, side_by_side, start_of, places_of_all, arrows_of_all, AreEntries}
+use Rattle.regex_lite_engine.specs.Graph.Renumbered.{arrow_count, arrows_of}
+use Rattle.regex_lite_engine.specs.Graph.Renumbered.{IsRenumbered, IsNumberOf}
+use Rattle.regex_lite_engine.specs.Graph.SideBySide.{in_pattern, side_by_side, start_of}
+use Rattle.regex_lite_engine.specs.Graph.SideBySide.{places_of_all, arrows_of_all, AreEntries}
 use Rattle.regex_lite_engine.specs.Search.AnswerOfList.{HasTree}
-use Rattle.regex_lite_engine.specs.Nfa.Layout.{pattern_layout, pattern_table, patterns_table, patterns_entries}
+use Rattle.regex_lite_engine.specs.Nfa.Layout.{pattern_layout, pattern_table}
+use Rattle.regex_lite_engine.specs.Nfa.Layout.{patterns_table, patterns_entries}
 use Rattle.regex_lite_engine.proofs.laws.LeadsLemmas.{same_some}
 use Rattle.regex_lite_engine.proofs.laws.search.NamedWayLemmas.{mapped_back}
 use Rattle.regex_lite_engine.proofs.laws.several.PartLemmas.{renamed_twice}
@@ -27,7 +34,10 @@ use Rattle.regex_lite_engine.proofs.nfa.count.PlaceCountLemmas.{length_pattern}
 use Rattle.regex_lite_engine.proofs.nfa.write.AmongLemmas.{number_of}
 use Rattle.regex_lite_engine.proofs.nfa.write.ApartLemmas.{apart_get}
 use Rattle.regex_lite_engine.proofs.nfa.write.NumberingLemmas.{IsAt, Stands, as_many}
-use Rattle.regex_lite_engine.proofs.nfa.write.RenumberingLemmas.{whole_addresses, numbering_of, is_at_number, apart_whole, listed_whole, pattern_start, pattern_is, leads_below}
+use Rattle.regex_lite_engine.proofs.nfa.write.RenumberingLemmas.{whole_addresses, numbering_of}
+use Rattle.regex_lite_engine.proofs.nfa.write.RenumberingLemmas.{is_at_number, apart_whole}
+use Rattle.regex_lite_engine.proofs.nfa.write.RenumberingLemmas.{listed_whole, pattern_start}
+use Rattle.regex_lite_engine.proofs.nfa.write.RenumberingLemmas.{pattern_is, leads_below}
 
 -- names that agree on the numbers to which a place leads
 renamed_arrows_alike : {A : Type 0} (Part : ℕ → Type 0) (f g : ℕ → A)
@@ -65,7 +75,8 @@ get_left [] ys q less = absurd (omega (arith, less))
 get_left (x ∷ xs) ys zero less = refl
 get_left (x ∷ xs) ys (suc q) less = get_left xs ys q (omega (arith, less))
 
-get_right : {X : Type 0} (xs ys : List X) (q : ℕ) → slice_get (xs ++ ys) (length xs + q) ≡ slice_get ys q
+get_right : {X : Type 0} (xs ys : List X) (q : ℕ)
+    → slice_get (xs ++ ys) (length xs + q) ≡ slice_get ys q
 get_right [] ys q = let same : 0 + q ≡ q = omega arith in ap (slice_get ys) same
 get_right (x ∷ xs) ys q =
     let same : suc (length xs) + q ≡ suc (length xs + q) = omega arith in
@@ -155,7 +166,8 @@ named (own ∷ trees) k base zero tree there q less =
     let few : q < whole_places own = subst (λ t. q < whole_places t) (sym same) less in
     let at : base + 0 + q - base ≡ q = omega arith in
     let number : k ≡ k + 0 = omega arith in
-    if_less (base + 0 + q) (base + whole_places own) (k ∷ get_or (whole_addresses own) (base + 0 + q - base) [])
+    if_less (base + 0 + q) (base + whole_places own)
+    (k ∷ get_or (whole_addresses own) (base + 0 + q - base) [])
     (name_from trees (suc k) (base + whole_places own) (base + 0 + q)) (omega (arith, few))
     ∙ ap (λ n. k ∷ get_or (whole_addresses own) n []) at
     ∙ ap (λ t. k ∷ get_or (whole_addresses t) q []) same
@@ -282,7 +294,8 @@ same_before : (trees : List Tree) (k l x y : ℕ) → k ≡ l → x ≡ y
     → before trees k + x ≡ before trees l + y
 same_before trees k l x y e f = ap (λ n. before trees n + x) e ∙ ap (λ n. before trees l + n) f
 
-module _ (trees : List Tree) (regular : (k : ℕ) (tree : Tree) → HasTree trees k tree → IsRegular tree)
+module _ (trees : List Tree)
+    (regular : (k : ℕ) (tree : Tree) → HasTree trees k tree → IsRegular tree)
   where
     abbrev table : List (Place ℕ)
     table = patterns_table trees 0
@@ -296,7 +309,8 @@ module _ (trees : List Tree) (regular : (k : ℕ) (tree : Tree) → HasTree tree
     many_addresses : (number : ℕ) (tree : Tree) → HasTree trees number tree
         → length (whole_addresses tree) ≡ whole_places tree
     many_addresses number tree there =
-        sym (as_many (numbering_of 0 (whole_addresses tree)) (written_out tree) (whole_addresses tree)
+        sym
+        (as_many (numbering_of 0 (whole_addresses tree)) (written_out tree) (whole_addresses tree)
         (pattern_table tree 0) (pattern_is tree (regular number tree there) 0))
         ∙ length_pattern tree 0
 
@@ -321,7 +335,8 @@ module _ (trees : List Tree) (regular : (k : ℕ) (tree : Tree) → HasTree tree
     stored number tree there q place few at = record {
       alike = ap (option_map (renamed (λ b. number ∷ b))) is_at.0
           ∙ ap Some (renamed_twice (λ n. get_or all (n - base) []) (λ b. number ∷ b) place)
-          ∙ ap Some (renamed_alike Own (λ n. number ∷ get_or all (n - base) []) name_of_patterns same
+          ∙ ap Some
+          (renamed_alike Own (λ n. number ∷ get_or all (n - base) []) name_of_patterns same
           place is_at.1);
       inside = leads_below base (length table) place
           (leads_up base (base + length all) (length table) high place is_at.1);
@@ -340,11 +355,13 @@ module _ (trees : List Tree) (regular : (k : ℕ) (tree : Tree) → HasTree tree
         in_table = sym (placed trees 0 number tree there q few) ∙ at
 
         is_at : IsAt (numbering_of base all) (written_out tree) (get_or all q []) place
-        is_at = is_at_number (numbering_of base all) (written_out tree) all (pattern_table tree base)
+        is_at =
+            is_at_number (numbering_of base all) (written_out tree) all (pattern_table tree base)
             (pattern_is tree (regular number tree there) base) q place in_table
 
         high : base + length all ≤ length table
-        high = omega (arith, many, fits_in trees number tree there, many_addresses number tree there)
+        high =
+            omega (arith, many, fits_in trees number tree there, many_addresses number tree there)
 
         same : (n : ℕ) → Own n → number ∷ get_or all (n - base) [] ≡ name_of_patterns n
         same n inside =
@@ -404,7 +421,8 @@ module _ (trees : List Tree) (regular : (k : ℕ) (tree : Tree) → HasTree tree
             few : m.own < length (whole_addresses l.tree)
             few = omega (arith, m.few, ap whole_places tree, many_addresses l.number l.tree l.there)
 
-            addresses : get_or (whole_addresses l.tree) l.own [] ≡ get_or (whole_addresses l.tree) m.own []
+            addresses : get_or (whole_addresses l.tree) l.own []
+                ≡ get_or (whole_addresses l.tree) m.own []
             addresses = same_tail names
                 ∙ ap (λ t. get_or (whole_addresses t) m.own []) (sym tree)
 
@@ -424,8 +442,10 @@ module _ (trees : List Tree) (regular : (k : ℕ) (tree : Tree) → HasTree tree
             → (q : ℕ) × (q < length table) × (name_of_patterns q ≡ number ∷ a)
         in_tree number tree there a place e =
             let back = mapped_back (renamed (λ b. number ∷ b)) (written_out tree a) place e in
-            let (q, less, at) = number_of a (whole_addresses tree) (listed_whole tree a back.0 back.1) in
-            let few : q < whole_places tree = omega (arith, less, many_addresses number tree there) in (
+            let (q, less, at) =
+            number_of a (whole_addresses tree) (listed_whole tree a back.0 back.1) in
+            let few : q < whole_places tree =
+            omega (arith, less, many_addresses number tree there) in (
               before trees number + q,
               omega (arith, few, many, fits_in trees number tree there),
               name_at number tree there q few ∙ ap (λ b. number ∷ b) at,
@@ -480,7 +500,9 @@ module _ (trees : List Tree) (regular : (k : ℕ) (tree : Tree) → HasTree tree
             begins = pattern_start tree (regular number tree there) base
 
             high : base + length (whole_addresses tree) ≤ length table
-            high = omega (arith, many, fits_in trees number tree there, many_addresses number tree there)
+            high =
+                omega
+                (arith, many, fits_in trees number tree there, many_addresses number tree there)
 
             at : before trees number + (first - base) ≡ first
             at = omega (arith, begins.1.0)
@@ -496,7 +518,8 @@ module _ (trees : List Tree) (regular : (k : ℕ) (tree : Tree) → HasTree tree
         of_pattern number entry e (Some tree) there = (
           tree,
           there,
-          is_number number tree there entry (same_some (sym (entered trees 0 number tree there) ∙ e)),
+          is_number number tree there entry
+              (same_some (sym (entered trees 0 number tree there) ∙ e)),
         )
 
     -- and each is entered in a part of its own
@@ -530,7 +553,8 @@ module _ (trees : List Tree) (regular : (k : ℕ) (tree : Tree) → HasTree tree
         begins : Stands (numbering_of base all) (pattern_layout tree base).1 start_address
         begins = pattern_start tree (regular number tree there) base
 
-        only_entry : (k e : ℕ) → slice_get (entry ∷ []) k ≡ Some e → IsWithin base (whole_places tree) e
+        only_entry : (k e : ℕ) → slice_get (entry ∷ []) k ≡ Some e
+            → IsWithin base (whole_places tree) e
         only_entry zero e is =
             let same = first_is ∙ same_some is in
             (omega (arith, begins.1.0, same), omega (arith, begins.1.1, same, addresses))
@@ -545,7 +569,9 @@ module _ (trees : List Tree) (regular : (k : ℕ) (tree : Tree) → HasTree tree
             let own : before trees number + (q - base) ≡ q = omega (arith, above) in
             let few : q - base < whole_places tree = omega (arith, above, below) in
             let in_pattern : slice_get (pattern_table tree base) (q - base) ≡ Some place
-            = sym (placed trees 0 number tree there (q - base) few) ∙ ap (slice_get table) own ∙ is in
-            leads_up base (base + length all) (base + whole_places tree) (omega (arith, addresses)) place
+            =
+            sym (placed trees 0 number tree there (q - base) few) ∙ ap (slice_get table) own ∙ is in
+            leads_up base (base + length all) (base + whole_places tree)
+            (omega (arith, addresses)) place
             (is_at_number (numbering_of base all) (written_out tree) all (pattern_table tree base)
             (pattern_is tree (regular number tree there) base) (q - base) place in_pattern).1

@@ -1,5 +1,6 @@
 -- The choice of a loop, which is written over an empty place once its body is known.
-use Rattle.std.proofs.Common.{◌≡◌, ◌++◌, ◌∷◌, [], ℕ, ◌+◌, Bool, List, length, set, ap, ◌∙◌, append_assoc}
+use Rattle.std.proofs.Common.{◌≡◌, ◌++◌, ◌∷◌, [], ℕ, ◌+◌, Bool, List}
+use Rattle.std.proofs.Common.{length, set, ap, ◌∙◌, append_assoc}
 use Rattle.std.proofs.Math.Seq.{set-append_seam}
 use Rattle.regex_lite_engine.specs.Graph.Places.{Place, choice}
 use Rattle.regex_lite_engine.specs.Nfa.Layout.{Fragment, star_layout}
@@ -20,7 +21,8 @@ module _ (greedy : Bool) (body : ℕ → ℕ → Fragment) (old first whole last
       → last ≡ old ++ (star_layout greedy body base exit).0
   loop_written long at behind one enter inner over =
       over ∙ seam old whole inside n empty (choice greedy entry exit) (at ∙ long) cut
-      ∙ ap (λ k. old ++ (choice greedy k exit ∷ inside)) (enter ∙ ap (λ (part : Fragment). part.1) same)
+      ∙ ap (λ k. old ++ (choice greedy k exit ∷ inside))
+      (enter ∙ ap (λ (part : Fragment). part.1) same)
     where
       inside : List (Place ℕ)
       inside = (body (base + 1) base).0

@@ -1,13 +1,17 @@
 -- What a change of one cell changes.
-use Rattle.std.proofs.Common.{◌≡◌, ℕ, Bool, zero, suc, ◌+◌, ◌-◌, ◌*◌, ◌<◌, ◌≤◌, ◌⊎◌, List, [], ◌∷◌, ◌++◌, length, map, take, reverse, set, slice_index, slice_index_or, inl, inr, refl, sym, ap, ◌∙◌, arith}
+use Rattle.std.proofs.Common.{◌≡◌, ℕ, Bool, zero, suc, ◌+◌, ◌-◌, ◌*◌, ◌<◌, ◌≤◌, ◌⊎◌, List}
+use Rattle.std.proofs.Common.{[], ◌∷◌, ◌++◌, length, map, take, reverse, set, slice_index}
+use Rattle.std.proofs.Common.{slice_index_or, inl, inr, refl, sym, ap, ◌∙◌, arith}
 use Rattle.std.specs.List.{AllByRecursion}
 use Rattle.std.proofs.Math.Seq.{map-set_same}
-use Rattle.std.proofs.lemmas.List.{map-set, length-map, length-reverse, length-take-le, reverse-append, take_more, take_more_set}
+use Rattle.std.proofs.lemmas.List.{map-set, length-map, length-reverse, length-take-le}
+use Rattle.std.proofs.lemmas.List.{reverse-append, take_more, take_more_set}
 use Rattle.regex_lite_engine.specs.declared.pikevm.cell.Cell.{Cell}
 use Rattle.regex_lite_engine.specs.declared.pikevm.cell.Frame as code
 use Rattle.regex_lite_engine.specs.declared.pikevm.cell.Side.{Side}
 use Rattle.regex_lite_engine.specs.declared.pikevm.cell.Side.TheVariants.{First, Second}
-use Rattle.regex_lite_engine.specs.Walk.Cells.{round_in, frame_in, frames_in, other, place_on, start_on, with_thread, row_on}
+use Rattle.regex_lite_engine.specs.Walk.Cells.{round_in, frame_in, frames_in, other}
+use Rattle.regex_lite_engine.specs.Walk.Cells.{place_on, start_on, with_thread, row_on}
 use Rattle.regex_lite_engine.specs.Walk.Machine.{Row, Frame, Thread, State}
 
 -- a cell with a thread more
@@ -28,13 +32,15 @@ module _ {S : Type 0} (place : ℕ) (start : S) (x : Cell S) where
   own_start First = refl
   own_start Second = refl
 
-  pub other_place : (s t : Side) → t ≡ other s → place_on t (with_thread s place start x) ≡ place_on t x
+  pub other_place : (s t : Side) → t ≡ other s
+      → place_on t (with_thread s place start x) ≡ place_on t x
   other_place First First e = cc
   other_place First Second e = refl
   other_place Second First e = refl
   other_place Second Second e = cc
 
-  pub other_start : (s t : Side) → t ≡ other s → start_on t (with_thread s place start x) ≡ start_on t x
+  pub other_start : (s t : Side) → t ≡ other s
+      → start_on t (with_thread s place start x) ≡ start_on t x
   other_start First First e = cc
   other_start First Second e = refl
   other_start Second First e = refl
@@ -45,7 +51,8 @@ back First = refl
 back Second = refl
 
 -- the rows of threads
-pub row_apart : (s t : Side) (room j k : ℕ) → t ≡ other s → j < room → k < room → row_on t j ≡ row_on s k → ⊥
+pub row_apart : (s t : Side) (room j k : ℕ) → t ≡ other s → j < room → k < room
+    → row_on t j ≡ row_on s k → ⊥
 row_apart First First room j k e lt lt' same = cc
 row_apart First Second room j k e lt lt' same = omega (arith, lt, lt', same)
 row_apart Second First room j k e lt lt' same = omega (arith, lt, lt', same)
@@ -64,65 +71,101 @@ row_other First j k lt e = omega (arith, lt, e)
 row_other Second j k lt e = omega (arith, lt, e)
 
 -- what cannot tell the new cell from the old one
-pub not_told : {S X : Type 0} (f : Cell S → X) (cells : List (Cell S)) (i : ℕ) (x y : Cell S) → x ≡ slice_index_or cells i x → f y ≡ f x → map f (set cells i y) ≡ map f cells
+pub not_told : {S X : Type 0} (f : Cell S → X) (cells : List (Cell S)) (i : ℕ) (x y : Cell S)
+    → x ≡ slice_index_or cells i x → f y ≡ f x → map f (set cells i y) ≡ map f cells
 not_told f cells i x y is e = map-set_same f cells i y x (e ∙ ap f is)
 
-pub told_at : {S X : Type 0} (f : Cell S → X) (d : X) (cells : List (Cell S)) (k : ℕ) (x : Cell S) → k < length cells → x ≡ slice_index_or cells k x → slice_index_or (map f cells) k d ≡ f x
+pub told_at : {S X : Type 0} (f : Cell S → X) (d : X) (cells : List (Cell S)) (k : ℕ) (x : Cell S)
+    → k < length cells → x ≡ slice_index_or cells k x → slice_index_or (map f cells) k d ≡ f x
 told_at f d [] k x lt is = absurd (omega (arith, lt))
 told_at f d (y ∷ cells) zero x lt is = ap f (sym is)
 told_at f d (y ∷ cells) (suc k) x lt is = told_at f d cells k x (omega (arith, lt)) is
 
 -- the frames
-pub frame_put : {S : Type 0} (cells : List (Cell S)) (depth : ℕ) (y : Cell S) → depth < length cells → frames_in (set cells depth y) (depth + 1) ≡ frame_in y ∷ frames_in cells depth
+pub frame_put : {S : Type 0} (cells : List (Cell S)) (depth : ℕ) (y : Cell S) → depth < length cells
+    → frames_in (set cells depth y) (depth + 1) ≡ frame_in y ∷ frames_in cells depth
 frame_put cells depth y fits =
     ap (λ fs. reverse (take (depth + 1) fs)) (map-set frame_in cells depth y)
-    ∙ ap reverse (take_more_set (map frame_in cells) depth (frame_in y) (omega (arith, fits, length-map cells frame_in)))
+    ∙ ap reverse (take_more_set (map frame_in cells) depth (frame_in y)
+    (omega (arith, fits, length-map cells frame_in)))
     ∙ reverse-append (take depth (map frame_in cells)) (frame_in y ∷ [])
 
-pub frame_taken : {S : Type 0} (cells : List (Cell S)) (depth : ℕ) (x : Cell S) → 0 < depth → depth ≤ length cells → x ≡ slice_index_or cells (depth - 1) x → frames_in cells depth ≡ frame_in x ∷ frames_in cells (depth - 1)
+pub frame_taken : {S : Type 0} (cells : List (Cell S)) (depth : ℕ) (x : Cell S) → 0 < depth
+    → depth ≤ length cells → x ≡ slice_index_or cells (depth - 1) x
+    → frames_in cells depth ≡ frame_in x ∷ frames_in cells (depth - 1)
 frame_taken cells depth x some fits is =
-    let last : depth ≡ depth - 1 + 1 = omega (arith, some) in let lt : depth - 1 < length cells = omega (arith, some, fits) in
+    let last : depth ≡ depth - 1 + 1 = omega (arith, some) in
+    let lt : depth - 1 < length cells = omega (arith, some, fits) in
     ap (λ n. reverse (take n (map frame_in cells))) last
-    ∙ ap reverse (take_more (map frame_in cells) (depth - 1) (frame_in x) (omega (arith, lt, length-map cells frame_in)))
-    ∙ ap (λ f. reverse (take (depth - 1) (map frame_in cells) ++ f ∷ [])) (told_at frame_in (frame_in x) cells (depth - 1) x lt is)
+    ∙ ap reverse (take_more (map frame_in cells) (depth - 1) (frame_in x)
+    (omega (arith, lt, length-map cells frame_in)))
+    ∙ ap (λ f. reverse (take (depth - 1) (map frame_in cells) ++ f ∷ []))
+    (told_at frame_in (frame_in x) cells (depth - 1) x lt is)
     ∙ reverse-append (take (depth - 1) (map frame_in cells)) (frame_in x ∷ [])
 
-pub frames_long : {S : Type 0} (cells : List (Cell S)) (depth : ℕ) → depth ≤ length cells → length (frames_in cells depth) ≡ depth
-frames_long cells depth le = length-reverse (take depth (map frame_in cells)) ∙ length-take-le depth (map frame_in cells) (omega (arith, le, length-map cells frame_in))
+pub frames_long : {S : Type 0} (cells : List (Cell S)) (depth : ℕ) → depth ≤ length cells
+    → length (frames_in cells depth) ≡ depth
+frames_long cells depth le =
+    length-reverse (take depth (map frame_in cells))
+    ∙ length-take-le depth (map frame_in cells) (omega (arith, le, length-map cells frame_in))
 
 abbrev state : List ℕ → ℕ → List Frame → Row → List Thread → List Thread → ℕ → Bool → State
-state rounds now frames row threads next room ready = record { rounds = rounds; now = now; frames = frames; row = row; threads = threads; next = next; room = room; ready = ready }
+state rounds now frames row threads next room ready = record {
+  rounds = rounds;
+  now = now;
+  frames = frames;
+  row = row;
+  threads = threads;
+  next = next;
+  room = room;
+  ready = ready;
+}
 
 -- states with the same parts
-pub state_is : (a b : State) → a.rounds ≡ b.rounds → a.now ≡ b.now → a.frames ≡ b.frames → a.row ≡ b.row → a.threads ≡ b.threads → a.next ≡ b.next → a.room ≡ b.room → a.ready ≡ b.ready → a ≡ b
+pub state_is : (a b : State) → a.rounds ≡ b.rounds → a.now ≡ b.now → a.frames ≡ b.frames
+    → a.row ≡ b.row → a.threads ≡ b.threads → a.next ≡ b.next → a.room ≡ b.room
+    → a.ready ≡ b.ready → a ≡ b
 state_is a b rounds now frames row threads next room ready =
-    ap (λ z. state z a.now a.frames a.row a.threads a.next a.room a.ready) rounds ∙ ap (λ z. state b.rounds z a.frames a.row a.threads a.next a.room a.ready) now
-    ∙ ap (λ z. state b.rounds b.now z a.row a.threads a.next a.room a.ready) frames ∙ ap (λ z. state b.rounds b.now b.frames z a.threads a.next a.room a.ready) row
-    ∙ ap (λ z. state b.rounds b.now b.frames b.row z a.next a.room a.ready) threads ∙ ap (λ z. state b.rounds b.now b.frames b.row b.threads z a.room a.ready) next
-    ∙ ap (λ z. state b.rounds b.now b.frames b.row b.threads b.next z a.ready) room ∙ ap (λ z. state b.rounds b.now b.frames b.row b.threads b.next b.room z) ready
+    ap (λ z. state z a.now a.frames a.row a.threads a.next a.room a.ready) rounds
+    ∙ ap (λ z. state b.rounds z a.frames a.row a.threads a.next a.room a.ready) now
+    ∙ ap (λ z. state b.rounds b.now z a.row a.threads a.next a.room a.ready) frames
+    ∙ ap (λ z. state b.rounds b.now b.frames z a.threads a.next a.room a.ready) row
+    ∙ ap (λ z. state b.rounds b.now b.frames b.row z a.next a.room a.ready) threads
+    ∙ ap (λ z. state b.rounds b.now b.frames b.row b.threads z a.room a.ready) next
+    ∙ ap (λ z. state b.rounds b.now b.frames b.row b.threads b.next z a.ready) room
+    ∙ ap (λ z. state b.rounds b.now b.frames b.row b.threads b.next b.room z) ready
 
 -- what a cell without threads of its own change keeps of its threads
-pub with_round : {S : Type 0} (s : Side) (x : Cell S) (round : ℕ) → (place_on s (record x { entered = round }) ≡ place_on s x) × (start_on s (record x { entered = round }) ≡ start_on s x)
+pub with_round : {S : Type 0} (s : Side) (x : Cell S) (round : ℕ)
+    → (place_on s (record x { entered = round }) ≡ place_on s x)
+    × (start_on s (record x { entered = round }) ≡ start_on s x)
 with_round First x round = (refl, refl)
 with_round Second x round = (refl, refl)
 
-pub with_frame : {S : Type 0} (s : Side) (x : Cell S) (frame : code.Frame) → (place_on s (record x { frame = frame }) ≡ place_on s x) × (start_on s (record x { frame = frame }) ≡ start_on s x)
+pub with_frame : {S : Type 0} (s : Side) (x : Cell S) (frame : code.Frame)
+    → (place_on s (record x { frame = frame }) ≡ place_on s x)
+    × (start_on s (record x { frame = frame }) ≡ start_on s x)
 with_frame First x frame = (refl, refl)
 with_frame Second x frame = (refl, refl)
 
 -- cells that were cloned from one of which nothing is known
-pub clones_blank : {S : Type 0} (More : Cell S → Type 0) (x : Cell S) → x.entered ≡ 0 → (cells : List (Cell S)) → AllByRecursion (λ y. (y ≡ x) ⊎ ((y.entered ≡ x.entered) × More y)) cells →
+pub clones_blank : {S : Type 0} (More : Cell S → Type 0) (x : Cell S) → x.entered ≡ 0
+    → (cells : List (Cell S))
+    → AllByRecursion (λ y. (y ≡ x) ⊎ ((y.entered ≡ x.entered) × More y)) cells →
     (q : ℕ) → slice_index (map round_in cells) q ≤ 0
 clones_blank More x e [] all q = omega arith
-clones_blank More x e (y ∷ cells) (inl is, all) zero = let round = ap (λ (z : Cell _). z.entered) is in omega (arith, round, e)
+clones_blank More x e (y ∷ cells) (inl is, all) zero =
+    let round = ap (λ (z : Cell _). z.entered) is in omega (arith, round, e)
 clones_blank More x e (y ∷ cells) (inr (round, more), all) zero = omega (arith, round, e)
 clones_blank More x e (y ∷ cells) (first, all) (suc q) = clones_blank More x e cells all q
 
 -- one more cell whose place was not entered
-pub cleared_more : {S : Type 0} (cells : List (Cell S)) (k : ℕ) (x : Cell S) → x.entered ≡ 0 → ((q : ℕ) → q < k → slice_index (map round_in cells) q ≤ 0) →
+pub cleared_more : {S : Type 0} (cells : List (Cell S)) (k : ℕ) (x : Cell S) → x.entered ≡ 0
+    → ((q : ℕ) → q < k → slice_index (map round_in cells) q ≤ 0) →
     (q : ℕ) → q < k + 1 → slice_index (map round_in (set cells k x)) q ≤ 0
 cleared_more [] k x e cleared q lt = omega arith
 cleared_more (y ∷ cells) zero x e cleared zero lt = omega (arith, e)
 cleared_more (y ∷ cells) zero x e cleared (suc q) lt = absurd (omega (arith, lt))
 cleared_more (y ∷ cells) (suc k) x e cleared zero lt = cleared zero (omega arith)
-cleared_more (y ∷ cells) (suc k) x e cleared (suc q) lt = cleared_more cells k x e (λ r low. cleared (suc r) (omega (arith, low))) q (omega (arith, lt))
+cleared_more (y ∷ cells) (suc k) x e cleared (suc q) lt =
+    cleared_more cells k x e (λ r low. cleared (suc r) (omega (arith, low))) q (omega (arith, lt))

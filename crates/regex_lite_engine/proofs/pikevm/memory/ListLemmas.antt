@@ -1,89 +1,153 @@
 -- What a change of cells and rows changes of the lists of threads.
-use Rattle.std.proofs.Common.{◌≡◌, ℕ, ◌+◌, ◌*◌, ◌<◌, ◌≤◌, List, [], ◌∷◌, ◌++◌, length, map, set, slice_index, slice_index_or, sym, ap, ◌∙◌, arith}
+use Rattle.std.proofs.Common.{◌≡◌, ℕ, ◌+◌, ◌*◌, ◌<◌, ◌≤◌, List, [], ◌∷◌, ◌++◌, length}
+use Rattle.std.proofs.Common.{map, set, slice_index, slice_index_or, sym, ap, ◌∙◌, arith}
 use Rattle.std.proofs.lemmas.List.{map-set, get_or-set_same, get_or-set_other, length-map}
-use Rattle.std.proofs.lemmas.List.FromFn.{get_or-map-range_with_len, length-map-range_with_len, map-range_with_len_more}
+use Rattle.std.proofs.lemmas.List.FromFn.{get_or-map-range_with_len}
+use Rattle.std.proofs.lemmas.List.FromFn.{length-map-range_with_len, map-range_with_len_more}
 use Rattle.regex_lite_engine.specs.Walk.Beginnings.{Told, untold}
 use Rattle.regex_lite_engine.specs.declared.pikevm.cell.Cell.{Cell}
 use Rattle.regex_lite_engine.specs.declared.pikevm.cell.Side.{Side}
-use Rattle.regex_lite_engine.specs.Walk.Cells.{round_in, frame_in, other, place_on, start_on, start_told, with_thread, row_on, nth_row, thread_on, threads_on}
+use Rattle.regex_lite_engine.specs.Walk.Cells.{round_in, frame_in, other, place_on}
+use Rattle.regex_lite_engine.specs.Walk.Cells.{start_on, start_told, with_thread}
+use Rattle.regex_lite_engine.specs.Walk.Cells.{row_on, nth_row, thread_on, threads_on}
 use Rattle.regex_lite_engine.specs.Walk.Machine.{Row, Thread, thread_at}
-use Rattle.regex_lite_engine.proofs.pikevm.memory.CellLemmas.{own_place, own_start, other_place, other_start, row_apart, row_other, row_fits, row_behind_first, not_told, same_round, same_frame}
+use Rattle.regex_lite_engine.proofs.pikevm.memory.CellLemmas.{own_place, own_start, other_place}
+use Rattle.regex_lite_engine.proofs.pikevm.memory.CellLemmas.{other_start, row_apart, row_other}
+use Rattle.regex_lite_engine.proofs.pikevm.memory.CellLemmas.{row_fits, row_behind_first}
+use Rattle.regex_lite_engine.proofs.pikevm.memory.CellLemmas.{not_told, same_round, same_frame}
 use Rattle.regex_lite_engine.proofs.pikevm.rows.RowLemmas.{listed_alike}
 
-pub threads_long : {S : Type 0} (told : S → Told) (s : Side) (cells : List (Cell S)) (rows : List Row) (room n : ℕ) → length (threads_on told s cells rows room n) ≡ n
-threads_long told s cells rows room n = length-map-range_with_len (thread_on told s cells rows room) 0 n
+pub threads_long : {S : Type 0} (told : S → Told) (s : Side) (cells : List (Cell S))
+    (rows : List Row) (room n : ℕ)
+    → length (threads_on told s cells rows room n) ≡ n
+threads_long told s cells rows room n =
+    length-map-range_with_len (thread_on told s cells rows room) 0 n
 
-pub thread_is : {S : Type 0} (told : S → Told) (s : Side) (cells : List (Cell S)) (rows : List Row) (room n k : ℕ) → k < n → thread_at (threads_on told s cells rows room n) k ≡ thread_on told s cells rows room k
-thread_is told s cells rows room n k lt = get_or-map-range_with_len (thread_on told s cells rows room) 0 n k k (0, untold, []) lt (omega arith)
+pub thread_is : {S : Type 0} (told : S → Told) (s : Side) (cells : List (Cell S)) (rows : List Row)
+    (room n k : ℕ)
+    → k < n → thread_at (threads_on told s cells rows room n) k ≡ thread_on told s cells rows room k
+thread_is told s cells rows room n k lt =
+    get_or-map-range_with_len (thread_on told s cells rows room) 0 n k k (0, untold, []) lt
+    (omega arith)
 
 -- cells that a list cannot tell from one another
-pub cells_alike : {S : Type 0} (told : S → Told) (s : Side) (cells cells' : List (Cell S)) (rows : List Row) (room n : ℕ) → map (place_on s) cells' ≡ map (place_on s) cells → map (start_told told s) cells' ≡ map (start_told told s) cells →
+pub cells_alike : {S : Type 0} (told : S → Told) (s : Side) (cells cells' : List (Cell S))
+    (rows : List Row) (room n : ℕ)
+    → map (place_on s) cells' ≡ map (place_on s) cells
+    → map (start_told told s) cells' ≡ map (start_told told s) cells →
     threads_on told s cells' rows room n ≡ threads_on told s cells rows room n
 cells_alike told s cells cells' rows room n ep es =
     listed_alike (thread_on told s cells' rows room) (thread_on told s cells rows room) 0 n
-    (λ k low lt. (let a = ap (λ ps. slice_index ps k) ep in let b = ap (λ ss. slice_index_or ss k untold) es in cc))
+    (λ k low lt. (let a = ap (λ ps. slice_index ps k) ep in
+    let b = ap (λ ss. slice_index_or ss k untold) es in cc))
 
 -- the row of the way that is followed belongs to no thread
-pub first_row_alone : {S : Type 0} (told : S → Told) (s : Side) (cells : List (Cell S)) (rows : List Row) (room n : ℕ) (row : Row) → threads_on told s cells (set rows 0 row) room n ≡ threads_on told s cells rows room n
+pub first_row_alone : {S : Type 0} (told : S → Told) (s : Side) (cells : List (Cell S))
+    (rows : List Row) (room n : ℕ) (row : Row)
+    → threads_on told s cells (set rows 0 row) room n ≡ threads_on told s cells rows room n
 first_row_alone told s cells rows room n row =
-    listed_alike (thread_on told s cells (set rows 0 row) room) (thread_on told s cells rows room) 0 n
-    (λ k low lt. (let a : nth_row (set rows 0 row) (row_on s k) ≡ nth_row rows (row_on s k) = get_or-set_other rows 0 (row_on s k) row [] (row_behind_first s room k) in cc))
+    listed_alike (thread_on told s cells (set rows 0 row) room)
+    (thread_on told s cells rows room) 0 n
+    (λ k low lt. (let a : nth_row (set rows 0 row) (row_on s k) ≡ nth_row rows (row_on s k) =
+    get_or-set_other rows 0 (row_on s k) row [] (row_behind_first s room k) in cc))
 
-module _ {S : Type 0} (told : S → Told) (s : Side) (cells : List (Cell S)) (rows : List Row) (room n place : ℕ) (start : S) (x : Cell S) (row : Row) (is : x ≡ slice_index_or cells n x)
+module _ {S : Type 0} (told : S → Told) (s : Side) (cells : List (Cell S)) (rows : List Row)
+    (room n place : ℕ) (start : S) (x : Cell S) (row : Row) (is : x ≡ slice_index_or cells n x)
     (lt : n < room) (fits : n < length cells) (all : length rows ≡ 2 * room + 1) where
   -- the list has a thread more
-  pub thread_added : threads_on told s (set cells n (with_thread s place start x)) (set rows (row_on s n) row) room (n + 1) ≡ threads_on told s cells rows room n ++ (place, told start, row) ∷ []
+  pub thread_added : threads_on told s (set cells n (with_thread s place start x))
+      (set rows (row_on s n) row) room (n + 1)
+      ≡ threads_on told s cells rows room n ++ (place, told start, row) ∷ []
   thread_added =
       let c2 = set cells n (with_thread s place start x) in let r2 = set rows (row_on s n) row in
       let last : thread_on told s c2 r2 room n ≡ (place, told start, row) = (
-      let p : slice_index (map (place_on s) c2) n ≡ place = ap (λ ps. slice_index ps n) (map-set (place_on s) cells n (with_thread s place start x))
-      ∙ get_or-set_same (map (place_on s) cells) n (place_on s (with_thread s place start x)) 0 (omega (arith, fits, length-map cells (place_on s))) ∙ own_place place start x s in
-      let t : slice_index_or (map (start_told told s) c2) n untold ≡ told start = ap (λ ps. slice_index_or ps n untold) (map-set (start_told told s) cells n (with_thread s place start x))
-      ∙ get_or-set_same (map (start_told told s) cells) n (start_told told s (with_thread s place start x)) untold (omega (arith, fits, length-map cells (start_told told s))) ∙ ap told (own_start place start x s) in
-      let r : nth_row r2 (row_on s n) ≡ row = get_or-set_same rows (row_on s n) row [] (omega (arith, row_fits s room n lt, all)) in
+      let p : slice_index (map (place_on s) c2) n ≡ place =
+      ap (λ ps. slice_index ps n) (map-set (place_on s) cells n (with_thread s place start x))
+      ∙ get_or-set_same (map (place_on s) cells) n (place_on s (with_thread s place start x)) 0
+      (omega (arith, fits, length-map cells (place_on s)))
+      ∙ own_place place start x s in
+      let t : slice_index_or (map (start_told told s) c2) n untold ≡ told start =
+      ap (λ ps. slice_index_or ps n untold)
+      (map-set (start_told told s) cells n (with_thread s place start x))
+      ∙ get_or-set_same (map (start_told told s) cells) n
+      (start_told told s (with_thread s place start x)) untold
+      (omega (arith, fits, length-map cells (start_told told s)))
+      ∙ ap told (own_start place start x s) in
+      let r : nth_row r2 (row_on s n) ≡ row =
+      get_or-set_same rows (row_on s n) row [] (omega (arith, row_fits s room n lt, all)) in
       cc
       ) in
       map-range_with_len_more (thread_on told s c2 r2 room) 0 n n (omega arith)
       ∙ ap (λ t. threads_on told s c2 r2 room n ++ t ∷ []) last
-      ∙ ap (λ ts. ts ++ (place, told start, row) ∷ []) (listed_alike (thread_on told s c2 r2 room) (thread_on told s cells rows room) 0 n (λ k low below. earlier k (omega (arith, below))))
+      ∙ ap (λ ts. ts ++ (place, told start, row) ∷ []) (listed_alike (thread_on told s c2 r2 room)
+      (thread_on told s cells rows room) 0 n (λ k low below. earlier k (omega (arith, below))))
     where
-      earlier : (k : ℕ) → k < n → thread_on told s (set cells n (with_thread s place start x)) (set rows (row_on s n) row) room k ≡ thread_on told s cells rows room k
+      earlier : (k : ℕ) → k < n
+          → thread_on told s (set cells n (with_thread s place start x))
+          (set rows (row_on s n) row) room k
+          ≡ thread_on told s cells rows room k
       earlier k below =
-          let p : slice_index (map (place_on s) (set cells n (with_thread s place start x))) k ≡ slice_index (map (place_on s) cells) k = ap (λ ps. slice_index ps k) (map-set (place_on s) cells n (with_thread s place start x))
-          ∙ get_or-set_other (map (place_on s) cells) n k (place_on s (with_thread s place start x)) 0 (λ e. omega (arith, e, below)) in
-          let t : slice_index_or (map (start_told told s) (set cells n (with_thread s place start x))) k untold ≡ slice_index_or (map (start_told told s) cells) k untold = ap (λ ps. slice_index_or ps k untold) (map-set (start_told told s) cells n (with_thread s place start x))
-          ∙ get_or-set_other (map (start_told told s) cells) n k (start_told told s (with_thread s place start x)) untold (λ e. omega (arith, e, below)) in
-          let r : nth_row (set rows (row_on s n) row) (row_on s k) ≡ nth_row rows (row_on s k) = get_or-set_other rows (row_on s n) (row_on s k) row [] (row_other s k n below) in
+          let p : slice_index (map (place_on s) (set cells n (with_thread s place start x))) k
+          ≡ slice_index (map (place_on s) cells) k =
+          ap (λ ps. slice_index ps k) (map-set (place_on s) cells n (with_thread s place start x))
+          ∙ get_or-set_other (map (place_on s) cells) n k
+          (place_on s (with_thread s place start x)) 0 (λ e. omega (arith, e, below)) in
+          let t : slice_index_or
+          (map (start_told told s) (set cells n (with_thread s place start x))) k untold
+          ≡ slice_index_or (map (start_told told s) cells) k untold =
+          ap (λ ps. slice_index_or ps k untold)
+          (map-set (start_told told s) cells n (with_thread s place start x))
+          ∙ get_or-set_other (map (start_told told s) cells) n k
+          (start_told told s (with_thread s place start x)) untold (λ e. omega (arith, e, below)) in
+          let r : nth_row (set rows (row_on s n) row) (row_on s k) ≡ nth_row rows (row_on s k) =
+          get_or-set_other rows (row_on s n) (row_on s k) row [] (row_other s k n below) in
           cc
 
   -- and the other has the same
-  pub others_kept : (t : Side) (m : ℕ) → t ≡ other s → m ≤ room → threads_on told t (set cells n (with_thread s place start x)) (set rows (row_on s n) row) room m ≡ threads_on told t cells rows room m
+  pub others_kept : (t : Side) (m : ℕ) → t ≡ other s → m ≤ room
+      → threads_on told t (set cells n (with_thread s place start x))
+      (set rows (row_on s n) row) room m
+      ≡ threads_on told t cells rows room m
   others_kept t m e le =
       let c2 = set cells n (with_thread s place start x) in
       cells_alike told t cells c2 (set rows (row_on s n) row) room m
-      (not_told (place_on t) cells n x (with_thread s place start x) is (other_place place start x s t e))
-      (not_told (start_told told t) cells n x (with_thread s place start x) is (ap told (other_start place start x s t e)))
-      ∙ listed_alike (thread_on told t cells (set rows (row_on s n) row) room) (thread_on told t cells rows room) 0 m
+      (not_told (place_on t) cells n x (with_thread s place start x) is
+      (other_place place start x s t e))
+      (not_told (start_told told t) cells n x (with_thread s place start x) is
+      (ap told (other_start place start x s t e)))
+      ∙ listed_alike (thread_on told t cells (set rows (row_on s n) row) room)
+      (thread_on told t cells rows room) 0 m
       (λ k low below. (
       let r : nth_row (set rows (row_on s n) row) (row_on t k) ≡ nth_row rows (row_on t k) =
-      get_or-set_other rows (row_on s n) (row_on t k) row [] (row_apart s t room k n e (omega (arith, below, le)) lt) in
+      get_or-set_other rows (row_on s n) (row_on t k) row []
+      (row_apart s t room k n e (omega (arith, below, le)) lt) in
       cc
       ))
 
 -- a thread with its parts
-pub thread_told : {S : Type 0} (told : S → Told) (a : ℕ) (b : Told) (p : ℕ) (s : S) (row row' : Row) (is : ℕ × S) → a ≡ p → b ≡ told s → is ≡ (p, s) → row' ≡ row → ◌≡◌ {A = Thread} (a, b, row) (is.0, told is.1, row')
+pub thread_told : {S : Type 0} (told : S → Told) (a : ℕ) (b : Told) (p : ℕ) (s : S) (row row' : Row)
+    (is : ℕ × S)
+    → a ≡ p → b ≡ told s → is ≡ (p, s) → row' ≡ row
+    → ◌≡◌ {A = Thread} (a, b, row) (is.0, told is.1, row')
 thread_told told a b p s row row' is ea eb et er = cc
 
 -- a cell in which the threads are as they were
-pub threads_kept : {S : Type 0} (told : S → Told) (s : Side) (cells : List (Cell S)) (rows : List Row) (room n i : ℕ) (x y : Cell S) → x ≡ slice_index_or cells i x → (place_on s y ≡ place_on s x) × (start_on s y ≡ start_on s x) →
+pub threads_kept : {S : Type 0} (told : S → Told) (s : Side) (cells : List (Cell S))
+    (rows : List Row) (room n i : ℕ) (x y : Cell S)
+    → x ≡ slice_index_or cells i x → (place_on s y ≡ place_on s x) × (start_on s y ≡ start_on s x) →
     threads_on told s (set cells i y) rows room n ≡ threads_on told s cells rows room n
 threads_kept told s cells rows room n i x y is same =
-    cells_alike told s cells (set cells i y) rows room n (not_told (place_on s) cells i x y is same.0) (not_told (start_told told s) cells i x y is (ap told same.1))
+    cells_alike told s cells (set cells i y) rows room n
+    (not_told (place_on s) cells i x y is same.0)
+    (not_told (start_told told s) cells i x y is (ap told same.1))
 
 -- a thread is added to the list s
-module _ {S : Type 0} (told : S → Told) (s t : Side) (apart : t ≡ other s) (cells : List (Cell S)) (rows rows' : List Row) (room n m place : ℕ) (start : S) (x y : Cell S) (row : Row)
-    (is : x ≡ slice_index_or cells n x) (written : y ≡ with_thread s place start x) (copied : rows' ≡ set rows (row_on s n) row)
-    (lt : n < room) (le : m ≤ room) (fits : n < length cells) (all : length rows ≡ 2 * room + 1) where
+module _ {S : Type 0} (told : S → Told) (s t : Side) (apart : t ≡ other s) (cells : List (Cell S))
+    (rows rows' : List Row) (room n m place : ℕ) (start : S) (x y : Cell S) (row : Row)
+    (is : x ≡ slice_index_or cells n x) (written : y ≡ with_thread s place start x)
+    (copied : rows' ≡ set rows (row_on s n) row)
+    (lt : n < room) (le : m ≤ room) (fits : n < length cells)
+    (all : length rows ≡ 2 * room + 1) where
   pub rounds_stay : map round_in (set cells n y) ≡ map round_in cells
   rounds_stay = not_told round_in cells n x y is (ap round_in written ∙ same_round place start x s)
 
@@ -91,14 +155,21 @@ module _ {S : Type 0} (told : S → Told) (s t : Side) (apart : t ≡ other s) (
   frames_stay = not_told frame_in cells n x y is (ap frame_in written ∙ same_frame place start x s)
 
   pub row_stays : nth_row rows' 0 ≡ nth_row rows 0
-  row_stays = ap (λ z. nth_row z 0) copied ∙ get_or-set_other rows (row_on s n) 0 row [] (λ e. row_behind_first s room n (sym e))
+  row_stays =
+      ap (λ z. nth_row z 0) copied
+      ∙ get_or-set_other rows (row_on s n) 0 row [] (λ e. row_behind_first s room n (sym e))
 
-  pub own_list : threads_on told s (set cells n y) rows' room (n + 1) ≡ threads_on told s cells rows room n ++ (place, told start, row) ∷ []
+  pub own_list : threads_on told s (set cells n y) rows' room (n + 1)
+      ≡ threads_on told s cells rows room n ++ (place, told start, row) ∷ []
   own_list =
-      ap (λ z. threads_on told s (set cells n z) rows' room (n + 1)) written ∙ ap (λ z. threads_on told s (set cells n (with_thread s place start x)) z room (n + 1)) copied
+      ap (λ z. threads_on told s (set cells n z) rows' room (n + 1)) written
+      ∙ ap (λ z. threads_on told s (set cells n (with_thread s place start x)) z room (n + 1))
+      copied
       ∙ thread_added told s cells rows room n place start x row is lt fits all
 
-  pub other_list : threads_on told t (set cells n y) rows' room m ≡ threads_on told t cells rows room m
+  pub other_list : threads_on told t (set cells n y) rows' room m
+      ≡ threads_on told t cells rows room m
   other_list =
-      ap (λ z. threads_on told t (set cells n z) rows' room m) written ∙ ap (λ z. threads_on told t (set cells n (with_thread s place start x)) z room m) copied
+      ap (λ z. threads_on told t (set cells n z) rows' room m) written
+      ∙ ap (λ z. threads_on told t (set cells n (with_thread s place start x)) z room m) copied
       ∙ others_kept told s cells rows room n place start x row is lt fits all t m apart le

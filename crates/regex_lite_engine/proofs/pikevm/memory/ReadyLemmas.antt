@@ -1,17 +1,24 @@
 -- What stays where more cells are made ready.
-use Rattle.std.proofs.Common.{◌≡◌, ℕ, Bool, zero, suc, ◌+◌, ◌-◌, ◌≤◌, ◌<◌, List, [], ◌∷◌, ◌++◌, length, map, take, reverse, replicate, set, slice_index, slice_index_or, refl, sym, ap, ◌∙◌, arith, length-append, length-set}
-use Rattle.std.proofs.lemmas.List.{get_or-append_right, get_or-take, length-map, length-replicate, length-take, map-set, set-append_right, take-take}
+use Rattle.std.proofs.Common.{◌≡◌, ℕ, Bool, zero, suc, ◌+◌, ◌-◌, ◌≤◌, ◌<◌, List, [], ◌∷◌, ◌++◌}
+use Rattle.std.proofs.Common.{length, map, take, reverse, replicate, set, slice_index}
+use Rattle.std.proofs.Common.{slice_index_or, refl, sym, ap, ◌∙◌, arith, length-append, length-set}
+use Rattle.std.proofs.lemmas.List.{get_or-append_right, get_or-take, length-map, length-replicate}
+use Rattle.std.proofs.lemmas.List.{length-take, map-set, set-append_right, take-take}
 use Rattle.regex_lite_engine.specs.declared.pikevm.cell.Cell.{Cell}
 use Rattle.regex_lite_engine.specs.declared.pikevm.cell.Side.{Side}
 use Rattle.regex_lite_engine.specs.declared.pikevm.cell.Side.TheVariants.{First, Second}
 use Rattle.regex_lite_engine.specs.Walk.Beginnings.{Told, untold}
-use Rattle.regex_lite_engine.specs.Walk.Cells.{round_in, frame_in, frames_in, place_on, start_on, start_told, thread_on, threads_on, without_round, rounds_in, HoldTogether, MakesReady}
+use Rattle.regex_lite_engine.specs.Walk.Cells.{round_in, frame_in, frames_in, place_on, start_on}
+use Rattle.regex_lite_engine.specs.Walk.Cells.{start_told, thread_on, threads_on, without_round}
+use Rattle.regex_lite_engine.specs.Walk.Cells.{rounds_in, HoldTogether, MakesReady}
 use Rattle.regex_lite_engine.specs.Walk.Machine.{Row}
 use Rattle.regex_lite_engine.proofs.pikevm.memory.CellLemmas.{told_at}
 use Rattle.regex_lite_engine.proofs.pikevm.rows.RowLemmas.{listed_alike}
 
 -- what does not tell rounds
-alike : {S X : Type 0} (f : Cell S → X) → ((x : Cell S) → f (without_round x) ≡ f x) → (cells cells' : List (Cell S)) → take (length cells) (map without_round cells') ≡ map without_round cells →
+alike : {S X : Type 0} (f : Cell S → X) → ((x : Cell S) → f (without_round x) ≡ f x)
+    → (cells cells' : List (Cell S))
+    → take (length cells) (map without_round cells') ≡ map without_round cells →
     take (length cells) (map f cells') ≡ map f cells
 alike f same [] cells' kept = refl
 alike f same (x ∷ cells) [] kept = cc
@@ -30,7 +37,8 @@ start_alike : {S : Type 0} (s : Side) (x : Cell S) → start_on s (without_round
 start_alike First x = refl
 start_alike Second x = refl
 
-module _ {S : Type 0} (low low' : ℕ) (cells cells' : List (Cell S)) (made : MakesReady low cells low' cells') where
+module _ {S : Type 0} (low low' : ℕ) (cells cells' : List (Cell S))
+    (made : MakesReady low cells low' cells') where
   pub places_stay : low' + length cells' ≡ low + length cells
   places_stay =
       let all = ap length made.rounds in
@@ -48,10 +56,19 @@ module _ {S : Type 0} (low low' : ℕ) (cells cells' : List (Cell S)) (made : Ma
   pub more_ready : length cells ≤ length cells'
   more_ready =
       let few = ap length made.kept in
-      omega (arith, few, length-take (length cells) (map without_round cells'), length-map cells without_round, length-map cells' without_round)
+      omega (
+        arith,
+        few,
+        length-take (length cells) (map without_round cells'),
+        length-map cells without_round,
+        length-map cells' without_round,
+      )
 
-  pub still_together : (capacity capacity' : ℕ) (ready : Bool) (rows : List Row) (room depth len next_len : ℕ) → capacity ≤ capacity' →
-      HoldTogether cells capacity low ready rows room depth len next_len → HoldTogether cells' capacity' low' ready rows room depth len next_len
+  pub still_together : (capacity capacity' : ℕ) (ready : Bool) (rows : List Row)
+      (room depth len next_len : ℕ)
+      → capacity ≤ capacity' →
+      HoldTogether cells capacity low ready rows room depth len next_len
+      → HoldTogether cells' capacity' low' ready rows room depth len next_len
   still_together capacity capacity' ready rows room depth len next_len le fit = record {
     all_ready = λ all. omega (arith, fit.all_ready all, places_stay, more_ready);
     cells_fit = omega (arith, le, places_stay, fit.cells_fit);
@@ -64,55 +81,81 @@ module _ {S : Type 0} (low low' : ℕ) (cells cells' : List (Cell S)) (made : Ma
     rows_fit = fit.rows_fit;
   }
 
-  pub frames_stay : (depth : ℕ) → depth ≤ length cells → frames_in cells' depth ≡ frames_in cells depth
+  pub frames_stay : (depth : ℕ) → depth ≤ length cells
+      → frames_in cells' depth ≡ frames_in cells depth
   frames_stay depth le =
-      ap reverse (sym (take-take depth (length cells) (map frame_in cells') le) ∙ ap (take depth) (alike frame_in (λ x. refl) cells cells' made.kept))
+      ap reverse (sym (take-take depth (length cells) (map frame_in cells') le)
+      ∙ ap (take depth) (alike frame_in (λ x. refl) cells cells' made.kept))
 
-  pub threads_stay : (told : S → Told) (s : Side) (rows : List Row) (room n : ℕ) → n ≤ length cells → threads_on told s cells' rows room n ≡ threads_on told s cells rows room n
+  pub threads_stay : (told : S → Told) (s : Side) (rows : List Row) (room n : ℕ) → n ≤ length cells
+      → threads_on told s cells' rows room n ≡ threads_on told s cells rows room n
   threads_stay told s rows room n le =
-      listed_alike (thread_on told s cells' rows room) (thread_on told s cells rows room) 0 n (λ k low lt. here k (omega (arith, lt, le)))
+      listed_alike (thread_on told s cells' rows room) (thread_on told s cells rows room) 0 n
+      (λ k low lt. here k (omega (arith, lt, le)))
     where
-      here : (k : ℕ) → k < length cells → thread_on told s cells' rows room k ≡ thread_on told s cells rows room k
+      here : (k : ℕ) → k < length cells
+          → thread_on told s cells' rows room k ≡ thread_on told s cells rows room k
       here k lt =
           let places = alike (place_on s) (place_alike s) cells cells' made.kept in
-          let starts = alike (start_told told s) (λ x. ap told (start_alike s x)) cells cells' made.kept in
+          let starts =
+          alike (start_told told s) (λ x. ap told (start_alike s x)) cells cells' made.kept in
           let p : slice_index (map (place_on s) cells') k ≡ slice_index (map (place_on s) cells) k =
-          sym (get_or-take (length cells) (map (place_on s) cells') k 0 lt) ∙ ap (λ ps. slice_index ps k) places in
-          let t : slice_index_or (map (start_told told s) cells') k untold ≡ slice_index_or (map (start_told told s) cells) k untold =
-          sym (get_or-take (length cells) (map (start_told told s) cells') k untold lt) ∙ ap (λ ss. slice_index_or ss k untold) starts in
+          sym (get_or-take (length cells) (map (place_on s) cells') k 0 lt)
+          ∙ ap (λ ps. slice_index ps k) places in
+          let t : slice_index_or (map (start_told told s) cells') k untold
+          ≡ slice_index_or (map (start_told told s) cells) k untold =
+          sym (get_or-take (length cells) (map (start_told told s) cells') k untold lt)
+          ∙ ap (λ ss. slice_index_or ss k untold) starts in
           cc
 
 -- the round of a place that has a cell
-pub round_put : {S : Type 0} (low : ℕ) (cells : List (Cell S)) (place k : ℕ) (y : Cell S) → low + k ≡ place → rounds_in low (set cells k y) ≡ set (rounds_in low cells) place y.entered
+pub round_put : {S : Type 0} (low : ℕ) (cells : List (Cell S)) (place k : ℕ) (y : Cell S)
+    → low + k ≡ place → rounds_in low (set cells k y) ≡ set (rounds_in low cells) place y.entered
 round_put low cells place k y e =
     let le : low ≤ place = omega (arith, e) in let at : k ≡ place - low = omega (arith, e) in
-    ap (λ rs. replicate low 0 ++ rs) (map-set round_in cells k y) ∙ ap (λ n. replicate low 0 ++ set (map round_in cells) n y.entered) at
-    ∙ sym (set-append_right (replicate low 0) (map round_in cells) low place y.entered (length-replicate {A = ℕ} low 0) le)
+    ap (λ rs. replicate low 0 ++ rs) (map-set round_in cells k y)
+    ∙ ap (λ n. replicate low 0 ++ set (map round_in cells) n y.entered) at
+    ∙ sym (set-append_right (replicate low 0) (map round_in cells) low place y.entered
+    (length-replicate {A = ℕ} low 0) le)
 
-pub round_read : {S : Type 0} (low : ℕ) (cells : List (Cell S)) (place k : ℕ) (x : Cell S) → low + k ≡ place → place < low + length cells → x ≡ slice_index_or cells k x →
+pub round_read : {S : Type 0} (low : ℕ) (cells : List (Cell S)) (place k : ℕ) (x : Cell S)
+    → low + k ≡ place → place < low + length cells → x ≡ slice_index_or cells k x →
     slice_index (rounds_in low cells) place ≡ x.entered
 round_read low cells place k x e lt is =
     let le : low ≤ place = omega (arith, e) in let at : place - low ≡ k = omega (arith, e) in
-    get_or-append_right (replicate low 0) (map round_in cells) low place 0 (length-replicate {A = ℕ} low 0) le
-    ∙ ap (slice_index (map round_in cells)) at ∙ told_at round_in 0 cells k x (omega (arith, e, lt)) is
+    get_or-append_right (replicate low 0) (map round_in cells) low place 0
+    (length-replicate {A = ℕ} low 0) le
+    ∙ ap (slice_index (map round_in cells)) at
+    ∙ told_at round_in 0 cells k x (omega (arith, e, lt)) is
 
 -- how many rounds there are
-pub rounds_long : {S : Type 0} (low : ℕ) (cells : List (Cell S)) → length (rounds_in low cells) ≡ low + length cells
-rounds_long low cells = omega (arith, length-append (replicate low 0) (map round_in cells), length-replicate {A = ℕ} low 0, length-map cells round_in)
+pub rounds_long : {S : Type 0} (low : ℕ) (cells : List (Cell S))
+    → length (rounds_in low cells) ≡ low + length cells
+rounds_long low cells = omega (
+  arith,
+  length-append (replicate low 0) (map round_in cells),
+  length-replicate {A = ℕ} low 0,
+  length-map cells round_in,
+)
 
-pub no_cells : {S : Type 0} (cells : List (Cell S)) → cells ≡ [] → (q : ℕ) → slice_index (map round_in cells) q ≤ 0
+pub no_cells : {S : Type 0} (cells : List (Cell S)) → cells ≡ [] → (q : ℕ)
+    → slice_index (map round_in cells) q ≤ 0
 no_cells [] e q = omega arith
 no_cells (x ∷ cells) e q = cc
 
 -- where no cell tells a round, no place does
-pub none_entered : {S : Type 0} (low : ℕ) (cells : List (Cell S)) → ((q : ℕ) → slice_index (map round_in cells) q ≤ 0) → (q : ℕ) → slice_index (rounds_in low cells) q ≤ 0
+pub none_entered : {S : Type 0} (low : ℕ) (cells : List (Cell S))
+    → ((q : ℕ) → slice_index (map round_in cells) q ≤ 0) → (q : ℕ)
+    → slice_index (rounds_in low cells) q ≤ 0
 none_entered zero cells none q = none q
 none_entered (suc low) cells none zero = omega arith
 none_entered (suc low) cells none (suc q) = none_entered low cells none q
 
 -- a cell is written over
-pub together_still : {S : Type 0} (cells : List (Cell S)) (k : ℕ) (y : Cell S) (capacity low : ℕ) (ready : Bool) (rows : List Row) (room depth len next_len : ℕ) →
-    HoldTogether cells capacity low ready rows room depth len next_len → HoldTogether (set cells k y) capacity low ready rows room depth len next_len
+pub together_still : {S : Type 0} (cells : List (Cell S)) (k : ℕ) (y : Cell S) (capacity low : ℕ)
+    (ready : Bool) (rows : List Row) (room depth len next_len : ℕ) →
+    HoldTogether cells capacity low ready rows room depth len next_len
+    → HoldTogether (set cells k y) capacity low ready rows room depth len next_len
 together_still cells k y capacity low ready rows room depth len next_len fit =
     let same = length-set cells k y in
     record {
@@ -128,16 +171,20 @@ together_still cells k y capacity low ready rows room depth len next_len fit =
     }
 
 -- nothing is left
-pub none_left : {S : Type 0} (cells cells' : List (Cell S)) (capacity capacity' low : ℕ) (ready : Bool) (rows : List Row) (room depth len next_len : ℕ) → length cells' ≡ length cells → capacity' ≡ capacity →
-    HoldTogether cells capacity low ready rows room depth len next_len → HoldTogether cells' capacity' low ready rows room 0 0 0
-none_left cells cells' capacity capacity' low ready rows room depth len next_len long same fit = record {
-  all_ready = fit.all_ready;
-  cells_fit = omega (arith, long, same, fit.cells_fit);
-  frames_fit = omega arith;
-  threads_fit = omega arith;
-  next_fit = omega arith;
-  threads_few = omega arith;
-  next_few = omega arith;
-  room_few = omega (arith, long, fit.room_few);
-  rows_fit = fit.rows_fit;
-}
+pub none_left : {S : Type 0} (cells cells' : List (Cell S)) (capacity capacity' low : ℕ)
+    (ready : Bool) (rows : List Row) (room depth len next_len : ℕ)
+    → length cells' ≡ length cells → capacity' ≡ capacity →
+    HoldTogether cells capacity low ready rows room depth len next_len
+    → HoldTogether cells' capacity' low ready rows room 0 0 0
+none_left cells cells' capacity capacity' low ready rows room depth len next_len long same fit =
+    record {
+      all_ready = fit.all_ready;
+      cells_fit = omega (arith, long, same, fit.cells_fit);
+      frames_fit = omega arith;
+      threads_fit = omega arith;
+      next_fit = omega arith;
+      threads_few = omega arith;
+      next_few = omega arith;
+      room_few = omega (arith, long, fit.room_few);
+      rows_fit = fit.rows_fit;
+    }

@@ -1,6 +1,9 @@
 -- Rounds that are moved up, the last one first.
-use Rattle.std.proofs.Common.{◌≡◌, ℕ, zero, suc, ◌+◌, ◌-◌, ◌<◌, ◌≤◌, List, [], ◌∷◌, ◌++◌, length, map, take, drop, replicate, set, slice_index_or, refl, sym, ap, ◌∙◌, arith, length-append}
-use Rattle.std.proofs.lemmas.List.{append_assoc, length-map, length-replicate, map-set, replicate-append-replicate}
+use Rattle.std.proofs.Common.{◌≡◌, ℕ, zero, suc, ◌+◌, ◌-◌, ◌<◌, ◌≤◌, List, [], ◌∷◌}
+use Rattle.std.proofs.Common.{◌++◌, length, map, take, drop, replicate, set}
+use Rattle.std.proofs.Common.{slice_index_or, refl, sym, ap, ◌∙◌, arith, length-append}
+use Rattle.std.proofs.lemmas.List.{append_assoc, length-map, length-replicate}
+use Rattle.std.proofs.lemmas.List.{map-set, replicate-append-replicate}
 use Rattle.std.proofs.Math.Seq.{take-append_seam}
 use Rattle.regex_lite_engine.specs.declared.pikevm.cell.Cell.{Cell}
 use Rattle.regex_lite_engine.specs.Walk.Cells.{round_in, without_round, MakesReady}
@@ -11,11 +14,13 @@ abbrev pub gap : List ℕ → (by k : ℕ) → List ℕ
 gap rounds by k = take k rounds ++ (replicate by 0 ++ drop k rounds)
 
 -- the last round of the first ones
-first_moved : (m x : ℕ) (rest : List ℕ) → set (x ∷ (replicate (suc m) 0 ++ rest)) (suc m) x ≡ x ∷ (replicate m 0 ++ x ∷ rest)
+first_moved : (m x : ℕ) (rest : List ℕ)
+    → set (x ∷ (replicate (suc m) 0 ++ rest)) (suc m) x ≡ x ∷ (replicate m 0 ++ x ∷ rest)
 first_moved zero x rest = refl
 first_moved (suc m) x rest = ap (λ z. x ∷ z) (within m)
   where
-    within : (m : ℕ) → set (replicate (suc (suc m)) 0 ++ rest) (suc m) x ≡ replicate (suc m) 0 ++ x ∷ rest
+    within : (m : ℕ)
+        → set (replicate (suc (suc m)) 0 ++ rest) (suc m) x ≡ replicate (suc m) 0 ++ x ∷ rest
     within zero = refl
     within (suc m) = ap (λ z. 0 ∷ z) (within m)
 
@@ -33,45 +38,60 @@ gap_moved (x ∷ rounds) (suc m) (suc k) some lt =
     let more = gap_moved rounds (suc m) k (omega arith) (omega (arith, lt)) in
     let e : suc k + 1 ≡ suc (k + 1) = omega arith in
     let f : suc k + suc m ≡ suc (k + suc m) = omega arith in
-    ap (λ n. set (set (gap (x ∷ rounds) (suc m) n) (suc k + suc m) (slice_index_or rounds k 0)) (suc k) 0) e
-    ∙ ap (λ n. set (set (gap (x ∷ rounds) (suc m) (suc (k + 1))) n (slice_index_or rounds k 0)) (suc k) 0) f
+    ap (λ n.
+    set (set (gap (x ∷ rounds) (suc m) n) (suc k + suc m) (slice_index_or rounds k 0)) (suc k) 0) e
+    ∙ ap (λ n.
+    set (set (gap (x ∷ rounds) (suc m) (suc (k + 1))) n (slice_index_or rounds k 0)) (suc k) 0) f
     ∙ ap (λ z. x ∷ z) more
 
 -- what is read before the gap
-pub gap_before : (rounds : List ℕ) (by k d : ℕ) → k < length rounds → slice_index_or (gap rounds by (k + 1)) k d ≡ slice_index_or rounds k 0
+pub gap_before : (rounds : List ℕ) (by k d : ℕ) → k < length rounds
+    → slice_index_or (gap rounds by (k + 1)) k d ≡ slice_index_or rounds k 0
 gap_before [] by k d lt = absurd (omega (arith, lt))
-gap_before (x ∷ rounds) by zero d lt = let e : 0 + 1 ≡ 1 = omega arith in ap (λ n. slice_index_or (gap (x ∷ rounds) by n) 0 d) e
+gap_before (x ∷ rounds) by zero d lt =
+    let e : 0 + 1 ≡ 1 = omega arith in ap (λ n. slice_index_or (gap (x ∷ rounds) by n) 0 d) e
 gap_before (x ∷ rounds) by (suc k) d lt =
     let e : suc k + 1 ≡ suc (k + 1) = omega arith in
-    ap (λ n. slice_index_or (gap (x ∷ rounds) by n) (suc k) d) e ∙ gap_before rounds by k d (omega (arith, lt))
+    ap (λ n. slice_index_or (gap (x ∷ rounds) by n) (suc k) d) e
+    ∙ gap_before rounds by k d (omega (arith, lt))
 
 -- one cell more
 module _ {S : Type 0} (cells : List (Cell S)) (rounds : List ℕ) (by k : ℕ) (x y z : Cell S) where
   abbrev written : List (Cell S)
   written = set cells (k + by) (record y { entered = x.entered })
 
-  pub round_raised : 0 < by → k < length rounds → k < length cells → map round_in cells ≡ gap rounds by (k + 1) → x ≡ slice_index_or cells k x →
+  pub round_raised : 0 < by → k < length rounds → k < length cells
+      → map round_in cells ≡ gap rounds by (k + 1) → x ≡ slice_index_or cells k x →
       map round_in (set written k (record z { entered = 0 })) ≡ gap rounds by k
   round_raised some lt within e is =
-      let held : slice_index_or (map round_in cells) k 0 ≡ x.entered = told_at round_in 0 cells k x within is in
-      let same : x.entered ≡ slice_index_or rounds k 0 = sym held ∙ ap (λ rs. slice_index_or rs k 0) e ∙ gap_before rounds by k 0 lt in
+      let held : slice_index_or (map round_in cells) k 0 ≡ x.entered =
+      told_at round_in 0 cells k x within is in
+      let same : x.entered ≡ slice_index_or rounds k 0 =
+      sym held ∙ ap (λ rs. slice_index_or rs k 0) e ∙ gap_before rounds by k 0 lt in
       map-set round_in written k (record z { entered = 0 })
       ∙ ap (λ rs. set rs k 0) (map-set round_in cells (k + by) (record y { entered = x.entered }))
       ∙ ap (λ rs. set (set rs (k + by) x.entered) k 0) e
       ∙ ap (λ n. set (set (gap rounds by (k + 1)) (k + by) n) k 0) same
       ∙ gap_moved rounds by k some lt
 
-  pub rest_kept : y ≡ slice_index_or cells (k + by) y → z ≡ slice_index_or written k z → map without_round (set written k (record z { entered = 0 })) ≡ map without_round cells
-  rest_kept is is' = not_told without_round written k z (record z { entered = 0 }) is' refl ∙ not_told without_round cells (k + by) y (record y { entered = x.entered }) is refl
+  pub rest_kept : y ≡ slice_index_or cells (k + by) y → z ≡ slice_index_or written k z
+      → map without_round (set written k (record z { entered = 0 })) ≡ map without_round cells
+  rest_kept is is' =
+      not_told without_round written k z (record z { entered = 0 }) is' refl
+      ∙ not_told without_round cells (k + by) y (record y { entered = x.entered }) is refl
 
 -- blank cells after those that are ready
 module _ {S : Type 0} (x : Cell S) (blank : x.entered ≡ 0) where
-  pub rounds_blank : (cells : List (Cell S)) (more : ℕ) → map round_in (cells ++ replicate more x) ≡ map round_in cells ++ replicate more 0
+  pub rounds_blank : (cells : List (Cell S)) (more : ℕ)
+      → map round_in (cells ++ replicate more x) ≡ map round_in cells ++ replicate more 0
   rounds_blank [] zero = refl
-  rounds_blank [] (suc more) = ap (λ n. n ∷ map round_in (replicate more x)) blank ∙ ap (λ ns. 0 ∷ ns) (rounds_blank [] more)
+  rounds_blank [] (suc more) =
+      ap (λ n. n ∷ map round_in (replicate more x)) blank ∙ ap (λ ns. 0 ∷ ns) (rounds_blank [] more)
   rounds_blank (y ∷ cells) more = ap (λ ns. y.entered ∷ ns) (rounds_blank cells more)
 
-  pub rest_before : (cells : List (Cell S)) (more : ℕ) → take (length cells) (map without_round (cells ++ replicate more x)) ≡ map without_round cells
+  pub rest_before : (cells : List (Cell S)) (more : ℕ)
+      → take (length cells) (map without_round (cells ++ replicate more x))
+      ≡ map without_round cells
   rest_before [] more = refl
   rest_before (y ∷ cells) more = ap (λ ys. without_round y ∷ ys) (rest_before cells more)
 
@@ -85,24 +105,39 @@ drop_first rounds rest n e = ap (λ m. drop m (rounds ++ rest)) e ∙ drop_all r
 take_first : (rounds rest : List ℕ) (n : ℕ) → n ≡ length rounds → take n (rounds ++ rest) ≡ rounds
 take_first rounds rest n e = ap (λ m. take m (rounds ++ rest)) e ∙ take-append_seam rounds rest
 
-module _ {S : Type 0} (cells filled : List (Cell S)) (x : Cell S) (more : ℕ) (blank : x.entered ≡ 0) (is : filled ≡ cells ++ replicate more x) where
+module _ {S : Type 0} (cells filled : List (Cell S)) (x : Cell S) (more : ℕ) (blank : x.entered ≡ 0)
+    (is : filled ≡ cells ++ replicate more x) where
   before : length filled - more ≡ length (map round_in cells)
-  before = omega (arith, ap length is, length-append cells (replicate more x), length-replicate more x, length-map cells round_in)
+  before = omega (
+    arith,
+    ap length is,
+    length-append cells (replicate more x),
+    length-replicate more x,
+    length-map cells round_in,
+  )
 
   pub end_blank : drop (length filled - more) (map round_in filled) ≡ replicate more 0
   end_blank =
-      ap (λ z. drop (length filled - more) (map round_in z)) is ∙ ap (drop (length filled - more)) (rounds_blank x blank cells more)
+      ap (λ z. drop (length filled - more) (map round_in z)) is
+      ∙ ap (drop (length filled - more)) (rounds_blank x blank cells more)
       ∙ drop_first (map round_in cells) (replicate more 0) (length filled - more) before
 
-  pub made_ready : (low : ℕ) (raised : List (Cell S)) → more ≤ low → map round_in raised ≡ replicate more 0 ++ take (length filled - more) (map round_in filled) →
+  pub made_ready : (low : ℕ) (raised : List (Cell S)) → more ≤ low
+      → map round_in raised ≡ replicate more 0 ++ take (length filled - more) (map round_in filled)
+      →
       map without_round raised ≡ map without_round filled → MakesReady low cells (low - more) raised
   made_ready low raised le up kept =
-      let first = ap (λ z. take (length filled - more) (map round_in z)) is ∙ ap (take (length filled - more)) (rounds_blank x blank cells more)
+      let first = ap (λ z. take (length filled - more) (map round_in z)) is
+      ∙ ap (take (length filled - more)) (rounds_blank x blank cells more)
       ∙ take_first (map round_in cells) (replicate more 0) (length filled - more) before in
       let sum : low - more + more ≡ low = omega (arith, le) in
       record {
-        rounds = ap (λ z. replicate (low - more) 0 ++ z) (up ∙ ap (λ z. replicate more 0 ++ z) first)
+        rounds =
+            ap (λ z. replicate (low - more) 0 ++ z) (up ∙ ap (λ z. replicate more 0 ++ z) first)
             ∙ sym (append_assoc (replicate (low - more) 0) (replicate more 0) (map round_in cells))
-            ∙ ap (λ z. z ++ map round_in cells) (replicate-append-replicate (low - more) more 0 ∙ ap (λ n. replicate n 0) sum);
-        kept = ap (take (length cells)) (kept ∙ ap (map without_round) is) ∙ rest_before x blank cells more;
+            ∙ ap (λ z. z ++ map round_in cells)
+            (replicate-append-replicate (low - more) more 0 ∙ ap (λ n. replicate n 0) sum);
+        kept =
+            ap (take (length cells)) (kept ∙ ap (map without_round) is)
+            ∙ rest_before x blank cells more;
       }

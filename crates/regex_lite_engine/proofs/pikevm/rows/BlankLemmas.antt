@@ -1,38 +1,57 @@
 -- Slots that are not there yet are as good as blank.
-use Rattle.std.proofs.Common.{◌≡◌, ℕ, ◌+◌, ◌-◌, ◌*◌, ◌<◌, ◌≤◌, List, ◌++◌, length, take, drop, replicate, set, Option, None, sym, ap, ◌∙◌, arith, slice_index_or, [], length-append, length-drop, length-set}
-use Rattle.std.proofs.lemmas.List.{append_assoc, drop-append-le, take-append-le, length-take-le, length-replicate, replicate-append-replicate, set-append_left}
+use Rattle.std.proofs.Common.{◌≡◌, ℕ, ◌+◌, ◌-◌, ◌*◌, ◌<◌, ◌≤◌, List, ◌++◌, length, take}
+use Rattle.std.proofs.Common.{drop, replicate, set, Option, None, sym, ap, ◌∙◌, arith}
+use Rattle.std.proofs.Common.{slice_index_or, [], length-append, length-drop, length-set}
+use Rattle.std.proofs.lemmas.List.{append_assoc, drop-append-le, take-append-le, length-take-le}
+use Rattle.std.proofs.lemmas.List.{length-replicate, replicate-append-replicate, set-append_left}
 use Rattle.regex_lite_engine.specs.Walk.Machine.{Row}
 use Rattle.regex_lite_engine.specs.Walk.Cells.{rows_in, padded, AreRows}
-use Rattle.regex_lite_engine.proofs.pikevm.rows.RowLemmas.{inside_slots, row_of_view, row_of_view_long, view_over, view_put, row_first, row_is, row_long, row_inside, number_inside}
+use Rattle.regex_lite_engine.proofs.pikevm.rows.RowLemmas.{inside_slots, row_of_view}
+use Rattle.regex_lite_engine.proofs.pikevm.rows.RowLemmas.{row_of_view_long, view_over}
+use Rattle.regex_lite_engine.proofs.pikevm.rows.RowLemmas.{view_put, row_first, row_is}
+use Rattle.regex_lite_engine.proofs.pikevm.rows.RowLemmas.{row_long, row_inside, number_inside}
 
 abbrev blanks : ℕ → Row
 blanks n = replicate n None
 
 pub padded_long : (slots : Row) (n : ℕ) → length slots ≤ n → length (padded slots n) ≡ n
-padded_long slots n le = omega (arith, le, length-append slots (blanks (n - length slots)), length-replicate {A = Option ℕ} (n - length slots) None)
+padded_long slots n le = omega (
+  arith,
+  le,
+  length-append slots (blanks (n - length slots)),
+  length-replicate {A = Option ℕ} (n - length slots) None,
+)
 
 -- some of them are there now
 pub more_long : (slots : Row) (k : ℕ) → length (slots ++ blanks k) ≡ length slots + k
-more_long slots k = length-append slots (blanks k) ∙ ap (λ z. length slots + z) (length-replicate {A = Option ℕ} k None)
+more_long slots k =
+    length-append slots (blanks k)
+    ∙ ap (λ z. length slots + z) (length-replicate {A = Option ℕ} k None)
 
-pub padded_more : (slots : Row) (k n : ℕ) → length slots + k ≤ n → padded (slots ++ blanks k) n ≡ padded slots n
+pub padded_more : (slots : Row) (k n : ℕ) → length slots + k ≤ n
+    → padded (slots ++ blanks k) n ≡ padded slots n
 padded_more slots k n le =
-    let sum : k + (n - length (slots ++ blanks k)) ≡ n - length slots = omega (arith, le, more_long slots k) in
+    let sum : k + (n - length (slots ++ blanks k)) ≡ n - length slots =
+    omega (arith, le, more_long slots k) in
     append_assoc slots (blanks k) (blanks (n - length (slots ++ blanks k)))
-    ∙ ap (λ z. slots ++ z) (replicate-append-replicate k (n - length (slots ++ blanks k)) None ∙ ap blanks sum)
+    ∙ ap (λ z. slots ++ z)
+    (replicate-append-replicate k (n - length (slots ++ blanks k)) None ∙ ap blanks sum)
 
 -- a part of those that are there
-pub padded_part : (slots : Row) (i w n : ℕ) → i + w ≤ length slots → take w (drop i (padded slots n)) ≡ take w (drop i slots)
+pub padded_part : (slots : Row) (i w n : ℕ) → i + w ≤ length slots
+    → take w (drop i (padded slots n)) ≡ take w (drop i slots)
 padded_part slots i w n le =
     let pad = blanks (n - length slots) in
     ap (take w) (drop-append-le i slots pad (omega (arith, le)))
     ∙ take-append-le w (drop i slots) pad (omega (arith, le, length-drop i slots))
 
-pub padded_start : (slots : Row) (w n : ℕ) → w ≤ length slots → take w (padded slots n) ≡ take w slots
+pub padded_start : (slots : Row) (w n : ℕ) → w ≤ length slots
+    → take w (padded slots n) ≡ take w slots
 padded_start slots w n le = take-append-le w slots (blanks (n - length slots)) le
 
 -- a part of those is written over
-pub padded_over : (slots slots' mid : Row) (i j n : ℕ) → i ≤ length slots → j ≤ length slots → length slots' ≡ length slots → slots' ≡ take i slots ++ (mid ++ drop j slots) →
+pub padded_over : (slots slots' mid : Row) (i j n : ℕ) → i ≤ length slots → j ≤ length slots
+    → length slots' ≡ length slots → slots' ≡ take i slots ++ (mid ++ drop j slots) →
     padded slots' n ≡ take i (padded slots n) ++ (mid ++ drop j (padded slots n))
 padded_over slots slots' mid i j n lei lej same e =
     let pad = blanks (n - length slots) in
@@ -44,14 +63,17 @@ padded_over slots slots' mid i j n lei lej same e =
     ∙ ap (λ z. z ++ (mid ++ drop j (slots ++ pad))) (sym (take-append-le i slots pad lei))
 
 -- one of those is written over
-pub padded_put : (slots : Row) (slot : ℕ) (held : Option ℕ) (n : ℕ) → slot < length slots → padded (set slots slot held) n ≡ set (padded slots n) slot held
+pub padded_put : (slots : Row) (slot : ℕ) (held : Option ℕ) (n : ℕ) → slot < length slots
+    → padded (set slots slot held) n ≡ set (padded slots n) slot held
 padded_put slots slot held n lt =
     ap (λ m. set slots slot held ++ blanks (n - m)) (length-set slots slot held)
     ∙ sym (set-append_left slots (blanks (n - length slots)) slot held lt)
 
 -- as many are there as are asked for
-pub filled : (slots slots' : Row) (end n : ℕ) → slots' ≡ slots ++ blanks (end - length slots) → end ≤ n → length slots ≤ n →
-    (padded slots' n ≡ padded slots n) × (length slots' ≤ n) × (end ≤ length slots') × (length slots ≤ length slots')
+pub filled : (slots slots' : Row) (end n : ℕ) → slots' ≡ slots ++ blanks (end - length slots)
+    → end ≤ n → length slots ≤ n →
+    (padded slots' n ≡ padded slots n) × (length slots' ≤ n) × (end ≤ length slots')
+    × (length slots ≤ length slots')
 filled slots slots' end n e le le' =
     let k : ℕ = end - length slots in
     let long : length slots' ≡ length slots + k = ap length e ∙ more_long slots k in (
@@ -61,18 +83,32 @@ filled slots slots' end n e le le' =
       omega (arith, long),
     )
 
-pub over_long : (slots mid : Row) (i w : ℕ) → i + w ≤ length slots → length mid ≡ w → length (take i slots ++ (mid ++ drop (i + w) slots)) ≡ length slots
+pub over_long : (slots mid : Row) (i w : ℕ) → i + w ≤ length slots → length mid ≡ w
+    → length (take i slots ++ (mid ++ drop (i + w) slots)) ≡ length slots
 over_long slots mid i w le long =
-    omega (arith, le, long, length-append (take i slots) (mid ++ drop (i + w) slots), length-append mid (drop (i + w) slots), length-take-le i slots (omega (arith, le)), length-drop (i + w) slots)
+    omega (
+      arith,
+      le,
+      long,
+      length-append (take i slots) (mid ++ drop (i + w) slots),
+      length-append mid (drop (i + w) slots),
+      length-take-le i slots (omega (arith, le)),
+      length-drop (i + w) slots,
+    )
 
 -- the width of the first row
-pub blank_wide : (slots : Row) (w count : ℕ) → length slots ≤ count * w → 0 < count → length (slice_index_or (rows_in (padded slots (count * w)) w count) 0 []) ≡ w
+pub blank_wide : (slots : Row) (w count : ℕ) → length slots ≤ count * w → 0 < count
+    → length (slice_index_or (rows_in (padded slots (count * w)) w count) 0 []) ≡ w
 blank_wide slots w count few some =
     let all = padded_long slots (count * w) few in
-    ap length (row_is (padded slots (count * w)) w count 0 some) ∙ row_long (padded slots (count * w)) w 0 (row_inside w count 0 (length (padded slots (count * w))) (sym all) some)
+    ap length (row_is (padded slots (count * w)) w count 0 some)
+    ∙ row_long (padded slots (count * w)) w 0
+    (row_inside w count 0 (length (padded slots (count * w))) (sym all) some)
 
 -- rows that are seen as a list
-module _ (slots : Row) (capacity w count : ℕ) (rows : List Row) (view : rows_in (padded slots (count * w)) w count ≡ rows) (ok : AreRows slots capacity w count) where
+module _ (slots : Row) (capacity w count : ℕ) (rows : List Row)
+    (view : rows_in (padded slots (count * w)) w count ≡ rows)
+    (ok : AreRows slots capacity w count) where
   abbrev all_slots : Row
   all_slots = padded slots (count * w)
 
@@ -80,7 +116,8 @@ module _ (slots : Row) (capacity w count : ℕ) (rows : List Row) (view : rows_i
   all = sym (padded_long slots (count * w) ok.within)
 
   pub row_within : (k : ℕ) → k < length rows → k * w + w ≤ count * w
-  row_within k lt = let inside = inside_slots all_slots w count rows view all k lt in omega (arith, inside, all)
+  row_within k lt =
+      let inside = inside_slots all_slots w count rows view all k lt in omega (arith, inside, all)
 
   pub row_wide : (k : ℕ) → k < length rows → length (slice_index_or rows k []) ≡ w
   row_wide k lt = row_of_view_long all_slots w count rows view all k lt
@@ -91,35 +128,49 @@ module _ (slots : Row) (capacity w count : ℕ) (rows : List Row) (view : rows_i
 
   pub first_row : 0 < length rows → take w slots ≡ slice_index_or rows 0 []
   first_row some =
-      sym (padded_start slots w (count * w) (first_there some)) ∙ sym (row_first all_slots w) ∙ sym (row_of_view all_slots w count rows view all 0 some)
+      sym (padded_start slots w (count * w) (first_there some)) ∙ sym (row_first all_slots w)
+      ∙ sym (row_of_view all_slots w count rows view all 0 some)
 
-  pub slot_put_over : (slot : ℕ) (held : Option ℕ) → 0 < length rows → slot < length (slice_index_or rows 0 []) →
-      rows_in (padded (set slots slot held) (count * w)) w count ≡ set rows 0 (set (slice_index_or rows 0 []) slot held)
+  pub slot_put_over : (slot : ℕ) (held : Option ℕ) → 0 < length rows
+      → slot < length (slice_index_or rows 0 []) →
+      rows_in (padded (set slots slot held) (count * w)) w count
+      ≡ set rows 0 (set (slice_index_or rows 0 []) slot held)
   slot_put_over slot held some lt =
       let there = first_there some in let wide = row_wide 0 some in
-      ap (λ z. rows_in z w count) (padded_put slots slot held (count * w) (omega (arith, lt, there, wide)))
+      ap (λ z. rows_in z w count)
+      (padded_put slots slot held (count * w) (omega (arith, lt, there, wide)))
       ∙ view_put all_slots w count rows view all slot held some lt
 
   -- a row is written over, once the slots up to its end are there
-  pub row_put_over : (there after mid : Row) (k : ℕ) → padded there (count * w) ≡ all_slots → k < length rows → k * w + w ≤ length there → length mid ≡ w →
-      after ≡ take (k * w) there ++ (mid ++ drop (k * w + w) there) → rows_in (padded after (count * w)) w count ≡ set rows k mid
+  pub row_put_over : (there after mid : Row) (k : ℕ) → padded there (count * w) ≡ all_slots
+      → k < length rows → k * w + w ≤ length there → length mid ≡ w →
+      after ≡ take (k * w) there ++ (mid ++ drop (k * w + w) there)
+      → rows_in (padded after (count * w)) w count ≡ set rows k mid
   row_put_over there after mid k same lt le long e =
       view_over all_slots w count rows view all (padded after (count * w)) mid k lt long
-      (padded_over there after mid (k * w) (k * w + w) (count * w) (omega (arith, le)) le (ap length e ∙ over_long there mid (k * w) w le long) e
+      (padded_over there after mid (k * w) (k * w + w) (count * w) (omega (arith, le)) le
+      (ap length e ∙ over_long there mid (k * w) w le long) e
       ∙ ap (λ z. take (k * w) z ++ (mid ++ drop (k * w + w) z)) same)
 
   -- a row that is there
-  pub row_read : (there : Row) (k : ℕ) → padded there (count * w) ≡ all_slots → k < length rows → k * w + w ≤ length there → take w (drop (k * w) there) ≡ slice_index_or rows k []
+  pub row_read : (there : Row) (k : ℕ) → padded there (count * w) ≡ all_slots → k < length rows
+      → k * w + w ≤ length there → take w (drop (k * w) there) ≡ slice_index_or rows k []
   row_read there k same lt le =
-      sym (padded_part there (k * w) w (count * w) le) ∙ ap (λ z. take w (drop (k * w) z)) same ∙ sym (row_of_view all_slots w count rows view all k lt)
+      sym (padded_part there (k * w) w (count * w) le) ∙ ap (λ z. take w (drop (k * w) z)) same
+      ∙ sym (row_of_view all_slots w count rows view all k lt)
 
   -- a row is written over another one, once the slots up to the ends of both are there
-  pub row_copied : (there after : Row) (from to : ℕ) → padded there (count * w) ≡ all_slots → from < length rows → to < length rows → from * w + w ≤ length there → to * w + w ≤ length there →
+  pub row_copied : (there after : Row) (from to : ℕ) → padded there (count * w) ≡ all_slots
+      → from < length rows → to < length rows → from * w + w ≤ length there
+      → to * w + w ≤ length there →
       after ≡ take (to * w) there ++ (take w (drop (from * w) there) ++ drop (to * w + w) there) →
-      (rows_in (padded after (count * w)) w count ≡ set rows to (slice_index_or rows from [])) × (length after ≡ length there)
+      (rows_in (padded after (count * w)) w count ≡ set rows to (slice_index_or rows from []))
+      × (length after ≡ length there)
   row_copied there after from to same lt_from lt_to le_from le_to e =
       let held = row_read there from same lt_from le_from in
-      let long : length (take w (drop (from * w) there)) ≡ w = ap length held ∙ row_wide from lt_from in (
-        row_put_over there after (take w (drop (from * w) there)) to same lt_to le_to long e ∙ ap (λ row. set rows to row) held,
+      let long : length (take w (drop (from * w) there)) ≡ w =
+      ap length held ∙ row_wide from lt_from in (
+        row_put_over there after (take w (drop (from * w) there)) to same lt_to le_to long e
+            ∙ ap (λ row. set rows to row) held,
         ap length e ∙ over_long there (take w (drop (from * w) there)) (to * w) w le_to long,
       )

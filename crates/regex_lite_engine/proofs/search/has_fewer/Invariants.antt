@@ -5,4 +5,5 @@ use Rattle.regex_lite_engine.proofs.search.has_fewer.Given as goal
 
 abbrev pub invariant-loop-part : goal.invariant-loop-part
 invariant-loop-part l =
-    (chunks_size l.part-iterator ≡ 224) × (l.count + count_by begins (chunks_rest l.part-iterator) ≡ count_by begins l.fn.text)
+    (chunks_size l.part-iterator ≡ 224)
+    × (l.count + count_by begins (chunks_rest l.part-iterator) ≡ count_by begins l.fn.text)

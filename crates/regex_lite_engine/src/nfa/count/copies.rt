@@ -1,6 +1,8 @@
 //! What a repetition is written out as: copies of its body, and places beside them.
 ghost use Rattle.std.specs.Prelude.{◌≡◌, ◌+◌, ◌*◌, ◌^◌, ◌<◌};
-ghost use Rattle.regex_lite_engine.specs.Graph.PlaceCounts.{copies, own_places, own_arrows, own_choice_arrows, bounded_places, bounded_arrows};
+ghost use Rattle.regex_lite_engine.specs.Graph.PlaceCounts.{copies, own_places, own_arrows};
+ghost use Rattle.regex_lite_engine.specs.Graph.PlaceCounts.{own_choice_arrows};
+ghost use Rattle.regex_lite_engine.specs.Graph.PlaceCounts.{bounded_places, bounded_arrows};
 
 /// How many copies of its body a repetition has.
 pub(crate) fn copies(least: u32, most: Option<u32>) -> u64

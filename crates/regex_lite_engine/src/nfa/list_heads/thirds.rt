@@ -3,10 +3,12 @@
 //! Most candidates that the first two characters leave are none by the third, so that a search
 //! enters few. A pattern has a mask of 32 bits, each of which stands for all characters whose codes
 //! leave the same remainder.
-ghost use Rattle.std.specs.Prelude.{◌≡◌, ℕ, Option, Some, IfOk, IsTrue, filter, map, true, vec_capacity};
+ghost use Rattle.std.specs.Prelude.{◌≡◌, ℕ, Option, Some, IfOk, IsTrue};
+ghost use Rattle.std.specs.Prelude.{filter, map, true, vec_capacity};
 ghost use Rattle.regex_lite_syntax.specs.Tree.Views.{tree_of};
 ghost use Rattle.regex_lite_engine.specs.Nfa.Starts.{may_begin};
-ghost use Rattle.regex_lite_engine.specs.Nfa.Thirds.{in_mask, may_go_on, AreMasksOf, BeginsInMask, IsThirdOfTree, ReadsOne};
+ghost use Rattle.regex_lite_engine.specs.Nfa.Thirds.{in_mask, may_go_on, AreMasksOf};
+ghost use Rattle.regex_lite_engine.specs.Nfa.Thirds.{BeginsInMask, IsThirdOfTree, ReadsOne};
 
 use crate::nfa::measured::Measured;
 use crate::nfa::starts::Starts;

@@ -1,8 +1,11 @@
 //! The patterns that may start at a position, found in the rows of the characters there.
-ghost use Rattle.std.specs.Prelude.{◌≡◌, ◌==◌, ◌||◌, ◌&&◌, ◌+◌, ◌-◌, ◌*◌, ◌^◌, ◌<◌, ◌≤◌, ◌++◌, [], ◌∷◌, ℕ, Some, None, filter, is_none, length, option_map, unwrap_or, vec_capacity};
+ghost use Rattle.std.specs.Prelude.{◌≡◌, ◌==◌, ◌||◌, ◌&&◌, ◌+◌, ◌-◌, ◌*◌, ◌^◌, ◌<◌};
+ghost use Rattle.std.specs.Prelude.{◌≤◌, ◌++◌, [], ◌∷◌, ℕ, Some, None, filter, is_none};
+ghost use Rattle.std.specs.Prelude.{length, option_map, unwrap_or, vec_capacity};
 ghost use Rattle.std.specs.Int.{bit_at};
 ghost use Rattle.std.specs.List.{range_with_len};
-ghost use Rattle.regex_lite_engine.specs.Nfa.ListHeads.{has, may_start, row_count, second_row, set_from, start_row, IsWalkable};
+ghost use Rattle.regex_lite_engine.specs.Nfa.ListHeads.{has, may_start, row_count, second_row};
+ghost use Rattle.regex_lite_engine.specs.Nfa.ListHeads.{set_from, start_row, IsWalkable};
 
 use crate::nfa::list_heads::ListHeads;
 use crate::nfa::list_heads::rows::{AT_START, first_row, second_row};

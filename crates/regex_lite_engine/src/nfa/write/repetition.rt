@@ -3,8 +3,12 @@ ghost use Rattle.std.specs.Prelude.{◌≡◌, ◌<◌, ◌+◌, ◌*◌, ◌^�
 ghost use Rattle.regex_lite_syntax.specs.Tree.Views.{tree_of};
 ghost use Rattle.regex_lite_syntax.specs.Tree.Properties.{nullable, greatest_index};
 ghost use Rattle.regex_lite_engine.specs.Graph.Stored.{place_of};
-ghost use Rattle.regex_lite_engine.specs.Graph.PlaceCounts.{places, copies, own_places, bounded_places};
-ghost use Rattle.regex_lite_engine.specs.Nfa.Layout.{IsAdded, layout, copies_layout, exactly_layout, choices_layout, star_layout, nullable_star_layout, at_least_layout, between_layout, repetition_layout};
+ghost use Rattle.regex_lite_engine.specs.Graph.PlaceCounts.{places, copies, own_places};
+ghost use Rattle.regex_lite_engine.specs.Graph.PlaceCounts.{bounded_places};
+ghost use Rattle.regex_lite_engine.specs.Nfa.Layout.{IsAdded, layout, copies_layout};
+ghost use Rattle.regex_lite_engine.specs.Nfa.Layout.{exactly_layout, choices_layout, star_layout};
+ghost use Rattle.regex_lite_engine.specs.Nfa.Layout.{nullable_star_layout, at_least_layout};
+ghost use Rattle.regex_lite_engine.specs.Nfa.Layout.{between_layout, repetition_layout};
 
 use super::{Writer, choice_of};
 use crate::nfa::place::Place;

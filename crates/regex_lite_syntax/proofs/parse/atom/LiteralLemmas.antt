@@ -12,7 +12,8 @@ use Rattle.regex_lite_syntax.specs.Parser.Machine.{atom, kind_at, BeginsAtom}
 use Rattle.regex_lite_syntax.proofs.grammar.AtomLemmas.{NoSign, literal_atom}
 
 -- what begins an item and is no sign has no other meaning
-no_other_meaning : (c : ℕ) (t : Text) → kind_at (c ∷ t) ≡ atom → NoSign c → is_one_of (codes "\\.^$()[|?*+{") c ≡ false
+no_other_meaning : (c : ℕ) (t : Text) → kind_at (c ∷ t) ≡ atom → NoSign c
+    → is_one_of (codes "\\.^$()[|?*+{") c ≡ false
 no_other_meaning c t kind sign =
     rw (
       ne_eqb (the "\\") c (λ e. sign.no_backslash (sym e)),
@@ -38,7 +39,8 @@ literal_from false c t none ends = rw none refl
 literal_from true c t none ends = rw (none, not-true _ ends.0, ne_eqb c (the "#") ends.1) refl
 
 -- an item that begins with a character that is no sign is that character
-pub other_atom : (flags : Flags) (c : ℕ) (t rest : Text) (a : Tree) → t ≡ c ∷ rest → EndsGap flags.ignore_whitespace t
+pub other_atom : (flags : Flags) (c : ℕ) (t rest : Text) (a : Tree) → t ≡ c ∷ rest
+    → EndsGap flags.ignore_whitespace t
     → BeginsAtom t → NoSign c → PrimitiveTree flags (one c) a → Atom flags t rest a
 other_atom flags c t rest a e ends begins sign tree =
     let verbose = flags.ignore_whitespace in

@@ -1,16 +1,19 @@
 -- What a class begins with, and the class as a whole.
-use Rattle.std.proofs.Common.{◌≡◌, refl, sym, ◌∙◌, subst, ℕ, zero, suc, ◌+◌, Bool, true, false, List, ◌∷◌, arith, nat_lt}
+use Rattle.std.proofs.Common.{◌≡◌, refl, sym, ◌∙◌, subst, ℕ, zero, suc, ◌+◌}
+use Rattle.std.proofs.Common.{Bool, true, false, List, ◌∷◌, arith, nat_lt}
 use Rattle.std.proofs.lemmas.Bool.{lt-ltb}
 use Rattle.regex_lite_syntax.specs.Text.{Text, Begins, the}
 use Rattle.regex_lite_syntax.specs.Grammar.Gaps.{WholeGap}
 use Rattle.regex_lite_syntax.specs.Sets.{Set, just}
-use Rattle.regex_lite_syntax.specs.Grammar.Classes.{Takes, Dashes, FirstBracket, ClassOpening, ClassItems, only_if, class_set, BracketedClass}
+use Rattle.regex_lite_syntax.specs.Grammar.Classes.{Takes, Dashes, FirstBracket, ClassOpening}
+use Rattle.regex_lite_syntax.specs.Grammar.Classes.{ClassItems, only_if, class_set, BracketedClass}
 use Rattle.regex_lite_syntax.proofs.grammar.ClassLemmas.{opening_once}
 
 -- one more dash
 pub dashes_push : (verbose : Bool) (n more : ℕ) (t u past next rest : Text)
     → ((more : ℕ) (rest : Text) → Dashes verbose more u rest → Dashes verbose (n + more) t rest)
-    → u ≡ the "-" ∷ past → WholeGap verbose past next → Dashes verbose more next rest → Dashes verbose (n + 1 + more) t rest
+    → u ≡ the "-" ∷ past → WholeGap verbose past next → Dashes verbose more next rest
+    → Dashes verbose (n + 1 + more) t rest
 dashes_push verbose n more t u past next rest goes e gap dashes =
     let count : n + suc more ≡ n + 1 + more = omega arith in
     subst (λ k. Dashes verbose k t rest) count (goes (suc more) rest (past, next, e, gap, dashes))
@@ -26,15 +29,18 @@ pub some_dashes : (n : ℕ) → true ≡ nat_lt 0 (n + 1)
 some_dashes n = sym (lt-ltb 0 (n + 1) (omega arith))
 
 -- where dashes stood, no bracket is taken
-pub bracket_past : (verbose : Bool) (n : ℕ) (t rest : Text) (dashed taken : Bool) → dashed ≡ nat_lt 0 n
-    → (dashed ≡ true → (t ≡ rest) × (taken ≡ false)) → (dashed ≡ false → Takes verbose (the "]") t rest taken)
+pub bracket_past : (verbose : Bool) (n : ℕ) (t rest : Text) (dashed taken : Bool)
+    → dashed ≡ nat_lt 0 n
+    → (dashed ≡ true → (t ≡ rest) × (taken ≡ false))
+    → (dashed ≡ false → Takes verbose (the "]") t rest taken)
     → FirstBracket verbose n t rest taken
 bracket_past verbose zero t rest dashed taken e left taken_there = taken_there e
 bracket_past verbose (suc n) t rest dashed taken e left taken_there =
     let some : nat_lt 0 (suc n) ≡ true = lt-ltb 0 (suc n) (omega arith) in left (e ∙ some)
 
 -- the class of what stands first in it and of its items
-pub class_from : (insensitive verbose : Bool) (t u rest : Text) (negated dash bracket : Bool) (sets : List Set)
+pub class_from : (insensitive verbose : Bool) (t u rest : Text) (negated dash bracket : Bool)
+    (sets : List Set)
     → ClassOpening verbose t u negated dash bracket → ClassItems verbose sets u rest
     → BracketedClass insensitive verbose t rest (class_set insensitive negated
     (only_if dash (just (the "-")) ∷ only_if bracket (just (the "]")) ∷ sets))
@@ -50,9 +56,12 @@ class_from insensitive verbose t u rest negated dash bracket sets opens items = 
 }
 
 -- the items of a class stand past what it begins with
-pub class_items : (insensitive verbose : Bool) (t u rest : Text) (negated dash bracket : Bool) (s : Set)
-    → ClassOpening verbose t u negated dash bracket → (c : BracketedClass insensitive verbose t rest s)
+pub class_items : (insensitive verbose : Bool) (t u rest : Text) (negated dash bracket : Bool)
+    (s : Set)
+    → ClassOpening verbose t u negated dash bracket
+    → (c : BracketedClass insensitive verbose t rest s)
     → ClassItems verbose c.sets u rest
 class_items insensitive verbose t u rest negated dash bracket s o c =
-    let same = opening_once verbose t u c.past_opening negated c.negated dash c.dash bracket c.bracket o c.opening in
+    let same = opening_once verbose t u c.past_opening negated c.negated dash c.dash bracket
+    c.bracket o c.opening in
     subst (λ v. ClassItems verbose c.sets v rest) (sym same.0) c.items

@@ -1,5 +1,6 @@
 -- The characters of a class, as its ranges are put together.
-use Rattle.std.proofs.Common.{◌≡◌, refl, sym, ◌∙◌, ap, subst, ℕ, Bool, true, false, ◌||◌, List, [], ◌∷◌, ◌++◌, IsTrue, arith}
+use Rattle.std.proofs.Common.{◌≡◌, refl, sym, ◌∙◌, ap, subst, ℕ, Bool, true}
+use Rattle.std.proofs.Common.{false, ◌||◌, List, [], ◌∷◌, ◌++◌, IsTrue, arith}
 use Rattle.std.proofs.Math.Path.{fun_ext}
 use Rattle.std.proofs.lemmas.Bool.Decides.{nat_tests}
 use Rattle.regex_lite_syntax.specs.declared.class.ClassRange.{ClassRange}
@@ -17,31 +18,40 @@ or_join : (a b c : Bool) → (a || (b || c)) ≡ ((a || b) || c)
 or_join true b c = refl
 or_join false b c = refl
 
-pub in_both : (a b : List ClassRange) (c : ℕ) → in_ranges (a ++ b) c ≡ (in_ranges a c || in_ranges b c)
+pub in_both : (a b : List ClassRange) (c : ℕ)
+    → in_ranges (a ++ b) c ≡ (in_ranges a c || in_ranges b c)
 in_both [] b c = refl
-in_both (r ∷ a) b c = ap (λ h. span r.start r.end c || h) (in_both a b c) ∙ or_join (span r.start r.end c) (in_ranges a c) (in_ranges b c)
+in_both (r ∷ a) b c =
+    ap (λ h. span r.start r.end c || h) (in_both a b c)
+    ∙ or_join (span r.start r.end c) (in_ranges a c) (in_ranges b c)
 
 -- one more range
-pub in_more : (a b : List ClassRange) (r : ClassRange) (s : Set) (c : ℕ) → b ≡ a ++ r ∷ [] → span r.start r.end c ≡ s c
+pub in_more : (a b : List ClassRange) (r : ClassRange) (s : Set) (c : ℕ) → b ≡ a ++ r ∷ []
+    → span r.start r.end c ≡ s c
     → in_ranges b c ≡ (in_ranges a c || s c)
 in_more a b r s c e holds =
-    ap (λ l. in_ranges l c) e ∙ in_both a (r ∷ []) c ∙ ap (λ h. in_ranges a c || h) (or_false (span r.start r.end c) ∙ holds)
+    ap (λ l. in_ranges l c) e ∙ in_both a (r ∷ []) c
+    ∙ ap (λ h. in_ranges a c || h) (or_false (span r.start r.end c) ∙ holds)
 
 -- the ranges of a set
 pub in_set : (a b d : List ClassRange) (s : Set) (c : ℕ) → b ≡ a ++ d → in_ranges d c ≡ s c
     → in_ranges b c ≡ (in_ranges a c || s c)
-in_set a b d s c e holds = ap (λ l. in_ranges l c) e ∙ in_both a d c ∙ ap (λ h. in_ranges a c || h) holds
+in_set a b d s c e holds =
+    ap (λ l. in_ranges l c) e ∙ in_both a d c ∙ ap (λ h. in_ranges a c || h) holds
 
 pub span_one : (c d : ℕ) → IsTrue (is_character c) → span c c d ≡ just c d
 span_one c d k = grind (arith, nat_tests)
 
-pub union_push : (sets : List Set) (s : Set) (c : ℕ) → union (sets ++ s ∷ []) c ≡ (union sets c || s c)
+pub union_push : (sets : List Set) (s : Set) (c : ℕ)
+    → union (sets ++ s ∷ []) c ≡ (union sets c || s c)
 union_push [] s c = or_false (s c)
-union_push (a ∷ sets) s c = ap (λ h. a c || h) (union_push sets s c) ∙ or_join (a c) (union sets c) (s c)
+union_push (a ∷ sets) s c =
+    ap (λ h. a c || h) (union_push sets s c) ∙ or_join (a c) (union sets c) (s c)
 
 -- one more item
 pub holds_more : (before now next : List ClassRange) (sets : List Set) (s : Set) (c : ℕ)
-    → in_ranges now c ≡ (in_ranges before c || union sets c) → in_ranges next c ≡ (in_ranges now c || s c)
+    → in_ranges now c ≡ (in_ranges before c || union sets c)
+    → in_ranges next c ≡ (in_ranges now c || s c)
     → in_ranges next c ≡ (in_ranges before c || union (sets ++ s ∷ []) c)
 holds_more before now next sets s c e f =
     f ∙ ap (λ h. h || s c) e ∙ sym (or_join (in_ranges before c) (union sets c) (s c))
@@ -49,7 +59,8 @@ holds_more before now next sets s c e f =
 
 -- what stands first, and the items
 pub holds_all : (none first all : List ClassRange) (a b : Set) (sets : List Set) (c : ℕ) → none ≡ []
-    → in_ranges first c ≡ (in_ranges none c || union (a ∷ b ∷ []) c) → in_ranges all c ≡ (in_ranges first c || union sets c)
+    → in_ranges first c ≡ (in_ranges none c || union (a ∷ b ∷ []) c)
+    → in_ranges all c ≡ (in_ranges first c || union sets c)
     → in_ranges all c ≡ union (a ∷ b ∷ sets) c
 holds_all none first all a b sets c n e f =
     f ∙ ap (λ h. h || union sets c) (e ∙ ap (λ l. in_ranges l c || (a c || (b c || false))) n)

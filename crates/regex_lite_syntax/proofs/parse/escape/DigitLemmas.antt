@@ -1,5 +1,6 @@
 -- Hexadecimal digits that go on from a number that has been read.
-use Rattle.std.proofs.Common.{inl, inr, ◌≡◌, refl, sym, ◌∙◌, ap, subst, ℕ, ◌+◌, ◌*◌, ◌<◌, ◌≤◌, length, Bool, [], ◌∷◌, fold, IsTrue, arith}
+use Rattle.std.proofs.Common.{inl, inr, ◌≡◌, refl, sym, ◌∙◌, ap, subst, ℕ, ◌+◌, ◌*◌}
+use Rattle.std.proofs.Common.{◌<◌, ◌≤◌, length, Bool, [], ◌∷◌, fold, IsTrue, arith}
 use Rattle.std.proofs.lemmas.Bool.{and_parts, ltb-true, or_cases}
 use Rattle.std.specs.Char.{OutOfScalarRange}
 use Rattle.regex_lite_syntax.specs.Text.{Text, Begins, the}
@@ -8,7 +9,8 @@ use Rattle.regex_lite_syntax.specs.Grammar.Gaps.{Gap, WholeGap, Spaced}
 use Rattle.regex_lite_syntax.specs.Grammar.Escapes.{FixedDigits}
 use Rattle.regex_lite_syntax.specs.Parser.ClassReadings.{Lacks}
 use Rattle.regex_lite_syntax.proofs.ListLemmas.{same_head}
-use Rattle.regex_lite_syntax.proofs.grammar.SpacedLemmas.{hex_digits_end, brace_past, next_spaced, not_spaced}
+use Rattle.regex_lite_syntax.proofs.grammar.SpacedLemmas.{hex_digits_end, brace_past}
+use Rattle.regex_lite_syntax.proofs.grammar.SpacedLemmas.{next_spaced, not_spaced}
 
 -- past the gap stands a digit of this value
 pub record DigitAt (verbose : Bool) (t past : Text) (v : ℕ) : Type 0 where
@@ -36,20 +38,29 @@ pub record DigitsOn (verbose : Bool) (number : ℕ) (digits t last : Text) (c : 
   pub scalar : IsTrue (is_character (number_on number digits))
   pub value : c ≡ number_on number digits
 
-on_after : (verbose : Bool) (number d v : ℕ) (digits t past last : Text) (c : ℕ) → DigitAt verbose t past v
-    → DigitsOn verbose number (d ∷ digits) t last c → DigitsOn verbose (number * 16 + v) digits past last c
+on_after : (verbose : Bool) (number d v : ℕ) (digits t past last : Text) (c : ℕ)
+    → DigitAt verbose t past v
+    → DigitsOn verbose number (d ∷ digits) t last c
+    → DigitsOn verbose (number * 16 + v) digits past last c
 on_after verbose number d v digits t past last c at on =
-    let next = next_spaced verbose is_hex_digit at.digit d digits t _ past last hex_digits_end at.whole refl
+    let next =
+    next_spaced verbose is_hex_digit at.digit d digits t _ past last hex_digits_end at.whole refl
     on.written in
-    subst (λ n. DigitsOn verbose (number * 16 + n) digits past last c) (ap digit_value next.0 ∙ sym at.value)
+    subst (λ n. DigitsOn verbose (number * 16 + n) digits past last c)
+    (ap digit_value next.0 ∙ sym at.value)
     (record { written = next.1; scalar = on.scalar; value = on.value })
 
-on_before : (verbose : Bool) (number v : ℕ) (digits t past last : Text) (c : ℕ) (at : DigitAt verbose t past v)
+on_before : (verbose : Bool) (number v : ℕ) (digits t past last : Text) (c : ℕ)
+    (at : DigitAt verbose t past v)
     → DigitsOn verbose (number * 16 + v) digits past last c
     → DigitsOn verbose number (at.digit ∷ digits) t last c
 on_before verbose number v digits t past last c at on =
     let same = subst (λ n. DigitsOn verbose (number * 16 + n) digits past last c) at.value on in
-    record { written = (past, at.whole.0, at.is_digit, same.written); scalar = same.scalar; value = same.value }
+    record {
+      written = (past, at.whole.0, at.is_digit, same.written);
+      scalar = same.scalar;
+      value = same.value;
+    }
 
 on_grows : (digits : Text) (number : ℕ) → number ≤ number_on number digits
 on_grows [] number = omega arith
@@ -75,7 +86,9 @@ pub no_character : (n : ℕ) → OutOfScalarRange n → IsTrue (is_character n) 
 no_character n (inl surrogate) h =
     elim (or_cases _ _ h) [
       | inl low ↦ (let below = ltb-true n 0xD800 low in omega (arith, surrogate.0, below))
-      | inr high ↦ (let above = ltb-true 0xDFFF n (and_parts _ _ high).0 in omega (arith, surrogate.1, above))
+      | inr high ↦
+          (let above = ltb-true 0xDFFF n (and_parts _ _ high).0 in
+          omega (arith, surrogate.1, above))
     ]
 no_character n (inr large) h = let below = character_below n h in omega (arith, large, below)
 
@@ -85,10 +98,12 @@ pub record FixedFrom (verbose : Bool) (number read n : ℕ) (t rest : Text) (c :
   pub count : read + length digits ≡ n
   pub on : DigitsOn verbose number digits t rest c
 
-pub fixed_after : {verbose : Bool} {number read n v : ℕ} {t past rest : Text} {c : ℕ} → DigitAt verbose t past v
+pub fixed_after : {verbose : Bool} {number read n v : ℕ} {t past rest : Text} {c : ℕ}
+    → DigitAt verbose t past v
     → read < n → FixedFrom verbose number read n t rest c
     → FixedFrom verbose (number * 16 + v) (read + 1) n past rest c
-fixed_after {verbose} {number} {read} {n} {v} {t} {past} {rest} {c} at more f = go f.digits f.count f.on
+fixed_after {verbose} {number} {read} {n} {v} {t} {past} {rest} {c} at more f =
+    go f.digits f.count f.on
   where
     go : (digits : Text) → read + length digits ≡ n → DigitsOn verbose number digits t rest c
         → FixedFrom verbose (number * 16 + v) (read + 1) n past rest c
@@ -99,8 +114,10 @@ fixed_after {verbose} {number} {read} {n} {v} {t} {past} {rest} {c} at more f = 
       on = on_after verbose number d v digits t past rest c at on;
     }
 
-pub fixed_before : {verbose : Bool} {number read n v : ℕ} {t past rest : Text} {c : ℕ} → DigitAt verbose t past v
-    → FixedFrom verbose (number * 16 + v) (read + 1) n past rest c → FixedFrom verbose number read n t rest c
+pub fixed_before : {verbose : Bool} {number read n v : ℕ} {t past rest : Text} {c : ℕ}
+    → DigitAt verbose t past v
+    → FixedFrom verbose (number * 16 + v) (read + 1) n past rest c
+    → FixedFrom verbose number read n t rest c
 fixed_before {verbose} {number} {read} {n} {v} {t} {past} {rest} {c} at f = record {
   digits = at.digit ∷ f.digits;
   count = omega (arith, f.count);
@@ -118,9 +135,11 @@ fixed_scalar {verbose} {number} {read} {n} {t} {rest} {c} all f = go f.digits f.
     go (d ∷ digits) count on = absurd (omega (arith, count, all))
 
 -- a digit is wanted, and none stands there
-pub fixed_stuck : {verbose : Bool} {number read n : ℕ} {t rest : Text} {c : ℕ} (u : Text) → WholeGap verbose t u
+pub fixed_stuck : {verbose : Bool} {number read n : ℕ} {t rest : Text} {c : ℕ} (u : Text)
+    → WholeGap verbose t u
     → Lacks is_hex_digit u → read < n → FixedFrom verbose number read n t rest c → ⊥
-fixed_stuck {verbose} {number} {read} {n} {t} {rest} {c} u whole lacks more f = go f.digits f.count f.on
+fixed_stuck {verbose} {number} {read} {n} {t} {rest} {c} u whole lacks more f =
+    go f.digits f.count f.on
   where
     go : (digits : Text) → read + length digits ≡ n → DigitsOn verbose number digits t rest c → ⊥
     go [] count on = omega (arith, count, more)
@@ -153,7 +172,8 @@ pub record BracedFrom (verbose : Bool) (number read : ℕ) (t rest : Text) (c : 
 pub braced_after : {verbose : Bool} {number read read' v : ℕ} {t past rest : Text} {c : ℕ}
     → DigitAt verbose t past v → 0 < read' → BracedFrom verbose number read t rest c
     → BracedFrom verbose (number * 16 + v) read' past rest c
-braced_after {verbose} {number} {read} {read'} {v} {t} {past} {rest} {c} at some b = go b.digits b.on
+braced_after {verbose} {number} {read} {read'} {v} {t} {past} {rest} {c} at some b =
+    go b.digits b.on
   where
     go : (digits : Text) → DigitsOn verbose number digits t b.last c
         → BracedFrom verbose (number * 16 + v) read' past rest c
@@ -180,10 +200,12 @@ braced_before {verbose} {number} {read} {read'} {v} {t} {past} {rest} {c} at b =
 }
 
 -- the brace stands there
-pub braced_scalar : {verbose : Bool} {number read : ℕ} {t rest : Text} {c : ℕ} (u past : Text) (d : ℕ)
+pub braced_scalar : {verbose : Bool} {number read : ℕ} {t rest : Text} {c : ℕ}
+    (u past : Text) (d : ℕ)
     → WholeGap verbose t u → u ≡ d ∷ past → d ≡ the "}" → BracedFrom verbose number read t rest c
     → IsTrue (is_character number)
-braced_scalar {verbose} {number} {read} {t} {rest} {c} u past d whole here closes b = go b.digits b.on
+braced_scalar {verbose} {number} {read} {t} {rest} {c} u past d whole here closes b =
+    go b.digits b.on
   where
     go : (digits : Text) → DigitsOn verbose number digits t b.last c → IsTrue (is_character number)
     go [] on = on.scalar
@@ -192,9 +214,12 @@ braced_scalar {verbose} {number} {read} {t} {rest} {c} u past d whole here close
         (subst (λ v. Lacks is_hex_digit v) (sym here) (ap is_hex_digit closes)) on.written)
 
 -- no digit stands there, nor a brace that may close
-pub braced_stuck : {verbose : Bool} {number read : ℕ} {t rest : Text} {c : ℕ} (u : Text) → WholeGap verbose t u
-    → Lacks is_hex_digit u → (Begins (the "}") u → 0 < read → ⊥) → BracedFrom verbose number read t rest c → ⊥
-braced_stuck {verbose} {number} {read} {t} {rest} {c} u whole lacks unclosed b = go b.digits b.some b.on
+pub braced_stuck : {verbose : Bool} {number read : ℕ} {t rest : Text} {c : ℕ} (u : Text)
+    → WholeGap verbose t u
+    → Lacks is_hex_digit u → (Begins (the "}") u → 0 < read → ⊥)
+    → BracedFrom verbose number read t rest c → ⊥
+braced_stuck {verbose} {number} {read} {t} {rest} {c} u whole lacks unclosed b =
+    go b.digits b.some b.on
   where
     go : (digits : Text) → 0 < read + length digits → DigitsOn verbose number digits t b.last c → ⊥
     go [] some on =

@@ -1,5 +1,6 @@
 -- Names that a set of names knows.
-use Rattle.std.proofs.Common.{◌≡◌, refl, sym, ◌∙◌, ap, subst, ℕ, zero, suc, Bool, true, false, ◌||◌, cond, List, [], ◌∷◌, ◌++◌, Contains, Global, chars, arith}
+use Rattle.std.proofs.Common.{◌≡◌, refl, sym, ◌∙◌, ap, subst, ℕ, zero, suc, Bool, true, false}
+use Rattle.std.proofs.Common.{◌||◌, cond, List, [], ◌∷◌, ◌++◌, Contains, Global, chars, arith}
 use Rattle.std.specs.List.{list_any}
 use Rattle.std.specs.Ordering.{is_eq, nat_cmp}
 use Rattle.std.specs.Cmp.{eq_by_cmp_equiv}
@@ -24,7 +25,8 @@ of_text name = IsUtf8-string_bytes name.text.value
 
 -- texts of the same characters are the same
 same_bytes : (xs ys : List ℕ) → IsUtf8 xs → IsUtf8 ys → chars xs ≡ chars ys → xs ≡ ys
-same_bytes xs ys of_xs of_ys e = sym (encodes-chars xs of_xs) ∙ ap encodes e ∙ encodes-chars ys of_ys
+same_bytes xs ys of_xs of_ys e =
+    sym (encodes-chars xs of_xs) ∙ ap encodes e ∙ encodes-chars ys of_ys
 
 same_or_rest : (same rest : Bool) → same ≡ false → (same || rest) ≡ true → rest ≡ true
 same_or_rest true rest differs e = cc differs
@@ -43,10 +45,14 @@ name_given (first ∷ given) name e =
     go (bytes_eq (rc_str_bytes name) (rc_str_bytes first)) refl (λ rest. name_given given name rest)
   where
     go : (same : Bool) → bytes_eq (rc_str_bytes name) (rc_str_bytes first) ≡ same
-        → (has_name given (rc_str_bytes name) ≡ true → Contains (names_of given) (text_of_name name))
+        → (has_name given (rc_str_bytes name) ≡ true
+        → Contains (names_of given) (text_of_name name))
         → Contains (names_of (first ∷ given)) (text_of_name name)
-    go true same in_rest =
-        (0, omega arith, ap chars (sym ((bytes_eq-Decides (rc_str_bytes name) (rc_str_bytes first)).0 same)))
+    go true same in_rest = (
+      0,
+      omega arith,
+      ap chars (sym ((bytes_eq-Decides (rc_str_bytes name) (rc_str_bytes first)).0 same)),
+    )
     go false differs in_rest =
         let later = in_rest (same_or_rest (bytes_eq (rc_str_bytes name) (rc_str_bytes first))
         (has_name given (rc_str_bytes name)) differs e) in
@@ -58,7 +64,8 @@ pub name_not_given : (given : List (RcStr Global)) (name : RcStr Global)
     → Contains (names_of given) (text_of_name name) → ⊥
 name_not_given [] name e (k, inside, is) = omega (arith, inside)
 name_not_given (first ∷ given) name e (zero, inside, is) =
-    let same = same_bytes (rc_str_bytes first) (rc_str_bytes name) (of_text first) (of_text name) is in
+    let same =
+    same_bytes (rc_str_bytes first) (rc_str_bytes name) (of_text first) (of_text name) is in
     let found = (bytes_eq-Decides (rc_str_bytes name) (rc_str_bytes first)).1 (sym same) in
     let none = (none_of_both (bytes_eq (rc_str_bytes name) (rc_str_bytes first))
     (has_name given (rc_str_bytes name)) e).0 in
@@ -102,7 +109,8 @@ pub set_with : (set more : BTreeSet (RcStr Global)) (name : RcStr Global)
     → UpdatesBy (λ x y. slice_cmp nat_cmp (rc_str_bytes x) (rc_str_bytes y))
     (λ x. slice_cmp nat_cmp (rc_str_bytes name) (rc_str_bytes x)) set more true
     → (bytes : List ℕ)
-    → set_has_name more bytes ≡ cond (bytes_eq (rc_str_bytes name) bytes) true (set_has_name set bytes)
+    → set_has_name more bytes
+    ≡ cond (bytes_eq (rc_str_bytes name) bytes) true (set_has_name set bytes)
 set_with set more name updates bytes = go (bytes_eq (rc_str_bytes name) bytes) refl
   where
     go : (same : Bool) → bytes_eq (rc_str_bytes name) bytes ≡ same
@@ -116,7 +124,8 @@ set_with set more name updates bytes = go (bytes_eq (rc_str_bytes name) bytes) r
         (λ x. apart (rc_str_bytes name) bytes (rc_str_bytes x) differs)
 
 -- a set to which a name is added knows the names with this one after them
-pub knows_more : (set more : BTreeSet (RcStr Global)) (given : List (RcStr Global)) (key last : RcStr Global)
+pub knows_more : (set more : BTreeSet (RcStr Global)) (given : List (RcStr Global))
+    (key last : RcStr Global)
     → Knows set given → rc_str_bytes last ≡ rc_str_bytes key
     → ((bytes : List ℕ) → set_has_name more bytes
     ≡ cond (bytes_eq (rc_str_bytes key) bytes) true (set_has_name set bytes))
@@ -124,5 +133,6 @@ pub knows_more : (set more : BTreeSet (RcStr Global)) (given : List (RcStr Globa
 knows_more set more given key last knows same added bytes =
     let turn = either_way (rc_str_bytes key) bytes ∙ ap (bytes_eq bytes) (sym same) in
     added bytes ∙ ap (cond (bytes_eq (rc_str_bytes key) bytes) true) (knows bytes)
-    ∙ one_more (bytes_eq (rc_str_bytes key) bytes) (bytes_eq bytes (rc_str_bytes last)) (has_name given bytes) turn
+    ∙ one_more (bytes_eq (rc_str_bytes key) bytes) (bytes_eq bytes (rc_str_bytes last))
+    (has_name given bytes) turn
     ∙ sym (list_any-append (λ name. bytes_eq bytes (rc_str_bytes name)) given (last ∷ []))

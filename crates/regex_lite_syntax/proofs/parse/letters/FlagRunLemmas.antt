@@ -1,21 +1,26 @@
 -- Runs of flag letters, and what they say of a run that begins there.
-use Rattle.std.proofs.Common.{inl, inr, ◌≡◌, refl, sym, ◌∙◌, ap, subst, ℕ, Bool, true, false, ◌||◌, ◌==◌, [], ◌∷◌, ◌++◌, IsTrue, codes, append_assoc}
-use Rattle.std.proofs.lemmas.Bool.{both_ways, and_parts, and_from, or_parts, or_from, or_cases, not-true, not_from_false, eqb-true, eqb-false, ne_eqb}
+use Rattle.std.proofs.Common.{inl, inr, ◌≡◌, refl, sym, ◌∙◌, ap, subst, ℕ, Bool, true}
+use Rattle.std.proofs.Common.{false, ◌||◌, ◌==◌, [], ◌∷◌, ◌++◌, IsTrue, codes, append_assoc}
+use Rattle.std.proofs.lemmas.Bool.{both_ways, and_parts, and_from, or_parts, or_from, or_cases}
+use Rattle.std.proofs.lemmas.Bool.{not-true, not_from_false, eqb-true, eqb-false, ne_eqb}
 use Rattle.std.proofs.lemmas.List.Folds.{list_all-append, list_any-append}
 use Rattle.regex_lite_syntax.specs.declared.flags.Flags.{Flags}
 use Rattle.std.specs.List.{AllPass, list_all}
 use Rattle.std.proofs.lemmas.List.Sums.{list_all-from_AllPass}
 use Rattle.regex_lite_syntax.specs.Text.{Text, the}
 use Rattle.regex_lite_syntax.specs.Characters.{is_one_of}
-use Rattle.regex_lite_syntax.specs.Grammar.FlagLetters.{is_flag_letter, with_flag, with_flags, all_differ}
+use Rattle.regex_lite_syntax.specs.Grammar.FlagLetters.{is_flag_letter, with_flag}
+use Rattle.regex_lite_syntax.specs.Grammar.FlagLetters.{with_flags, all_differ}
 use Rattle.regex_lite_syntax.specs.Parser.FlagRuns.{EndsRun, LetterRun}
 use Rattle.regex_lite_syntax.proofs.ListLemmas.{same_head, same_tail}
 use Rattle.regex_lite_syntax.proofs.grammar.FlagLetterLemmas.{word_once}
 
 -- what is read with one more letter
-all_pass_middle : (kind : ℕ → Bool) (cs : Text) (c : ℕ) (ds : Text) → AllPass kind (cs ++ c ∷ ds) → IsTrue (kind c)
+all_pass_middle : (kind : ℕ → Bool) (cs : Text) (c : ℕ) (ds : Text) → AllPass kind (cs ++ c ∷ ds)
+    → IsTrue (kind c)
 all_pass_middle kind cs c ds all =
-    let both = sym (list_all-append kind cs (c ∷ ds)) ∙ list_all-from_AllPass kind (cs ++ c ∷ ds) all in
+    let both =
+    sym (list_all-append kind cs (c ∷ ds)) ∙ list_all-from_AllPass kind (cs ++ c ∷ ds) all in
     (and_parts _ _ (and_parts _ _ both).1).0
 
 pub with_flags_more : (set : Bool) (cs : Text) (c : ℕ) (flags : Flags)
@@ -24,7 +29,8 @@ with_flags_more set [] c flags = refl
 with_flags_more set (d ∷ cs) c flags = with_flags_more set cs c (with_flag set d flags)
 
 -- whether a character stands in a text that is followed by another
-pub one_of_both : (cs ds : Text) (c : ℕ) → is_one_of (cs ++ ds) c ≡ (is_one_of cs c || is_one_of ds c)
+pub one_of_both : (cs ds : Text) (c : ℕ)
+    → is_one_of (cs ++ ds) c ≡ (is_one_of cs c || is_one_of ds c)
 one_of_both cs ds c = list_any-append (λ d. d == c) cs ds
 
 sym_false : (c d : ℕ) → (c == d) ≡ false → (d == c) ≡ false
@@ -36,13 +42,17 @@ differ_one_more [] c differ none = refl
 differ_one_more (d ∷ cs) c differ none =
     let parts = and_parts _ _ differ in
     let absent = or_parts (d == c) (is_one_of cs c) none in
-    let others = or_from (is_one_of cs d) (c == d || false) (not-true _ parts.0) (or_from (c == d) false (sym_false d c absent.0) refl) in
-    and_from _ _ (not_from_false _ (one_of_both cs (c ∷ []) d ∙ others)) (differ_one_more cs c parts.1 absent.1)
+    let others = or_from (is_one_of cs d) (c == d || false) (not-true _ parts.0)
+    (or_from (c == d) false (sym_false d c absent.0) refl) in
+    and_from _ _ (not_from_false _ (one_of_both cs (c ∷ []) d ∙ others))
+    (differ_one_more cs c parts.1 absent.1)
 
-pub differ_more : (before read : Text) (c : ℕ) → IsTrue (all_differ (before ++ read)) → is_one_of before c ≡ false
+pub differ_more : (before read : Text) (c : ℕ) → IsTrue (all_differ (before ++ read))
+    → is_one_of before c ≡ false
     → is_one_of read c ≡ false → IsTrue (all_differ (before ++ (read ++ c ∷ [])))
 differ_more before read c differ none none_read =
-    let absent = one_of_both before read c ∙ or_from (is_one_of before c) (is_one_of read c) none none_read in
+    let absent =
+    one_of_both before read c ∙ or_from (is_one_of before c) (is_one_of read c) none none_read in
     rw (← append_assoc) (differ_one_more (before ++ read) c differ absent)
 
 -- and a character that stands again
@@ -50,7 +60,8 @@ differ_middle : (cs ds : Text) (c : ℕ) → IsTrue (all_differ (cs ++ c ∷ ds)
 differ_middle [] ds c differ = refl
 differ_middle (d ∷ cs) ds c differ =
     let parts = and_parts _ _ differ in
-    let absent = or_parts (is_one_of cs d) _ (sym (one_of_both cs (c ∷ ds) d) ∙ not-true _ parts.0) in
+    let absent =
+    or_parts (is_one_of cs d) _ (sym (one_of_both cs (c ∷ ds) d) ∙ not-true _ parts.0) in
     let here = or_parts (c == d) _ absent.1 in
     or_from (d == c) (is_one_of cs c) (sym_false c d here.0) (differ_middle cs ds c parts.1)
 
@@ -72,7 +83,8 @@ ends_no_letter c ends =
     same d other e = subst (λ x. is_flag_letter x ≡ false) (eqb-true d c e) other
 
 -- a run goes on past letters that have been read
-goes_on : (read letters t u rest : Text) → t ≡ read ++ u → IsTrue (list_all is_flag_letter read) → t ≡ letters ++ rest
+goes_on : (read letters t u rest : Text) → t ≡ read ++ u → IsTrue (list_all is_flag_letter read)
+    → t ≡ letters ++ rest
     → EndsRun rest → (more : Text) × (letters ≡ read ++ more) × (u ≡ more ++ rest)
 goes_on [] letters t u rest p all q ends = (letters, refl, sym p ∙ q)
 goes_on (c ∷ read) [] t u rest p all q ends =
@@ -85,10 +97,13 @@ goes_on (c ∷ read) (d ∷ letters) t u rest p all q ends =
     (past.0, cc (same_head same, past.1), past.2)
 
 -- no run goes on past the end of the pattern
-pub no_run_end : (before read letters t u rest : Text) → t ≡ read ++ u → AllPass is_flag_letter read → u ≡ []
+pub no_run_end : (before read letters t u rest : Text) → t ≡ read ++ u
+    → AllPass is_flag_letter read → u ≡ []
     → LetterRun before letters t rest → ⊥
 no_run_end before read letters t u rest p all none run =
-    let past = goes_on read letters t u rest p (list_all-from_AllPass is_flag_letter read all) run.written run.ends in at_end past.0 past.2
+    let past = goes_on read letters t u rest p
+    (list_all-from_AllPass is_flag_letter read all) run.written run.ends in
+    at_end past.0 past.2
   where
     at_end : (more : Text) → u ≡ more ++ rest → ⊥
     at_end [] e = subst (λ v. EndsRun v) (sym e ∙ none) run.ends
@@ -96,15 +111,19 @@ no_run_end before read letters t u rest p all none run =
 
 -- nor past a character that is no flag letter and ends no run
 pub no_run_other : (before read letters t u rest : Text) (c : ℕ) (v : Text) → t ≡ read ++ u
-    → AllPass is_flag_letter read → u ≡ c ∷ v → is_flag_letter c ≡ false → is_one_of (codes "-:)") c ≡ false
+    → AllPass is_flag_letter read → u ≡ c ∷ v → is_flag_letter c ≡ false
+    → is_one_of (codes "-:)") c ≡ false
     → LetterRun before letters t rest → ⊥
 no_run_other before read letters t u rest c v p all here no_flag no_end run =
-    let past = goes_on read letters t u rest p (list_all-from_AllPass is_flag_letter read all) run.written run.ends in at_other past.0 past.1 past.2
+    let past = goes_on read letters t u rest p
+    (list_all-from_AllPass is_flag_letter read all) run.written run.ends in
+    at_other past.0 past.1 past.2
   where
     at_other : (more : Text) → letters ≡ read ++ more → u ≡ more ++ rest → ⊥
     at_other [] is e = both_ways _ no_end (subst (λ w. EndsRun w) (sym e ∙ here) run.ends)
     at_other (d ∷ more) is e =
-        let passes = all_pass_middle is_flag_letter read d more (subst (λ w. AllPass is_flag_letter w) is run.all) in
+        let passes = all_pass_middle is_flag_letter read d more
+        (subst (λ w. AllPass is_flag_letter w) is run.all) in
         let same = same_head (sym e ∙ here) in
         both_ways (is_flag_letter c) no_flag (subst (λ x. IsTrue (is_flag_letter x)) same passes)
 
@@ -113,15 +132,19 @@ pub no_run_twice : (before read letters t u rest : Text) (c : ℕ) (v : Text) �
     → AllPass is_flag_letter read → u ≡ c ∷ v → IsTrue (is_flag_letter c)
     → IsTrue (is_one_of before c || is_one_of read c) → LetterRun before letters t rest → ⊥
 no_run_twice before read letters t u rest c v p all here is_letter either run =
-    let past = goes_on read letters t u rest p (list_all-from_AllPass is_flag_letter read all) run.written run.ends in at_letter past.0 past.1 past.2
+    let past = goes_on read letters t u rest p
+    (list_all-from_AllPass is_flag_letter read all) run.written run.ends in
+    at_letter past.0 past.1 past.2
   where
     at_letter : (more : Text) → letters ≡ read ++ more → u ≡ more ++ rest → ⊥
-    at_letter [] is e = both_ways _ (ends_no_letter c (subst (λ w. EndsRun w) (sym e ∙ here) run.ends)) is_letter
+    at_letter [] is e =
+        both_ways _ (ends_no_letter c (subst (λ w. EndsRun w) (sym e ∙ here) run.ends)) is_letter
     at_letter (d ∷ more) is e =
         let again = is ∙ ap (λ x. read ++ x ∷ more) (same_head (sym e ∙ here)) in
         let parts : before ++ letters ≡ (before ++ read) ++ c ∷ more =
         rw append_assoc (ap (λ w. before ++ w) again) in
-        both_ways _ (differ_middle (before ++ read) more c (subst (λ w. IsTrue (all_differ w)) parts run.differ)) (one_of_both before read c ∙ either)
+        both_ways _ (differ_middle (before ++ read) more c
+        (subst (λ w. IsTrue (all_differ w)) parts run.differ)) (one_of_both before read c ∙ either)
 
 -- what ends a run
 record RunEnd (u : Text) : Type 0 where
@@ -145,5 +168,6 @@ run_once before before' letters letters' t u u' run run' =
     let no = ends_no_letter e.first e.ends in
     let no' = ends_no_letter e'.first e'.ends in
     let same =
-    word_once is_flag_letter letters letters' t e.first e'.first e.past e'.past no no' p p' run.all run'.all in
+    word_once is_flag_letter letters letters' t e.first e'.first e.past e'.past no no' p p' run.all
+    run'.all in
     (same.0, cc (e.is, e'.is, same.1, same.2))

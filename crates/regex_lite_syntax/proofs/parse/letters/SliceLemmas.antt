@@ -1,15 +1,18 @@
 -- Parts of the pattern as slices of its characters.
-use Rattle.std.proofs.Common.{◌≡◌, sym, ◌∙◌, ap, ℕ, suc, ◌+◌, ◌-◌, ◌<◌, ◌≤◌, [], ◌∷◌, ◌++◌, length, drop, take, get_or, slice_range, arith, length-take, length-drop}
+use Rattle.std.proofs.Common.{◌≡◌, sym, ◌∙◌, ap, ℕ, suc, ◌+◌, ◌-◌, ◌<◌, ◌≤◌, [], ◌∷◌, ◌++◌, length}
+use Rattle.std.proofs.Common.{drop, take, get_or, slice_range, arith, length-take, length-drop}
 use Rattle.std.proofs.Math.Seq.{take-suc}
 use Rattle.std.proofs.lemmas.List.{get_or-drop}
 use Rattle.std.proofs.lemmas.List.Folds.{drop_split}
 use Rattle.regex_lite_syntax.specs.Text.{Text}
 
 -- a part of the characters stands there
-pub slice_spelled : (xs : Text) (at end : ℕ) → at ≤ end → drop at xs ≡ slice_range xs at end ++ drop end xs
+pub slice_spelled : (xs : Text) (at end : ℕ) → at ≤ end
+    → drop at xs ≡ slice_range xs at end ++ drop end xs
 slice_spelled xs at end h = drop_split xs at end h
 
-pub slice_length : (xs : Text) (at end : ℕ) → end ≤ length xs → length (slice_range xs at end) ≡ end - at
+pub slice_length : (xs : Text) (at end : ℕ) → end ≤ length xs
+    → length (slice_range xs at end) ≡ end - at
 slice_length xs at end h = omega (arith, length-take (end - at) (drop at xs), length-drop at xs)
 
 -- a slice with one more character
@@ -19,6 +22,7 @@ slice_more xs at end c low high e =
     let inside : end - at < length (drop at xs) = omega (arith, length-drop at xs) in
     let longer : end + 1 - at ≡ suc (end - at) = omega arith in
     let here : at + (end - at) ≡ end = omega arith in
-    let last : get_or (drop at xs) (end - at) c ≡ c = get_or-drop at xs (end - at) c ∙ ap (λ i. get_or xs i c) here ∙ sym e in
+    let last : get_or (drop at xs) (end - at) c ≡ c =
+    get_or-drop at xs (end - at) c ∙ ap (λ i. get_or xs i c) here ∙ sym e in
     ap (λ n. take n (drop at xs)) longer ∙ take-suc (drop at xs) (end - at) c inside
     ∙ ap (λ d. take (end - at) (drop at xs) ++ d ∷ []) last

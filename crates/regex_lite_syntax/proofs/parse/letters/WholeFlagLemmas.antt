@@ -1,15 +1,19 @@
 -- What runs of flag letters say of whole flags.
-use Rattle.std.proofs.Common.{inl, inr, ◌⊎◌, ◌≡◌, refl, sym, ◌∙◌, ap, subst, ℕ, ◌<◌, true, false, ◌==◌, [], ◌∷◌, ◌++◌, length, IsTrue, codes, arith}
-use Rattle.std.proofs.lemmas.Bool.{both_ways, and_parts, and_from, or_parts, or_cases, not-true, not_from_false, eqb-true}
+use Rattle.std.proofs.Common.{inl, inr, ◌⊎◌, ◌≡◌, refl, sym, ◌∙◌, ap, subst, ℕ, ◌<◌, true}
+use Rattle.std.proofs.Common.{false, ◌==◌, [], ◌∷◌, ◌++◌, length, IsTrue, codes, arith}
+use Rattle.std.proofs.lemmas.Bool.{both_ways, and_parts, and_from, or_parts}
+use Rattle.std.proofs.lemmas.Bool.{or_cases, not-true, not_from_false, eqb-true}
 use Rattle.regex_lite_syntax.specs.declared.flags.Flags.{Flags}
 use Rattle.std.specs.List.{AllPass}
 use Rattle.std.proofs.lemmas.List.Sums.{AllPass-from_list_all}
 use Rattle.regex_lite_syntax.specs.Text.{Text, Begins, the}
 use Rattle.regex_lite_syntax.specs.Characters.{is_one_of}
-use Rattle.regex_lite_syntax.specs.Grammar.FlagLetters.{is_flag_letter, with_flags, all_differ, FlagLetters, setting, clearing}
+use Rattle.regex_lite_syntax.specs.Grammar.FlagLetters.{is_flag_letter, with_flags, all_differ}
+use Rattle.regex_lite_syntax.specs.Grammar.FlagLetters.{FlagLetters, setting, clearing}
 use Rattle.regex_lite_syntax.specs.Parser.FlagRuns.{EndedFlags, EndsRun, LetterRun}
 use Rattle.regex_lite_syntax.proofs.ListLemmas.{same_head, same_tail}
-use Rattle.regex_lite_syntax.proofs.parse.letters.FlagRunLemmas.{one_of_both, run_once, no_run_end, no_run_other}
+use Rattle.regex_lite_syntax.proofs.parse.letters.FlagRunLemmas.{one_of_both, run_once}
+use Rattle.regex_lite_syntax.proofs.parse.letters.FlagRunLemmas.{no_run_end, no_run_other}
 
 -- flags without a dash are one run, and those with one are two
 differ_first : (on off : Text) → IsTrue (all_differ (on ++ off)) → IsTrue (all_differ on)
@@ -30,8 +34,10 @@ no_dash_ends [] past e ends = cc
 no_dash_ends (c ∷ t) past e (inl h) = let same = same_head e in omega arith
 no_dash_ends (c ∷ t) past e (inr h) = let same = same_head e in omega arith
 
-set_run : (old : Flags) (on t rest : Text) (new : Flags) → t ≡ on ++ rest → AllPass is_flag_letter on
-    → IsTrue (all_differ on) → Begins (the ":") rest ⊎ Begins (the ")") rest → LetterRun [] on t rest
+set_run : (old : Flags) (on t rest : Text) (new : Flags) → t ≡ on ++ rest
+    → AllPass is_flag_letter on
+    → IsTrue (all_differ on) → Begins (the ":") rest ⊎ Begins (the ")") rest
+    → LetterRun [] on t rest
 set_run old on t rest new p all differ ends =
     record { written = p; all = all; differ = differ; ends = ends_run rest ends }
 
@@ -45,9 +51,12 @@ pub first_run : (old : Flags) (t rest : Text) (new : Flags) → EndedFlags old t
     → (letters : Text) × (u : Text) × LetterRun [] letters t u
 first_run old t rest new flags = of_letters flags.letters
   where
-    of_letters : FlagLetters old t rest new → (letters : Text) × (u : Text) × LetterRun [] letters t u
-    of_letters (setting on p all differ e) = (on, rest, set_run old on t rest new p all differ flags.ends)
-    of_letters (clearing on off past p q some all all_off differ e) = (on, the "-" ∷ past, dash_run on off t past p all differ)
+    of_letters : FlagLetters old t rest new
+        → (letters : Text) × (u : Text) × LetterRun [] letters t u
+    of_letters (setting on p all differ e) =
+        (on, rest, set_run old on t rest new p all differ flags.ends)
+    of_letters (clearing on off past p q some all all_off differ e) =
+        (on, the "-" ∷ past, dash_run on off t past p all differ)
 
 -- the letters past the dash
 pub record Cleared (on past rest : Text) : Type 0 where
@@ -56,22 +65,27 @@ pub record Cleared (on past rest : Text) : Type 0 where
   pub some : 0 < length off
 
 -- where a dash ends the first run, flags go on with another
-pub second_run : (old : Flags) (on t u past rest : Text) (new : Flags) → LetterRun [] on t u → u ≡ the "-" ∷ past
+pub second_run : (old : Flags) (on t u past rest : Text) (new : Flags) → LetterRun [] on t u
+    → u ≡ the "-" ∷ past
     → EndedFlags old t rest new → Cleared on past rest
 second_run old on t u past rest new run here flags = of_letters flags.letters
   where
     of_letters : FlagLetters old t rest new → Cleared on past rest
     of_letters (setting on' p all differ e) =
-        let same = run_once [] [] on on' t u rest run (set_run old on' t rest new p all differ flags.ends) in
+        let same =
+        run_once [] [] on on' t u rest run (set_run old on' t rest new p all differ flags.ends) in
         absurd (no_dash_ends rest past (sym same.1 ∙ here) flags.ends)
     of_letters (clearing on' off past' p q some all all_off differ e) =
-        let same = run_once [] [] on on' t u (the "-" ∷ past') run (dash_run on' off t past' p all differ) in
+        let same =
+        run_once [] [] on on' t u (the "-" ∷ past') run (dash_run on' off t past' p all differ) in
         let past_is = same_tail (sym same.1 ∙ here) in
         let other : LetterRun on' off past' rest =
         record { written = q; all = all_off; differ = differ; ends = ends_run rest flags.ends } in
         record {
           off = off;
-          run = subst (λ w. LetterRun w off past rest) (sym same.0) (subst (λ w. LetterRun on' off w rest) past_is other);
+          run =
+              subst (λ w. LetterRun w off past rest) (sym same.0)
+              (subst (λ w. LetterRun on' off w rest) past_is other);
           some = some;
         }
 
@@ -83,14 +97,16 @@ no_second_dash on off past u v rest run here ends cleared =
     no_dash_ends rest v (sym same.1 ∙ here) ends
 
 -- nor is there none of them
-pub some_second : (on off past u rest : Text) → LetterRun on off past u → length off ≡ 0 → Cleared on past rest → ⊥
+pub some_second : (on off past u rest : Text) → LetterRun on off past u → length off ≡ 0
+    → Cleared on past rest → ⊥
 some_second on off past u rest run none cleared =
     let same = run_once on on off cleared.off past u rest run cleared.run in
     let length_is = ap length same.0 in
     omega (arith, length_is, cleared.some)
 
 -- what ends a run and is no dash ends flags
-ends_flags : (t : Text) → EndsRun t → (Begins (the "-") t → ⊥) → Begins (the ":") t ⊎ Begins (the ")") t
+ends_flags : (t : Text) → EndsRun t → (Begins (the "-") t → ⊥)
+    → Begins (the ":") t ⊎ Begins (the ")") t
 ends_flags [] ends no_dash = absurd ends
 ends_flags (d ∷ t) ends no_dash =
     elim (or_cases (the "-" == d) _ ends) [
@@ -104,14 +120,16 @@ ends_flags (d ∷ t) ends no_dash =
       ]
     ]
 
-pub flags_set : (old : Flags) (on t rest : Text) (new : Flags) → LetterRun [] on t rest → (Begins (the "-") rest → ⊥)
+pub flags_set : (old : Flags) (on t rest : Text) (new : Flags) → LetterRun [] on t rest
+    → (Begins (the "-") rest → ⊥)
     → new ≡ with_flags true on old → EndedFlags old t rest new
 flags_set old on t rest new run no_dash e = record {
   letters = setting on run.written run.all run.differ e;
   ends = ends_flags rest run.ends no_dash;
 }
 
-pub flags_cleared : (old : Flags) (on off t u past rest : Text) (new : Flags) → LetterRun [] on t u → u ≡ the "-" ∷ past
+pub flags_cleared : (old : Flags) (on off t u past rest : Text) (new : Flags) → LetterRun [] on t u
+    → u ≡ the "-" ∷ past
     → LetterRun on off past rest → 0 < length off → (Begins (the "-") rest → ⊥)
     → new ≡ with_flags false off (with_flags true on old) → EndedFlags old t rest new
 flags_cleared old on off t u past rest new run dashed run_off some no_dash e =
@@ -125,9 +143,11 @@ nothing_passes : AllPass is_flag_letter []
 nothing_passes = AllPass-from_list_all is_flag_letter [] refl
 
 -- no flags stand at the end of the pattern
-pub no_flags_end : (old : Flags) (t rest : Text) (new : Flags) → t ≡ [] → EndedFlags old t rest new → ⊥
+pub no_flags_end : (old : Flags) (t rest : Text) (new : Flags) → t ≡ []
+    → EndedFlags old t rest new → ⊥
 no_flags_end old t rest new none flags =
-    let run = first_run old t rest new flags in no_run_end [] [] run.0 t t run.1 refl nothing_passes none run.2
+    let run = first_run old t rest new flags in
+    no_run_end [] [] run.0 t t run.1 refl nothing_passes none run.2
 
 -- nor at a character that is no part of flags
 pub no_flags_other : (old : Flags) (t rest : Text) (new : Flags) (c : ℕ) (u : Text) → t ≡ c ∷ u

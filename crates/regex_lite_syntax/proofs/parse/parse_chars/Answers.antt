@@ -14,7 +14,8 @@ use Rattle.regex_lite_syntax.specs.Parser.Machine.{stay}
 use Rattle.regex_lite_syntax.specs.Parser.States.{Finishes, FinishesTooDeep}
 use Rattle.regex_lite_syntax.proofs.parse.IndexLemmas.{drop_at}
 use Rattle.regex_lite_syntax.proofs.grammar.NameLemmas.{no_names_differ}
-use Rattle.regex_lite_syntax.proofs.machine.RunLemmas.{reaches_next, too_deep, admitted, end_says, step_says}
+use Rattle.regex_lite_syntax.proofs.machine.RunLemmas.{reaches_next, too_deep}
+use Rattle.regex_lite_syntax.proofs.machine.RunLemmas.{admitted, end_says, step_says}
 use Rattle.regex_lite_syntax.proofs.parse.parse_chars.Goals as goal
 
 pub loop-parser-init : goal.loop-parser-init
@@ -38,7 +39,9 @@ loop-parser-preserved c =
     λ deep. both_ways _ c.if-is_deeper_than.false (c.is_deeper_than.ensures.1 deep) in
     record {
       inside = c.in_ok-at.ensures.ok.in_pattern;
-      reaches = reaches_next config.flags config.nest_limit xs c.loop-parser.parser q (drop c.loop-parser.at xs)
+      reaches =
+          reaches_next config.flags config.nest_limit xs c.loop-parser.parser q
+          (drop c.loop-parser.at xs)
           (drop c.skip_gap-here.result xs) (drop c.in_ok-at.at xs) c.loop-parser.invariant.reaches
           c.skip_gap-here.ensures.gap c.in_ok-at.ensures.ok.reads (omega (arith, deeper));
     }
@@ -47,12 +50,16 @@ pub returns-then-is_deeper_than-clause-refused : goal.returns-then-is_deeper_tha
 returns-then-is_deeper_than-clause-refused c =
     let xs = c.args.chars.now in
     let config = c.args.config in
-    rw c.nesting.ensures (too_deep config.flags config.nest_limit xs c.loop-parser.parser c.step.new.self
-    (drop c.loop-parser.at xs) (drop c.skip_gap-here.result xs) (drop c.in_ok-at.at xs) c.loop-parser.invariant.reaches
-    c.skip_gap-here.ensures.gap c.in_ok-at.ensures.ok.reads (c.is_deeper_than.ensures.0 c.if-is_deeper_than.true))
+    rw c.nesting.ensures
+    (too_deep config.flags config.nest_limit xs c.loop-parser.parser c.step.new.self
+    (drop c.loop-parser.at xs) (drop c.skip_gap-here.result xs)
+    (drop c.in_ok-at.at xs) c.loop-parser.invariant.reaches
+    c.skip_gap-here.ensures.gap c.in_ok-at.ensures.ok.reads
+    (c.is_deeper_than.ensures.0 c.if-is_deeper_than.true))
 
 -- where the gap ends with the pattern
-gap_only : (xs : Text) (here : ℕ) (verbose : Bool) (t : Text) → here ≡ length xs → WholeGap verbose t (drop here xs)
+gap_only : (xs : Text) (here : ℕ) (verbose : Bool) (t : Text) → here ≡ length xs
+    → WholeGap verbose t (drop here xs)
     → Gap verbose t []
 gap_only xs here verbose t e whole =
     let none : drop here xs ≡ [] = drop_all here xs (omega (arith, e)) in
@@ -64,11 +71,13 @@ returns-then-here-chars-clause-tree c =
     let config = c.args.config in
     let p = c.loop-parser.parser in
     let t = drop c.loop-parser.at xs in
-    let gap = gap_only xs c.skip_gap-here.result _ t c.if-here-chars.true c.skip_gap-here.ensures.gap in
+    let gap =
+    gap_only xs c.skip_gap-here.result _ t c.if-here-chars.true c.skip_gap-here.ensures.gap in
     IfOk-weaker c.finish.result
     (λ hir. Finishes p (tree_of hir) × (config.nest_limit < depth (tree_of hir) → ⊥))
     (λ hir. IsAdmitted config.flags config.nest_limit xs (tree_of hir))
-    (λ hir ok. (admitted config.flags config.nest_limit xs p t (tree_of hir) c.loop-parser.invariant.reaches gap
+    (λ hir ok. (admitted config.flags config.nest_limit xs p t
+    (tree_of hir) c.loop-parser.invariant.reaches gap
     c.finish.ensures.groups ok.0 ok.1).0) c.finish.ensures.ok
 
 pub returns-then-here-chars-clause-regular : goal.returns-then-here-chars-clause-regular
@@ -77,11 +86,13 @@ returns-then-here-chars-clause-regular c =
     let config = c.args.config in
     let p = c.loop-parser.parser in
     let t = drop c.loop-parser.at xs in
-    let gap = gap_only xs c.skip_gap-here.result _ t c.if-here-chars.true c.skip_gap-here.ensures.gap in
+    let gap =
+    gap_only xs c.skip_gap-here.result _ t c.if-here-chars.true c.skip_gap-here.ensures.gap in
     IfOk-weaker c.finish.result
     (λ hir. Finishes p (tree_of hir) × (config.nest_limit < depth (tree_of hir) → ⊥))
     (λ hir. IsRegular (tree_of hir))
-    (λ hir ok. (admitted config.flags config.nest_limit xs p t (tree_of hir) c.loop-parser.invariant.reaches gap
+    (λ hir ok. (admitted config.flags config.nest_limit xs p t
+    (tree_of hir) c.loop-parser.invariant.reaches gap
     c.finish.ensures.groups ok.0 ok.1).1) c.finish.ensures.ok
 
 pub returns-then-here-chars-clause-refused : goal.returns-then-here-chars-clause-refused
@@ -90,20 +101,25 @@ returns-then-here-chars-clause-refused c =
     let config = c.args.config in
     let p = c.loop-parser.parser in
     let t = drop c.loop-parser.at xs in
-    let gap = gap_only xs c.skip_gap-here.result _ t c.if-here-chars.true c.skip_gap-here.ensures.gap in
+    let gap =
+    gap_only xs c.skip_gap-here.result _ t c.if-here-chars.true c.skip_gap-here.ensures.gap in
     IfErr-weaker c.finish.result
     (λ e. Refuses (kind_of e) (p.below.items ≢ []) (FinishesTooDeep p config.nest_limit) ⊥)
     (λ e. IsDueToPattern config.flags config.nest_limit xs (kind_of e))
-    (λ e. end_says config.flags config.nest_limit xs p t (kind_of e) c.loop-parser.invariant.reaches gap) c.finish.ensures.refused
+    (λ e. end_says config.flags config.nest_limit xs p t
+    (kind_of e) c.loop-parser.invariant.reaches gap) c.finish.ensures.refused
 
 pub returns-in_err-at-clause-refused : goal.returns-in_err-at-clause-refused
 returns-in_err-at-clause-refused c =
     let xs = c.args.chars.now in
     let config = c.args.config in
     let here = c.skip_gap-here.result in
-    let inside : here < length xs = omega (arith, c.if-here-chars.false, c.skip_gap-here.ensures.inside) in
+    let inside : here < length xs =
+    omega (arith, c.if-here-chars.false, c.skip_gap-here.ensures.inside) in
     let more : drop here xs ≡ [] → ⊥ = λ e. cc (e, drop_at xs here inside) in
     let left = err_from_is_err_and c.from_residual.result c.from_residual.ensures.1 in
-    rw (left.1, left.2) (step_says config.flags config.nest_limit xs c.loop-parser.parser (drop c.loop-parser.at xs)
-    (drop here xs) (kind_of c.in_err-at.field-0.0) c.loop-parser.invariant.reaches c.skip_gap-here.ensures.gap more
+    rw (left.1, left.2)
+    (step_says config.flags config.nest_limit xs c.loop-parser.parser (drop c.loop-parser.at xs)
+    (drop here xs)
+    (kind_of c.in_err-at.field-0.0) c.loop-parser.invariant.reaches c.skip_gap-here.ensures.gap more
     c.in_err-at.ensures.refused)

@@ -6,7 +6,9 @@ ghost use Rattle.regex_lite_syntax.specs.Sets.{Set};
 ghost use Rattle.regex_lite_syntax.specs.Grammar.Escapes.{Primitive as Given};
 ghost use Rattle.regex_lite_syntax.specs.Grammar.Classes.{ClassElement, RangeFollows, ClassItem};
 ghost use Rattle.regex_lite_syntax.specs.Parser.Readings.{primitive_of};
-ghost use Rattle.regex_lite_syntax.specs.Parser.ClassReadings.{element_primitive, IsElement, item_set, BeginsOperator, RangeTo, EndsOpen, HasItems};
+ghost use Rattle.regex_lite_syntax.specs.Parser.ClassReadings.{element_primitive, IsElement};
+ghost use Rattle.regex_lite_syntax.specs.Parser.ClassReadings.{item_set, BeginsOperator};
+ghost use Rattle.regex_lite_syntax.specs.Parser.ClassReadings.{RangeTo, EndsOpen, HasItems};
 
 use crate::class::named::NamedSet;
 use crate::error::SyntaxFault;

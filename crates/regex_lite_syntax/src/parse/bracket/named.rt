@@ -1,9 +1,11 @@
 //! Sets that stand in a class by their names, as `[:alpha:]`.
-ghost use Rattle.std.specs.Prelude.{◌≡◌, ◌<◌, ◌≤◌, ◌-◌, ◌++◌, drop, take, length, IfSome, MatchOption, find};
+ghost use Rattle.std.specs.Prelude.{◌≡◌, ◌<◌, ◌≤◌, ◌-◌, ◌++◌, drop, take};
+ghost use Rattle.std.specs.Prelude.{length, IfSome, MatchOption, find};
 ghost use Rattle.std.specs.List.{AllPass};
 ghost use Rattle.regex_lite_syntax.specs.Text.{is_text};
 ghost use Rattle.regex_lite_syntax.specs.Characters.{is_lower};
-ghost use Rattle.regex_lite_syntax.specs.Parser.ClassReadings.{set_name, Lacks, IsNamedSet, HasNamedSet};
+ghost use Rattle.regex_lite_syntax.specs.Parser.ClassReadings.{set_name, Lacks};
+ghost use Rattle.regex_lite_syntax.specs.Parser.ClassReadings.{IsNamedSet, HasNamedSet};
 
 use crate::class::named::NamedSet;
 use crate::parse::bracket::item::Element;

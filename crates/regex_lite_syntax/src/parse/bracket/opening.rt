@@ -2,7 +2,8 @@
 ghost use Rattle.std.specs.Prelude.{◌≡◌, ◌<◌, ◌≤◌, ◌+◌, ◌∷◌, ℕ, nat_lt, drop, length};
 ghost use Rattle.regex_lite_syntax.specs.Text.{the};
 ghost use Rattle.regex_lite_syntax.specs.Grammar.Gaps.{EndsGap};
-ghost use Rattle.regex_lite_syntax.specs.Grammar.Classes.{Takes, Dashes, FirstBracket, ClassOpening};
+ghost use Rattle.regex_lite_syntax.specs.Grammar.Classes.{Takes, Dashes};
+ghost use Rattle.regex_lite_syntax.specs.Grammar.Classes.{FirstBracket, ClassOpening};
 
 use crate::error::SyntaxFault;
 use crate::parse::gap::skip_gap;

@@ -1,10 +1,12 @@
 //! Starts and ends of words: `\b`, and its forms with a name in braces.
-ghost use Rattle.std.specs.Prelude.{◌≡◌, ◌≤◌, ◌∷◌, drop, length, IsTrue, IfOk, OnErr, IfSome, IfNone};
+ghost use Rattle.std.specs.Prelude.{◌≡◌, ◌≤◌, ◌∷◌, drop, length, IsTrue};
+ghost use Rattle.std.specs.Prelude.{IfOk, OnErr, IfSome, IfNone};
 ghost use Rattle.std.specs.List.{list_all};
 ghost use Rattle.regex_lite_syntax.specs.declared.hir.look.Look.{Look};
 ghost use Rattle.regex_lite_syntax.specs.Text.{Text, the};
 ghost use Rattle.regex_lite_syntax.specs.Grammar.Gaps.{Gap, Spaced};
-ghost use Rattle.regex_lite_syntax.specs.Grammar.Escapes.{is_boundary_character, BoundaryName, WordBoundary};
+ghost use Rattle.regex_lite_syntax.specs.Grammar.Escapes.{is_boundary_character};
+ghost use Rattle.regex_lite_syntax.specs.Grammar.Escapes.{BoundaryName, WordBoundary};
 
 use crate::error::SyntaxFault;
 use crate::hir::look::Look;

@@ -1,5 +1,6 @@
 //! Characters by their numbers: a fixed number of hexadecimal digits, or some in braces.
-ghost use Rattle.std.specs.Prelude.{◌≡◌, ℕ, ◌<◌, ◌≤◌, drop, length, IsTrue, false, MatchOption, IfOk, OnErr};
+ghost use Rattle.std.specs.Prelude.{◌≡◌, ℕ, ◌<◌, ◌≤◌, drop, length, IsTrue};
+ghost use Rattle.std.specs.Prelude.{false, MatchOption, IfOk, OnErr};
 ghost use Rattle.regex_lite_syntax.specs.Text.{Text};
 ghost use Rattle.regex_lite_syntax.specs.Characters.{is_hex_digit, digit_value as value_of_digit};
 ghost use Rattle.regex_lite_syntax.specs.Grammar.Escapes.{FixedDigits, BracedDigits, Hexadecimal};

@@ -1,7 +1,8 @@
 use Rattle.std.proofs.Common.{◌++◌, [], None, false, ap, sym, subst, ◌∙◌}
 use Rattle.regex_lite.specs.Ahead.{groups_ahead_of, whole}
 use Rattle.rxl.specs.Printed.{groups_line}
-use Rattle.rxl.proofs.ListLemmas.{GroupsLeadOn, groups_end, groups_more, groups_start, same_haystack, same_regex}
+use Rattle.rxl.proofs.ListLemmas.{GroupsLeadOn, groups_end, groups_more}
+use Rattle.rxl.proofs.ListLemmas.{groups_start, same_haystack, same_regex}
 use Rattle.rxl.proofs.OutputLemmas.{puts_more, puts_nothing}
 use Rattle.rxl.proofs.commands.print_captures.Goals as goal
 
@@ -36,7 +37,8 @@ loop-item-preserved g c =
           (g.W.Write.contents c.print_groups.new.out) inv.printed (groups_line caps.spans) inv.puts
           c.print_groups.ensures;
       so_far = groups_more (whole c.args.regex.now c.args.haystack.now None)
-          old new c.loop-item.has_match inv.printed step.0 caps inv.so_far step.4 inv.regex inv.haystack
+          old new c.loop-item.has_match inv.printed step.0 caps inv.so_far step.4 inv.regex
+          inv.haystack
           step.1;
       regex = same_regex old new step.0 c.args.regex.now step.4 inv.regex;
       haystack = same_haystack old new step.0 c.args.haystack.now step.4 inv.haystack;

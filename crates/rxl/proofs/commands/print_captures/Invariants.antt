@@ -10,7 +10,8 @@ invariant-loop-item g l = record {
   finite : (goal.iterator-loop-item g).is_finite l.item-iterator;
   printed : List ℕ;
   puts : Puts l.fn.output (g.W.Write.contents l.fn.out) l.output (g.W.Write.contents l.out) printed;
-  so_far : GroupsLeadOn (whole l.regex l.haystack None) (groups_ahead_of l.item-iterator) l.has_match printed;
+  so_far : GroupsLeadOn (whole l.regex l.haystack None)
+      (groups_ahead_of l.item-iterator) l.has_match printed;
   regex : (groups_ahead_of l.item-iterator).sought ≡ l.regex;
   haystack : l.item-iterator.scan.haystack ≡ l.haystack;
 }

@@ -2,7 +2,8 @@ use Rattle.std.proofs.Common.{◌++◌, ◌∷◌, [], codes, map, option_map, a
 use Rattle.regex_lite.specs.MatchViews.{span_of_match, spans_to_come}
 use Rattle.rxl.specs.Output.{Puts}
 use Rattle.rxl.specs.Printed.{group_text, groups_line}
-use Rattle.rxl.proofs.GroupLineLemmas.{all_left, alone, group_alone, line_begins, line_ends, line_goes_on, separated, spans_left}
+use Rattle.rxl.proofs.GroupLineLemmas.{all_left, alone, group_alone, line_begins}
+use Rattle.rxl.proofs.GroupLineLemmas.{line_ends, line_goes_on, separated, spans_left}
 use Rattle.rxl.proofs.OutputLemmas.{puts_more, puts_nothing}
 use Rattle.rxl.proofs.commands.print_groups.Goals as goal
 
@@ -17,7 +18,9 @@ loop-group-init g c =
       text = search rules;
       printed = [];
       puts = puts_nothing c.args.output.now (g.W.Write.contents c.args.out.now);
-      on = ap (separated []) (all_left c.into_iter-group-iterator.result spans are) ∙ line_begins spans;
+      on =
+          ap (separated []) (all_left c.into_iter-group-iterator.result spans are)
+          ∙ line_begins spans;
     }
 
 pub loop-group-preserved : goal.loop-group-preserved

@@ -22,10 +22,13 @@ loop-piece-preserved g c =
       printed = held.printed ++ piece_line piece;
       puts = puts_more c.args.output.now c.loop-piece.output c.text-in-loop-piece-2.new.self
           (g.W.Write.contents c.args.out.now) (g.W.Write.contents c.loop-piece.out)
-          (g.W.Write.contents c.text-in-loop-piece-2.new.out) held.printed (piece_line piece) held.puts
-          (line_put c.loop-piece.output c.text.new.self c.text-in-loop-piece.new.self c.text-in-loop-piece-2.new.self
+          (g.W.Write.contents c.text-in-loop-piece-2.new.out) held.printed
+          (piece_line piece) held.puts
+          (line_put c.loop-piece.output c.text.new.self c.text-in-loop-piece.new.self
+          c.text-in-loop-piece-2.new.self
           (g.W.Write.contents c.loop-piece.out) (g.W.Write.contents c.text.new.out)
-          (g.W.Write.contents c.text-in-loop-piece.new.out) (g.W.Write.contents c.text-in-loop-piece-2.new.out) piece
+          (g.W.Write.contents c.text-in-loop-piece.new.out)
+          (g.W.Write.contents c.text-in-loop-piece-2.new.out) piece
           c.text.ensures c.text-in-loop-piece.ensures c.text-in-loop-piece-2.ensures);
       follow = pieces_more c.args.regex.now c.args.haystack.now c.loop-piece.piece-iterator
           c.next.new.self held.printed piece held.follow c.in-Some.ensures.steps.1;

@@ -20,7 +20,8 @@ loop-preserved g c =
       }
       | in-Err w ↦ record {
         written = held.written;
-        appended = appends_kept bytes before after held.written held.appended w.in-Err.ensures.bytes;
+        appended =
+            appends_kept bytes before after held.written held.appended w.in-Err.ensures.bytes;
         parts = held.parts ∙ ap (λ rest. held.written ++ rest.now) (sym w.rest-is);
       }
     ]

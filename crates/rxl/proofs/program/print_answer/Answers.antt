@@ -18,7 +18,8 @@ returns-in_err-written-clause-refused g c =
     let holds = g.W.Write.contents c.finish-written.new.out in
     let input = g.R.Read.remaining c.args.input.now in
     let text = c.in_ok-found.ensures.ok in
-    let w : IsWritten before holds text.0 false = all_written before held holds c.in_ok-output.output
+    let w : IsWritten before holds text.0 false =
+    all_written before held holds c.in_ok-output.output
     c.answer-answer.new.output false text.0 c.in_ok-output.ensures.waiting
     c.in_ok-output.ensures.has_failed text.2 c.in_err-written.ensures.written in
     handed_on c.from_residual-in_err-written.result c.from_residual-in_err-written.ensures.1

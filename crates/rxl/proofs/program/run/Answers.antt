@@ -16,5 +16,6 @@ returns-in-Err-clause-usage g c none =
       told.1,
       told.2,
       usage_reported c.in-Err.fault (g.E.Write.contents c.args.err.now)
-          (g.E.Write.contents c.report.new.out) (is_ok c.report.result) (ap fault_of told.0) c.report.ensures,
+          (g.E.Write.contents c.report.new.out) (is_ok c.report.result)
+          (ap fault_of told.0) c.report.ensures,
     )

@@ -2,7 +2,10 @@ use Rattle.std.proofs.Common.{sym, ◌∙◌, ap, true, false, append-nil, strin
 use Rattle.std.proofs.lemmas.Str.{IsUtf8-past_char}
 use Rattle.regex_lite.proofs.string.escape.EscapeLemmas.{all_written, one_more}
 use Rattle.regex_lite.proofs.string.escape.escape.Goals as goal
-use Rattle.regex_lite.proofs.string.escape.escape.Goals.{then-is_meta_character+in_ok-push, else-is_meta_character}
+use Rattle.regex_lite.proofs.string.escape.escape.Goals.{
+  then-is_meta_character+in_ok-push,
+  else-is_meta_character,
+}
 
 pub loop-c-preserved : goal.loop-c-preserved
 loop-c-preserved c =
@@ -14,11 +17,13 @@ loop-c-preserved c =
         | then-is_meta_character+in_ok-push w ↦
             one_more _ _ _ _ _ _ c.in-Some.c true held.text parts
             (sym c.is_meta_character.ensures ∙ w.if-is_meta_character.true)
-            (ap string_bytes w.escaped-is ∙ w.in_ok-push.ensures.bytes) c.in_ok-push-2.ensures.bytes held.so_far
+            (ap string_bytes w.escaped-is ∙ w.in_ok-push.ensures.bytes) c.in_ok-push-2.ensures.bytes
+            held.so_far
         | else-is_meta_character w ↦
             one_more _ _ _ _ _ _ c.in-Some.c false held.text parts
             (sym c.is_meta_character.ensures ∙ w.if-is_meta_character.false)
-            (ap string_bytes w.escaped-is ∙ sym (append-nil _)) c.in_ok-push-2.ensures.bytes held.so_far
+            (ap string_bytes w.escaped-is ∙ sym (append-nil _)) c.in_ok-push-2.ensures.bytes
+            held.so_far
       ];
     }
 

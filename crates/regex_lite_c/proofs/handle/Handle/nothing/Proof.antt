@@ -32,11 +32,14 @@ nothing_spec 𝓤 𝓛 𝓜 𝓡 wired =
     let c = f.clauses 𝓛 𝓜.mem 𝓡.returns in
     proved_at 𝓛 f.ended tt c 𝓜 𝓡 tt f.Key.name code.function (code.unfolded 𝓤 H 𝓜 𝓡 wired) (λ z are.
     let Post : Val → SProp 𝓤 = (walk_of 𝓛 f.ended tt c).post z in
-    qed 𝓛 (raw (on_entry 𝓛 f.signature z.0.0 z.0.1 z.0.3 z.0.4) ∷ raw ((c z.0.0 z.0.3).requires z.1) ∷ []) ∵ drop ! $ drop ! $
+    qed 𝓛
+    (raw (on_entry 𝓛 f.signature z.0.0 z.0.1 z.0.3 z.0.4) ∷ raw ((c z.0.0 z.0.3).requires z.1) ∷ [])
+    ∵ drop ! $ drop ! $
     enter ! 𝓣.C 𝓣.Λ code.function [] Post $ alloc_all ! (λ l. pass_all ! refl tt $
     sets ! (of_opd ! (lit ! tt)) refl (tt, record { fits = lit< tt }) $
     sets ! (agg ! (and_then ! (get ! refl) (no_more !))) refl (word-Good ν null_ptr) $
     use0 𝓛 (raw (fact 𝓤 (None' ≡ None'))) (fact_i 𝓤 (None' ≡ None') (emp 𝓤) refl) $
     nothing ! $ word_made [] ν null_ptr ! $ fjoin ! $ nothing ! $ nothing ! $
     returns ! (look_at ! 0 refl) $ free_all ! refl $
-    by ! (leaves 𝓛 f.ended tt c z (word null_ptr) (record { ptr = null_ptr; value = None' }) tt tt)))
+    by !
+    (leaves 𝓛 f.ended tt c z (word null_ptr) (record { ptr = null_ptr; value = None' }) tt tt)))

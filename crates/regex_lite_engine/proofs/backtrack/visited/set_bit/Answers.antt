@@ -1,4 +1,5 @@
-use Rattle.regex_lite_engine.proofs.backtrack.BitLemmas.{found_by_shift, is_new, is_old, set_again, set_by_mask}
+use Rattle.regex_lite_engine.proofs.backtrack.BitLemmas.{found_by_shift, is_new, is_old}
+use Rattle.regex_lite_engine.proofs.backtrack.BitLemmas.{set_again, set_by_mask}
 use Rattle.regex_lite_engine.proofs.backtrack.visited.set_bit.Goals as goal
 
 pub returns-then-word-k-eq1-clause-fresh : goal.returns-then-word-k-eq1-clause-fresh

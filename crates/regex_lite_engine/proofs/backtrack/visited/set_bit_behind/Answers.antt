@@ -1,4 +1,5 @@
-use Rattle.std.proofs.Common.{◌≡◌, ◌-◌, ◌↔◌, ℕ, IsTrue, false, true, length, slice_index_or, slice_set, subst, ap, ◌∙◌, arith}
+use Rattle.std.proofs.Common.{◌≡◌, ◌-◌, ◌↔◌, ℕ, IsTrue, false, true, length}
+use Rattle.std.proofs.Common.{slice_index_or, slice_set, subst, ap, ◌∙◌, arith}
 use Rattle.std.proofs.lemmas.List.{with_items_is}
 use Rattle.regex_lite_engine.specs.Backtrack.Bits.{bits_of}
 use Rattle.regex_lite_engine.proofs.backtrack.BitLemmas.{bits_before_zeros}

@@ -6,7 +6,8 @@ use Rattle.regex_lite_engine.specs.Graph.Stored.{StoredTable, places_of}
 use Rattle.regex_lite_engine.specs.Graph.Renumbered.{IsRenumbered, IsNumberOf, arrows_of}
 use Rattle.regex_lite_engine.specs.Graph.WrittenOut.{written_out, start_address}
 use Rattle.regex_lite_engine.specs.Nfa.Layout.{whole_layout, whole_table}
-use Rattle.regex_lite_engine.proofs.nfa.write.RenumberingLemmas.{whole_names, renumbered, starts, closed, start_inside}
+use Rattle.regex_lite_engine.proofs.nfa.write.RenumberingLemmas.{whole_names, renumbered}
+use Rattle.regex_lite_engine.proofs.nfa.write.RenumberingLemmas.{starts, closed, start_inside}
 use Rattle.regex_lite_engine.proofs.nfa.count.ArrowCountLemmas.{arrows_whole}
 use Rattle.regex_lite_engine.proofs.nfa.count.ReadingCountLemmas.{reading_whole, reading_few}
 use Rattle.regex_lite_engine.proofs.nfa.count.KeptBackLemmas.{kept_back_whole}
@@ -19,7 +20,8 @@ returns-clause-ok c =
     let tree = tree_of c.args.hir.now in
     let table : List (Place ℕ) = places_of c.new-table.result in
     let name : ℕ → Address = whole_names tree c.requires in
-    let start_is : c.in_ok-places.start ≡ (whole_layout tree).1 = c.in_ok-places.ensures.written.0 in
+    let start_is : c.in_ok-places.start ≡ (whole_layout tree).1 =
+    c.in_ok-places.ensures.written.0 in
     let table_is : table ≡ whole_table tree
     = ap places_of c.new-table.ensures ∙ c.in_ok-places.ensures.written.1 in
     let fits = (c.in_ok-count.ensures.ok tree c.of-counts.ensures).1 in

@@ -19,7 +19,8 @@ run-requires-clause-counts c =
     let short : length haystack < 2 ^ 63 = search rules in
     can_count (table_of c.args.self.now) haystack (position_at haystack c.args.start)
     c.utf8.haystack short
-    (subst IsCountable (ap places_of c.table.ensures.same) c.in_ok-cache.ensures.countable) 1 (omega arith)
+    (subst IsCountable (ap places_of c.table.ensures.same) c.in_ok-cache.ensures.countable) 1
+    (omega arith)
 
 pub returns-clause-found : goal.returns-clause-found
 returns-clause-found c = λ tree regular is. (

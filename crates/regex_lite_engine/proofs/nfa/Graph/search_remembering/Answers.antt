@@ -19,15 +19,18 @@ find_once-span-requires-clause-counts c =
     let short : length haystack < 2 ^ 63 = search rules in
     can_count (table_of c.args.self.now) haystack (position_at haystack c.args.start)
     c.utf8.haystack short
-    (subst IsCountable (ap places_of c.table.ensures.same) c.in_ok-cache.ensures.countable) 1 (omega arith)
+    (subst IsCountable (ap places_of c.table.ensures.same) c.in_ok-cache.ensures.countable) 1
+    (omega arith)
 
 pub returns-clause-found : goal.returns-clause-found
 returns-clause-found c = λ tree regular is. (
     let graph = c.args.self.now in
     let haystack = c.args.haystack.now in
     let found = one_best (table_of graph) (chars haystack) graph.start
-    (position_at haystack c.args.start) (best_told c.find_once-span.result) c.find_once-span.ensures.found in
-    answer_told tree regular graph is haystack c.args.start c.requires.boundary.0 c.without_slots.result
+    (position_at haystack c.args.start)
+    (best_told c.find_once-span.result) c.find_once-span.ensures.found in
+    answer_told tree regular graph is haystack c.args.start c.requires.boundary.0
+    c.without_slots.result
     (subst (λ z. IsNumberedOutcome (table_of graph) (chars haystack) graph.start
     (position_at haystack c.args.start) z) (sym c.without_slots.ensures.told) found))
 

@@ -12,22 +12,27 @@ use Rattle.regex_lite_engine.proofs.nfa.Graph.search_shortest.Goals as goal
 pub run_shortest-requires-clause-counts : goal.run_shortest-requires-clause-counts
 run_shortest-requires-clause-counts c =
     let short : length c.args.haystack.now < 2 ^ 63 = search rules in
-    can_count (table_of c.args.self.now) c.args.haystack.now (position_at c.args.haystack.now c.args.start) c.utf8.haystack short
-    (subst IsCountable (ap places_of c.table.ensures.same) c.in_ok-cache.ensures.countable) 1 (omega arith)
+    can_count (table_of c.args.self.now) c.args.haystack.now
+    (position_at c.args.haystack.now c.args.start) c.utf8.haystack short
+    (subst IsCountable (ap places_of c.table.ensures.same) c.in_ok-cache.ensures.countable) 1
+    (omega arith)
 
 pub returns-clause-found : goal.returns-clause-found
 returns-clause-found c = λ tree regular is. (
     let over = c.if-start-haystack.false in
     subst (λ z. IsEndOutcome tree c.args.haystack.now c.args.start z) (sym c.end.ensures)
-    (end_told tree regular c.args.self.now is c.args.haystack.now c.args.start (omega (arith, over)) (best_of c.run_shortest.new.cache.best)
+    (end_told tree regular c.args.self.now is c.args.haystack.now c.args.start (omega (arith, over))
+    (best_of c.run_shortest.new.cache.best)
     (one_end (table_of c.args.self.now) (chars c.args.haystack.now) c.args.self.now.start
-    (position_at c.args.haystack.now c.args.start) (best_of c.run_shortest.new.cache.best) c.run_shortest.ensures.found)))
+    (position_at c.args.haystack.now c.args.start)
+    (best_of c.run_shortest.new.cache.best) c.run_shortest.ensures.found)))
 
 pub returns-clause-cost : goal.returns-clause-cost
 returns-clause-cost c = λ tree is.
     let over = c.if-start-haystack.false in
     let steps = c.run_shortest.new.cache.walk.steps in
-    cost_told tree c.args.self.now is c.args.haystack.now c.args.start (omega (arith, over)) steps.tried steps.entered steps.looked c.run_shortest.ensures.bounded
+    cost_told tree c.args.self.now is c.args.haystack.now c.args.start
+    (omega (arith, over)) steps.tried steps.entered steps.looked c.run_shortest.ensures.bounded
 
 pub run_shortest-requires-clause-fresh : goal.run_shortest-requires-clause-fresh
 run_shortest-requires-clause-fresh c =

@@ -16,13 +16,15 @@ find_shortest_once-end-requires-clause-fresh c =
     subst (λ table. IsFresh table c.in_ok-cache.cache) (ap places_of c.table.ensures.same)
     c.in_ok-cache.ensures.fresh
 
-pub find_shortest_once-end-requires-clause-counts : goal.find_shortest_once-end-requires-clause-counts
+pub find_shortest_once-end-requires-clause-counts :
+    goal.find_shortest_once-end-requires-clause-counts
 find_shortest_once-end-requires-clause-counts c =
     let haystack = c.args.haystack.now in
     let short : length haystack < 2 ^ 63 = search rules in
     can_count (table_of c.args.self.now) haystack (position_at haystack c.args.start)
     c.utf8.haystack short
-    (subst IsCountable (ap places_of c.table.ensures.same) c.in_ok-cache.ensures.countable) 1 (omega arith)
+    (subst IsCountable (ap places_of c.table.ensures.same) c.in_ok-cache.ensures.countable) 1
+    (omega arith)
 
 pub returns-clause-found : goal.returns-clause-found
 returns-clause-found c = λ tree regular is.
@@ -30,7 +32,8 @@ returns-clause-found c = λ tree regular is.
     let haystack = c.args.haystack.now in
     let end = c.find_shortest_once-end.result in
     subst (λ z. IsEndOutcome tree haystack c.args.start z) (end_back end)
-    (outcome.end_told tree regular graph is haystack c.args.start c.requires.boundary.0 (end_told end)
+    (outcome.end_told tree regular graph is haystack c.args.start c.requires.boundary.0
+    (end_told end)
     (one_end (table_of graph) (chars haystack) graph.start (position_at haystack c.args.start)
     (end_told end) c.find_shortest_once-end.ensures.found))
 

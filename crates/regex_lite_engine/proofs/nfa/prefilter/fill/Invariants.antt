@@ -7,7 +7,8 @@ abbrev pub invariant-loop-row : goal.invariant-loop-row
 invariant-loop-row l = record {
   same : length l.bytes ≡ length l.fn.bytes;
   room : l.len ≤ length l.bytes;
-  written : (byte : ℕ) → byte < 16 * l.row → stops_at l.starts byte ≡ true → StandsBelow l.bytes l.len byte;
+  written : (byte : ℕ) → byte < 16 * l.row → stops_at l.starts byte ≡ true
+      → StandsBelow l.bytes l.len byte;
 }
 
 abbrev pub invariant-loop-k : goal.invariant-loop-k
@@ -15,5 +16,6 @@ invariant-loop-k l = record {
   same : length l.bytes ≡ length l.fn.bytes;
   above : l.len ≤ l.k;
   room : l.len ≤ length l.bytes;
-  written : (byte : ℕ) → byte < 128 → stops_at l.starts byte ≡ true → StandsBelow l.bytes l.len byte;
+  written : (byte : ℕ) → byte < 128 → stops_at l.starts byte ≡ true
+      → StandsBelow l.bytes l.len byte;
 }

@@ -7,5 +7,6 @@ abbrev pub invariant-loop-code : goal.invariant-loop-code
 invariant-loop-code l = record {
   same : length l.bytes ≡ length l.fn.bytes;
   room : l.len ≤ length l.bytes;
-  written : (byte : ℕ) → byte < l.code → stops_at l.starts byte ≡ true → StandsBelow l.bytes l.len byte;
+  written : (byte : ℕ) → byte < l.code → stops_at l.starts byte ≡ true
+      → StandsBelow l.bytes l.len byte;
 }

@@ -8,7 +8,8 @@ use Rattle.regex_lite_syntax.specs.Tree.Properties.{greatest_index}
 use Rattle.regex_lite_engine.specs.Graph.Stored.{place_of}
 use Rattle.regex_lite_engine.specs.Graph.PlaceCounts.{whole_places}
 use Rattle.regex_lite_engine.specs.Graph.SideBySide.{places_of_all}
-use Rattle.regex_lite_engine.specs.Nfa.Layout.{pattern_layout, pattern_table, patterns_table, patterns_entries}
+use Rattle.regex_lite_engine.specs.Nfa.Layout.{pattern_layout, pattern_table}
+use Rattle.regex_lite_engine.specs.Nfa.Layout.{patterns_table, patterns_entries}
 use Rattle.regex_lite_engine.proofs.nfa.write.write_all.Goals as goal
 
 pub write_pattern-requires-clause-slots : goal.write_pattern-requires-clause-slots

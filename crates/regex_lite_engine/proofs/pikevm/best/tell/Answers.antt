@@ -1,8 +1,10 @@
-use Rattle.std.proofs.Common.{◌≡◌, ℕ, zero, suc, ◌+◌, ◌<◌, List, [], ◌∷◌, ◌++◌, length, take, drop, set, slice_index_or, Option, ap, ◌∙◌, arith}
+use Rattle.std.proofs.Common.{◌≡◌, ℕ, zero, suc, ◌+◌, ◌<◌, List, [], ◌∷◌, ◌++◌, length}
+use Rattle.std.proofs.Common.{take, drop, set, slice_index_or, Option, ap, ◌∙◌, arith}
 use Rattle.regex_lite_engine.proofs.pikevm.best.tell.Goals as goal
 
 -- one more of the first list
-one_more : (xs ys : List (Option ℕ)) (k : ℕ) (x : Option ℕ) → k < length xs → length xs ≡ length ys → x ≡ slice_index_or xs k x →
+one_more : (xs ys : List (Option ℕ)) (k : ℕ) (x : Option ℕ) → k < length xs → length xs ≡ length ys
+    → x ≡ slice_index_or xs k x →
     set (take k xs ++ drop k ys) k x ≡ take (k + 1) xs ++ drop (k + 1) ys
 one_more [] ys k x lt same is = absurd (omega (arith, lt))
 one_more (a ∷ xs) [] k x lt same is = absurd (omega (arith, same))
@@ -15,6 +17,8 @@ one_more (a ∷ xs) (b ∷ ys) (suc k) x lt same is =
 pub slots-preserved : goal.slots-preserved
 slots-preserved c = record {
   told = ap (λ z. set z c.slots.k c.get.result) c.slots.invariant.told
-      ∙ ap (λ x. set (take c.slots.k c.args.slots.now ++ drop c.slots.k c.args.row.now) c.slots.k x) c.get.ensures
-      ∙ one_more c.args.slots.now c.args.row.now c.slots.k c.index-slots-k.result c.slots-test.true c.requires c.index-slots-k.is;
+      ∙ ap (λ x. set (take c.slots.k c.args.slots.now ++ drop c.slots.k c.args.row.now) c.slots.k x)
+      c.get.ensures
+      ∙ one_more c.args.slots.now c.args.row.now c.slots.k c.index-slots-k.result c.slots-test.true
+      c.requires c.index-slots-k.is;
 }

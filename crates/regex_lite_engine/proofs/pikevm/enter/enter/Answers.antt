@@ -7,5 +7,6 @@ use Rattle.regex_lite_engine.proofs.pikevm.enter.enter.Goals as goal
 pub returns-in-Slot-clause-entered : goal.returns-in-Slot-clause-entered
 returns-in-Slot-clause-entered g c =
     let a = c.args in let m = a.memory.now in let n = c.mark.new.memory in
-    subst (λ (x : code.Place). Enters a.here (g.S.Beginning.told a.start) x m.row m.frames m.next n.row (explore c.in-Slot.to ∷ n.frames) n.next false) (sym c.in-Slot.is)
+    subst (λ (x : code.Place). Enters a.here (g.S.Beginning.told a.start) x m.row m.frames m.next
+    n.row (explore c.in-Slot.to ∷ n.frames) n.next false) (sym c.in-Slot.is)
     (c.mark.ensures.marked c.in-Slot.to, ap (λ (z : State). z.next) c.mark.ensures.same, refl)

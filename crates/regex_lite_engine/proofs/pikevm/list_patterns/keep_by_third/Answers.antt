@@ -1,10 +1,14 @@
-use Rattle.std.proofs.Common.{rules, ◌≡◌, ◌+◌, ℕ, Bool, suc, List, [], ◌∷◌, None, filter, length, ap, refl, sym, ◌∙◌, arith}
+use Rattle.std.proofs.Common.{rules, ◌≡◌, ◌+◌, ℕ, Bool, suc, List, [], ◌∷◌}
+use Rattle.std.proofs.Common.{None, filter, length, ap, refl, sym, ◌∙◌, arith}
 use Rattle.std.specs.Prelude.{chars}
 use Rattle.regex_lite_syntax.specs.Text.{after}
 use Rattle.regex_lite_engine.specs.Nfa.Thirds.{may_go_on}
 use Rattle.regex_lite_engine.proofs.nfa.list_heads.ThirdLemmas.{all_go_on, none_later}
 use Rattle.regex_lite_engine.proofs.pikevm.list_patterns.keep_by_third.Goals as goal
-use Rattle.regex_lite_engine.proofs.pikevm.list_patterns.keep_by_third.Goals.{then-is_empty-via-then-is_empty, then-is_empty-via-else-is_empty+then-is_none}
+use Rattle.regex_lite_engine.proofs.pikevm.list_patterns.keep_by_third.Goals.{
+  then-is_empty-via-then-is_empty,
+  then-is_empty-via-else-is_empty+then-is_none,
+}
 
 of_none : (test : ℕ → Bool) (numbers : List ℕ) → length numbers ≡ 0 → numbers ≡ filter test numbers
 of_none test [] none = refl

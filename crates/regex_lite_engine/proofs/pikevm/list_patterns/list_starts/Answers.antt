@@ -1,4 +1,5 @@
-use Rattle.std.proofs.Common.{◌≡◌, ◌+◌, ◌&&◌, ℕ, suc, Option, Some, ap, sym, ◌∙◌, List, length, arith}
+use Rattle.std.proofs.Common.{◌≡◌, ◌+◌, ◌&&◌, ℕ, suc, Option, Some}
+use Rattle.std.proofs.Common.{ap, sym, ◌∙◌, List, length, arith}
 use Rattle.std.specs.Prelude.{chars}
 use Rattle.std.specs.List.{filter, range_with_len}
 use Rattle.regex_lite_syntax.specs.Text.{before, after}
@@ -51,7 +52,8 @@ returns-in-Some-clause-listed c p is =
     let by_two : c.list.new.numbers.items
     ≡ filter (may_start_at heads h p) (range_with_len 0 (length entries)) =
     c.list.ensures.listed
-    ∙ ap (listed c.heads-heads.result.now c.args.here.before (Some c.in-Some.first) c.next-second.result.after)
+    ∙ ap (listed c.heads-heads.result.now c.args.here.before
+    (Some c.in-Some.first) c.next-second.result.after)
     c.heads-heads.ensures.all.count
     ∙ ap (λ z. listed z c.args.here.before (Some c.in-Some.first) c.next-second.result.after
     (length entries)) c.heads-heads.ensures.same

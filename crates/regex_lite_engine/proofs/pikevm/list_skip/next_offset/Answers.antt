@@ -2,7 +2,10 @@ use Rattle.std.proofs.Common.{◌≡◌, ◌+◌, ℕ, inl, inr, sym, subst, ari
 use Rattle.std.proofs.lemmas.Bool.{cases_lt}
 use Rattle.regex_lite_engine.specs.Nfa.ListHeads.{IsPassedByAll}
 use Rattle.regex_lite_engine.proofs.pikevm.list_skip.next_offset.Goals as goal
-use Rattle.regex_lite_engine.proofs.pikevm.list_skip.next_offset.Goals.{then-not-passes_four+else-loop-k-test, else-not-passes_four}
+use Rattle.regex_lite_engine.proofs.pikevm.list_skip.next_offset.Goals.{
+  then-not-passes_four+else-loop-k-test,
+  else-not-passes_four,
+}
 
 pub loop-k-preserved : goal.loop-k-preserved
 loop-k-preserved c =

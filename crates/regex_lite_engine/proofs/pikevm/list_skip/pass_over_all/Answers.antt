@@ -9,7 +9,10 @@ use Rattle.regex_lite_engine.proofs.pikevm.here.OffsetLemmas.{at_most}
 use Rattle.regex_lite_engine.proofs.pikevm.ListSkipLemmas.{passes_to}
 use Rattle.regex_lite_engine.proofs.pikevm.SkipLemmas.{never_at}
 use Rattle.regex_lite_engine.proofs.pikevm.list_skip.pass_over_all.Goals as goal
-use Rattle.regex_lite_engine.proofs.pikevm.list_skip.pass_over_all.Goals.{else-is_none-via-then-is_none+else-may_begin, else-is_none-via-else-is_none}
+use Rattle.regex_lite_engine.proofs.pikevm.list_skip.pass_over_all.Goals.{
+  else-is_none-via-then-is_none+else-may_begin,
+  else-is_none-via-else-is_none,
+}
 
 pub next_offset-at-requires-clause-from : goal.next_offset-at-requires-clause-from
 next_offset-at-requires-clause-from c =
@@ -37,7 +40,8 @@ returns c = λ p is.
           never (sym w.if-is_none.ensures ∙ none)
     ] in
     passes_to (table_of_list list) list.entries heads c.heads-heads.ensures.all bytes
-    c.utf8.haystack p (position_at bytes c.next_offset-at.result) c.args.here c.at.result is c.at.ensures.here
+    c.utf8.haystack p
+    (position_at bytes c.next_offset-at.result) c.args.here c.at.result is c.at.ensures.here
     (omega (arith, at, low))
     (subst (λ z. c.at.result.at ≤ length z) same (omega (arith, at, high)))
     (λ k from below. subst (λ z. IsPassedByAll heads z k) same

@@ -8,7 +8,9 @@ use Rattle.regex_lite_engine.proofs.pikevm.one_of_list.pass_over_one.Given as go
 
 abbrev pub invariant-passed : goal.invariant-passed
 invariant-passed l = (p : ℕ) → IsHere (chars l.haystack) p l.fn.here
-    → PassesTo (IsDeadAt (table_of_list l.list) (chars l.haystack) (slice_index l.list.entries l.number)) (chars l.haystack) p l.here
+    → PassesTo
+    (IsDeadAt (table_of_list l.list) (chars l.haystack) (slice_index l.list.entries l.number))
+    (chars l.haystack) p l.here
 
 abbrev pub decreases-passed : goal.decreases-passed
 decreases-passed l = length l.haystack - l.here.at

@@ -5,12 +5,17 @@ use Rattle.regex_lite_engine.proofs.pikevm.ready.make_ready.Goals as goal
 pub raise-requires-clause-blank : goal.raise-requires-clause-blank
 raise-requires-clause-blank g c =
     let cells = c.args.cells.now.items in let more = c.min.result - c.len-ready.result in
-    let count : c.len-ready.result + more - length cells ≡ more = omega (arith, c.len-ready.ensures) in
-    end_blank cells c.fill.new.cells.items c.blank.result more c.blank.ensures (c.fill.ensures.filled ∙ ap (λ n. cells ++ replicate n c.blank.result) count)
+    let count : c.len-ready.result + more - length cells ≡ more =
+    omega (arith, c.len-ready.ensures) in
+    end_blank cells c.fill.new.cells.items c.blank.result more c.blank.ensures
+    (c.fill.ensures.filled ∙ ap (λ n. cells ++ replicate n c.blank.result) count)
 
 pub returns-clause-made : goal.returns-clause-made
 returns-clause-made g c =
     let cells = c.args.cells.now.items in let more = c.min.result - c.len-ready.result in
-    let count : c.len-ready.result + more - length cells ≡ more = omega (arith, c.len-ready.ensures) in
-    made_ready cells c.fill.new.cells.items c.blank.result more c.blank.ensures (c.fill.ensures.filled ∙ ap (λ n. cells ++ replicate n c.blank.result) count)
-    c.args.low c.raise.new.cells.items (omega (arith, c.min.ensures)) c.raise.ensures.raised c.raise.ensures.kept
+    let count : c.len-ready.result + more - length cells ≡ more =
+    omega (arith, c.len-ready.ensures) in
+    made_ready cells c.fill.new.cells.items c.blank.result more c.blank.ensures
+    (c.fill.ensures.filled ∙ ap (λ n. cells ++ replicate n c.blank.result) count)
+    c.args.low c.raise.new.cells.items
+    (omega (arith, c.min.ensures)) c.raise.ensures.raised c.raise.ensures.kept

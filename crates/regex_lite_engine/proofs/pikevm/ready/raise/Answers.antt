@@ -6,15 +6,26 @@ use Rattle.regex_lite_engine.proofs.pikevm.ready.raise.Goals as goal
 
 pub cells-preserved : goal.cells-preserved
 cells-preserved g c =
-    let v = c.cells.invariant in let cells = c.cells.cells.items in let k = c.cells.k - 1 in let old = c.args.cells.now.items in
+    let v = c.cells.invariant in let cells = c.cells.cells.items in let k = c.cells.k - 1 in
+    let old = c.args.cells.now.items in
     let rounds = take (length old - c.args.by) (map round_in old) in
-    let all : length cells ≡ length old = sym (length-map cells without_round) ∙ ap length v.kept ∙ length-map old without_round in
-    let long : length rounds ≡ length old - c.args.by = length-take-le (length old - c.args.by) (map round_in old) (omega (arith, length-map old round_in)) in
+    let all : length cells ≡ length old =
+    sym (length-map cells without_round) ∙ ap length v.kept ∙ length-map old without_round in
+    let long : length rounds ≡ length old - c.args.by =
+    length-take-le (length old - c.args.by) (map round_in old)
+    (omega (arith, length-map old round_in)) in
     let next : c.cells.k ≡ k + 1 = omega (arith, c.cells-test.true) in
-    let x = c.index.result.now in let y = c.index_mut.result.now in let z = c.index_mut-in-cells.result.now in
+    let x = c.index.result.now in let y = c.index_mut.result.now in
+    let z = c.index_mut-in-cells.result.now in
     record {
-      rounds = round_raised cells rounds c.args.by k x y z c.requires.some (omega (arith, next, long, v.below)) (omega (arith, next, all, v.below)) (v.rounds ∙ ap (gap rounds c.args.by) next) c.index.ensures;
-      kept = rest_kept cells rounds c.args.by k x y z c.index_mut.ensures.value c.index_mut-in-cells.ensures.value ∙ v.kept;
+      rounds =
+          round_raised cells rounds c.args.by k x y z c.requires.some
+          (omega (arith, next, long, v.below)) (omega (arith, next, all, v.below))
+          (v.rounds ∙ ap (gap rounds c.args.by) next) c.index.ensures;
+      kept =
+          rest_kept cells rounds c.args.by k x y z c.index_mut.ensures.value
+          c.index_mut-in-cells.ensures.value
+          ∙ v.kept;
       capacity = v.capacity;
       below = omega (arith, next, v.below);
     }

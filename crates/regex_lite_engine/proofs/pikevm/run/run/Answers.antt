@@ -36,7 +36,8 @@ pass-here-requires g c =
       s,
       v.p,
       v.is,
-      subst (λ table. CanCount table (length (g.P.Patterns.entries c.positions.patterns)) characters)
+      subst
+          (λ table. CanCount table (length (g.P.Patterns.entries c.positions.patterns)) characters)
           (sym v.table)
           (subst (λ es. CanCount (g.P.Patterns.table c.args.patterns.now) (length es) characters)
           (sym v.entries) c.requires.counts),
@@ -90,12 +91,14 @@ returns-then-is_over-clause-found g c =
     let first : s ≤ w.q = omega (arith, low, later) in
     let table = g.P.Patterns.table c.pass-here.new.patterns in
     let entries = g.P.Patterns.entries c.pass-here.new.patterns in
-    let table_is : table ≡ g.P.Patterns.table a.patterns.now = c.pass-here.ensures.table ∙ v.table in
+    let table_is : table ≡ g.P.Patterns.table a.patterns.now =
+    c.pass-here.ensures.table ∙ v.table in
     let entries_are : entries ≡ g.P.Patterns.entries a.patterns.now
     = c.pass-here.ensures.entries ∙ v.entries in
     let best = best_of c.pass-here.new.self.best in
     subst (λ t. IsBestOutcomeOf t haystack (g.P.Patterns.entries a.patterns.now) s best) table_is
-    (subst (λ es. IsBestOutcomeOf table haystack es s best) entries_are (ended_all table haystack entries s w.q c.pass-here.new.self.walk.memory.threads
+    (subst (λ es. IsBestOutcomeOf table haystack es s best) entries_are
+    (ended_all table haystack entries s w.q c.pass-here.new.self.walk.memory.threads
     (best_of c.pass-here.new.self.best) first w.is.inside
     (over_at haystack w.q c.pass-here.result w.is (c.is_over.ensures.over (search rules)))
     w.after.coming))
@@ -110,7 +113,8 @@ returns-then-is_over-clause-bounded g c =
     let later = w.later in
     let table = g.P.Patterns.table c.pass-here.new.patterns in
     let entries = g.P.Patterns.entries c.pass-here.new.patterns in
-    let table_is : table ≡ g.P.Patterns.table a.patterns.now = c.pass-here.ensures.table ∙ v.table in
+    let table_is : table ≡ g.P.Patterns.table a.patterns.now =
+    c.pass-here.ensures.table ∙ v.table in
     let entries_are : entries ≡ g.P.Patterns.entries a.patterns.now
     = c.pass-here.ensures.entries ∙ v.entries in
     let steps = c.pass-here.new.self.walk.steps in

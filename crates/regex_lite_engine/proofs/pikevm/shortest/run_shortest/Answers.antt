@@ -38,7 +38,8 @@ pass-here-requires g c =
       s,
       v.p,
       v.is,
-      subst (λ table. CanCount table (length (g.P.Patterns.entries c.positions.patterns)) characters)
+      subst
+          (λ table. CanCount table (length (g.P.Patterns.entries c.positions.patterns)) characters)
           (sym v.table)
           (subst (λ es. CanCount (g.P.Patterns.table c.args.patterns.now) (length es) characters)
           (sym v.entries) c.requires.counts),
@@ -92,13 +93,16 @@ returns-then-is_known-clause-found g c =
     let first : s ≤ w.q = omega (arith, low, later) in
     let table = g.P.Patterns.table c.pass-here.new.patterns in
     let entries = g.P.Patterns.entries c.pass-here.new.patterns in
-    let table_is : table ≡ g.P.Patterns.table a.patterns.now = c.pass-here.ensures.table ∙ v.table in
+    let table_is : table ≡ g.P.Patterns.table a.patterns.now =
+    c.pass-here.ensures.table ∙ v.table in
     let entries_are : entries ≡ g.P.Patterns.entries a.patterns.now
     = c.pass-here.ensures.entries ∙ v.entries in
     let best = best_of c.pass-here.new.self.best in
     subst (λ t. IsNumberedEndOf t haystack (g.P.Patterns.entries a.patterns.now) s best) table_is
-    (subst (λ es. IsNumberedEndOf table haystack es s best) entries_are (shortest_known table haystack entries s w.q c.pass-here.result.at
-    c.positions.cache.walk.memory.threads c.pass-here.new.self.walk.memory.threads (best_of c.positions.cache.best)
+    (subst (λ es. IsNumberedEndOf table haystack es s best) entries_are
+    (shortest_known table haystack entries s w.q c.pass-here.result.at
+    c.positions.cache.walk.memory.threads c.pass-here.new.self.walk.memory.threads
+    (best_of c.positions.cache.best)
     (best_of c.pass-here.new.self.best) first w.is.inside v.none w.is.bytes w.ends
     (over_at haystack w.q c.pass-here.result w.is (c.is_known.ensures.known (search rules)))
     w.before w.after.coming))
@@ -113,7 +117,8 @@ returns-then-is_known-clause-bounded g c =
     let later = w.later in
     let table = g.P.Patterns.table c.pass-here.new.patterns in
     let entries = g.P.Patterns.entries c.pass-here.new.patterns in
-    let table_is : table ≡ g.P.Patterns.table a.patterns.now = c.pass-here.ensures.table ∙ v.table in
+    let table_is : table ≡ g.P.Patterns.table a.patterns.now =
+    c.pass-here.ensures.table ∙ v.table in
     let entries_are : entries ≡ g.P.Patterns.entries a.patterns.now
     = c.pass-here.ensures.entries ∙ v.entries in
     let steps = c.pass-here.new.self.walk.steps in
@@ -135,13 +140,15 @@ returns-then-is_known-clause-own g c = λ begin len part.
     let later = w.later in
     let table = g.P.Patterns.table c.pass-here.new.patterns in
     let entries = g.P.Patterns.entries c.pass-here.new.patterns in
-    let table_is : table ≡ g.P.Patterns.table a.patterns.now = c.pass-here.ensures.table ∙ v.table in
+    let table_is : table ≡ g.P.Patterns.table a.patterns.now =
+    c.pass-here.ensures.table ∙ v.table in
     let entries_are : entries ≡ g.P.Patterns.entries a.patterns.now
     = c.pass-here.ensures.entries ∙ v.entries in
     let steps = c.pass-here.new.self.walk.steps in
     let own : IsOwnPart table entries begin len =
     subst (λ t. IsOwnPart t entries begin len) (sym table_is)
-    (subst (λ es. IsOwnPart (g.P.Patterns.table a.patterns.now) es begin len) (sym entries_are) part) in
+    (subst (λ es. IsOwnPart (g.P.Patterns.table a.patterns.now) es begin len)
+    (sym entries_are) part) in
     subst (λ t. IsBoundedBy len
     (arrows_of (row_of t begin len) + length (g.P.Patterns.entries a.patterns.now))
     (chars a.haystack.now) s steps.tried steps.entered steps.looked) table_is

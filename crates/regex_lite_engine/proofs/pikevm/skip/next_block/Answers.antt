@@ -11,8 +11,10 @@ all-preserved c = record {
     | inl old ↦ c.all.invariant.passed k from old
     | inr new ↦ (
       omega (arith, below, c.all-test.true),
-      unsuited c.args.prefilter c.args.bytes.now c.all.at _ _ k new (omega (arith, new, below)) (omega (arith, new, below))
-          (c.may_begin_in.ensures c.if-may_begin_in.false (k - c.all.at) (search (rules, new, below, c.all-test.true))),
+      unsuited c.args.prefilter c.args.bytes.now c.all.at _ _ k new (omega (arith, new, below))
+          (omega (arith, new, below))
+          (c.may_begin_in.ensures c.if-may_begin_in.false (k - c.all.at)
+          (search (rules, new, below, c.all-test.true))),
     )
   ];
 }

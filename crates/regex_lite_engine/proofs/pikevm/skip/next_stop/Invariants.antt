@@ -16,7 +16,8 @@ abbrev pub invariant-loop-k : goal.invariant-loop-k
 invariant-loop-k l = record {
   low : l.from ≤ l.at;
   high : l.at + 4 ≤ l.end;
-  passed : (k : ℕ) → l.from ≤ k → k < l.at + l.k → stops_at l.starts (slice_index l.bytes k) ≡ false;
+  passed : (k : ℕ) → l.from ≤ k → k < l.at + l.k
+      → stops_at l.starts (slice_index l.bytes k) ≡ false;
 }
 
 abbrev pub invariant-ones : goal.invariant-ones

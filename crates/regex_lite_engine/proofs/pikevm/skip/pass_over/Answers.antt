@@ -4,7 +4,8 @@ use Rattle.regex_lite_engine.specs.Nfa.Heads.{IsCutOff, IsPassed, NeverBegins}
 use Rattle.regex_lite_engine.specs.Nfa.Starts.{stops_at}
 use Rattle.regex_lite_engine.specs.Search.Offsets.{position_at}
 use Rattle.regex_lite_engine.proofs.pikevm.here.OffsetLemmas.{at_most}
-use Rattle.regex_lite_engine.proofs.pikevm.SkipLemmas.{cut_off_here, never_at, passes_between, stopped}
+use Rattle.regex_lite_engine.proofs.pikevm.SkipLemmas.{cut_off_here, never_at}
+use Rattle.regex_lite_engine.proofs.pikevm.SkipLemmas.{passes_between, stopped}
 use Rattle.regex_lite_engine.proofs.pikevm.skip.pass_over.Goals as goal
 
 pub can_begin-requires : goal.can_begin-requires
@@ -27,7 +28,8 @@ returns-clause-passes c = λ p is.
     let at = c.at.ensures.at in
     let low = c.next_offset-at.ensures.low in
     let high = c.next_offset-at.ensures.high in
-    let not_here : NeverBegins heads (chars bytes) p = elim (c.can_begin.ensures.never c.if-can_begin.false) [
+    let not_here : NeverBegins heads (chars bytes) p =
+    elim (c.can_begin.ensures.never c.if-can_begin.false) [
       | inl off ↦ inl (never_at heads.first _ p c.args.here is off)
       | inr cut ↦ cut_off_here heads bytes p c.args.here c.utf8.haystack is
           (subst (λ z. IsCutOff heads z c.args.here.at) same cut)

@@ -11,12 +11,15 @@ pub returns-then-at-len : goal.returns-then-at-len
 returns-then-at-len c =
     let rise : IsNonDecreasingBy (λ r. r.end) c.deref.result.now =
     rw c.deref.ensures.value (ends_rise 0 _ c.self.invariant.runs) in
-    let parts = IsPartitionPoint-from_clause (λ r. ltb r.end c.args.c) c.deref.result.now _ c.partition_point-at.ensures.partitioned
-    (IsPartitionedBy-ltb (λ r. r.end) _ c.args.c rise) (λ a r after called. search (rules, tests)) in
+    let parts = IsPartitionPoint-from_clause (λ r. ltb r.end c.args.c) c.deref.result.now _
+    c.partition_point-at.ensures.partitioned
+    (IsPartitionedBy-ltb (λ r. r.end) _ c.args.c rise)
+    (λ a r after called. search (rules, tests)) in
     let inside : c.partition_point-at.result < length c.deref.result.now =
     omega (arith, c.if-at-len.true, c.len.ensures, c.deref.ensures.len) in
     let is : IsTrue (is_character c.args.c) = search (rules, tests) in
-    let there = held_there c.args.c 0 c.deref.result.now c.partition_point-at.result c.index.result.now is
+    let there =
+    held_there c.args.c 0 c.deref.result.now c.partition_point-at.result c.index.result.now is
     (rw c.deref.ensures.value c.self.invariant.runs) parts inside in
     let whole = ap (λ xs. in_ranges xs c.args.c) c.deref.ensures.value in
     let at = c.index.ensures in
@@ -27,8 +30,10 @@ pub returns-else-at-len : goal.returns-else-at-len
 returns-else-at-len c =
     let rise : IsNonDecreasingBy (λ r. r.end) c.deref.result.now =
     rw c.deref.ensures.value (ends_rise 0 _ c.self.invariant.runs) in
-    let parts = IsPartitionPoint-from_clause (λ r. ltb r.end c.args.c) c.deref.result.now _ c.partition_point-at.ensures.partitioned
-    (IsPartitionedBy-ltb (λ r. r.end) _ c.args.c rise) (λ a r after called. search (rules, tests)) in
+    let parts = IsPartitionPoint-from_clause (λ r. ltb r.end c.args.c) c.deref.result.now _
+    c.partition_point-at.ensures.partitioned
+    (IsPartitionedBy-ltb (λ r. r.end) _ c.args.c rise)
+    (λ a r after called. search (rules, tests)) in
     let outside = c.if-at-len.false in
     let none = held_nowhere c.args.c c.deref.result.now c.partition_point-at.result parts
     (omega (arith, outside, c.len.ensures, c.deref.ensures.len)) in

@@ -4,7 +4,8 @@ use Rattle.regex_lite_syntax.specs.declared.class.ClassRange.{ClassRange}
 use Rattle.regex_lite_syntax.specs.Ranges.{next_character}
 use Rattle.regex_lite_syntax.specs.Parser.RangeEnds.{start_of}
 use Rattle.regex_lite_syntax.proofs.RangeLemmas.{next_above, in_ranges_more}
-use Rattle.regex_lite_syntax.proofs.class.BetweenRangeLemmas.{span_before, start_next, before_next, gap_step, runs_sooner}
+use Rattle.regex_lite_syntax.proofs.class.BetweenRangeLemmas.{span_before, start_next}
+use Rattle.regex_lite_syntax.proofs.class.BetweenRangeLemmas.{before_next, gap_step, runs_sooner}
 use Rattle.regex_lite_syntax.proofs.class.Class.negate.Goals as goal
 
 pub loop-range-preserved : goal.loop-range-preserved
@@ -33,8 +34,10 @@ loop-range-preserved c =
           omega (arith, runs.0, runs.3);
       members = λ d.
           let more = in_ranges_more items i d none inside in
-          let between = span_before c.loop-range.start c.previous_char.result range.start d c.previous_char.ensures in
+          let between = span_before c.loop-range.start c.previous_char.result range.start d
+          c.previous_char.ensures in
           let added = rw between at (c.in_ok-append_between.ensures.members d) in
-          let step = gap_step start range.start range.end d _ _ _ runs.0 runs.3 (known.before d) (known.members d) added in
+          let step = gap_step start range.start range.end d _ _ _ runs.0 runs.3 (known.before d)
+          (known.members d) added in
           rw (next, more) step;
     }

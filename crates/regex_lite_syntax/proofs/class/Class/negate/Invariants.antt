@@ -13,5 +13,6 @@ invariant-loop-range l =
       after : AreRuns start (drop l.range-index l.range-items);
       runs : AreRuns 0 l.gaps.items;
       in_order : All (λ gap. gap.start ≤ start) l.gaps.items;
-      members : (c : ℕ) → in_ranges l.gaps.items c ≡ (nat_lt c start && complement (in_ranges seen) c);
+      members : (c : ℕ)
+          → in_ranges l.gaps.items c ≡ (nat_lt c start && complement (in_ranges seen) c);
     }

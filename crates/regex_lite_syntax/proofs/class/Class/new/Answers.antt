@@ -19,11 +19,13 @@ returns c =
     let long : length joined ≡ c.sort_unstable_by_key.new.self.len =
     omega (arith, c.join_all-runs.auto.ranges, c.deref_mut.ensures.len) in
     let written = take_at joined _ _ long in
-    let left = c.truncate.ensures.items ∙ ap (λ ranges. take c.join_all-runs.result ranges) written in
+    let left =
+    c.truncate.ensures.items ∙ ap (λ ranges. take c.join_all-runs.result ranges) written in
     record {
       runs = rw (c.of_runs.ensures, left) c.join_all-runs.ensures.runs;
       members = λ d.
-          ap (λ ranges. in_ranges ranges d) (c.of_runs.ensures ∙ left) ∙ c.join_all-runs.ensures.members d
+          ap (λ ranges. in_ranges ranges d) (c.of_runs.ensures ∙ left)
+          ∙ c.join_all-runs.ensures.members d
           ∙ ap (λ ranges. in_ranges ranges d) c.deref_mut.ensures.value
           ∙ sym (in_ranges-permutation _ _ d c.sort_unstable_by_key.ensures.permutation);
     }

@@ -20,7 +20,8 @@ returns c d =
     let held = c.args.ranges.now.items in
     let other : Set = λ e. is_letter e && in_ranges held (other_case e) in
     let items = c.deref-range-items.result.now in
-    let all = take_all c.loop-range.range-index items c.loop-range-test.false ∙ c.deref-range-items.ensures.value in
+    let all = take_all c.loop-range.range-index items c.loop-range-test.false
+    ∙ c.deref-range-items.ensures.value in
     let others : in_ranges c.deref.result.now d ≡ other d =
     rw c.deref.ensures.value (rw all at (c.loop-range.invariant d)) in
     in_set held _ c.deref.result.now other d c.in_ok-extend_from_slice.ensures.items others

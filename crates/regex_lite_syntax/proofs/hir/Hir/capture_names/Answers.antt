@@ -1,5 +1,6 @@
 use Rattle.std.specs.Option.{option_or}
-use Rattle.std.proofs.Common.{rules, ◌≡◌, ◌∙◌, ap, arith, ℕ, List, ◌++◌, Option, None, Global, length, take, drop}
+use Rattle.std.proofs.Common.{rules, ◌≡◌, ◌∙◌, ap, arith, ℕ, List, ◌++◌}
+use Rattle.std.proofs.Common.{Option, None, Global, length, take, drop}
 use Rattle.std.proofs.lemmas.List.{take_at}
 use Rattle.std.specs.declared.rc.RcStr.{RcStr}
 use Rattle.regex_lite_syntax.specs.Tree.{Tree}

@@ -1,5 +1,7 @@
 use Rattle.std.specs.Option.{option_or}
-use Rattle.std.proofs.Common.{rules, ◌≡◌, ◌≢◌, ◌==◌, ◌<◌, ◌∙◌, refl, sym, ap, ℕ, Bool, true, false, List, Option, Some, None, Global, map, option_map, length, get_or, slice_set, get_or-set_same, get_or-set_other}
+use Rattle.std.proofs.Common.{rules, ◌≡◌, ◌≢◌, ◌==◌, ◌<◌, ◌∙◌, refl, sym, ap, ℕ, Bool, true}
+use Rattle.std.proofs.Common.{false, List, Option, Some, None, Global, map, option_map}
+use Rattle.std.proofs.Common.{length, get_or, slice_set, get_or-set_same, get_or-set_other}
 use Rattle.std.proofs.lemmas.Bool.{eqb-true, eq-eqb}
 use Rattle.std.proofs.lemmas.List.{map-set, length-map, get_or-map}
 use Rattle.std.specs.declared.rc.RcStr.{RcStr}

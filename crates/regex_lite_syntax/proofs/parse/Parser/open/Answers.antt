@@ -8,4 +8,11 @@ pub returns : goal.returns
 unfolding state opened
 returns c t u d =
     let inner = c.new-inner.ensures in
-    rw (reverse_pushed frame_of _ _ _ c.in_ok-push.ensures.items, c.replace-outer.ensures.value, c.replace-outer.ensures.after, inner.flags, inner.branches, inner.items) refl
+    rw (
+      reverse_pushed frame_of _ _ _ c.in_ok-push.ensures.items,
+      c.replace-outer.ensures.value,
+      c.replace-outer.ensures.after,
+      inner.flags,
+      inner.branches,
+      inner.items,
+    ) refl

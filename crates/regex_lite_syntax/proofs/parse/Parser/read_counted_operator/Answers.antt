@@ -8,7 +8,8 @@ use Rattle.regex_lite_syntax.specs.Parser.Machine.{with_items}
 use Rattle.regex_lite_syntax.specs.Parser.States.{state}
 use Rattle.regex_lite_syntax.proofs.grammar.OperatorLemmas.{counted_greedy}
 use Rattle.regex_lite_syntax.proofs.machine.StateLemmas.{map_pushed, none_left}
-use Rattle.regex_lite_syntax.proofs.machine.ReadStepLemmas.{reads_repeated, reads_no_counted, reads_no_counts}
+use Rattle.regex_lite_syntax.proofs.machine.ReadStepLemmas.{reads_repeated, reads_no_counted}
+use Rattle.regex_lite_syntax.proofs.machine.ReadStepLemmas.{reads_no_counts}
 use Rattle.regex_lite_syntax.proofs.parse.Parser.read_counted_operator.Goals as goal
 use Rattle.regex_lite_syntax.proofs.parse.Parser.read_counted_operator.Goals.{then-lazy, else-lazy}
 
@@ -41,22 +42,27 @@ returns-clause-ok c =
     elim c.if-lazy.branch [
       | then-lazy w ↦
           let there = w.if-lazy.ensures.there refl in
-          let to_mark = subst (λ u. Gap flags.ignore_whitespace (drop c.in_ok-end.end xs) u) there.1 gap.0 in
+          let to_mark =
+          subst (λ u. Gap flags.ignore_whitespace (drop c.in_ok-end.end xs) u) there.1 gap.0 in
           let rest = drop (c.skip_gap-past_gap.result + 1) xs in
           rw w.result-is (record {
             further = omega (arith, c.in_ok-end.ensures.inside, c.skip_gap-past_gap.ensures.inside);
             in_pattern = omega (arith, there.0);
-            reads = reads_repeated p q t rest before (tree_of c.in-Some.item) _ _ _ pushed (added rest)
+            reads =
+                reads_repeated p q t rest before (tree_of c.in-Some.item) _ _ _ pushed (added rest)
                 (counted_lazy _ _ begins counted to_mark (ap (greed flags) w.if-lazy.true));
           })
       | else-lazy w ↦
           let absent = w.if-lazy.ensures.absent refl in
           let rest = drop c.in_ok-end.end xs in
           let operator =
-          counted_greedy flags _ _ rest _ _ _ _ begins counted gap absent (ap (greed flags) w.if-lazy.false) in
+          counted_greedy flags _ _ rest _ _ _ _ begins counted gap absent
+          (ap (greed flags) w.if-lazy.false) in
           rw w.result-is (record {
             further = omega (arith, c.in_ok-end.ensures.inside);
             in_pattern = omega (arith, c.in_ok-end.ensures.inside);
-            reads = reads_repeated p q t rest before (tree_of c.in-Some.item) _ _ _ pushed (added rest) operator;
+            reads =
+                reads_repeated p q t rest before (tree_of c.in-Some.item) _ _ _ pushed
+                (added rest) operator;
           })
     ]

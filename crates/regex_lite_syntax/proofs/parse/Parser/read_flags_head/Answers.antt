@@ -1,10 +1,12 @@
-use Rattle.std.proofs.Common.{inl, inr, ◌⊎◌, ◌≡◌, ◌≢◌, Bool, ◌∷◌, ◌+◌, sym, ◌∙◌, ap, subst, refl, drop, arith}
+use Rattle.std.proofs.Common.{inl, inr, ◌⊎◌, ◌≡◌, ◌≢◌, Bool, ◌∷◌, ◌+◌}
+use Rattle.std.proofs.Common.{sym, ◌∙◌, ap, subst, refl, drop, arith}
 use Rattle.std.proofs.lemmas.Result.{err_from_is_err_and}
 use Rattle.regex_lite_syntax.specs.Text.{Text, Begins, the}
 use Rattle.regex_lite_syntax.specs.Grammar.Gaps.{Gap, WholeGap}
 use Rattle.regex_lite_syntax.specs.Grammar.FlagLetters.{FlagLetters}
 use Rattle.regex_lite_syntax.proofs.parse.IndexLemmas.{drop_begins}
-use Rattle.regex_lite_syntax.proofs.machine.ReadHeadLemmas.{reads_head, reads_directive, reads_no_flags, reads_no_empty}
+use Rattle.regex_lite_syntax.proofs.machine.ReadHeadLemmas.{reads_head, reads_directive}
+use Rattle.regex_lite_syntax.proofs.machine.ReadHeadLemmas.{reads_no_flags, reads_no_empty}
 use Rattle.regex_lite_syntax.proofs.parse.Parser.read_flags_head.Goals as goal
 
 pub returns-then-is_at-clause-refused : goal.returns-then-is_at-clause-refused
@@ -17,7 +19,8 @@ pub returns-in_err-end-clause-refused : goal.returns-in_err-end-clause-refused
 returns-in_err-end-clause-refused c =
     let left = err_from_is_err_and c.from_residual.result c.from_residual.ensures.1 in
     rw (left.1, left.2) (reads_no_flags c.args.self.now _ _ _ _ c.requires.begins c.requires.gap
-    c.requires.question c.requires.unnamed (λ rest new flags. c.in_err-end.ensures.refused (rest, new, flags)))
+    c.requires.question c.requires.unnamed
+    (λ rest new flags. c.in_err-end.ensures.refused (rest, new, flags)))
 
 -- past the gap after the `(` stands the `?`
 gap_to : (verbose : Bool) (t u first : Text) → WholeGap verbose t u → u ≡ the "?" ∷ first
@@ -32,18 +35,22 @@ returns-then-is_at-2-clause-ok c =
     let rest = drop (end + 1) c.args.chars.now in
     let gap = gap_to p.here.flags.ignore_whitespace _ _ first c.requires.gap c.requires.question in
     let closing = (c.is_at-2.ensures.there c.if-is_at-2.true).1 in
-    let letters = subst (λ t. FlagLetters p.here.flags first t c.in_ok-end.flags) closing c.in_ok-end.ensures.ok.letters in
+    let letters = subst (λ t. FlagLetters p.here.flags first t c.in_ok-end.flags) closing
+    c.in_ok-end.ensures.ok.letters in
     let no_paren = c.is_at.ensures.absent c.if-is_at.false in
-    let some : first ≢ the ")" ∷ rest = λ e. no_paren (subst (λ t. Begins (the ")") t) (sym e) refl) in
+    let some : first ≢ the ")" ∷ rest =
+    λ e. no_paren (subst (λ t. Begins (the ")") t) (sym e) refl) in
     record {
       further = omega (arith, c.requires.inside, c.in_ok-end.ensures.inside);
       in_pattern = omega (arith, c.in_ok-end.ensures.inside);
-      reads = reads_directive p c.set_flags.new.self _ _ first rest _ c.requires.begins gap some letters
+      reads =
+          reads_directive p c.set_flags.new.self _ _ first rest _ c.requires.begins gap some letters
           c.set_flags.ensures;
     }
 
 -- what ends flags and is no `)` is a `:`
-colon_ends : (t : Text) → Begins (the ":") t ⊎ Begins (the ")") t → (Begins (the ")") t → ⊥) → Begins (the ":") t
+colon_ends : (t : Text) → Begins (the ":") t ⊎ Begins (the ")") t → (Begins (the ")") t → ⊥)
+    → Begins (the ":") t
 colon_ends t (inl is_colon) no_paren = is_colon
 colon_ends t (inr is_paren) no_paren = absurd (no_paren is_paren)
 
@@ -57,10 +64,12 @@ returns-clause-ok c =
     let flags = c.in_ok-end.ensures.ok in
     let is_colon = colon_ends _ flags.ends (c.is_at-2.ensures.absent c.if-is_at-2.false) in
     let here = drop_begins xs end (the ":") (omega (arith, c.in_ok-end.ensures.inside)) is_colon in
-    let letters = subst (λ t. FlagLetters p.here.flags first t c.in_ok-end.flags) here flags.letters in
+    let letters =
+    subst (λ t. FlagLetters p.here.flags first t c.in_ok-end.flags) here flags.letters in
     record {
       further = omega (arith, c.requires.inside, c.in_ok-end.ensures.inside);
       in_pattern = omega (arith, c.in_ok-end.ensures.inside);
-      reads = reads_head p c.open.new.self _ _ first (drop (end + 1) xs) _ c.requires.begins gap letters
+      reads =
+          reads_head p c.open.new.self _ _ first (drop (end + 1) xs) _ c.requires.begins gap letters
           c.in_ok-open.ensures;
     }

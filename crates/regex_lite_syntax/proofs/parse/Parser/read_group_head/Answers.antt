@@ -8,7 +8,8 @@ pub returns-in_err-open_capture-clause-refused : goal.returns-in_err-open_captur
 returns-in_err-open_capture-clause-refused c =
     let left = err_from_is_err_and c.from_residual.result c.from_residual.ensures.1 in
     let none = c.is_at.ensures.absent c.if-not-is_at.true in
-    rw (left.1, left.2) (number_refuses c.in_err-open_capture.field-0.0 c.args.self.now _ c.in_err-open_capture.ensures.refused
+    rw (left.1, left.2) (number_refuses c.in_err-open_capture.field-0.0 c.args.self.now _
+    c.in_err-open_capture.ensures.refused
     (begins_numbered c.args.self.now _ _ _ c.requires.begins c.skip_gap-first.ensures.gap none))
 
 pub returns-then-not-is_at-clause-ok : goal.returns-then-not-is_at-clause-ok
@@ -17,7 +18,10 @@ returns-then-not-is_at-clause-ok c =
     record {
       further = omega arith;
       in_pattern = omega (arith, c.requires.inside);
-      reads = reads_numbered c.args.self.now c.open_capture.new.self (drop c.args.at xs) (drop (c.args.at + 1) xs) _
-          c.requires.begins c.skip_gap-first.ensures.gap (c.is_at.ensures.absent c.if-not-is_at.true)
+      reads =
+          reads_numbered c.args.self.now c.open_capture.new.self (drop c.args.at xs)
+          (drop (c.args.at + 1) xs) _
+          c.requires.begins c.skip_gap-first.ensures.gap
+          (c.is_at.ensures.absent c.if-not-is_at.true)
           c.in_ok-open_capture.ensures.ok;
     }

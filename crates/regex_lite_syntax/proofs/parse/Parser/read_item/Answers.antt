@@ -7,12 +7,14 @@ pub returns-in_err-end-clause-refused : goal.returns-in_err-end-clause-refused
 returns-in_err-end-clause-refused c =
     let left = err_from_is_err_and c.from_residual.result c.from_residual.ensures.1 in
     rw (left.1, left.2) (denial_refuses c.in_err-end.field-0.0 _ _ _ _
-    (λ none. reads_no_atom c.args.self.now _ c.requires.past_gap c.requires.begins (λ rest a atom. none (rest, a, atom)))
+    (λ none. reads_no_atom c.args.self.now _ c.requires.past_gap c.requires.begins
+    (λ rest a atom. none (rest, a, atom)))
     c.in_err-end.ensures.refused)
 
 pub returns-clause-ok : goal.returns-clause-ok
 returns-clause-ok c = record {
   further = c.in_ok-end.ensures.inside.0;
   in_pattern = c.in_ok-end.ensures.inside.1;
-  reads = reads_atom c.args.self.now c.add.new.self _ _ _ c.in_ok-end.ensures.ok c.in_ok-add.ensures;
+  reads =
+      reads_atom c.args.self.now c.add.new.self _ _ _ c.in_ok-end.ensures.ok c.in_ok-add.ensures;
 }

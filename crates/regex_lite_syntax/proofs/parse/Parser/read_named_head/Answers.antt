@@ -4,49 +4,65 @@ use Rattle.regex_lite_syntax.specs.Text.{Text}
 use Rattle.regex_lite_syntax.specs.Grammar.GroupNames.{NameOpening, NameWritten, Named}
 use Rattle.regex_lite_syntax.specs.Tree.Views.{text_of_name}
 use Rattle.regex_lite_syntax.proofs.parse.DenialLemmas.{number_refuses}
-use Rattle.regex_lite_syntax.proofs.machine.ReadHeadLemmas.{reads_named, begins_named, reads_no_name, reads_no_second}
+use Rattle.regex_lite_syntax.proofs.machine.ReadHeadLemmas.{reads_named, begins_named}
+use Rattle.regex_lite_syntax.proofs.machine.ReadHeadLemmas.{reads_no_name, reads_no_second}
 use Rattle.regex_lite_syntax.proofs.parse.Parser.read_named_head.Goals as goal
 
 pub returns-in_err-end-clause-refused : goal.returns-in_err-end-clause-refused
 returns-in_err-end-clause-refused c =
     let left = err_from_is_err_and c.from_residual.result c.from_residual.ensures.1 in
-    rw (left.1, left.2) (reads_no_name c.args.self.now _ _ _ _ c.requires.begins c.requires.gap c.requires.opens
+    rw (left.1, left.2)
+    (reads_no_name c.args.self.now _ _ _ _ c.requires.begins c.requires.gap c.requires.opens
     (λ rest name written. c.in_err-end.ensures.refused (rest, name, written)))
 
 -- what opens a name and the name
-named_from : (t past rest name letters : Text) → NameOpening t past → NameWritten past rest letters → name ≡ letters
+named_from : (t past rest name letters : Text) → NameOpening t past → NameWritten past rest letters
+    → name ≡ letters
     → Named t rest name
 named_from t past rest name letters opens written is =
-    record { past = past; opens = opens; called = subst (λ w. NameWritten past rest w) (sym is) written }
+    record {
+      past = past;
+      opens = opens;
+      called = subst (λ w. NameWritten past rest w) (sym is) written;
+    }
 
 pub returns-in_err-open_capture-clause-refused : goal.returns-in_err-open_capture-clause-refused
 returns-in_err-open_capture-clause-refused c =
     let name = text_of_name c.in_ok-name.name in
-    let named = named_from _ _ _ name _ c.requires.opens c.in_ok-end.ensures.ok c.in_ok-name.ensures in
-    let left = err_from_is_err_and c.from_residual-in_err-open_capture.result c.from_residual-in_err-open_capture.ensures.1 in
-    rw (left.1, left.2) (number_refuses c.in_err-open_capture.field-0.0 c.args.self.now _ c.in_err-open_capture.ensures.refused
+    let named =
+    named_from _ _ _ name _ c.requires.opens c.in_ok-end.ensures.ok c.in_ok-name.ensures in
+    let left = err_from_is_err_and c.from_residual-in_err-open_capture.result
+    c.from_residual-in_err-open_capture.ensures.1 in
+    rw (left.1, left.2) (number_refuses c.in_err-open_capture.field-0.0 c.args.self.now _
+    c.in_err-open_capture.ensures.refused
     (begins_named c.args.self.now _ _ _ _ name c.requires.begins c.requires.gap named))
 
 pub returns-then-not-branch-clause-refused : goal.returns-then-not-branch-clause-refused
 returns-then-not-branch-clause-refused c =
     let name = text_of_name c.in_ok-name.name in
-    let named = named_from _ _ _ name _ c.requires.opens c.in_ok-end.ensures.ok c.in_ok-name.ensures in
+    let named =
+    named_from _ _ _ name _ c.requires.opens c.in_ok-end.ensures.ok c.in_ok-name.ensures in
     let old : c.in_ok-insert.field-0 ≡ false = c.if-not-branch.true in
     let known = rw old at c.in_ok-insert.ensures in
     let twice : Contains c.args.self.now.names name = known in
-    rw c.into.ensures (reads_no_second c.args.self.now _ _ _ _ name c.requires.begins c.requires.gap named twice)
+    rw c.into.ensures
+    (reads_no_second c.args.self.now _ _ _ _ name c.requires.begins c.requires.gap named twice)
 
 pub returns-clause-ok : goal.returns-clause-ok
 returns-clause-ok c =
     let p = c.args.self.now in
     let name = text_of_name c.in_ok-name.name in
-    let named = named_from _ _ _ name _ c.requires.opens c.in_ok-end.ensures.ok c.in_ok-name.ensures in
+    let named =
+    named_from _ _ _ name _ c.requires.opens c.in_ok-end.ensures.ok c.in_ok-name.ensures in
     let new : c.in_ok-insert.field-0 ≡ true = c.if-not-branch.false in
     let added = rw new at c.in_ok-insert.ensures in
     record {
       further = omega (arith, c.requires.inside, c.in_ok-end.ensures.inside);
       in_pattern = c.in_ok-end.ensures.inside.1;
-      reads = reads_named p c.open_capture.new.self c.insert.new.self (drop c.args.at c.args.chars.now) _ _
-          (drop c.in_ok-end.end c.args.chars.now) name c.requires.begins c.requires.gap named added.1 added.0
+      reads =
+          reads_named p c.open_capture.new.self c.insert.new.self
+          (drop c.args.at c.args.chars.now) _ _
+          (drop c.in_ok-end.end c.args.chars.now) name c.requires.begins c.requires.gap named
+          added.1 added.0
           c.in_ok-open_capture.ensures.ok;
     }

@@ -16,7 +16,8 @@ returns-in_default-clause-refused c =
     let e = drop_at xs c.args.at c.requires.inside in
     let items = c.args.self.now.here.items in
     let none = none_left items.items (sym items.ok.0 ∙ c.in_default.ensures.cases.0) in
-    rw c.into.ensures (reads_no_operator c.args.self.now (drop c.args.at xs) _ _ _ e (c.requires.bounded _ e) none)
+    rw c.into.ensures
+    (reads_no_operator c.args.self.now (drop c.args.at xs) _ _ _ e (c.requires.bounded _ e) none)
 
 pub returns-clause-ok : goal.returns-clause-ok
 unfolding state with_items
@@ -34,12 +35,15 @@ returns-clause-ok c =
       | then-lazy w ↦
           let there = w.if-lazy.ensures.there refl in
           let two : i + 1 + 1 ≡ i + 2 = omega arith in
-          let begins = e ∙ ap (λ t. get_or xs i 0 ∷ t) (there.1 ∙ ap (λ n. (the "?") ∷ drop n xs) two) in
+          let begins =
+          e ∙ ap (λ t. get_or xs i 0 ∷ t) (there.1 ∙ ap (λ n. (the "?") ∷ drop n xs) two) in
           let rest = drop (i + 2) xs in
           rw w.result-is (record {
             further = omega arith;
             in_pattern = omega (arith, there.0);
-            reads = reads_repeated p q (drop i xs) rest before (tree_of c.in-Some.item) _ _ _ pushed (added rest)
+            reads =
+                reads_repeated p q (drop i xs) rest before (tree_of c.in-Some.item) _ _ _ pushed
+                (added rest)
                 (uncounted_lazy _ begins (c.requires.bounded _ e) (ap greedy w.if-lazy.true));
           })
       | else-lazy w ↦
@@ -48,7 +52,9 @@ returns-clause-ok c =
           rw w.result-is (record {
             further = omega arith;
             in_pattern = omega (arith, c.requires.inside);
-            reads = reads_repeated p q (drop i xs) rest before (tree_of c.in-Some.item) _ _ _ pushed (added rest)
+            reads =
+                reads_repeated p q (drop i xs) rest before (tree_of c.in-Some.item) _ _ _ pushed
+                (added rest)
                 (uncounted _ e (c.requires.bounded _ e) absent (ap greedy w.if-lazy.false));
           })
     ]

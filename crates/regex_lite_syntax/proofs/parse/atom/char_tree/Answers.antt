@@ -8,7 +8,8 @@ use Rattle.regex_lite_syntax.proofs.parse.atom.char_tree.Goals as goal
 
 pub returns : goal.returns
 returns c =
-    let letter = letter_as c.args.c (sym c.is_ascii_alphabetic.ensures.value ∙ c.if-not-is_ascii_alphabetic.false) in
+    let letter = letter_as c.args.c
+    (sym c.is_ascii_alphabetic.ensures.value ∙ c.if-not-is_ascii_alphabetic.false) in
     IfOk-weaker _ _ _ (λ hir tree.
     both_cases c.args.flags c.args.c (tree_of hir) (not-false _ c.if-not-flags.false) letter
     (class_of _ c.in_ok-class.class _ c.in_ok-class.ensures tree))

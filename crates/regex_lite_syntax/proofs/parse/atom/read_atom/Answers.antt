@@ -26,4 +26,5 @@ returns-in_ok-char_tree-in_default-clause-ok c =
       no_backslash = λ e. omega (arith, e);
       no_bracket = λ e. omega (arith, e);
     } in
-    other_atom c.args.flags _ _ _ _ here c.requires.past_gap c.requires.begins sign c.in_ok-char_tree-in_default.ensures
+    other_atom c.args.flags _ _ _ _ here c.requires.past_gap c.requires.begins sign
+    c.in_ok-char_tree-in_default.ensures

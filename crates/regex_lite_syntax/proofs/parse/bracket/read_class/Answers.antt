@@ -19,10 +19,13 @@ returns-then-start-chars-clause-refused c =
     let xs = c.args.chars.now in
     let t = drop c.args.at xs in
     let start = c.read_opening-start.result.0 in
-    subst (λ e. Denies e ((r : Text) × (s : Set) × BracketedClass c.args.insensitive verbose t r s)) (sym c.into.ensures)
+    subst (λ e. Denies e ((r : Text) × (s : Set) × BracketedClass c.args.insensitive verbose t r s))
+    (sym c.into.ensures)
     (λ found. nothing_left verbose found.2.sets found.0
-    (subst (λ u. ClassItems verbose found.2.sets u found.0) (left_at_end xs start c.if-start-chars.true)
-    (class_items c.args.insensitive verbose t (drop start xs) found.0 _ _ _ found.1 c.read_opening-start.ensures.opens found.2)))
+    (subst (λ u. ClassItems verbose found.2.sets u found.0)
+    (left_at_end xs start c.if-start-chars.true)
+    (class_items c.args.insensitive verbose t
+    (drop start xs) found.0 _ _ _ found.1 c.read_opening-start.ensures.opens found.2)))
 
 pub returns-in_err-end-clause-refused : goal.returns-in_err-end-clause-refused
 returns-in_err-end-clause-refused c =
@@ -30,14 +33,16 @@ returns-in_err-end-clause-refused c =
     let xs = c.args.chars.now in
     let t = drop c.args.at xs in
     let u = drop c.read_opening-start.result.0 xs in
-    let left = err_from_is_err_and c.from_residual-in_err-end.result c.from_residual-in_err-end.ensures.1 in
+    let left =
+    err_from_is_err_and c.from_residual-in_err-end.result c.from_residual-in_err-end.ensures.1 in
     rw (left.1, left.2) (denies_part _
     ((r : Text) × (sets : List Set) × ClassItems verbose sets u r)
     ((r : Text) × (s : Set) × BracketedClass c.args.insensitive verbose t r s)
     (λ found. (
       found.0,
       found.2.sets,
-      class_items c.args.insensitive verbose t u found.0 _ _ _ found.1 c.read_opening-start.ensures.opens found.2,
+      class_items c.args.insensitive verbose t u found.0 _ _ _ found.1
+          c.read_opening-start.ensures.opens found.2,
     ))
     c.in_err-end.ensures.refused)
 
@@ -49,10 +54,12 @@ bracket_set : In_ok-class → Set
 bracket_set c = only_if c.read_opening-start.result.1.bracket (just (the "]"))
 
 holds : (c : In_ok-class) (d : ℕ)
-    → in_ranges c.read_items.new.ranges.items d ≡ union (dash_set c ∷ bracket_set c ∷ c.in_ok-end.ensures.ok.0) d
+    → in_ranges c.read_items.new.ranges.items d
+    ≡ union (dash_set c ∷ bracket_set c ∷ c.in_ok-end.ensures.ok.0) d
 unfolding dash_set bracket_set
 holds c d =
-    holds_all _ _ _ (dash_set c) (bracket_set c) c.in_ok-end.ensures.ok.0 d c.new-ranges.ensures.items
+    holds_all _ _ _ (dash_set c)
+    (bracket_set c) c.in_ok-end.ensures.ok.0 d c.new-ranges.ensures.items
     (c.in_ok-push_opening.ensures d) (c.in_ok-end.ensures.ok.2 d)
 
 pub returns-clause-ok : goal.returns-clause-ok

@@ -12,7 +12,8 @@ invariant-items l = record {
   past_gap : EndsGap l.verbose (drop l.end l.chars);
   -- the sets of the items so far
   sets : List Set;
-  holds : (c : ℕ) → in_ranges l.ranges.items c ≡ (in_ranges l.initial.ranges.items c || union sets c);
+  holds : (c : ℕ)
+      → in_ranges l.ranges.items c ≡ (in_ranges l.initial.ranges.items c || union sets c);
   -- items from here on are items from the start on, and the other way round
   goes : (more : List Set) (rest : Text) → ClassItems l.verbose more (drop l.end l.chars) rest
       → ClassItems l.verbose (sets ++ more) (drop l.at l.chars) rest;

@@ -10,7 +10,8 @@ use Rattle.regex_lite_syntax.proofs.parse.counted.read_limit.Goals as goal
 pub returns-in-None-clause-refused : goal.returns-in-None-clause-refused
 returns-in-None-clause-refused c =
     let whole = c.skip_gap-first.ensures.gap in
-    let left = subst (λ u. WholeGap c.args.verbose (drop c.args.at c.args.chars.now) u) c.in-None.ensures whole in
+    let left = subst (λ u. WholeGap c.args.verbose (drop c.args.at c.args.chars.now) u)
+    c.in-None.ensures whole in
     λ (rest, most, limit). nothing_left left (limit_is_number _ left (λ begins. begins) limit).2
 
 pub returns-in_err-end-clause-refused : goal.returns-in_err-end-clause-refused
@@ -18,14 +19,16 @@ returns-in_err-end-clause-refused c =
     let refused = err_from_is_err_and c.from_residual.result c.from_residual.ensures.1 in
     rw refused.1
     (λ (rest, most, limit).
-    let number = limit_before_other _ _ _ c.skip_gap-first.ensures.gap c.in-Some.ensures.1 c.in-Some.field-0-test.1
+    let number = limit_before_other _ _ _ c.skip_gap-first.ensures.gap c.in-Some.ensures.1
+    c.in-Some.field-0-test.1
     limit in
     c.in_err-end.ensures.refused (the "}" ∷ rest, number.0, number.2, inr refl))
 
 pub returns-in-None-char_at-clause-refused : goal.returns-in-None-char_at-clause-refused
 returns-in-None-char_at-clause-refused c =
     λ (rest, most, limit).
-    let number = limit_before_other _ _ _ c.skip_gap-first.ensures.gap c.in-Some.ensures.1 c.in-Some.field-0-test.1
+    let number = limit_before_other _ _ _ c.skip_gap-first.ensures.gap c.in-Some.ensures.1
+    c.in-Some.field-0-test.1
     limit in
     let same = c.in_ok-end.ensures.only (the "}" ∷ rest) number.0 number.2 (inr refl) in
     no_ender _ (same.0 ∙ c.in-None-char_at.ensures) (inr refl)
@@ -33,7 +36,8 @@ returns-in-None-char_at-clause-refused c =
 pub returns-in-Some-char_at-clause-refused : goal.returns-in-Some-char_at-clause-refused
 returns-in-Some-char_at-clause-refused c =
     λ (rest, most, limit).
-    let number = limit_before_other _ _ _ c.skip_gap-first.ensures.gap c.in-Some.ensures.1 c.in-Some.field-0-test.1
+    let number = limit_before_other _ _ _ c.skip_gap-first.ensures.gap c.in-Some.ensures.1
+    c.in-Some.field-0-test.1
     limit in
     let same = c.in_ok-end.ensures.only (the "}" ∷ rest) number.0 number.2 (inr refl) in
     c.in-Some-char_at.field-0-test.1 (sym (same_head (same.0 ∙ c.in-Some-char_at.ensures.1)))

@@ -1,5 +1,7 @@
 use Rattle.std.proofs.Common.{refl, subst, drop, arith}
-use Rattle.regex_lite_syntax.proofs.grammar.NumberLemmas.{NoDigit, digit_read, no_digits_read, no_number, number_only, number_read, number_too_large}
+use Rattle.regex_lite_syntax.proofs.grammar.NumberLemmas.{NoDigit, digit_read, no_digits_read}
+use Rattle.regex_lite_syntax.proofs.grammar.NumberLemmas.{no_number, number_only, number_read}
+use Rattle.regex_lite_syntax.proofs.grammar.NumberLemmas.{number_too_large}
 use Rattle.regex_lite_syntax.proofs.parse.counted.read_number.Goals as goal
 
 pub loop-next-init : goal.loop-next-init
@@ -21,17 +23,21 @@ loop-next-preserved c =
     record {
       inside = (omega (arith, inside), inside.1);
       small = omega (arith, c.in-Some-with_digit.ensures);
-      read = digit_read c.loop-next.invariant.read c.in-Some.ensures.some c.in-Some-with_digit.ensures.1;
+      read =
+          digit_read c.loop-next.invariant.read c.in-Some.ensures.some
+          c.in-Some-with_digit.ensures.1;
     }
 
 pub returns-then-end-first-clause-refused : goal.returns-then-end-first-clause-refused
 returns-then-end-first-clause-refused c =
-    let none = subst (λ i. NoDigit c.args.verbose (drop i c.args.chars.now)) c.if-end-first.true c.in_default.ensures.none in
+    let none = subst (λ i. NoDigit c.args.verbose (drop i c.args.chars.now)) c.if-end-first.true
+    c.in_default.ensures.none in
     λ (rest, n, number, ends). no_number _ c.skip_side-first.ensures.side none number
 
 pub returns-clause-ok : goal.returns-clause-ok
 returns-clause-ok c =
-    number_read c.skip_side-first.ensures.side c.loop-next.invariant.read (omega arith) c.skip_side.ensures.side
+    number_read c.skip_side-first.ensures.side c.loop-next.invariant.read
+    (omega arith) c.skip_side.ensures.side
     c.loop-next.invariant.small
 
 pub returns-clause-only : goal.returns-clause-only

@@ -9,7 +9,8 @@ returns-in_err-end-in-WordBoundary-clause-refused c =
     let refused = err_from_is_err_and c.from_residual.result c.from_residual.ensures.1 in
     rw refused.1
     (λ (rest, primitive, escape).
-    let boundary = escape_from _ _ _ rest primitive _ _ c.in-Some.ensures.1 c.in-WordBoundary.ensures escape in
+    let boundary =
+    escape_from _ _ _ rest primitive _ _ c.in-Some.ensures.1 c.in-WordBoundary.ensures escape in
     c.in_err-end-in-WordBoundary.ensures.refused (rest, boundary.0, boundary.1))
 
 pub returns-in_ok-end-in-WordBoundary-clause-ok : goal.returns-in_ok-end-in-WordBoundary-clause-ok

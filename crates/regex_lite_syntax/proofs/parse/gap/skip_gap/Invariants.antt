@@ -8,7 +8,8 @@ abbrev pub invariant-loop-end : goal.invariant-loop-end
 invariant-loop-end l = record {
   inside : (l.at ≤ l.end) × (l.end ≤ length l.chars);
   -- a gap from here is one from the start
-  goes : (rest : Text) → Scan l.in_comment (drop l.end l.chars) rest → Spacing (drop l.at l.chars) rest;
+  goes : (rest : Text) → Scan l.in_comment (drop l.end l.chars) rest
+      → Spacing (drop l.at l.chars) rest;
 }
 
 abbrev pub decreases-loop-end : goal.decreases-loop-end

@@ -1,4 +1,5 @@
-use Rattle.std.proofs.Common.{inl, inr, ◌≡◌, ◌<◌, ℕ, false, refl, ◌∙◌, ap, ◌∷◌, ◌+◌, length, drop, get_or, codes, arith}
+use Rattle.std.proofs.Common.{inl, inr, ◌≡◌, ◌<◌, ℕ, false, refl, ◌∙◌, ap}
+use Rattle.std.proofs.Common.{◌∷◌, ◌+◌, length, drop, get_or, codes, arith}
 use Rattle.std.proofs.lemmas.List.{drop_all}
 use Rattle.regex_lite_syntax.specs.declared.flags.Flags.{Flags}
 use Rattle.regex_lite_syntax.specs.Text.{Text}
@@ -10,8 +11,10 @@ use Rattle.regex_lite_syntax.proofs.parse.letters.WholeFlagLemmas.{no_flags_end,
 use Rattle.regex_lite_syntax.proofs.parse.letters.other_head.Goals as goal
 
 -- no flags stand where this character does
-no_flags_at : (xs : Text) (i x c : ℕ) → i < length xs → x ≡ get_or xs i x → x ≡ c → is_flag_letter c ≡ false
-    → is_one_of (codes "-:)") c ≡ false → (old new : Flags) (rest : Text) → EndedFlags old (drop i xs) rest new → ⊥
+no_flags_at : (xs : Text) (i x c : ℕ) → i < length xs → x ≡ get_or xs i x → x ≡ c
+    → is_flag_letter c ≡ false
+    → is_one_of (codes "-:)") c ≡ false → (old new : Flags) (rest : Text)
+    → EndedFlags old (drop i xs) rest new → ⊥
 no_flags_at xs i x c inside e here no_flag no_end old new rest =
     let begins = drop_char xs i x inside e ∙ ap (λ y. y ∷ drop (i + 1) xs) here in
     no_flags_other old (drop i xs) rest new c (drop (i + 1) xs) begins no_flag no_end

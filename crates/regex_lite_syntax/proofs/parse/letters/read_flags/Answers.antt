@@ -2,19 +2,23 @@ use Rattle.std.proofs.Common.{false, ◌+◌, ◌∙◌, ap, drop, slice_range, 
 use Rattle.std.proofs.lemmas.Result.{err_from_is_err_and}
 use Rattle.regex_lite_syntax.specs.Grammar.FlagLetters.{with_flags}
 use Rattle.regex_lite_syntax.proofs.parse.letters.SliceLemmas.{slice_length}
-use Rattle.regex_lite_syntax.proofs.parse.letters.WholeFlagLemmas.{first_run, second_run, no_second_dash, some_second, flags_set, flags_cleared}
+use Rattle.regex_lite_syntax.proofs.parse.letters.WholeFlagLemmas.{first_run, second_run}
+use Rattle.regex_lite_syntax.proofs.parse.letters.WholeFlagLemmas.{no_second_dash, some_second}
+use Rattle.regex_lite_syntax.proofs.parse.letters.WholeFlagLemmas.{flags_set, flags_cleared}
 use Rattle.regex_lite_syntax.proofs.parse.letters.read_flags.Goals as goal
 
 pub returns-in_err-middle-clause-refused : goal.returns-in_err-middle-clause-refused
 returns-in_err-middle-clause-refused c =
     let t = drop c.args.at c.args.chars.now in
     let left = err_from_is_err_and c.from_residual.result c.from_residual.ensures.1 in
-    rw left.1 (λ flags. c.in_err-middle.ensures.refused (first_run c.args.old t flags.0 flags.1 flags.2))
+    rw left.1
+    (λ flags. c.in_err-middle.ensures.refused (first_run c.args.old t flags.0 flags.1 flags.2))
 
 pub returns-then-not-is_at-clause-ok : goal.returns-then-not-is_at-clause-ok
 returns-then-not-is_at-clause-ok c =
     let run = c.in_ok-middle.ensures in
-    flags_set c.args.old _ _ _ c.in_ok-middle.set run.ok (c.is_at.ensures.absent c.if-not-is_at.true) run.flags
+    flags_set c.args.old _ _ _ c.in_ok-middle.set run.ok
+    (c.is_at.ensures.absent c.if-not-is_at.true) run.flags
 
 pub returns-in_err-end-clause-refused : goal.returns-in_err-end-clause-refused
 returns-in_err-end-clause-refused c =
@@ -22,9 +26,11 @@ returns-in_err-end-clause-refused c =
     let t = drop c.args.at xs in
     let middle = c.in_ok-middle.middle in
     let dashed = (c.is_at.ensures.there c.if-not-is_at.false).1 in
-    let left = err_from_is_err_and c.from_residual-in_err-end.result c.from_residual-in_err-end.ensures.1 in
+    let left =
+    err_from_is_err_and c.from_residual-in_err-end.result c.from_residual-in_err-end.ensures.1 in
     rw left.1 (λ flags.
-    let cleared = second_run c.args.old _ t _ _ flags.0 flags.1 c.in_ok-middle.ensures.ok dashed flags.2 in
+    let cleared =
+    second_run c.args.old _ t _ _ flags.0 flags.1 c.in_ok-middle.ensures.ok dashed flags.2 in
     c.in_err-end.ensures.refused (cleared.off, flags.0, cleared.run))
 
 pub returns-then-is_at-clause-refused : goal.returns-then-is_at-clause-refused
@@ -34,7 +40,8 @@ returns-then-is_at-clause-refused c =
     let dashed = (c.is_at.ensures.there c.if-not-is_at.false).1 in
     let dashed_again = (c.is_at-2.ensures.there c.if-is_at.true).1 in
     λ flags.
-    let cleared = second_run c.args.old _ t _ _ flags.0 flags.1 c.in_ok-middle.ensures.ok dashed flags.2 in
+    let cleared =
+    second_run c.args.old _ t _ _ flags.0 flags.1 c.in_ok-middle.ensures.ok dashed flags.2 in
     no_second_dash _ _ _ _ _ flags.0 c.in_ok-end.ensures.ok dashed_again flags.2.ends cleared
 
 pub returns-then-end-begin-clause-refused : goal.returns-then-end-begin-clause-refused
@@ -42,9 +49,11 @@ returns-then-end-begin-clause-refused c =
     let xs = c.args.chars.now in
     let t = drop c.args.at xs in
     let dashed = (c.is_at.ensures.there c.if-not-is_at.false).1 in
-    let none = slice_length xs (c.in_ok-middle.middle + 1) c.in_ok-end.end (omega (arith, c.in_ok-end.ensures.inside)) in
+    let none = slice_length xs (c.in_ok-middle.middle + 1) c.in_ok-end.end
+    (omega (arith, c.in_ok-end.ensures.inside)) in
     λ flags.
-    let cleared = second_run c.args.old _ t _ _ flags.0 flags.1 c.in_ok-middle.ensures.ok dashed flags.2 in
+    let cleared =
+    second_run c.args.old _ t _ _ flags.0 flags.1 c.in_ok-middle.ensures.ok dashed flags.2 in
     some_second _ _ _ _ flags.0 c.in_ok-end.ensures.ok (omega (arith, none)) cleared
 
 pub returns-clause-ok : goal.returns-clause-ok
@@ -54,6 +63,10 @@ returns-clause-ok c =
     let run_off = c.in_ok-end.ensures in
     let dashed = (c.is_at.ensures.there c.if-not-is_at.false).1 in
     let no_dash = c.is_at-2.ensures.absent c.if-is_at.false in
-    let length_is = slice_length xs (c.in_ok-middle.middle + 1) c.in_ok-end.end (omega (arith, run_off.inside)) in
-    let flags = run_off.flags ∙ ap (with_flags false (slice_range xs (c.in_ok-middle.middle + 1) c.in_ok-end.end)) run.flags in
-    flags_cleared c.args.old _ _ _ _ _ _ c.in_ok-end.new run.ok dashed run_off.ok (omega (arith, length_is, run_off.inside)) no_dash flags
+    let length_is =
+    slice_length xs (c.in_ok-middle.middle + 1) c.in_ok-end.end (omega (arith, run_off.inside)) in
+    let flags = run_off.flags
+    ∙ ap (with_flags false (slice_range xs (c.in_ok-middle.middle + 1) c.in_ok-end.end))
+    run.flags in
+    flags_cleared c.args.old _ _ _ _ _ _ c.in_ok-end.new run.ok dashed run_off.ok
+    (omega (arith, length_is, run_off.inside)) no_dash flags

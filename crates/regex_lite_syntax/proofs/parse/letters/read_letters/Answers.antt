@@ -1,17 +1,24 @@
-use Rattle.std.proofs.Common.{◌≡◌, sym, ◌∙◌, ap, subst, ◌++◌, ◌||◌, true, slice_range, IsTrue, arith}
+use Rattle.std.proofs.Common.{◌≡◌, sym, ◌∙◌, ap, subst, ◌++◌, ◌||◌}
+use Rattle.std.proofs.Common.{true, slice_range, IsTrue, arith}
 use Rattle.std.proofs.lemmas.Bool.{or_left, or_right}
 use Rattle.std.proofs.lemmas.List.{drop_all}
 use Rattle.std.proofs.lemmas.Result.{err_from_is_err_and}
 use Rattle.std.specs.List.{AllPass}
 use Rattle.regex_lite_syntax.specs.Characters.{is_one_of}
-use Rattle.regex_lite_syntax.specs.Grammar.FlagLetters.{is_flag_letter, with_flag, with_flags, all_differ}
+use Rattle.regex_lite_syntax.specs.Grammar.FlagLetters.{is_flag_letter, with_flag}
+use Rattle.regex_lite_syntax.specs.Grammar.FlagLetters.{with_flags, all_differ}
 use Rattle.regex_lite_syntax.specs.Parser.FlagRuns.{EndsRun}
 use Rattle.regex_lite_syntax.proofs.grammar.WordLemmas.{pass_push}
 use Rattle.regex_lite_syntax.proofs.parse.IndexLemmas.{drop_char}
 use Rattle.regex_lite_syntax.proofs.parse.letters.SliceLemmas.{slice_spelled, slice_more}
-use Rattle.regex_lite_syntax.proofs.parse.letters.FlagRunLemmas.{with_flags_more, differ_more, no_run_end, no_run_other, no_run_twice}
+use Rattle.regex_lite_syntax.proofs.parse.letters.FlagRunLemmas.{with_flags_more}
+use Rattle.regex_lite_syntax.proofs.parse.letters.FlagRunLemmas.{differ_more, no_run_end}
+use Rattle.regex_lite_syntax.proofs.parse.letters.FlagRunLemmas.{no_run_other, no_run_twice}
 use Rattle.regex_lite_syntax.proofs.parse.letters.read_letters.Goals as goal
-use Rattle.regex_lite_syntax.proofs.parse.letters.read_letters.Goals.{then-contains-via-then-contains, then-contains-via-else-contains+then-contains-2}
+use Rattle.regex_lite_syntax.proofs.parse.letters.read_letters.Goals.{
+  then-contains-via-then-contains,
+  then-contains-via-else-contains+then-contains-2,
+}
 
 pub loop-end-preserved : goal.loop-end-preserved
 loop-end-preserved c =
@@ -20,7 +27,8 @@ loop-end-preserved c =
     let letter = c.index-chars-end.result in
     let read = slice_range xs c.args.at c.loop-end.end in
     let known = c.loop-end.invariant in
-    let longer = slice_more xs c.args.at c.loop-end.end letter (omega arith) (omega arith) c.index-chars-end.is in
+    let longer = slice_more xs c.args.at c.loop-end.end letter (omega arith)
+    (omega arith) c.index-chars-end.is in
     let none = sym c.contains.ensures.value ∙ c.if-contains.false in
     let none_read = sym c.contains-else-contains.ensures.value ∙ c.if-contains-2.false in
     let flags = c.in_ok-flags.ensures.ok.1 ∙ ap (with_flag c.args.set letter) known.flags in
@@ -42,7 +50,8 @@ returns-then-ends_letters-clause-ok c =
       written = slice_spelled xs c.args.at end (omega arith);
       all = c.loop-end.invariant.all;
       differ = c.loop-end.invariant.differ;
-      ends = subst (λ u. EndsRun u) (sym here) (sym c.ends_letters.ensures ∙ c.if-ends_letters.true);
+      ends =
+          subst (λ u. EndsRun u) (sym here) (sym c.ends_letters.ensures ∙ c.if-ends_letters.true);
     }
 
 pub returns-in_err-flags-clause-refused : goal.returns-in_err-flags-clause-refused
@@ -54,7 +63,8 @@ returns-in_err-flags-clause-refused c =
     let no_end = sym c.ends_letters.ensures ∙ c.if-ends_letters.false in
     let written = slice_spelled xs c.args.at end (omega arith) in
     let left = err_from_is_err_and c.from_residual.result c.from_residual.ensures.1 in
-    rw left.1 (λ run. no_run_other c.args.before.now read run.0 _ _ run.1 _ _ written c.loop-end.invariant.all
+    rw left.1
+    (λ run. no_run_other c.args.before.now read run.0 _ _ run.1 _ _ written c.loop-end.invariant.all
     here c.in_err-flags.ensures.refused no_end run.2)
 
 pub returns-then-contains-clause-refused : goal.returns-then-contains-clause-refused
@@ -66,13 +76,16 @@ returns-then-contains-clause-refused c =
     let read = slice_range xs c.args.at end in
     let here = drop_char xs end _ (omega arith) c.index-chars-end.is in
     let written = slice_spelled xs c.args.at end (omega arith) in
-    let twice : (is_one_of before letter || is_one_of read letter) ≡ true = elim c.then-contains.branch [
-      | then-contains-via-then-contains w ↦ or_left _ _ (sym c.contains.ensures.value ∙ w.if-contains.true)
+    let twice : (is_one_of before letter || is_one_of read letter) ≡ true =
+    elim c.then-contains.branch [
+      | then-contains-via-then-contains w ↦
+          or_left _ _ (sym c.contains.ensures.value ∙ w.if-contains.true)
       | then-contains-via-else-contains+then-contains-2 w ↦
           or_right _ _ (sym w.contains-else-contains.ensures.value ∙ w.if-contains-2.true)
     ] in
     λ run.
-    no_run_twice before read run.0 _ _ run.1 _ _ written c.loop-end.invariant.all here c.in_ok-flags.ensures.ok.0 twice
+    no_run_twice before read run.0 _ _ run.1 _ _ written c.loop-end.invariant.all here
+    c.in_ok-flags.ensures.ok.0 twice
     run.2
 
 pub returns-clause-refused : goal.returns-clause-refused

@@ -10,7 +10,8 @@ pub returns : goal.returns
 returns c =
     let letters = c.args.letters.now in
     let text = c.in_ok-text.text in
-    let bytes = text_from_collect {E = AllocError} {s = c.copied.result} (Ok text) c.in_ok-text.ensures.ran
+    let bytes =
+    text_from_collect {E = AllocError} {s = c.copied.result} (Ok text) c.in_ok-text.ensures.ran
     (YieldsList-from_copied (YieldsList-from_slice letters (cc))) in
     IfOk-weaker c.from_string.result _ _
     (λ name same. ap chars same ∙ chars_of_made text letters bytes) c.from_string.ensures.ok

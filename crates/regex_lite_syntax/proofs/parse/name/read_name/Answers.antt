@@ -1,6 +1,9 @@
 use Rattle.std.proofs.Common.{sym, arith}
 use Rattle.std.proofs.lemmas.Bool.{both_ways}
-use Rattle.regex_lite_syntax.proofs.grammar.NameReadingLemmas.{first_of_name, name_begun, name_goes_on, name_read, next_of_name, nothing_left_at_end, range_more}
+use Rattle.regex_lite_syntax.proofs.grammar.NameReadingLemmas.{first_of_name, name_begun}
+use Rattle.regex_lite_syntax.proofs.grammar.NameReadingLemmas.{name_goes_on, name_read}
+use Rattle.regex_lite_syntax.proofs.grammar.NameReadingLemmas.{next_of_name}
+use Rattle.regex_lite_syntax.proofs.grammar.NameReadingLemmas.{nothing_left_at_end, range_more}
 use Rattle.regex_lite_syntax.proofs.parse.name.read_name.Goals as goal
 
 pub loop-c-init : goal.loop-c-init
@@ -15,10 +18,12 @@ loop-c-init c =
 
 pub returns-then-c-eq62-clause-ok : goal.returns-then-c-eq62-clause-ok
 returns-then-c-eq62-clause-ok c =
-    name_read _ _ _ c.loop-c.end _ _ (omega arith) (omega arith) c.in-Some-char_at.ensures.1 c.if-c-eq62.true
+    name_read _ _ _ c.loop-c.end _ _ (omega arith)
+    (omega arith) c.in-Some-char_at.ensures.1 c.if-c-eq62.true
     c.loop-c.invariant.so_far
 
-pub returns-then-not-may_continue_name-clause-refused : goal.returns-then-not-may_continue_name-clause-refused
+pub returns-then-not-may_continue_name-clause-refused :
+    goal.returns-then-not-may_continue_name-clause-refused
 returns-then-not-may_continue_name-clause-refused c =
     λ (rest, name, written).
     let next = next_of_name _ _ c.in-Some-char_at.ensures.1 c.if-c-eq62.false
@@ -33,9 +38,11 @@ loop-c-preserved c =
       inside = (omega arith, omega (arith, here.0));
       so_far = name_goes_on _ _ _ (range_more _ _ _ _ _ (omega arith) here.0 here.1)
           (sym c.if-not-may_continue_name.ensures) c.if-c-eq62.false before.so_far;
-      back = λ rest name written. (next_of_name _ _ here.1 c.if-c-eq62.false (before.back rest name written)).1;
+      back = λ rest name written.
+          (next_of_name _ _ here.1 c.if-c-eq62.false (before.back rest name written)).1;
     }
 
 pub returns-clause-refused : goal.returns-clause-refused
 returns-clause-refused c =
-    λ (rest, name, written). nothing_left_at_end c.in_default.ensures (c.loop-c.invariant.back rest name written)
+    λ (rest, name, written).
+    nothing_left_at_end c.in_default.ensures (c.loop-c.invariant.back rest name written)

@@ -9,7 +9,8 @@ invariant-loop-c l = record {
   inside : (l.at < l.end) × (l.end ≤ length l.chars);
   so_far : NameSoFar (slice_range l.chars l.at l.end);
   -- a name that stands at the start goes on from here
-  back : (rest name : Text) → NameWritten (drop l.at l.chars) rest name → NameLeft (drop l.end l.chars) rest;
+  back : (rest name : Text) → NameWritten (drop l.at l.chars) rest name
+      → NameLeft (drop l.end l.chars) rest;
 }
 
 abbrev pub decreases-loop-c : goal.decreases-loop-c

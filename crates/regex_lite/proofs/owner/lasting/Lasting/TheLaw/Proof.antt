@@ -5,7 +5,8 @@ use base.Before.{before}
 use base.Logic.{ent, sep, wand, snd∗, apply∗}
 use base.Fml.{Fml, Lft, fbor}
 use types.Logic.{Logic, sem, lfts}
-use types.Kit.{‵, ◌⊛◌, raw, later, await, ◌$◌, !, qed, move, drop, use1, use2, split, updating, now, done}
+use types.Kit.{‵, ◌⊛◌, raw, later, await, ◌$◌, !, qed, move}
+use types.Kit.{drop, use1, use2, split, updating, now, done}
 use denote.RattleType.{RattleType}
 use denote.RawPtr.{Ptr}
 use denote.Param.{param}
@@ -30,7 +31,8 @@ module _ (T : RattleType) (L : Laws T) (p : Ptr) (x : T.Denot) where
   abbrev shared_laws : ShrLaws shared
   shared_laws = lent_at_shr_laws (param 0 T) L.shr_laws p x
 
-  twice : {M : Type 1} {𝓤 : Ura M} (𝓛 : Logic 𝓤) → ent 𝓤 (sem 𝓛 held) (sep 𝓤 (sem 𝓛 held) (sem 𝓛 held))
+  twice : {M : Type 1} {𝓤 : Ura M} (𝓛 : Logic 𝓤)
+      → ent 𝓤 (sem 𝓛 held) (sep 𝓤 (sem 𝓛 held) (sem 𝓛 held))
   twice 𝓛 = contraction 𝓛 shared shared_laws []
 
   held_laws : ShrLaws (λ κ. held)
@@ -43,14 +45,17 @@ module _ (T : RattleType) (L : Laws T) (p : Ptr) (x : T.Denot) where
   lends {𝓤 = 𝓤} 𝓛 l κ ts inc within =
       let back = wand 𝓤 (sem 𝓛 held) (𝓛.H.⇛ (sep 𝓤 (𝓛.A.bor κ held) (lfts 𝓛 ts))) in
       qed 𝓛 (‵ (fbor κ held) ∷ raw (lfts 𝓛 ts) ∷ []) {P = 𝓛.H.⇛ (sep 𝓤 (sem 𝓛 held) (lfts 𝓛 ts))} (
-      updating ! $ use2 𝓛 (later (‵ held ⊛ raw back)) (𝓛.more.bor_acc_by κ ts held within) $ await ! tt $ split ! $
+      updating ! $ use2 𝓛 (later (‵ held ⊛ raw back)) (𝓛.more.bor_acc_by κ ts held within) $
+      await ! tt $ split ! $
       use1 𝓛 (‵ held ⊛ ‵ held) (twice 𝓛) $ split ! $ move ! (0 ∷ 2 ∷ []) $
-      use2 𝓛 (later (‵ (fbor κ held) ⊛ raw (lfts 𝓛 ts))) (apply∗ 𝓤 (sem 𝓛 held) (𝓛.H.⇛ (sep 𝓤 (𝓛.A.bor κ held) (lfts 𝓛 ts)))) $
+      use2 𝓛 (later (‵ (fbor κ held) ⊛ raw (lfts 𝓛 ts)))
+      (apply∗ 𝓤 (sem 𝓛 held) (𝓛.H.⇛ (sep 𝓤 (𝓛.A.bor κ held) (lfts 𝓛 ts)))) $
       await ! tt $ split ! $ drop ! $ move ! (1 ∷ 0 ∷ []) $ now ! $ done !)
 
 pub shares : (T : RattleType) (L : Laws T) → statement T L
 shares T L =
-    of_Lends (lasting.struct T) (lasting.the_codes T.Denot T.coded) (lasting.the_heap T) (lasting.the_lent T)
+    of_Lends (lasting.struct T) (lasting.the_codes T.Denot T.coded) (lasting.the_heap T)
+    (lasting.the_lent T)
     (λ d p. held_laws T L d.ptr d.value)
     (copy_shared RawPtr-field RawPtr-copy, tt)
     (λ M 𝓤 𝓛 d p. lends T L d.ptr d.value 𝓛 (lasting.the_row T).lives)

@@ -9,8 +9,10 @@ pub returns-then-is_named : goal.returns-then-is_named
 returns-then-is_named g c =
     let names = ap (λ (own : Groups). own.names) c.self.view_is in
     let items = c.capture_names-names.ensures in
-    let read = name_read c.args.self.now.names c.capture_names-names.result.now c.index-names-k.result c.args.name.now
-    c.loop-k.k (ap (map (option_map rc_str_bytes)) items ∙ names) c.loop-k-test.true c.index-names-k.is in
+    let read = name_read c.args.self.now.names c.capture_names-names.result.now
+    c.index-names-k.result c.args.name.now
+    c.loop-k.k (ap (map (option_map rc_str_bytes)) items ∙ names) c.loop-k-test.true
+    c.index-names-k.is in
     named_first c.args.self.now.names c.args.name.now c.loop-k.k read.0 c.loop-k.invariant
     (sym read.1 ∙ sym c.is_named.ensures ∙ c.if-is_named.true)
 
@@ -18,8 +20,10 @@ pub loop-k-preserved : goal.loop-k-preserved
 loop-k-preserved g c =
     let names = ap (λ (own : Groups). own.names) c.self.view_is in
     let items = c.capture_names-names.ensures in
-    let read = name_read c.args.self.now.names c.capture_names-names.result.now c.index-names-k.result c.args.name.now
-    c.loop-k.k (ap (map (option_map rc_str_bytes)) items ∙ names) c.loop-k-test.true c.index-names-k.is in
+    let read = name_read c.args.self.now.names c.capture_names-names.result.now
+    c.index-names-k.result c.args.name.now
+    c.loop-k.k (ap (map (option_map rc_str_bytes)) items ∙ names) c.loop-k-test.true
+    c.index-names-k.is in
     one_more c.args.self.now.names c.args.name.now c.loop-k.k c.loop-k.invariant
     (sym read.1 ∙ sym c.is_named.ensures ∙ c.if-is_named.false)
 
@@ -27,7 +31,8 @@ pub returns : goal.returns
 returns g c =
     let names = ap (λ (own : Groups). own.names) c.self.view_is in
     let items = c.capture_names-names.ensures in
-    let few = ap length (sym names ∙ ap (map (option_map rc_str_bytes)) (sym items)) ∙ length-map _ _ in
+    let few =
+    ap length (sym names ∙ ap (map (option_map rc_str_bytes)) (sym items)) ∙ length-map _ _ in
     let behind = c.loop-k-test.false in
     named_nowhere c.args.self.now.names c.args.name.now
     (λ j less. c.loop-k.invariant j (omega (arith, less, few, behind)))

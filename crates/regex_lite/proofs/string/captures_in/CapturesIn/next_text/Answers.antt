@@ -9,7 +9,8 @@ returns-in-Some g c =
     (g.T.Text.bytes c.part.result) c.loop-k.invariant
     (subst (λ n. c.loop-k.k < n) c.groups-k-end.ensures c.loop-k-test.true)
     (sym c.span.ensures.span ∙ c.in-Some.is)
-    (c.part.ensures ∙ ap (λ (own : Groups). text_at own.haystack (c.in-Some.start, c.in-Some.end)) c.self.view_is)
+    (c.part.ensures
+    ∙ ap (λ (own : Groups). text_at own.haystack (c.in-Some.start, c.in-Some.end)) c.self.view_is)
 
 pub loop-k-preserved : goal.loop-k-preserved
 loop-k-preserved g c =

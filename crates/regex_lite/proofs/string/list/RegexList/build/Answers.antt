@@ -4,7 +4,8 @@ use Rattle.regex_lite_syntax.specs.Tree.Views.{tree_of}
 use Rattle.regex_lite_engine.specs.Graph.SideBySide.{AreRegular}
 use Rattle.regex_lite.specs.Expression.{expression_of}
 use Rattle.regex_lite.specs.RegexList.{IsAcceptedAs}
-use Rattle.regex_lite.proofs.string.ListBuildLemmas.{accepted_trees, each_fits, refused_before, refused_together, regular_trees}
+use Rattle.regex_lite.proofs.string.ListBuildLemmas.{accepted_trees, each_fits, refused_before}
+use Rattle.regex_lite.proofs.string.ListBuildLemmas.{refused_together, regular_trees}
 use Rattle.regex_lite.proofs.string.PairedLemmas.{paired_length}
 use Rattle.regex_lite.proofs.string.list.RegexList.build.Goals as goal
 

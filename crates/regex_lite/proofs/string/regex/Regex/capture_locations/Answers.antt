@@ -13,5 +13,12 @@ returns-clause-ok c =
 
 pub returns-clause-room : goal.returns-clause-room
 returns-clause-room c =
-    let told = returns-clause-ok c in
-    (told.0, told.1, omega (arith, ap (λ spans. length spans) told.2, length-replicate {A = Option (ℕ × ℕ)} (captures_len told.0) None))
+    let told = returns-clause-ok c in (
+      told.0,
+      told.1,
+      omega (
+        arith,
+        ap (λ spans. length spans) told.2,
+        length-replicate {A = Option (ℕ × ℕ)} (captures_len told.0) None,
+      ),
+    )

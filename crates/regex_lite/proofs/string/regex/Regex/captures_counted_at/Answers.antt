@@ -11,7 +11,8 @@ new-caps-requires c =
     let given : IsTree a.self.now.flags (chars a.self.now.pattern) c.self.invariant.tree =
     rw (← c.self.view_is) c.self.invariant.given in
     let enough = slots_are a.self.now c.self.invariant.tree c.in_ok-outcome.outcome outcome
-    c.kept_slots-count.result given c.kept_slots-count.ensures c.in_ok-outcome.ensures.slots c.in-Some.is in
+    c.kept_slots-count.result given c.kept_slots-count.ensures c.in_ok-outcome.ensures.slots
+    c.in-Some.is in
     groups_are a.haystack.now c.utf8.haystack a.start a.self.now (outcome.start, outcome.end)
     outcome.slots.items (
       c.self.invariant.tree,
@@ -31,7 +32,8 @@ returns-clause-found c =
     let given : IsTree a.self.now.flags (chars a.self.now.pattern) c.self.invariant.tree =
     rw (← c.self.view_is) c.self.invariant.given in
     let enough = slots_are a.self.now c.self.invariant.tree c.in_ok-outcome.outcome outcome
-    c.kept_slots-count.result given c.kept_slots-count.ensures c.in_ok-outcome.ensures.slots c.in-Some.is in
+    c.kept_slots-count.result given c.kept_slots-count.ensures c.in_ok-outcome.ensures.slots
+    c.in-Some.is in
     groups_told a.haystack.now c.utf8.haystack a.start a.self.now (outcome.start, outcome.end)
     outcome.slots.items (
       c.self.invariant.tree,
@@ -42,7 +44,8 @@ returns-clause-found c =
           c.in-Some.is,
     ) c.self.inside.compiled c.self.invariant given enough c.slots_with-slots.result.items
     c.slots_with-slots.ensures c.of_regex-source.result
-    (c.of_regex-source.ensures ∙ ap stored_groups c.in_ok-clone.ensures.cases) c.new-caps.result c.new-caps.ensures
+    (c.of_regex-source.ensures ∙ ap stored_groups c.in_ok-clone.ensures.cases) c.new-caps.result
+    c.new-caps.ensures
 
 pub returns-clause-of_match : goal.returns-clause-of_match
 returns-clause-of_match c = record {

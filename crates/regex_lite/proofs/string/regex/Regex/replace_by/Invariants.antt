@@ -8,8 +8,10 @@ abbrev pub invariant-loop-found : goal.invariant-loop-found
 invariant-loop-found l = record {
   can : (goal.iterator-loop-found).can_next l.found-iterator;
   finite : (goal.iterator-loop-found).is_finite l.found-iterator;
-  so_far : Continues l.text (whole l.self l.haystack l.fn.limit) (ahead_of l.found-iterator) (unwrap_or l.rewrite.ended 0) (string_bytes l.rewrite.text);
-  begun : IsBegun (whole l.self l.haystack l.fn.limit) (ahead_of l.found-iterator) (string_bytes l.rewrite.text) l.rewrite.ended;
+  so_far : Continues l.text (whole l.self l.haystack l.fn.limit) (ahead_of l.found-iterator)
+      (unwrap_or l.rewrite.ended 0) (string_bytes l.rewrite.text);
+  begun : IsBegun (whole l.self l.haystack l.fn.limit) (ahead_of l.found-iterator)
+      (string_bytes l.rewrite.text) l.rewrite.ended;
   haystack : l.found-iterator.scan.haystack ≡ l.haystack;
   ended : l.rewrite.ended ≡ l.found-iterator.scan.ended;
   same : l.rewrite.haystack ≡ l.initial.rewrite.haystack;

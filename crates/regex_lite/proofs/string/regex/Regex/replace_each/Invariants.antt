@@ -7,8 +7,11 @@ use Rattle.regex_lite.proofs.string.regex.Regex.replace_each.Given as goal
 abbrev pub invariant-items : goal.invariant-items
 invariant-items g l = record {
   can_append : g.R.Replacer.can_append l.rep;
-  so_far : ContinuesInTurn g.R.Replacer.fixed g.R.Replacer.appends l.initial.rep (ahead l.initial.scan) (ahead l.scan) l.rep (unwrap_or l.rewrite.ended 0) (string_bytes l.rewrite.text);
-  begun : IsBegun (ahead l.initial.scan) (ahead l.scan) (string_bytes l.rewrite.text) l.rewrite.ended;
+  so_far : ContinuesInTurn g.R.Replacer.fixed g.R.Replacer.appends l.initial.rep
+      (ahead l.initial.scan) (ahead l.scan) l.rep (unwrap_or l.rewrite.ended 0)
+      (string_bytes l.rewrite.text);
+  begun : IsBegun (ahead l.initial.scan) (ahead l.scan)
+      (string_bytes l.rewrite.text) l.rewrite.ended;
   regex : l.scan.finder.regex ≡ l.initial.scan.finder.regex;
   haystack : l.scan.haystack ≡ l.initial.scan.haystack;
   ended : l.rewrite.ended ≡ l.scan.ended;

@@ -13,7 +13,8 @@ returns-clause-known c = (
 
 pub returns-clause-told : goal.returns-clause-told
 returns-clause-told c =
-    let known : OfTree c.args.self.now (λ tree. c.static_captures_len.result ≡ static_captures_len tree) = (
+    let known : OfTree c.args.self.now
+    (λ tree. c.static_captures_len.result ≡ static_captures_len tree) = (
       c.self.invariant.tree,
       rw (← c.self.view_is) c.self.invariant.given,
       c.static_captures_len.ensures ∙ rw c.deref.ensures c.self.invariant.groups.static_captures,

@@ -9,7 +9,8 @@ new-requires c =
     let a = c.args in
     let regex = c.self.inside.regex.now in
     let slots = c.search.new.self.slots in
-    span_lies a.haystack.now c.utf8.haystack a.start regex (c.in_ok-from.from, c.in_ok-from.to) slots
+    span_lies a.haystack.now c.utf8.haystack a.start regex
+    (c.in_ok-from.from, c.in_ok-from.to) slots
     (subst (λ told. OfTree regex (λ tree. IsSpanOutcome tree a.haystack.now a.start slots told))
     c.in_ok-from.was
     (span_of regex c.self.inside.matches a.haystack.now a.start slots c.search.result

@@ -4,7 +4,8 @@ use Rattle.regex_lite.specs.Expression.{Expression, OfTree}
 use Rattle.regex_lite.specs.Keeping.{SearchesForGroups}
 use Rattle.regex_lite.specs.MatchViews.{span_of_match}
 use Rattle.regex_lite.specs.Slots.{all_slots}
-use Rattle.regex_lite.proofs.string.KeptLemmas.{locations_read, room_for, room_read, slots_again, slots_of_whole, still_searches}
+use Rattle.regex_lite.proofs.string.KeptLemmas.{locations_read, room_for, room_read}
+use Rattle.regex_lite.proofs.string.KeptLemmas.{slots_again, slots_of_whole, still_searches}
 use Rattle.regex_lite.proofs.string.ToldLemmas.{same_pair, span_of}
 use Rattle.regex_lite.proofs.string.regex_searcher.RegexSearcher.read.Goals as goal
 
@@ -38,7 +39,8 @@ write-requires c =
 
 pub read_again-requires-clause-room : goal.read_again-requires-clause-room
 read_again-requires-clause-room c =
-    let own = subst (λ (re : Expression). SearchesForGroups re (Some c.in-Some.groups)) c.self.view_is
+    let own =
+    subst (λ (re : Expression). SearchesForGroups re (Some c.in-Some.groups)) c.self.view_is
     (subst (SearchesForGroups c.self.inside.regex.now) c.in-Some.is c.self.invariant.1) in
     room_for c.args.self.now c.in-Some.groups own c.args.locs.now c.requires.few
 
@@ -59,7 +61,8 @@ returns-clause-locations c = λ start told.
     let m = a.found.now in
     let slots = c.read_again.new.searcher.slots in
     let span = c.read_again.result in
-    let own = subst (λ (re : Expression). SearchesForGroups re (Some c.in-Some.groups)) c.self.view_is
+    let own =
+    subst (λ (re : Expression). SearchesForGroups re (Some c.in-Some.groups)) c.self.view_is
     (subst (SearchesForGroups c.self.inside.regex.now) c.in-Some.is c.self.invariant.1) in
     let outcome = subst (λ at. OfTree re (λ tree. IsSpanOutcome tree bytes at slots span))
     c.start-2.ensures

@@ -13,8 +13,10 @@ new-requires c =
     let slots = c.in_ok-slots-2.slots.items in
     let held : slots ≡ all_slots c.self.inside.inner.slots span = search rules in
     let filled = held ∙ ap (λ (own : RegexSearching). all_slots own.slots span) c.self.view_is in
-    groups_held a.haystack.now c.utf8.haystack a.self.now.regex a.self.now.slots slots c.requires.room
-    c.in_ok-slots.source c.in_ok-slots.ensures.ok c.requires.last.0 a.last.now filled c.requires.last.1
+    groups_held a.haystack.now c.utf8.haystack a.self.now.regex a.self.now.slots slots
+    c.requires.room
+    c.in_ok-slots.source c.in_ok-slots.ensures.ok c.requires.last.0 a.last.now filled
+    c.requires.last.1
 
 pub returns-clause-groups : goal.returns-clause-groups
 returns-clause-groups c = λ found last.
@@ -24,5 +26,6 @@ returns-clause-groups c = λ found last.
     let held : slots ≡ all_slots c.self.inside.inner.slots span = search rules in
     let filled = held ∙ ap (λ (own : RegexSearching). all_slots own.slots span) c.self.view_is in
     subst (AreGroupsFound a.self.now.regex a.haystack.now found) (sym c.new.ensures)
-    (groups_kept a.haystack.now c.utf8.haystack a.self.now.regex a.self.now.slots slots c.requires.room
+    (groups_kept a.haystack.now c.utf8.haystack a.self.now.regex a.self.now.slots slots
+    c.requires.room
     c.in_ok-slots.source c.in_ok-slots.ensures.ok found a.last.now filled last)

@@ -16,6 +16,7 @@ returns c =
     let i = c.self.inside in let v = c.self.view_is in
     held_is _ _
     (ap (λ items. reverse (map frame_of items)) c.push_reserved.ensures.items
-    ∙ last_is_next i.frames.items c.args.frame ∙ ap (λ frames. frame_of c.args.frame ∷ frames) (ap (λ (z : Held). z.frames) v))
+    ∙ last_is_next i.frames.items c.args.frame
+    ∙ ap (λ frames. frame_of c.args.frame ∷ frames) (ap (λ (z : Held). z.frames) v))
     (ap (λ (z : Held). z.row) v)
     (c.push_reserved.ensures.capacity ∙ ap (λ (z : Held). z.room) v)

@@ -7,6 +7,8 @@ pub loop-i-preserved : goal.loop-i-preserved
 loop-i-preserved c =
     let a = c.args in
     c.push.ensures
-    ∙ ap (λ (z : Held). record z { frames = explore (slice_index a.places.now (c.loop-i.i - 1)) a.at ∷ z.frames }) c.loop-i.invariant
+    ∙ ap (λ (z : Held). record z {
+      frames = explore (slice_index a.places.now (c.loop-i.i - 1)) a.at ∷ z.frames;
+    }) c.loop-i.invariant
     ∙ ap (λ frames. record a.self.now { frames = frames })
     (one_before a.places.now a.at c.loop-i.i a.self.now.frames (search rules) (search rules))

@@ -1,33 +1,38 @@
 use Rattle.std.proofs.Common.{ap, ◌∙◌, arith}
 use Rattle.regex_lite_engine.specs.Backtrack.Bits.{room_of, words_of}
 use Rattle.regex_lite_engine.specs.contracts.backtrack.visited.Visited.{the_view}
-use Rattle.regex_lite_engine.proofs.backtrack.BitLemmas.{number_inside, found_in_pairs, set_in_pairs}
+use Rattle.regex_lite_engine.proofs.backtrack.BitLemmas.{number_inside}
+use Rattle.regex_lite_engine.proofs.backtrack.BitLemmas.{found_in_pairs, set_in_pairs}
 use Rattle.regex_lite_engine.proofs.backtrack.visited.Visited.insert.Goals.{in-Few, in-Many}
 use Rattle.regex_lite_engine.proofs.backtrack.visited.Visited.insert.Goals as goal
 
 pub overflow_mul-pair : goal.overflow_mul-pair
 overflow_mul-pair c =
     let a = c.args in
-    let inside = number_inside c.self.inside a.self.now c.self.view_is a.place a.at c.requires.inside in
+    let inside =
+    number_inside c.self.inside a.self.now c.self.view_is a.place a.at c.requires.inside in
     omega (arith, inside)
 
 pub overflow_add-pair : goal.overflow_add-pair
 overflow_add-pair c =
     let a = c.args in
-    let inside = number_inside c.self.inside a.self.now c.self.view_is a.place a.at c.requires.inside in
+    let inside =
+    number_inside c.self.inside a.self.now c.self.view_is a.place a.at c.requires.inside in
     omega (arith, inside)
 
 pub set_bit-requires : goal.set_bit-requires
 set_bit-requires c =
     let a = c.args in
-    let inside = number_inside c.self.inside a.self.now c.self.view_is a.place a.at c.requires.inside in
+    let inside =
+    number_inside c.self.inside a.self.now c.self.view_is a.place a.at c.requires.inside in
     let words = ap room_of c.in-Few.is in
     omega (arith, inside, c.self.invariant, words)
 
 pub set_bit_behind-requires : goal.set_bit_behind-requires
 set_bit_behind-requires c =
     let a = c.args in
-    let inside = number_inside c.self.inside a.self.now c.self.view_is a.place a.at c.requires.inside in
+    let inside =
+    number_inside c.self.inside a.self.now c.self.view_is a.place a.at c.requires.inside in
     let words = ap room_of c.in-Many.is in
     omega (arith, inside, c.self.invariant, words)
 

@@ -1,7 +1,10 @@
 use Rattle.std.proofs.Common.{◌≡◌, ◌+◌, ◌-◌, ◌*◌, false, replicate, ap, ◌∙◌, rules}
 use Rattle.regex_lite_engine.specs.Backtrack.Bits.{bits_of, words_of}
 use Rattle.regex_lite_engine.proofs.backtrack.BitLemmas.{none_of_zeros}
-use Rattle.regex_lite_engine.proofs.backtrack.visited.Visited.none.Goals.{then-count, else-count+in_ok-with_capacity}
+use Rattle.regex_lite_engine.proofs.backtrack.visited.Visited.none.Goals.{
+  then-count,
+  else-count+in_ok-with_capacity,
+}
 use Rattle.regex_lite_engine.proofs.backtrack.visited.Visited.none.Goals as goal
 
 pub returns-clause-none : goal.returns-clause-none

@@ -8,7 +8,9 @@ use Rattle.regex_lite_engine.specs.Search.Bounds.{StepCounts}
 use Rattle.regex_lite_engine.specs.Graph.Places.{with_arrows}
 use Rattle.regex_lite_engine.proofs.backtrack.LeadsLemmas.{leads_entered, leads_passed}
 use Rattle.regex_lite_engine.proofs.backtrack.LeftLemmas.{pair_inside}
-use Rattle.regex_lite_engine.proofs.backtrack.WentLemmas.{enter_room, entered_again, entered_at, goes_entered, goes_passed, same_walk, was_old}
+use Rattle.regex_lite_engine.proofs.backtrack.WentLemmas.{enter_room, entered_again}
+use Rattle.regex_lite_engine.proofs.backtrack.WentLemmas.{entered_at, goes_entered}
+use Rattle.regex_lite_engine.proofs.backtrack.WentLemmas.{goes_passed, same_walk, was_old}
 use Rattle.regex_lite_engine.proofs.pikevm.WentLemmas.{got_place}
 use Rattle.regex_lite_engine.proofs.backtrack.walk.Walk.come_to.Goals as goal
 
@@ -27,7 +29,8 @@ returns-then-not-insert-clause-goes c =
     (record w.steps { tried = w.steps.tried + 1 })
     (c.insert.ensures.added ∙ entered_again w.visited a.place a.at was) c.count_try.ensures))
     (goes_passed table bytes w a.place a.at w.stack.frames fit
-    (leads_passed bytes c.utf8.haystack table w.visited fit.all w.stack.row a.place a.at w.stack.frames
+    (leads_passed bytes c.utf8.haystack table w.visited fit.all w.stack.row a.place a.at
+    w.stack.frames
     fit.below.0 fit.below.1 fit.below.2 a.at was))
 
 pub enter-requires-clause-room : goal.enter-requires-clause-room
@@ -52,13 +55,16 @@ returns-clause-goes c =
     let done = completes c.enter.result in
     let new = c.insert.ensures.fresh.0 c.if-not-insert.false in
     let got = got_place a.graph.now.places a.place place c.look-found.ensures.found in
-    let inside = subst (λ z. LeadsBelow z (place_of place)) (sym (length-map a.graph.now.places place_of))
+    let inside =
+    subst (λ z. LeadsBelow z (place_of place)) (sym (length-map a.graph.now.places place_of))
     c.look-found.ensures.inside in
     let steps = c.look-found.ensures.counted
     ∙ ap (λ (s : StepCounts). record s { looked = s.looked + 1 }) (c.count_entry.ensures
     ∙ ap (λ (s : StepCounts). record s { entered = s.entered + 1 }) c.count_try.ensures) in
-    subst (λ (z : Walk). Goes table bytes w (explore a.place a.at ∷ w.stack.frames) z frames a.at done)
-    (sym (same_walk c.insert.new.self (entered_at w.visited a.place a.at) held c.look-found.new.steps
+    subst
+    (λ (z : Walk). Goes table bytes w (explore a.place a.at ∷ w.stack.frames) z frames a.at done)
+    (sym
+    (same_walk c.insert.new.self (entered_at w.visited a.place a.at) held c.look-found.new.steps
     (record {
       tried = w.steps.tried + 1;
       entered = w.steps.entered + 1;

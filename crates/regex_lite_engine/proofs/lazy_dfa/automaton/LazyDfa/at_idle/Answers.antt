@@ -3,12 +3,14 @@ use Rattle.std.specs.Prelude.{chars}
 use Rattle.std.proofs.lemmas.List.{nil_from_length}
 use Rattle.regex_lite_engine.specs.Graph.Stored.{table_of}
 use Rattle.regex_lite_engine.specs.Walk.Turns.{best_of}
-use Rattle.regex_lite_engine.proofs.lazy_dfa.RunLemmas.{at_later, maybe_in_empty, own_first, passed_over}
+use Rattle.regex_lite_engine.proofs.lazy_dfa.RunLemmas.{at_later, maybe_in_empty}
+use Rattle.regex_lite_engine.proofs.lazy_dfa.RunLemmas.{own_first, passed_over}
 use Rattle.regex_lite_engine.proofs.lazy_dfa.automaton.LazyDfa.at_idle.Goals as goal
 
 pub returns-clause-remembers : goal.returns-clause-remembers
 returns-clause-remembers c =
-    c.idle_state-state.ensures.remembers c.args.graph.now.places (c.args.graph.now.start ∷ []) c.requires.remembers
+    c.idle_state-state.ensures.remembers c.args.graph.now.places
+    (c.args.graph.now.start ∷ []) c.requires.remembers
 
 pub returns-clause-stands : goal.returns-clause-stands
 returns-clause-stands c = λ s stands.
@@ -21,14 +23,21 @@ returns-clause-stands c = λ s stands.
     record {
       p = passes.q;
       is = passes.is;
-      on = passed_over (table_of c.args.graph.now) (chars c.args.haystack.now) (c.args.graph.now.start ∷ []) s stands.p a.cache.now c.pass_over-here.result stands.on none no_match passes;
+      on =
+          passed_over (table_of c.args.graph.now) (chars c.args.haystack.now)
+          (c.args.graph.now.start ∷ []) s stands.p a.cache.now c.pass_over-here.result stands.on
+          none no_match passes;
       first = omega arith;
       own = own_first c.pass_over-here.result.at a.cache.now.walk.memory.threads none;
-      state = maybe_in_empty c.idle_state-state.new.self c.idle_state-state.result c.pass_over-here.result.at c.pass_over-here.result.before a.cache.now c.idle_state-state.ensures.state none no_match;
+      state =
+          maybe_in_empty c.idle_state-state.new.self c.idle_state-state.result
+          c.pass_over-here.result.at c.pass_over-here.result.before a.cache.now
+          c.idle_state-state.ensures.state none no_match;
     }
 
 pub returns-clause-later : goal.returns-clause-later
 returns-clause-later c =
     let stands = c.requires.stands.1 in
     let passes = c.pass_over-here.ensures stands.p stands.is in
-    at_later (chars c.args.haystack.now) stands.p passes.q c.args.at.here c.pass_over-here.result stands.is passes.is passes.later
+    at_later (chars c.args.haystack.now) stands.p passes.q c.args.at.here c.pass_over-here.result
+    stands.is passes.is passes.later

@@ -19,5 +19,7 @@ returns-then-sees_alike c =
       none = empty_by_len i.states.items i.used i.ways.items c.states.x found _ v.0 v.1 own
           (sym (ap (λ (s : StoredState). s.len) stored) ∙ c.if-state-eq0.true);
       searching = sym (ap (λ (s : StoredState). s.searching) stored) ∙ c.if-state.true;
-      sees = λ looks. sym (ap (λ (s : StoredState). s.before) stored) ∙ c.if-sees_alike.ensures refl looks ∙ c.of-side.ensures;
+      sees = λ looks.
+          sym (ap (λ (s : StoredState). s.before) stored) ∙ c.if-sees_alike.ensures refl looks
+          ∙ c.of-side.ensures;
     }

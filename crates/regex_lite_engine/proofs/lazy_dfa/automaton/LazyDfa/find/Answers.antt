@@ -7,13 +7,17 @@ pub find_from-requires-clause-stands : goal.find_from-requires-clause-stands
 find_from-requires-clause-stands c = (
   position_at c.args.haystack.now c.args.start,
   c.requires.counts,
-  c.begun-at.ensures (table_of c.args.graph.now) (c.args.graph.now.start ∷ []) c.args.self.now c.args.cache.now c.requires.fresh c.requires.width,
+  c.begun-at.ensures (table_of c.args.graph.now) (c.args.graph.now.start ∷ []) c.args.self.now
+      c.args.cache.now c.requires.fresh c.requires.width,
 )
 
 pub returns-clause-found : goal.returns-clause-found
 returns-clause-found c = c.find_from.ensures.found (position_at c.args.haystack.now c.args.start)
-    (c.begun-at.ensures (table_of c.args.graph.now) (c.args.graph.now.start ∷ []) c.args.self.now c.args.cache.now c.requires.fresh c.requires.width)
+    (c.begun-at.ensures (table_of c.args.graph.now) (c.args.graph.now.start ∷ []) c.args.self.now
+    c.args.cache.now c.requires.fresh c.requires.width)
 
 pub returns-clause-bounded : goal.returns-clause-bounded
-returns-clause-bounded c = c.find_from.ensures.bounded (position_at c.args.haystack.now c.args.start)
-    (c.begun-at.ensures (table_of c.args.graph.now) (c.args.graph.now.start ∷ []) c.args.self.now c.args.cache.now c.requires.fresh c.requires.width)
+returns-clause-bounded c =
+    c.find_from.ensures.bounded (position_at c.args.haystack.now c.args.start)
+    (c.begun-at.ensures (table_of c.args.graph.now) (c.args.graph.now.start ∷ []) c.args.self.now
+    c.args.cache.now c.requires.fresh c.requires.width)

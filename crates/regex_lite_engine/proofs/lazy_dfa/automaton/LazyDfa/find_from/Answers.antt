@@ -33,9 +33,12 @@ returns-then-is_over-clause-found c = λ s begun.
     let cache = c.go_over-hit.new.self in
     let row = nil_from_length cache.best.row (on.ready.best_width ∙ on.width) in
     let best = c.span.ensures ∙ ap (λ row. with_start_kept (best_at c.span.result row)) row in
-    subst (IsBestOutcomeOf (table_of c.args.graph.now) (chars c.args.haystack.now) (c.args.graph.now.start ∷ []) s) best
-    (ended_all (table_of c.args.graph.now) (chars c.args.haystack.now) (c.args.graph.now.start ∷ []) s stands.p cache.walk.memory.threads (best_of cache.best) stands.on.low stands.is.inside
-    (over_at (chars c.args.haystack.now) stands.p c.look_ahead.new.at.here stands.is (c.is_over.ensures.over (search rules))) on.coming)
+    subst (IsBestOutcomeOf (table_of c.args.graph.now) (chars c.args.haystack.now)
+    (c.args.graph.now.start ∷ []) s) best
+    (ended_all (table_of c.args.graph.now) (chars c.args.haystack.now) (c.args.graph.now.start ∷ [])
+    s stands.p cache.walk.memory.threads (best_of cache.best) stands.on.low stands.is.inside
+    (over_at (chars c.args.haystack.now) stands.p c.look_ahead.new.at.here stands.is
+    (c.is_over.ensures.over (search rules))) on.coming)
 
 pub returns-then-is_over-clause-between : goal.returns-then-is_over-clause-between
 returns-then-is_over-clause-between c =
@@ -66,7 +69,8 @@ learn_at-at-requires-clause-turned c =
     let idle = c.at_idle-at.ensures.stands s (c.positions.invariant.stands s c.requires.stands.2) in
     let stands = c.in_default.ensures.stands s idle in
     let at = c.look_ahead.new.at in
-    turned_from (table_of c.args.graph.now) c.args.graph.now.start c.at_idle-at.new.self at.state at.first at.here c.go_over-hit.result c.look_ahead.new.cache c.go_over-hit.new.self stands.state
+    turned_from (table_of c.args.graph.now) c.args.graph.now.start c.at_idle-at.new.self at.state
+    at.first at.here c.go_over-hit.result c.look_ahead.new.cache c.go_over-hit.new.self stands.state
     c.go_over-hit.ensures.again c.go_over-hit.ensures.hit stands.own
 
 pub on-at-requires-clause-first : goal.on-at-requires-clause-first
@@ -89,7 +93,8 @@ positions-smaller c =
     let idle = c.at_idle-at.ensures.stands s (c.positions.invariant.stands s c.requires.stands.2) in
     let stands = c.in_default.ensures.stands s idle in
     let on = c.go_over-hit.ensures.on s stands.p stands.is stands.on in
-    let next = c.on-at.ensures.stands (table_of c.args.graph.now) (c.args.graph.now.start ∷ []) c.learn_at-at.new.self s stands.p stands.is on c.learn_at-at.ensures.state in
+    let next = c.on-at.ensures.stands (table_of c.args.graph.now) (c.args.graph.now.start ∷ [])
+    c.learn_at-at.new.self s stands.p stands.is on c.learn_at-at.ensures.state in
     let most = at_most c.args.haystack.now next.p c.on-at.result.here c.utf8.haystack next.is in
     let later = c.on-at.ensures.later in
     let ahead = c.look_ahead.ensures.later in
@@ -104,7 +109,8 @@ positions-preserved c = record {
       let idle = c.at_idle-at.ensures.stands s (c.positions.invariant.stands s begun) in
       let stands = c.in_default.ensures.stands s idle in
       let on = c.go_over-hit.ensures.on s stands.p stands.is stands.on in
-      c.on-at.ensures.stands (table_of c.args.graph.now) (c.args.graph.now.start ∷ []) c.learn_at-at.new.self s stands.p stands.is on c.learn_at-at.ensures.state;
+      c.on-at.ensures.stands (table_of c.args.graph.now) (c.args.graph.now.start ∷ [])
+      c.learn_at-at.new.self s stands.p stands.is on c.learn_at-at.ensures.state;
 }
 
 pub returns-in-Some-clause-bounded : goal.returns-in-Some-clause-bounded
@@ -114,8 +120,10 @@ returns-in-Some-clause-bounded c = λ s begun.
     let idle = c.at_idle-at.ensures.stands s (c.positions.invariant.stands s begun) in
     let low = idle.on.low in
     let inside = idle.is.inside in
-    subst (λ z. IsBoundedBy (length table) (arrows_of table + 1) h s z.walk.steps.tried z.walk.steps.entered z.walk.steps.looked) (sym c.in-Some.ensures.same)
-    (bounded_on table h (c.args.graph.now.start ∷ []) s idle.p c.positions.cache (omega (arith, low, inside)) (omega (arith, inside)) idle.on)
+    subst (λ z. IsBoundedBy (length table) (arrows_of table + 1) h s z.walk.steps.tried
+    z.walk.steps.entered z.walk.steps.looked) (sym c.in-Some.ensures.same)
+    (bounded_on table h (c.args.graph.now.start ∷ []) s idle.p c.positions.cache
+    (omega (arith, low, inside)) (omega (arith, inside)) idle.on)
 
 pub returns-then-is_over-clause-entered : goal.returns-then-is_over-clause-entered
 returns-then-is_over-clause-entered c =
@@ -124,7 +132,8 @@ returns-then-is_over-clause-entered c =
     let stands = c.in_default.ensures.stands s idle in
     let on = c.go_over-hit.ensures.on s stands.p stands.is stands.on in
     let cache = c.go_over-hit.new.self in
-    match_counted (best_of cache.best) c.span.result cache.best.row cache.walk.steps.entered c.args.least c.span.ensures on.ready.match_entered c.requires.least
+    match_counted (best_of cache.best) c.span.result cache.best.row cache.walk.steps.entered
+    c.args.least c.span.ensures on.ready.match_entered c.requires.least
 
 pub returns-then-is_over-clause-bounded : goal.returns-then-is_over-clause-bounded
 returns-then-is_over-clause-bounded c = λ s begun.
@@ -133,7 +142,8 @@ returns-then-is_over-clause-bounded c = λ s begun.
     let on = c.go_over-hit.ensures.on s stands.p stands.is stands.on in
     let low = stands.on.low in
     let inside = stands.is.inside in
-    bounded_on (table_of c.args.graph.now) (chars c.args.haystack.now) (c.args.graph.now.start ∷ []) s (stands.p + 1) c.go_over-hit.new.self (omega (arith, low, inside)) (omega (arith, inside)) on
+    bounded_on (table_of c.args.graph.now) (chars c.args.haystack.now) (c.args.graph.now.start ∷ [])
+    s (stands.p + 1) c.go_over-hit.new.self (omega (arith, low, inside)) (omega (arith, inside)) on
 
 pub returns-in-Some-clause-found : goal.returns-in-Some-clause-found
 returns-in-Some-clause-found c = λ s begun.

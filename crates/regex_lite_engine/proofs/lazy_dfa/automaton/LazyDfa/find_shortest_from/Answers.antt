@@ -46,8 +46,11 @@ returns-then-is_known-clause-found c = λ s begun.
     let at = c.look_for_end.new.at in
     subst (λ end. IsNumberedEndOf table h entries s (end_told end)) (sym c.end.ensures)
     (end_alone table h entries s (best_of cache.best)
-    (shortest_known table h entries s stands.p at.here.at old.walk.memory.threads cache.walk.memory.threads (best_of old.best) (best_of cache.best) stands.on.low stands.is.inside
-    c.look_for_end.ensures.none stands.is.bytes c.go_over-hit.ensures.ends (over_at h stands.p at.here stands.is (c.is_known.ensures.known (search rules))) stands.on.coming on.coming))
+    (shortest_known table h entries s stands.p at.here.at old.walk.memory.threads
+    cache.walk.memory.threads (best_of old.best) (best_of cache.best) stands.on.low stands.is.inside
+    c.look_for_end.ensures.none stands.is.bytes c.go_over-hit.ensures.ends
+    (over_at h stands.p at.here stands.is (c.is_known.ensures.known (search rules)))
+    stands.on.coming on.coming))
 
 pub learn_at-at-requires-clause-between : goal.learn_at-at-requires-clause-between
 learn_at-at-requires-clause-between c =
@@ -62,7 +65,9 @@ learn_at-at-requires-clause-turned c =
     let idle = c.at_idle-at.ensures.stands s (c.positions.invariant.stands s c.requires.stands.2) in
     let stands = c.in_default.ensures.stands s idle in
     let at = c.look_for_end.new.at in
-    turned_from (table_of c.args.graph.now) c.args.graph.now.start c.at_idle-at.new.self at.state at.first at.here c.go_over-hit.result c.look_for_end.new.cache c.go_over-hit.new.self stands.state
+    turned_from (table_of c.args.graph.now) c.args.graph.now.start c.at_idle-at.new.self at.state
+    at.first at.here c.go_over-hit.result c.look_for_end.new.cache c.go_over-hit.new.self
+    stands.state
     c.go_over-hit.ensures.again c.go_over-hit.ensures.hit stands.own
 
 pub on-at-requires-clause-first : goal.on-at-requires-clause-first
@@ -85,7 +90,8 @@ positions-smaller c =
     let idle = c.at_idle-at.ensures.stands s (c.positions.invariant.stands s c.requires.stands.2) in
     let stands = c.in_default.ensures.stands s idle in
     let on = c.go_over-hit.ensures.on s stands.p stands.is stands.on in
-    let next = c.on-at.ensures.stands (table_of c.args.graph.now) (c.args.graph.now.start ∷ []) c.learn_at-at.new.self s stands.p stands.is on c.learn_at-at.ensures.state in
+    let next = c.on-at.ensures.stands (table_of c.args.graph.now) (c.args.graph.now.start ∷ [])
+    c.learn_at-at.new.self s stands.p stands.is on c.learn_at-at.ensures.state in
     let most = at_most c.args.haystack.now next.p c.on-at.result.here c.utf8.haystack next.is in
     let later = c.on-at.ensures.later in
     let ahead = c.look_for_end.ensures.later in
@@ -101,7 +107,8 @@ positions-preserved c = record {
       let idle = c.at_idle-at.ensures.stands s (c.positions.invariant.stands s begun) in
       let stands = c.in_default.ensures.stands s idle in
       let on = c.go_over-hit.ensures.on s stands.p stands.is stands.on in
-      c.on-at.ensures.stands (table_of c.args.graph.now) (c.args.graph.now.start ∷ []) c.learn_at-at.new.self s stands.p stands.is on c.learn_at-at.ensures.state;
+      c.on-at.ensures.stands (table_of c.args.graph.now) (c.args.graph.now.start ∷ [])
+      c.learn_at-at.new.self s stands.p stands.is on c.learn_at-at.ensures.state;
 }
 
 pub returns-in-Some-clause-bounded : goal.returns-in-Some-clause-bounded
@@ -111,8 +118,10 @@ returns-in-Some-clause-bounded c = λ s begun.
     let idle = c.at_idle-at.ensures.stands s (c.positions.invariant.stands s begun) in
     let low = idle.on.low in
     let inside = idle.is.inside in
-    subst (λ z. IsBoundedBy (length table) (arrows_of table + 1) h s z.walk.steps.tried z.walk.steps.entered z.walk.steps.looked) (sym c.in-Some.ensures.same)
-    (bounded_on table h (c.args.graph.now.start ∷ []) s idle.p c.positions.cache (omega (arith, low, inside)) (omega (arith, inside)) idle.on)
+    subst (λ z. IsBoundedBy (length table) (arrows_of table + 1) h s z.walk.steps.tried
+    z.walk.steps.entered z.walk.steps.looked) (sym c.in-Some.ensures.same)
+    (bounded_on table h (c.args.graph.now.start ∷ []) s idle.p c.positions.cache
+    (omega (arith, low, inside)) (omega (arith, inside)) idle.on)
 
 pub returns-then-is_known-clause-entered : goal.returns-then-is_known-clause-entered
 returns-then-is_known-clause-entered c =
@@ -121,7 +130,8 @@ returns-then-is_known-clause-entered c =
     let stands = c.in_default.ensures.stands s idle in
     let on = c.go_over-hit.ensures.on s stands.p stands.is stands.on in
     let cache = c.go_over-hit.new.self in
-    end_counted (best_of cache.best) c.end.result cache.walk.steps.entered c.end.ensures on.ready.match_entered
+    end_counted (best_of cache.best) c.end.result cache.walk.steps.entered c.end.ensures
+    on.ready.match_entered
 
 pub returns-then-is_known-clause-bounded : goal.returns-then-is_known-clause-bounded
 returns-then-is_known-clause-bounded c = λ s begun.
@@ -130,4 +140,5 @@ returns-then-is_known-clause-bounded c = λ s begun.
     let on = c.go_over-hit.ensures.on s stands.p stands.is stands.on in
     let low = stands.on.low in
     let inside = stands.is.inside in
-    bounded_on (table_of c.args.graph.now) (chars c.args.haystack.now) (c.args.graph.now.start ∷ []) s (stands.p + 1) c.go_over-hit.new.self (omega (arith, low, inside)) (omega (arith, inside)) on
+    bounded_on (table_of c.args.graph.now) (chars c.args.haystack.now) (c.args.graph.now.start ∷ [])
+    s (stands.p + 1) c.go_over-hit.new.self (omega (arith, low, inside)) (omega (arith, inside)) on

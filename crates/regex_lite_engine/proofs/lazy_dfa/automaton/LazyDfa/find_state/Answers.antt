@@ -16,7 +16,9 @@ returns-then-are_same c =
     record {
       state = state_in i.ways.items (slice_index_or i.states.items c.states.y found);
       is = at;
-      ways = sym (c.ways.ensures _ at) ∙ ap (map way_in) (c.if-are_same.ensures refl) ∙ c.pending.ensures;
+      ways =
+          sym (c.ways.ensures _ at) ∙ ap (map way_in) (c.if-are_same.ensures refl)
+          ∙ c.pending.ensures;
       searching = ap (λ (s : StoredState). s.searching) stored ∙ like.searching refl;
       before = ap (λ (s : StoredState). s.before) stored ∙ like.before refl;
       hit = ap (λ (s : StoredState). hit_in s.hit) stored ∙ ap hit_in (like.hit refl);

@@ -10,6 +10,8 @@ returns c = λ state at.
     let v = c.self.invariant in
     let there = ap (λ (z : Automaton). slice_get z.states c.args.x) c.self.view_is ∙ at in
     let stored = ap (λ (s : StoredState). s.len) c.index.ensures in
-    let none = len_by_empty i.states.items i.used i.ways.items c.args.x c.index.result.now state v.0 v.1 there in
-    let empty = empty_by_len i.states.items i.used i.ways.items c.args.x c.index.result.now state v.0 v.1 there in
+    let none = len_by_empty i.states.items i.used i.ways.items c.args.x c.index.result.now state v.0
+    v.1 there in
+    let empty = empty_by_len i.states.items i.used i.ways.items c.args.x c.index.result.now state
+    v.0 v.1 there in
     (λ told. empty (search rules), λ e. let zero = none e in search rules)

@@ -10,7 +10,16 @@ returns c = λ state at.
     let i = c.self.inside in
     let was : StoredState = c.index_mut-state.result.now in
     let there = ap (λ (z : Automaton). slice_get z.states c.args.x) c.self.view_is ∙ at in
-    ap (λ states. record { intervals = i.classes; states = states; pending = map way_in (drop i.used i.ways.items) })
-    (seen_set i.states.items i.ways.items c.args.x c.args.class c.args.y was state c.index_mut-state.ensures.value
+    ap (λ states. record {
+      intervals = i.classes;
+      states = states;
+      pending = map way_in (drop i.used i.ways.items);
+    })
+    (seen_set i.states.items i.ways.items c.args.x c.args.class c.args.y was state
+    c.index_mut-state.ensures.value
     (slice_get_within_map i.states.items i.ways.items c.args.x state there) there)
-    ∙ ap (λ (z : Automaton). record z { states = slice_set z.states c.args.x (record state { next = slice_set state.next c.args.class c.args.y }) }) c.self.view_is
+    ∙ ap (λ (z : Automaton). record z {
+      states =
+          slice_set z.states c.args.x
+          (record state { next = slice_set state.next c.args.class c.args.y });
+    }) c.self.view_is

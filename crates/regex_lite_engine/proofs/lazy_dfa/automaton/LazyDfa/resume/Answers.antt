@@ -1,8 +1,10 @@
 use Rattle.std.proofs.Common.{◌∷◌, [], IfSome, refl, subst, arith}
 use Rattle.regex_lite_engine.specs.Graph.Stored.{table_of}
 use Rattle.regex_lite_engine.specs.LazyDfa.Scanning.{IsIdleAt}
-use Rattle.regex_lite_engine.proofs.lazy_dfa.RunLemmas.{at_later, maybe_in_empty, other_at, own_first}
-use Rattle.regex_lite_engine.proofs.lazy_dfa.ResumeLemmas.{first_stuck, is_in_stuck, let_gone, none_by, taken_up}
+use Rattle.regex_lite_engine.proofs.lazy_dfa.RunLemmas.{at_later, maybe_in_empty}
+use Rattle.regex_lite_engine.proofs.lazy_dfa.RunLemmas.{other_at, own_first}
+use Rattle.regex_lite_engine.proofs.lazy_dfa.ResumeLemmas.{first_stuck, is_in_stuck}
+use Rattle.regex_lite_engine.proofs.lazy_dfa.ResumeLemmas.{let_gone, none_by, taken_up}
 use Rattle.regex_lite_engine.proofs.lazy_dfa.automaton.LazyDfa.resume.Goals as goal
 
 pub returns-then-may_take_up-clause-stands : goal.returns-then-may_take_up-clause-stands
@@ -14,19 +16,28 @@ returns-then-may_take_up-clause-stands c = λ haystack s stands scanned.
     let kept = c.take_up_ways.ensures.kept in
     let none = c.take_up_ways.ensures.none in
     let threads = c.take_up_ways.ensures.threads in
-    let later = other_at haystack stands.p q c.args.at.now.here stuck.here stands.is scanning.is scanned.0.1 c.if-stuck-at.false in
+    let later = other_at haystack stands.p q c.args.at.now.here stuck.here stands.is scanning.is
+    scanned.0.1 c.if-stuck-at.false in
     let ways = c.ways-ways.ensures scanning.state scanning.is_state in
     let all = c.if-may_take_up.ensures.all refl in
     let fits = c.requires.remembers.fit stuck.state scanning.state scanning.is_state in
     let no_best = none_by stuck.best c.is_none.result c.is_none.ensures c.if-is_none.true in
-    let first = first_stuck (table_of c.args.graph.now) haystack (c.args.graph.now.start ∷ []) s stands.p c.args.self.now c.args.cache.now new stands.on kept none q stuck scanning later c.ways-ways.result.now ways all fits no_best threads (c.if-may_take_up.ensures.before refl) in
+    let first = first_stuck (table_of c.args.graph.now) haystack (c.args.graph.now.start ∷ []) s
+    stands.p c.args.self.now c.args.cache.now new stands.on kept none q stuck scanning later
+    c.ways-ways.result.now ways all fits no_best threads (c.if-may_take_up.ensures.before refl) in
     record {
       p = q;
       is = scanning.is;
-      on = taken_up (table_of c.args.graph.now) haystack (c.args.graph.now.start ∷ []) s stands.p c.args.self.now c.args.cache.now new stands.on kept none q stuck scanning later c.ways-ways.result.now ways all fits no_best threads;
+      on =
+          taken_up (table_of c.args.graph.now) haystack
+          (c.args.graph.now.start ∷ []) s stands.p c.args.self.now c.args.cache.now new stands.on
+          kept none q stuck scanning later c.ways-ways.result.now ways all fits no_best threads;
       first = first.0;
       own = first.1;
-      state = is_in_stuck (table_of c.args.graph.now) haystack (c.args.graph.now.start ∷ []) s stands.p c.args.self.now c.args.cache.now new stands.on kept none q stuck scanning later c.ways-ways.result.now ways all fits no_best threads;
+      state =
+          is_in_stuck (table_of c.args.graph.now) haystack
+          (c.args.graph.now.start ∷ []) s stands.p c.args.self.now c.args.cache.now new stands.on
+          kept none q stuck scanning later c.ways-ways.result.now ways all fits no_best threads;
     }
 
 pub returns-then-may_take_up-clause-later : goal.returns-then-may_take_up-clause-later
@@ -34,20 +45,30 @@ returns-then-may_take_up-clause-later c =
     let haystack = c.requires.stands.0 in
     let stands = c.requires.stands.2 in
     let scanned = c.requires.stands.3 in
-    at_later haystack stands.p scanned.0.0 c.args.at.now.here c.args.stuck.here stands.is scanned.0.2.is scanned.0.1
+    at_later haystack stands.p scanned.0.0 c.args.at.now.here c.args.stuck.here stands.is
+    scanned.0.2.is scanned.0.1
 
 pub returns-then-here-at-clause-stands : goal.returns-then-here-at-clause-stands
 returns-then-here-at-clause-stands c = λ haystack s stands scanned.
     let here = c.in-Some.here in
     let new = c.let_go.new.self in
-    let idle = subst (λ o. IfSome o (IsIdleAt (table_of c.args.graph.now) (c.args.graph.now.start ∷ []) haystack s stands.p)) c.in-Some.is scanned.1 in
+    let idle = subst (λ o. IfSome o
+    (IsIdleAt (table_of c.args.graph.now) (c.args.graph.now.start ∷ []) haystack s stands.p))
+    c.in-Some.is scanned.1 in
     let more = c.if-here-at.true in
-    let later = other_at haystack stands.p idle.r c.args.at.now.here here stands.is idle.is idle.later (λ e. omega (arith, e, more)) in
+    let later =
+    other_at haystack stands.p idle.r c.args.at.now.here here stands.is idle.is idle.later
+    (λ e. omega (arith, e, more)) in
     record {
       p = idle.r;
       is = idle.is;
-      on = let_gone (table_of c.args.graph.now) haystack (c.args.graph.now.start ∷ []) s stands.p c.args.self.now c.args.cache.now new stands.on c.let_go.ensures.kept c.let_go.ensures.none here idle later c.let_go.ensures.threads;
+      on =
+          let_gone (table_of c.args.graph.now) haystack
+          (c.args.graph.now.start ∷ []) s stands.p c.args.self.now c.args.cache.now new stands.on
+          c.let_go.ensures.kept c.let_go.ensures.none here idle later c.let_go.ensures.threads;
       first = omega arith;
       own = own_first here.at new.walk.memory.threads c.let_go.ensures.threads;
-      state = maybe_in_empty c.args.self.now c.empty_state-at.result here.at here.before new c.empty_state-at.ensures c.let_go.ensures.threads c.let_go.ensures.none;
+      state =
+          maybe_in_empty c.args.self.now c.empty_state-at.result here.at here.before new
+          c.empty_state-at.ensures c.let_go.ensures.threads c.let_go.ensures.none;
     }

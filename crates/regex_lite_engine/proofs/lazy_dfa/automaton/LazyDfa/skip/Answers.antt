@@ -9,7 +9,9 @@ returns-in_err-state-clause-idle c = λ low p scanning.
     let none = best_none c.args.at.best c.is_some.result c.is_some.ensures c.if-is_some.false in
     let passes = c.pass_over-here.ensures p scanning.is in
     let idle = (c.if-not-is_empty.ensures scanning.state scanning.is_state).0 (search rules) in
-    inr (is_idle (table_of c.args.graph.now) (c.args.graph.now.start ∷ []) (chars c.args.haystack.now) low p c.args.self.now c.args.at scanning c.pass_over-here.result passes idle none)
+    inr
+    (is_idle (table_of c.args.graph.now) (c.args.graph.now.start ∷ []) (chars c.args.haystack.now)
+    low p c.args.self.now c.args.at scanning c.pass_over-here.result passes idle none)
 
 pub returns-clause-on : goal.returns-clause-on
 returns-clause-on c = λ low p scanning.
@@ -19,7 +21,9 @@ returns-clause-on c = λ low p scanning.
     let found = c.in_ok-state.ensures in (
       passes.q,
       passes.later,
-      skipped (table_of c.args.graph.now) (c.args.graph.now.start ∷ []) (chars c.args.haystack.now) low p c.args.self.now c.args.at scanning c.pass_over-here.result passes idle none c.in_ok-state.state found.state found.is_state found.none found.searching found.sees,
+      skipped (table_of c.args.graph.now) (c.args.graph.now.start ∷ []) (chars c.args.haystack.now)
+          low p c.args.self.now c.args.at scanning c.pass_over-here.result passes idle none
+          c.in_ok-state.state found.state found.is_state found.none found.searching found.sees,
     )
 
 pub returns-clause-idle : goal.returns-clause-idle
@@ -27,4 +31,6 @@ returns-clause-idle c = λ low p scanning.
     let none = best_none c.args.at.best c.is_some.result c.is_some.ensures c.if-is_some.false in
     let passes = c.pass_over-here.ensures p scanning.is in
     let idle = (c.if-not-is_empty.ensures scanning.state scanning.is_state).0 (search rules) in
-    inr (is_idle (table_of c.args.graph.now) (c.args.graph.now.start ∷ []) (chars c.args.haystack.now) low p c.args.self.now c.args.at scanning c.pass_over-here.result passes idle none)
+    inr
+    (is_idle (table_of c.args.graph.now) (c.args.graph.now.start ∷ []) (chars c.args.haystack.now)
+    low p c.args.self.now c.args.at scanning c.pass_over-here.result passes idle none)

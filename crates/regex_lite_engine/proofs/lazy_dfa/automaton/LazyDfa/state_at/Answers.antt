@@ -13,8 +13,14 @@ returns-clause-remembers c =
     let gathered = c.gather.new.self in
     let all = c.if-not-gather.ensures.gathered refl in
     let pending : gathered.pending ≡ ways_of a.at.first a.cache.now.walk.memory.threads =
-    ap (λ (z : Automaton). z.pending) all ∙ ap (λ ways. ways ++ ways_of a.at.first a.cache.now.walk.memory.threads) c.requires.none_pending in
-    let held = subst (Remembers graph.places (graph.start ∷ [])) (sym all) (remembers_pending graph.places (graph.start ∷ []) old (old.pending ++ ways_of a.at.first a.cache.now.walk.memory.threads) c.requires.remembers) in
+    ap (λ (z : Automaton). z.pending) all
+    ∙ ap (λ ways. ways ++ ways_of a.at.first a.cache.now.walk.memory.threads)
+    c.requires.none_pending in
+    let held = subst (Remembers graph.places (graph.start ∷ [])) (sym all)
+    (remembers_pending graph.places (graph.start ∷ []) old
+    (old.pending ++ ways_of a.at.first a.cache.now.walk.memory.threads) c.requires.remembers) in
     let between = c.requires.between in
-    let fits = subst (FitsTable (table_of graph)) (sym pending) (ways_fit (table_of graph) a.at.first a.cache.now.walk.memory.threads between.below between.few) in
-    still_remembers graph.places (graph.start ∷ []) gathered c.settle.new.self held c.settle.ensures.extends fits
+    let fits = subst (FitsTable (table_of graph)) (sym pending) (ways_fit
+    (table_of graph) a.at.first a.cache.now.walk.memory.threads between.below between.few) in
+    still_remembers graph.places
+    (graph.start ∷ []) gathered c.settle.new.self held c.settle.ensures.extends fits

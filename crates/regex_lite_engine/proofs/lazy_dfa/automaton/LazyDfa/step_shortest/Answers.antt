@@ -19,8 +19,12 @@ index-requires-2 c =
     let x = c.args.at.state in
     let class = c.class-class.result in
     let found : StoredState = c.index.result.now in
-    let turn = known_turn i.classes i.states.items i.used i.ways.items now c.self.view_is c.args.graph.now.places (c.args.graph.now.start ∷ []) c.requires.remembers x found c.index.ensures c.requires.state class c.class-class.ensures.few c.if-to.false in
-    let inside = stored_within i.classes i.states.items i.used i.ways.items now c.self.view_is (slice_index found.next class) (slice_get_within now.states (slice_index found.next class) turn.0 turn.1) in
+    let turn = known_turn i.classes i.states.items i.used i.ways.items now c.self.view_is
+    c.args.graph.now.places (c.args.graph.now.start ∷ []) c.requires.remembers x found
+    c.index.ensures c.requires.state class c.class-class.ensures.few c.if-to.false in
+    let inside = stored_within i.classes i.states.items i.used i.ways.items now c.self.view_is
+    (slice_index found.next class)
+    (slice_get_within now.states (slice_index found.next class) turn.0 turn.1) in
     search (inside, rules)
 
 pub returns-in-Nowhere : goal.returns-in-Nowhere
@@ -30,14 +34,22 @@ returns-in-Nowhere c = λ haystack low p scanning.
     let x = c.args.at.state in
     let class = c.class-class.result in
     let found : StoredState = c.index.result.now in
-    let turn = known_turn i.classes i.states.items i.used i.ways.items now c.self.view_is c.args.graph.now.places (c.args.graph.now.start ∷ []) c.requires.remembers x found c.index.ensures c.requires.state class c.class-class.ensures.few c.if-to.false in
+    let turn = known_turn i.classes i.states.items i.used i.ways.items now c.self.view_is
+    c.args.graph.now.places (c.args.graph.now.start ∷ []) c.requires.remembers x found
+    c.index.ensures c.requires.state class c.class-class.ensures.few c.if-to.false in
     let y = slice_index found.next class in
     let there : StoredState = c.index-2.result.now in
-    let own = is_stored i.classes i.states.items i.used i.ways.items now c.self.view_is y there c.index-2.ensures (slice_get_within now.states y turn.0 turn.1) in
-    led_step (table_of c.args.graph.now) (c.args.graph.now.start ∷ []) haystack low p now c.args.at scanning class y (state_in i.ways.items found) turn.0
-    (is_stored i.classes i.states.items i.used i.ways.items now c.self.view_is x found c.index.ensures c.requires.state) turn.1 turn.2 (sym (ap (λ (z : Automaton). class_of z.intervals.boundaries c.args.at.here.after) c.self.view_is) ∙ sym c.class-class.ensures.same) (hit_in c.index-2.result.now.hit)
+    let own = is_stored i.classes i.states.items i.used i.ways.items now c.self.view_is y there
+    c.index-2.ensures (slice_get_within now.states y turn.0 turn.1) in
+    led_step (table_of c.args.graph.now) (c.args.graph.now.start ∷ []) haystack low p now c.args.at
+    scanning class y (state_in i.ways.items found) turn.0
+    (is_stored i.classes i.states.items i.used i.ways.items now c.self.view_is x found
+    c.index.ensures c.requires.state) turn.1 turn.2 (sym
+    (ap (λ (z : Automaton). class_of z.intervals.boundaries c.args.at.here.after) c.self.view_is)
+    ∙ sym c.class-class.ensures.same) (hit_in c.index-2.result.now.hit)
     (ap (λ (s : State). s.hit) (same_some (sym turn.1 ∙ own))) None
-    (ap best_told (sym c.requires.none) ∙ sym (ap (λ hit. best_left (hit_in hit) c.args.at.first c.args.at.here.at (best_told c.args.at.best)) c.in-Nowhere.is))
+    (ap best_told (sym c.requires.none) ∙ sym (ap (λ hit. best_left (hit_in hit) c.args.at.first
+    c.args.at.here.at (best_told c.args.at.best)) c.in-Nowhere.is))
 
 pub returns-in-AtFirst : goal.returns-in-AtFirst
 returns-in-AtFirst c = λ haystack low p scanning.
@@ -46,13 +58,21 @@ returns-in-AtFirst c = λ haystack low p scanning.
     let x = c.args.at.state in
     let class = c.class-class.result in
     let found : StoredState = c.index.result.now in
-    let turn = known_turn i.classes i.states.items i.used i.ways.items now c.self.view_is c.args.graph.now.places (c.args.graph.now.start ∷ []) c.requires.remembers x found c.index.ensures c.requires.state class c.class-class.ensures.few c.if-to.false in
+    let turn = known_turn i.classes i.states.items i.used i.ways.items now c.self.view_is
+    c.args.graph.now.places (c.args.graph.now.start ∷ []) c.requires.remembers x found
+    c.index.ensures c.requires.state class c.class-class.ensures.few c.if-to.false in
     let y = slice_index found.next class in
     let there : StoredState = c.index-2.result.now in
-    let own = is_stored i.classes i.states.items i.used i.ways.items now c.self.view_is y there c.index-2.ensures (slice_get_within now.states y turn.0 turn.1) in
-    end_led (table_of c.args.graph.now) (c.args.graph.now.start ∷ []) haystack low p now c.args.at scanning c.requires.none class y (state_in i.ways.items found) turn.0
-    (is_stored i.classes i.states.items i.used i.ways.items now c.self.view_is x found c.index.ensures c.requires.state) turn.2 (sym (ap (λ (z : Automaton). class_of z.intervals.boundaries c.args.at.here.after) c.self.view_is) ∙ sym c.class-class.ensures.same) (hit_in stored.AtFirst)
-    (ap (λ (s : State). s.hit) (same_some (sym turn.1 ∙ own)) ∙ ap hit_in c.in-AtFirst.is) (inr (λ e. not_there (sym e)))
+    let own = is_stored i.classes i.states.items i.used i.ways.items now c.self.view_is y there
+    c.index-2.ensures (slice_get_within now.states y turn.0 turn.1) in
+    end_led (table_of c.args.graph.now) (c.args.graph.now.start ∷ []) haystack low p now c.args.at
+    scanning c.requires.none class y (state_in i.ways.items found) turn.0
+    (is_stored i.classes i.states.items i.used i.ways.items now c.self.view_is x found
+    c.index.ensures c.requires.state) turn.2 (sym
+    (ap (λ (z : Automaton). class_of z.intervals.boundaries c.args.at.here.after) c.self.view_is)
+    ∙ sym c.class-class.ensures.same) (hit_in stored.AtFirst)
+    (ap (λ (s : State). s.hit) (same_some (sym turn.1 ∙ own)) ∙ ap hit_in c.in-AtFirst.is)
+    (inr (λ e. not_there (sym e)))
 
 pub returns-in-AtLater : goal.returns-in-AtLater
 returns-in-AtLater c = λ haystack low p scanning.
@@ -61,10 +81,18 @@ returns-in-AtLater c = λ haystack low p scanning.
     let x = c.args.at.state in
     let class = c.class-class.result in
     let found : StoredState = c.index.result.now in
-    let turn = known_turn i.classes i.states.items i.used i.ways.items now c.self.view_is c.args.graph.now.places (c.args.graph.now.start ∷ []) c.requires.remembers x found c.index.ensures c.requires.state class c.class-class.ensures.few c.if-to.false in
+    let turn = known_turn i.classes i.states.items i.used i.ways.items now c.self.view_is
+    c.args.graph.now.places (c.args.graph.now.start ∷ []) c.requires.remembers x found
+    c.index.ensures c.requires.state class c.class-class.ensures.few c.if-to.false in
     let y = slice_index found.next class in
     let there : StoredState = c.index-2.result.now in
-    let own = is_stored i.classes i.states.items i.used i.ways.items now c.self.view_is y there c.index-2.ensures (slice_get_within now.states y turn.0 turn.1) in
-    end_led (table_of c.args.graph.now) (c.args.graph.now.start ∷ []) haystack low p now c.args.at scanning c.requires.none class y (state_in i.ways.items found) turn.0
-    (is_stored i.classes i.states.items i.used i.ways.items now c.self.view_is x found c.index.ensures c.requires.state) turn.2 (sym (ap (λ (z : Automaton). class_of z.intervals.boundaries c.args.at.here.after) c.self.view_is) ∙ sym c.class-class.ensures.same) (hit_in stored.AtLater)
-    (ap (λ (s : State). s.hit) (same_some (sym turn.1 ∙ own)) ∙ ap hit_in c.in-AtLater.is) (inr (λ e. not_there (sym e)))
+    let own = is_stored i.classes i.states.items i.used i.ways.items now c.self.view_is y there
+    c.index-2.ensures (slice_get_within now.states y turn.0 turn.1) in
+    end_led (table_of c.args.graph.now) (c.args.graph.now.start ∷ []) haystack low p now c.args.at
+    scanning c.requires.none class y (state_in i.ways.items found) turn.0
+    (is_stored i.classes i.states.items i.used i.ways.items now c.self.view_is x found
+    c.index.ensures c.requires.state) turn.2 (sym
+    (ap (λ (z : Automaton). class_of z.intervals.boundaries c.args.at.here.after) c.self.view_is)
+    ∙ sym c.class-class.ensures.same) (hit_in stored.AtLater)
+    (ap (λ (s : State). s.hit) (same_some (sym turn.1 ∙ own)) ∙ ap hit_in c.in-AtLater.is)
+    (inr (λ e. not_there (sym e)))

@@ -1,7 +1,8 @@
 use Rattle.std.proofs.Common.{◌∷◌, [], length, slice_index, sym, ap, subst, ◌∙◌, arith}
 use Rattle.std.proofs.lemmas.List.{length-append}
 use Rattle.regex_lite_engine.specs.LazyDfa.Intervals.{IsBoundary, character_bounds}
-use Rattle.regex_lite_engine.proofs.lazy_dfa.BoundaryLemmas.{added_boundary, next_there, still_boundary}
+use Rattle.regex_lite_engine.proofs.lazy_dfa.BoundaryLemmas.{added_boundary, next_there}
+use Rattle.regex_lite_engine.proofs.lazy_dfa.BoundaryLemmas.{still_boundary}
 use Rattle.regex_lite_engine.proofs.lazy_dfa.boundaries.Boundaries.new.Goals as goal
 
 pub bounds-preserved : goal.bounds-preserved
@@ -14,7 +15,8 @@ bounds-preserved c =
     record {
       count = ap length items ∙ (let n = more in omega (arith, n, count));
       first = next_there character_bounds before c.push.new.self.items c.bounds.k c.bounds-test.true
-          (λ b is. subst (λ bs. IsBoundary bs b) (sym items) (still_boundary before (added ∷ []) b is))
+          (λ b is.
+          subst (λ bs. IsBoundary bs b) (sym items) (still_boundary before (added ∷ []) b is))
           c.bounds.invariant.first
           (subst (λ bs. IsBoundary bs added) (sym items) (added_boundary before added));
     }

@@ -11,7 +11,9 @@ use Rattle.regex_lite_engine.proofs.lazy_dfa.run.Cache+usize.go_over.Goals as go
 pub turn-requires-clause-inside : goal.turn-requires-clause-inside
 turn-requires-clause-inside c =
     let graph = c.args.graph.now in
-    let inside : graph.start < length (table_of graph) = (let n = length-map graph.places (λ x. place_of x) in let own = c.start-start.ensures.inside in let same = c.start-start.ensures.same in omega (arith, n, own, same)) in
+    let inside : graph.start < length (table_of graph) =
+    (let n = length-map graph.places (λ x. place_of x) in let own = c.start-start.ensures.inside in
+    let same = c.start-start.ensures.same in omega (arith, n, own, same)) in
     one_inside (length (table_of graph)) (record { number = 0; place = graph.start }) true inside
 
 pub returns-clause-on : goal.returns-clause-on
@@ -29,10 +31,18 @@ returns-clause-on c = λ s p is on.
     record {
       low = omega (arith, low);
       ready = c.turn.ensures.ready;
-      coming = c.turn.ensures.comes h entries p s (length h) is low is.inside (one_start table h graph.start p) on.coming;
-      tries = bound_on table h entries s (old.walk.steps.tried + length old.walk.memory.threads) (new.walk.steps.tried + length new.walk.memory.threads) p p
+      coming =
+          c.turn.ensures.comes h entries p s (length h) is low is.inside
+          (one_start table h graph.start p) on.coming;
+      tries =
+          bound_on table h entries s (old.walk.steps.tried + length old.walk.memory.threads)
+          (new.walk.steps.tried + length new.walk.memory.threads) p p
           (arrows_of table + length entries) low (omega arith) on.tries (omega (arith, tries));
-      entries_left = bound_on table h entries s old.walk.steps.entered new.walk.steps.entered p p (length table) low (omega arith) on.entries_left c.turn.ensures.entries;
+      entries_left =
+          bound_on table h entries s old.walk.steps.entered new.walk.steps.entered p p
+          (length table) low (omega arith) on.entries_left c.turn.ensures.entries;
       rounds = omega (arith, rounds, now, low);
-      width = sym c.turn.ensures.ready.best_width ∙ c.turn.ensures.width ∙ on.ready.best_width ∙ on.width;
+      width =
+          sym c.turn.ensures.ready.best_width ∙ c.turn.ensures.width ∙ on.ready.best_width
+          ∙ on.width;
     }

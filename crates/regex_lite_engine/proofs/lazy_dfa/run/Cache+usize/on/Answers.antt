@@ -20,8 +20,13 @@ returns-then-threads-eq0-clause-stands c = λ table entries automaton s p is on 
       is = next;
       on = on;
       first = omega arith;
-      own = own_first c.next-here.result.at a.self.now.walk.memory.threads (nil_from_length a.self.now.walk.memory.threads (sym threads ∙ eq));
-      state = state_from automaton a.at.state a.at.first c.next-here.result.at a.at.here.after c.next-here.result.before a.self.now before (inl (nil_from_length a.self.now.walk.memory.threads (sym threads ∙ eq))) known;
+      own =
+          own_first c.next-here.result.at a.self.now.walk.memory.threads
+          (nil_from_length a.self.now.walk.memory.threads (sym threads ∙ eq));
+      state =
+          state_from automaton a.at.state a.at.first c.next-here.result.at a.at.here.after
+          c.next-here.result.before a.self.now before
+          (inl (nil_from_length a.self.now.walk.memory.threads (sym threads ∙ eq))) known;
     }
 
 pub returns-then-threads-eq0-clause-later : goal.returns-then-threads-eq0-clause-later
@@ -46,8 +51,12 @@ returns-else-threads-eq0-clause-stands c = λ table entries automaton s p is on 
       is = next;
       on = on;
       first = omega (arith, so_far, less, is.bytes, next.bytes);
-      own = other_first a.at.first c.next-here.result.at a.self.now.walk.memory.threads (λ e. eq (threads ∙ e)) (λ e. omega (arith, e, so_far, less, is.bytes, next.bytes));
-      state = state_from automaton a.at.state a.at.first a.at.first a.at.here.after c.next-here.result.before a.self.now before (inr refl) known;
+      own =
+          other_first a.at.first c.next-here.result.at a.self.now.walk.memory.threads
+          (λ e. eq (threads ∙ e)) (λ e. omega (arith, e, so_far, less, is.bytes, next.bytes));
+      state =
+          state_from automaton a.at.state a.at.first a.at.first a.at.here.after
+          c.next-here.result.before a.self.now before (inr refl) known;
     }
 
 pub returns-else-threads-eq0-clause-later : goal.returns-else-threads-eq0-clause-later

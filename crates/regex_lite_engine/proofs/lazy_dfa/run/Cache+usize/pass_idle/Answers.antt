@@ -17,7 +17,10 @@ returns-clause-stands c = λ s automaton stands.
     record {
       p = passes.q;
       is = passes.is;
-      on = passed_over (table_of c.args.graph.now) (chars c.args.haystack.now) (c.args.graph.now.start ∷ []) s stands.p a.self.now c.pass_over-here.result stands.on none no_match passes;
+      on =
+          passed_over (table_of c.args.graph.now) (chars c.args.haystack.now)
+          (c.args.graph.now.start ∷ []) s stands.p a.self.now c.pass_over-here.result stands.on none
+          no_match passes;
       first = omega arith;
       own = own_first c.pass_over-here.result.at a.self.now.walk.memory.threads none;
       state = tt;
@@ -27,8 +30,16 @@ pub returns-clause-later : goal.returns-clause-later
 returns-clause-later c =
     let stands = c.requires.2 in
     let passes = c.pass_over-here.ensures stands.p stands.is in
-    at_later (chars c.args.haystack.now) stands.p passes.q c.args.at.here c.pass_over-here.result stands.is passes.is passes.later
+    at_later (chars c.args.haystack.now) stands.p passes.q c.args.at.here c.pass_over-here.result
+    stands.is passes.is passes.later
 
 pub returns-then-threads-gt0-clause-stands : goal.returns-then-threads-gt0-clause-stands
 returns-then-threads-gt0-clause-stands c = λ s automaton stands.
-    record { p = stands.p; is = stands.is; on = stands.on; first = stands.first; own = stands.own; state = tt }
+    record {
+      p = stands.p;
+      is = stands.is;
+      on = stands.on;
+      first = stands.first;
+      own = stands.own;
+      state = tt;
+    }

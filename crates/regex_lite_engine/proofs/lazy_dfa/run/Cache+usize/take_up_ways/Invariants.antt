@@ -8,5 +8,8 @@ invariant-loop-way l = record {
   next : l.self.walk.memory.next ≡ map (started_at l.first) (take l.way-index l.ways);
   none : best_of l.self.best ≡ None;
   threads : l.self.walk.memory.threads ≡ [];
-  kept : GoesOnWith l.initial.self (record l.self { walk = record l.self.walk { memory = record l.self.walk.memory { next = [] } } });
+  kept : GoesOnWith l.initial.self
+      (record l.self {
+        walk = record l.self.walk { memory = record l.self.walk.memory { next = [] } };
+      });
 }

@@ -22,7 +22,8 @@ go_over-requires c =
     let s = c.requires.stands.0 in
     let automaton = c.requires.stands.1 in
     let begun = c.requires.stands.3 in
-    let stands = c.pass_idle-at.ensures.stands s automaton (c.positions.invariant.stands s automaton begun) in
+    let stands =
+    c.pass_idle-at.ensures.stands s automaton (c.positions.invariant.stands s automaton begun) in
     (s, stands.p, stands.is, c.requires.stands.2, stands.on)
 
 pub on-at-requires-clause-here : goal.on-at-requires-clause-here
@@ -30,7 +31,8 @@ on-at-requires-clause-here c =
     let s = c.requires.stands.0 in
     let automaton = c.requires.stands.1 in
     let begun = c.requires.stands.3 in
-    let stands = c.pass_idle-at.ensures.stands s automaton (c.positions.invariant.stands s automaton begun) in
+    let stands =
+    c.pass_idle-at.ensures.stands s automaton (c.positions.invariant.stands s automaton begun) in
     let on = c.go_over.ensures.on s stands.p stands.is stands.on in
     (stands.p, stands.is)
 
@@ -39,7 +41,8 @@ on-at-requires-clause-first c =
     let s = c.requires.stands.0 in
     let automaton = c.requires.stands.1 in
     let begun = c.requires.stands.3 in
-    let stands = c.pass_idle-at.ensures.stands s automaton (c.positions.invariant.stands s automaton begun) in
+    let stands =
+    c.pass_idle-at.ensures.stands s automaton (c.positions.invariant.stands s automaton begun) in
     let on = c.go_over.ensures.on s stands.p stands.is stands.on in
     stands.first
 
@@ -48,9 +51,11 @@ positions-smaller c =
     let s = c.requires.stands.0 in
     let automaton = c.requires.stands.1 in
     let begun = c.requires.stands.3 in
-    let stands = c.pass_idle-at.ensures.stands s automaton (c.positions.invariant.stands s automaton begun) in
+    let stands =
+    c.pass_idle-at.ensures.stands s automaton (c.positions.invariant.stands s automaton begun) in
     let on = c.go_over.ensures.on s stands.p stands.is stands.on in
-    let next = c.on-at.ensures.stands (table_of c.args.graph.now) (c.args.graph.now.start ∷ []) automaton s stands.p stands.is on (search rules) in
+    let next = c.on-at.ensures.stands (table_of c.args.graph.now)
+    (c.args.graph.now.start ∷ []) automaton s stands.p stands.is on (search rules) in
     let most = at_most c.args.haystack.now next.p c.on-at.result.here c.utf8.haystack next.is in
     let later = c.on-at.ensures.later in
     let passed = c.pass_idle-at.ensures.later in
@@ -59,9 +64,11 @@ positions-smaller c =
 pub positions-preserved : goal.positions-preserved
 positions-preserved c = record {
   stands = λ s automaton begun.
-      let stands = c.pass_idle-at.ensures.stands s automaton (c.positions.invariant.stands s automaton begun) in
+      let stands =
+      c.pass_idle-at.ensures.stands s automaton (c.positions.invariant.stands s automaton begun) in
       let on = c.go_over.ensures.on s stands.p stands.is stands.on in
-      c.on-at.ensures.stands (table_of c.args.graph.now) (c.args.graph.now.start ∷ []) automaton s stands.p stands.is on (search rules);
+      c.on-at.ensures.stands (table_of c.args.graph.now)
+      (c.args.graph.now.start ∷ []) automaton s stands.p stands.is on (search rules);
   all = λ none. (c.is_spent.ensures.all (c.positions.invariant.all none)).0;
 }
 
@@ -77,14 +84,19 @@ returns-then-is_spent-clause-stands c = λ s automaton begun.
 
 pub returns-then-is_over-clause-on : goal.returns-then-is_over-clause-on
 returns-then-is_over-clause-on c = λ s automaton begun.
-    let stands = c.pass_idle-at.ensures.stands s automaton (c.positions.invariant.stands s automaton begun) in
+    let stands =
+    c.pass_idle-at.ensures.stands s automaton (c.positions.invariant.stands s automaton begun) in
     let on = c.go_over.ensures.on s stands.p stands.is stands.on in
     let inside = stands.is.inside in
     (stands.p + 1, omega (arith, inside), on)
 
 pub returns-then-is_over-clause-over : goal.returns-then-is_over-clause-over
 returns-then-is_over-clause-over c = λ s automaton begun none.
-    let stands = c.pass_idle-at.ensures.stands s automaton (c.positions.invariant.stands s automaton begun) in
+    let stands =
+    c.pass_idle-at.ensures.stands s automaton (c.positions.invariant.stands s automaton begun) in
     let on = c.go_over.ensures.on s stands.p stands.is stands.on in
-    ended_all (table_of c.args.graph.now) (chars c.args.haystack.now) (c.args.graph.now.start ∷ []) s stands.p c.go_over.new.self.walk.memory.threads (best_of c.go_over.new.self.best) stands.on.low stands.is.inside
-    (over_at (chars c.args.haystack.now) stands.p c.pass_idle-at.result.here stands.is (c.is_over.ensures.over (search rules))) on.coming
+    ended_all (table_of c.args.graph.now) (chars c.args.haystack.now)
+    (c.args.graph.now.start ∷ []) s stands.p c.go_over.new.self.walk.memory.threads
+    (best_of c.go_over.new.self.best) stands.on.low stands.is.inside
+    (over_at (chars c.args.haystack.now) stands.p c.pass_idle-at.result.here stands.is
+    (c.is_over.ensures.over (search rules))) on.coming

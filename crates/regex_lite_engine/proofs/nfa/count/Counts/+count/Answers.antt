@@ -9,9 +9,11 @@ use Rattle.regex_lite_engine.proofs.nfa.count.Counts.+count.Goals as goal
 pub of-returns-in-Repetition : goal.of-returns-in-Repetition
 of-returns-in-Repetition t c =
     let r = c.in-Repetition in
-    let same : tree_of c.args.hir.now ≡ repetition r.least r.most r.greedy (tree_of c.deref-in-Repetition.result.now) =
+    let same : tree_of c.args.hir.now
+    ≡ repetition r.least r.most r.greedy (tree_of c.deref-in-Repetition.result.now) =
     ap tree_of r.is ∙ tree_of-Repetition r.least r.most r.greedy r.body
-    ∙ ap (λ body. repetition r.least r.most r.greedy (tree_of body)) (sym c.deref-in-Repetition.ensures) in
+    ∙ ap (λ body. repetition r.least r.most r.greedy (tree_of body))
+    (sym c.deref-in-Repetition.ensures) in
     subst (λ (tree : Tree). AreCountsOf tree c.repeated.result) (sym same)
     (c.repeated.ensures (tree_of c.deref-in-Repetition.result.now) r.greedy c.of.ensures)
 
@@ -20,9 +22,14 @@ of_branches-loop-i-init t c =
     let hirs = c.args.branches.now in
     let last = c.in-Some.last in
     let branch = c.index-branches-last.result in
-    let one = trees_more hirs last branch (omega (arith, c.in-Some.ensures)) c.index-branches-last.is in
-    let behind = ap trees_of (drop_all (last + 1) hirs (omega (arith, c.in-Some.ensures))) in
-    (tree_of branch, none, one ∙ ap (λ rest. more (tree_of branch) rest) behind, c.alone-counts.ensures (tree_of branch) c.of.ensures)
+    let one =
+    trees_more hirs last branch (omega (arith, c.in-Some.ensures)) c.index-branches-last.is in
+    let behind = ap trees_of (drop_all (last + 1) hirs (omega (arith, c.in-Some.ensures))) in (
+      tree_of branch,
+      none,
+      one ∙ ap (λ rest. more (tree_of branch) rest) behind,
+      c.alone-counts.ensures (tree_of branch) c.of.ensures,
+    )
 
 pub of_branches-loop-i-preserved : goal.of_branches-loop-i-preserved
 of_branches-loop-i-preserved t c =
@@ -45,4 +52,5 @@ of_branches-returns t c =
     let known = c.loop-i.invariant in
     let first : c.loop-i.i ≡ 0 = omega (arith, c.loop-i-test.false) in
     let whole = ap (λ i. trees_of (drop i hirs)) (sym first) ∙ known.2 in
-    subst (λ (branches : Trees). AreCountsOf (alternation branches) c.loop-i.counts) (sym whole) known.3
+    subst (λ (branches : Trees). AreCountsOf (alternation branches) c.loop-i.counts)
+    (sym whole) known.3

@@ -1,10 +1,12 @@
 use Rattle.std.proofs.Common.{ℕ, ◌≤◌, ◌<◌, ◌↔◌, arith}
 use Rattle.regex_lite_engine.proofs.nfa.count.Counts.within.Goals as goal
 
-above : {size counted limit : ℕ} → (counted ≤ limit) ↔ (size ≤ limit) → limit < counted → limit < size
+above : {size counted limit : ℕ} → (counted ≤ limit) ↔ (size ≤ limit) → limit < counted
+    → limit < size
 above (_, kept) over = by_cases kept over
   where
-    by_cases : {size counted limit : ℕ} → (size ≤ limit → counted ≤ limit) → limit < counted → limit < size
+    by_cases : {size counted limit : ℕ} → (size ≤ limit → counted ≤ limit) → limit < counted
+        → limit < size
     by_cases kept over = grind arith
 
 pub returns-then-size-size_limit-clause-refused : goal.returns-then-size-size_limit-clause-refused

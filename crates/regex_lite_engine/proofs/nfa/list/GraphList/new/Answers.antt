@@ -4,7 +4,9 @@ use Rattle.regex_lite_engine.specs.Graph.Renumbered.{arrows_of}
 use Rattle.regex_lite_engine.specs.Graph.SideBySide.{places_of_all}
 use Rattle.regex_lite_engine.specs.Graph.Stored.{StoredTable, places_of}
 use Rattle.regex_lite_engine.specs.Nfa.Layout.{patterns_table}
-use Rattle.regex_lite_engine.proofs.nfa.list.TableLemmas.{closed, name, written, entered, entries_inside, parted, entry_for_each, few_entries}
+use Rattle.regex_lite_engine.proofs.nfa.list.TableLemmas.{closed, name, written, entered}
+use Rattle.regex_lite_engine.proofs.nfa.list.TableLemmas.{entries_inside, parted}
+use Rattle.regex_lite_engine.proofs.nfa.list.TableLemmas.{entry_for_each, few_entries}
 use Rattle.regex_lite_engine.proofs.nfa.starts.WayLemmas.{listed_heads}
 use Rattle.regex_lite_engine.proofs.nfa.write.SeveralLemmas.{arrows_add_up}
 use Rattle.regex_lite_engine.proofs.nfa.list.GraphList.new.Goals as goal

@@ -1,4 +1,6 @@
-use Rattle.std.proofs.Common.{◌≡◌, ◌<◌, ◌≤◌, ◌+◌, ◌-◌, ◌^◌, ◌∷◌, [], ◌↔◌, inl, inr, ℕ, zero, suc, refl, List, Bool, IsTrue, false, length, take, get_or, slice_get, slice_index_or, slice_set, ap, sym, subst, ◌∙◌, arith}
+use Rattle.std.proofs.Common.{◌≡◌, ◌<◌, ◌≤◌, ◌+◌, ◌-◌, ◌^◌, ◌∷◌, [], ◌↔◌, inl, inr, ℕ, zero}
+use Rattle.std.proofs.Common.{suc, refl, List, Bool, IsTrue, false, length, take, get_or}
+use Rattle.std.proofs.Common.{slice_get, slice_index_or, slice_set, ap, sym, subst, ◌∙◌, arith}
 use Rattle.std.specs.Prelude.{chars, min}
 use Rattle.std.proofs.Math.Nat.{le-min}
 use Rattle.std.proofs.Math.Seq.{take-length}
@@ -37,24 +39,28 @@ loop-number-preserved c =
       found = λ trees regular is k tree less there. elim (cases_lt k number) [
         | inl old ↦
             subst (λ told. IsTrue told ↔ HasMatchFrom tree h s)
-            (sym (get_or-set_other matched number k c.search_one.result false (λ e. absurd (omega (arith, e, old)))))
+            (sym (get_or-set_other matched number k c.search_one.result false
+            (λ e. absurd (omega (arith, e, old)))))
             (v.found trees regular is k tree old there)
         | inr le ↦
             let same : number ≡ k = omega (arith, less, le) in
             subst (λ told. IsTrue told ↔ HasMatchFrom tree h s)
-            (sym (ap (λ n. slice_index_or (slice_set matched number c.search_one.result) n false) (sym same)
+            (sym (ap (λ n. slice_index_or (slice_set matched number c.search_one.result) n false)
+            (sym same)
             ∙ get_or-set_same matched number c.search_one.result false room))
             (c.search_one.ensures.found trees tree regular is (ap (slice_get trees) same ∙ there))
       ];
       entered = λ k less told. elim (cases_lt k number) [
         | inl old ↦
             let some = v.entered k old (subst IsTrue
-            (get_or-set_other matched number k c.search_one.result false (λ e. absurd (omega (arith, e, old)))) told) in
+            (get_or-set_other matched number k c.search_one.result false
+            (λ e. absurd (omega (arith, e, old)))) told) in
             counted (omega (arith, some))
         | inr le ↦
             let same : number ≡ k = omega (arith, less, le) in
             let some = c.search_one.ensures.entered (subst IsTrue
-            (ap (λ n. slice_index_or (slice_set matched number c.search_one.result) n false) (sym same)
+            (ap (λ n. slice_index_or (slice_set matched number c.search_one.result) n false)
+            (sym same)
             ∙ get_or-set_same matched number c.search_one.result false room) told) in
             counted (omega (arith, some))
       ];
@@ -63,33 +69,39 @@ loop-number-preserved c =
           let each = is.each_entry in
           let within : number < length trees = omega (arith, known, each) in
           let there : HasTree trees number tree = slice_get-get_or trees number empty within in
-          let both = bounded_both h s (places_of_all (take number trees)) (tries_of_all (take number trees))
+          let both =
+          bounded_both h s (places_of_all (take number trees)) (tries_of_all (take number trees))
           before.tried before.entered before.looked (whole_places tree) (whole_arrows tree + 1)
           own.tried own.entered own.looked (2 ^ 128 - 1) (v.cost trees is)
           (c.search_one.ensures.cost trees tree is there) in
           let places = sum_by_more whole_places trees number empty within in
           let tries = sum_by_more (λ t. whole_arrows t + 1) trees number empty within in
           let told = c.plus-steps.ensures in
-          subst (λ p. IsBoundedBy p (tries_of_all (take (number + 1) trees)) h s c.plus-steps.result.tried
+          subst
+          (λ p. IsBoundedBy p (tries_of_all (take (number + 1) trees)) h s c.plus-steps.result.tried
           c.plus-steps.result.entered c.plus-steps.result.looked) (sym places)
           (subst (λ n. IsBoundedBy (places_of_all (take number trees) + whole_places tree) n h s
-          c.plus-steps.result.tried c.plus-steps.result.entered c.plus-steps.result.looked) (sym tries)
+          c.plus-steps.result.tried c.plus-steps.result.entered c.plus-steps.result.looked)
+          (sym tries)
           (subst (λ n. IsBoundedBy (places_of_all (take number trees) + whole_places tree)
           (tries_of_all (take number trees) + (whole_arrows tree + 1)) h s n
           c.plus-steps.result.entered c.plus-steps.result.looked) (sym told.tried)
           (subst (λ n. IsBoundedBy (places_of_all (take number trees) + whole_places tree)
           (tries_of_all (take number trees) + (whole_arrows tree + 1)) h s
-          (min (before.tried + own.tried) (2 ^ 128 - 1)) n c.plus-steps.result.looked) (sym told.entered)
+          (min (before.tried + own.tried) (2 ^ 128 - 1)) n c.plus-steps.result.looked)
+          (sym told.entered)
           (subst (λ n. IsBoundedBy (places_of_all (take number trees) + whole_places tree)
           (tries_of_all (take number trees) + (whole_arrows tree + 1)) h s
-          (min (before.tried + own.tried) (2 ^ 128 - 1)) (min (before.entered + own.entered) (2 ^ 128 - 1)) n)
+          (min (before.tried + own.tried) (2 ^ 128 - 1))
+          (min (before.entered + own.entered) (2 ^ 128 - 1)) n)
           (sym told.looked) both)))));
     }
   where
     counted : 0 < c.loop-number.steps.entered + c.search_one.new.cache.walk.steps.entered
         → 0 < c.plus-steps.result.entered
     counted some =
-        let most : 1 ≤ min (c.loop-number.steps.entered + c.search_one.new.cache.walk.steps.entered) (2 ^ 128 - 1)
+        let most : 1 ≤ min (c.loop-number.steps.entered + c.search_one.new.cache.walk.steps.entered)
+        (2 ^ 128 - 1)
         = le-min (omega (arith, some)) (omega arith) in
         omega (arith, most, c.plus-steps.ensures.entered)
 
@@ -101,7 +113,13 @@ returns-clause-found c = λ trees regular is.
     record {
       all = omega (arith, all, c.requires.all, each);
       each = λ number tree there. v.found trees regular is number tree
-          (omega (arith, slice_get_within trees number tree there, each, c.loop-number-test.false, c.len-number-end.ensures.same))
+          (omega (
+            arith,
+            slice_get_within trees number tree there,
+            each,
+            c.loop-number-test.false,
+            c.len-number-end.ensures.same,
+          ))
           there;
     }
 
@@ -113,10 +131,13 @@ returns-clause-cost c = λ trees is.
     let steps = c.loop-number.steps in
     let each = is.each_entry in
     let last : c.loop-number.number ≡ length trees
-    = (let within = v.within in omega (arith, within, each, c.loop-number-test.false, c.len-number-end.ensures.same)) in
+    =
+    (let within = v.within in
+    omega (arith, within, each, c.loop-number-test.false, c.len-number-end.ensures.same)) in
     let whole : take c.loop-number.number trees ≡ trees
     = ap (λ n. take n trees) last ∙ take-length trees in
-    subst (λ ts. IsBoundedBy (places_of_all ts) (tries_of_all ts) h s steps.tried steps.entered steps.looked) whole
+    subst (λ ts. IsBoundedBy (places_of_all ts)
+    (tries_of_all ts) h s steps.tried steps.entered steps.looked) whole
     (v.cost trees is)
 
 pub returns-clause-entered : goal.returns-clause-entered
@@ -125,7 +146,9 @@ returns-clause-entered c = λ k told. elim (cases_lt k c.loop-number.number) [
   | inr le ↦
       let all = c.loop-number.invariant.all in
       absurd (not_beyond c.loop-number.matched k
-      (omega (arith, le, all, c.requires.all, c.loop-number-test.false, c.len-number-end.ensures.same)) told)
+      (omega
+      (arith, le, all, c.requires.all, c.loop-number-test.false, c.len-number-end.ensures.same))
+      told)
 ]
   where
     beyond : (list : List Bool) (k : ℕ) → length list ≤ k → slice_index_or list k false ≡ false
@@ -133,5 +156,6 @@ returns-clause-entered c = λ k told. elim (cases_lt k c.loop-number.number) [
     beyond (told ∷ list) zero le = absurd (omega (arith, le))
     beyond (told ∷ list) (suc k) le = beyond list k (omega (arith, le))
 
-    not_beyond : (list : List Bool) (k : ℕ) → length list ≤ k → IsTrue (slice_index_or list k false) → ⊥
+    not_beyond : (list : List Bool) (k : ℕ) → length list ≤ k
+        → IsTrue (slice_index_or list k false) → ⊥
     not_beyond list k le told = let is : IsTrue false = subst IsTrue (beyond list k le) told in cc

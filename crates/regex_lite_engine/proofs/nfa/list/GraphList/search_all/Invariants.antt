@@ -1,4 +1,5 @@
-use Rattle.std.proofs.Common.{◌≡◌, ◌<◌, ◌≤◌, ◌↔◌, ℕ, List, IsTrue, false, length, take, slice_index_or}
+use Rattle.std.proofs.Common.{◌≡◌, ◌<◌, ◌≤◌, ◌↔◌, ℕ, List, IsTrue}
+use Rattle.std.proofs.Common.{false, length, take, slice_index_or}
 use Rattle.std.specs.Prelude.{chars}
 use Rattle.regex_lite_syntax.specs.Tree.{Tree}
 use Rattle.regex_lite_engine.specs.Graph.SideBySide.{AreRegular, places_of_all, tries_of_all}
@@ -15,11 +16,14 @@ invariant-loop-number l = record {
   ready : IsBetween (table_of_list l.self) l.cache;
   within : l.number ≤ length l.self.entries;
   all : length l.matched ≡ length l.fn.matched;
-  found : (trees : List Tree) → AreRegular trees → IsGraphOfList trees l.self → (k : ℕ) (tree : Tree)
+  found : (trees : List Tree) → AreRegular trees → IsGraphOfList trees l.self
+      → (k : ℕ) (tree : Tree)
       → k < l.number → HasTree trees k tree → IsTrue (slice_index_or l.matched k false)
       ↔ HasMatchFrom tree (chars l.haystack) (position_at l.haystack l.start);
-  entered : (k : ℕ) → k < l.number → IsTrue (slice_index_or l.matched k false) → 0 < l.steps.entered;
+  entered : (k : ℕ) → k < l.number → IsTrue (slice_index_or l.matched k false)
+      → 0 < l.steps.entered;
   cost : (trees : List Tree) → IsGraphOfList trees l.self
       → IsBoundedBy (places_of_all (take l.number trees)) (tries_of_all (take l.number trees))
-      (chars l.haystack) (position_at l.haystack l.start) l.steps.tried l.steps.entered l.steps.looked;
+      (chars l.haystack)
+      (position_at l.haystack l.start) l.steps.tried l.steps.entered l.steps.looked;
 }

@@ -16,11 +16,21 @@ returns-clause-found c = λ trees regular is.
     let all = found.all in
     let each = is.each_entry in
     let len : c.in_ok-matched.matched.len ≡ length told
-    = omega (arith, all, each, c.in_ok-matched.ensures.len, c.len.ensures.same, c.in_ok-matched.matched.ok) in
+    =
+    omega (
+      arith,
+      all,
+      each,
+      c.in_ok-matched.ensures.len,
+      c.len.ensures.same,
+      c.in_ok-matched.matched.ok,
+    ) in
     let same = ap (λ n. take n (told ++ drop (length told) c.in_ok-matched.matched.items)) len
     ∙ take-append_seam told (drop (length told) c.in_ok-matched.matched.items) in
-    subst (λ list. TellsWhich trees (chars haystack) (search_start haystack c.args.start) list) (sym same)
-    (at_position trees c.args.self.now is haystack c.args.start (omega (arith, c.if-start-haystack.false))
+    subst (λ list. TellsWhich trees (chars haystack) (search_start haystack c.args.start) list)
+    (sym same)
+    (at_position trees c.args.self.now is haystack c.args.start
+    (omega (arith, c.if-start-haystack.false))
     (λ s. TellsWhich trees (chars haystack) s told) found)
 
 pub returns-clause-entered : goal.returns-clause-entered
@@ -30,13 +40,15 @@ returns-clause-entered c = λ k told.
     = omega (arith, c.search_all-steps.ensures.length, c.in_ok-matched.matched.ok) in
     let same = ap (λ n. take n (new ++ drop (length new) c.in_ok-matched.matched.items)) len
     ∙ take-append_seam new (drop (length new) c.in_ok-matched.matched.items) in
-    c.search_all-steps.ensures.entered k (subst (λ list. IsTrue (slice_index_or list k false)) same told)
+    c.search_all-steps.ensures.entered k
+    (subst (λ list. IsTrue (slice_index_or list k false)) same told)
 
 pub returns-clause-cost : goal.returns-clause-cost
 returns-clause-cost c = λ trees is.
     let haystack = c.args.haystack.now in
     let steps = c.search_all-steps.result in
-    at_position trees c.args.self.now is haystack c.args.start (omega (arith, c.if-start-haystack.false))
+    at_position trees c.args.self.now is haystack c.args.start
+    (omega (arith, c.if-start-haystack.false))
     (λ s. IsBoundedBy (places_of_all trees) (tries_of_all trees) (chars haystack) s
     steps.tried steps.entered steps.looked)
     (c.search_all-steps.ensures.cost trees is)

@@ -1,4 +1,5 @@
-use Rattle.std.proofs.Common.{rules, ◌<◌, ◌^◌, ◌+◌, ◌↔◌, ◌∷◌, [], IsTrue, length, slice_index, ap, sym, subst, ◌∙◌, arith}
+use Rattle.std.proofs.Common.{rules, ◌<◌, ◌^◌, ◌+◌, ◌↔◌, ◌∷◌, [], IsTrue}
+use Rattle.std.proofs.Common.{length, slice_index, ap, sym, subst, ◌∙◌, arith}
 use Rattle.std.specs.Prelude.{chars, false, is_some, option_map}
 use Rattle.std.proofs.lemmas.Option.{slice_get-get_or}
 use Rattle.regex_lite_engine.specs.Graph.Parts.{IsOwnPart, row_of}
@@ -21,7 +22,8 @@ run_shortest-requires-clause-counts c =
     let s = position_at haystack c.args.start in
     subst (λ (l : StoredList). CanCount (table_of_list l) 1 (characters_left (chars haystack) s))
     (sym c.new-pattern.ensures.list)
-    (can_count (table_of_list c.args.self.now) haystack s c.utf8.haystack short c.requires.countable 1
+    (can_count (table_of_list c.args.self.now) haystack s c.utf8.haystack short
+    c.requires.countable 1
     (omega arith))
 
 pub returns-clause-found : goal.returns-clause-found
@@ -40,7 +42,8 @@ returns-clause-found c = λ trees tree regular is there.
     c.run_shortest.ensures.found) in
     subst (λ told. IsTrue told ↔ HasMatchFrom tree (chars haystack) s)
     (sym (c.is_some.ensures ∙ ap is_some c.end.ensures))
-    (one_told trees list is haystack c.args.start c.requires.boundary.0 regular c.args.number tree there
+    (one_told trees list is haystack c.args.start c.requires.boundary.0 regular c.args.number
+    tree there
     c.requires.number best found)
 
 pub returns-clause-cost : goal.returns-clause-cost
@@ -54,13 +57,18 @@ returns-clause-cost c = λ trees tree is there.
     let part = is.parts c.args.number tree (slice_index list.entries c.args.number) there
     (slice_get-get_or list.entries c.args.number 0 c.requires.number) in
     let low = part.low in
-    let inside : IsOwnPart (table_of_list own.list.now) (slice_index own.list.now.entries own.number ∷ []) low len =
-    subst (λ k. IsOwnPart (table_of_list own.list.now) (slice_index own.list.now.entries k ∷ []) low len)
+    let inside : IsOwnPart (table_of_list own.list.now)
+    (slice_index own.list.now.entries own.number ∷ []) low len =
+    subst
+    (λ k. IsOwnPart (table_of_list own.list.now) (slice_index own.list.now.entries k ∷ []) low len)
     (sym c.new-pattern.ensures.number)
-    (subst (λ (l : StoredList). IsOwnPart (table_of_list l) (slice_index l.entries c.args.number ∷ []) low len)
+    (subst (λ (l : StoredList).
+    IsOwnPart (table_of_list l) (slice_index l.entries c.args.number ∷ []) low len)
     (sym c.new-pattern.ensures.list) part.is) in
-    subst (λ n. IsBoundedBy len (n + 1) haystack s steps.tried steps.entered steps.looked) part.arrows
-    (subst (λ (l : StoredList). IsBoundedBy len (arrows_of (row_of (table_of_list l) low len) + 1) haystack s
+    subst (λ n. IsBoundedBy len (n + 1) haystack s steps.tried steps.entered steps.looked)
+    part.arrows
+    (subst (λ (l : StoredList).
+    IsBoundedBy len (arrows_of (row_of (table_of_list l) low len) + 1) haystack s
     steps.tried steps.entered steps.looked) c.new-pattern.ensures.list
     (c.run_shortest.ensures.own low len inside))
 

@@ -1,4 +1,5 @@
-use Rattle.std.proofs.Common.{◌==◌, ◌<◌, ◌*◌, ◌&&◌, ◌||◌, ◌∷◌, [], map, length, ap, sym, subst, ◌∙◌, arith}
+use Rattle.std.proofs.Common.{◌==◌, ◌<◌, ◌*◌, ◌&&◌, ◌||◌, ◌∷◌, []}
+use Rattle.std.proofs.Common.{map, length, ap, sym, subst, ◌∙◌, arith}
 use Rattle.std.proofs.lemmas.List.{map-append}
 use Rattle.regex_lite_engine.specs.Nfa.ListHeads.{begins_with_pair, belongs, has, has_pair, IsSized}
 use Rattle.regex_lite_engine.specs.Nfa.Starts.{IsUnion, IsUnionOf}

@@ -1,11 +1,15 @@
-use Rattle.std.proofs.Common.{◌≡◌, ◌<◌, ◌&&◌, ◌||◌, ◌∙◌, ℕ, false, refl, ap, sym, length, slice_get, Some, arith}
+use Rattle.std.proofs.Common.{◌≡◌, ◌<◌, ◌&&◌, ◌||◌, ◌∙◌, ℕ, false, refl}
+use Rattle.std.proofs.Common.{ap, sym, length, slice_get, Some, arith}
 use Rattle.std.proofs.lemmas.Option.{slice_get-get_or}
 use Rattle.std.proofs.lemmas.List.{length-set}
 use Rattle.regex_lite_engine.specs.declared.nfa.list_heads.ListHeads.{ListHeads}
 use Rattle.regex_lite_engine.specs.Nfa.ListHeads.{begins_with_pair, goes_on_with, has_pair, in_set}
 use Rattle.regex_lite_engine.proofs.nfa.list_heads.PairLemmas.{none_more, one_more, row_passed}
 use Rattle.regex_lite_engine.proofs.nfa.list_heads.ListHeads.add_pairs.Goals as goal
-use Rattle.regex_lite_engine.proofs.nfa.list_heads.ListHeads.add_pairs.Goals.{then-begins_in, else-begins_in}
+use Rattle.regex_lite_engine.proofs.nfa.list_heads.ListHeads.add_pairs.Goals.{
+  then-begins_in,
+  else-begins_in,
+}
 
 pub firsts-preserved : goal.firsts-preserved
 firsts-preserved c =

@@ -1,7 +1,9 @@
 use Rattle.std.proofs.Common.{◌≡◌, ◌*◌, ◌++◌, Some, not, ap, refl, sym, length, ◌∙◌, arith}
 use Rattle.std.specs.List.{filter, range_with_len}
 use Rattle.regex_lite_engine.specs.Nfa.ListHeads.{may_start, set_from}
-use Rattle.regex_lite_engine.proofs.nfa.list_heads.WalkLemmas.{all_words, fits_word, none_listed, none_starts_behind, word_more, word_tells}
+use Rattle.regex_lite_engine.proofs.nfa.list_heads.WalkLemmas.{all_words, fits_word}
+use Rattle.regex_lite_engine.proofs.nfa.list_heads.WalkLemmas.{none_listed, none_starts_behind}
+use Rattle.regex_lite_engine.proofs.nfa.list_heads.WalkLemmas.{word_more, word_tells}
 use Rattle.regex_lite_engine.proofs.nfa.list_heads.ListHeads.list.Goals as goal
 
 pub add_set-requires-clause-room : goal.add_set-requires-clause-room

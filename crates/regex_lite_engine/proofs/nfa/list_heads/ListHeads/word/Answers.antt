@@ -1,8 +1,10 @@
-use Rattle.std.proofs.Common.{◌≡◌, ◌==◌, ◌-◌, ◌*◌, ◌&&◌, ◌||◌, Bool, true, false, not, bit_and, ap, refl, sym, ◌∙◌}
+use Rattle.std.proofs.Common.{◌≡◌, ◌==◌, ◌-◌, ◌*◌, ◌&&◌, ◌||◌, Bool, true}
+use Rattle.std.proofs.Common.{false, not, bit_and, ap, refl, sym, ◌∙◌}
 use Rattle.std.specs.Int.{bit_at}
 use Rattle.std.specs.Prelude.{is_none}
 use Rattle.regex_lite_engine.specs.Nfa.ListHeads.{has, start_row}
-use Rattle.regex_lite_engine.proofs.nfa.list_heads.WalkLemmas.{bit_in_row, bit_of_both, bit_of_either}
+use Rattle.regex_lite_engine.proofs.nfa.list_heads.WalkLemmas.{bit_in_row, bit_of_both}
+use Rattle.regex_lite_engine.proofs.nfa.list_heads.WalkLemmas.{bit_of_either}
 use Rattle.regex_lite_engine.proofs.nfa.list_heads.ListHeads.word.Goals as goal
 
 or_off : (a b : Bool) → (a || (false && b)) ≡ a

@@ -2,10 +2,14 @@ use Rattle.std.proofs.Common.{◌≡◌, ◌%◌, inl, inr, true, false, ap, sym
 use Rattle.std.proofs.lemmas.Bool.{cases_lt}
 use Rattle.regex_lite_engine.specs.Nfa.Starts.{begins_with}
 use Rattle.regex_lite_engine.specs.Nfa.Thirds.{in_mask}
-use Rattle.regex_lite_engine.proofs.nfa.list_heads.ThirdLemmas.{added, all_in_mask, begins_by_character, kept}
+use Rattle.regex_lite_engine.proofs.nfa.list_heads.ThirdLemmas.{added, all_in_mask}
+use Rattle.regex_lite_engine.proofs.nfa.list_heads.ThirdLemmas.{begins_by_character, kept}
 use Rattle.regex_lite_engine.proofs.nfa.starts.StartLemmas.{begins_as_one}
 use Rattle.regex_lite_engine.proofs.nfa.list_heads.thirds.mask_of.Goals as goal
-use Rattle.regex_lite_engine.proofs.nfa.list_heads.thirds.mask_of.Goals.{then-begins_in-2, else-begins_in-2}
+use Rattle.regex_lite_engine.proofs.nfa.list_heads.thirds.mask_of.Goals.{
+  then-begins_in-2,
+  else-begins_in-2,
+}
 
 never : true ≡ false → ⊥
 never e = cc
@@ -42,10 +46,12 @@ loop-code-preserved c =
 pub returns : goal.returns
 returns c = λ before code may.
     let starts = c.args.starts.now in
-    let begins = begins_by_character starts before code (sym c.at_start.ensures ∙ c.if-at_start.false)
+    let begins =
+    begins_by_character starts before code (sym c.at_start.ensures ∙ c.if-at_start.false)
     may in
     elim (cases_lt code 128) [
-      | inl low ↦ c.loop-code.invariant.told code (omega (arith, low, c.loop-code-test.false)) begins
+      | inl low ↦
+          c.loop-code.invariant.told code (omega (arith, low, c.loop-code-test.false)) begins
       | inr le ↦ absurd (never (sym begins ∙ begins_as_one starts code le
           ∙ sym c.begins_in.ensures ∙ c.if-begins_in.false))
     ]

@@ -1,7 +1,10 @@
-use Rattle.std.proofs.Common.{◌<◌, ◌+◌, ◌++◌, ◌∷◌, [], length, append_assoc, refl, sym, ap, ◌∙◌, arith}
+use Rattle.std.proofs.Common.{◌<◌, ◌+◌, ◌++◌, ◌∷◌, [], length}
+use Rattle.std.proofs.Common.{append_assoc, refl, sym, ap, ◌∙◌, arith}
 use Rattle.std.proofs.lemmas.List.{append-nil, length-append}
 use Rattle.regex_lite_engine.specs.Nfa.ListHeads.{set_from}
-use Rattle.regex_lite_engine.proofs.nfa.list_heads.NumberLemmas.{lowest_comes_first, lowest_bit, less_without, none_of_zero, without_lowest}
+use Rattle.regex_lite_engine.proofs.nfa.list_heads.NumberLemmas.{lowest_comes_first}
+use Rattle.regex_lite_engine.proofs.nfa.list_heads.NumberLemmas.{lowest_bit, less_without}
+use Rattle.regex_lite_engine.proofs.nfa.list_heads.NumberLemmas.{none_of_zero, without_lowest}
 use Rattle.regex_lite_engine.proofs.nfa.list_heads.walk.add_set.Goals as goal
 
 pub add-requires : goal.add-requires

@@ -1,12 +1,18 @@
-use Rattle.std.proofs.Common.{◌≡◌, ◌⊎◌, inl, inr, IsTrue, sym, ap, ◌∙◌, subst, refl, nat_eq, drop, ◌+◌}
+use Rattle.std.proofs.Common.{◌≡◌, ◌⊎◌, inl, inr, IsTrue, sym, ap}
+use Rattle.std.proofs.Common.{◌∙◌, subst, refl, nat_eq, drop, ◌+◌}
 use Rattle.regex_lite_syntax.specs.Tree.{Tree, Trees, repetition, concat, alternation}
 use Rattle.regex_lite_syntax.specs.Tree.Matches.{Chain, SomeBranch}
 use Rattle.regex_lite_syntax.specs.Tree.Views.{tree_of}
-use Rattle.regex_lite_syntax.proofs.TreeLemmas.{tree_of-Repetition, tree_of-Concat, tree_of-Alternation, trees_of, trees_more}
+use Rattle.regex_lite_syntax.proofs.TreeLemmas.{tree_of-Repetition, tree_of-Concat}
+use Rattle.regex_lite_syntax.proofs.TreeLemmas.{tree_of-Alternation, trees_of, trees_more}
 use Rattle.regex_lite_engine.specs.Nfa.Starts.{MayBegin, BeginsOrPasses}
-use Rattle.regex_lite_engine.proofs.nfa.starts.StartLemmas.{grown_on, repetition_begins, part_more, branch_more}
+use Rattle.regex_lite_engine.proofs.nfa.starts.StartLemmas.{grown_on, repetition_begins}
+use Rattle.regex_lite_engine.proofs.nfa.starts.StartLemmas.{part_more, branch_more}
 use Rattle.regex_lite_engine.proofs.nfa.starts.Starts.+add.Goals as goal
-use Rattle.regex_lite_engine.proofs.nfa.starts.Starts.+add.Goals.{add_branches-then-add, add_branches-else-add}
+use Rattle.regex_lite_engine.proofs.nfa.starts.Starts.+add.Goals.{
+  add_branches-then-add,
+  add_branches-else-add,
+}
 
 pub add-returns-in-Concat-clause-begins : goal.add-returns-in-Concat-clause-begins
 add-returns-in-Concat-clause-begins t c =
@@ -30,7 +36,8 @@ add-returns-then-add-clause-begins t c =
     let body = tree_of c.deref-in-Repetition.result.now in
     let same : tree_of c.args.hir.now ≡ repetition r.least r.most r.greedy body =
     ap tree_of r.is ∙ tree_of-Repetition r.least r.most r.greedy r.body
-    ∙ ap (λ hir. repetition r.least r.most r.greedy (tree_of hir)) (sym c.deref-in-Repetition.ensures) in
+    ∙ ap (λ hir. repetition r.least r.most r.greedy (tree_of hir))
+    (sym c.deref-in-Repetition.ensures) in
     subst (λ (tree : Tree). BeginsOrPasses tree c.add.new.self c.add.result) (sym same)
     (repetition_begins r.least r.most r.greedy body c.add.new.self c.add.result c.add.result
     (λ e. subst IsTrue (sym e) refl) (λ e. subst IsTrue (sym c.if-add.true) refl)
@@ -42,11 +49,13 @@ add-returns-else-add-clause-begins t c =
     let body = tree_of c.deref-in-Repetition.result.now in
     let same : tree_of c.args.hir.now ≡ repetition r.least r.most r.greedy body =
     ap tree_of r.is ∙ tree_of-Repetition r.least r.most r.greedy r.body
-    ∙ ap (λ hir. repetition r.least r.most r.greedy (tree_of hir)) (sym c.deref-in-Repetition.ensures) in
+    ∙ ap (λ hir. repetition r.least r.most r.greedy (tree_of hir))
+    (sym c.deref-in-Repetition.ensures) in
     let not_body = c.if-add.false in
     subst (λ (tree : Tree). BeginsOrPasses tree c.add.new.self (nat_eq r.least 0)) (sym same)
     (repetition_begins r.least r.most r.greedy body c.add.new.self c.add.result (nat_eq r.least 0)
-    (λ e. absurd (let both = sym e ∙ not_body in cc)) (λ e. subst (λ z. IsTrue (nat_eq z 0)) (sym e) refl)
+    (λ e. absurd (let both = sym e ∙ not_body in cc))
+    (λ e. subst (λ z. IsTrue (nat_eq z 0)) (sym e) refl)
     c.add.ensures.begins)
 
 pub add_parts-loop-part-preserved : goal.add_parts-loop-part-preserved
@@ -58,9 +67,11 @@ add_parts-loop-part-preserved t c =
     let one = trees_more hirs k part c.loop-part-test.true c.part-item.is in
     record {
       grown = grown_on c.args.self.now c.loop-part.self c.add.new.self v.grown c.add.ensures.grown;
-      left = λ h i j m. elim (part_more (tree_of part) (trees_of (drop (k + 1) hirs)) c.loop-part.self
+      left = λ h i j m.
+          elim (part_more (tree_of part) (trees_of (drop (k + 1) hirs)) c.loop-part.self
           c.add.new.self c.add.result c.add.ensures.grown c.add.ensures.begins h i j
-          (subst (λ (z : Trees). MayBegin c.loop-part.self h i ⊎ Chain h z i j) one (v.left h i j m))) [
+          (subst (λ (z : Trees). MayBegin c.loop-part.self h i ⊎ Chain h z i j) one
+          (v.left h i j m))) [
             | inl begins ↦ inl begins
             | inr (p, on) ↦ inr on
           ];
@@ -102,8 +113,10 @@ add_branches-loop-branch-preserved t c =
       )
     ] in
     record {
-      grown = grown_on c.args.self.now c.loop-branch.self c.add.new.self v.grown c.add.ensures.grown;
-      left = λ h i j m. branch_more (tree_of branch) (trees_of (drop (k + 1) hirs)) c.loop-branch.self
+      grown =
+          grown_on c.args.self.now c.loop-branch.self c.add.new.self v.grown c.add.ensures.grown;
+      left = λ h i j m.
+          branch_more (tree_of branch) (trees_of (drop (k + 1) hirs)) c.loop-branch.self
           c.add.new.self c.add.result c.add.ensures.grown c.add.ensures.begins h i j before after
           changes.0 changes.1
           (subst (λ (z : Trees). MayBegin c.loop-branch.self h i

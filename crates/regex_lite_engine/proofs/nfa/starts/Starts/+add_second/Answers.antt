@@ -10,9 +10,15 @@ use Rattle.regex_lite_engine.specs.declared.nfa.starts.Starts.{Starts}
 use Rattle.regex_lite_engine.specs.Nfa.Heads.{Reads, ReadsEach}
 use Rattle.regex_lite_engine.specs.Nfa.Starts.{IsGrown}
 use Rattle.regex_lite_engine.proofs.nfa.starts.StartLemmas.{grown_on}
-use Rattle.regex_lite_engine.proofs.nfa.heads.HeadLemmas.{as_one, branch_read, of_more, part_read, reads_grown}
+use Rattle.regex_lite_engine.proofs.nfa.heads.HeadLemmas.{as_one, branch_read, of_more}
+use Rattle.regex_lite_engine.proofs.nfa.heads.HeadLemmas.{part_read, reads_grown}
 use Rattle.regex_lite_engine.proofs.nfa.starts.Starts.+add_second.Goals as goal
-use Rattle.regex_lite_engine.proofs.nfa.starts.Starts.+add_second.Goals.{add_second_of_parts-in-Nothing+in_ok-head-in-Nothing, add_second_of_parts-in-One, add_second_of_branches-in-One, add_second_of_branches-in-More}
+use Rattle.regex_lite_engine.proofs.nfa.starts.Starts.+add_second.Goals.{
+  add_second_of_parts-in-Nothing+in_ok-head-in-Nothing,
+  add_second_of_parts-in-One,
+  add_second_of_branches-in-One,
+  add_second_of_branches-in-More,
+}
 
 pub add_second_of_parts-loop-part-preserved : goal.add_second_of_parts-loop-part-preserved
 add_second_of_parts-loop-part-preserved t c =

@@ -17,7 +17,8 @@ invariant-add_second_of_parts-loop-part l = record {
       × Chain h (trees (map tree_of (drop l.part-index l.parts))) k j;
 }
 
-abbrev pub invariant-add_second_of_branches-loop-branch : goal.invariant-add_second_of_branches-loop-branch
+abbrev pub invariant-add_second_of_branches-loop-branch :
+    goal.invariant-add_second_of_branches-loop-branch
 invariant-add_second_of_branches-loop-branch l = record {
   grown : IsGrown l.fn.self l.self;
   some : (l.head ≡ One) ⊎ (l.head ≡ More);

@@ -1,4 +1,5 @@
-use Rattle.std.proofs.Common.{◌≡◌, ◌+◌, ◌<◌, inl, inr, ℕ, Bool, true, ◌||◌, length, set, slice_index_or, ap, sym, ◌∙◌, refl, arith, rules}
+use Rattle.std.proofs.Common.{◌≡◌, ◌+◌, ◌<◌, inl, inr, ℕ, Bool, true, ◌||◌, length}
+use Rattle.std.proofs.Common.{set, slice_index_or, ap, sym, ◌∙◌, refl, arith, rules}
 use Rattle.std.proofs.lemmas.Bool.{cases_lt, cases_eq}
 use Rattle.std.proofs.lemmas.List.{get_or-set_same, get_or-set_other}
 use Rattle.regex_lite_engine.specs.Nfa.Starts.{begins_with}

@@ -13,7 +13,8 @@ write-returns-in-Repetition-clause-written t c =
     let r = c.in-Repetition in
     let old = c.args.self.now in
     let new = c.write_repetition.new.self in
-    let same : tree_of c.args.hir.now ≡ repetition r.least r.most r.greedy (tree_of c.deref.result.now) =
+    let same : tree_of c.args.hir.now
+    ≡ repetition r.least r.most r.greedy (tree_of c.deref.result.now) =
     ap tree_of r.is ∙ tree_of-Repetition r.least r.most r.greedy r.body
     ∙ ap (λ hir. repetition r.least r.most r.greedy (tree_of hir)) (sym c.deref.ensures) in
     subst (λ (tree : Tree). IfOk c.write_repetition.result (λ entry. IsAdded

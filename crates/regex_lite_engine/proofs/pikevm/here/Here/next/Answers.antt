@@ -5,21 +5,27 @@ use Rattle.regex_lite_engine.proofs.pikevm.here.Here.next.Goals as goal
 
 pub overflow_add-at : goal.overflow_add-at
 overflow_add-at c =
-    let edge = boundary_at c.args.haystack.now (suc c.requires.0) (c.args.self.at + c.byte_len.result) c.utf8.haystack
-    (subst (λ z. IsOffset (chars c.args.haystack.now) (suc c.requires.0) (c.args.self.at + z)) (sym c.byte_len.ensures)
+    let edge = boundary_at c.args.haystack.now (suc c.requires.0)
+    (c.args.self.at + c.byte_len.result) c.utf8.haystack
+    (subst (λ z. IsOffset (chars c.args.haystack.now) (suc c.requires.0) (c.args.self.at + z))
+    (sym c.byte_len.ensures)
     (moved c.args.haystack.now c.requires.0 c.in-Some.c c.args.self c.requires.1 c.in-Some.is)) in
     search rules
 
 pub first_char-requires : goal.first_char-requires
 first_char-requires c =
-    boundary_at c.args.haystack.now (suc c.requires.0) (c.args.self.at + c.byte_len.result) c.utf8.haystack
-    (subst (λ z. IsOffset (chars c.args.haystack.now) (suc c.requires.0) (c.args.self.at + z)) (sym c.byte_len.ensures)
+    boundary_at c.args.haystack.now (suc c.requires.0)
+    (c.args.self.at + c.byte_len.result) c.utf8.haystack
+    (subst (λ z. IsOffset (chars c.args.haystack.now) (suc c.requires.0) (c.args.self.at + z))
+    (sym c.byte_len.ensures)
     (moved c.args.haystack.now c.requires.0 c.in-Some.c c.args.self c.requires.1 c.in-Some.is))
 
 pub invariant_of-result : goal.invariant_of-result
 invariant_of-result c =
-    let edge = boundary_at c.args.haystack.now (suc c.requires.0) (c.args.self.at + c.byte_len.result) c.utf8.haystack
-    (subst (λ z. IsOffset (chars c.args.haystack.now) (suc c.requires.0) (c.args.self.at + z)) (sym c.byte_len.ensures)
+    let edge = boundary_at c.args.haystack.now (suc c.requires.0)
+    (c.args.self.at + c.byte_len.result) c.utf8.haystack
+    (subst (λ z. IsOffset (chars c.args.haystack.now) (suc c.requires.0) (c.args.self.at + z))
+    (sym c.byte_len.ensures)
     (moved c.args.haystack.now c.requires.0 c.in-Some.c c.args.self c.requires.1 c.in-Some.is)) in
     search rules
 

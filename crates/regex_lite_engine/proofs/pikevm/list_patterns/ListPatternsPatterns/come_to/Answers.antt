@@ -6,7 +6,8 @@ use Rattle.regex_lite_engine.specs.Graph.StoredList.{table_of_list}
 use Rattle.regex_lite_engine.specs.Nfa.ListHeads.{is_candidate_at}
 use Rattle.regex_lite_engine.specs.Walk.Starts.{start_of}
 use Rattle.regex_lite_engine.proofs.nfa.list_heads.WalkLemmas.{filter_at_most}
-use Rattle.regex_lite_engine.proofs.pikevm.list_patterns.ListStartLemmas.{all_below, listed_start, places_inside}
+use Rattle.regex_lite_engine.proofs.pikevm.list_patterns.ListStartLemmas.{all_below, listed_start}
+use Rattle.regex_lite_engine.proofs.pikevm.list_patterns.ListStartLemmas.{places_inside}
 use Rattle.regex_lite_engine.proofs.pikevm.list_patterns.ListPatternsPatterns.come_to.Goals as goal
 
 pub invariant_of-self : goal.invariant_of-self

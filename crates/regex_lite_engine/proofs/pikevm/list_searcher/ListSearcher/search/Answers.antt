@@ -32,7 +32,8 @@ returns-clause-found c = λ trees regular is.
     let haystack = c.args.haystack.now in
     let s = position_at haystack c.args.start in
     let best = best_of c.run.new.cache.best in
-    let of_list = subst (λ (z : ListSearching). IsGraphOfList trees z.graph) (sym c.self.view_is) is in
+    let of_list =
+    subst (λ (z : ListSearching). IsGraphOfList trees z.graph) (sym c.self.view_is) is in
     let found : IsBestOutcomeOf (table_of_list list) (chars haystack) list.entries s best =
     subst (λ table. IsBestOutcomeOf table (chars haystack) list.entries s best) c.self.invariant.1
     (subst (λ (entries : List ℕ). IsBestOutcomeOf (table_of_list c.self.inside.patterns.list.now)

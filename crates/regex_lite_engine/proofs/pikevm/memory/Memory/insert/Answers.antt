@@ -1,21 +1,34 @@
-use Rattle.std.proofs.Common.{◌≡◌, ◌+◌, ◌<◌, length, take, set, reverse, slice_index, refl, ap, sym, ◌∙◌, arith}
+use Rattle.std.proofs.Common.{◌≡◌, ◌+◌, ◌<◌, length, take, set, reverse}
+use Rattle.std.proofs.Common.{slice_index, refl, ap, sym, ◌∙◌, arith}
 use Rattle.std.proofs.lemmas.Bool.Decides.{nat_tests}
 use Rattle.regex_lite_engine.specs.declared.pikevm.cell.Cell.{Cell}
 use Rattle.regex_lite_engine.specs.Walk.Cells.{frame_in, other}
 use Rattle.regex_lite_engine.specs.Walk.Machine.{State}
 use Rattle.regex_lite_engine.proofs.pikevm.memory.CellLemmas.{not_told, state_is, with_round}
 use Rattle.regex_lite_engine.proofs.pikevm.memory.ListLemmas.{threads_kept}
-use Rattle.regex_lite_engine.proofs.pikevm.memory.ReadyLemmas.{places_stay, frames_stay, threads_stay, round_put, round_read, rounds_long}
+use Rattle.regex_lite_engine.proofs.pikevm.memory.ReadyLemmas.{places_stay, frames_stay}
+use Rattle.regex_lite_engine.proofs.pikevm.memory.ReadyLemmas.{threads_stay, round_put}
+use Rattle.regex_lite_engine.proofs.pikevm.memory.ReadyLemmas.{round_read, rounds_long}
 use Rattle.regex_lite_engine.proofs.pikevm.memory.Memory.insert.Goals as goal
 
 pub returns-clause-fresh : goal.returns-clause-fresh
 returns-clause-fresh g c =
     let i = c.self.inside in let v = c.self.view_is in let fit = c.self.invariant in
-    let made = c.reach-k.ensures.made in let cells = c.reach-k.new.cells.items in let low = c.reach-k.new.low in let x = c.index_mut-cell.result.now in
+    let made = c.reach-k.ensures.made in let cells = c.reach-k.new.cells.items in
+    let low = c.reach-k.new.low in let x = c.index_mut-cell.result.now in
     let all = ap (λ (z : State). length z.rounds) v in
-    let inside : c.args.place < low + length cells = omega (arith, c.requires.place, all, rounds_long i.low i.cells.items, places_stay i.low low i.cells.items cells made) in
-    let held : slice_index c.args.self.now.rounds c.args.place ≡ x.entered = ap (λ (z : State). slice_index z.rounds c.args.place) (sym v) ∙ ap (λ rs. slice_index rs c.args.place) (sym made.rounds)
-    ∙ round_read low cells c.args.place c.reach-k.result x c.reach-k.ensures.number inside c.index_mut-cell.ensures.value in
+    let inside : c.args.place < low + length cells = omega (
+      arith,
+      c.requires.place,
+      all,
+      rounds_long i.low i.cells.items,
+      places_stay i.low low i.cells.items cells made,
+    ) in
+    let held : slice_index c.args.self.now.rounds c.args.place ≡ x.entered =
+    ap (λ (z : State). slice_index z.rounds c.args.place) (sym v)
+    ∙ ap (λ rs. slice_index rs c.args.place) (sym made.rounds)
+    ∙ round_read low cells c.args.place c.reach-k.result x c.reach-k.ensures.number inside
+    c.index_mut-cell.ensures.value in
     let now = ap (λ (z : State). z.now) v in (
       (λ yes same. grind (arith, nat_tests, yes, same, held, now)),
       (λ apart. grind (arith, nat_tests, apart, held, now)),
@@ -23,11 +36,27 @@ returns-clause-fresh g c =
 
 pub returns-clause-added : goal.returns-clause-added
 returns-clause-added g c =
-    let i = c.self.inside in let m = c.args.self.now in let v = c.self.view_is in let fit = c.self.invariant in
-    let made = c.reach-k.ensures.made in let cells = c.reach-k.new.cells.items in let low = c.reach-k.new.low in let k = c.reach-k.result in
-    let x = c.index_mut-cell.result.now in let is = c.index_mut-cell.ensures.value in let y : Cell _ = record x { entered = i.round } in
-    let rounds = round_put low cells c.args.place k y c.reach-k.ensures.number ∙ ap (λ rs. set rs c.args.place i.round) (made.rounds ∙ ap (λ (z : State). z.rounds) v) ∙ ap (λ n. set m.rounds c.args.place n) (ap (λ (z : State). z.now) v) in
-    let frames = ap (λ fs. reverse (take i.depth fs)) (not_told frame_in cells k x y is refl) ∙ frames_stay i.low low i.cells.items cells made i.depth fit.frames_fit ∙ (ap (λ (z : State). z.frames) v) in
-    let threads = threads_kept g.S.Beginning.told i.side cells i.rows i.room i.len k x y is (with_round i.side x i.round) ∙ threads_stay i.low low i.cells.items cells made g.S.Beginning.told i.side i.rows i.room i.len fit.threads_fit ∙ (ap (λ (z : State). z.threads) v) in
-    let next = threads_kept g.S.Beginning.told (other i.side) cells i.rows i.room i.next_len k x y is (with_round (other i.side) x i.round) ∙ threads_stay i.low low i.cells.items cells made g.S.Beginning.told (other i.side) i.rows i.room i.next_len fit.next_fit ∙ (ap (λ (z : State). z.next) v) in
-    state_is _ _ rounds (ap (λ (z : State). z.now) v) frames (ap (λ (z : State). z.row) v) threads next (ap (λ (z : State). z.room) v) (ap (λ (z : State). z.ready) v)
+    let i = c.self.inside in let m = c.args.self.now in let v = c.self.view_is in
+    let fit = c.self.invariant in
+    let made = c.reach-k.ensures.made in let cells = c.reach-k.new.cells.items in
+    let low = c.reach-k.new.low in let k = c.reach-k.result in
+    let x = c.index_mut-cell.result.now in let is = c.index_mut-cell.ensures.value in
+    let y : Cell _ = record x { entered = i.round } in
+    let rounds = round_put low cells c.args.place k y c.reach-k.ensures.number
+    ∙ ap (λ rs. set rs c.args.place i.round) (made.rounds ∙ ap (λ (z : State). z.rounds) v)
+    ∙ ap (λ n. set m.rounds c.args.place n) (ap (λ (z : State). z.now) v) in
+    let frames = ap (λ fs. reverse (take i.depth fs)) (not_told frame_in cells k x y is refl)
+    ∙ frames_stay i.low low i.cells.items cells made i.depth fit.frames_fit
+    ∙ (ap (λ (z : State). z.frames) v) in
+    let threads = threads_kept g.S.Beginning.told i.side cells i.rows i.room i.len k x y is
+    (with_round i.side x i.round)
+    ∙ threads_stay i.low low i.cells.items cells made g.S.Beginning.told i.side i.rows i.room i.len
+    fit.threads_fit
+    ∙ (ap (λ (z : State). z.threads) v) in
+    let next = threads_kept g.S.Beginning.told
+    (other i.side) cells i.rows i.room i.next_len k x y is (with_round (other i.side) x i.round)
+    ∙ threads_stay i.low low i.cells.items cells made g.S.Beginning.told
+    (other i.side) i.rows i.room i.next_len fit.next_fit
+    ∙ (ap (λ (z : State). z.next) v) in
+    state_is _ _ rounds (ap (λ (z : State). z.now) v) frames (ap (λ (z : State). z.row) v) threads
+    next (ap (λ (z : State). z.room) v) (ap (λ (z : State). z.ready) v)

@@ -1,46 +1,98 @@
-use Rattle.std.proofs.Common.{◌≡◌, ◌<◌, [], length, map, slice_index, slice_index_or, refl, ap, sym, ◌∙◌, arith}
+use Rattle.std.proofs.Common.{◌≡◌, ◌<◌, [], length, map, slice_index}
+use Rattle.std.proofs.Common.{slice_index_or, refl, ap, sym, ◌∙◌, arith}
 use Rattle.std.proofs.lemmas.List.{get_or-set_same}
 use Rattle.regex_lite_engine.specs.Walk.Beginnings.{untold}
-use Rattle.regex_lite_engine.specs.Walk.Cells.{nth_row, threads_on, other, row_on, place_on, start_on, start_told}
+use Rattle.regex_lite_engine.specs.Walk.Cells.{nth_row, threads_on, other, row_on}
+use Rattle.regex_lite_engine.specs.Walk.Cells.{place_on, start_on, start_told}
 use Rattle.regex_lite_engine.specs.Walk.Machine.{State, thread_at}
 use Rattle.regex_lite_engine.proofs.pikevm.memory.CellLemmas.{row_fits, told_at, state_is}
-use Rattle.regex_lite_engine.proofs.pikevm.memory.ListLemmas.{first_row_alone, thread_is, thread_told, threads_long}
+use Rattle.regex_lite_engine.proofs.pikevm.memory.ListLemmas.{first_row_alone, thread_is}
+use Rattle.regex_lite_engine.proofs.pikevm.memory.ListLemmas.{thread_told, threads_long}
 use Rattle.regex_lite_engine.proofs.pikevm.memory.Memory.load.Goals as goal
 
 pub row_of-requires : goal.row_of-requires
 row_of-requires g c =
-    let i = c.self.inside in let m = c.args.self.now in let v = c.self.view_is in let fit = c.self.invariant in
-    let lt : c.args.k < i.len = omega (arith, c.requires, threads_long g.S.Beginning.told i.side i.cells.items i.rows i.room i.len, ap (λ (z : State). length z.threads) v) in let short : c.args.k < length i.cells.items = omega (arith, lt, fit.threads_fit) in
-    omega (arith, row_fits i.side (length i.cells.items) c.args.k short, i.cells.ok.0, i.cells.small)
+    let i = c.self.inside in let m = c.args.self.now in let v = c.self.view_is in
+    let fit = c.self.invariant in
+    let lt : c.args.k < i.len = omega (
+      arith,
+      c.requires,
+      threads_long g.S.Beginning.told i.side i.cells.items i.rows i.room i.len,
+      ap (λ (z : State). length z.threads) v,
+    ) in
+    let short : c.args.k < length i.cells.items = omega (arith, lt, fit.threads_fit) in
+    omega
+    (arith, row_fits i.side (length i.cells.items) c.args.k short, i.cells.ok.0, i.cells.small)
 
 pub copy-requires-clause-from : goal.copy-requires-clause-from
 copy-requires-clause-from g c =
-    let i = c.self.inside in let m = c.args.self.now in let v = c.self.view_is in let fit = c.self.invariant in
-    let lt : c.args.k < i.len = omega (arith, c.requires, threads_long g.S.Beginning.told i.side i.cells.items i.rows i.room i.len, ap (λ (z : State). length z.threads) v) in let k_fits : c.args.k < i.room = omega (arith, lt, fit.threads_few) in
+    let i = c.self.inside in let m = c.args.self.now in let v = c.self.view_is in
+    let fit = c.self.invariant in
+    let lt : c.args.k < i.len = omega (
+      arith,
+      c.requires,
+      threads_long g.S.Beginning.told i.side i.cells.items i.rows i.room i.len,
+      ap (λ (z : State). length z.threads) v,
+    ) in
+    let k_fits : c.args.k < i.room = omega (arith, lt, fit.threads_few) in
     omega (arith, row_fits i.side i.room c.args.k k_fits, fit.rows_fit, c.row_of.ensures)
 
 pub index-requires : goal.index-requires
 index-requires g c =
-    let i = c.self.inside in let m = c.args.self.now in let v = c.self.view_is in let fit = c.self.invariant in
-    let lt : c.args.k < i.len = omega (arith, c.requires, threads_long g.S.Beginning.told i.side i.cells.items i.rows i.room i.len, ap (λ (z : State). length z.threads) v) in omega (arith, lt, fit.threads_fit, i.cells.ok.0)
+    let i = c.self.inside in let m = c.args.self.now in let v = c.self.view_is in
+    let fit = c.self.invariant in
+    let lt : c.args.k < i.len = omega (
+      arith,
+      c.requires,
+      threads_long g.S.Beginning.told i.side i.cells.items i.rows i.room i.len,
+      ap (λ (z : State). length z.threads) v,
+    ) in
+    omega (arith, lt, fit.threads_fit, i.cells.ok.0)
 
 pub returns-clause-thread : goal.returns-clause-thread
 returns-clause-thread g c =
-    let i = c.self.inside in let m = c.args.self.now in let v = c.self.view_is in let fit = c.self.invariant in
-    let lt : c.args.k < i.len = omega (arith, c.requires, threads_long g.S.Beginning.told i.side i.cells.items i.rows i.room i.len, ap (λ (z : State). length z.threads) v) in
-    let x = c.index.result.now in let short : c.args.k < length i.cells.items = omega (arith, lt, fit.threads_fit) in
+    let i = c.self.inside in let m = c.args.self.now in let v = c.self.view_is in
+    let fit = c.self.invariant in
+    let lt : c.args.k < i.len = omega (
+      arith,
+      c.requires,
+      threads_long g.S.Beginning.told i.side i.cells.items i.rows i.room i.len,
+      ap (λ (z : State). length z.threads) v,
+    ) in
+    let x = c.index.result.now in
+    let short : c.args.k < length i.cells.items = omega (arith, lt, fit.threads_fit) in
     let some : 0 < length i.rows = omega (arith, fit.rows_fit) in
-    let row : nth_row c.copy.new.self 0 ≡ nth_row i.rows (row_on i.side c.args.k) = ap (λ z. nth_row z 0) c.copy.ensures.copied ∙ get_or-set_same i.rows 0 (nth_row i.rows c.row_of.result) [] some ∙ ap (nth_row i.rows) c.row_of.ensures in
+    let row : nth_row c.copy.new.self 0 ≡ nth_row i.rows (row_on i.side c.args.k) =
+    ap (λ z. nth_row z 0) c.copy.ensures.copied
+    ∙ get_or-set_same i.rows 0 (nth_row i.rows c.row_of.result) [] some
+    ∙ ap (nth_row i.rows) c.row_of.ensures in
     let place = told_at (place_on i.side) 0 i.cells.items c.args.k x short c.index.ensures in
-    let start = told_at (start_told g.S.Beginning.told i.side) untold i.cells.items c.args.k x short c.index.ensures in
-    let at = ap (λ ts. thread_at ts c.args.k) (sym (ap (λ (z : State). z.threads) v)) ∙ thread_is g.S.Beginning.told i.side i.cells.items i.rows i.room i.len c.args.k lt in
-    at ∙ thread_told g.S.Beginning.told (slice_index (map (place_on i.side) i.cells.items) c.args.k) (slice_index_or (map (start_told g.S.Beginning.told i.side) i.cells.items) c.args.k untold) (place_on i.side x) (start_on i.side x)
-    (nth_row i.rows (row_on i.side c.args.k)) (nth_row c.copy.new.self 0) c.thread.result place start c.thread.ensures row
+    let start = told_at (start_told g.S.Beginning.told i.side) untold i.cells.items c.args.k x short
+    c.index.ensures in
+    let at = ap (λ ts. thread_at ts c.args.k) (sym (ap (λ (z : State). z.threads) v))
+    ∙ thread_is g.S.Beginning.told i.side i.cells.items i.rows i.room i.len c.args.k lt in
+    at
+    ∙ thread_told g.S.Beginning.told (slice_index (map (place_on i.side) i.cells.items) c.args.k)
+    (slice_index_or (map (start_told g.S.Beginning.told i.side) i.cells.items) c.args.k untold)
+    (place_on i.side x) (start_on i.side x)
+    (nth_row i.rows (row_on i.side c.args.k))
+    (nth_row c.copy.new.self 0) c.thread.result place start c.thread.ensures row
 
 pub returns-clause-same : goal.returns-clause-same
 returns-clause-same g c =
-    let i = c.self.inside in let m = c.args.self.now in let v = c.self.view_is in let fit = c.self.invariant in
+    let i = c.self.inside in let m = c.args.self.now in let v = c.self.view_is in
+    let fit = c.self.invariant in
     let written = nth_row i.rows c.row_of.result in
-    let threads = ap (λ z. threads_on g.S.Beginning.told i.side i.cells.items z i.room i.len) c.copy.ensures.copied ∙ first_row_alone g.S.Beginning.told i.side i.cells.items i.rows i.room i.len written ∙ (ap (λ (z : State). z.threads) v) in
-    let next = ap (λ z. threads_on g.S.Beginning.told (other i.side) i.cells.items z i.room i.next_len) c.copy.ensures.copied ∙ first_row_alone g.S.Beginning.told (other i.side) i.cells.items i.rows i.room i.next_len written ∙ (ap (λ (z : State). z.next) v) in
-    state_is _ _ (ap (λ (z : State). z.rounds) v) (ap (λ (z : State). z.now) v) (ap (λ (z : State). z.frames) v) refl threads next (ap (λ (z : State). z.room) v) (ap (λ (z : State). z.ready) v)
+    let threads = ap (λ z. threads_on g.S.Beginning.told i.side i.cells.items z i.room i.len)
+    c.copy.ensures.copied
+    ∙ first_row_alone g.S.Beginning.told i.side i.cells.items i.rows i.room i.len written
+    ∙ (ap (λ (z : State). z.threads) v) in
+    let next =
+    ap (λ z. threads_on g.S.Beginning.told (other i.side) i.cells.items z i.room i.next_len)
+    c.copy.ensures.copied
+    ∙ first_row_alone g.S.Beginning.told
+    (other i.side) i.cells.items i.rows i.room i.next_len written
+    ∙ (ap (λ (z : State). z.next) v) in
+    state_is _ _ (ap (λ (z : State). z.rounds) v) (ap (λ (z : State). z.now) v)
+    (ap (λ (z : State). z.frames) v) refl threads next (ap (λ (z : State). z.room) v)
+    (ap (λ (z : State). z.ready) v)

@@ -2,23 +2,49 @@ use Rattle.std.proofs.Common.{◌++◌, ◌∷◌, length, replicate, refl, ap, 
 use Rattle.regex_lite_engine.specs.declared.pikevm.cell.Cell.{Cell}
 use Rattle.regex_lite_engine.specs.Walk.Cells.{round_in, frame_of, other}
 use Rattle.regex_lite_engine.specs.Walk.Machine.{State}
-use Rattle.regex_lite_engine.proofs.pikevm.memory.CellLemmas.{not_told, frame_put, frames_long, state_is, with_frame}
+use Rattle.regex_lite_engine.proofs.pikevm.memory.CellLemmas.{not_told, frame_put, frames_long}
+use Rattle.regex_lite_engine.proofs.pikevm.memory.CellLemmas.{state_is, with_frame}
 use Rattle.regex_lite_engine.proofs.pikevm.memory.ListLemmas.{threads_kept}
-use Rattle.regex_lite_engine.proofs.pikevm.memory.ReadyLemmas.{frames_stay, threads_stay, rounds_long}
+use Rattle.regex_lite_engine.proofs.pikevm.memory.ReadyLemmas.{frames_stay, threads_stay}
+use Rattle.regex_lite_engine.proofs.pikevm.memory.ReadyLemmas.{rounds_long}
 use Rattle.regex_lite_engine.proofs.pikevm.memory.Memory.push.Goals as goal
 
 pub provide-requires-clause-number : goal.provide-requires-clause-number
 provide-requires-clause-number g c =
     let i = c.self.inside in let v = c.self.view_is in
-    omega (arith, c.requires.room, frames_long i.cells.items i.depth c.self.invariant.frames_fit, rounds_long i.low i.cells.items, ap (λ (z : State). length z.frames) v, ap (λ (z : State). length z.rounds) v)
+    omega (
+      arith,
+      c.requires.room,
+      frames_long i.cells.items i.depth c.self.invariant.frames_fit,
+      rounds_long i.low i.cells.items,
+      ap (λ (z : State). length z.frames) v,
+      ap (λ (z : State). length z.rounds) v,
+    )
 
 pub returns : goal.returns
 returns g c =
-    let i = c.self.inside in let m = c.args.self.now in let v = c.self.view_is in let fit = c.self.invariant in
-    let made = c.provide.ensures.made in let cells = c.provide.new.cells.items in let low = c.provide.new.low in
-    let x = c.index_mut.result.now in let is = c.index_mut.ensures.value in let y : Cell _ = record x { frame = c.args.frame } in
-    let frames = frame_put cells i.depth y c.provide.ensures.ready ∙ ap (λ fs. frame_of c.args.frame ∷ fs) (frames_stay i.low low i.cells.items cells made i.depth fit.frames_fit ∙ ap (λ (z : State). z.frames) v) in
-    let rounds = ap (λ rs. replicate low 0 ++ rs) (not_told round_in cells i.depth x y is refl) ∙ made.rounds ∙ (ap (λ (z : State). z.rounds) v) in
-    let threads = threads_kept g.S.Beginning.told i.side cells i.rows i.room i.len i.depth x y is (with_frame i.side x c.args.frame) ∙ threads_stay i.low low i.cells.items cells made g.S.Beginning.told i.side i.rows i.room i.len fit.threads_fit ∙ (ap (λ (z : State). z.threads) v) in
-    let next = threads_kept g.S.Beginning.told (other i.side) cells i.rows i.room i.next_len i.depth x y is (with_frame (other i.side) x c.args.frame) ∙ threads_stay i.low low i.cells.items cells made g.S.Beginning.told (other i.side) i.rows i.room i.next_len fit.next_fit ∙ (ap (λ (z : State). z.next) v) in
-    state_is _ _ rounds (ap (λ (z : State). z.now) v) frames (ap (λ (z : State). z.row) v) threads next (ap (λ (z : State). z.room) v) (ap (λ (z : State). z.ready) v)
+    let i = c.self.inside in let m = c.args.self.now in let v = c.self.view_is in
+    let fit = c.self.invariant in
+    let made = c.provide.ensures.made in let cells = c.provide.new.cells.items in
+    let low = c.provide.new.low in
+    let x = c.index_mut.result.now in let is = c.index_mut.ensures.value in
+    let y : Cell _ = record x { frame = c.args.frame } in
+    let frames = frame_put cells i.depth y c.provide.ensures.ready
+    ∙ ap (λ fs. frame_of c.args.frame ∷ fs)
+    (frames_stay i.low low i.cells.items cells made i.depth fit.frames_fit
+    ∙ ap (λ (z : State). z.frames) v) in
+    let rounds = ap (λ rs. replicate low 0 ++ rs) (not_told round_in cells i.depth x y is refl)
+    ∙ made.rounds ∙ (ap (λ (z : State). z.rounds) v) in
+    let threads = threads_kept g.S.Beginning.told i.side cells i.rows i.room i.len i.depth x y is
+    (with_frame i.side x c.args.frame)
+    ∙ threads_stay i.low low i.cells.items cells made g.S.Beginning.told i.side i.rows i.room i.len
+    fit.threads_fit
+    ∙ (ap (λ (z : State). z.threads) v) in
+    let next =
+    threads_kept g.S.Beginning.told (other i.side) cells i.rows i.room i.next_len i.depth x y is
+    (with_frame (other i.side) x c.args.frame)
+    ∙ threads_stay i.low low i.cells.items cells made g.S.Beginning.told
+    (other i.side) i.rows i.room i.next_len fit.next_fit
+    ∙ (ap (λ (z : State). z.next) v) in
+    state_is _ _ rounds (ap (λ (z : State). z.now) v) frames (ap (λ (z : State). z.row) v) threads
+    next (ap (λ (z : State). z.room) v) (ap (λ (z : State). z.ready) v)

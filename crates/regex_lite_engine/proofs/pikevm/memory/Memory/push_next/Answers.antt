@@ -1,29 +1,55 @@
-use Rattle.std.proofs.Common.{◌<◌, ◌+◌, ◌++◌, ◌∷◌, [], length, take, reverse, replicate, set, ap, sym, ◌∙◌, arith, length-set}
+use Rattle.std.proofs.Common.{◌<◌, ◌+◌, ◌++◌, ◌∷◌, [], length, take, reverse}
+use Rattle.std.proofs.Common.{replicate, set, ap, sym, ◌∙◌, arith, length-set}
 use Rattle.regex_lite_engine.specs.Walk.Cells.{nth_row, threads_on, other, row_on}
 use Rattle.regex_lite_engine.specs.Walk.Machine.{State, Row}
 use Rattle.regex_lite_engine.proofs.pikevm.memory.CellLemmas.{back, row_fits, state_is}
-use Rattle.regex_lite_engine.proofs.pikevm.memory.ListLemmas.{threads_long, rounds_stay, frames_stay, row_stays, own_list, other_list}
+use Rattle.regex_lite_engine.proofs.pikevm.memory.ListLemmas.{threads_long, rounds_stay}
+use Rattle.regex_lite_engine.proofs.pikevm.memory.ListLemmas.{frames_stay, row_stays}
+use Rattle.regex_lite_engine.proofs.pikevm.memory.ListLemmas.{own_list, other_list}
 use Rattle.regex_lite_engine.proofs.pikevm.memory.ReadyLemmas as ready
 use Rattle.regex_lite_engine.proofs.pikevm.memory.Memory.push_next.Goals as goal
 
 pub copy-requires-clause-to : goal.copy-requires-clause-to
 copy-requires-clause-to g c =
-    let i = c.self.inside in let m = c.args.self.now in let v = c.self.view_is in let fit = c.self.invariant in
-    let lt : i.next_len < i.room = omega (arith, c.requires.room, threads_long g.S.Beginning.told (other i.side) i.cells.items i.rows i.room i.next_len, ap (λ (z : State). length z.next) v, ap (λ (z : State). z.room) v) in
+    let i = c.self.inside in let m = c.args.self.now in let v = c.self.view_is in
+    let fit = c.self.invariant in
+    let lt : i.next_len < i.room = omega (
+      arith,
+      c.requires.room,
+      threads_long g.S.Beginning.told (other i.side) i.cells.items i.rows i.room i.next_len,
+      ap (λ (z : State). length z.next) v,
+      ap (λ (z : State). z.room) v,
+    ) in
     omega (arith, row_fits c.other-side.result i.room i.next_len lt, fit.rows_fit, c.row_of.ensures)
 
 pub provide-requires-clause-number : goal.provide-requires-clause-number
 provide-requires-clause-number g c =
     let i = c.self.inside in let v = c.self.view_is in
-    omega (arith, c.requires.room, threads_long g.S.Beginning.told (other i.side) i.cells.items i.rows i.room i.next_len, ap (λ (z : State). length z.next) v, ap (λ (z : State). z.room) v, c.self.invariant.room_few)
+    omega (
+      arith,
+      c.requires.room,
+      threads_long g.S.Beginning.told (other i.side) i.cells.items i.rows i.room i.next_len,
+      ap (λ (z : State). length z.next) v,
+      ap (λ (z : State). z.room) v,
+      c.self.invariant.room_few,
+    )
 
 pub invariant_of-self : goal.invariant_of-self
 invariant_of-self g c =
-    let i = c.self.inside in let v = c.self.view_is in let fit = c.self.invariant in let row : Row = nth_row i.rows 0 in
+    let i = c.self.inside in let v = c.self.view_is in let fit = c.self.invariant in
+    let row : Row = nth_row i.rows 0 in
     let cells = c.provide.new.cells.items in let low = c.provide.new.low in
-    let lt : i.next_len < i.room = omega (arith, c.requires.room, threads_long g.S.Beginning.told (other i.side) i.cells.items i.rows i.room i.next_len, ap (λ (z : State). length z.next) v, ap (λ (z : State). z.room) v) in
+    let lt : i.next_len < i.room = omega (
+      arith,
+      c.requires.room,
+      threads_long g.S.Beginning.told (other i.side) i.cells.items i.rows i.room i.next_len,
+      ap (λ (z : State). length z.next) v,
+      ap (λ (z : State). z.room) v,
+    ) in
     let copied = c.copy.ensures.copied ∙ ap (λ k. set i.rows k row) c.row_of.ensures in
-    let still = ready.still_together i.low low i.cells.items cells c.provide.ensures.made i.cells.cap c.provide.new.cells.cap i.ready i.rows i.room i.depth i.len i.next_len c.provide.ensures.capacity fit in
+    let still = ready.still_together i.low low i.cells.items cells c.provide.ensures.made
+    i.cells.cap c.provide.new.cells.cap i.ready i.rows i.room i.depth i.len i.next_len
+    c.provide.ensures.capacity fit in
     let same = length-set cells i.next_len c.put_thread.new.self in
     record {
       all_ready = still.all_ready;
@@ -34,22 +60,62 @@ invariant_of-self g c =
       threads_few = fit.threads_few;
       next_few = omega (arith, lt);
       room_few = omega (arith, same, still.room_few);
-      rows_fit = ap length copied ∙ length-set i.rows (row_on c.other-side.result i.next_len) row ∙ fit.rows_fit;
+      rows_fit =
+          ap length copied ∙ length-set i.rows (row_on c.other-side.result i.next_len) row
+          ∙ fit.rows_fit;
     }
 
 pub returns : goal.returns
 returns g c =
-    let i = c.self.inside in let m = c.args.self.now in let v = c.self.view_is in let fit = c.self.invariant in
-    let made = c.provide.ensures.made in let cells = c.provide.new.cells.items in let low = c.provide.new.low in let side = c.other-side.result in
-    let x = c.index_mut.result.now in let is = c.index_mut.ensures.value in let y = c.put_thread.new.self in let row : Row = nth_row i.rows 0 in
-    let lt : i.next_len < i.room = omega (arith, c.requires.room, threads_long g.S.Beginning.told (other i.side) i.cells.items i.rows i.room i.next_len, ap (λ (z : State). length z.next) v, ap (λ (z : State). z.room) v) in
+    let i = c.self.inside in let m = c.args.self.now in let v = c.self.view_is in
+    let fit = c.self.invariant in
+    let made = c.provide.ensures.made in let cells = c.provide.new.cells.items in
+    let low = c.provide.new.low in let side = c.other-side.result in
+    let x = c.index_mut.result.now in let is = c.index_mut.ensures.value in
+    let y = c.put_thread.new.self in let row : Row = nth_row i.rows 0 in
+    let lt : i.next_len < i.room = omega (
+      arith,
+      c.requires.room,
+      threads_long g.S.Beginning.told (other i.side) i.cells.items i.rows i.room i.next_len,
+      ap (λ (z : State). length z.next) v,
+      ap (λ (z : State). z.room) v,
+    ) in
     let copied = c.copy.ensures.copied ∙ ap (λ k. set i.rows k row) c.row_of.ensures in
-    let rounds = ap (λ rs. replicate low 0 ++ rs) (rounds_stay g.S.Beginning.told side i.side (back i.side ∙ ap other (sym c.other-side.ensures)) cells i.rows c.copy.new.self i.room i.next_len i.len c.args.place c.args.start x y row is c.put_thread.ensures copied lt fit.threads_few c.provide.ensures.ready fit.rows_fit) ∙ made.rounds ∙ ap (λ (z : State). z.rounds) v in
-    let frames = ap (λ fs. reverse (take i.depth fs)) (frames_stay g.S.Beginning.told side i.side (back i.side ∙ ap other (sym c.other-side.ensures)) cells i.rows c.copy.new.self i.room i.next_len i.len c.args.place c.args.start x y row is c.put_thread.ensures copied lt fit.threads_few c.provide.ensures.ready fit.rows_fit) ∙ ready.frames_stay i.low low i.cells.items cells made i.depth fit.frames_fit ∙ ap (λ (z : State). z.frames) v in
-    let before = ready.threads_stay i.low low i.cells.items cells made g.S.Beginning.told (other i.side) i.rows i.room i.next_len fit.next_fit ∙ ap (λ (z : State). z.next) v in
-    let next = ap (λ t. threads_on g.S.Beginning.told t (set cells i.next_len y) c.copy.new.self i.room (i.next_len + 1)) (sym c.other-side.ensures) ∙ own_list g.S.Beginning.told side i.side (back i.side ∙ ap other (sym c.other-side.ensures)) cells i.rows c.copy.new.self i.room i.next_len i.len c.args.place c.args.start x y row is c.put_thread.ensures copied lt fit.threads_few c.provide.ensures.ready fit.rows_fit
-    ∙ ap (λ ts. ts ++ (c.args.place, g.S.Beginning.told c.args.start, row) ∷ []) (ap (λ t. threads_on g.S.Beginning.told t cells i.rows i.room i.next_len) c.other-side.ensures ∙ before)
-    ∙ ap (λ (r : Row). m.next ++ (c.args.place, g.S.Beginning.told c.args.start, r) ∷ []) (ap (λ (z : State). z.row) v) in
-    let threads = other_list g.S.Beginning.told side i.side (back i.side ∙ ap other (sym c.other-side.ensures)) cells i.rows c.copy.new.self i.room i.next_len i.len c.args.place c.args.start x y row is c.put_thread.ensures copied lt fit.threads_few c.provide.ensures.ready fit.rows_fit ∙ ready.threads_stay i.low low i.cells.items cells made g.S.Beginning.told i.side i.rows i.room i.len fit.threads_fit ∙ ap (λ (z : State). z.threads) v in
-    let first = row_stays g.S.Beginning.told side i.side (back i.side ∙ ap other (sym c.other-side.ensures)) cells i.rows c.copy.new.self i.room i.next_len i.len c.args.place c.args.start x y row is c.put_thread.ensures copied lt fit.threads_few c.provide.ensures.ready fit.rows_fit ∙ ap (λ (z : State). z.row) v in
-    state_is _ _ rounds (ap (λ (z : State). z.now) v) frames first threads next (ap (λ (z : State). z.room) v) (ap (λ (z : State). z.ready) v)
+    let rounds = ap (λ rs. replicate low 0 ++ rs)
+    (rounds_stay g.S.Beginning.told side i.side (back i.side ∙ ap other (sym c.other-side.ensures))
+    cells i.rows c.copy.new.self i.room i.next_len i.len c.args.place c.args.start x y row is
+    c.put_thread.ensures copied lt fit.threads_few c.provide.ensures.ready fit.rows_fit)
+    ∙ made.rounds ∙ ap (λ (z : State). z.rounds) v in
+    let frames = ap (λ fs. reverse (take i.depth fs))
+    (frames_stay g.S.Beginning.told side i.side (back i.side ∙ ap other (sym c.other-side.ensures))
+    cells i.rows c.copy.new.self i.room i.next_len i.len c.args.place c.args.start x y row is
+    c.put_thread.ensures copied lt fit.threads_few c.provide.ensures.ready fit.rows_fit)
+    ∙ ready.frames_stay i.low low i.cells.items cells made i.depth fit.frames_fit
+    ∙ ap (λ (z : State). z.frames) v in
+    let before = ready.threads_stay i.low low i.cells.items cells made g.S.Beginning.told
+    (other i.side) i.rows i.room i.next_len fit.next_fit
+    ∙ ap (λ (z : State). z.next) v in
+    let next = ap (λ t. threads_on g.S.Beginning.told t
+    (set cells i.next_len y) c.copy.new.self i.room (i.next_len + 1)) (sym c.other-side.ensures)
+    ∙ own_list g.S.Beginning.told side i.side (back i.side ∙ ap other (sym c.other-side.ensures))
+    cells i.rows c.copy.new.self i.room i.next_len i.len c.args.place c.args.start x y row is
+    c.put_thread.ensures copied lt fit.threads_few c.provide.ensures.ready fit.rows_fit
+    ∙ ap (λ ts. ts ++ (c.args.place, g.S.Beginning.told c.args.start, row) ∷ [])
+    (ap (λ t. threads_on g.S.Beginning.told t cells i.rows i.room i.next_len) c.other-side.ensures
+    ∙ before)
+    ∙ ap (λ (r : Row). m.next ++ (c.args.place, g.S.Beginning.told c.args.start, r) ∷ [])
+    (ap (λ (z : State). z.row) v) in
+    let threads =
+    other_list g.S.Beginning.told side i.side (back i.side ∙ ap other (sym c.other-side.ensures))
+    cells i.rows c.copy.new.self i.room i.next_len i.len c.args.place c.args.start x y row is
+    c.put_thread.ensures copied lt fit.threads_few c.provide.ensures.ready fit.rows_fit
+    ∙ ready.threads_stay i.low low i.cells.items cells made g.S.Beginning.told i.side i.rows i.room
+    i.len fit.threads_fit
+    ∙ ap (λ (z : State). z.threads) v in
+    let first =
+    row_stays g.S.Beginning.told side i.side (back i.side ∙ ap other (sym c.other-side.ensures))
+    cells i.rows c.copy.new.self i.room i.next_len i.len c.args.place c.args.start x y row is
+    c.put_thread.ensures copied lt fit.threads_few c.provide.ensures.ready fit.rows_fit
+    ∙ ap (λ (z : State). z.row) v in
+    state_is _ _ rounds (ap (λ (z : State). z.now) v) frames first threads next
+    (ap (λ (z : State). z.room) v) (ap (λ (z : State). z.ready) v)

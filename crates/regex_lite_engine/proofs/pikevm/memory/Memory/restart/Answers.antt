@@ -5,26 +5,37 @@ use Rattle.regex_lite_engine.specs.Walk.Cells.{rounds_in, HoldTogether}
 use Rattle.regex_lite_engine.specs.Walk.Machine.{State}
 use Rattle.regex_lite_engine.proofs.pikevm.memory.ReadyLemmas.{none_entered, none_left}
 use Rattle.regex_lite_engine.proofs.pikevm.memory.Memory.restart.Goals as goal
-use Rattle.regex_lite_engine.proofs.pikevm.memory.Memory.restart.Goals.{then-self-ge-MOST_ROUNDS, else-self-ge-MOST_ROUNDS}
+use Rattle.regex_lite_engine.proofs.pikevm.memory.Memory.restart.Goals.{
+  then-self-ge-MOST_ROUNDS,
+  else-self-ge-MOST_ROUNDS,
+}
 
 pub invariant_of-self : goal.invariant_of-self
 invariant_of-self g c =
     let i = c.self.inside in
     elim c.if-self-ge-MOST_ROUNDS.branch [
       | then-self-ge-MOST_ROUNDS w ↦
-          subst (λ (z : Inside _). HoldTogether z.cells.items (vec_capacity z.cells) z.low z.ready z.rows z.room 0 0 0) (sym w.self-inside-is)
-          (none_left i.cells.items w.clear_rounds.new.cells.items (vec_capacity i.cells) (vec_capacity w.clear_rounds.new.cells) i.low i.ready i.rows i.room i.depth i.len i.next_len w.clear_rounds.ensures.length w.clear_rounds.ensures.capacity c.self.invariant)
+          subst (λ (z : Inside _). HoldTogether z.cells.items
+          (vec_capacity z.cells) z.low z.ready z.rows z.room 0 0 0) (sym w.self-inside-is)
+          (none_left i.cells.items w.clear_rounds.new.cells.items (vec_capacity i.cells)
+          (vec_capacity w.clear_rounds.new.cells) i.low i.ready i.rows i.room i.depth i.len
+          i.next_len w.clear_rounds.ensures.length w.clear_rounds.ensures.capacity c.self.invariant)
       | else-self-ge-MOST_ROUNDS w ↦
-          subst (λ (z : Inside _). HoldTogether z.cells.items (vec_capacity z.cells) z.low z.ready z.rows z.room 0 0 0) (sym w.self-inside-is)
-          (none_left i.cells.items i.cells.items (vec_capacity i.cells) (vec_capacity i.cells) i.low i.ready i.rows i.room i.depth i.len i.next_len refl refl c.self.invariant)
+          subst (λ (z : Inside _). HoldTogether z.cells.items
+          (vec_capacity z.cells) z.low z.ready z.rows z.room 0 0 0) (sym w.self-inside-is)
+          (none_left i.cells.items i.cells.items (vec_capacity i.cells) (vec_capacity i.cells) i.low
+          i.ready i.rows i.room i.depth i.len i.next_len refl refl c.self.invariant)
     ]
 
 pub returns-clause-old : goal.returns-clause-old
 returns-clause-old g c = λ low q.
     elim c.if-self-ge-MOST_ROUNDS.branch [
       | then-self-ge-MOST_ROUNDS w ↦
-          subst (λ (z : Inside _). slice_index (rounds_in z.low z.cells.items) q ≤ z.round) (sym w.self-inside-is) (none_entered c.self.inside.low w.clear_rounds.new.cells.items w.clear_rounds.ensures.rounds q)
+          subst (λ (z : Inside _). slice_index (rounds_in z.low z.cells.items) q ≤ z.round)
+          (sym w.self-inside-is) (none_entered c.self.inside.low w.clear_rounds.new.cells.items
+          w.clear_rounds.ensures.rounds q)
       | else-self-ge-MOST_ROUNDS w ↦
-          subst (λ (z : Inside _). slice_index (rounds_in z.low z.cells.items) q ≤ z.round) (sym w.self-inside-is)
+          subst (λ (z : Inside _). slice_index (rounds_in z.low z.cells.items) q ≤ z.round)
+          (sym w.self-inside-is)
           (subst (λ (z : State). slice_index z.rounds q ≤ z.now) (sym c.self.view_is) (low q))
     ]

@@ -11,4 +11,5 @@ returns-clause-few g c =
 pub returns-clause-same : goal.returns-clause-same
 returns-clause-same g c =
     let i = c.self.inside in
-    sym (threads_long g.S.Beginning.told i.side i.cells.items i.rows i.room i.len) ∙ ap (λ (z : State). length z.threads) c.self.view_is
+    sym (threads_long g.S.Beginning.told i.side i.cells.items i.rows i.room i.len)
+    ∙ ap (λ (z : State). length z.threads) c.self.view_is

@@ -13,4 +13,5 @@ returns c = λ p is.
     let entry = slice_index one.list.now.entries one.number in
     let haystack = chars c.args.haystack.now in
     passes_as (IsDeadAt table haystack entry) (AreDeadAt table haystack (entry ∷ [])) haystack p
-    c.pass_over_one.result (λ i dead. one_dead table haystack entry i dead) (c.pass_over_one.ensures p is)
+    c.pass_over_one.result (λ i dead. one_dead table haystack entry i dead)
+    (c.pass_over_one.ensures p is)

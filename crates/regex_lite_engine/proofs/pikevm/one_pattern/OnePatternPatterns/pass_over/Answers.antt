@@ -15,6 +15,8 @@ returns c = λ p is.
     passes_as (NeverBegins graph.heads haystack)
     (AreDeadAt (table_of graph) haystack (graph.start ∷ [])) haystack p
     c.pass_over.result
-    (λ i never. one_dead (table_of graph) haystack graph.start i (c.heads.ensures.all haystack i (subst (λ h. NeverBegins h haystack i) (sym c.heads.ensures.same) never)))
-    (subst (λ h. PassesTo (NeverBegins h haystack) haystack p c.pass_over.result) c.heads.ensures.same
+    (λ i never. one_dead (table_of graph) haystack graph.start i (c.heads.ensures.all haystack i
+    (subst (λ h. NeverBegins h haystack i) (sym c.heads.ensures.same) never)))
+    (subst (λ h. PassesTo (NeverBegins h haystack) haystack p c.pass_over.result)
+    c.heads.ensures.same
     (c.pass_over.ensures.passes p is))

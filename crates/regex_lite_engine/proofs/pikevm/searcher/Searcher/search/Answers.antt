@@ -1,4 +1,5 @@
-use Rattle.std.proofs.Common.{rules, ℕ, List, [], None, Some, length, ◌<◌, ◌^◌, refl, sym, subst, ◌∙◌, arith}
+use Rattle.std.proofs.Common.{rules, ℕ, List, [], None, Some, length}
+use Rattle.std.proofs.Common.{◌<◌, ◌^◌, refl, sym, subst, ◌∙◌, arith}
 use Rattle.std.specs.Prelude.{chars}
 use Rattle.std.proofs.lemmas.List.{nil_from_length}
 use Rattle.regex_lite_syntax.specs.Text.{Text}

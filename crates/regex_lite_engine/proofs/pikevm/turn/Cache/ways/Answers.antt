@@ -9,7 +9,8 @@ returns-then-is_none g c = λ at.
     let m = a.self.now.walk.memory in
     let blank = replicate (length m.row) None in
     let none : best_of a.self.now.best ≡ None = c.is_none.ensures.0 c.if-is_none.true in
-    let ways = ap (λ b. length (with_starts (g.P.Patterns.starts a.patterns.now) at b (length m.row) m.threads)) none in
+    let ways = ap (λ b.
+    length (with_starts (g.P.Patterns.starts a.patterns.now) at b (length m.row) m.threads)) none in
     omega (
       arith,
       ways,

@@ -1,4 +1,5 @@
-use Rattle.std.proofs.Common.{◌≡◌, ◌-◌, ◌≤◌, None, Some, length, replicate, slice_get, sym, ap, ◌∙◌, arith}
+use Rattle.std.proofs.Common.{◌≡◌, ◌-◌, ◌≤◌, None, Some, length}
+use Rattle.std.proofs.Common.{replicate, slice_get, sym, ap, ◌∙◌, arith}
 use Rattle.regex_lite_engine.specs.Walk.Machine.{State}
 use Rattle.regex_lite_engine.specs.Walk.Turns.{begun}
 use Rattle.regex_lite_engine.proofs.pikevm.ThreadLemmas.{at_back, begun_at}

@@ -15,8 +15,10 @@ returns-then-last-chars-clause-refused c =
     let xs = c.args.chars.now in
     let past = drop (c.skip_gap-dash.result + 1) xs in
     let dashed = (c.if-not-is_at.ensures.there refl).1 in
-    past_dash past (subst (λ u. WholeGap c.args.verbose (drop c.args.at xs) u) dashed c.skip_gap-dash.ensures.gap)
-    (subst (λ u. WholeGap c.args.verbose past u) (left_at_end xs _ c.if-last-chars.true) c.skip_gap-last.ensures.gap)
+    past_dash past
+    (subst (λ u. WholeGap c.args.verbose (drop c.args.at xs) u) dashed c.skip_gap-dash.ensures.gap)
+    (subst (λ u. WholeGap c.args.verbose past u)
+    (left_at_end xs _ c.if-last-chars.true) c.skip_gap-last.ensures.gap)
 
 pub returns-in-93-clause-ok : goal.returns-in-93-clause-ok
 returns-in-93-clause-ok c last follows =
@@ -24,7 +26,8 @@ returns-in-93-clause-ok c last follows =
     let dashed = (c.if-not-is_at.ensures.there refl).1 in
     let here = drop_char xs c.skip_gap-last.result c.index-chars-last.result
     (omega (arith, c.if-last-chars.false, c.skip_gap-last.ensures.inside)) c.index-chars-last.is in
-    no_end _ _ _ _ last (subst (λ u. WholeGap c.args.verbose (drop c.args.at xs) u) dashed c.skip_gap-dash.ensures.gap)
+    no_end _ _ _ _ last
+    (subst (λ u. WholeGap c.args.verbose (drop c.args.at xs) u) dashed c.skip_gap-dash.ensures.gap)
     c.skip_gap-last.ensures.gap
     (λ d rest e. elim c.in-93.is [
       | inl dash ↦ inr (same_head (sym e ∙ here) ∙ dash)

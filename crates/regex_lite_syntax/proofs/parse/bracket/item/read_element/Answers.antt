@@ -8,14 +8,16 @@ use Rattle.regex_lite_syntax.proofs.parse.bracket.item.read_element.Goals as goa
 
 pub returns-then-c-ne92-clause-ok : goal.returns-then-c-ne92-clause-ok
 returns-then-c-ne92-clause-ok c =
-    let here = drop_char c.args.chars.now c.args.at c.index-chars-at.result c.requires.inside c.index-chars-at.is in
+    let here = drop_char c.args.chars.now c.args.at c.index-chars-at.result c.requires.inside
+    c.index-chars-at.is in
     part_literal _ _ _ _ here c.if-c-ne92.true c.requires.past_gap
 
 pub returns-clause-ok : goal.returns-clause-ok
 returns-clause-ok c =
     let xs = c.args.chars.now in
     let rest = drop (c.args.at + 1) xs in
-    let here = drop_char xs c.args.at c.index-chars-at.result c.requires.inside c.index-chars-at.is in
+    let here =
+    drop_char xs c.args.at c.index-chars-at.result c.requires.inside c.index-chars-at.is in
     let backslash = here ∙ ap (λ d. d ∷ rest) c.if-c-ne92.false in
     IfOk-weaker _ _ _ (λ r x. escaped rest backslash x) c.read_escape.ensures.ok
 
@@ -23,6 +25,8 @@ pub returns-clause-refused : goal.returns-clause-refused
 returns-clause-refused c =
     let xs = c.args.chars.now in
     let rest = drop (c.args.at + 1) xs in
-    let here = drop_char xs c.args.at c.index-chars-at.result c.requires.inside c.index-chars-at.is in
+    let here =
+    drop_char xs c.args.at c.index-chars-at.result c.requires.inside c.index-chars-at.is in
     let backslash = here ∙ ap (λ d. d ∷ rest) c.if-c-ne92.false in
-    none_of_part _ (λ (r, p, part). (r, p, escape_of_part _ _ rest r p backslash part)) c.read_escape.ensures.refused
+    none_of_part _ (λ (r, p, part). (r, p, escape_of_part _ _ rest r p backslash part))
+    c.read_escape.ensures.refused

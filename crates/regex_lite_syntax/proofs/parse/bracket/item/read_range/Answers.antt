@@ -16,7 +16,8 @@ returns-then-start-end-clause-refused c =
     let verbose = c.args.verbose in
     let xs = c.args.chars.now in
     let t = drop c.args.last xs in
-    let part = subst (λ e. ClassElement verbose t (drop c.in_ok-past.past xs) (primitive_of e)) c.in-Char-element.is c.in_ok-past.ensures.ok in
+    let part = subst (λ e. ClassElement verbose t (drop c.in_ok-past.past xs) (primitive_of e))
+    c.in-Char-element.is c.in_ok-past.ensures.ok in
     λ found.
     let starts = one_same _ _ (sym (ap primitive_of c.in-Char.is) ∙ found.2.starts) in
     let ends = one_same _ _ (part_once verbose t _ found.0 _ _ part found.2.ends).1 in
@@ -27,7 +28,8 @@ returns-clause-ok c =
     let verbose = c.args.verbose in
     let xs = c.args.chars.now in
     let t = drop c.args.last xs in
-    let part = subst (λ e. ClassElement verbose t (drop c.in_ok-past.past xs) (primitive_of e)) c.in-Char-element.is c.in_ok-past.ensures.ok in
+    let part = subst (λ e. ClassElement verbose t (drop c.in_ok-past.past xs) (primitive_of e))
+    c.in-Char-element.is c.in_ok-past.ensures.ok in
     record {
       start = c.in-Char.start;
       end = c.in-Char-element.end;

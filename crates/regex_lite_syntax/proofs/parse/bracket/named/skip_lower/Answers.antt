@@ -11,13 +11,17 @@ loop-end-preserved c =
     let xs = c.args.chars.now in
     let end = c.loop-end.end in
     let below : end < length xs = c.loop-end-test.true in
-    let letter : IsTrue (is_lower c.index-chars-end.result) = sym c.if-is_ascii_lowercase.ensures.value in
+    let letter : IsTrue (is_lower c.index-chars-end.result) =
+    sym c.if-is_ascii_lowercase.ensures.value in
     let here = drop_char xs end c.index-chars-end.result below c.index-chars-end.is in
-    let longer = take_push xs c.args.at end c.index-chars-end.result c.loop-end.invariant.inside.0 below
+    let longer =
+    take_push xs c.args.at end c.index-chars-end.result c.loop-end.invariant.inside.0 below
     (get_or_read xs _ _ below c.index-chars-end.is 0) in
     record {
       inside = (omega arith, omega arith);
-      letters = subst (λ w. AllPass is_lower w) (sym longer) (pass_push is_lower _ _ c.loop-end.invariant.letters letter);
+      letters =
+          subst (λ w. AllPass is_lower w) (sym longer)
+          (pass_push is_lower _ _ c.loop-end.invariant.letters letter);
       spelled = subst (λ w. drop c.args.at xs ≡ w ++ drop (end + 1) xs) (sym longer)
           (spelled_push _ _ _ _ _ c.loop-end.invariant.spelled here);
     }

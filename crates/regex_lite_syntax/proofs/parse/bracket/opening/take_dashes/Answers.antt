@@ -1,5 +1,6 @@
 use Rattle.std.proofs.Common.{refl, ◌+◌, arith}
-use Rattle.regex_lite_syntax.proofs.parse.bracket.ClassOpeningLemmas.{dashes_push, dashes_stop, some_dashes}
+use Rattle.regex_lite_syntax.proofs.parse.bracket.ClassOpeningLemmas.{dashes_push, dashes_stop}
+use Rattle.regex_lite_syntax.proofs.parse.bracket.ClassOpeningLemmas.{some_dashes}
 use Rattle.regex_lite_syntax.proofs.parse.bracket.opening.take_dashes.Goals as goal
 
 pub loop-found-preserved : goal.loop-found-preserved
@@ -16,5 +17,8 @@ loop-found-preserved c =
 
 pub returns-clause-takes : goal.returns-clause-takes
 returns-clause-takes c =
-    let n = c.loop-found.invariant.dashes in
-    (n, dashes_stop _ n _ _ c.loop-found.invariant.goes (c.loop-found-test.ensures.absent refl), c.loop-found.invariant.some)
+    let n = c.loop-found.invariant.dashes in (
+      n,
+      dashes_stop _ n _ _ c.loop-found.invariant.goes (c.loop-found-test.ensures.absent refl),
+      c.loop-found.invariant.some,
+    )

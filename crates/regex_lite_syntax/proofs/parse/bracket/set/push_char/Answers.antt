@@ -7,5 +7,6 @@ use Rattle.regex_lite_syntax.proofs.parse.bracket.set.push_char.Goals as goal
 pub returns : goal.returns
 returns c d =
     let character : IsTrue (is_character c.args.c) = search rules in
-    in_more c.args.ranges.now.items _ (record { start = c.args.c; end = c.args.c }) (just c.args.c) d c.in_ok-push.ensures.items
+    in_more c.args.ranges.now.items _ (record { start = c.args.c; end = c.args.c })
+    (just c.args.c) d c.in_ok-push.ensures.items
     (span_one c.args.c d character)

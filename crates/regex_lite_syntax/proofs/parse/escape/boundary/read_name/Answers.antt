@@ -1,9 +1,11 @@
-use Rattle.std.proofs.Common.{◌⊎◌, inl, inr, ◌≡◌, refl, subst, Bool, true, false, cond, [], ◌∷◌, IsTrue, Option, Some, codes}
+use Rattle.std.proofs.Common.{◌⊎◌, inl, inr, ◌≡◌, refl, subst, Bool, true}
+use Rattle.std.proofs.Common.{false, cond, [], ◌∷◌, IsTrue, Option, Some, codes}
 use Rattle.std.proofs.lemmas.Bool.{and_parts, eqb-true}
 use Rattle.regex_lite_syntax.specs.declared.hir.look.Look.{Look}
 use Rattle.regex_lite_syntax.specs.Text.{Text, is_text, the}
 use Rattle.regex_lite_syntax.specs.Grammar.Gaps.{Gap, Spaced}
-use Rattle.regex_lite_syntax.specs.Grammar.Escapes.{is_boundary_character, boundary_named, BoundaryName}
+use Rattle.regex_lite_syntax.specs.Grammar.Escapes.{is_boundary_character}
+use Rattle.regex_lite_syntax.specs.Grammar.Escapes.{boundary_named, BoundaryName}
 use Rattle.regex_lite_syntax.proofs.parse.escape.boundary.read_name.Goals as goal
 
 same_text : (t u : Text) → IsTrue (is_text t u) → t ≡ u
@@ -22,7 +24,8 @@ first_or_later true look found later e = inl refl
 first_or_later false look found later e = inr e
 
 -- no name but these four
-one_of_four : (name : Text) (look : Look) → boundary_named name ≡ Some look → (name ≡ codes "start" → ⊥)
+one_of_four : (name : Text) (look : Look) → boundary_named name ≡ Some look
+    → (name ≡ codes "start" → ⊥)
     → (name ≡ codes "end" → ⊥) → (name ≡ codes "start-half" → ⊥) → (name ≡ codes "end-half" → ⊥) → ⊥
 one_of_four name look e a b c d =
     elim (first_or_later (is_text name (codes "start")) _ look _ e) [
@@ -42,23 +45,33 @@ one_of_four name look e a b c d =
 -- the name does not stand there
 abbrev Absent : (verbose : Bool) → (name t : Text) → Type 0
 Absent verbose name t =
-    (last rest : Text) → Spaced verbose is_boundary_character name t last → Gap verbose last (the "}" ∷ rest) → ⊥
+    (last rest : Text) → Spaced verbose is_boundary_character name t last
+    → Gap verbose last (the "}" ∷ rest) → ⊥
 
 no_name : (verbose : Bool) (t rest : Text) (look : Look) → Absent verbose (codes "start") t
-    → Absent verbose (codes "end") t → Absent verbose (codes "start-half") t → Absent verbose (codes "end-half") t
+    → Absent verbose (codes "end") t → Absent verbose (codes "start-half") t
+    → Absent verbose (codes "end-half") t
     → BoundaryName verbose t rest look → ⊥
 no_name verbose t rest look a b c d n =
-    one_of_four n.name look n.named (λ e. is_absent _ e a) (λ e. is_absent _ e b) (λ e. is_absent _ e c)
+    one_of_four n.name look n.named (λ e. is_absent _ e a) (λ e. is_absent _ e b)
+    (λ e. is_absent _ e c)
     (λ e. is_absent _ e d)
   where
     is_absent : (name : Text) → n.name ≡ name → Absent verbose name t → ⊥
     is_absent name e absent =
-        absent n.last rest (subst (λ ls. Spaced verbose is_boundary_character ls t n.last) e n.written) n.closes
+        absent n.last rest
+        (subst (λ ls. Spaced verbose is_boundary_character ls t n.last) e n.written) n.closes
 
 pub returns-in-Some-clause-ok : goal.returns-in-Some-clause-ok
 returns-in-Some-clause-ok c =
     let there = c.in-Some.ensures.there in
-    record { name = codes "start"; last = there.0; written = there.1; closes = there.2; named = refl }
+    record {
+      name = codes "start";
+      last = there.0;
+      written = there.1;
+      closes = there.2;
+      named = refl;
+    }
 
 pub returns-in-Some-skip_name-clause-ok : goal.returns-in-Some-skip_name-clause-ok
 returns-in-Some-skip_name-clause-ok c =
@@ -68,14 +81,27 @@ returns-in-Some-skip_name-clause-ok c =
 pub returns-in-Some-skip_name-2-clause-ok : goal.returns-in-Some-skip_name-2-clause-ok
 returns-in-Some-skip_name-2-clause-ok c =
     let there = c.in-Some-skip_name-2.ensures.there in
-    record { name = codes "start-half"; last = there.0; written = there.1; closes = there.2; named = refl }
+    record {
+      name = codes "start-half";
+      last = there.0;
+      written = there.1;
+      closes = there.2;
+      named = refl;
+    }
 
 pub returns-in-Some-skip_name-3-clause-ok : goal.returns-in-Some-skip_name-3-clause-ok
 returns-in-Some-skip_name-3-clause-ok c =
     let there = c.in-Some-skip_name-3.ensures.there in
-    record { name = codes "end-half"; last = there.0; written = there.1; closes = there.2; named = refl }
+    record {
+      name = codes "end-half";
+      last = there.0;
+      written = there.1;
+      closes = there.2;
+      named = refl;
+    }
 
 pub returns-clause-refused : goal.returns-clause-refused
 returns-clause-refused c =
-    λ (rest, look, n). no_name _ _ rest look c.in_default.ensures.absent c.in_default-skip_name.ensures.absent
+    λ (rest, look, n).
+    no_name _ _ rest look c.in_default.ensures.absent c.in_default-skip_name.ensures.absent
     c.in_default-skip_name-2.ensures.absent c.in_default-skip_name-3.ensures.absent n

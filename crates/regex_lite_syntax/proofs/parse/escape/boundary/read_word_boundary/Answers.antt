@@ -8,7 +8,8 @@ use Rattle.regex_lite_syntax.proofs.parse.escape.boundary.read_word_boundary.Goa
 pub returns-in-None-clause-refused : goal.returns-in-None-clause-refused
 returns-in-None-clause-refused c =
     let opens = c.if-not-is_at.ensures.there refl in
-    λ (rest, look, b). no_boundary _ _ _ _ rest look opens.1 c.skip_gap-first.ensures.gap c.in-None.ensures b
+    λ (rest, look, b).
+    no_boundary _ _ _ _ rest look opens.1 c.skip_gap-first.ensures.gap c.in-None.ensures b
 
 pub returns-in-Some-clause-ok : goal.returns-in-Some-clause-ok
 returns-in-Some-clause-ok c =

@@ -11,8 +11,10 @@ invariant-loop-letter l = record {
   letters : IsTrue (list_all is_boundary_character (drop l.letter-index l.letter-items));
   -- the letters that are left stand here where the name stands at the start
   goes : (last : Text)
-      → Spaced l.verbose is_boundary_character (drop l.letter-index l.letter-items) (drop l.end l.chars) last
+      → Spaced l.verbose is_boundary_character (drop l.letter-index l.letter-items)
+      (drop l.end l.chars) last
       → Spaced l.verbose is_boundary_character l.name (drop l.at l.chars) last;
   back : (last : Text) → Spaced l.verbose is_boundary_character l.name (drop l.at l.chars) last
-      → Spaced l.verbose is_boundary_character (drop l.letter-index l.letter-items) (drop l.end l.chars) last;
+      → Spaced l.verbose is_boundary_character (drop l.letter-index l.letter-items)
+      (drop l.end l.chars) last;
 }

@@ -1,7 +1,9 @@
 use Rattle.std.proofs.Common.{sym, subst, arith}
 use Rattle.regex_lite_syntax.specs.Characters.{is_hex_digit}
 use Rattle.regex_lite_syntax.specs.Parser.ClassReadings.{Lacks}
-use Rattle.regex_lite_syntax.proofs.parse.escape.DigitLemmas.{digit_at, fixed_after, fixed_before, fixed_scalar, fixed_stuck, fixed_too_large, no_character}
+use Rattle.regex_lite_syntax.proofs.parse.escape.DigitLemmas.{digit_at, fixed_after, fixed_before}
+use Rattle.regex_lite_syntax.proofs.parse.escape.DigitLemmas.{fixed_scalar, fixed_stuck}
+use Rattle.regex_lite_syntax.proofs.parse.escape.DigitLemmas.{fixed_too_large, no_character}
 use Rattle.regex_lite_syntax.proofs.parse.escape.hexadecimal.read_fixed.Goals as goal
 
 pub returns-in_default-clause-refused : goal.returns-in_default-clause-refused
@@ -19,7 +21,8 @@ returns-in_default-hex_value-clause-refused c =
 pub returns-then-number-gt-LAST-clause-refused : goal.returns-then-number-gt-LAST-clause-refused
 returns-then-number-gt-LAST-clause-refused c =
     let at = digit_at c.skip_gap-next.ensures.gap c.in-Some.ensures.1 c.in-Some-hex_value.ensures in
-    λ (rest, d, f). fixed_too_large (fixed_after at c.loop-test.true (c.loop.invariant.back rest d f))
+    λ (rest, d, f).
+    fixed_too_large (fixed_after at c.loop-test.true (c.loop.invariant.back rest d f))
     (omega arith)
 
 pub loop-preserved : goal.loop-preserved

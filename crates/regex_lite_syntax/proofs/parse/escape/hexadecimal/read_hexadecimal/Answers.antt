@@ -19,7 +19,8 @@ pub returns-in-Some-eq123-clause-ok : goal.returns-in-Some-eq123-clause-ok
 returns-in-Some-eq123-clause-ok c =
     let brace = c.in-Some-eq123 in
     IfOk-weaker _ _ _
-    (λ r b. from_braces _ _ _ _ _ _ _ _ c.skip_gap-first.ensures.gap brace.ensures.1 brace.field-0-test b)
+    (λ r b.
+    from_braces _ _ _ _ _ _ _ _ c.skip_gap-first.ensures.gap brace.ensures.1 brace.field-0-test b)
     c.read_braced.ensures.ok
 
 pub returns-in-Some-eq123-clause-refused : goal.returns-in-Some-eq123-clause-refused
@@ -41,6 +42,7 @@ returns-in-Some-clause-refused c =
       rest,
       d,
       without_braces _ _ _ _ rest d c.skip_gap-first.ensures.gap
-          (λ begins. c.in-Some.field-0-test.1 (subst (λ u. Begins (the "{") u) c.in-Some.ensures.1 begins)) h,
+          (λ begins.
+          c.in-Some.field-0-test.1 (subst (λ u. Begins (the "{") u) c.in-Some.ensures.1 begins)) h,
     ))
     c.read_fixed.ensures.refused

@@ -1,4 +1,5 @@
-use Rattle.std.proofs.Common.{◌==◌, ◌||◌, ◌&&◌, ◌≡◌, ◌*◌, ◌+◌, ◌/◌, ◌%◌, ◌^◌, ◌<◌, bit_or, length, slice_index, slice_set, sym, subst, ◌∙◌, arith}
+use Rattle.std.proofs.Common.{◌==◌, ◌||◌, ◌&&◌, ◌≡◌, ◌*◌, ◌+◌, ◌/◌, ◌%◌, ◌^◌, ◌<◌, bit_or}
+use Rattle.std.proofs.Common.{length, slice_index, slice_set, sym, subst, ◌∙◌, arith}
 use Rattle.std.proofs.lemmas.List.{get_or_default}
 use Rattle.std.proofs.lemmas.Nat.{mul-add-lt}
 use Rattle.regex_lite_syntax.specs.AsciiMaps.{bit_of_words}

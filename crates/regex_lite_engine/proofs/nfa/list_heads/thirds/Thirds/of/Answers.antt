@@ -1,4 +1,5 @@
-use Rattle.std.proofs.Common.{◌≡◌, [], ◌∷◌, ◌∙◌, ap, sym, subst, arith, map, length, length-append, slice_get, List, Some, ℕ}
+use Rattle.std.proofs.Common.{◌≡◌, [], ◌∷◌, ◌∙◌, ap, sym, subst, arith, map}
+use Rattle.std.proofs.Common.{length, length-append, slice_get, List, Some, ℕ}
 use Rattle.regex_lite_syntax.specs.Tree.Views.{tree_of}
 use Rattle.regex_lite_engine.specs.Nfa.Thirds.{AreMasksOf}
 use Rattle.regex_lite_engine.proofs.nfa.count.TotalLemmas.{tree_there}
