@@ -1,4 +1,4 @@
--- A struct with one pointer, by value and behind a `&`.
+-- A struct with one pointer, by value and by reference.
 use mathlib.Core.Path.{◌≡◌, refl, subst}
 use Prim.Native.Nat.{ℕ}
 use mathlib.Core.List.{List, [], ◌∷◌, ◌++◌}

@@ -1,4 +1,4 @@
--- The groups of a match have the static number that their regex tells, which is what a call of
+-- The groups of a match have the static number of their regex, which is what a call of
 -- `extract` asks for.
 use Rattle.std.proofs.Common.{◌≡◌, ◌∙◌, sym, ap, ℕ, List, Option, Some, None, chars}
 use Rattle.regex_lite_syntax.specs.Tree.Properties.{static_captures_len}

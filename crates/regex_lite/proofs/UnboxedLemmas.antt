@@ -7,7 +7,7 @@ use lib.Dec.{T}
 use seplogic.Ra.Ura.{Ura}
 use base.Logic.{never, fst∗}
 use base.Fml.{Fml}
-use mir.Syntax.{impl, tnil, dnil}
+use mir.Syntax.{Local, impl, tnil, dnil}
 use mir.Val.{Val, vptr, vstruct, vcons, vnil, of_list, has_ty, WT}
 use mir.Raw.{raw as bare}
 use types.Logic.{Logic, sem}
@@ -28,6 +28,11 @@ use Rattle.std.proofs.alloc.Calls.{Al, handle_tells}
 use Rattle.std.proofs.cell.Inside.{Good}
 use Rattle.std.proofs.ResultValues.{and_tt}
 use Rattle.regex_lite.specs.contracts.owner.unboxed.Unboxed as unboxed
+
+-- a function's locals after its result
+abbrev pub others : List Local → List Local
+others [] = []
+others (l ∷ ls) = ls
 
 -- the machine's value: the pointer beside the allocator
 abbrev pub both : (ptr alloc : Val) → Val

@@ -12,6 +12,7 @@ pub mod GroupNameLemmas
 pub mod KeptLemmas
 pub mod ListBuildLemmas
 pub mod LawfulLemmas
+pub mod ListKeptLemmas
 pub mod ListLemmas
 pub mod ListScanLemmas
 pub mod ListToldLemmas

@@ -106,7 +106,7 @@ abbrev pub IsOnward : (ended : Option ℕ) → ℕ × ℕ → Type 0
 IsOnward None span = Unit {0}
 IsOnward (Some e) span = (e ≤ span.0) × (e < span.1)
 
--- at most so many are ahead, of a haystack of so many bytes, where the last ended at this offset
+-- at most this many are ahead, of a haystack of this length in bytes, where the last ended there
 abbrev pub most_left : (limit : Option ℕ) → (bytes : ℕ) → (ended : Option ℕ) → ℕ
 most_left (Some zero) bytes ended = 0
 most_left limit bytes None = bytes + 2
@@ -165,6 +165,28 @@ module _ {F S A N : Type 0} (sought : F → S) (slots : F → List (Option ℕ))
       (EndsAhead found_of IsAnswerTo (ahead_by sought old) (ahead_by sought new))
       (λ told. Came old told new)
 
+-- the groups of the next match came with the number of its pattern; or there was one and a growth
+-- was refused, or there was none, and none comes from then on
+module _ {F S A N : Type 0} (sought : F → S) (found_of : A → Found) (number_of : A → N)
+    (IsAnswerTo : S → Text → (s : ℕ) → Option A → Type 0)
+    (AreFound : S → (haystack : List ℕ) → A → Groups → Type 0) where
+  abbrev pub GroupsCame : (old : Scanning F) → N × Groups → (new : Scanning F) → Type 0
+  GroupsCame old told new =
+      (answer : A) × (told.0 ≡ number_of answer)
+      × AreFound (sought old.finder) old.haystack answer told.1
+      × IsOnward old.ended (whole_span told.1) × (new.ended ≡ Some (whole_span told.1).1)
+      × PassesAnswer found_of IsAnswerTo (ahead_by sought old) answer (ahead_by sought new)
+
+  abbrev pub GivesNextGroups : (old : Scanning F) → Option (Result (N × Groups) Error)
+      → (new : Scanning F) → Type 0
+  GivesNextGroups old item new =
+      MatchOption item
+      (EndsAhead found_of IsAnswerTo (ahead_by sought old) (ahead_by sought new))
+      (λ answer. MatchResult answer (λ told. GroupsCame old told new)
+      (λ error. (error ≡ out_of_memory)
+      × (NoneIsAhead found_of IsAnswerTo (ahead_by sought old) → ⊥)
+      × (ahead_by sought new ≡ at_end (ahead_by sought old))))
+
 -- the groups are those of what was found
 abbrev pub AreGroupsFound : Expression → (haystack : List ℕ) → Found → Groups → Type 0
 AreGroupsFound re haystack found groups =
@@ -172,16 +194,14 @@ AreGroupsFound re haystack found groups =
 
 -- the groups of the next match came; or there was one and a growth was refused, or there was none,
 -- and none comes from then on
-abbrev pub GivesGroupsOf : Scanning RegexSearching → Option (Result Groups Error)
-    → Scanning RegexSearching → Type 0
-GivesGroupsOf old item new =
-    MatchOption item (Ends (ahead old) (ahead new))
-    (λ answer. MatchResult answer
-    (λ groups. (found : Found) × AreGroupsFound old.finder.regex old.haystack found groups
-    × IsOnward old.ended (whole_span groups) × (new.ended ≡ Some (whole_span groups).1)
-    × Passes (ahead old) found (ahead new))
-    (λ error. (error ≡ out_of_memory) × (IsOver (ahead old) → ⊥)
-    × (ahead new ≡ at_end (ahead old))))
-
 abbrev pub GivesGroups : CaptureMatches → Option (Result Groups Error) → CaptureMatches → Type 0
-GivesGroups old item new = GivesGroupsOf old.scan item new.scan
+GivesGroups old item new =
+    MatchOption item (Ends (groups_ahead_of old) (groups_ahead_of new))
+    (λ answer. MatchResult answer
+    (λ groups. (found : Found)
+    × AreGroupsFound old.scan.finder.regex old.scan.haystack found groups
+    × IsOnward old.scan.ended (whole_span groups)
+    × (new.scan.ended ≡ Some (whole_span groups).1)
+    × Passes (groups_ahead_of old) found (groups_ahead_of new))
+    (λ error. (error ≡ out_of_memory) × (IsOver (groups_ahead_of old) → ⊥)
+    × (groups_ahead_of new ≡ at_end (groups_ahead_of old))))

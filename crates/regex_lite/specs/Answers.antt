@@ -1,5 +1,5 @@
--- What the answers of searches of a haystack are, and what is told of them, whatever is searched
--- for.
+-- What the answers of searches of a haystack are, and what is returned of them, whatever is
+-- searched for.
 use Rattle.std.specs.Prelude.{◌≡◌, ◌≤◌, ℕ, true, List, Option, Some, None, IfSome, length}
 use Rattle.regex_lite_syntax.specs.Text.{Text}
 use Rattle.regex_lite_engine.specs.Search.Answer.{Found}
@@ -24,7 +24,7 @@ pub record AreLawful {A : Type 0} (found_of : A → Found) (haystack : Text)
       → Answers s (Some answer) → Answers p (Some answer)
   pub one : (s : ℕ) (a b : Option A) → Answers s a → Answers s b → a ≡ b
 
--- what is told of the answer from position s on: nothing where nothing is found, and else what this
+-- what is returned of the answer from position s on: nothing where nothing is found, and else what
 -- says of the answer
 abbrev pub TellsOfAnswer : {A T : Type 0} → (Answers : (s : ℕ) → Option A → Type 0)
     → (says : A → T → Type 0) → (s : ℕ) → Option T → Type 0
@@ -39,7 +39,7 @@ IsEmptyAnswerFrom {A} found_of Answers haystack at =
     (answer : A) × Answers (position_at haystack at) (Some answer)
     × (is_empty_answer found_of (position_at haystack at) (Some answer) ≡ true)
 
--- where the match that is told is empty, the answer from there is empty there
+-- where the match that is returned is empty, the answer from there is empty there
 abbrev pub IsAnswerWhereEmpty : {A N : Type 0} → (found_of : A → Found)
     → (Answers : (s : ℕ) → Option A → Type 0) → (haystack : List ℕ) → Option (N × Match) → Type 0
 IsAnswerWhereEmpty found_of Answers haystack told =

@@ -21,7 +21,7 @@ pub record IsBuilt (compiled : Compiled) : Type 0 where
   pub fits : (size_limit : ℕ) × Fits size_limit tree
   -- the graph is that of the tree
   pub graph : IsGraphOf tree compiled.graph
-  -- what the graph tells of groups is so of the tree
+  -- what the graph says of groups holds for the tree
   pub groups : HasGroupsOf tree compiled.graph
 
 -- what is searched is the graph of the pattern's tree
@@ -46,12 +46,12 @@ pub record NamesGroups (tree : Tree) (names : List (Option (List ℕ))) (static 
   pub names_are : AreNames names tree
   pub static_is : static ≡ static_captures_len tree
 
--- what is stored tells the regex's names and number
+-- what is stored has the regex's names and number
 abbrev pub SharesGroups : Expression → StoredGroups → Type 0
 SharesGroups re stored =
     OfTree re (λ tree. NamesGroups tree (names_of stored) stored.static_captures_len)
 
--- these groups tell them too, whatever they matched
+-- these groups have them too, whatever they matched
 abbrev pub AreOfRegex : Expression → Groups → Type 0
 AreOfRegex re groups =
     OfTree re (λ tree. NamesGroups tree groups.names groups.static_captures_len)

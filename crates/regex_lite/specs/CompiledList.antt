@@ -19,7 +19,7 @@ pub record IsBuiltList (compiled : CompiledList) : Type 0 where
   pub fit : places_of_all trees < 2 ^ 32
   -- the graph is that of the trees
   pub graph : IsGraphOfList trees compiled.graph
-  -- what the graph tells of groups is so of the trees
+  -- what the graph says of groups holds for the trees
   pub groups : HasGroupsOfList trees compiled.graph
   -- as many slots are kept as the pattern with the most groups needs
   pub slots : compiled.kept_slots ≡ kept_slots (most_groups compiled.graph.groups)

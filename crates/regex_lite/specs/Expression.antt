@@ -1,4 +1,4 @@
--- A regex as contracts see it, what is built and what is refused, and what a regex tells.
+-- A regex as contracts see it, what is built and what is refused, and what a regex returns.
 use Rattle.std.specs.Prelude.{◌≡◌, ◌⊎◌, ℕ, List, Option, None, Result, IfOk, IfErr}
 use Rattle.std.specs.Prelude.{chars, map, option_map, length, slice_index_or}
 use Rattle.regex_lite_syntax.specs.declared.flags.Flags.{Flags}

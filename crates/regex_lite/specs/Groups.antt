@@ -1,7 +1,8 @@
 -- Spans in a haystack, and the groups of a match, as plain values.
-use Rattle.std.specs.Prelude.{◌≡◌, ◌≤◌, ℕ, List, [], ◌∷◌, Bool, false, Option, Some, None}
-use Rattle.std.specs.Prelude.{IsSome, IfSome, IsCharBoundary, length, drop, filter_map}
-use Rattle.std.specs.Prelude.{slice_get, slice_range, option_map, option_and_then, unwrap_or}
+use Rattle.std.specs.Prelude.{◌≡◌, ◌≤◌, ◌++◌, ℕ, List, [], ◌∷◌, Bool, false, Option, Some}
+use Rattle.std.specs.Prelude.{None, IsSome, IfSome, IsCharBoundary, length, take, drop}
+use Rattle.std.specs.Prelude.{filter_map, replicate, slice_get, slice_range, option_map}
+use Rattle.std.specs.Prelude.{option_and_then, unwrap_or}
 use Rattle.std.specs.List.{position}
 use Rattle.std.specs.Option.{option_zip, option_flatten}
 use Rattle.std.specs.Str.{bytes_eq}
@@ -23,7 +24,11 @@ spans_of [] = []
 spans_of (start ∷ []) = []
 spans_of (start ∷ end ∷ slots) = option_zip start end ∷ spans_of slots
 
--- what a match tells: the haystack, and by index the spans of the groups that took part and the
+-- this many spans: the first of these, and none after the last of them
+abbrev pub resized : (count : ℕ) → List (Option (ℕ × ℕ)) → List (Option (ℕ × ℕ))
+resized count spans = take count (spans ++ replicate count None)
+
+-- what a match has: the haystack, and by index the spans of the groups that took part and the
 -- names of those that have one; and how many groups at least take part in every match, where known
 pub record Groups : Type 0 where
   pub haystack : List ℕ

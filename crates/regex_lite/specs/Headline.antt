@@ -23,7 +23,7 @@ pub record Headline (settings : Settings) (haystack : List ℕ) (start : ℕ)
   -- what an error says is so
   pub refused : IfErr result (λ error. IsDue settings error)
   -- the answer is the least start from which the tree matches, with the end and the groups of the
-  -- most preferred way from there that comes to no place twice at one position, or that there is
+  -- most preferred way from there that visits no place twice at one position, or that there is
   -- none
   pub answer : IfOk result (λ told. TellsGroups (expression_of settings) haystack start told.0)
   -- the search tried at most (arrows + 1) × (characters left + 1) places, entered no more than it

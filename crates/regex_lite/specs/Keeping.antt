@@ -1,9 +1,10 @@
--- What a searcher that callers keep holds.
+-- What the searchers that callers keep hold.
 use Rattle.std.specs.Prelude.{◌≡◌, ◌*◌, Option, Some, None, length}
 use Rattle.regex_lite_syntax.specs.Tree.Properties.{captures_len}
 use Rattle.regex_lite_engine.specs.Search.Searching.{Searching}
 use Rattle.regex_lite.specs.Compiled.{SearchesFor}
 use Rattle.regex_lite.specs.Expression.{Expression, OfTree}
+use Rattle.regex_lite.specs.Scanning.{AreSlotsForAllGroups, ListSearching}
 
 -- one that finds groups keeps two slots for each. There is none where the whole match is the only
 -- group
@@ -11,3 +12,10 @@ abbrev pub SearchesForGroups : Expression → Option Searching → Type 0
 SearchesForGroups re None = OfTree re (λ tree. captures_len tree ≡ 1)
 SearchesForGroups re (Some searcher) =
     SearchesFor re searcher × OfTree re (λ tree. length searcher.slots ≡ 2 * captures_len tree)
+
+-- Where some pattern of a list has groups, what finds these has slots for all of them. Where none
+-- has, what finds matches is enough
+abbrev pub FindsAllGroups : (matches : ListSearching) → (groups : Option ListSearching) → Type 0
+FindsAllGroups matches None = AreSlotsForAllGroups matches.list (length matches.slots)
+FindsAllGroups matches (Some groups) =
+    (groups.list ≡ matches.list) × AreSlotsForAllGroups groups.list (length groups.slots)

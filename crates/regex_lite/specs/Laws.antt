@@ -1,4 +1,4 @@
--- Laws of what searches tell, and of equality.
+-- Laws of what searches return, and of equality.
 use Rattle.std.specs.Prelude.{◌≡◌, ◌≤◌, ◌↔◌, ℕ, List, Bool, IsTrue, IsUtf8, Option, Some}
 use Rattle.std.specs.Prelude.{IfSome, chars, is_some, length, option_map, option_and_then}
 use Rattle.std.specs.Bool.{Decides}
@@ -42,7 +42,7 @@ pub record LiesInside (haystack : List ℕ) (whole span : ℕ × ℕ) : Type 0 w
   pub ends_inside : span.1 ≤ whole.1
   pub lies_in : LiesIn haystack span
 
--- so does each group that a search tells, where it took part
+-- so does each group that a search returns, where it took part
 abbrev pub GroupsLieInside : Type 0
 GroupsLieInside =
     (re : Expression) (haystack : List ℕ) (start : ℕ) (groups : Groups) → IsUtf8 haystack

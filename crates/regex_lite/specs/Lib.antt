@@ -1,5 +1,5 @@
 -- Where to begin: Headline has the whole promise on one page. Expression says what is built, what
--- is refused and what a regex tells, and Searches what the searches tell. RegexList and
+-- is refused and what a regex returns, and Searches what the searches return. RegexList and
 -- RegexListSearches say the same of several patterns at once. Templates says what a template gives
 -- for the groups of a match, and Escapes which pattern is made of a text.
 pub mod Headline
@@ -13,6 +13,7 @@ pub mod RegexListSearches
 pub mod MatchList
 pub mod Ahead
 pub mod ListAhead
+pub mod Iterators
 pub mod Pieces
 pub mod Replacing
 pub mod Replacements
@@ -33,7 +34,7 @@ pub use Rattle.regex_lite_syntax.specs.Tree.Properties
 pub use Rattle.regex_lite_engine.specs.Graph.PlaceCounts
 pub use Rattle.regex_lite_engine.specs.Graph.Size
 pub use Rattle.regex_lite_engine.specs.Search
--- What every regex keeps, and what is told of answers and after a match.
+-- What every regex keeps, and what is returned of answers and after a match.
 pub mod Compiled
 pub mod CompiledList
 pub mod Slots

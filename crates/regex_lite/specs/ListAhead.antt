@@ -88,17 +88,15 @@ AreGroupsFoundInList list haystack number found groups =
 
 -- the groups of the next match came with the number of its pattern; or there was one and a growth
 -- was refused, or there was none, and none comes from then on
-abbrev pub GivesListGroupsOf : Scanning ListSearching → Option (Result (ℕ × Groups) Error)
-    → Scanning ListSearching → Type 0
-GivesListGroupsOf old item new =
-    MatchOption item (ListEnds (list_ahead old) (list_ahead new))
-    (λ answer. MatchResult answer
-    (λ told. (found : Found) × AreGroupsFoundInList old.finder.list old.haystack told.0 found told.1
-    × IsOnward old.ended (whole_span told.1) × (new.ended ≡ Some (whole_span told.1).1)
-    × ListPasses (list_ahead old) (told.0, found) (list_ahead new))
-    (λ error. (error ≡ out_of_memory) × (IsListOver (list_ahead old) → ⊥)
-    × (list_ahead new ≡ at_end (list_ahead old))))
-
 abbrev pub GivesListGroups : ListCaptureMatches → Option (Result (ℕ × Groups) Error)
     → ListCaptureMatches → Type 0
-GivesListGroups old item new = GivesListGroupsOf old.scan item new.scan
+GivesListGroups old item new =
+    MatchOption item (ListEnds (list_groups_ahead_of old) (list_groups_ahead_of new))
+    (λ answer. MatchResult answer
+    (λ told. (found : Found)
+    × AreGroupsFoundInList old.scan.finder.list old.scan.haystack told.0 found told.1
+    × IsOnward old.scan.ended (whole_span told.1)
+    × (new.scan.ended ≡ Some (whole_span told.1).1)
+    × ListPasses (list_groups_ahead_of old) (told.0, found) (list_groups_ahead_of new))
+    (λ error. (error ≡ out_of_memory) × (IsListOver (list_groups_ahead_of old) → ⊥)
+    × (list_groups_ahead_of new ≡ at_end (list_groups_ahead_of old))))

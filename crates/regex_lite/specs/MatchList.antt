@@ -17,7 +17,7 @@ abbrev pub IsAnswerOfPatterns : List Expression → Text → (s : ℕ) → Optio
 IsAnswerOfPatterns list haystack s answer =
     OfTrees list (λ trees. IsAnswerOfList trees haystack s answer)
 
--- how many matches may come after one of so many, where there is a limit
+-- how many matches may come after one of this many, where there is a limit
 abbrev pub one_less : (limit : Option ℕ) → Option ℕ
 one_less limit = option_map (λ n. n - 1) limit
 
@@ -46,7 +46,7 @@ module _ {A : Type 0} (found_of : A → Found) (Answers : (s : ℕ) → Option A
   AreAnswers ended (answer ∷ list) =
       IsNextAnswer ended (Some answer) × AreAnswers (Some (found_of answer).end) list
 
-  -- these are the first of them: so many, or all where they are fewer
+  -- these are the first of them: this many, or all where they are fewer
   abbrev pub AreFirstAnswers : (count : ℕ) → (ended : Option ℕ) → List A → Type 0
   AreFirstAnswers zero ended list = list ≡ []
   AreFirstAnswers (suc count) ended [] = IsNextAnswer ended None
@@ -81,7 +81,7 @@ module _ (re : Expression) (haystack : Text) where
   abbrev pub AreMatches : (ended : Option ℕ) → List Found → Type 0
   AreMatches ended list = AreAnswers (λ own. own) (IsAnswerOf re haystack) ended list
 
-  -- these are the first of them: so many, or all where they are fewer
+  -- these are the first of them: this many, or all where they are fewer
   abbrev pub AreFirst : (count : ℕ) → (ended : Option ℕ) → List Found → Type 0
   AreFirst count ended list =
       AreFirstAnswers (λ own. own) (IsAnswerOf re haystack) count ended list

@@ -1,4 +1,4 @@
--- What a search tells that goes on after a match.
+-- What a search returns that goes on after a match.
 use Rattle.std.specs.Prelude.{◌≡◌, ℕ, suc, List, Option, Some, None, option_map}
 use Rattle.regex_lite_engine.specs.Search.Answer.{Found}
 use Rattle.regex_lite_engine.specs.Search.Offsets.{position_at, search_start}
@@ -9,7 +9,7 @@ use Rattle.regex_lite.specs.MatchViews.{span_of_match}
 use Rattle.regex_lite.specs.Scanning.{IsMatchWithSlots}
 use Rattle.regex_lite.specs.Searches.{CanStartAt}
 
--- what is told of the answer after a match that ended at this offset: nothing where there is none,
+-- what is returned of the answer after a match that ended at this offset: nothing without one,
 -- and else its match, with the number of the pattern. It ends at the offset of the answer's end,
 -- and further on. These are its slots
 module _ {A N : Type 0} (found_of : A → Found) (number_of : A → N)

@@ -32,7 +32,7 @@ pub record IsCut (a : Ahead) (from : ℕ) (list : List (List ℕ)) : Type 0 wher
 abbrev pub ArePieces : Expression → (haystack : List ℕ) → List (List ℕ) → Type 0
 ArePieces re haystack list = IsCut (whole re haystack None) 0 list
 
--- these are at most so many of them, the last of which is all that is left
+-- these are at most this many of them, the last of which is all that is left
 abbrev pub ArePiecesWithin : (limit : ℕ) → Expression → (haystack : List ℕ) → List (List ℕ)
     → Type 0
 ArePiecesWithin zero re haystack list = list ≡ []
@@ -57,7 +57,7 @@ GivesPiece old item new =
 abbrev pub GivesPieceN : SplitN → Option (Bor (List ℕ)) → SplitN → Type 0
 GivesPieceN old item new = GivesPiece old.pieces item new.pieces
 
--- at most so many are left
+-- at most this many are left
 abbrev pub most_pieces : Split → Count
 most_pieces it =
     at_most (if it.is_done then 0 else most_left it.matches.scan.limit

@@ -1,7 +1,9 @@
 -- What searches for several patterns return, by offsets.
-use Rattle.std.specs.Prelude.{◌≡◌, ℕ, Bool, List, Option, Some, None, chars, slice_get}
+use Rattle.std.specs.Prelude.{◌≡◌, ℕ, Bool, List, Option, Some, None, chars, length}
+use Rattle.std.specs.Prelude.{slice_get}
 use Rattle.regex_lite_syntax.specs.Text.{Text}
 use Rattle.regex_lite_syntax.specs.Tree.{Tree}
+use Rattle.regex_lite_syntax.specs.Tree.Properties.{captures_len}
 use Rattle.regex_lite_engine.specs.declared.pikevm.steps.Steps.{Steps}
 use Rattle.regex_lite_engine.specs.Search.Answer.{Found}
 use Rattle.regex_lite_engine.specs.Search.AnswerOfList.{AnyMatchesFrom, IsAnswerOfList}
@@ -10,9 +12,9 @@ use Rattle.regex_lite_engine.specs.Search.Offsets.{search_start}
 use Rattle.regex_lite_engine.specs.Search.Outcomes.{HasCostOfList}
 use Rattle.regex_lite.specs.declared.string.matches.Match.{Match}
 use Rattle.regex_lite.specs.Expression.{Expression}
-use Rattle.regex_lite.specs.Groups.{Groups}
+use Rattle.regex_lite.specs.Groups.{Groups, resized}
 use Rattle.regex_lite.specs.RegexList.{OfTrees}
-use Rattle.regex_lite.specs.Searches.{AreGroupsOf, AreOfMatch, IsMatchOf}
+use Rattle.regex_lite.specs.Searches.{AreGroupsOf, AreOfMatch, IsMatchOf, spans_from}
 
 -- one of the patterns matches from some position at or after this offset
 abbrev pub AnyMatches : List Expression → (haystack : List ℕ) → (start : ℕ) → Type 0
@@ -59,6 +61,17 @@ pub record AreOfPattern (list : List Expression) (told : ℕ × Groups) : Type 0
   pub re : Expression
   pub numbered : slice_get list told.0 ≡ Some re
   pub of_match : AreOfMatch re told.1
+
+-- the search returns the match, with the number of its pattern, and these are the spans of that
+-- pattern's groups by index: those of its first groups where it has more than there are spans, and
+-- none after its last one where it has fewer
+abbrev pub TellsLocationsOfList : List Expression → (haystack : List ℕ) → (start : ℕ)
+    → List (Option (ℕ × ℕ)) → Option (ℕ × Match) → Type 0
+TellsLocationsOfList list haystack start spans told =
+    TellsAnswerOfList (λ tree found m. IsMatchOf haystack found m
+    × (spans ≡ resized (length spans)
+    (spans_from (chars haystack) found.marks 0 (captures_len tree))))
+    list haystack start told
 
 -- the search did no more than the places and arrows of the written-out patterns allow
 abbrev pub IsWithinListCost : List Expression → (haystack : List ℕ) → (start : ℕ) → Steps → Type 0

@@ -1,6 +1,6 @@
 -- What is searched for again and again, and a haystack that is gone over match by match.
 use Rattle.std.specs.Prelude.{◌≡◌, ℕ, List, [], ◌∷◌, Option, Some}
-use Rattle.std.specs.Prelude.{IfSome, IsTrue, chars, length, max}
+use Rattle.std.specs.Prelude.{IfSome, IsTrue, chars, max}
 use Rattle.regex_lite_syntax.specs.Tree.{Tree}
 use Rattle.regex_lite_syntax.specs.Tree.Properties.{captures_len}
 use Rattle.regex_lite_engine.specs.Graph.SideBySide.{AreRegular}
@@ -40,8 +40,8 @@ abbrev pub SearchesForList : List Expression → engine.ListSearching → Type 0
 SearchesForList list searcher =
     OfTrees list (λ trees. AreRegular trees × IsGraphOfList trees searcher.graph)
 
--- what is told is the span of what was found, with the number of its pattern, and these are its
--- slots
+-- what is returned is the span of what was found, with the number of its pattern, and these are
+-- its slots
 pub record IsSpanWithSlots {A N : Type 0} (found_of : A → Found) (number_of : A → N)
     (haystack : List ℕ) (slots : List (Option ℕ)) (answer : A) (told : N × (ℕ × ℕ))
     : Type 0 where
@@ -71,7 +71,7 @@ pub record IsMatchWithSlots {A N : Type 0} (found_of : A → Found) (number_of :
   pub is_match : IsMatchOf haystack (found_of answer) told.1
   pub has_slots : HasSlots (chars haystack) slots (found_of answer).marks
 
--- what is told is this answer of some search of the haystack, and these are its slots
+-- what is returned is this answer of some search of the haystack, and these are its slots
 abbrev pub IsMatchOfSearch : {A N : Type 0} → (found_of : A → Found) → (number_of : A → N)
     → (Answers : (s : ℕ) → Option A → Type 0) → (haystack : List ℕ)
     → (slots : List (Option ℕ)) → A → N × Match → Type 0
@@ -81,10 +81,10 @@ IsMatchOfSearch found_of number_of Answers haystack slots answer told =
 
 -- so of searches for a pattern
 abbrev pub IsMatchOfRegex : Expression → (haystack : List ℕ) → (slots : List (Option ℕ)) → Found
-    → Match → Type 0
-IsMatchOfRegex re haystack slots found m =
+    → Unit {0} × Match → Type 0
+IsMatchOfRegex re haystack slots found told =
     IsMatchOfSearch (λ own. own) (λ own. tt {0}) (IsAnswerOf re (chars haystack)) haystack slots
-    found (tt {0}, m)
+    found told
 
 -- and of searches for several patterns
 abbrev pub IsMatchOfPatterns : List Expression → (haystack : List ℕ) → (slots : List (Option ℕ))
@@ -100,16 +100,16 @@ IsAfterAnswer found_of Answers cursor =
     IsTrue cursor.was_empty
     → IfSome cursor.ended (IsEmptyAnswerFrom found_of Answers cursor.haystack.now)
 
--- there are as many slots as are kept for the groups
-abbrev pub HasSlotsForGroups : Expression → (slots : List (Option ℕ)) → Type 0
-HasSlotsForGroups re slots = OfTree re (λ tree. length slots ≡ kept_slots (captures_len tree))
+-- this many slots are kept for the groups
+abbrev pub AreSlotsForGroups : Expression → (slots : ℕ) → Type 0
+AreSlotsForGroups re slots = OfTree re (λ tree. slots ≡ kept_slots (captures_len tree))
 
 -- how many groups the pattern has that has the most
 abbrev pub most_captures : List Tree → ℕ
 most_captures [] = 0
 most_captures (tree ∷ trees) = max (captures_len tree) (most_captures trees)
 
--- there are as many slots as are kept for the groups of that pattern
-abbrev pub HasSlotsForAllGroups : List Expression → (slots : List (Option ℕ)) → Type 0
-HasSlotsForAllGroups list slots =
-    OfTrees list (λ trees. length slots ≡ kept_slots (most_captures trees))
+-- this many slots are kept for the groups of that pattern
+abbrev pub AreSlotsForAllGroups : List Expression → (slots : ℕ) → Type 0
+AreSlotsForAllGroups list slots =
+    OfTrees list (λ trees. slots ≡ kept_slots (most_captures trees))

@@ -2,8 +2,8 @@
 use Rattle.std.specs.Prelude.{◌*◌, ℕ, zero, suc, List, [], ◌∷◌, Option, Some, length, max}
 use Rattle.regex_lite_engine.specs.Graph.StoredList.{StoredGroups}
 
--- how many are kept for so many groups: two for each, but none where the whole match is the only
--- one, whose start and end tell it
+-- how many are kept for this many groups: two for each, but none where the whole match is the only
+-- one, whose start and end are known
 abbrev pub kept_slots : (groups : ℕ) → ℕ
 kept_slots (suc zero) = 0
 kept_slots groups = 2 * groups

@@ -40,6 +40,6 @@ pub use string::escape::escape;
 pub use string::{
     CaptureLocations, CaptureMatches, CaptureNames, Captures, CapturesIn, ListCaptureMatches,
     ListMatches, Match, Matches, NoExpand, Regex, RegexBuilder, RegexList, RegexListBuilder,
-    RegexSearcher, ReplaceBy, Replacer, ReplacerRef, SetMatches, Split, SplitN, SubCaptureMatches,
-    Text,
+    RegexListSearcher, RegexSearcher, ReplaceBy, Replacer, ReplacerRef, SetMatches, Split, SplitN,
+    SubCaptureMatches, Text,
 };

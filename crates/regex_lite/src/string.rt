@@ -41,6 +41,7 @@ pub use list::RegexList;
 pub use list::builder::RegexListBuilder;
 pub use list::captures_iter::ListCaptureMatches;
 pub use list::find_iter::ListMatches;
+pub use list::kept::RegexListSearcher;
 pub use list::set_matches::SetMatches;
 pub use locations::CaptureLocations;
 pub use matches::Match;

@@ -1,4 +1,4 @@
--- What is told of the groups of all matches of a text, some at a time.
+-- What is returned of the groups of all matches of a text, some at a time.
 use Rattle.std.specs.Prelude.{◌≡◌, ◌≢◌, ◌⊎◌, ◌<◌, ◌≤◌, ◌++◌, ℕ, List, [], ◌∷◌, chars}
 use Rattle.std.specs.Prelude.{Option, Some, None, flat_map, length, unwrap_or}
 use Rattle.regex_lite_engine.specs.Search.Answer.{Found}
@@ -19,7 +19,7 @@ use Rattle.regex_lite_c.specs.declared.types.Walk.{Walk}
 abbrev pub spans_of_all : List Groups → List (Option (ℕ × ℕ))
 spans_of_all groups = flat_map (λ own. own.spans) groups
 
--- the groups of so many matches, the first of those ahead, were written to the front of the room,
+-- the groups of this many matches, the first of those ahead, were written to the front of the room,
 -- and the walk goes on where the last of these matches ends
 pub record AreGroupsListed (a : Ahead) (walk : Walk) (old new : List Span) (count : ℕ)
     : Type 0 where

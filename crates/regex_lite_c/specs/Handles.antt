@@ -1,12 +1,14 @@
 -- What a handle holds.
-use Rattle.std.specs.Prelude.{Option, None, Some}
+use Rattle.std.specs.Prelude.{List, Option, None, Some}
 use base.Fml.{Fml, ftrue, fex}
+use denote.RattleType.{RattleType}
 use denote.RawPtr.{Ptr, block_ptr, null_ptr}
 use mir.Syntax.{Ty}
 use Rattle.std.specs.Box.Ownership.{box_owns}
 use Rattle.std.specs.contracts.impls.GlobalAllocator.TheImpl.{ghosts}
 use Rattle.regex_lite.specs.Expression.{Expression}
-use Rattle.regex_lite.specs.contracts.string.regex.Regex.{the_row}
+use Rattle.regex_lite.specs.contracts.string.list.RegexList as patterns
+use Rattle.regex_lite.specs.contracts.string.regex.Regex as regex
 
 -- the right to free a place with this layout, which is that of every `Global`
 abbrev pub frees : Ty → Ptr → Fml
@@ -15,9 +17,17 @@ frees = ghosts.dealloc_token (record { memory = record { seal = tt } })
 abbrev pub nowhere : Fml
 nowhere = fex ⊥ (λ _. ftrue)
 
--- at null there is nothing, and elsewhere a box with the regex
+-- at null there is nothing, and elsewhere a box with a value of this type
+abbrev pub holds_of : (row : RattleType) → Ptr → Option row.Denot → Fml
+holds_of row null_ptr None = ftrue
+holds_of row null_ptr (Some value) = nowhere
+holds_of row (block_ptr b o) None = nowhere
+holds_of row (block_ptr b o) (Some value) = box_owns frees row (block_ptr b o) value
+
+-- so of a regex
 abbrev pub holds : Ptr → Option Expression → Fml
-holds null_ptr None = ftrue
-holds null_ptr (Some re) = nowhere
-holds (block_ptr b o) None = nowhere
-holds (block_ptr b o) (Some re) = box_owns frees the_row (block_ptr b o) re
+holds ptr value = holds_of regex.the_row ptr value
+
+-- and of a list of patterns
+abbrev pub holds_list : Ptr → Option (List Expression) → Fml
+holds_list ptr value = holds_of patterns.the_row ptr value

@@ -1,4 +1,4 @@
--- What is told of the names of groups.
+-- What is returned of the names of groups.
 use Rattle.std.specs.Prelude.{◌≡◌, ℕ, List, Option, Some, None, slice_get}
 use Rattle.regex_lite.specs.Expression.{Expression, AreNames, OfTree}
 use Rattle.regex_lite.specs.Groups.{index_of}

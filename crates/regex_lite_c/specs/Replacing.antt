@@ -1,4 +1,4 @@
--- What is told of new texts.
+-- What is returned of new texts.
 use Rattle.std.specs.Prelude.{◌≡◌, ◌↔◌, ◌⊎◌, ℕ, List, MatchBool}
 use Rattle.std.specs.Borrow.{Bor}
 use Rattle.regex_lite.specs.Ahead.{Ahead, whole}

@@ -13,16 +13,22 @@ use Rattle.regex_lite_c.specs.declared.types.Span.{Span}
 abbrev pub span_of : Span → Option (ℕ × ℕ)
 span_of span = cond span.is_there (Some (span.start, span.end)) None
 
--- what is told of a search for the pattern from this offset on is where its match starts and ends
+-- what is returned of a search for the pattern from this offset on is where its match starts and
+-- ends
 abbrev pub TellsSpan : Expression → (haystack : List ℕ) → (start : ℕ) → Option (ℕ × ℕ) → Type 0
 TellsSpan re haystack start told =
     TellsAnswer (λ tree found span. span ≡ offsets (chars haystack) (found.start, found.end))
     re haystack start told
 
--- these were written to the front of the caller's spans, and nothing after them
-pub record AreWritten (told : List (Option (ℕ × ℕ))) (old new : List Span) : Type 0 where
-  pub each : (k : ℕ) → k < length told → option_map span_of (slice_get new k) ≡ slice_get told k
+-- these were written to the front of the room, as they are viewed, and nothing after them
+pub record AreWrittenAs {X Y : Type 0} (view : X → Y) (told : List Y) (old new : List X)
+    : Type 0 where
+  pub each : (k : ℕ) → k < length told → option_map view (slice_get new k) ≡ slice_get told k
   pub rest : (k : ℕ) → length told ≤ k → slice_get new k ≡ slice_get old k
+
+-- so of the caller's spans
+abbrev pub AreWritten : (told : List (Option (ℕ × ℕ))) → (old new : List Span) → Type 0
+AreWritten told old new = AreWrittenAs span_of told old new
 
 -- these were written from this index on, and nothing before and after them
 pub record AreWrittenAt (at : ℕ) (told : List (Option (ℕ × ℕ))) (old new : List Span)
@@ -31,7 +37,7 @@ pub record AreWrittenAt (at : ℕ) (told : List (Option (ℕ × ℕ))) (old new 
       → option_map span_of (slice_get new (at + k)) ≡ slice_get told k
   pub rest : (k : ℕ) → (k < at) ⊎ (at + length told ≤ k) → slice_get new k ≡ slice_get old k
 
--- these are the groups of the match that starts first from this offset on, so many
+-- these are the groups of the match that starts first from this offset on, this many
 abbrev pub AreFirstGroups : Expression → (haystack : List ℕ) → (start : ℕ) → (count : ℕ) → Groups
     → Type 0
 AreFirstGroups re haystack start count groups =

@@ -1,4 +1,4 @@
--- What is told of all matches of a text, some at a time.
+-- What is returned of all matches of a text, some at a time.
 use Rattle.std.specs.Prelude.{◌≡◌, ◌≢◌, ◌⊎◌, ◌<◌, ◌≤◌, ℕ, suc, List, Option, Some, None}
 use Rattle.std.specs.Prelude.{cond, chars, length, map, option_map, slice_get, unwrap_or}
 use Rattle.regex_lite_engine.specs.Search.Answer.{Found}
@@ -29,11 +29,15 @@ pub record AreListed (a : Ahead) (old new : List Span) (count : ℕ) : Type 0 wh
   pub number : count ≡ length list
   pub written : AreWritten (map (told_of a.haystack) list) old new
 
--- the walk goes on where the last of so many spans ends
-pub record GoesOnAfter (spans : List Span) (count : ℕ) (walk : Walk) : Type 0 where
+-- the walk goes on where the last of this many ends
+pub record GoesOnAfterLast {X : Type 0} (end_of : X → ℕ) (written : List X) (count : ℕ)
+    (walk : Walk) : Type 0 where
   pub some : 0 < count
-  pub end : (k : ℕ) → suc k ≡ count → option_map (λ span. span.end) (slice_get spans k)
-      ≡ ended_of walk
+  pub end : (k : ℕ) → suc k ≡ count → option_map end_of (slice_get written k) ≡ ended_of walk
+
+-- so of the caller's spans
+abbrev pub GoesOnAfter : List Span → (count : ℕ) → Walk → Type 0
+GoesOnAfter spans count walk = GoesOnAfterLast (λ span. span.end) spans count walk
 
 -- what is returned where a walk over the matches of this text goes on
 pub record IsWalkAnswer (re : Expression) (bytes : List ℕ) (old_walk walk : Walk)

@@ -67,7 +67,7 @@ fn built(alloc: Global, pattern: &str, options: &Options) -> Result<Box<Regex, G
 }
 
 /// The regex of this pattern under these options.
-fn regex_of(alloc: Global, pattern: &str, options: &Options) -> Result<Regex, Error>
+pub(crate) fn regex_of(alloc: Global, pattern: &str, options: &Options) -> Result<Regex, Error>
     ensures { Builds (settings_of pattern.now options.now) result }
 {
     let mut builder = RegexBuilder::new(alloc, pattern)?;
@@ -100,7 +100,7 @@ fn set_limits(builder: &mut RegexBuilder, options: &Options)
 }
 
 /// Writes the error's text to the room, and how long it is.
-fn write_message(alloc: Global, error: &Error, message: &mut [u8], len: &mut usize)
+pub(crate) fn write_message(alloc: Global, error: &Error, message: &mut [u8], len: &mut usize)
     requires { len.old ≡ 0 }
     ensures { IsMessage (text_of error.now) message.old message.new len.new }
 {

@@ -65,7 +65,7 @@ fn captures_at(
 }
 
 /// Writes these groups, or nothing where there is too little room, and how many they are.
-fn write_groups(caps: &Captures<'_>, spans: &mut [Span], count: &mut usize) -> u32
+pub(crate) fn write_groups(caps: &Captures<'_>, spans: &mut [Span], count: &mut usize) -> u32
     ensures count { count.new ≡ length caps.now.spans }
     ensures written { count.new ≤ length spans.old
         → (result ≡ YES) × AreWritten caps.now.spans spans.old spans.new }

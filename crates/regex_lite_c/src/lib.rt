@@ -13,13 +13,16 @@
 
 mod answer;
 mod build;
+mod each;
 mod group_walk;
 mod groups;
 mod handle;
+mod list;
 mod properties;
 mod replace;
 mod room;
 mod search;
+mod split;
 mod text;
 mod types;
 mod walk;

@@ -53,6 +53,17 @@ impl Span {
         }
     }
 
+    /// From one offset to another.
+    pub(crate) fn between(start: usize, end: usize) -> Span
+        ensures { span_of result ≡ Some (start, end) }
+    {
+        Span {
+            is_there: true,
+            start,
+            end,
+        }
+    }
+
     /// That of a group, if it took part.
     pub(crate) fn of_group(group: Option<Match<'_>>) -> Span
         ensures { span_of result ≡ option_map span_of_match group.entry }
@@ -140,4 +151,14 @@ impl Walk {
             end: span.end,
         }
     }
+}
+
+/// How far a text has been cut into pieces.
+#[repr(C)]
+#[derive(Clone, Copy)]
+pub struct Cut {
+    /// The matches before which pieces were written.
+    pub walk: Walk,
+    /// Whether the last piece was written.
+    pub is_over: bool,
 }

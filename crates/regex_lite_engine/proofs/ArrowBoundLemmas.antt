@@ -11,7 +11,7 @@ use Rattle.regex_lite_engine.specs.Graph.PlaceCounts.{places, places_in, arrows,
 use Rattle.regex_lite_engine.specs.Graph.PlaceCounts.{copies, own_places, own_arrows}
 use Rattle.regex_lite_engine.specs.Graph.PlaceCounts.{bounded_places, bounded_arrows, class_arrows}
 
--- so many copies of a body
+-- this many copies of a body
 copied : (n a p : ℕ) → a < 2 * p → n * a + n ≤ 2 * (n * p)
 copied zero a p few = omega arith
 copied (suc n) a p few = omega (arith, copied n a p few, suc-mul n a, suc-mul n p)

@@ -2,6 +2,7 @@
 pub mod AgainLemmas
 pub mod BlockLemmas
 pub mod BoundLemmas
+pub mod ComeLemmas
 pub mod CountLemmas
 pub mod EnterLemmas
 pub mod EndLemmas
@@ -21,6 +22,7 @@ pub mod RecordLemmas
 pub mod RoomLemmas
 pub mod ShortestLemmas
 pub mod SkipLemmas
+pub mod StateLemmas
 pub mod StepLemmas
 pub mod ThreadLemmas
 pub mod TurnLemmas

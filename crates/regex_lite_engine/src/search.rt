@@ -10,14 +10,14 @@ ghost use Rattle.regex_lite_engine.specs.Search.Offsets.{position_at};
 ghost use Rattle.regex_lite_engine.specs.Search.Outcomes.{IsOutcome, HasCost};
 
 use crate::Graph;
-use crate::lazy_dfa::remembering::pays_once;
+use crate::lazy_dfa::remembering::pays_from;
 use crate::pikevm::search::Outcome;
 use crate::pikevm::steps::Steps;
 use std::alloc::{AllocError, Global};
 
 /// A search of at most this number of pairs of a place and a position goes depth first. It keeps a
 /// bit for each, and has room for a frame.
-const MOST_PAIRS: usize = 262_144;
+pub(crate) const MOST_PAIRS: usize = 262_144;
 
 /// Characters are counted in parts of this number of bytes. The count of a part fits in a byte, so
 /// that a machine can add many at once, and a part consists of whole blocks of 32 bytes.
@@ -51,7 +51,7 @@ impl Graph {
         if start > haystack.len() {
             return Ok((None, Steps::none()));
         }
-        if slots == 0 && pays_once(self, haystack.len() - start) {
+        if slots == 0 && pays_from(self, start, haystack.len() - start) {
             return self.search_remembering(alloc, haystack, start);
         }
         if self.has_few_pairs(haystack, start) {

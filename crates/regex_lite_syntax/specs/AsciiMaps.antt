@@ -5,7 +5,7 @@ use Rattle.regex_lite_syntax.specs.declared.class.ClassRange.{ClassRange}
 use Rattle.regex_lite_syntax.specs.Sets.{Set}
 use Rattle.regex_lite_syntax.specs.Ranges.{in_ranges, AreRuns}
 
--- the bit of an ASCII character tells whether the set holds it
+-- the bit of an ASCII character says whether the set holds it
 abbrev pub TellsOf : (bit : ℕ → ℕ) → Set → Type 0
 TellsOf bit set = (c : ℕ) → c < 128 → (bit c == 1) ≡ set c
 

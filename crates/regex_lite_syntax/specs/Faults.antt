@@ -22,7 +22,7 @@ fault_of (passed_limit limit) = Limit limit
 fault_of out_of_memory = Memory
 fault_of refused_replacement = Replace
 
--- the refusal tells the fault
+-- the refusal names the fault
 pub fault_back : (fault : Fault) → fault_of (refusal_of fault) ≡ fault
 fault_back (Syntax rule) = refl
 fault_back Nesting = refl

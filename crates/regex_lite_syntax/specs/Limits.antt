@@ -51,7 +51,7 @@ pub record NestingRefused (flags : Flags) (nest_limit : ℕ) (pattern : Text) : 
       → PassesNesting nest_limit tree deepest
   pub without : (HasTree flags pattern → ⊥) → nest_limit < openings pattern
 
--- the pattern has too many groups, or where the grammar gives no tree, could have so many
+-- the pattern has too many groups, or where the grammar gives no tree, could have that many
 pub record GroupsRefused (flags : Flags) (pattern : Text) : Type 0 where
   pub with_tree : (tree : Tree) (groups deepest : ℕ) → Grammar flags pattern tree groups deepest
       → PassesGroups groups

@@ -6,7 +6,7 @@ use Rattle.regex_lite_syntax.specs.declared.error.ErrorKind.TheVariants.{Groups,
 use Rattle.regex_lite_syntax.specs.Errors.{kind_of}
 
 -- what a refusal says by its kind: a syntax fault, and one for the nesting or the number of groups,
--- each what is given for it. Want of memory says nothing, and nothing else comes
+-- each what is given for it. `Memory` says nothing, and nothing else comes
 abbrev pub Refuses : ErrorKind → (syntax nesting groups : Type 0) → Type 0
 Refuses Syntax syntax nesting groups = syntax
 Refuses Nesting syntax nesting groups = nesting

@@ -34,7 +34,7 @@ IsReported fault before now =
     (written : List ℕ) × Begins written (line_of_fault fault) × Appends before now written
 
 -- the first fault is reported as the second: as itself, or a refusal as the out-of-memory error,
--- where there is no memory to tell of it
+-- where there is no memory to report it
 abbrev pub IsReportedAs : Fault → Fault → Type 0
 IsReportedAs (Refused error) named =
     (named ≡ Refused error) ⊎ (named ≡ Refused out_of_memory)

@@ -1,4 +1,4 @@
--- What a run tells.
+-- What a run reports.
 use Rattle.std.specs.Prelude.{◌≡◌, ℕ, Bool, true, false, List, Option, IfSome, IsUtf8}
 use Rattle.std.specs.Borrow.{Bor}
 use Rattle.std.specs.Io.KnownBytes.{Appends}
@@ -50,7 +50,7 @@ abbrev pub IsAnswered : (args : List (Bor (List ℕ))) → (input : Option (List
 IsAnswered args input found text =
     (command : Command) × Asks args command × IsCommandAnswered command input found text
 
--- the writer that held the first bytes has received what is printed, and the status tells whether
+-- the writer that held the first bytes has received what is printed, and the status says whether
 -- it was found
 pub record IsDone (args : List (Bor (List ℕ))) (input before now : Option (List ℕ)) (status : ℕ)
     : Type 0 where

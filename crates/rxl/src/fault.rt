@@ -61,7 +61,7 @@ impl Fault {
     }
 }
 
-/// Writes the text of the error and a line feed, or that memory is wanting.
+/// Writes the text of the error and a line feed, or that memory ran out.
 fn report_refusal<W: Write>(error: Error, alloc: Global, out: &mut W) -> io::Result<()>
     ensures { (named : Fault) × IsReportedAs (Refused error) named
         × IsWritten (W.contents out.old) (W.contents out.new) (line_of_fault named)

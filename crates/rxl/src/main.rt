@@ -44,7 +44,7 @@ fn arguments<R: Env + AllocGlobal>(rt: &R) -> io::Result<Vec<String>> {
     Ok(words)
 }
 
-/// Tells how the program is used, where there are no arguments to run on.
+/// Prints how the program is used, where there are no arguments to run on.
 fn misused(rt: &HostRuntime) -> ExitCode {
     let _ = Fault::Usage.report(rt.alloc(), &mut rt.stderr());
     ExitCode::from(2)

@@ -1,4 +1,4 @@
--- The groups that a search tells lie inside the match, and enough of them took part.
+-- The groups that a search returns lie inside the match, and enough of them took part.
 use Rattle.std.proofs.Common.{◌≡◌, ◌≤◌, ℕ, length, Option, Some, None, IfSome, chars}
 use Rattle.std.proofs.Common.{unwrap_or, option_map, sym, ap, subst, ◌∙◌, arith}
 use Rattle.std.specs.List.{filter_map}

@@ -1,4 +1,4 @@
--- What is told of a list of patterns, of its patterns, and of a list of one or of none.
+-- What a list of patterns returns, what its patterns return, and lists of one or of none.
 use Rattle.std.proofs.Common.{◌≡◌, ◌≤◌, ◌*◌, ◌+◌, ◌↔◌, ◌∙◌, refl, sym, ap, subst, ℕ}
 use Rattle.std.proofs.Common.{zero, suc, List, [], ◌∷◌, Bool, IsTrue, is_some, Option}
 use Rattle.std.proofs.Common.{Some, None, option_map, option_and_then, chars, arith}
@@ -16,7 +16,7 @@ use Rattle.regex_lite_engine.specs.Search.Bounds.{IsBoundedBy, characters_left}
 use Rattle.regex_lite_engine.specs.Search.Offsets.{search_start}
 use Rattle.regex_lite_engine.specs.Search.Outcomes.{HasCostOfList}
 use Rattle.regex_lite_engine.proofs.laws.several.ListAnswerLemmas.{alone_by_itself}
-use Rattle.regex_lite_engine.proofs.laws.several.ListAnswerLemmas.{alone_in_list, list_answers}
+use Rattle.regex_lite_engine.proofs.laws.several.ListAnswerLemmas.{alone_in_list}
 use Rattle.regex_lite_engine.proofs.laws.several.ListAnswerLemmas.{none_match, one_list_answer}
 use Rattle.regex_lite.specs.declared.string.matches.Match.{Match}
 use Rattle.regex_lite.specs.Expression.{Expression, IsAccepted}
@@ -33,6 +33,7 @@ use Rattle.regex_lite.specs.Settings.{Settings}
 use Rattle.regex_lite.proofs.string.AgreementLemmas.{same_truth}
 use Rattle.regex_lite.proofs.string.FoundLemmas.{group_0}
 use Rattle.regex_lite.proofs.string.ListBuildLemmas.{one_list, pattern_tree, regular_trees}
+use Rattle.regex_lite.proofs.string.ListToldLemmas.{list_answer_told}
 use Rattle.regex_lite.proofs.string.ToldLemmas.{same_some}
 
 -- a list of one is accepted where its pattern is
@@ -232,20 +233,6 @@ module _ (haystack : List ℕ) (start : ℕ) where
 
 -- the searches of a list agree
 module _ (list : List Expression) (haystack : List ℕ) (start : ℕ) where
-  list_answer_told : {A : Type 0} (says : Tree → Found → A → Type 0) (told : Option (ℕ × A))
-      → TellsAnswerOfList says list haystack start told
-      → IsTrue (is_some told) ↔ AnyMatches list haystack start
-  list_answer_told says None (trees, given, none) = (
-    λ some. absurd (false≢true some),
-    λ any. absurd (none
-        (subst (λ all. AnyMatchesFrom all (chars haystack) (search_start haystack start))
-        (one_list list any.0 trees any.1 given) any.2)),
-  )
-  list_answer_told says (Some (number, told)) (trees, given, (found, is, of_found)) =
-      let all = list_answers trees (chars haystack) (regular_trees list trees given)
-      (search_start haystack start) (Some (number, found)) is in
-      (λ some. (trees, given, all.0.0 refl), λ matches. refl)
-
   abbrev AgreeOnSpan : (m : Option (ℕ × Match)) (groups : Option (ℕ × Groups)) → Type 0
   AgreeOnSpan m groups =
       (option_map (λ told. told.0) m ≡ option_map (λ told. told.0) groups)
@@ -278,8 +265,8 @@ module _ (list : List Expression) (haystack : List ℕ) (start : ℕ) where
       → (IsTrue found ↔ AnyMatches list haystack start) → TellsMatchOfList list haystack start m
       → TellsGroupsOfList list haystack start groups → AgreeOnList found m groups
   agree_on_list found m groups told tells_match tells_groups =
-      let by_match = list_answer_told _ m tells_match in
-      let by_groups = list_answer_told _ groups tells_groups in
+      let by_match = list_answer_told list haystack start _ m tells_match in
+      let by_groups = list_answer_told list haystack start _ groups tells_groups in
       let Matching : Type 0 = AnyMatches list haystack start in
       let alike = same_truth (is_some m) (is_some groups) Matching by_match by_groups in
       let both = same_found m groups alike tells_match tells_groups in

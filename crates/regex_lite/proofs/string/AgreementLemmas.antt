@@ -27,7 +27,7 @@ same_truth false true P p q = absurd (false≢true (p.1 (q.0 refl)))
 same_truth false false P p q = refl
 
 module _ (re : Expression) (haystack : List ℕ) (start : ℕ) where
-  -- what is told of an answer tells whether there is a match
+  -- what is returned of an answer shows whether there is a match
   pub answer_told : {A : Type 0} (says : Tree → Found → A → Type 0) (told : Option A)
       → TellsAnswer says re haystack start told
       → IsTrue (is_some told) ↔ MatchesFrom re haystack start

@@ -21,19 +21,18 @@ use Rattle.regex_lite.proofs.string.OneTreeLemmas.{one_tree}
 use Rattle.regex_lite.proofs.string.ToldLemmas.{not_there}
 
 -- a haystack of which a match was passed wasn't over
-module _ {S A : Type 0} (found_of : A → Found)
-    (IsAnswerTo : S → Text → (s : ℕ) → Option A → Type 0)
-    (lawful : (own : S) (haystack : Text) → AreLawful found_of haystack (IsAnswerTo own haystack))
-  where
-    pub not_over : (start : AheadOf S) (answer : A) (new : AheadOf S)
-        → PassesAnswer found_of IsAnswerTo start answer new
-        → NoneIsAhead found_of IsAnswerTo start → ⊥
-    not_over start answer new passes (inl none_left) = passes.may_come none_left
-    not_over start answer new passes (inr none) =
-        not_there (one_next found_of (chars start.haystack)
-        (IsAnswerTo start.sought (chars start.haystack))
-        (lawful start.sought (chars start.haystack)) start.ended None (Some answer) none
-        passes.comes)
+pub not_over : {S A : Type 0} (found_of : A → Found)
+    (IsAnswerTo : S → Text → (s : ℕ) → Option A → Type 0) (start : AheadOf S)
+    (lawful : AreLawful found_of (chars start.haystack)
+    (IsAnswerTo start.sought (chars start.haystack)))
+    (answer : A) (new : AheadOf S) → PassesAnswer found_of IsAnswerTo start answer new
+    → NoneIsAhead found_of IsAnswerTo start → ⊥
+not_over found_of IsAnswerTo start lawful answer new passes (inl none_left) =
+    passes.may_come none_left
+not_over found_of IsAnswerTo start lawful answer new passes (inr none) =
+    not_there (one_next found_of (chars start.haystack)
+    (IsAnswerTo start.sought (chars start.haystack)) lawful start.ended None (Some answer) none
+    passes.comes)
 
 -- a replacement either passed a match, or nothing was made and all is still ahead
 abbrev pub IsBegun : (start a : Ahead) → (made : List ℕ) → (ended : Option ℕ) → Type 0
@@ -47,7 +46,8 @@ begun_on start old new made more (Some e) now end found begins begun passes is =
     subst (IsBegun start new more) (sym is) begun
 begun_on start old new made more None now end found begins begun passes is =
     subst (IsBegun start new more) (sym is)
-    (not_over (λ own. own) IsAnswerOf regex_lawful start found new
+    (not_over (λ own. own) IsAnswerOf start (regex_lawful start.sought (chars start.haystack)) found
+    new
     (subst (λ a. Passes a found new) begun.0 passes))
 
 -- the new text: the haystack itself where nothing was passed, and else the text that was made with

@@ -1,4 +1,4 @@
--- The slots of an outcome, or its span, tell the groups of what was found.
+-- The slots of an outcome, or its span, determine the groups of what was found.
 use Rattle.std.proofs.Common.{◌≡◌, ◌≤◌, refl, sym, ap, subst, ◌∙◌, ℕ, zero, suc}
 use Rattle.std.proofs.Common.{◌*◌, List, [], ◌∷◌, length, Option, Some, None}
 use Rattle.std.proofs.Common.{IfSome, IsSome, option_map, chars, IsUtf8, arith}
@@ -83,7 +83,7 @@ module _ (haystack : Text) (tree : Tree) (s : ℕ) (found : Found) (given : IsPa
   all_told kept slots span filled enough held same =
       subst (AreAllSlots haystack tree found) (sym filled) (each_told kept span enough held same)
 
--- a regex shares what tells of the groups of its tree
+-- a regex shares what is known of the groups of its tree
 pub built_shares : (compiled : Compiled) (built : IsBuilt compiled)
     → NamesGroups built.tree (names_of (stored_groups compiled)) compiled.graph.static_captures_len
 built_shares compiled built = record {

@@ -129,7 +129,7 @@ group_0 haystack tree s found (suc count) given is some =
     let inner = groups_inside tree haystack s found (regular_tree tree given) is in
     ap (option_map (offsets haystack)) inner.whole
 
--- the first of so many spans are the spans of the first groups
+-- the first of this many spans are the spans of the first groups
 pub first_told : (haystack : Text) (marks : Marks) (n first count : ℕ)
     → take n (spans_from haystack marks first count)
     ≡ spans_from haystack marks first (length (take n (spans_from haystack marks first count)))

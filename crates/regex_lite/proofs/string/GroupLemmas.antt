@@ -75,7 +75,7 @@ placed : (haystack : List ℕ) (m : Option Match) → IfSome m (λ own. haystack
 placed haystack None within = refl
 placed haystack (Some m) within = ap (λ own. Some (own, span_of_match m)) (sym within)
 
--- what is told of group k comes before what is told of those after it
+-- what is returned of group k comes before what is returned of those after it
 pub groups_on : (haystack : List ℕ) (spans : List (Option (ℕ × ℕ))) (k : ℕ) (m : Option Match)
     → k < length spans → option_map span_of_match m ≡ span_at spans k
     → IfSome m (λ own. haystack_of_match own ≡ haystack)

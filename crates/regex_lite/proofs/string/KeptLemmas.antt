@@ -1,4 +1,4 @@
--- What a searcher that callers keep tells of a match, and of its groups.
+-- What a searcher that callers keep returns of a match, and of its groups.
 use Rattle.std.proofs.Common.{◌≡◌, ◌≤◌, ◌*◌, ◌/◌, ◌∙◌, refl, sym, ap, subst, ℕ, List, [], length}
 use Rattle.std.proofs.Common.{take, Option, Some, None, option_map, chars, IsUtf8, arith}
 use Rattle.regex_lite_syntax.specs.Tree.{Tree}
@@ -112,7 +112,7 @@ module _ (re : Expression) (bytes : List ℕ) (utf8 : IsUtf8 bytes) (start : ℕ
         ∙ length_spans (chars bytes) found.marks 0 (captures_len tree) in
         omega (arith, few, count, all)
 
-    -- the first of them are what is told
+    -- the first of them are what is returned
     pub locations_read : (n : ℕ) (read : List (Option (ℕ × ℕ))) → read ≡ take n (spans_of slots)
         → TellsLocations re bytes start read (Some m)
     locations_read n read is =

@@ -1,22 +1,20 @@
--- Steps of what goes over the matches of several patterns, and the groups of the last match.
-use Rattle.std.proofs.Common.{◌≡◌, ◌<◌, ◌*◌, ◌∙◌, refl, ℕ, List, length, take}
+-- The slots that a searcher keeps for several patterns determine the groups of the last match.
+use Rattle.std.proofs.Common.{◌≡◌, ◌<◌, ◌*◌, ◌∙◌, ℕ, List, length, take}
 use Rattle.std.proofs.Common.{Option, Some, chars, IsUtf8, sym, ap, subst}
 use Rattle.regex_lite_syntax.specs.Tree.{Tree}
 use Rattle.regex_lite_engine.specs.Search.Answer.{Found}
 use Rattle.regex_lite_engine.specs.Search.AnswerOfList.{IsFoundInList}
 use Rattle.regex_lite.specs.declared.string.list.compiled.CompiledList.{CompiledList}
 use Rattle.regex_lite.specs.declared.string.matches.Match.{Match}
-use Rattle.regex_lite.specs.Ahead.{Came}
 use Rattle.regex_lite.specs.Compiled.{groups_of}
 use Rattle.regex_lite.specs.CompiledList.{IsBuiltList, groups_at}
 use Rattle.regex_lite.specs.Expression.{Expression}
 use Rattle.regex_lite.specs.Groups.{AreGroups, Groups, whole_span}
-use Rattle.regex_lite.specs.ListAhead.{AreGroupsFoundInList, ListPasses, list_ahead}
+use Rattle.regex_lite.specs.ListAhead.{AreGroupsFoundInList}
 use Rattle.regex_lite.specs.MatchList.{IsAnswerOf, IsAnswerOfPatterns}
 use Rattle.regex_lite.specs.MatchViews.{span_of_match}
 use Rattle.regex_lite.specs.RegexList.{AreTrees}
-use Rattle.regex_lite.specs.Scanning.{HasSlotsForAllGroups, IsMatchOfPatterns}
-use Rattle.regex_lite.specs.Scanning.{ListSearching, Scanning, most_captures}
+use Rattle.regex_lite.specs.Scanning.{AreSlotsForAllGroups, IsMatchOfPatterns, most_captures}
 use Rattle.regex_lite.specs.Searches.{offsets}
 use Rattle.regex_lite.specs.Slots.{all_slots, kept_slots}
 use Rattle.regex_lite.proofs.string.ListBuildLemmas.{one_list, own_tree}
@@ -25,27 +23,8 @@ use Rattle.regex_lite.proofs.string.ListToldLemmas.{found_there, most_are}
 use Rattle.regex_lite.proofs.string.ScanLemmas.{whole_of_groups}
 use Rattle.regex_lite.proofs.string.ToldLemmas.{same_some}
 
--- a match of a list came
-abbrev pub ListCame : (old : Scanning ListSearching) → ℕ × Match → (new : Scanning ListSearching)
-    → Type 0
-ListCame old told new =
-    Came (λ (own : ListSearching). own.list) (λ own. own.slots) (λ (own : ℕ × Found). own.1)
-    (λ own. own.0) IsAnswerOfPatterns old told new
-
--- the answer has the number that is told
-abbrev pub numbered : (old new : Scanning ListSearching) (told : ℕ × Match)
-    → ListCame old told new → ListCame old told new
-numbered old new told came = (
-  (told.0, came.0.1),
-  record { number = refl; is_match = came.1.is_match; has_slots = came.1.has_slots },
-  came.2,
-  came.3,
-  subst (λ n. ListPasses (list_ahead old) (n, came.0.1) (list_ahead new)) (sym came.1.number)
-      came.4,
-)
-
 -- the groups of what was found have its span
-pub whole_in_list : (list : List Expression) (bytes : List ℕ) (s : ℕ) (answer : ℕ × Found)
+whole_in_list : (list : List Expression) (bytes : List ℕ) (s : ℕ) (answer : ℕ × Found)
     (groups : Groups) → IsAnswerOfPatterns list (chars bytes) s (Some answer)
     → AreGroupsFoundInList list bytes answer.0 answer.1 groups
     → whole_span groups ≡ offsets (chars bytes) (answer.1.start, answer.1.end)
@@ -56,10 +35,20 @@ whole_in_list list bytes s (number, found) groups (trees, given, is) (re, at, ar
     (is.tree, own.2, is.answer))
     are
 
--- the slots that are kept tell the groups of the last match
+-- so those of the last match have its span
+pub span_of_last_in_list : (list : List Expression) (bytes : List ℕ) (kept : List (Option ℕ))
+    (own : ℕ × Found) (told : ℕ × Match) (groups : Groups)
+    → IsMatchOfPatterns list bytes kept own told
+    → AreGroupsFoundInList list bytes own.0 own.1 groups
+    → whole_span groups ≡ span_of_match told.1
+span_of_last_in_list list bytes kept own told groups (s, is, last) are =
+    whole_in_list list bytes s own groups is are ∙ sym last.is_match.span
+
+-- the slots that are kept determine the groups of the last match
 module _ (bytes : List ℕ) (utf8 : IsUtf8 bytes) (list : List Expression) (compiled : CompiledList)
     (built : IsBuiltList compiled) (given : AreTrees list built.trees)
-    (kept slots : List (Option ℕ)) (room : HasSlotsForAllGroups list kept) (own : ℕ × Found)
+    (kept slots : List (Option ℕ)) (room : AreSlotsForAllGroups list (length kept))
+    (own : ℕ × Found)
     (told : ℕ × Match) (last : IsMatchOfPatterns list bytes kept own told) where
   answer : IsFoundInList built.trees (chars bytes) last.0 told.0 own.1
   answer =
@@ -96,7 +85,8 @@ module _ (bytes : List ℕ) (utf8 : IsUtf8 bytes) (list : List Expression) (comp
     -- which are those of what was found
     pub last_groups : (groups : Groups)
         → groups ≡ groups_of bytes slots (groups_at compiled.graph.groups told.0)
-        → AreGroupsFoundInList list bytes told.0 own.1 groups
+        → AreGroupsFoundInList list bytes own.0 own.1 groups
     last_groups groups are =
-        found_groups_in_list bytes utf8 list compiled built given last.0 told.0 own.1 answer kept
-        last.2.has_slots (span_of_match told.1) last.2.is_match.span width slots filled groups are
+        subst (λ number. AreGroupsFoundInList list bytes number own.1 groups) last.2.number
+        (found_groups_in_list bytes utf8 list compiled built given last.0 told.0 own.1 answer kept
+        last.2.has_slots (span_of_match told.1) last.2.is_match.span width slots filled groups are)

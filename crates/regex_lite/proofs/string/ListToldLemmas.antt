@@ -1,7 +1,8 @@
--- From the outcome of a search for several patterns to what is told of it.
+-- From the outcome of a search for several patterns to what is returned of it.
 use Rattle.std.proofs.Common.{◌≡◌, ◌≤◌, ◌<◌, ◌*◌, ◌↔◌, ◌∙◌, refl, sym, ap, subst, ℕ, zero}
 use Rattle.std.proofs.Common.{suc, List, [], ◌∷◌, Bool, IsTrue, length, take, Option}
-use Rattle.std.proofs.Common.{Some, None, IfSome, slice_get, chars, IsUtf8, arith}
+use Rattle.std.proofs.Common.{Some, None, IfSome, is_some, slice_get, chars, IsUtf8, arith}
+use Rattle.std.proofs.lemmas.Bool.{false≢true}
 use Rattle.std.proofs.lemmas.List.{length-take-le}
 use Rattle.std.proofs.lemmas.Option.{slice_get-get_or, slice_get_within, unwrap_or-slice_get}
 use Rattle.regex_lite_syntax.specs.Tree.{Tree}
@@ -38,7 +39,7 @@ use Rattle.regex_lite.proofs.string.ListBuildLemmas.{one_list, own_tree}
 use Rattle.regex_lite.proofs.string.ListBuildLemmas.{pattern_tree, regular_trees}
 use Rattle.regex_lite.proofs.string.ToldLemmas.{not_there, same_some, same_pair}
 
--- what is told of a list is told of the pattern with the number
+-- what is returned of a list is returned of the pattern with the number
 pub of_pattern : {A : Type 0} (says : Tree → Found → A → Type 0) (list : List Expression)
     (haystack : List ℕ) (start number : ℕ) (told : A)
     → TellsAnswerOfList says list haystack start (Some (number, told))
@@ -54,7 +55,23 @@ of_pattern says list haystack start number told (trees, given, (found, answer, o
     (same_some (sym same.1 ∙ answer.numbered)) same.3 in
     (own.0, own.1, (answer.tree, own.2, (found, is, of_found)))
 
--- what a search of the graph for whether something matches tells
+-- what is returned shows whether something matches
+pub list_answer_told : {A : Type 0} (list : List Expression) (haystack : List ℕ) (start : ℕ)
+    (says : Tree → Found → A → Type 0) (told : Option (ℕ × A))
+    → TellsAnswerOfList says list haystack start told
+    → IsTrue (is_some told) ↔ AnyMatches list haystack start
+list_answer_told list haystack start says None (trees, given, none) = (
+  λ some. absurd (false≢true some),
+  λ any. absurd (none
+      (subst (λ all. AnyMatchesFrom all (chars haystack) (search_start haystack start))
+      (one_list list any.0 trees any.1 given) any.2)),
+)
+list_answer_told list haystack start says (Some (number, told)) (trees, given, (found, is, of)) =
+    let all = list_answers trees (chars haystack) (regular_trees list trees given)
+    (search_start haystack start) (Some (number, found)) is in
+    (λ some. (trees, given, all.0.0 refl), λ matches. refl)
+
+-- what a search of the graph returns that asks whether something matches
 pub any_told : (list : List Expression) (trees : List Tree) (haystack : List ℕ) (start : ℕ)
     (found : Bool) → AreTrees list trees
     → (IsTrue found ↔ AnyMatchesFrom trees (chars haystack) (search_start haystack start))
@@ -65,7 +82,7 @@ any_told list trees haystack start found given told = (
       (one_list list any.0 trees any.1 given) any.2),
 )
 
--- what is told of the graph is so of the trees
+-- what holds for the graph holds for the trees
 pub outcome_of_list : (trees : List Tree) (graph own : StoredList) (bytes : List ℕ) (start : ℕ)
     (told : Option (ℕ × Outcome)) (number : ℕ) (outcome : Outcome) → AreRegular trees
     → IsGraphOfList trees own → graph ≡ own
@@ -76,7 +93,7 @@ outcome_of_list trees graph own bytes start told number outcome regular is_graph
     subst (IsOutcomeOfList trees bytes start) is
     (tells trees regular (subst (IsGraphOfList trees) (sym same) is_graph))
 
--- what a searcher tells is so of the patterns' trees
+-- what a searcher returns holds for the patterns' trees
 pub span_of_list : (list : List Expression) (searcher : ListSearching) (bytes : List ℕ) (start : ℕ)
     (slots : List (Option ℕ)) (told : Option (ℕ × (ℕ × ℕ))) → SearchesForList list searcher
     → ((trees : List Tree) → AreRegular trees → IsGraphOfList trees searcher.graph
@@ -85,7 +102,7 @@ pub span_of_list : (list : List Expression) (searcher : ListSearching) (bytes : 
 span_of_list list searcher bytes start slots told (trees, given, (regular, is_graph)) tells =
     (trees, given, tells trees regular is_graph)
 
--- its span is told with its slots
+-- its span is returned with its slots
 pub list_span_told : (bytes : List ℕ) (start : ℕ) (list : List Expression)
     (kept : List (Option ℕ)) (told : Option (ℕ × (ℕ × ℕ)))
     → OfTrees list (λ trees. IsSpanOutcomeOfList trees bytes start kept told)
@@ -127,7 +144,7 @@ module _ (bytes : List ℕ) (utf8 : IsUtf8 bytes) (start : ℕ) (list : List Exp
       subst (LiesIn bytes) span_is
       (found_lies bytes utf8 answer.tree of_grammar found.start found answer.answer)
 
-  -- it is what is told
+  -- it is what is returned
   pub list_match_told : (m : Match) → haystack_of_match m ≡ bytes → span_of_match m ≡ span
       → TellsMatchOfList list bytes start (Some (number, m))
   list_match_told m haystack is = (
@@ -179,7 +196,7 @@ most_at (own ∷ rest) (suc number) less =
     let le = most_at rest number (omega (arith, less)) in
     omega (arith, le)
 
-in_whole : {A : Type 0} (xs : List A) (n k : ℕ) (x : A) → slice_get (take n xs) k ≡ Some x
+pub in_whole : {A : Type 0} (xs : List A) (n k : ℕ) (x : A) → slice_get (take n xs) k ≡ Some x
     → slice_get xs k ≡ Some x
 in_whole xs zero k x there = absurd cc
 in_whole [] (suc n) k x there = absurd cc
@@ -187,7 +204,7 @@ in_whole (y ∷ xs) (suc n) zero x there = there
 in_whole (y ∷ xs) (suc n) (suc k) x there = in_whole xs n k x there
 
 -- there are at least two slots for each group of a pattern with no more groups than the most
-enough_kept : (kept : List (Option ℕ)) (span : ℕ × ℕ) (most own : ℕ)
+pub enough_kept : (kept : List (Option ℕ)) (span : ℕ × ℕ) (most own : ℕ)
     → length kept ≡ kept_slots most → own ≤ most → 2 * own ≤ length (all_slots kept span)
 enough_kept kept span zero own len le = omega (arith, le)
 enough_kept [] span (suc zero) own len le = omega (arith, le)
@@ -295,7 +312,7 @@ module _ (bytes : List ℕ) (utf8 : IsUtf8 bytes) (start : ℕ) (list : List Exp
         (search_start bytes start) number own.0
         own.1 outcome.slots.items own.2.slots own_span own_span_is width slots filled
 
-    -- which are what is told
+    -- which are what is returned
     pub listed_groups_told : (groups : Groups)
         → groups ≡ groups_of bytes slots (groups_at compiled.graph.groups number)
         → TellsGroupsOfList list bytes start (Some (number, groups))

@@ -1,4 +1,4 @@
--- What is told by a search that goes on after a match.
+-- What a search returns that goes on after a match.
 use Rattle.std.proofs.Common.{◌≡◌, ◌<◌, ◌≤◌, ◌⊎◌, inl, inr, true, false, MatchBool}
 use Rattle.std.proofs.Common.{Bool, ℕ, suc, List, Option, Some, None, refl, sym, ap}
 use Rattle.std.proofs.Common.{subst, ◌∙◌, chars, IsUtf8, option_map, unwrap_or, arith}
@@ -42,7 +42,7 @@ module _ {A N : Type 0} (found_of : A → Found) (number_of : A → N) (bytes : 
   abbrev Empty : (at : ℕ) → Type 0
   Empty at = IsEmptyAnswerFrom found_of Answers bytes at
 
-  -- what is told lies in the haystack
+  -- what is returned lies in the haystack
   pub span_lies : (s : ℕ) (told : N × (ℕ × ℕ))
       → TellsOfAnswer Answers (IsSpanWithSlots found_of number_of bytes slots) s (Some told)
       → LiesIn bytes told.1
@@ -52,7 +52,7 @@ module _ {A N : Type 0} (found_of : A → Found) (number_of : A → N) (bytes : 
       (positions_lie bytes (found_of answer).start (found_of answer).end utf8 within.ordered
       within.inside)
 
-  -- and the match there is told
+  -- and the match there is returned
   pub match_told : (s : ℕ) (told : N × (ℕ × ℕ)) (m : Match)
       → TellsOfAnswer Answers (IsSpanWithSlots found_of number_of bytes slots) s (Some told)
       → haystack_of_match m ≡ bytes → span_of_match m ≡ told.1 → Told s (Some (told.0, m))
@@ -66,7 +66,7 @@ module _ {A N : Type 0} (found_of : A → Found) (number_of : A → N) (bytes : 
     },
   )
 
-  -- the answer of a search is what comes next, where it is told
+  -- the answer of a search is what comes next, where it is returned
   told_next : (s : ℕ) (ended : Option ℕ) (told : Option (N × Match)) → Told s told
       → ((answer : Option A) → Answers s answer → Next ended answer)
       → ((found : Found) → IsWithin (chars bytes) s found

@@ -17,7 +17,7 @@ pub one_tree : (flags : Flags) (pattern : Text) (a b : Tree)
     → IsTree flags pattern a → IsTree flags pattern b → a ≡ b
 one_tree flags pattern a b p q = (grammar_once flags pattern a b p.0 q.0 p.1 q.1 p.2 q.2).0
 
--- the least end tells whether the pattern matches
+-- the least end shows whether the pattern matches
 pub matches_told : (re : Expression) (haystack : List ℕ) (start : ℕ) (end : Option ℕ) (found : Bool)
     → found ≡ is_some end → TellsEnd re haystack start end
     → IsTrue found ↔ MatchesFrom re haystack start

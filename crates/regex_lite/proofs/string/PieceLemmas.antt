@@ -38,7 +38,7 @@ chosen P {Q} b is q = subst (λ b. MatchBool b P Q) (sym is) q
 pub chose : (P : Type 0) {Q : Type 0} (b : Bool) → b ≡ false → MatchBool b P Q → Q
 chose P {Q} b is q = subst (λ b. MatchBool b P Q) is q
 
--- what is left at first, where at most so many pieces may come
+-- what is left at first, where at most this many pieces may come
 pub left_at_first : (limit : ℕ) (re : Expression) (hay : List ℕ) (a : Ahead) (ended : Option ℕ)
     → a ≡ whole re hay (Some (limit - 1)) → ended ≡ None → (list : List (List ℕ))
     → MatchBool (nat_eq limit 0) (list ≡ []) (IsCut a (unwrap_or ended 0) list)

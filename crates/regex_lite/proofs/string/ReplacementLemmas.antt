@@ -5,6 +5,7 @@ use Rattle.std.proofs.lemmas.List.{append_assoc}
 use Rattle.regex_lite_syntax.specs.declared.error.Error.{Error}
 use Rattle.regex_lite_engine.specs.Search.Answer.{Found}
 use Rattle.regex_lite.specs.Ahead.{Ahead, AreAhead, AreFirstAhead, AreGroupsFound, IsOver, Passes}
+use Rattle.regex_lite.specs.Compiled.{AreOfRegex}
 use Rattle.regex_lite.specs.Expression.{Expression}
 use Rattle.regex_lite.specs.Groups.{Groups, whole_span}
 use Rattle.regex_lite.specs.Pieces.{found_span}
@@ -12,6 +13,7 @@ use Rattle.regex_lite.specs.Replacements.{AreGroupsOfEach, IsChain, IsRefused, I
 use Rattle.regex_lite.specs.Replacements.{IsReplacedBy, IsReplacedInTurn, replaced_by}
 use Rattle.regex_lite.specs.Replacing.{Answer}
 use Rattle.regex_lite.proofs.string.AheadLemmas.{ahead_cons, ahead_nil, first_cons}
+use Rattle.regex_lite.proofs.string.ScanLemmas.{of_regex}
 
 together : (a b c d : List ℕ) → ((a ++ b) ++ c) ++ d ≡ a ++ (b ++ c ++ d)
 together a b c d = simp append_assoc
@@ -123,3 +125,22 @@ pub found_there : (re other : Expression) (bytes haystack : List ℕ) (found : F
 found_there re other bytes haystack found groups same there are =
     subst (λ own. AreGroupsFound own haystack found groups) same
     (subst (λ own. AreGroupsFound re own found groups) there are)
+
+-- a match that was passed leaves what is searched for
+pub sought_kept : (start old new : Ahead) (found : Found) → Passes old found new
+    → old.sought ≡ start.sought → new.sought ≡ start.sought
+sought_kept start old new found passes same =
+    ap (λ (a : Ahead). a.sought) passes.passed ∙ same
+
+-- and the haystack
+pub haystack_kept : (start old new : Ahead) (found : Found) → Passes old found new
+    → old.haystack ≡ start.haystack → new.haystack ≡ start.haystack
+haystack_kept start old new found passes same =
+    ap (λ (a : Ahead). a.haystack) passes.passed ∙ same
+
+-- so its groups are of the regex that is searched for after it
+pub of_passed : (old new : Ahead) (found : Found) (groups : Groups) → Passes old found new
+    → AreGroupsFound old.sought old.haystack found groups → AreOfRegex new.sought groups
+of_passed old new found groups passes are =
+    subst (λ own. AreOfRegex own groups) (sym (sought_kept old old new found passes refl))
+    (of_regex old.sought old.haystack found groups are)

@@ -1,5 +1,5 @@
--- The slots that a searcher keeps tell the groups of the last match, and after an empty match that
--- is the answer.
+-- The slots that a searcher keeps determine the groups of the last match, and after an empty match
+-- that is the answer.
 use Rattle.std.proofs.Common.{◌≡◌, ◌<◌, ◌⊎◌, inl, inr, refl, ◌∙◌, ℕ, List, length, Option}
 use Rattle.std.proofs.Common.{Some, chars, IsUtf8, unwrap_or, sym, ap, subst, arith}
 use Rattle.std.proofs.lemmas.Bool.{cases_order}
@@ -13,14 +13,14 @@ use Rattle.regex_lite_engine.specs.Search.Offsets.{offset, position_at}
 use Rattle.regex_lite_engine.proofs.OffsetLemmas.{offset_less}
 use Rattle.regex_lite_engine.proofs.PositionLemmas.{position_of}
 use Rattle.regex_lite.specs.declared.string.matches.Match.{Match}
-use Rattle.regex_lite.specs.Ahead.{AheadOf, AreGroupsFound, Came, IsOnward, PassesAnswer, ahead_by}
+use Rattle.regex_lite.specs.Ahead.{AheadOf, AreGroupsFound, Came, GroupsCame, IsOnward, ahead_by}
 use Rattle.regex_lite.specs.Answers.{AreLawful, IsEmptyAnswerFrom, IsWithin}
 use Rattle.regex_lite.specs.Compiled.{AreOfRegex, SharesGroups, groups_of}
 use Rattle.regex_lite.specs.Expression.{Expression}
 use Rattle.regex_lite.specs.Groups.{Groups, AreGroups, span_at, whole_span}
 use Rattle.regex_lite.specs.MatchList.{IsAnswerOf}
 use Rattle.regex_lite.specs.MatchViews.{span_of_match}
-use Rattle.regex_lite.specs.Scanning.{HasSlotsForGroups, IsMatchOfRegex, IsMatchOfSearch, Scanning}
+use Rattle.regex_lite.specs.Scanning.{AreSlotsForGroups, IsMatchOfRegex, IsMatchOfSearch, Scanning}
 use Rattle.regex_lite.specs.Searches.{IsMatchOf, offsets}
 use Rattle.regex_lite.specs.Slots.{all_slots, kept_slots}
 use Rattle.regex_lite.proofs.string.CapturedLemmas.{AreAllSlots, all_told, captured, captured_of}
@@ -29,9 +29,10 @@ use Rattle.regex_lite.proofs.string.NextLemmas.{next_answer}
 use Rattle.regex_lite.proofs.string.OneTreeLemmas.{one_tree}
 
 module _ (bytes : List ℕ) (utf8 : IsUtf8 bytes) (re : Expression) (kept slots : List (Option ℕ))
-    (room : HasSlotsForGroups re kept) (shared : StoredGroups) (shares : SharesGroups re shared)
-    (found : Found) (m : Match) (filled : slots ≡ all_slots kept (span_of_match m))
-    (last : IsMatchOfRegex re bytes kept found m) where
+    (room : AreSlotsForGroups re (length kept)) (shared : StoredGroups)
+    (shares : SharesGroups re shared) (found : Found) (told : Unit {0} × Match)
+    (filled : slots ≡ all_slots kept (span_of_match told.1))
+    (last : IsMatchOfRegex re bytes kept found told) where
   abbrev tree : Tree
   tree = shares.0
 
@@ -48,7 +49,7 @@ module _ (bytes : List ℕ) (utf8 : IsUtf8 bytes) (re : Expression) (kept slots 
   all_held : AreAllSlots (chars bytes) tree found slots
   all_held =
       all_told (chars bytes) tree last.0 found (re.flags, _, shares.1) is_found kept slots
-      (span_of_match m) filled enough last.2.has_slots last.2.is_match.span
+      (span_of_match told.1) filled enough last.2.has_slots last.2.is_match.span
 
   -- all slots hold groups
   pub groups_held : AreGroups (groups_of bytes slots shared)
@@ -82,6 +83,13 @@ whole_of_groups re bytes s found groups (tree, given, is) (own, given_too, are) 
     (subst (λ t. IsFound t (chars bytes) s found)
     (one_tree re.flags (chars re.pattern) tree own given given_too) is) (omega arith))
 
+-- so those of the last match have its span
+pub span_of_last : (re : Expression) (bytes : List ℕ) (kept : List (Option ℕ)) (found : Found)
+    (told : Unit {0} × Match) (groups : Groups) → IsMatchOfRegex re bytes kept found told
+    → AreGroupsFound re bytes found groups → whole_span groups ≡ span_of_match told.1
+span_of_last re bytes kept found told groups (s, is, last) are =
+    whole_of_groups re bytes s found groups is are ∙ sym last.is_match.span
+
 -- a match came, whatever found it
 module _ {F S A N : Type 0} (sought : F → S) (slots : F → List (Option ℕ)) (found_of : A → Found)
     (number_of : A → N) (IsAnswerTo : S → Text → (s : ℕ) → Option A → Type 0)
@@ -103,27 +111,19 @@ module _ {F S A N : Type 0} (sought : F → S) (slots : F → List (Option ℕ))
       told
   last_match = rw (same_sought) (answered.0, answered.1, came.1)
 
-  -- its groups came with it, where the groups of what is found have its span
-  module _ (AreFound : S → (haystack : List ℕ) → A → Groups → Type 0)
-      (whole_is : (own : S) (bytes : List ℕ) (s : ℕ) (answer : A) (groups : Groups)
-      → IsAnswerTo own (chars bytes) s (Some answer) → AreFound own bytes answer groups
-      → whole_span groups
-      ≡ offsets (chars bytes) ((found_of answer).start, (found_of answer).end)) where
-    pub groups_came : (groups : Groups) → AreFound (sought new.finder) old.haystack came.0 groups
-        → AreFound (sought old.finder) old.haystack came.0 groups
-        × IsOnward old.ended (whole_span groups) × (new.ended ≡ Some (whole_span groups).1)
-        × PassesAnswer found_of IsAnswerTo (ahead_by sought old) came.0 (ahead_by sought new)
-    groups_came groups are =
-        let there : AreFound (sought old.finder) old.haystack came.0 groups =
-        subst (λ own. AreFound own old.haystack came.0 groups) same_sought are in
-        let span : span_of_match told.1 ≡ whole_span groups =
-        came.1.is_match.span ∙ sym (whole_is (sought old.finder) old.haystack answered.0 came.0
-        groups answered.1 there) in (
-          there,
-          subst (IsOnward old.ended) span came.2,
-          came.3 ∙ ap (λ (own : ℕ × ℕ). Some own.1) span,
-          came.4,
-        )
+  -- its groups came with it
+  pub groups_came : (AreFound : S → (haystack : List ℕ) → A → Groups → Type 0) (groups : Groups)
+      → AreFound (sought new.finder) old.haystack came.0 groups
+      → whole_span groups ≡ span_of_match told.1
+      → GroupsCame sought found_of number_of IsAnswerTo AreFound old (told.0, groups) new
+  groups_came AreFound groups are is = (
+    came.0,
+    came.1.number,
+    subst (λ own. AreFound own old.haystack came.0 groups) same_sought are,
+    subst (IsOnward old.ended) (sym is) came.2,
+    came.3 ∙ ap (λ (own : ℕ × ℕ). Some own.1) (sym is),
+    came.4,
+  )
 
 -- an empty match is the answer from its end
 module _ {A : Type 0} (found_of : A → Found) (bytes : List ℕ) (utf8 : IsUtf8 bytes)

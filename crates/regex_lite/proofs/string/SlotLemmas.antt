@@ -1,11 +1,13 @@
 -- Slots, and the spans that they hold.
-use Rattle.std.proofs.Common.{◌≡◌, refl, sym, ap, ℕ, zero, suc, ◌+◌, ◌*◌, ◌≤◌, ◌<◌}
-use Rattle.std.proofs.Common.{◌/◌, List, [], ◌∷◌, length, take, drop, max, replicate}
+use Rattle.std.proofs.Common.{◌≡◌, ◌∙◌, refl, sym, ap, ℕ, zero, suc, ◌+◌, ◌*◌, ◌≤◌, ◌<◌}
+use Rattle.std.proofs.Common.{◌/◌, List, [], ◌∷◌, ◌++◌, length, take, drop, max, min, replicate}
 use Rattle.std.proofs.Common.{get_or, slice_get, Option, Some, None, arith}
+use Rattle.std.proofs.lemmas.List.{length-append, length-replicate, length-take-le}
+use Rattle.std.proofs.lemmas.List.{take-append-le}
 use Rattle.std.specs.Option.{option_zip, option_flatten}
 use Rattle.std.proofs.lemmas.Option.{slice_get_past}
 use Rattle.regex_lite_engine.specs.Graph.StoredList.{StoredGroups}
-use Rattle.regex_lite.specs.Groups.{span_at, spans_of}
+use Rattle.regex_lite.specs.Groups.{resized, span_at, spans_of}
 use Rattle.regex_lite.specs.Slots.{kept_slots, most_groups}
 
 none_behind : (start : Option ℕ) → None ≡ option_zip {U = ℕ} start None
@@ -43,20 +45,6 @@ no_span slots k behind =
     let few = half slots in
     sym (ap option_flatten (slice_get_past (spans_of slots) k (omega (arith, few, behind))))
 
--- the first of the slots hold the first of the spans
-pub first_spans : (slots : List (Option ℕ)) (n : ℕ)
-    → spans_of (take (2 * n) slots) ≡ take n (spans_of slots)
-first_spans slots zero = refl
-first_spans [] (suc n) =
-    let a : 2 * suc n ≡ suc (suc (2 * n)) = omega arith in
-    rw (a) refl
-first_spans (start ∷ []) (suc n) =
-    let a : 2 * suc n ≡ suc (suc (2 * n)) = omega arith in
-    rw (a) refl
-first_spans (start ∷ end ∷ slots) (suc n) =
-    let a : 2 * suc n ≡ suc (suc (2 * n)) = omega arith in
-    rw (a) (ap (λ spans. option_zip start end ∷ spans) (first_spans slots n))
-
 -- slots that hold nothing hold no span
 pub no_spans : (n : ℕ) → spans_of (replicate (2 * n) None) ≡ replicate n None
 no_spans zero = refl
@@ -64,14 +52,56 @@ no_spans (suc n) =
     let a : 2 * suc n ≡ suc (suc (2 * n)) = omega arith in
     rw (a) (ap (λ spans. None ∷ spans) (no_spans n))
 
--- as many slots as two for each of these spans are there
-pub enough_slots : (old slots : List (Option ℕ)) (n : ℕ) → length old ≡ 2 * n
-    → length (spans_of old) ≤ length (spans_of slots)
-    → (length (spans_of old) ≡ n) × (length old ≤ length slots)
-enough_slots old slots n len few =
-    let own = half old in
-    let all = half slots in
-    (omega (arith, own, len), omega (arith, own, all, few, len))
+-- two for each group of the pattern with the most, and for one group at least
+pub room_for_most : (most kept : ℕ) → kept ≡ kept_slots most → max kept 2 ≡ 2 * max 1 most
+room_for_most zero kept is = omega (arith, is)
+room_for_most (suc zero) kept is = omega (arith, is)
+room_for_most (suc (suc n)) kept is = omega (arith, is)
+
+few_of_many : {A : Type 0} (n m : ℕ) (x : A) → n ≤ m → take n (replicate m x) ≡ replicate n x
+few_of_many zero m x le = refl
+few_of_many (suc n) zero x le = absurd (omega (arith, le))
+few_of_many (suc n) (suc m) x le = ap (λ xs. x ∷ xs) (few_of_many n m x (omega (arith, le)))
+
+-- slots that are followed by empty ones hold their spans, and none after them
+pub spans_with_none : (slots : List (Option ℕ)) (n m count more : ℕ) → n ≤ m
+    → count ≡ min (length slots) (2 * n) → more + count ≡ 2 * n
+    → spans_of (take count slots ++ replicate more None)
+    ≡ take n (spans_of slots ++ replicate m None)
+spans_with_none slots zero m count more le few all =
+    let a : count ≡ 0 = omega (arith, all) in
+    let b : more ≡ 0 = omega (arith, all) in
+    rw (a, b) refl
+spans_with_none [] (suc n) m count more le few all =
+    let a : count ≡ 0 = omega (arith, few) in
+    let b : more ≡ 2 * suc n = omega (arith, few, all) in
+    rw (a, b) (no_spans (suc n) ∙ sym (few_of_many (suc n) m None le))
+spans_with_none (start ∷ []) (suc n) m count more le few all =
+    let a : count ≡ 1 = omega (arith, few) in
+    let b : more ≡ suc (2 * n) = omega (arith, few, all) in
+    rw (a, b) (ap (λ span. span ∷ spans_of (replicate (2 * n) None)) (sym (none_behind start))
+    ∙ ap (λ spans. None ∷ spans) (no_spans n) ∙ sym (few_of_many (suc n) m None le))
+spans_with_none (start ∷ end ∷ slots) (suc n) m (suc (suc count)) more le few all =
+    ap (λ spans. option_zip start end ∷ spans)
+    (spans_with_none slots n m count more (omega (arith, le)) (omega (arith, few))
+    (omega (arith, all)))
+spans_with_none (start ∷ end ∷ slots) (suc n) m zero more le few all =
+    absurd (omega (arith, few))
+spans_with_none (start ∷ end ∷ slots) (suc n) m (suc zero) more le few all =
+    absurd (omega (arith, few))
+
+-- where no more are asked for than there are, they are the first
+pub resized_few : (n : ℕ) (spans : List (Option (ℕ × ℕ))) → n ≤ length spans
+    → resized n spans ≡ take n spans
+resized_few n spans le = take-append-le n spans (replicate n None) le
+
+-- there are as many as were asked for
+pub resized_length : (n : ℕ) (spans : List (Option (ℕ × ℕ))) → length (resized n spans) ≡ n
+resized_length n spans =
+    let none : List (Option (ℕ × ℕ)) = replicate n None in
+    let all = length-append spans none in
+    let some = length-replicate {A = Option (ℕ × ℕ)} n None in
+    length-take-le n (spans ++ none) (omega (arith, all, some))
 
 -- none are kept for the whole match alone
 pub none_kept : (groups : ℕ) → 0 ≡ kept_slots groups → 0 < groups → 2 ≡ 2 * groups

@@ -1,4 +1,4 @@
--- From the outcome of a search of the graph to what the search for the pattern tells.
+-- From the outcome of a search of the graph to what the search for the pattern returns.
 use Rattle.std.proofs.Common.{◌≡◌, ◌≤◌, refl, sym, ap, subst, ◌∙◌, ℕ, List, length, take}
 use Rattle.std.proofs.Common.{Option, Some, None, IfSome, option_map, chars, IsUtf8, arith}
 use Rattle.regex_lite_syntax.specs.Tree.{Tree}
@@ -37,7 +37,7 @@ not_there e = cc
 pub same_pair : {a b i j : ℕ} → a ≡ i → b ≡ j → ◌≡◌ {A = ℕ × ℕ} (a, b) (i, j)
 same_pair {a} {b} {i} {j} start end = rw (start, end) refl
 
--- what a search of the graph tells, whatever its tree: an outcome, or a span with its slots
+-- what a search of the graph returns, whatever its tree: an outcome, or a span with its slots
 abbrev pub TellsOutcome : StoredGraph → (bytes : List ℕ) → (start : ℕ) → Option Outcome → Type 0
 TellsOutcome graph bytes start told =
     (tree : Tree) → IsRegular tree → IsGraphOf tree graph → IsOutcome tree bytes start told
@@ -49,7 +49,7 @@ TellsSpanOfGraph graph bytes start slots told =
     (tree : Tree) → IsRegular tree → IsGraphOf tree graph
     → IsSpanOutcome tree bytes start slots told
 
--- what is told of a regex's graph is so of its tree
+-- what holds for a regex's graph holds for its tree
 pub outcome_of : (compiled : Compiled) (built : IsBuilt compiled) (graph : StoredGraph)
     (bytes : List ℕ) (start : ℕ) (told : Option Outcome) (outcome : Outcome)
     → graph ≡ compiled.graph → TellsOutcome graph bytes start told → told ≡ Some outcome
@@ -58,7 +58,7 @@ outcome_of compiled built graph bytes start told outcome same tells is =
     subst (λ o. IsOutcome built.tree bytes start o) is
     (tells built.tree built.regular (subst (λ g. IsGraphOf built.tree g) (sym same) built.graph))
 
--- and what a searcher tells of the pattern's
+-- and so does what a searcher returns
 pub span_of : (re : Expression) (searcher : Searching) (bytes : List ℕ) (start : ℕ)
     (slots : List (Option ℕ)) (told : Option (ℕ × ℕ)) → SearchesFor re searcher
     → TellsSpanOfGraph searcher.graph bytes start slots told
@@ -81,7 +81,7 @@ module _ (bytes : List ℕ) (utf8 : IsUtf8 bytes) (start : ℕ) (re : Expression
       subst (LiesIn bytes) span_is
       (found_lies bytes utf8 own.0 (re.flags, _, own.1) (search_start bytes start) found own.2.1)
 
-  -- it is what is told
+  -- it is what is returned
   pub match_told : (m : Match) → haystack_of_match m ≡ bytes → span_of_match m ≡ span
       → TellsMatch re bytes start (Some m)
   match_told m haystack is = (
@@ -128,7 +128,7 @@ module _ (bytes : List ℕ) (utf8 : IsUtf8 bytes) (start : ℕ) (re : Expression
         (captured bytes utf8 built.tree (compiled.flags, _, built.given) (search_start bytes start)
         of_built.0 of_built.1 all all_held (stored_groups compiled) (built_shares compiled built))
 
-    -- which are what is told
+    -- which are what is returned
     pub groups_told : (groups : Groups) → groups ≡ groups_of bytes all shared
         → TellsGroups re bytes start (Some groups)
     groups_told groups are =
@@ -157,7 +157,7 @@ slots_are re tree (Some o) outcome n given (own, given_too, enough) len is =
     ∙ ap (λ t. kept_slots (captures_len t))
     (one_tree re.flags (chars re.pattern) own tree given_too given)
 
--- the regex has as many groups as it tells of
+-- the regex has as many groups as it says
 pub room_told : (re : Expression) (bytes : List ℕ) (start n : ℕ) (told : Option Groups)
     (groups : Groups) → OfTree re (λ tree. n ≤ captures_len tree)
     → TellsGroups re bytes start told → told ≡ Some groups → n ≤ length groups.spans
@@ -171,7 +171,7 @@ room_told re bytes start n (Some own) groups (tree, given, few)
     let count = ap captures_len same in
     omega (arith, few, as_many, count)
 
--- the first groups, and the match, of what is told
+-- the first groups, and the match, of what is returned
 pub locations_told : (re : Expression) (bytes : List ℕ) (start n : ℕ) (told : Option Groups)
     (groups : Groups) (m : Option Match) (spans : List (Option (ℕ × ℕ)))
     → TellsGroups re bytes start told → told ≡ Some groups

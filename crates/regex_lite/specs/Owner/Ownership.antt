@@ -72,7 +72,7 @@ module _ (R : RattleType) (place : Ptr) (x : R.Denot) where
   abbrev pub owned : Fml
   owned = fsep (lies_at R full_share value_place x) block_back
 
-  -- of an owner by value, and behind a `&`
+  -- of an owner by value, and of one by reference
   abbrev pub owner_owns : Fml
   owner_owns =
       rc_cell_owns 64 (block_of place, count_of place) (count_at place (lends [])) only_one

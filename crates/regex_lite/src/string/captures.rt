@@ -3,6 +3,7 @@ ghost use Rattle.std.specs.Prelude.{◌≡◌, ◌≤◌, Some, IsSome, IfSome, 
 ghost use Rattle.regex_lite.specs.Groups.{AreGroups, group_span, group_text};
 ghost use Rattle.regex_lite.specs.Groups.{named_span, named_text};
 ghost use Rattle.regex_lite.specs.Compiled.{groups_of, names_of};
+ghost use Rattle.regex_lite.specs.Iterators.{iterated_groups};
 
 use crate::string::captures_in::CapturesIn;
 use crate::string::locations::CaptureLocations;
@@ -110,7 +111,7 @@ impl<'h> Captures<'h> {
     /// What each group matched last, from the whole match on: [`Captures::get`] of each index below
     /// [`Captures::len`].
     pub fn iter<'c>(&'c self) -> SubCaptureMatches<'c, 'h>
-        ensures haystack { result.captures.now ≡ self.now }
+        ensures haystack { iterated_groups result ≡ self.now }
         ensures groups { spans_to_come result ≡ self.now.spans }
     {
         SubCaptureMatches::new(self)

@@ -2,10 +2,12 @@
 ghost use Rattle.std.specs.Prelude.{◌≡◌, None, IfOk, IfErr, IsCharBoundary, unwrap_or};
 ghost use Rattle.regex_lite_syntax.specs.Errors.{out_of_memory};
 ghost use Rattle.regex_lite.specs.Ahead.{after, groups_ahead_of, whole};
+ghost use Rattle.regex_lite.specs.Iterators.{groups_ended_of};
 
 use crate::string::captures::Captures;
 use crate::string::group_scan::GroupScan;
 use crate::string::regex::Regex;
+use crate::string::searcher::Searcher;
 use regex_lite_syntax::Error;
 use std::fmt;
 use std::iter::FusedIterator;
@@ -34,7 +36,7 @@ impl Regex {
         haystack: &'h str,
     ) -> Result<CaptureMatches<'r, 'h>, Error>
         ensures ahead { IfOk result (λ it. groups_ahead_of it ≡ whole self.now haystack.now None) }
-        ensures begins { IfOk result (λ it. it.scan.ended ≡ None) }
+        ensures begins { IfOk result (λ it. groups_ended_of it ≡ None) }
         ensures refused { IfErr result (λ error. error ≡ out_of_memory) }
     {
         CaptureMatches::new(self, haystack, None)
@@ -55,11 +57,12 @@ impl Regex {
         requires { IsCharBoundary haystack.now (unwrap_or ended 0) }
         ensures ahead { IfOk result
             (λ it. groups_ahead_of it ≡ after self.now haystack.now ended) }
-        ensures begins { IfOk result (λ it. it.scan.ended ≡ ended) }
+        ensures begins { IfOk result (λ it. groups_ended_of it ≡ ended) }
         ensures refused { IfErr result (λ error. error ≡ out_of_memory) }
     {
+        let searcher = Searcher::with_groups(self, haystack.len())?;
         Ok(CaptureMatches {
-            scan: GroupScan::after(self, haystack, ended)?,
+            scan: GroupScan::after(searcher, haystack, ended),
         })
     }
 }
@@ -71,7 +74,7 @@ impl Regex {
 /// borrow the haystack alone, and outlive the iterator and the regex.
 #[derive(Drop)]
 pub struct CaptureMatches<'r, 'h> {
-    pub(super) scan: GroupScan<'r, 'h>,
+    pub(super) scan: GroupScan<'h, Searcher<'r>>,
 }
 
 impl<'r, 'h> CaptureMatches<'r, 'h> {
@@ -83,11 +86,12 @@ impl<'r, 'h> CaptureMatches<'r, 'h> {
     ) -> Result<CaptureMatches<'r, 'h>, Error>
         ensures ahead { IfOk result
             (λ it. groups_ahead_of it ≡ whole regex.now haystack.now limit) }
-        ensures begins { IfOk result (λ it. it.scan.ended ≡ None) }
+        ensures begins { IfOk result (λ it. groups_ended_of it ≡ None) }
         ensures refused { IfErr result (λ error. error ≡ out_of_memory) }
     {
+        let searcher = Searcher::with_groups(regex, haystack.len())?;
         Ok(CaptureMatches {
-            scan: GroupScan::new(regex, haystack, limit)?,
+            scan: GroupScan::new(searcher, haystack, limit),
         })
     }
 }
@@ -102,7 +106,10 @@ impl<'r, 'h> Iterator for CaptureMatches<'r, 'h> {
     ghost remaining = { most_groups };
 
     fn next(&mut self) -> Option<Result<Captures<'h>, Error>> {
-        self.scan.next()
+        match self.scan.next()? {
+            Ok((_, caps)) => Some(Ok(caps)),
+            Err(error) => Some(Err(error)),
+        }
     }
 }
 

@@ -2,6 +2,7 @@
 ghost use Rattle.std.specs.Prelude.{◌≡◌, None, IfOk, IfErr, IsCharBoundary, unwrap_or};
 ghost use Rattle.regex_lite_syntax.specs.Errors.{out_of_memory};
 ghost use Rattle.regex_lite.specs.Ahead.{after, ahead_of, whole};
+ghost use Rattle.regex_lite.specs.Iterators.{ended_of};
 
 use crate::string::matches::Match;
 use crate::string::regex::Regex;
@@ -32,7 +33,7 @@ impl Regex {
     /// `Memory` if memory runs out. The items need no memory, so they never fail.
     pub fn find_iter<'r, 'h>(&'r self, haystack: &'h str) -> Result<Matches<'r, 'h>, Error>
         ensures ahead { IfOk result (λ it. ahead_of it ≡ whole self.now haystack.now None) }
-        ensures begins { IfOk result (λ it. it.scan.ended ≡ None) }
+        ensures begins { IfOk result (λ it. ended_of it ≡ None) }
         ensures refused { IfErr result (λ error. error ≡ out_of_memory) }
     {
         Matches::new(self, haystack, None)
@@ -62,7 +63,7 @@ impl Regex {
     ) -> Result<Matches<'r, 'h>, Error>
         requires { IsCharBoundary haystack.now (unwrap_or ended 0) }
         ensures ahead { IfOk result (λ it. ahead_of it ≡ after self.now haystack.now ended) }
-        ensures begins { IfOk result (λ it. it.scan.ended ≡ ended) }
+        ensures begins { IfOk result (λ it. ended_of it ≡ ended) }
         ensures refused { IfErr result (λ error. error ≡ out_of_memory) }
     {
         let searcher = Searcher::new(self, 0, haystack.len())?;
@@ -89,7 +90,7 @@ impl<'r, 'h> Matches<'r, 'h> {
         limit: Option<usize>,
     ) -> Result<Matches<'r, 'h>, Error>
         ensures ahead { IfOk result (λ it. ahead_of it ≡ whole regex.now haystack.now limit) }
-        ensures begins { IfOk result (λ it. it.scan.ended ≡ None) }
+        ensures begins { IfOk result (λ it. ended_of it ≡ None) }
         ensures refused { IfErr result (λ error. error ≡ out_of_memory) }
     {
         let searcher = Searcher::new(regex, 0, haystack.len())?;

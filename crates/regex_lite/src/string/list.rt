@@ -1,7 +1,10 @@
 //! Several patterns that are searched for at once.
 ghost use Rattle.std.specs.Prelude.{◌≡◌, ◌↔◌, ◌≤◌, ◌<◌, ◌*◌, ◌^◌, [], ℕ, IsTrue};
 ghost use Rattle.std.specs.Prelude.{length, map, option_map, slice_get, ⊤};
+ghost use Rattle.regex_lite_syntax.specs.Tree.{Tree};
+ghost use Rattle.regex_lite_syntax.specs.Tree.Properties.{captures_len};
 ghost use Rattle.regex_lite_engine.specs.Graph.SideBySide.{arrows_of_all, places_of_all};
+ghost use Rattle.regex_lite_engine.specs.Search.AnswerOfList.{HasTree};
 ghost use Rattle.regex_lite.specs.Scanning.{most_captures};
 ghost use Rattle.regex_lite.specs.RegexList.{BuildsList, OfTrees};
 ghost use Rattle.regex_lite.specs.Settings.{default_settings};
@@ -13,8 +16,8 @@ pub(super) mod captures_iter;
 pub(super) mod compiled;
 mod counted;
 pub(super) mod find_iter;
-mod group_scan;
 mod group_search;
+pub(super) mod kept;
 mod search;
 mod searcher;
 pub(super) mod set_matches;
@@ -131,6 +134,15 @@ impl RegexList {
         ensures { OfTrees self.now (λ trees. result ≡ kept_slots (most_captures trees)) }
     {
         self.compiled.kept_slots
+    }
+
+    /// How many slots the groups of the pattern with this number have: two each.
+    fn slots_of(&self, number: usize) -> usize
+        requires { number < length self.now }
+        ensures { OfTrees self.now (λ trees. (tree : Tree) → HasTree trees number tree
+            → result ≡ 2 * captures_len tree) }
+    {
+        2 * self.compiled.graph.groups(number).capture_names().len()
     }
 }
 

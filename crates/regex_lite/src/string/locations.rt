@@ -1,7 +1,7 @@
 //! Where groups matched, without their haystack.
-ghost use Rattle.std.specs.Prelude.{◌≡◌, ◌<◌, ◌≤◌, IfOk, IfErr, length, take};
+ghost use Rattle.std.specs.Prelude.{◌≡◌, ◌<◌, IfOk, IfErr, length};
 ghost use Rattle.regex_lite_syntax.specs.Errors.{out_of_memory};
-ghost use Rattle.regex_lite.specs.Groups.{span_at, spans_of};
+ghost use Rattle.regex_lite.specs.Groups.{resized, span_at, spans_of};
 
 use regex_lite_syntax::Error;
 use std::alloc::Global;
@@ -13,6 +13,11 @@ use std::marker::Model;
 /// [`Regex::capture_locations`](crate::Regex::capture_locations) makes them, and
 /// [`Regex::captures_read`](crate::Regex::captures_read) writes them. They hold no haystack and no
 /// names, and take no memory after they are made.
+///
+/// [`RegexList::capture_locations`](crate::RegexList::capture_locations) makes those for several
+/// patterns, with room for the pattern that has the most groups, and a
+/// [`RegexListSearcher`](crate::RegexListSearcher) writes them. They then hold the groups of the
+/// pattern that was found, by their indices there.
 ///
 /// ```
 /// let regex = Regex::new(alloc, "(a)(b)?")?;
@@ -42,14 +47,16 @@ impl Model for CaptureLocations {
 
 impl CaptureLocations {
     /// Where the group with this index starts and ends: `None` where it isn't there, or took no
-    /// part in the match that was written last.
+    /// part in the match that was written last. A group that the pattern which was found doesn't
+    /// have isn't there.
     pub fn get(&self, i: usize) -> Option<(usize, usize)>
         ensures { result ≡ span_at self.now i }
     {
         span_in(self.slots.as_slice(), i)
     }
 
-    /// How many groups there are, the whole match among them. No search changes it.
+    /// How many groups there are, the whole match among them. No search changes it, even where the
+    /// pattern that was found has fewer.
     pub fn len(&self) -> usize
         ensures len { result ≡ length self.now }
         ensures some { 0 < result }
@@ -70,14 +77,15 @@ impl CaptureLocations {
         Ok(CaptureLocations { slots })
     }
 
-    /// Writes as many of these groups as there are here.
+    /// Writes as many of these groups as there are here, and nothing for those that are missing.
     pub(super) fn write(&mut self, slots: &[Option<usize>])
-        requires { length self.old ≤ length (spans_of slots.now) }
-        ensures spans { self.new ≡ take (length self.old) (spans_of slots.now) }
+        ensures spans { self.new ≡ resized (length self.old) (spans_of slots.now) }
         ensures len { length self.new ≡ length self.old }
     {
-        let len = self.slots.len();
-        self.slots.copy_from_slice(&slots[..len]);
+        let count = slots.len().min(self.slots.len());
+        let (own, others) = self.slots.as_mut_slice().split_at_mut(count);
+        own.copy_from_slice(&slots[..count]);
+        others.fill(None);
     }
 }
 

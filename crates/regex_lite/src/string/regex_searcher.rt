@@ -81,7 +81,7 @@ impl Regex {
         })
     }
 
-    /// Memory for searches in haystacks of about so many bytes, whose matches have so many slots.
+    /// Memory for searches in haystacks of about `bytes` bytes, whose matches have `slots` slots.
     fn memory(&self, slots: usize, bytes: usize) -> Result<Searcher<'_>, Error>
         ensures searches { IfOk result (λ searcher. SearchesFor self.now searcher) }
         ensures slots { IfOk result (λ searcher. length searcher.slots ≡ slots) }

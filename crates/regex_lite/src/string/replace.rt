@@ -13,6 +13,7 @@ use crate::string::group_scan::GroupScan;
 use crate::string::regex::Regex;
 use crate::string::replacer::Replacer;
 use crate::string::rewrite::Rewrite;
+use crate::string::searcher::Searcher;
 use regex_lite_syntax::Error;
 use std::borrow::CowStr;
 
@@ -155,7 +156,8 @@ impl Regex {
         ensures refused { IfErr result (λ error. (error ≡ out_of_memory)
             ⊎ IsRefused R.fixed R.appends rep (whole self.now haystack.now limit) error) }
     {
-        let mut scan = GroupScan::new(self, haystack, limit)?;
+        let searcher = Searcher::with_groups(self, haystack.len())?;
+        let mut scan = GroupScan::new(searcher, haystack, limit);
         self.replace_each(haystack, &mut scan, rep)
     }
 
@@ -163,7 +165,7 @@ impl Regex {
     fn replace_each<'h, R: Replacer>(
         &self,
         haystack: &'h str,
-        scan: &mut GroupScan<'_, 'h>,
+        scan: &mut GroupScan<'h, Searcher<'_>>,
         mut rep: R,
     ) -> Result<CowStr<'h>, Error>
         requires can_append { R.can_append rep }
@@ -179,7 +181,7 @@ impl Regex {
     {
         let mut rewrite = Rewrite::start(self.alloc, haystack);
         'items: while let Some(item) = scan.next() {
-            let caps = item?;
+            let (_, caps) = item?;
             rewrite.replace_with(&caps, &mut rep)?;
             scan.take_back(caps);
         }

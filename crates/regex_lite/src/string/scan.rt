@@ -89,6 +89,9 @@ impl<'h, F: Finds + Drop> Scan<'h, F> {
         ensures steps { GivesNext F.sought F.slots F.found_of F.number_of F.IsAnswer
             self.old result self.new }
         ensures fewer { IfSome result (λ _. most_ahead self.new < most_ahead self.old) }
+        ensures lawful { IfSome result (λ _. AreLawful F.found_of (chars self.old.haystack)
+            (F.IsAnswer (F.sought self.old.finder) (chars self.old.haystack))) }
+        ensures sought { F.sought self.new.finder ≡ F.sought self.old.finder }
         ensures slots { length (F.slots self.new.finder) ≡ length (F.slots self.old.finder) }
     {
         if self.cursor.is_over() {
@@ -138,6 +141,8 @@ fn next_match<'h, F: Finds>(finder: &mut F, cursor: Cursor<'h>) -> Option<(F::Nu
     ensures empty { IsAnswerWhereEmpty F.found_of
         (F.IsAnswer (F.sought finder.old) (chars cursor.entry.haystack.now))
         cursor.entry.haystack.now result }
+    ensures lawful { AreLawful F.found_of (chars cursor.entry.haystack.now)
+        (F.IsAnswer (F.sought finder.old) (chars cursor.entry.haystack.now)) }
     ensures sought { F.sought finder.new ≡ F.sought finder.old }
     ensures slots { length (F.slots finder.new) ≡ length (F.slots finder.old) }
 {
@@ -159,6 +164,8 @@ fn first_match<'h, F: Finds>(finder: &mut F, haystack: &'h str) -> Option<(F::Nu
         (F.slots finder.new) result }
     ensures empty { IsAnswerWhereEmpty F.found_of
         (F.IsAnswer (F.sought finder.old) (chars haystack.now)) haystack.now result }
+    ensures lawful { AreLawful F.found_of (chars haystack.now)
+        (F.IsAnswer (F.sought finder.old) (chars haystack.now)) }
     ensures sought { F.sought finder.new ≡ F.sought finder.old }
     ensures slots { length (F.slots finder.new) ≡ length (F.slots finder.old) }
 {
@@ -177,6 +184,8 @@ fn match_after<'h, F: Finds>(
         (F.slots finder.new) result }
     ensures empty { IsAnswerWhereEmpty F.found_of
         (F.IsAnswer (F.sought finder.old) (chars haystack.now)) haystack.now result }
+    ensures lawful { AreLawful F.found_of (chars haystack.now)
+        (F.IsAnswer (F.sought finder.old) (chars haystack.now)) }
     ensures sought { F.sought finder.new ≡ F.sought finder.old }
     ensures slots { length (F.slots finder.new) ≡ length (F.slots finder.old) }
 {
@@ -202,14 +211,16 @@ fn match_after_empty<'h, F: Finds>(
         (F.slots finder.new) result }
     ensures empty { IsAnswerWhereEmpty F.found_of
         (F.IsAnswer (F.sought finder.old) (chars haystack.now)) haystack.now result }
+    ensures lawful { AreLawful F.found_of (chars haystack.now)
+        (F.IsAnswer (F.sought finder.old) (chars haystack.now)) }
     ensures sought { F.sought finder.new ≡ F.sought finder.old }
     ensures slots { length (F.slots finder.new) ≡ length (F.slots finder.old) }
 {
     match_at(finder, haystack, next_offset(haystack, at))
 }
 
-/// The first match that starts at this offset or later.
-fn match_at<'h, F: Finds>(
+/// The first match that starts at this offset or later. Its slots are kept.
+pub(super) fn match_at<'h, F: Finds>(
     finder: &mut F,
     haystack: &'h str,
     start: usize,

@@ -1,10 +1,8 @@
 //! Searches, one after another, in the same memory.
 ghost use Rattle.std.specs.Prelude.{◌≡◌, IfOk, IfErr, IfSome, length};
 ghost use Rattle.regex_lite_syntax.specs.Errors.{out_of_memory};
-ghost use Rattle.regex_lite_engine.specs.Search.Answer.{Found};
-ghost use Rattle.regex_lite.specs.Ahead.{AreGroupsFound};
 ghost use Rattle.regex_lite.specs.Compiled.{AreOfRegex, SharesGroups};
-ghost use Rattle.regex_lite.specs.Scanning.{HasSlotsForGroups, IsMatchOfRegex};
+ghost use Rattle.regex_lite.specs.Scanning.{AreSlotsForGroups};
 
 use crate::string::captures::Captures;
 use crate::string::finds::Finds;
@@ -50,28 +48,14 @@ impl<'r> Searcher<'r> {
         Ok(Searcher { regex, inner })
     }
 
-    /// The groups of the last match, which was found in this haystack. They take the memory of the
-    /// spare ones where there are some.
-    pub fn captures<'h>(
-        &self,
-        haystack: &'h str,
-        last: &Match<'h>,
-        spare: Option<Captures<'h>>,
-    ) -> Result<Captures<'h>, Error>
-        requires spare { IfSome spare (AreOfRegex self.now.regex) }
-        requires room { HasSlotsForGroups self.now.regex self.now.slots }
-        requires last { (found : Found)
-            × IsMatchOfRegex self.now.regex haystack.now self.now.slots found last.now }
-        ensures groups { IfOk result (λ groups. (found : Found)
-            → IsMatchOfRegex self.now.regex haystack.now self.now.slots found last.now
-            → AreGroupsFound self.now.regex haystack.now found groups) }
+    /// The regex, with memory for searches that keep the slots of all groups.
+    pub fn with_groups(regex: &'r Regex, bytes: usize) -> Result<Searcher<'r>, Error>
+        ensures regex { IfOk result (λ searcher. searcher.regex ≡ regex.now) }
+        ensures slots { IfOk result
+            (λ searcher. AreSlotsForGroups regex.now (length searcher.slots)) }
         ensures refused { IfErr result (λ error. error ≡ out_of_memory) }
     {
-        let (mut slots, source) = self.parts(spare)?;
-        slots.clear();
-        slots.extend_from_slice(self.inner.slots())?;
-        let slots = all_slots(slots, (last.start(), last.end()))?;
-        Ok(Captures::new(haystack, slots, source))
+        Searcher::new(regex, regex.kept_slots(), bytes)
     }
 
     /// Those of the spare groups, or new ones with room for the slots that are kept.
@@ -92,8 +76,11 @@ impl<'r> Searcher<'r> {
 
 impl<'r> Finds for Searcher<'r> {
     ghost use Rattle.regex_lite_engine.specs.Search.Answer.{Found};
+    ghost use Rattle.regex_lite.specs.Ahead.{AreGroupsFound};
+    ghost use Rattle.regex_lite.specs.Compiled.{AreOfRegex};
     ghost use Rattle.regex_lite.specs.Expression.{Expression};
     ghost use Rattle.regex_lite.specs.MatchList.{IsAnswerOf};
+    ghost use Rattle.regex_lite.specs.Scanning.{AreSlotsForGroups};
 
     type Number = ();
 
@@ -107,6 +94,12 @@ impl<'r> Finds for Searcher<'r> {
 
     ghost IsAnswer = { IsAnswerOf };
 
+    ghost AreGroupsFound = { AreGroupsFound };
+
+    ghost AreSlotsForGroups = { AreSlotsForGroups };
+
+    ghost CanReuse = { AreOfRegex };
+
     ghost sought = { λ searcher. searcher.regex };
 
     ghost slots = { λ searcher. searcher.slots };
@@ -115,6 +108,21 @@ impl<'r> Finds for Searcher<'r> {
     fn find_at(&mut self, haystack: &str, start: usize) -> Option<((), (usize, usize))> {
         let span = self.inner.search(haystack, start)?;
         Some(((), span))
+    }
+
+    /// The groups, in the memory of the spare ones where there are some.
+    fn captures<'h>(
+        &self,
+        haystack: &'h str,
+        last: &((), Match<'h>),
+        spare: Option<Captures<'h>>,
+    ) -> Result<Captures<'h>, Error> {
+        let (_, whole) = last;
+        let (mut slots, source) = self.parts(spare)?;
+        slots.clear();
+        slots.extend_from_slice(self.inner.slots())?;
+        let slots = all_slots(slots, (whole.start(), whole.end()))?;
+        Ok(Captures::new(haystack, slots, source))
     }
 }
 

@@ -1,5 +1,5 @@
 //! The slots of a match: how many a search keeps for its groups, and all of them.
-ghost use Rattle.std.specs.Prelude.{◌≡◌, ◌*◌, [], IfOk, length};
+ghost use Rattle.std.specs.Prelude.{◌≡◌, ◌*◌, [], ◌∷◌, ℕ, Some, IfOk, length};
 ghost use Rattle.regex_lite_syntax.specs.Tree.Properties.{captures_len};
 ghost use Rattle.regex_lite.specs.Expression.{OfTree};
 ghost use Rattle.regex_lite.specs.Slots.{all_slots, kept_slots};
@@ -49,6 +49,18 @@ pub(super) fn slots_with(
     whole[0] = Some(span.0);
     whole[1] = Some(span.1);
     whole
+}
+
+/// The slots of all groups of a match, of which a search kept these: where it kept none, those of
+/// the whole match.
+pub(super) fn or_whole<'s>(
+    kept: &'s [Option<usize>],
+    whole: &'s [Option<usize>],
+) -> &'s [Option<usize>]
+    ensures { (span : ℕ × ℕ) → whole.now ≡ Some span.0 ∷ Some span.1 ∷ []
+        → result.now ≡ all_slots kept.now span }
+{
+    if kept.is_empty() { whole } else { kept }
 }
 
 /// The slots of all groups of a match with this span, of which a search kept these.

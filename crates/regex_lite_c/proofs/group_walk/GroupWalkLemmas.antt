@@ -9,7 +9,7 @@ use Rattle.regex_lite_engine.specs.Search.Answer.{Found}
 use Rattle.regex_lite.specs.Ahead.{Ahead, AreGroupsFound, ComesNext, Passes}
 use Rattle.regex_lite.specs.Expression.{Expression}
 use Rattle.regex_lite.specs.Groups.{Groups, group_span, span_at, whole_span}
-use Rattle.regex_lite.specs.MatchList.{AreFirst}
+use Rattle.regex_lite.specs.MatchList.{AreFirst, IsAnswerOf}
 use Rattle.regex_lite.specs.Replacements.{AreGroupsOfEach}
 use Rattle.regex_lite_c.specs.GroupWalks.{AreGroupsListed, IsFilled, IsWithoutRoom, spans_of_all}
 use Rattle.regex_lite_c.specs.Spans.{AreWritten, AreWrittenAt, span_of}
@@ -26,7 +26,7 @@ pub record EndsWith (groups : List Groups) (walk : Walk) : Type 0 where
   pub is : groups ≡ front ++ (last ∷ [])
   pub end : ended_of walk ≡ Some (whole_span last).1
 
--- the groups of so many matches were written, to so many spans
+-- the groups of this many matches were written, to this many spans
 pub record IsSoFar (start now : Ahead) (old_walk walk : Walk) (old new : List Span) (used count : ℕ)
     : Type 0 where
   pub list : List Found
@@ -48,7 +48,8 @@ nothing_yet start walk old limit = record {
   groups = [];
   number = refl;
   lists = λ left.
-      subst (λ n. Lists start start n left []) (omega arith) (lists_none start left limit);
+      subst (λ n. Lists start start n left []) (omega arith)
+      (lists_none (λ own. own) IsAnswerOf start left limit);
   each = tt;
   written = record { each = λ k lt. absurd (omega (arith, lt)); rest = λ k le. refl };
   used_is = refl;
@@ -120,10 +121,10 @@ one_more start now next old_walk walk new_walk old mid new used count found own 
       groups = so.groups ++ (own ∷ []);
       number = omega (arith, length-append so.list (found ∷ []), so.number);
       lists = λ left. subst (λ n. Lists start next n left (so.list ++ (found ∷ []))) (omega arith)
-          (lists_more start now next (count + suc left) left so.list found
+          (lists_more (λ own. own) IsAnswerOf start now next (count + suc left) left so.list found
           (lists (suc left)) passes);
       each = each_more start.sought start.haystack so.list so.groups found own so.each
-          (subst (λ re. AreGroupsFound re start.haystack found own) (lists 0).regex
+          (subst (λ re. AreGroupsFound re start.haystack found own) (lists 0).sought
           (subst (λ bytes. AreGroupsFound now.sought bytes found own) (lists 0).haystack are));
       written = subst (λ told. AreWritten told old new) (sym all)
           (written_after (spans_of_all so.groups) own.spans old mid new so.written
@@ -148,7 +149,7 @@ listed start now old_walk walk old new used count so some =
       list = so.list;
       are_first =
           subst (λ n. AreFirst start.sought (chars start.haystack) n start.ended so.list) zero_more
-          (lists_all start now (count + 0) so.list all);
+          (lists_all (λ own. own) IsAnswerOf start now (count + 0) so.list all);
       number = sym so.number;
       front = ends.front;
       last = ends.last;

@@ -37,7 +37,7 @@ length_pushed qs at frames =
     length-append (map (λ q. explore q at) qs) frames
     ∙ ap (λ n. n + length frames) (length-map qs (λ q. explore q at))
 
--- arrows that mark nothing leave all but one behind
+-- of arrows that mark nothing, all but one are left for later
 entries_left : (slots : ℕ) (qs : List ℕ)
     → length qs ≤ kept_back_with slots (with_arrows (map (λ q. go q) qs)) + 1
 entries_left slots [] = omega arith
@@ -45,7 +45,7 @@ entries_left slots (q ∷ qs) = let size = length-map qs (λ (q : ℕ). go q) in
 
 module _ (haystack : Text) (p at : ℕ) (row row' : Row) (frames frames' : List Frame)
     (done : Bool) where
-  -- so many arrows, and so much that is kept back
+  -- this many arrows, and this much that is kept back
   abbrev pub IsFew : (arrows kept : ℕ) → Type 0
   IsFew arrows kept =
       (explores frames' ≤ explores frames + arrows)
@@ -85,7 +85,7 @@ module _ (haystack : Text) (p at : ℕ) (row row' : Row) (frames frames' : List 
   few_class [] (Some c) to is same = few_pushed [] 0 0 is same (omega arith) (omega arith)
   few_class (range ∷ ranges) next to is same = few_read (in_ranges (range ∷ ranges)) next to is same
 
-  -- the first of them marks a slot, where so many are kept
+  -- the first of them marks a slot, where this many are kept
   few_marked : (width slot to : ℕ) → slot < width
       → frames' ≡ explore to at ∷ (restore slot (slice_index_or row slot None) ∷ frames)
       → row' ≡ slice_set row slot (Some at)
@@ -100,7 +100,7 @@ module _ (haystack : Text) (p at : ℕ) (row row' : Row) (frames frames' : List 
         ap length marked ∙ length-set row slot (Some at),
       )
 
-  -- it adds no more frames than the place has arrows, or leaves behind
+  -- it adds no more frames than the place has arrows, or keeps back
   pub enters_few : (x : code.Place) → Enters haystack p at x row frames row' frames' done
       → IsFew (arrow_count (place_of x)) (kept_back_with (length row) (place_of x))
   enters_few (stored.Empty to) (same, is, going) =

@@ -15,7 +15,7 @@ held_is a b f r m =
     held : List Frame → Row → ℕ → Held
     held frames row room = record { frames = frames; row = row; room = room }
 
--- as many as are told
+-- as many as are given
 pub frames_long : (items : List code.Frame) → length (reverse (map frame_of items)) ≡ length items
 frames_long items = length-reverse (map frame_of items) ∙ length-map items frame_of
 

@@ -8,7 +8,7 @@ use Rattle.regex_lite_engine.specs.Graph.Places.{Place, with_arrows, go, go_mark
 use Rattle.regex_lite_engine.specs.Graph.Places.{go_holding, choice, one_char, one_of}
 
 module _ {A : Type 0} (Body : A → A → Type 0) where
-  -- so many bodies, one after another
+  -- this many bodies, one after another
   abbrev pub InRow : ℕ → (enter exit : A) → Type 0
   InRow zero enter exit = enter ≡ exit
   InRow (suc n) enter exit = (next : A) × Body enter next × InRow n next exit
@@ -16,7 +16,7 @@ module _ {A : Type 0} (Body : A → A → Type 0) where
 module _ {A : Type 0} (place : A → Place A) where
   -- the rows of a repetition, by where its body stands
   module _ (greedy : Bool) (Body : A → A → Type 0) where
-    -- so many choices: each leads to the join, or by a body to the next choice
+    -- this many choices: each leads to the join, or by a body to the next choice
     abbrev pub InChoices : ℕ → (join enter : A) → Type 0
     InChoices zero join enter = enter ≡ join
     InChoices (suc n) join enter =
@@ -38,7 +38,7 @@ module _ {A : Type 0} (place : A → Place A) where
         (body : A) × (turn : A) × InRow Body n enter body × Body body turn
         × (place turn ≡ choice greedy body exit)
 
-    -- so many bodies, and then so many choices
+    -- this many bodies, and then this many choices
     abbrev pub IsBetween : (least above : ℕ) → (enter exit : A) → Type 0
     IsBetween least above enter exit =
         (turn : A) × (join : A) × InRow Body least enter turn × InChoices above join turn

@@ -1,4 +1,4 @@
--- Positions that no place of a graph tells from one another.
+-- Positions that no place of a graph distinguishes.
 use Rattle.std.proofs.Common.{◌≡◌, ◌==◌, ℕ, zero, suc, ◌&&◌, ◌||◌, not, Bool, true}
 use Rattle.std.proofs.Common.{false, All, List, [], ◌∷◌, map, slice_get, Option}
 use Rattle.std.proofs.Common.{Some, None, refl, sym, ap, subst, ◌∙◌, arith}
@@ -146,7 +146,7 @@ module _ (intervals : Intervals) (here there : Here) (alike : LooksAlike interva
       subst (λ (z : Place ℕ). FitsAlike z here there) (same_some e) (fits x (each zero x refl))
   all_alike (x ∷ xs) each (suc q) place e = all_alike xs (λ r y at. each (suc r) y at) q place e
 
--- no place tells apart positions that look alike
+-- no place distinguishes positions that look alike
 pub alike_at : (places : List code.Place) (intervals : Intervals) → AreIntervalsOf places intervals
     → (here there : Here) → LooksAlike intervals here there
     → AreAlike (map place_of places) here there

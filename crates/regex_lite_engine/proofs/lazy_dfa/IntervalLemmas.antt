@@ -49,7 +49,7 @@ interval_less (x ∷ bs) b c d (inr among) lt le =
     let one = tick_most (nat_le x c) (nat_le x d) (more_le x c d (omega (arith, lt, le))) in
     let rest = interval_less bs b c d among lt le in omega (arith, one, rest)
 
--- no boundary tells them from one another
+-- no boundary lies between them
 pub same_side : (bs : List ℕ) (c d : ℕ) → interval_of bs c ≡ interval_of bs d → (b : ℕ)
     → IsBoundary bs b → b ≤ c → b ≤ d
 same_side bs c d e b among le = go (nat_le b d) refl

@@ -37,7 +37,7 @@ use Rattle.regex_lite_engine.proofs.pikevm.OptionLemmas.{not_there}
 eq_there : (a b : ℕ) → (a == b) ≡ true → a ≡ b
 eq_there a b e = grind (arith, nat_tests)
 
--- less is told of a thread, and no slots are kept
+-- less is known of a thread, and no slots are kept
 module _ (first : ℕ) where
   abbrev less : Thread → Thread
   less thread = (thread.0, told_by first (origin_of first thread.1), [])

@@ -206,7 +206,7 @@ end_none table entries h low p automaton at scanning none y to last =
     (subst (λ b. IsComing table h entries low (length h) p (threads_of at.first scanning.state.ways)
     (best_told b)) none scanning.coming) to.coming
 
--- nothing but the end of a match is told
+-- nothing but the end of a match is known
 pub end_alone : (table : List (Place ℕ)) (h : Text) (entries : List ℕ) (s : ℕ) (best : Best)
     → IsNumberedEndOf table h entries s best
     → IsNumberedEndOf table h entries s (end_told (option_map (λ b. b.1) best))

@@ -189,7 +189,7 @@ entered_again table here there i tell now rounds rounds' row row' q x fs fs' fs'
         (subst (λ b. Enters there (tell i) x [] fs (all_retold tell t) [] other
         (all_retold tell t') b) d again)))))
 
--- a thread of the list, told anew
+-- a thread of the list, with another start
 pub thread_retold : (tell : Told → Told) (ts : List Thread) (k : ℕ) → k < length ts
     → thread_at (all_retold tell ts) k ≡ retold tell (thread_at ts k)
 thread_retold tell [] k lt = absurd (omega (arith, lt))
@@ -200,7 +200,7 @@ pub all_retold_len : (tell : Told → Told) (ts : List Thread)
     → length (all_retold tell ts) ≡ length ts
 all_retold_len tell ts = length-map ts (retold tell)
 
--- the threads that begin there, told anew
+-- the threads that begin there, with other starts
 begun_retold : (tell : Told → Told) (told : ℕ → Told) (row : Row) (starts : List Start)
     → all_retold tell (begun told row starts) ≡ begun (λ n. tell (told n)) [] starts
 begun_retold tell told row [] = refl

@@ -104,7 +104,7 @@ module _ (table : List (Place ℕ)) (h : Text) (s : List ℕ) (first : ℕ) wher
           subst (StartsBelow from) (sym e) (omega (arith, past, high)))
       all (inr best) = inr best
 
-  -- a search that is over tells the answer
+  -- a search that is over has the answer
   pub answered : (best : Best) (recorded : Node → Option (List ℕ)) (way : Option (List ℕ))
       → BestHolds table h s best way → IsOverOf table h s first recorded way
       → IsBestOutcomeOf table h s first best

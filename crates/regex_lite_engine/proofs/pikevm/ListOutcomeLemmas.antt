@@ -1,4 +1,4 @@
--- What a search for several patterns tells: the answer of the list, by offsets.
+-- What a search for several patterns returns: the answer of the list, by offsets.
 use Rattle.std.proofs.Common.{◌≡◌, refl, ℕ, ◌+◌, ◌<◌, ◌≤◌, ◌↔◌, List, [], ◌∷◌, All, IsTrue}
 use Rattle.std.proofs.Common.{length, slice_index, Option, Some, None, ap, sym, subst, ◌∙◌, arith}
 use Rattle.std.specs.Prelude.{chars, is_some, option_map}
@@ -124,7 +124,7 @@ module _ (trees : List Tree) (list : StoredList) (is : IsGraphOfList trees list)
             shortest.start shortest.number shortest.way shortest.last end shortest.is_match in
             (shortest.number, tree, known, (shortest.start, end, match))
 
-    -- the search for one of the patterns tells whether that matches
+    -- the search for one of the patterns shows whether it matches
     module _ (number : ℕ) (tree : Tree) (there : HasTree trees number tree)
         (known : number < length list.entries) where
       abbrev pub Here : Type 0

@@ -20,7 +20,7 @@ use Rattle.regex_lite_engine.proofs.pikevm.here.OffsetLemmas.{offset_less}
 
 module _ (table : List (Place ℕ)) (entries : List ℕ) (heads : ListHeads)
     (w : AreListHeadsOf table entries heads) (bs : List ℕ) (u : IsUtf8 bs) where
-  -- none begins after the haystack's start where the bytes tell so
+  -- none begins after the haystack's start where the bytes say so
   dead_later : (i : ℕ) → suc i < length (chars bs) → offset (chars bs) (suc i) < length bs
       → IsPassedByAll heads bs (offset (chars bs) (suc i))
       → AreDeadAt table (chars bs) entries (suc i)

@@ -1,4 +1,4 @@
--- What a search tells: where it starts, that its counts fit, and the tree's answer by offsets.
+-- What a search returns: where it starts, that its counts fit, and the tree's answer by offsets.
 use Rattle.std.proofs.Common.{◌≡◌, ℕ, ◌+◌, ◌*◌, ◌^◌, ◌<◌, ◌≤◌, List, [], length}
 use Rattle.std.proofs.Common.{Option, Some, None, sym, subst, ◌∙◌, arith}
 use Rattle.std.specs.Prelude.{IsUtf8, chars, option_map}

@@ -29,7 +29,7 @@ module _ (N : Type 0) (step : N → ℕ → Option N) (IsStart : List ℕ → N 
   IsInStep p from recorded now next best =
       walk.IsInStep N step IsStart is_end position p from recorded now next best
 
-  -- with nothing left it is explored. A start is told by a list that is not empty
+  -- with nothing left it is explored. A start is given by a list that is not empty
   pub in_step_over : (p from : ℕ) (recorded : Recorded) (best : Option (List ℕ)) →
       ((front : List ℕ) (n : N) → IsStart front n → (i : ℕ) × (rest : List ℕ) × (front ≡ i ∷ rest))
       →

@@ -168,7 +168,7 @@ stopped s bs q y u is stops = by_next y.after refl
     by_next None e = refl
     by_next (Some c) e = ap (λ z. z || (s.at_start && is_none y.before)) (ahead c e)
 
--- none begins where that is told
+-- none begins where that is known
 pub never_at : (s : Starts) (h : Text) (p : ℕ) (x : Here) → IsHere h p x
     → may_begin s x.before x.after ≡ false → MayBegin s h p → ⊥
 never_at s h p x is off may =
@@ -244,7 +244,7 @@ module _ (bs : List ℕ) (i : ℕ) (u : IsUtf8 bs) (within : i < length (chars b
             ∙ ap (λ z. stops_at second (slice_index bs z)) next_at ∙ off,
       )
 
--- none begins where the bytes tell that no second character does
+-- none begins where the bytes show that no second character does
 pub cut_off_never : (heads : Heads) (bs : List ℕ) (i : ℕ) → IsUtf8 bs → i < length (chars bs)
     → IsCutOff heads bs (offset (chars bs) i) → NeverBegins heads (chars bs) i
 cut_off_never heads bs i u within cut = inr (by_second heads.second cut)

@@ -1,10 +1,11 @@
 -- Lists of threads that are the same, or have one more.
 use Rattle.std.proofs.Common.{◌≡◌, ℕ, zero, suc, ◌+◌, ◌-◌, ◌<◌, ◌≤◌, slice_get, Some, List}
-use Rattle.std.proofs.Common.{[], ◌∷◌, ◌++◌, length, refl, ap, ◌∙◌, arith, length-append}
+use Rattle.std.proofs.Common.{None, [], ◌∷◌, ◌++◌, length, replicate, refl, sym, ap, ◌∙◌}
+use Rattle.std.proofs.Common.{arith, length-append}
 use Rattle.regex_lite_engine.specs.declared.pikevm.patterns.Start.{Start}
 use Rattle.regex_lite_engine.specs.Walk.Beginnings.{Told}
 use Rattle.regex_lite_engine.specs.Walk.Entering.{Pushed, Same}
-use Rattle.regex_lite_engine.specs.Walk.Machine.{Row, Thread, thread_at}
+use Rattle.regex_lite_engine.specs.Walk.Machine.{Row, State, Thread, thread_at}
 use Rattle.regex_lite_engine.specs.Walk.Turns.{begun}
 use Rattle.regex_lite_engine.proofs.pikevm.OptionLemmas.{not_there, same_some}
 
@@ -39,6 +40,20 @@ at_back (t ∷ ts) more zero le = absurd (omega (arith, le))
 at_back (t ∷ ts) more (suc k) le =
     let same : k - length ts ≡ suc k - suc (length ts) = omega arith in
     at_back ts more k (omega (arith, le)) ∙ ap (thread_at more) same
+
+-- the thread of a start is taken up
+pub begun_taken : (m n : State) (told : ℕ → Told) (starts : List Start) (k : ℕ) (start : Start)
+    (kept : Told) → length m.threads ≤ k
+    → slice_get starts (k - length m.threads) ≡ Some start → kept ≡ told start.number
+    → n ≡ record m { row = replicate (length m.row) None } →
+    thread_at (m.threads ++ begun told (replicate (length m.row) None) starts) k
+    ≡ (start.place, kept, n.row)
+begun_taken m n told starts k start kept le there is cleared =
+    let blank : Row = replicate (length m.row) None in
+    at_back m.threads (begun told blank starts) k le
+    ∙ begun_at told blank starts (k - length m.threads) start there
+    ∙ ap (λ t. (start.place, t, blank)) (sym is)
+    ∙ ap (λ r. (start.place, kept, r)) (sym (ap (λ (z : State). z.row) cleared))
 
 pub same_len : {before after : List Thread} → Same before after → length after ≡ length before
 same_len same = ap length same

@@ -1,5 +1,5 @@
 -- A depth-first walk over a graph: what it has recorded, and the ways that it has still to follow.
--- A start tells its position in front of each way from it, and the starts are offered in order, one
+-- A start puts its position in front of each way from it, and the starts are offered in order, one
 -- when nothing is left of those before it.
 use Rattle.std.specs.Prelude.{◌≡◌, ◌<◌, ◌≤◌, ◌⊎◌, ℕ, Bool, IsTrue}
 use Rattle.std.specs.Prelude.{List, [], ◌∷◌, ◌++◌, Option, Some, None}

@@ -34,7 +34,7 @@ module _ (at : ℕ) where
       ⊎ ((length row ≤ slot) × (row' ≡ row) × (frames' ≡ explore to at ∷ frames))
 
 module _ (haystack : Text) (p at : ℕ) where
-  -- at this position, which has the offset. `done` tells that a match is complete there
+  -- at this position, which has the offset. `done` says that a match is complete there
   abbrev pub Enters : Place → Row → List Frame → Row → List Frame → (done : Bool) → Type 0
   Enters (stored.Empty to) row frames row' frames' done =
       (row' ≡ row) × (frames' ≡ explore to at ∷ frames) × (done ≡ false)

@@ -29,7 +29,7 @@ completes (To place at) = false
 completes Back = false
 completes Complete = true
 
--- the pairs of a place and an offset, of so many places, from the first offset on
+-- the pairs of a place and an offset, of this many places, from the first offset on
 pub record Pairs : Type 0 where
   -- whether each was entered
   pub entered : List Bool

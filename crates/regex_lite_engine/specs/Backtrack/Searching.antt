@@ -50,7 +50,7 @@ module _ (table : List (Place ℕ)) (haystack : List ℕ) where
     pub looked_entered : walk'.steps.looked ≤ walk'.steps.entered
 
   module _ (start : ℕ) where
-    -- there is room for what all pairs leave behind
+    -- there is room for what all pairs leave for later
     abbrev pub HasRoomForAll : Walk → Type 0
     HasRoomForAll walk =
         sum_by (kept_back_with (length walk.stack.row)) table * (length haystack - start + 1)

@@ -7,7 +7,7 @@ use Rattle.regex_lite_engine.specs.Graph.Places.{Place}
 use Rattle.regex_lite_engine.specs.Graph.Renumbered.{arrows_of}
 use Rattle.regex_lite_engine.specs.Graph.Stored.{LeadsInto}
 
--- the number is one of so many in a row
+-- the number is one of this many in a row
 abbrev pub IsWithin : (low len q : ℕ) → Type 0
 IsWithin low len q = (low ≤ q) × (q < low + len)
 

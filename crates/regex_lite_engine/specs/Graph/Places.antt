@@ -27,7 +27,7 @@ abbrev pub mark_count : (slot : Option ℕ) → ℕ
 mark_count None = 0
 mark_count (Some slot) = 1
 
--- the same where so many slots are kept
+-- the same where this many slots are kept
 abbrev pub kept_marks : (slot : Option ℕ) → (slots : ℕ) → ℕ
 kept_marks None slots = 0
 kept_marks (Some slot) zero = 0
@@ -114,7 +114,7 @@ module _ {A : Type 0} where
   kept_back (with_arrows []) = 0
   kept_back (with_arrows (arrow ∷ arrows)) = length arrows + mark_count arrow.mark
 
-  -- the same of a search that keeps so many slots: with none, the other arrows alone
+  -- the same of a search that keeps this many slots: with none, the other arrows alone
   abbrev pub kept_back_with : (slots : ℕ) → Place A → ℕ
   kept_back_with slots complete = 0
   kept_back_with slots (with_arrows []) = 0

@@ -47,7 +47,7 @@ pub record IsGraphOf (tree : Tree) (graph : StoredGraph) : Type 0 where
   pub arrows : graph.arrows ≡ whole_arrows tree
   pub each_arrow : arrows_of (table_of graph) ≡ whole_arrows tree
 
--- what the graph tells of groups is so of the tree
+-- what the graph says of groups holds for the tree
 pub record HasGroupsOf (tree : Tree) (graph : StoredGraph) : Type 0 where
   pub captures : length graph.capture_names ≡ captures_len tree
   pub names : (k : ℕ)

@@ -79,7 +79,7 @@ pub record IsKeptBackOf (table : List (Place ℕ)) (kept : KeptBack) : Type 0 wh
   pub with_slots : kept.with_slots ≡ kept_back_of table
 
 -- a search is led to places of the table, and neither places nor arrows are more than can be
--- numbered. So many of the places read a character, and a search keeps back less than there are
+-- numbered. This many of the places read a character, and a search keeps back less than there are
 -- places. A table of no pattern has none
 pub record IsClosed (places : List code.Place) (arrows reading : ℕ) : Type 0 where
   pub each_inside : (q : ℕ) (place : code.Place) → slice_get places q ≡ Some place

@@ -65,7 +65,7 @@ TellGroupsOf trees list =
     (number : ℕ) (tree : Tree) (groups : StoredGroups) → slice_get trees number ≡ Some tree
     → slice_get list number ≡ Some groups → TellsGroupsOf tree groups
 
--- the graph tells of the groups of all patterns
+-- what the graph says of the groups of all patterns
 pub record HasGroupsOfList (trees : List Tree) (list : StoredList) : Type 0 where
   pub all : length list.groups ≡ length trees
   pub each : TellGroupsOf trees list.groups

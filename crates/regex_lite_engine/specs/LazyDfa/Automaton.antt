@@ -62,7 +62,7 @@ told_by i origin = record { at = told_if origin.first i; number = origin.number 
 abbrev pub thread_of : (i : ℕ) → Way → Thread
 thread_of i way = (way.place, told_by i way.origin, [])
 
--- the threads of a state where the first start is i. Nothing is told of the other starts
+-- the threads of a state where the first start is i. Nothing is known of the other starts
 abbrev pub threads_of : (i : ℕ) → List Way → List Thread
 threads_of i ways = map (thread_of i) ways
 

@@ -1,4 +1,4 @@
--- Classes of characters that no place of a graph tells apart: those between the same boundaries.
+-- Classes of characters that no place of a graph distinguishes: those between the same boundaries.
 use Rattle.std.specs.Prelude.{◌≡◌, ◌+◌, ◌⊎◌, ℕ, suc, Bool, true, false, All, List, []}
 use Rattle.std.specs.Prelude.{◌∷◌, Option, Some, None, is_none, length, nat_le, slice_get}
 use Rattle.regex_lite_syntax.specs.declared.class.ClassRange.{ClassRange}
@@ -55,12 +55,12 @@ IsBoundedPlace intervals stored.Match = Unit {0}
 abbrev pub character_bounds : List ℕ
 character_bounds = 0xD800 ∷ 0xE000 ∷ 0x110000 ∷ []
 
--- what looks tell apart: line feeds, carriage returns, and the runs of word characters
+-- what looks distinguish: line feeds, carriage returns, and the runs of word characters
 abbrev pub look_bounds : List ℕ
 look_bounds =
     10 ∷ 11 ∷ 13 ∷ 14 ∷ 48 ∷ 58 ∷ 65 ∷ 91 ∷ 95 ∷ 96 ∷ 97 ∷ 123 ∷ []
 
--- no place of these tells two characters of an interval apart
+-- no place of these distinguishes two characters of an interval
 pub record AreIntervalsOf (places : List code.Place) (intervals : Intervals) : Type 0 where
   pub each : (q : ℕ) (place : code.Place) → slice_get places q ≡ Some place
       → IsBoundedPlace intervals place

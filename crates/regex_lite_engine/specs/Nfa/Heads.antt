@@ -43,7 +43,7 @@ IsCutOff heads bytes at =
     MatchOption heads.second ⊥ (λ second. (at + 1 < length bytes) × (slice_index bytes at < 128)
     × (stops_at second (slice_index bytes (at + 1)) ≡ false))
 
--- the byte at this offset, or the one after it, tells that none begins there
+-- the byte at this offset, or the one after it, shows that none begins there
 abbrev pub IsPassed : Heads → (bytes : List ℕ) → (at : ℕ) → Type 0
 IsPassed heads bytes at =
     (stops_at heads.first (slice_index bytes at) ≡ false) ⊎ IsCutOff heads bytes at

@@ -43,7 +43,7 @@ alternation_layout branches base exit =
     )
 
 module _ (body : ℕ → ℕ → Fragment) where
-  -- so many copies in a row
+  -- this many copies in a row
   abbrev pub copies_layout : ℕ → (base exit : ℕ) → Fragment
   copies_layout zero base exit = ([], exit)
   copies_layout (suc n) base exit =
@@ -54,14 +54,14 @@ module _ (body : ℕ → ℕ → Fragment) where
   exactly_layout zero base exit = alone (with_arrows (go exit ∷ [])) base
   exactly_layout (suc n) base exit = copies_layout (suc n) base exit
 
-  -- what stands before so many choices
+  -- what stands before this many choices
   abbrev pub needed_layout : (least choices : ℕ) → (base exit : ℕ) → Fragment
   needed_layout zero (suc zero) base exit = ([], exit)
   needed_layout zero choices base exit = alone (with_arrows (go exit ∷ [])) base
   needed_layout (suc n) choices base exit = copies_layout (suc n) base exit
 
 module _ (greedy : Bool) (body : ℕ → ℕ → Fragment) where
-  -- so many times a body and the choice before it
+  -- this many times a body and the choice before it
   abbrev pub choices_layout : ℕ → (base join : ℕ) → Fragment
   choices_layout zero base join = ([], join)
   choices_layout (suc d) base join =

@@ -34,7 +34,7 @@ start_row = 258
 abbrev pub row_count : ℕ
 row_count = 259
 
--- the row is one of so many from this one on, and its character passes the test
+-- the row is one of this many from this one on, and its character passes the test
 abbrev pub is_in_column : (ℕ → Bool) → (base width row : ℕ) → Bool
 is_in_column test base width row =
     not (nat_lt row base) && (nat_lt row (base + width) && test (row - base))
@@ -65,7 +65,7 @@ pub record IsSized (rows : Rows) (count : ℕ) : Type 0 where
   pub enough : count ≤ 64 * rows.width
   pub few : 64 * rows.width < count + 64
 
--- the pattern with this number may start between these characters, as the rows tell
+-- the pattern with this number may start between these characters, by the rows
 abbrev pub may_start : ListHeads → (before first second : Option ℕ) → (number : ℕ) → Bool
 may_start heads b None second number = true
 may_start heads b (Some c) None number =
@@ -98,7 +98,7 @@ abbrev pub in_some_set : Option AsciiSet → (code : ℕ) → Bool
 in_some_set None code = false
 in_some_set (Some set) code = in_set set code
 
--- a match of some pattern can begin with these two ASCII characters, as the index tells
+-- a match of some pattern can begin with these two ASCII characters, by the index
 abbrev pub has_pair : ListHeads → (first second : ℕ) → Bool
 has_pair heads first second = in_some_set (slice_get heads.pairs.items first) second
 
@@ -119,7 +119,7 @@ NeverBeginsWith heads first None = ⊥
 NeverBeginsWith heads first (Some second) =
     (first < 128) × (second < 128) × (has_pair heads first second ≡ false)
 
--- The byte at this offset tells that no match begins there, or it and the one after it are two
+-- The byte at this offset shows that no match begins there, or it and the one after it are two
 -- ASCII characters with which none begins
 abbrev pub IsPassedByAll : ListHeads → (bytes : List ℕ) → (at : ℕ) → Type 0
 IsPassedByAll heads bytes at =
@@ -145,7 +145,7 @@ pub record AreEachHeadsOf (trees : List Tree) (parts : List Heads) : Type 0 wher
   pub each : (number : ℕ) (tree : Tree) (part : Heads) → HasTree trees number tree
       → slice_get parts number ≡ Some part → AreHeadsOfTree tree part
 
--- the index tells where each of the trees may match from
+-- the index says where each of the trees may match from
 pub record AreHeadsOfTrees (trees : List Tree) (heads : ListHeads) : Type 0 where
   pub parts : List Heads
   pub of_trees : AreEachHeadsOf trees parts

@@ -1,4 +1,4 @@
--- What a prefilter tells of the bytes at which a match can begin.
+-- What a prefilter says of the bytes at which a match can begin.
 use Rattle.std.specs.Prelude.{◌≡◌, ◌+◌, ◌<◌, ℕ, Bool, true, false, ◌&&◌}
 use Rattle.std.specs.Prelude.{nat_eq, nat_le, List, length, slice_index}
 use Rattle.std.specs.List.{list_any}

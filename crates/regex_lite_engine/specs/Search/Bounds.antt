@@ -18,8 +18,8 @@ pub record StaysCounted (before after : StepCounts) : Type 0 where
 abbrev pub characters_left : Text → (s : ℕ) → ℕ
 characters_left haystack s = length haystack - s
 
--- the counts of a search from position s on, of a graph with so many places, that comes to a place
--- at most so often at one position
+-- the counts of a search from position s on, of a graph with this many places, that visits a place
+-- at most this often at one position
 pub record IsBoundedBy (places tries : ℕ) (haystack : Text) (s tried entered looked : ℕ)
     : Type 0 where
   pub few_tried : tried ≤ tries * (characters_left haystack s + 1)
@@ -29,6 +29,6 @@ pub record IsBoundedBy (places tries : ℕ) (haystack : Text) (s tried entered l
   -- a search from beyond the end has nothing to try
   pub none_beyond : length haystack < s → tried ≡ 0
 
--- of a graph of one pattern with so many arrows: it comes to a place by each of them, and to start
+-- of a graph of one pattern with this many arrows: it visits a place by each of them, and to start
 abbrev pub IsBounded : (places arrows : ℕ) → Text → (s tried entered looked : ℕ) → Type 0
 IsBounded places arrows = IsBoundedBy places (arrows + 1)

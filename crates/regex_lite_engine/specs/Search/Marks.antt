@@ -28,7 +28,7 @@ over later earlier slot = option_or (later slot) (earlier slot)
 abbrev pub span : Marks → (index : ℕ) → Option (ℕ × ℕ)
 span marks index = option_zip (marks (2 * index)) (marks (2 * index + 1))
 
--- how many of so many groups from this index on took part
+-- how many of this many groups from this index on took part
 abbrev pub taking_part : Marks → (first count : ℕ) → ℕ
 taking_part marks first zero = 0
 taking_part marks first (suc count) =

@@ -1,4 +1,4 @@
--- What a search tells, by offsets.
+-- What a search returns, by offsets.
 use Rattle.std.specs.Prelude.{◌≡◌, ℕ, List, [], Option, Some, None, chars}
 use Rattle.regex_lite_syntax.specs.Text.{Text}
 use Rattle.regex_lite_syntax.specs.Tree.{Tree}
@@ -17,7 +17,7 @@ pub record Tells (haystack : Text) (found : Found) (span : ℕ × ℕ) (held : L
   pub end : span.1 ≡ offset haystack found.end
   pub slots : HasSlots haystack held found.marks
 
--- the span that a search from an offset on finds, and its slots, tell the answer
+-- the span that a search from an offset on finds, and its slots, are the answer's
 abbrev pub IsSpanOutcome : Tree → (haystack : List ℕ) → (start : ℕ) → (slots : List (Option ℕ))
     → Option (ℕ × ℕ) → Type 0
 IsSpanOutcome tree haystack start slots None =
@@ -46,7 +46,7 @@ HasCost tree haystack start steps =
     IsBounded (whole_places tree) (whole_arrows tree) (chars haystack)
     (search_start haystack start) steps.tried steps.entered steps.looked
 
--- the number and the span that a search for several patterns finds, and its slots, tell the answer
+-- the number and the span that a search for several patterns finds, and its slots, are the answer's
 -- of the list: the number of a pattern, and what was found of it
 abbrev pub IsSpanOutcomeOfList : List Tree → (haystack : List ℕ) → (start : ℕ)
     → (slots : List (Option ℕ)) → Option (ℕ × (ℕ × ℕ)) → Type 0

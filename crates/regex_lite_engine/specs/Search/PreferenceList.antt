@@ -37,12 +37,12 @@ abbrev pub read : Set → ℕ → (next : Option ℕ) → List Entry
 read set i None = []
 read set i (Some c) = if set c then stop (suc i) else []
 
--- so many passes, and then what follows
+-- this many passes, and then what follows
 abbrev pub passes : (n : ℕ) → (body next : ℕ → List Entry) → ℕ → List Entry
 passes zero body next i = next i
 passes (suc n) body next i = onward (body i) (passes n body next)
 
--- at most so many passes. A greedy repetition prefers one more pass and what follows it to
+-- at most this many passes. A greedy repetition prefers one more pass and what follows it to
 -- stopping, a lazy one the other way round
 abbrev pub up_to : (n : ℕ) → (greedy : Bool) → (body : ℕ → List Entry) → ℕ → List Entry
 up_to zero greedy body i = stop i

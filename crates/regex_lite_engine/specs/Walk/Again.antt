@@ -1,5 +1,5 @@
--- A turn that holds again: at another position that looks the same, where something else is told of
--- where the ways began, and no slots are kept.
+-- A turn that holds again: at another position that looks the same, where something else is known
+-- of where the ways began, and no slots are kept.
 use Rattle.std.specs.Prelude.{◌≡◌, ℕ, Bool, true, false, List, []}
 use Rattle.std.specs.Prelude.{◌∷◌, map, slice_get, Option, Some, None}
 use Rattle.regex_lite_syntax.specs.Tree.Looks.{holds_between}
@@ -29,12 +29,12 @@ abbrev pub FitsAlike : Place ℕ → (here there : Here) → Type 0
 FitsAlike complete here there = Unit {0}
 FitsAlike (with_arrows arrows) here there = FitAlike arrows here there
 
--- no place tells the two from one another
+-- no place distinguishes the two
 abbrev pub AreAlike : List (Place ℕ) → (here there : Here) → Type 0
 AreAlike table here there =
     (q : ℕ) (place : Place ℕ) → slice_get table q ≡ Some place → FitsAlike place here there
 
--- the thread, of which something else is told
+-- the thread, of which something else is known
 abbrev pub retold : (Told → Told) → Thread → Thread
 retold tell thread = (thread.0, tell thread.1, [])
 

@@ -19,7 +19,7 @@ row_at slots width k = take width (drop (k * width) slots)
 abbrev pub padded : Row → (size : ℕ) → Row
 padded slots size = slots ++ replicate (size - length slots) None
 
--- there is room for so many rows of this width, of which the first is there
+-- there is room for this many rows of this width, of which the first is there
 pub record AreRows (slots : Row) (capacity width count : ℕ) : Type 0 where
   pub within : length slots ≤ count * width
   pub fitting : count * width ≤ capacity
@@ -76,7 +76,7 @@ abbrev pub row_on : Side → (k : ℕ) → ℕ
 row_on First k = 2 * k + 1
 row_on Second k = 2 * k + 2
 
--- what the thread tells of where its way began
+-- what the thread keeps of where its way began
 abbrev pub start_told : {S : Type 0} → (S → Told) → Side → Cell S → Told
 start_told told side cell = told (start_on side cell)
 

@@ -52,7 +52,7 @@ SlotMarked at slot to row frames row' frames' =
     ⊎ ((length row ≤ slot) × (row' ≡ row) × (frames' ≡ explore to ∷ frames))
 
 module _ (here : Here) (i : Told) where
-  -- i is told of where the way to the place began; `done` tells that a match is complete there
+  -- i is kept of where the way to the place began; `done` says that a match is complete there
   abbrev pub Enters : Place → Row → List Frame → List Thread → Row → List Frame → List Thread
       → (done : Bool) → Type 0
   Enters (stored.Empty to) row frames next row' frames' next' done =

@@ -1,5 +1,5 @@
 -- What a search of a graph with ordered arrows has done when it is over: at each node that it
--- entered it recorded a way. A way here is a list of numbers: first those that tell its start, and
+-- entered it recorded a way. A way here is a list of numbers: first those that stand for its start,
 -- then those of its arrows. So the ways from an earlier start come first.
 use Rattle.std.specs.Prelude.{◌≡◌, ◌<◌, ◌≤◌, ◌⊎◌, ℕ, Bool, IsTrue}
 use Rattle.std.specs.Prelude.{List, [], ◌∷◌, ◌++◌, Option, Some, None}
@@ -19,9 +19,9 @@ module _ (N : Type 0) (step : N → ℕ → Option N) (is_end : N → Bool) wher
   abbrev pub IsDead : N → Type 0
   IsDead n = (arrows : List ℕ) (end : N) → IsTrue (is_end end) → Leads N step n arrows end → ⊥
 
-  -- which nodes are starts, and the numbers that tell them
+  -- which nodes are starts, and the numbers that stand for them
   module _ (IsStart : (front : List ℕ) → N → Type 0) where
-    -- the numbers that tell one start do not begin those of another
+    -- the numbers that stand for one start do not begin those of another
     abbrev pub StartsDiffer : Type 0
     StartsDiffer =
         (a b more other : List ℕ) (n m : N) → IsStart a n → IsStart b m
@@ -68,7 +68,7 @@ module _ (N : Type 0) (step : N → ℕ → Option N) (is_end : N → Bool) wher
         pub best_least : (n : N) (way : List ℕ) → IsTrue (is_end n) → recorded n ≡ Some way
             → (first : List ℕ) × (best ≡ Some first) × NotAfter first way
 
--- there is a start at each position from the first to the last, which tells it
+-- there is a start at each position from the first to the last; its position stands for it
 abbrev pub StartsAt : {N : Type 0} → (start : ℕ → N) → (first last : ℕ) → (front : List ℕ) → N
     → Type 0
 StartsAt start first last front n =

@@ -18,7 +18,7 @@ unwound row [] = (row, [])
 unwound row (explore place ∷ frames) = (row, explore place ∷ frames)
 unwound row (restore slot old ∷ frames) = unwound (slice_set row slot old) frames
 
--- a place, what is told of where its way began, and a row
+-- a place, what is kept of where its way began, and a row
 abbrev pub Thread : Type 0
 Thread = ℕ × Told × Row
 
@@ -43,7 +43,7 @@ pub record State : Type 0 where
   -- whether there is a cell for each place
   pub ready : Bool
 
--- what the store of the best match stands for: what is told of its start, and the offset of its
+-- what the store of the best match stands for: what is kept of its start, and the offset of its
 -- end; its row, or that of an earlier match
 pub record BestState : Type 0 where
   pub found : Option (Told × ℕ)

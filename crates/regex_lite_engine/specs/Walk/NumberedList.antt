@@ -15,7 +15,7 @@ use Rattle.regex_lite_engine.specs.Walk.NumberedAnswer.{IsNumberedMatch, IsNumbe
 abbrev pub IsEntry : (entries : List ℕ) → (number entry : ℕ) → Type 0
 IsEntry entries number entry = slice_get entries number ≡ Some entry
 
--- There is a start of each pattern at each position from the first to the last. It is told by the
+-- There is a start of each pattern at each position from the first to the last. It is given by the
 -- position, and then by the pattern's number
 abbrev pub StartsOf : (entries : List ℕ) → (first last : ℕ) → (front : List ℕ) → ℕ × ℕ → Type 0
 StartsOf entries first last front n =

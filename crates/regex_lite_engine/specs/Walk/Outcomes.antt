@@ -16,7 +16,7 @@ use Rattle.regex_lite_engine.specs.Walk.Walking.{Best}
 use Rattle.regex_lite_engine.specs.Walk.Turns.{best_of}
 use Rattle.regex_lite_engine.specs.Walk.Searching.{IsBetween}
 
--- the match that is told
+-- the match that is returned
 abbrev pub match_told : Option Outcome → Option (ℕ × ℕ × Row)
 match_told None = None
 match_told (Some outcome) = Some (outcome.start, outcome.end, outcome.slots.items)
@@ -27,7 +27,7 @@ with_start_kept None = None
 with_start_kept (Some found) =
     Some (record { at = Some found.0; number = None }, found.1, found.2)
 
--- the match that is told of a pattern among several, with the pattern's number
+-- the match that is returned of a pattern among several, with the pattern's number
 abbrev pub numbered_told : Option (ℕ × Outcome) → Option (ℕ × ℕ × ℕ × Row)
 numbered_told None = None
 numbered_told (Some told) = Some (told.0, told.1.start, told.1.end, told.1.slots.items)
@@ -43,7 +43,7 @@ with_origin_kept None = None
 with_origin_kept (Some (number, start, end, row)) =
     Some (record { at = Some start; number = Some number }, end, row)
 
--- the best match has the offsets of the answer, its start as far as it is told
+-- the best match has the offsets of the answer, its start if that is kept
 abbrev pub IsBestOutcome : List (Place ℕ) → Text → (start s : ℕ) → Best → Type 0
 IsBestOutcome table haystack start s None = IsNumberedAnswer table haystack start s None
 IsBestOutcome table haystack start s (Some best) =
@@ -100,7 +100,7 @@ GoesOnIn list cache =
     0 < length list.entries
     → IsBetween (table_of_list list) cache × IsCountable (table_of_list list)
 
--- the counts of a search for so many patterns over so many characters fit
+-- the counts of a search for this many patterns over this many characters fit
 pub record CanCount (table : List (Place ℕ)) (patterns characters : ℕ) : Type 0 where
   pub tries : (arrows_of table + patterns) * (characters + 1) < 2 ^ 127
   pub entries : length table * (characters + 1) < 2 ^ 127

@@ -81,7 +81,7 @@ module _ (table : List (Place ℕ)) where
       (if done then n else k) n (thread_at next') (length next')
       (if done then Some (i, here.at, row') else best)
 
-  -- the same from wherever it looks the same, with something else told
+  -- the same from wherever it looks the same, with something else kept
   abbrev pub WalksAgain : Here → (i : Told) → (now : ℕ) → (rounds : List ℕ) → List Frame
       → List Thread → (rounds' : List ℕ) → List Frame → List Thread → (done : Bool) → Type 0
   WalksAgain here i now rounds frames next rounds' frames' next' done =

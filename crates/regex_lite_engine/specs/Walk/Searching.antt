@@ -64,7 +64,7 @@ module _ (table : List (Place ℕ)) where
     pub kept : KeepsPosition cache.walk.memory cache'.walk.memory
     pub best_width : length cache'.best.row ≡ length cache.best.row
 
-  -- they would be wherever it looks the same, whatever is told of where the ways began
+  -- they would be wherever it looks the same, whatever is kept of where the ways began
   abbrev pub FollowsAgain : {S : Type 0} → Here → (ways : List Thread) → Cache S → Cache S
       → (hit : Bool) → Type 0
   FollowsAgain here ways cache cache' hit =
@@ -90,7 +90,7 @@ module _ (table : List (Place ℕ)) where
       (all_retold tell cache'.walk.memory.threads)
       (best_again tell there.at hit (best_of cache'.best) best)
 
-  -- a position has cost no more than what is in this part of the table, and so many starts
+  -- a position has cost no more than what is in this part of the table, and this many starts
   pub record SpendsWithin {S : Type 0} (low len starts : ℕ) (cache cache' : Cache S) : Type 0 where
     pub tries :
         cache'.walk.steps.tried + length cache'.walk.memory.threads

@@ -112,7 +112,7 @@ pub record AreStartsAt (table : List (Place ℕ)) (haystack : Text) (entries : L
   pub each : (number entry : ℕ) → IsEntry entries number entry
       → IsAmong number entry starts ⊎ IsDeadAt table haystack entry p
 
--- the threads that begin at a position, of which this is told by the number of the pattern
+-- the threads that begin at a position, of which this is kept by the number of the pattern
 abbrev pub begun : (told : ℕ → Told) → Row → List Start → List Thread
 begun told blank [] = []
 begun told blank (start ∷ starts) =

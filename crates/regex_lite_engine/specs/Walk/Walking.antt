@@ -16,14 +16,14 @@ use Rattle.regex_lite_engine.specs.Walk.InStep.{Offer, IsInStep}
 abbrev pub Node : Type 0
 Node = ℕ × ℕ
 
--- the best match so far: what is told of its start, the offset of its end, and its row
+-- the best match so far: what is kept of its start, the offset of its end, and its row
 abbrev pub Best : Type 0
 Best = Option (Told × ℕ × Row)
 
 module _ (table : List (Place ℕ)) (haystack : Text) where
   module _ (s : List ℕ) where
-    -- the way w leads to n from where a pattern is entered, of which i is told, and the row has
-    -- what it marks. It is told by the position there, and then by the pattern's number
+    -- the way w leads to n from where a pattern is entered, of which i is kept, and the row has
+    -- what it marks. It begins with the position there, and then the pattern's number
     abbrev pub WayTold : (i : Told) → Row → Node → (w : List ℕ) → Type 0
     WayTold i row n w =
         (j : ℕ) × (number : ℕ) × (entry : ℕ) × (ks : List ℕ) × Tells i (offset haystack j) number
@@ -63,7 +63,7 @@ module _ (table : List (Place ℕ)) (haystack : Text) where
           IsInStep Node (numbered_step table haystack) (StartsOf s first last)
           (is_end table haystack) (λ n. n.1)
 
-      -- At position p. The frames belong to a thread of whose start i is told. Left are the
+      -- At position p. The frames belong to a thread of whose start i is kept. Left are the
       -- frames, then the threads from the k-th to the n-th; at the next position there are so far
       -- the m threads of `next`. Starts below `from` were offered
       pub record IsWalking (p from : ℕ) (rounds : List ℕ) (now : ℕ) (i : Told) (row : Row)

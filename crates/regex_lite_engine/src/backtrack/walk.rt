@@ -47,7 +47,7 @@ impl Walk {
         }
     }
 
-    /// Comes to a place, and enters it if it is new at this offset.
+    /// Visits a place, and enters it if it is new at this offset.
     fn come_to(&mut self, graph: &Graph, haystack: &str, place: u32, at: usize) -> Onward
         requires { HasRoom (table_of graph.now) haystack.now self.old
             (explore place at ∷ self.old.stack.frames) }

@@ -32,7 +32,7 @@ use crate::pikevm::turn::Cache;
 
 impl LazyDfa {
     /// Where the most preferred match starts and ends, from the least start at or after this
-    /// offset. No turn is looked up before the search has entered so many places, none or one:
+    /// offset. No turn is looked up before the search has entered this many places, none or one:
     /// before the first turn, a new automaton has none.
     // Not inlined, so that a search without an automaton has no more than the test for it.
     #[inline(never)]
@@ -193,7 +193,7 @@ impl LazyDfa {
         self.settle(true, side, Hit::Nowhere)
     }
 
-    /// Goes by turns that are remembered, if the search has entered so many places. Returns the
+    /// Goes by turns that are remembered, if the search has entered this many places. Returns the
     /// answer where they lead to it. Else the search goes on where they end, or where it was.
     fn look_ahead(
         &self,

@@ -67,6 +67,8 @@ impl LazyDfa {
 
     /// Where there is nothing to go on from and no match, goes on to the next position at which one
     /// can begin. None where no state is known for that.
+    // Inlined, so that other positions cost no more than the test.
+    #[inline(always)]
     pub(super) fn skip(
         &self,
         graph: &Graph,
@@ -89,6 +91,33 @@ impl LazyDfa {
         if at.best.is_some() || !self.is_empty(at.state) {
             return Some(at);
         }
+        self.skip_idle(graph, haystack, at, idle)
+    }
+
+    /// The same where there is nothing to go on from and no match.
+    #[inline(never)]
+    fn skip_idle(
+        &self,
+        graph: &Graph,
+        haystack: &str,
+        at: Standing,
+        idle: &mut Option<Here>,
+    ) -> Option<Standing>
+        requires scanning { (low p : ℕ) × IsScanning (table_of graph.now) (graph.now.start ∷ [])
+            (chars haystack.now) low p self.now at }
+        requires none { best_told at.best ≡ None }
+        requires empty { (state : State) → slice_get self.now.states at.state ≡ Some state
+            → state.ways ≡ [] }
+        ensures on { (low p : ℕ) → IsScanning (table_of graph.now) (graph.now.start ∷ [])
+            (chars haystack.now) low p self.now at
+            → IfSome result (λ on. (q : ℕ) × (p ≤ q) × IsScanning (table_of graph.now)
+            (graph.now.start ∷ []) (chars haystack.now) low q self.now on) }
+        ensures idle { (low p : ℕ) → IsScanning (table_of graph.now) (graph.now.start ∷ [])
+            (chars haystack.now) low p self.now at
+            → (idle.new ≡ idle.old) ⊎ IfSome idle.new (IsIdleAt (table_of graph.now)
+            (graph.now.start ∷ []) (chars haystack.now) low p) }
+        ensures none { IfSome result (λ on. on.best ≡ None) }
+    {
         let pattern = OnePattern {
             graph,
             may_start: false,

@@ -24,7 +24,9 @@ use std::alloc::{AllocError, Global};
 
 /// A search takes this number of turns before it gets an automaton. A match near the start is found
 /// sooner than one is made, which takes some 2,000 instructions and two or three requests for
-/// memory.
+/// memory. With 16 turns, loops of `find_at` in long texts took up to 1.44 of what they take
+/// without automata, where matches are 20 bytes apart, and with 64 up to 1.03. With 256, a search
+/// of 1,000 bytes without a match took up to half as much again as with 64.
 const TURNS_WITHOUT: u32 = 64;
 
 impl Graph {

@@ -84,16 +84,26 @@ pub(crate) fn pass_to_match(
     Some(from)
 }
 
-/// Counts a match, and the tries of the search for its slots. An automaton that doesn't pay is
-/// dropped.
-pub(crate) fn weigh(spans: &mut Option<Box<SpanSearcher>>, tried: u128)
+/// Counts the match, if one was found, and the tries of the search for its slots, until enough were
+/// found. An automaton that doesn't pay is dropped.
+pub(crate) fn weigh(
+    spans: &mut Option<Box<SpanSearcher>>,
+    found: Option<(usize, usize)>,
+    tried: u128,
+)
     ensures { (graph : StoredGraph) → IfSome spans.old (λ boxed. FindsSpansIn graph boxed.value)
         → IfSome spans.new (λ boxed. FindsSpansIn graph boxed.value) }
 {
+    let Some((start, end)) = found else {
+        return;
+    };
     let Some(searcher) = spans else {
         return;
     };
-    searcher.trial.count(tried);
+    if searcher.trial.is_over() {
+        return;
+    }
+    searcher.trial.count(end.saturating_sub(start), tried);
     if !searcher.trial.pays() {
         *spans = None;
     }

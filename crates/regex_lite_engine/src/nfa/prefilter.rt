@@ -157,7 +157,7 @@ fn has_between(block: &[u8], low: u8, high: u8) -> bool
 }
 
 /// Writes down the bytes with which a match can begin, some of them again where there is room.
-/// Tells whether all of them are there.
+/// Returns whether all of them are there.
 fn fill(bytes: &mut [u8], starts: &Starts) -> bool
     ensures length { length bytes.new ≡ length bytes.old }
     ensures all { result ≡ true → AreAllBytes starts.now bytes.new }

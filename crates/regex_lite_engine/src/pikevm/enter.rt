@@ -27,7 +27,7 @@ pub enum Onward {
     Complete,
 }
 
-/// Tells which place is the first that this one offers at this position. The others are put on the
+/// Returns the first place that this one offers at this position. The others are put on the
 /// stack, and what it offers at the next position after the threads there.
 #[inline(always)]
 pub fn enter<S: Beginning, const READY: bool>(

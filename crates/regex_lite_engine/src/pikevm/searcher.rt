@@ -116,8 +116,9 @@ impl<'g> Searcher<'g> {
             may_start: false,
         };
         run(&mut self.cache, &mut pattern, haystack, from);
-        weigh(&mut self.spans, self.cache.walk.steps.tried());
-        self.cache.best.span()
+        let found = self.cache.best.span();
+        weigh(&mut self.spans, found, self.cache.walk.steps.tried());
+        found
     }
 
     /// The slots of the last match that was found, none of them marked before the first. Slots 2k

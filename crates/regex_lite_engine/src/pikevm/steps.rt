@@ -57,7 +57,7 @@ impl Steps {
         }
     }
 
-    /// The search comes to a place.
+    /// The search visits a place.
     pub(crate) fn count_try(&mut self)
         requires { self.old.tried + 1 < 2 ^ 128 }
         ensures { self.new ≡ record self.old { tried = self.old.tried + 1 } }

@@ -107,7 +107,7 @@ impl<S: Beginning> Walk<S> {
         }
     }
 
-    /// Comes to a place, and enters it if it is new at this position.
+    /// Visits a place, and enters it if it is new at this position.
     #[inline(always)]
     fn come_to<const READY: bool>(
         &mut self,

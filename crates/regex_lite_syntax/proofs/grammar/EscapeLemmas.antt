@@ -94,7 +94,7 @@ in_braces verbose n t u opened rest c d some whole here opens (braced opened' g 
     (printed_ends (the "{") opened' (omega arith) (omega arith)) in
     subst (λ v. BracedDigits verbose v rest c) (same_tail (sym same ∙ here)) b
 
--- where none opens, the number has so many digits
+-- where none opens, the number has this many digits
 pub without_braces : (verbose : Bool) (n : ℕ) (t u rest : Text) (c : ℕ) → WholeGap verbose t u
     → (Begins (the "{") u → ⊥) → Hexadecimal verbose n t rest c → FixedDigits verbose n t rest c
 without_braces verbose n t u rest c whole closed (fixed f) = f

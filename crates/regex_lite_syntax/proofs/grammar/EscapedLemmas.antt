@@ -87,7 +87,7 @@ module _ (flags : Flags) (no_case : flags.case_insensitive ≡ false)
       ]) refl
 
   module _ (whole : Text) where
-    -- where so much of the text is left
+    -- where this much of the text is left
     abbrev at : Text → Point
     at t = onward (start flags whole) (escaped t)
 

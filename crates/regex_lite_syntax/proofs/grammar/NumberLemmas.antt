@@ -164,7 +164,7 @@ digits_past_side verbose (e ∷ es) t u first last whole side some s =
 
 -- Numbers.
 
--- digits that have been read from `t` to `u`, over so many characters, and the number that they
+-- digits that have been read from `t` to `u`, over this many characters, and the number that they
 -- write
 pub record DigitsRead (verbose : Bool) (read : ℕ) (t u : Text) (n : ℕ) : Type 0 where
   pub digits : Text

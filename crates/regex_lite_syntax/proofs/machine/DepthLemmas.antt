@@ -64,7 +64,7 @@ does_deepen atom s p q d =
 same_deepest : (p q : Point) → PastGap p q → q.deepest ≡ p.deepest
 same_deepest p q past = ap (λ (x : Point). x.deepest) past.1
 
--- groups come to stand in one another no deeper than so many are open
+-- groups stand in one another no deeper than the number that are open
 pub step_deepest : {s q : State} → Step s q
     → q.point.deepest ≤ max s.point.deepest (length q.frames)
 step_deepest {s} {q} st =

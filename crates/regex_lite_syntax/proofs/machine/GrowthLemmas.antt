@@ -102,7 +102,7 @@ leads_grow {s} (go m st l) =
     grows_on (gap_grows st.gap) (does_grows (kind_at st.past.rest) s st.past m st.does) in
     grows_on step (leads_grow l)
 
--- so many groups and so deep a pattern has at least that has been read up to this point
+-- a pattern that has been read up to this point has at least this many groups, this deep
 pub record Reaches (p : Point) (groups deepest : ℕ) : Type 0 where
   pub groups_reach : p.groups ≤ groups
   pub deepest_reach : p.deepest ≤ deepest

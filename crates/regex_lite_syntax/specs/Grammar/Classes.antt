@@ -68,7 +68,7 @@ pub data Takes (verbose : Bool) (c : ℕ) (t rest : Text) (taken : Bool) : Type 
       → Takes verbose c t rest taken
   leaves : (Begins c t → ⊥) → t ≡ rest → taken ≡ false → Takes verbose c t rest taken
 
--- all dashes that stand there, so many, each with the gap after it
+-- all dashes that stand there, this many, each with the gap after it
 abbrev pub Dashes : (verbose : Bool) → ℕ → Text → Text → Type 0
 Dashes verbose zero t rest = (t ≡ rest) × (Begins (the "-") t → ⊥)
 Dashes verbose (suc n) t rest =

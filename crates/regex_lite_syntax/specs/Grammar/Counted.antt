@@ -37,7 +37,7 @@ pub record Number (verbose : Bool) (t rest : Text) (n : ℕ) : Type 0 where
   pub value : n ≡ number_of 10 digits
   pub in_range : n < 2 ^ 32
 
--- what stands behind a number of a counted operator
+-- what follows a number of a counted operator
 abbrev pub EndsNumber : Text → Type 0
 EndsNumber t = Begins (the ",") t ⊎ Begins (the "}") t
 

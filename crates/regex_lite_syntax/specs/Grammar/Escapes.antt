@@ -23,7 +23,7 @@ pub data EscapeKind : Type 0 where
   gives : Primitive → EscapeKind
   -- `\b`, perhaps with a name in braces
   word_boundary : EscapeKind
-  -- so many hexadecimal digits, or some in braces
+  -- this many hexadecimal digits, or some in braces
   hexadecimal : (digits : ℕ) → EscapeKind
   refused : EscapeKind
 
@@ -57,7 +57,7 @@ escape_kind c =
     else if is_escapable c then gives (one c)
     else refused
 
--- so many hexadecimal digits, and the character of their value
+-- this many hexadecimal digits, and the character of their value
 pub record FixedDigits (verbose : Bool) (n : ℕ) (t rest : Text) (c : ℕ) : Type 0 where
   pub digits : Text
   pub written : Spaced verbose is_hex_digit digits t rest
@@ -75,7 +75,7 @@ pub record BracedDigits (verbose : Bool) (t rest : Text) (c : ℕ) : Type 0 wher
   pub scalar : IsTrue (is_character (number_of 16 digits))
   pub value : c ≡ number_of 16 digits
 
--- the character by its number, past the letter that asks for so many digits
+-- the character by its number, past the letter that asks for this many digits
 pub data Hexadecimal (verbose : Bool) (n : ℕ) (t rest : Text) (c : ℕ) : Type 0 where
   fixed : FixedDigits verbose n t rest c → Hexadecimal verbose n t rest c
   braced : (opened : Text) → Gap verbose t (the "{" ∷ opened)

@@ -25,7 +25,7 @@ numbered_on p = record p { groups = p.groups + 1 }
 abbrev pub named_on : Point → Text → Point
 named_on p name = record p { names = p.names ++ name ∷ [] }
 
--- inside a group that stands in so many others
+-- inside a group that stands in this many others
 abbrev pub inside : (level : ℕ) → Point → Flags → Text → Point
 inside level p flags t = record p { rest = t; flags = flags; deepest = max p.deepest (level + 1) }
 

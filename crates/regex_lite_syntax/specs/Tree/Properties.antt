@@ -48,7 +48,7 @@ abbrev mutual
   greatest_index_in none = 0
   greatest_index_in (more a rest) = max (greatest_index a) (greatest_index_in rest)
 
--- how many groups a match can tell of, the whole match as group 0 among them
+-- how many groups a match can have, the whole match as group 0 among them
 abbrev pub captures_len : Tree → ℕ
 captures_len tree = greatest_index tree + 1
 

@@ -1,4 +1,4 @@
--- From what is printed for a question to what a run tells.
+-- From what is printed for a question to what a run reports.
 use Rattle.std.proofs.Common.{◌≡◌, ℕ, Bool, true, false, List, [], Option, Some, None, Result}
 use Rattle.std.proofs.Common.{Ok, Err, IfOk, IfSome, IsTrue, IsUtf8, ◌↔◌, refl, sym, subst}
 use Rattle.std.specs.Prelude.{⊤}

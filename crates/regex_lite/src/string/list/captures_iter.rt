@@ -2,10 +2,12 @@
 ghost use Rattle.std.specs.Prelude.{◌≡◌, None, IfOk, IfErr};
 ghost use Rattle.regex_lite_syntax.specs.Errors.{out_of_memory};
 ghost use Rattle.regex_lite.specs.ListAhead.{list_groups_ahead_of, whole_list};
+ghost use Rattle.regex_lite.specs.Iterators.{list_groups_ended_of};
 
 use crate::string::captures::Captures;
+use crate::string::group_scan::GroupScan;
 use crate::string::list::RegexList;
-use crate::string::list::group_scan::ListGroupScan;
+use crate::string::list::searcher::ListSearcher;
 use regex_lite_syntax::Error;
 use std::fmt;
 use std::iter::FusedIterator;
@@ -35,11 +37,12 @@ impl RegexList {
     ) -> Result<ListCaptureMatches<'r, 'h>, Error>
         ensures ahead { IfOk result
             (λ it. list_groups_ahead_of it ≡ whole_list self.now haystack.now) }
-        ensures begins { IfOk result (λ it. it.scan.ended ≡ None) }
+        ensures begins { IfOk result (λ it. list_groups_ended_of it ≡ None) }
         ensures refused { IfErr result (λ error. error ≡ out_of_memory) }
     {
+        let searcher = ListSearcher::with_groups(self)?;
         Ok(ListCaptureMatches {
-            scan: ListGroupScan::new(self, haystack)?,
+            scan: GroupScan::new(searcher, haystack, None),
         })
     }
 }
@@ -51,7 +54,7 @@ impl RegexList {
 /// borrow the haystack alone, and outlive the iterator and the list.
 #[derive(Drop)]
 pub struct ListCaptureMatches<'r, 'h> {
-    scan: ListGroupScan<'r, 'h>,
+    scan: GroupScan<'h, ListSearcher<'r>>,
 }
 
 impl<'r, 'h> Iterator for ListCaptureMatches<'r, 'h> {

@@ -2,6 +2,7 @@
 ghost use Rattle.std.specs.Prelude.{◌≡◌, None, IfOk, IfErr, IsCharBoundary, unwrap_or};
 ghost use Rattle.regex_lite_syntax.specs.Errors.{out_of_memory};
 ghost use Rattle.regex_lite.specs.ListAhead.{list_after, list_ahead_of, whole_list};
+ghost use Rattle.regex_lite.specs.Iterators.{list_ended_of};
 
 use crate::string::list::RegexList;
 use crate::string::list::searcher::ListSearcher;
@@ -34,7 +35,7 @@ impl RegexList {
     pub fn find_iter<'r, 'h>(&'r self, haystack: &'h str) -> Result<ListMatches<'r, 'h>, Error>
         ensures ahead { IfOk result
             (λ it. list_ahead_of it ≡ whole_list self.now haystack.now) }
-        ensures begins { IfOk result (λ it. it.scan.ended ≡ None) }
+        ensures begins { IfOk result (λ it. list_ended_of it ≡ None) }
         ensures refused { IfErr result (λ error. error ≡ out_of_memory) }
     {
         let searcher = ListSearcher::new(self, 0)?;
@@ -69,7 +70,7 @@ impl RegexList {
         requires { IsCharBoundary haystack.now (unwrap_or ended 0) }
         ensures ahead { IfOk result
             (λ it. list_ahead_of it ≡ list_after self.now haystack.now ended) }
-        ensures begins { IfOk result (λ it. it.scan.ended ≡ ended) }
+        ensures begins { IfOk result (λ it. list_ended_of it ≡ ended) }
         ensures refused { IfErr result (λ error. error ≡ out_of_memory) }
     {
         let searcher = ListSearcher::new(self, 0)?;

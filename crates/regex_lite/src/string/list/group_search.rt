@@ -1,11 +1,14 @@
 //! Searches for the groups of a match of one of several patterns.
-ghost use Rattle.std.specs.Prelude.{◌≡◌, IfOk, IfErr, IfSome};
+ghost use Rattle.std.specs.Prelude.{◌≡◌, None, IfOk, IfErr, IfSome, max, replicate};
 ghost use Rattle.regex_lite_syntax.specs.Errors.{out_of_memory};
+ghost use Rattle.regex_lite.specs.RegexList.{OfTrees};
 ghost use Rattle.regex_lite.specs.RegexListSearches.{AreOfPattern, TellsGroupsOfList};
+ghost use Rattle.regex_lite.specs.Scanning.{most_captures};
 ghost use Rattle.regex_lite.specs.Searches.{CanStartAt};
 
 use crate::string::captures::Captures;
 use crate::string::list::RegexList;
+use crate::string::locations::CaptureLocations;
 use regex_lite_syntax::Error;
 
 impl RegexList {
@@ -57,5 +60,22 @@ impl RegexList {
     {
         let (found, _) = self.captures_counted_at(haystack, start)?;
         Ok(found)
+    }
+
+    /// Locations with as many groups as the pattern that has the most, none of which took part in a
+    /// match yet. For an empty list they have one.
+    ///
+    /// [`RegexListSearcher::captures_read`](crate::RegexListSearcher::captures_read) writes them.
+    ///
+    /// # Errors
+    ///
+    /// `Memory` if memory runs out.
+    pub fn capture_locations(&self) -> Result<CaptureLocations, Error>
+        ensures ok { IfOk result (λ locs. OfTrees self.now
+            (λ trees. locs ≡ replicate (max 1 (most_captures trees)) None)) }
+        ensures refused { IfErr result (λ error. error ≡ out_of_memory) }
+    {
+        let slots = vec![in self.alloc; None; self.kept_slots().max(2)]?;
+        Ok(CaptureLocations { slots })
     }
 }

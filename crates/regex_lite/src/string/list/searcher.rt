@@ -1,15 +1,17 @@
 //! Searches for several patterns, one after another, in the same memory.
-ghost use Rattle.std.specs.Prelude.{◌≡◌, ℕ, IfOk, IfErr, length};
+ghost use Rattle.std.specs.Prelude.{◌≡◌, None, IfOk, IfErr, length};
 ghost use Rattle.regex_lite_syntax.specs.Errors.{out_of_memory};
-ghost use Rattle.regex_lite_engine.specs.Search.Answer.{Found};
-ghost use Rattle.regex_lite.specs.ListAhead.{AreGroupsFoundInList};
-ghost use Rattle.regex_lite.specs.Scanning.{HasSlotsForAllGroups, IsMatchOfPatterns};
+ghost use Rattle.regex_lite.specs.RegexListSearches.{TellsLocationsOfList};
+ghost use Rattle.regex_lite.specs.Scanning.{AreSlotsForAllGroups};
+ghost use Rattle.regex_lite.specs.Searches.{CanStartAt};
 
 use crate::string::captures::Captures;
 use crate::string::finds::Finds;
 use crate::string::list::RegexList;
+use crate::string::locations::CaptureLocations;
 use crate::string::matches::Match;
-use crate::string::slots::all_slots;
+use crate::string::scan::match_at;
+use crate::string::slots::{all_slots, or_whole};
 use crate::string::source::Source;
 use regex_lite_syntax::Error;
 use std::fmt;
@@ -47,38 +49,49 @@ impl<'r> ListSearcher<'r> {
         Ok(ListSearcher { list, inner })
     }
 
-    /// The groups of the last match, which was found in this haystack.
-    pub fn captures<'h>(
-        &self,
-        haystack: &'h str,
-        last: &(usize, Match<'h>),
-    ) -> Result<Captures<'h>, Error>
-        requires room { HasSlotsForAllGroups self.now.list self.now.slots }
-        requires last { (answer : ℕ × Found)
-            × IsMatchOfPatterns self.now.list haystack.now self.now.slots answer last.now }
-        ensures groups { IfOk result (λ groups. (answer : ℕ × Found)
-            → IsMatchOfPatterns self.now.list haystack.now self.now.slots answer last.now
-            → AreGroupsFoundInList self.now.list haystack.now last.now.0 answer.1 groups) }
+    /// The patterns, with memory for searches that keep the slots of all groups.
+    pub fn with_groups(list: &'r RegexList) -> Result<ListSearcher<'r>, Error>
+        ensures list { IfOk result (λ searcher. searcher.list ≡ list.now) }
+        ensures slots { IfOk result
+            (λ searcher. AreSlotsForAllGroups list.now (length searcher.slots)) }
         ensures refused { IfErr result (λ error. error ≡ out_of_memory) }
     {
-        let list = self.list;
-        let (number, whole) = last;
-        let kept = self.inner.slots();
-        let mut slots = Vec::with_capacity(list.alloc, kept.len())?;
-        slots.extend_from_slice(kept)?;
-        let mut slots = all_slots(slots, (whole.start(), whole.end()))?;
-        let source = Source::of_listed(list.compiled.clone()?, *number);
+        ListSearcher::new(list, list.kept_slots())
+    }
+
+    /// The first match that starts at this offset or later, with the number of its pattern, whose
+    /// groups are written to the locations.
+    pub fn read_at<'h>(
+        &mut self,
+        locs: &mut CaptureLocations,
+        haystack: &'h str,
+        start: usize,
+    ) -> Option<(usize, Match<'h>)>
+        requires room { AreSlotsForAllGroups self.old.list (length self.old.slots) }
+        requires start { CanStartAt haystack.now start }
+        ensures found { TellsLocationsOfList self.old.list haystack.now start locs.new result }
+        ensures len { length locs.new ≡ length locs.old }
+        ensures none { result ≡ None → locs.new ≡ locs.old }
+        ensures list { self.new.list ≡ self.old.list }
+        ensures slots { length self.new.slots ≡ length self.old.slots }
+    {
+        let (number, found) = match_at(self, haystack, start)?;
+        let whole = [Some(found.start()), Some(found.end())];
+        let slots = or_whole(self.inner.slots(), &whole);
         // A search keeps slots for the pattern with the most groups. This one may have fewer.
-        slots.truncate(source.slots());
-        Ok(Captures::new(haystack, slots, source))
+        let own = self.list.slots_of(number);
+        locs.write(&slots[..own]);
+        Some((number, found))
     }
 }
 
 impl<'r> Finds for ListSearcher<'r> {
-    ghost use Rattle.std.specs.Prelude.{ℕ, List};
+    ghost use Rattle.std.specs.Prelude.{ℕ, List, ⊤};
     ghost use Rattle.regex_lite_engine.specs.Search.Answer.{Found};
     ghost use Rattle.regex_lite.specs.Expression.{Expression};
+    ghost use Rattle.regex_lite.specs.ListAhead.{AreGroupsFoundInList};
     ghost use Rattle.regex_lite.specs.MatchList.{IsAnswerOfPatterns};
+    ghost use Rattle.regex_lite.specs.Scanning.{AreSlotsForAllGroups};
 
     type Number = usize;
 
@@ -92,6 +105,13 @@ impl<'r> Finds for ListSearcher<'r> {
 
     ghost IsAnswer = { IsAnswerOfPatterns };
 
+    ghost AreGroupsFound = { λ list haystack answer groups.
+        AreGroupsFoundInList list haystack answer.0 answer.1 groups };
+
+    ghost AreSlotsForGroups = { AreSlotsForAllGroups };
+
+    ghost CanReuse = { λ list groups. ⊤ };
+
     ghost sought = { λ searcher. searcher.list };
 
     ghost slots = { λ searcher. searcher.slots };
@@ -99,6 +119,25 @@ impl<'r> Finds for ListSearcher<'r> {
     /// [`RegexList::find_at`], which is never refused here.
     fn find_at(&mut self, haystack: &str, start: usize) -> Option<(usize, (usize, usize))> {
         self.inner.search(haystack, start)
+    }
+
+    /// The groups in memory of their own. Only replacements give groups back, and a list has none.
+    fn captures<'h>(
+        &self,
+        haystack: &'h str,
+        last: &(usize, Match<'h>),
+        _spare: Option<Captures<'h>>,
+    ) -> Result<Captures<'h>, Error> {
+        let list = self.list;
+        let (number, whole) = last;
+        let kept = self.inner.slots();
+        let mut slots = Vec::with_capacity(list.alloc, kept.len())?;
+        slots.extend_from_slice(kept)?;
+        let mut slots = all_slots(slots, (whole.start(), whole.end()))?;
+        let source = Source::of_listed(list.compiled.clone()?, *number);
+        // A search keeps slots for the pattern with the most groups. This one may have fewer.
+        slots.truncate(source.slots());
+        Ok(Captures::new(haystack, slots, source))
     }
 }
 

@@ -1,21 +1,10 @@
-use Rattle.std.proofs.Common.{◌<◌, ◌∙◌, ap, arith, lit<, rules, subst, sym}
-use Rattle.regex_lite_syntax.specs.declared.error.ErrorKind.{ErrorKind}
-use Rattle.regex_lite_syntax.specs.declared.error.ErrorKind.TheVariants as kind
+use Rattle.std.proofs.Common.{◌∙◌, ap, arith, rules, subst, sym}
 use Rattle.regex_lite_syntax.specs.Errors.{kind_of}
 use Rattle.regex_lite.specs.Expression.{IsAccepted, IsDue}
 use Rattle.regex_lite_c.specs.Answers.{number_of}
 use Rattle.regex_lite_c.specs.Options.{settings_of}
+use Rattle.regex_lite_c.proofs.build.RefusalLemmas.{above_five}
 use Rattle.regex_lite_c.proofs.build.regex_lite_new.Goals as goal
-
-above_five : (k : ErrorKind) → 5 < number_of k
-above_five kind.Syntax = lit< tt
-above_five kind.Nesting = lit< tt
-above_five kind.Groups = lit< tt
-above_five kind.Size = lit< tt
-above_five kind.Places = lit< tt
-above_five kind.Slots = lit< tt
-above_five kind.Memory = lit< tt
-above_five kind.Replace = lit< tt
 
 pub returns : goal.returns
 returns c =

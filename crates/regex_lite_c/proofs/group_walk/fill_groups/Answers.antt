@@ -1,6 +1,7 @@
 use Rattle.std.proofs.Common.{◌∙◌, ◌+◌, Some, ap, arith, inl, inr, refl, subst, sym}
 use Rattle.regex_lite.specs.Ahead.{groups_ahead_of}
 use Rattle.regex_lite.specs.Groups.{group_span}
+use Rattle.regex_lite.specs.MatchList.{IsAnswerOf}
 use Rattle.regex_lite_c.proofs.walk.WalkLemmas.{comes_none}
 use Rattle.regex_lite_c.proofs.group_walk.GroupWalkLemmas.{IsSoFar, end_of_span, filled}
 use Rattle.regex_lite_c.proofs.group_walk.GroupWalkLemmas.{nothing_yet, one_more, some_groups}
@@ -82,5 +83,5 @@ returns c =
     c.loop-item.spans
     c.loop-item.used c.loop-item.count c.or_yes-2.result 0 so c.or_yes-2.ensures.some
     c.or_yes-2.ensures.none
-    (λ _. comes_none now (so.lists 0).limit c.in-None.ensures.steps.over)
+    (λ _. comes_none (λ own. own) IsAnswerOf now (so.lists 0).limit c.in-None.ensures.steps.over)
     (λ wrong _. absurd (omega (arith, wrong))) (inl refl)

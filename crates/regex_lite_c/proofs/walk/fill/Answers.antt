@@ -2,8 +2,9 @@ use Rattle.std.proofs.Common.{◌≡◌, ◌∙◌, ◌++◌, ◌-◌, ◌+◌, 
 use Rattle.std.proofs.Common.{arith, chars, length, length-append, map, slice_set, subst, sym}
 use Rattle.std.proofs.lemmas.List.{length-map, map-append}
 use Rattle.regex_lite.specs.Ahead.{ComesNext, ahead_of}
+use Rattle.regex_lite.specs.MatchList.{IsAnswerOf}
 use Rattle.regex_lite.specs.Pieces.{found_span}
-use Rattle.regex_lite_c.specs.Spans.{AreWritten}
+use Rattle.regex_lite_c.specs.Spans.{AreWritten, span_of}
 use Rattle.regex_lite_c.specs.Walks.{told_of}
 use Rattle.regex_lite_c.proofs.walk.WalkLemmas.{Lists, comes_none, lists_all}
 use Rattle.regex_lite_c.proofs.walk.WalkLemmas.{lists_more, lists_to_end, written_more}
@@ -17,7 +18,7 @@ returns-in-None-clause-listed c =
     record {
       list = inv.0;
       are_first =
-          lists_to_end start (ahead_of c.loop-k.matches) room
+          lists_to_end (λ own. own) IsAnswerOf start (ahead_of c.loop-k.matches) room
           (room - c.loop-k.k) inv.0 inv.2 c.in-None.ensures.steps.over;
       number = sym inv.1;
       written = inv.3;
@@ -29,7 +30,7 @@ returns-in-None-clause-none c =
     let now = ahead_of c.loop-k.matches in
     λ none _. (
       subst (λ a. ComesNext a None) (inv.4 none).0
-          (comes_none now inv.2.limit c.in-None.ensures.steps.over),
+          (comes_none (λ own. own) IsAnswerOf now inv.2.limit c.in-None.ensures.steps.over),
       (inv.4 none).1,
     )
 
@@ -48,11 +49,11 @@ loop-k-preserved c =
     let less : room - k ≡ suc (room - (k + 1)) = omega (arith, below) in (
       inv.0 ++ (found ∷ []),
       omega (arith, length-append inv.0 (found ∷ []), inv.1),
-      lists_more start old new room (room - (k + 1)) inv.0 found
+      lists_more (λ own. own) IsAnswerOf start old new room (room - (k + 1)) inv.0 found
           (subst (λ n. Lists start old room n inv.0) less inv.2) step.4,
       subst (λ told. AreWritten told c.args.spans.now (slice_set c.loop-k.spans k c.of.result))
           (sym (map-append tell inv.0 (found ∷ [])))
-          (written_more (map tell inv.0)
+          (written_more span_of (map tell inv.0)
           (tell found) c.args.spans.now c.loop-k.spans k c.of.result inv.3
           (length-map inv.0 tell ∙ inv.1) (omega (arith, below, c.loop-k.auto.spans))
           (c.of.ensures
@@ -68,7 +69,7 @@ returns-clause-listed c =
     record {
       list = inv.0;
       are_first =
-          lists_all start (ahead_of c.loop-k.matches) room inv.0
+          lists_all (λ own. own) IsAnswerOf start (ahead_of c.loop-k.matches) room inv.0
           (subst (λ n. Lists start (ahead_of c.loop-k.matches) room n inv.0)
           (omega (arith, c.loop-k-test.false, c.loop-k.auto.spans)) inv.2);
       number = omega (arith, c.loop-k-test.false, c.loop-k.auto.spans, c.loop-k.auto.k-end, inv.1);

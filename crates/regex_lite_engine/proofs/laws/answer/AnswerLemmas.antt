@@ -65,7 +65,7 @@ module _ (tree : Tree) (haystack : Text) where
   none_beyond s beyond (i, j, m) = omega (arith, beyond, m.from, m.inside)
 
   module _ (regular : IsRegular tree) where
-    -- so many positions are left
+    -- this many positions are left
     answer_from : (left s : ℕ) → suc (length haystack) ≤ s + left → Answered s
     answer_from zero s few = (None, none_beyond s (omega (arith, few)))
     answer_from (suc left) s few = elim (cases_lt (length haystack) s) [

@@ -50,7 +50,7 @@ with_first k ks P first (l ∷ other) q = elim (cases_order k l) [
           | inr before ↦ inr (inr (e, before))
         ]
 
--- the first numbers from k on, of which so many are left
+-- the first numbers from k on, of which this many are left
 scan : (left k : ℕ) (P : List ℕ → Type 0)
     → ((l : ℕ) (ks : List ℕ) → P (l ∷ ks) → l < k + left)
     → ((l : ℕ) → Least (λ ks. P (l ∷ ks)) ⊎ NoList (λ ks. P (l ∷ ks)))

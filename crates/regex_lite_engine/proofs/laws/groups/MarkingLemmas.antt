@@ -8,7 +8,7 @@ use Rattle.regex_lite_syntax.specs.Tree.{repetition, concat, alternation, Trees,
 use Rattle.regex_lite_syntax.specs.Tree.Matches.{AtMost}
 use Rattle.regex_lite_engine.specs.Search.Marks.{Marks, no_marks, marked, over}
 
--- so many passes, one after another, the marks of the later ones over those of the earlier
+-- this many passes, one after another, the marks of the later ones over those of the earlier
 abbrev pub MarkedPasses : (pass : ℕ → ℕ → Marks → Type 0) → ℕ → ℕ → ℕ → Marks → Type 0
 MarkedPasses pass zero i j marks = (i ≡ j) × (marks ≡ no_marks)
 MarkedPasses pass (suc n) i j marks =

@@ -1,4 +1,4 @@
--- Where walks are listed, no walk comes to a place twice at one position.
+-- Where walks are listed, no walk visits a place twice at one position.
 use Rattle.std.proofs.Common.{◌≡◌, refl, sym, ap, subst, ◌∙◌, ℕ, zero, suc}
 use Rattle.std.proofs.Common.{List, [], ◌∷◌, ◌++◌, Some, None, slice_get}
 use Rattle.regex_lite_syntax.specs.Text.{Text}

@@ -16,7 +16,7 @@ use Rattle.regex_lite_engine.specs.Walk.NumberedAnswer.{IsNumberedAnswer, IsOver
 use Rattle.regex_lite_engine.proofs.laws.LeadsLemmas.{same_some, leads_to_one}
 use Rattle.regex_lite_engine.proofs.laws.search.SearchLawLemmas.{search_law}
 
--- starts at different positions are told apart by them
+-- starts at different positions differ in them
 pub starts_differ : {N : Type 0} (step : N → ℕ → Option N) (is_end : N → Bool) (start : ℕ → N)
     (first last : ℕ) → StartsDiffer N step is_end (StartsAt start first last)
 starts_differ step is_end start first last a b more other n m (i, _, _, e, f) (j, _, _, g, h)

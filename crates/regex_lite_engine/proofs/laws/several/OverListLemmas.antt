@@ -18,7 +18,7 @@ use Rattle.regex_lite_engine.proofs.laws.LeadsLemmas.{same_some, leads_to_one}
 use Rattle.regex_lite_engine.proofs.laws.search.OverLemmas.{before_preferred}
 use Rattle.regex_lite_engine.proofs.laws.search.SearchLawLemmas.{search_law}
 
--- a way after two starts that are told alike
+-- a way after two starts that look alike
 abbrev Later : (i k j l : ℕ) → (a b : List ℕ) → Type 0
 Later i k j l a b = (i < j) ⊎ ((i ≡ j) × ((k < l) ⊎ ((k ≡ l) × NotAfter a b)))
 
@@ -42,7 +42,7 @@ module _ (table : List (Place ℕ)) (haystack : Text) (entries : List ℕ) (s : 
   same_entry : (k l a b : ℕ) → k ≡ l → IsEntry entries k a → IsEntry entries l b → a ≡ b
   same_entry k l a b e p q = same_some (sym p ∙ ap (slice_get entries) e ∙ q)
 
-  -- two starts are told apart by their position and their pattern
+  -- two starts differ in their position or their pattern
   same_front : (i j k l : ℕ) → i ≡ j → k ≡ l → i ∷ (k ∷ []) ≡ j ∷ (l ∷ [])
   same_front i j k l e f = λ t. e t ∷ (f t ∷ [])
 

@@ -10,7 +10,7 @@ use Rattle.regex_lite_engine.specs.Interpolation.{IsBraced, IsReference, HasNoRe
 use Rattle.regex_lite_engine.specs.Interpolation.{referred, BeginsWith, no_dollar}
 use Rattle.regex_lite_engine.specs.Interpolation.{two_dollars, reference, one_dollar}
 
--- what stands behind the `$` of such a piece
+-- what follows the `$` of such a piece
 pub data AtDollar (after : List ℕ) (piece : Piece) (rest : List ℕ) : Type 0 where
   doubled : after ≡ 36 ∷ rest → piece ≡ plain (36 ∷ []) → AtDollar after piece rest
   refers : (name : List ℕ) → IsReference after name rest → piece ≡ referred name

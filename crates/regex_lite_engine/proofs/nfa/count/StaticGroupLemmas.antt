@@ -9,7 +9,7 @@ use Rattle.regex_lite_syntax.specs.Tree.Properties.{nullable, sum, common, in_pa
 use Rattle.regex_lite_syntax.specs.Tree.Properties.{static_groups, static_sum, static_common}
 use Rattle.regex_lite_engine.specs.Graph.PlaceCounts.{places, places_in, copies, own_places}
 
--- at most so many, where it is known
+-- at most this many, where it is known
 abbrev pub Few : Option ℕ → ℕ → Type 0
 Few groups most = IfSome groups (λ n. n ≤ most)
 

@@ -1,4 +1,4 @@
--- The index of several patterns with one pattern more, and what it tells of each.
+-- The index of several patterns with one pattern more, and what it says of each.
 use Rattle.std.proofs.Common.{◌≡◌, ◌==◌, ℕ, zero, suc, refl, ◌+◌, ◌*◌, ◌<◌, ◌≤◌, ◌⊎◌}
 use Rattle.std.proofs.Common.{inl, inr, ◌-◌, ◌&&◌, ◌||◌, Bool, true, false, nat_lt}
 use Rattle.std.proofs.Common.{if◌then◌else◌, List, [], ◌∷◌, ◌++◌, length, slice_get}

@@ -165,7 +165,7 @@ none_of_zero lowest =
     filter_none (λ n. bit_at 0 (n - lowest) == 1) lowest 64
     (λ k low high. ap (λ b. b == 1) (bit_at-zero (k - lowest)))
 
--- the numbers of the set bits are those that pass a test which the bits tell of
+-- the numbers of the set bits are those that pass the test for which the bits stand
 pub set_passes : (test : ℕ → Bool) (lowest word : ℕ)
     → ((n : ℕ) → lowest ≤ n → n < lowest + 64 → (bit_at word (n - lowest) == 1) ≡ test n)
     → set_from lowest word ≡ filter test (range_with_len lowest 64)

@@ -62,7 +62,7 @@ and_same : (a : Bool) → (a && a) ≡ a
 and_same true = refl
 and_same false = refl
 
--- what the rows of both characters tell
+-- what the rows of both characters say
 pub by_rows : (heads : ListHeads) (b : Option ℕ) (c : ℕ) (second : Option ℕ) (row : ℕ)
     → row ≡ unwrap_or (option_map second_row second) (first_row c) → (n : ℕ)
     → ((has heads.rows (first_row c) n && has heads.rows row n)
@@ -76,7 +76,7 @@ by_rows heads b c (Some d) row is n =
     ap (λ r. (has heads.rows (first_row c) n && has heads.rows r n)
     || (is_none b && has heads.rows start_row n)) is
 
--- the bits of a word tell which of its patterns may start
+-- the bits of a word show which of its patterns may start
 pub word_tells : (heads : ListHeads) (b : Option ℕ) (c : ℕ) (second : Option ℕ)
     (k word first row : ℕ)
     → first ≡ first_row c → row ≡ unwrap_or (option_map second_row second) first

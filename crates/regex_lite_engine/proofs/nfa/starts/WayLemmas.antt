@@ -82,7 +82,7 @@ written_heads tree regular table start table_is start_is heads of_tree haystack 
     none (inl off) j m = off (of_tree.first haystack i j m)
     none (inr off) j m = by_second heads.second of_tree.second off j m
 
--- what the index of several trees tells is so of their places in a table
+-- what the index of several trees says holds for their places in a table
 pub listed_heads : (trees : List Tree) → AreRegular trees → (name : ℕ → Address)
     (table : List (Place ℕ)) (entries : List ℕ) → IsRenumbered (side_by_side trees) name table
     → AreEntries trees name table entries → length entries ≡ length trees → (heads : ListHeads)

@@ -19,12 +19,12 @@ abbrev pub framed : List Address → List Address
 framed list = own_place 1 ∷ (list ++ own_place 0 ∷ [])
 
 module _ (body : List Address) where
-  -- so many copies from copy k on, the last first
+  -- this many copies from copy k on, the last first
   abbrev pub copies_addresses : (left k : ℕ) → List Address
   copies_addresses zero k = []
   copies_addresses (suc left) k = copies_addresses left (suc k) ++ in_part k body
 
-  -- so many copies from copy k on, each with the choice before it, the first of which is choice j
+  -- this many copies from copy k on, each with the choice before it, the first of which is choice j
   abbrev pub choices_addresses : (left k j : ℕ) → List Address
   choices_addresses zero k j = []
   choices_addresses (suc left) k j =

@@ -70,7 +70,7 @@ pub row_other : (s : Side) (j k : ℕ) → j < k → row_on s j ≡ row_on s k �
 row_other First j k lt e = omega (arith, lt, e)
 row_other Second j k lt e = omega (arith, lt, e)
 
--- what cannot tell the new cell from the old one
+-- what does not distinguish the new cell from the old one
 pub not_told : {S X : Type 0} (f : Cell S → X) (cells : List (Cell S)) (i : ℕ) (x y : Cell S)
     → x ≡ slice_index_or cells i x → f y ≡ f x → map f (set cells i y) ≡ map f cells
 not_told f cells i x y is e = map-set_same f cells i y x (e ∙ ap f is)

@@ -15,6 +15,7 @@ use Rattle.regex_lite_engine.proofs.pikevm.memory.CellLemmas.{own_place, own_sta
 use Rattle.regex_lite_engine.proofs.pikevm.memory.CellLemmas.{other_start, row_apart, row_other}
 use Rattle.regex_lite_engine.proofs.pikevm.memory.CellLemmas.{row_fits, row_behind_first}
 use Rattle.regex_lite_engine.proofs.pikevm.memory.CellLemmas.{not_told, same_round, same_frame}
+use Rattle.regex_lite_engine.proofs.pikevm.memory.CellLemmas.{told_at}
 use Rattle.regex_lite_engine.proofs.pikevm.rows.RowLemmas.{listed_alike}
 
 pub threads_long : {S : Type 0} (told : S → Told) (s : Side) (cells : List (Cell S))
@@ -30,7 +31,7 @@ thread_is told s cells rows room n k lt =
     get_or-map-range_with_len (thread_on told s cells rows room) 0 n k k (0, untold, []) lt
     (omega arith)
 
--- cells that a list cannot tell from one another
+-- cells that a list does not distinguish
 pub cells_alike : {S : Type 0} (told : S → Told) (s : Side) (cells cells' : List (Cell S))
     (rows : List Row) (room n : ℕ)
     → map (place_on s) cells' ≡ map (place_on s) cells
@@ -50,6 +51,37 @@ first_row_alone told s cells rows room n row =
     (thread_on told s cells rows room) 0 n
     (λ k low lt. (let a : nth_row (set rows 0 row) (row_on s k) ≡ nth_row rows (row_on s k) =
     get_or-set_other rows 0 (row_on s k) row [] (row_behind_first s room k) in cc))
+
+-- that row is replaced
+module _ (rows rows' : List Row) (row : Row) (put : rows' ≡ set rows 0 row) where
+  pub first_put : 0 < length rows → nth_row rows' 0 ≡ row
+  first_put some = ap (λ z. nth_row z 0) put ∙ get_or-set_same rows 0 row [] some
+
+  pub list_kept : {S : Type 0} (told : S → Told) (s : Side) (cells : List (Cell S)) (room n : ℕ)
+      → threads_on told s cells rows' room n ≡ threads_on told s cells rows room n
+  list_kept told s cells room n =
+      ap (λ z. threads_on told s cells z room n) put
+      ∙ first_row_alone told s cells rows room n row
+
+-- what is read of a thread: its place, and what is kept of where its way began
+module _ {S : Type 0} (told : S → Told) (s : Side) (cells : List (Cell S)) (rows : List Row)
+    (room n k : ℕ) (x : Cell S) (lt : k < n) (short : k < length cells)
+    (at : x ≡ slice_index_or cells k x) (ts : List Thread)
+    (are : threads_on told s cells rows room n ≡ ts) (read : ℕ × S)
+    (is : read ≡ (place_on s x, start_on s x)) where
+  there : thread_at ts k ≡ thread_on told s cells rows room k
+  there = ap (λ z. thread_at z k) (sym are) ∙ thread_is told s cells rows room n k lt
+
+  pub place_read : read.0 ≡ (thread_at ts k).0
+  place_read =
+      ap (λ (r : ℕ × S). r.0) is ∙ sym (told_at (place_on s) 0 cells k x short at)
+      ∙ sym (ap (λ (t : Thread). t.0) there)
+
+  pub start_read : told read.1 ≡ (thread_at ts k).1
+  start_read =
+      ap (λ (r : ℕ × S). told r.1) is
+      ∙ sym (told_at (start_told told s) untold cells k x short at)
+      ∙ sym (ap (λ (t : Thread). t.1) there)
 
 module _ {S : Type 0} (told : S → Told) (s : Side) (cells : List (Cell S)) (rows : List Row)
     (room n place : ℕ) (start : S) (x : Cell S) (row : Row) (is : x ≡ slice_index_or cells n x)

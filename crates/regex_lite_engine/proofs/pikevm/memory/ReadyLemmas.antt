@@ -10,12 +10,12 @@ use Rattle.regex_lite_engine.specs.declared.pikevm.cell.Side.TheVariants.{First,
 use Rattle.regex_lite_engine.specs.Walk.Beginnings.{Told, untold}
 use Rattle.regex_lite_engine.specs.Walk.Cells.{round_in, frame_in, frames_in, place_on, start_on}
 use Rattle.regex_lite_engine.specs.Walk.Cells.{start_told, thread_on, threads_on, without_round}
-use Rattle.regex_lite_engine.specs.Walk.Cells.{rounds_in, HoldTogether, MakesReady}
-use Rattle.regex_lite_engine.specs.Walk.Machine.{Row}
-use Rattle.regex_lite_engine.proofs.pikevm.memory.CellLemmas.{told_at}
+use Rattle.regex_lite_engine.specs.Walk.Cells.{nth_row, other, rounds_in, HoldTogether, MakesReady}
+use Rattle.regex_lite_engine.specs.Walk.Machine.{Row, State}
+use Rattle.regex_lite_engine.proofs.pikevm.memory.CellLemmas.{state_is, told_at}
 use Rattle.regex_lite_engine.proofs.pikevm.rows.RowLemmas.{listed_alike}
 
--- what does not tell rounds
+-- what does not depend on rounds
 alike : {S X : Type 0} (f : Cell S → X) → ((x : Cell S) → f (without_round x) ≡ f x)
     → (cells cells' : List (Cell S))
     → take (length cells) (map without_round cells') ≡ map without_round cells →
@@ -64,6 +64,13 @@ module _ {S : Type 0} (low low' : ℕ) (cells cells' : List (Cell S))
         length-map cells' without_round,
       )
 
+  -- the rounds where those of the cells do not change
+  pub rounds_still : (cells'' : List (Cell S)) (rounds : List ℕ)
+      → map round_in cells'' ≡ map round_in cells' → rounds_in low cells ≡ rounds
+      → rounds_in low' cells'' ≡ rounds
+  rounds_still cells'' rounds same is =
+      ap (λ rs. replicate low' 0 ++ rs) same ∙ made.rounds ∙ is
+
   pub still_together : (capacity capacity' : ℕ) (ready : Bool) (rows : List Row)
       (room depth len next_len : ℕ)
       → capacity ≤ capacity' →
@@ -108,6 +115,37 @@ module _ {S : Type 0} (low low' : ℕ) (cells cells' : List (Cell S))
           ∙ ap (λ ss. slice_index_or ss k untold) starts in
           cc
 
+-- what a memory with these parts stands for
+module _ {S : Type 0} (told : S → Told) (side : Side) (rows : List Row)
+    (now room depth len next_len : ℕ) where
+  abbrev stands : (low : ℕ) → List (Cell S) → (ready : Bool) → State
+  stands low cells ready = record {
+    rounds = rounds_in low cells;
+    now = now;
+    frames = frames_in cells depth;
+    row = nth_row rows 0;
+    threads = threads_on told side cells rows room len;
+    next = threads_on told (other side) cells rows room next_len;
+    room = room;
+    ready = ready;
+  }
+
+  -- the same where more cells are ready
+  pub still_stands : (low low' : ℕ) (cells cells' : List (Cell S)) (ready ready' : Bool) (m : State)
+      → MakesReady low cells low' cells' → depth ≤ length cells → len ≤ length cells
+      → next_len ≤ length cells → stands low cells ready ≡ m →
+      stands low' cells' ready' ≡ record m { ready = ready' }
+  still_stands low low' cells cells' ready ready' m made deep long longer is =
+      state_is (stands low' cells' ready') (record m { ready = ready' })
+      (made.rounds ∙ ap (λ (z : State). z.rounds) is) (ap (λ (z : State). z.now) is)
+      (frames_stay low low' cells cells' made depth deep ∙ ap (λ (z : State). z.frames) is)
+      (ap (λ (z : State). z.row) is)
+      (threads_stay low low' cells cells' made told side rows room len long
+      ∙ ap (λ (z : State). z.threads) is)
+      (threads_stay low low' cells cells' made told (other side) rows room next_len longer
+      ∙ ap (λ (z : State). z.next) is)
+      (ap (λ (z : State). z.room) is) refl
+
 -- the round of a place that has a cell
 pub round_put : {S : Type 0} (low : ℕ) (cells : List (Cell S)) (place k : ℕ) (y : Cell S)
     → low + k ≡ place → rounds_in low (set cells k y) ≡ set (rounds_in low cells) place y.entered
@@ -128,6 +166,24 @@ round_read low cells place k x e lt is =
     ∙ ap (slice_index (map round_in cells)) at
     ∙ told_at round_in 0 cells k x (omega (arith, e, lt)) is
 
+-- the round of a place that has been made ready, and the rounds where it is written
+module _ {S : Type 0} (low low' : ℕ) (cells cells' : List (Cell S))
+    (made : MakesReady low cells low' cells') (rounds : List ℕ) (is : rounds_in low cells ≡ rounds)
+    (place k : ℕ) (number : low' + k ≡ place) where
+  pub round_held : (x : Cell S) → place < low' + length cells' → x ≡ slice_index_or cells' k x
+      → slice_index rounds place ≡ x.entered
+  round_held x lt at =
+      ap (λ rs. slice_index rs place) (sym is)
+      ∙ ap (λ rs. slice_index rs place) (sym made.rounds)
+      ∙ round_read low' cells' place k x number lt at
+
+  pub round_written : (y : Cell S) (now : ℕ) → y.entered ≡ now
+      → rounds_in low' (set cells' k y) ≡ set rounds place now
+  round_written y now e =
+      round_put low' cells' place k y number
+      ∙ ap (λ rs. set rs place y.entered) (made.rounds ∙ is)
+      ∙ ap (λ n. set rounds place n) e
+
 -- how many rounds there are
 pub rounds_long : {S : Type 0} (low : ℕ) (cells : List (Cell S))
     → length (rounds_in low cells) ≡ low + length cells
@@ -143,7 +199,7 @@ pub no_cells : {S : Type 0} (cells : List (Cell S)) → cells ≡ [] → (q : �
 no_cells [] e q = omega arith
 no_cells (x ∷ cells) e q = cc
 
--- where no cell tells a round, no place does
+-- where no cell has a round, no place does
 pub none_entered : {S : Type 0} (low : ℕ) (cells : List (Cell S))
     → ((q : ℕ) → slice_index (map round_in cells) q ≤ 0) → (q : ℕ)
     → slice_index (rounds_in low cells) q ≤ 0

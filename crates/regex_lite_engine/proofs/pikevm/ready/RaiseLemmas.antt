@@ -9,7 +9,7 @@ use Rattle.regex_lite_engine.specs.declared.pikevm.cell.Cell.{Cell}
 use Rattle.regex_lite_engine.specs.Walk.Cells.{round_in, without_round, MakesReady}
 use Rattle.regex_lite_engine.proofs.pikevm.memory.CellLemmas.{not_told, told_at}
 
--- the rounds from k on stand higher up by so many
+-- the rounds from k on stand higher up by this many
 abbrev pub gap : List ℕ → (by k : ℕ) → List ℕ
 gap rounds by k = take k rounds ++ (replicate by 0 ++ drop k rounds)
 
@@ -122,22 +122,37 @@ module _ {S : Type 0} (cells filled : List (Cell S)) (x : Cell S) (more : ℕ) (
       ∙ ap (drop (length filled - more)) (rounds_blank x blank cells more)
       ∙ drop_first (map round_in cells) (replicate more 0) (length filled - more) before
 
+  front_same : take (length filled - more) (map round_in filled) ≡ map round_in cells
+  front_same =
+      ap (λ z. take (length filled - more) (map round_in z)) is
+      ∙ ap (take (length filled - more)) (rounds_blank x blank cells more)
+      ∙ take_first (map round_in cells) (replicate more 0) (length filled - more) before
+
+  blanks_joined : (low : ℕ) → more ≤ low → (rest : List ℕ)
+      → replicate (low - more) 0 ++ (replicate more 0 ++ rest) ≡ replicate low 0 ++ rest
+  blanks_joined low le rest =
+      let old : List ℕ = replicate (low - more) 0 in
+      let new : List ℕ = replicate more 0 in
+      let sum : low - more + more ≡ low = omega (arith, le) in
+      sym (append_assoc old new rest)
+      ∙ ap (λ z. z ++ rest)
+      (replicate-append-replicate (low - more) more 0 ∙ ap (λ n. replicate n 0) sum)
+
+  rounds_same : (low : ℕ) (rounds : List ℕ) → more ≤ low
+      → rounds ≡ replicate more 0 ++ take (length filled - more) (map round_in filled)
+      → replicate (low - more) 0 ++ rounds ≡ replicate low 0 ++ map round_in cells
+  rounds_same low rounds le up =
+      let old : List ℕ = replicate (low - more) 0 in
+      let new : List ℕ = replicate more 0 in
+      ap (λ z. old ++ z) (up ∙ ap (λ z. new ++ z) front_same)
+      ∙ blanks_joined low le (map round_in cells)
+
   pub made_ready : (low : ℕ) (raised : List (Cell S)) → more ≤ low
       → map round_in raised ≡ replicate more 0 ++ take (length filled - more) (map round_in filled)
       →
       map without_round raised ≡ map without_round filled → MakesReady low cells (low - more) raised
-  made_ready low raised le up kept =
-      let first = ap (λ z. take (length filled - more) (map round_in z)) is
-      ∙ ap (take (length filled - more)) (rounds_blank x blank cells more)
-      ∙ take_first (map round_in cells) (replicate more 0) (length filled - more) before in
-      let sum : low - more + more ≡ low = omega (arith, le) in
-      record {
-        rounds =
-            ap (λ z. replicate (low - more) 0 ++ z) (up ∙ ap (λ z. replicate more 0 ++ z) first)
-            ∙ sym (append_assoc (replicate (low - more) 0) (replicate more 0) (map round_in cells))
-            ∙ ap (λ z. z ++ map round_in cells)
-            (replicate-append-replicate (low - more) more 0 ∙ ap (λ n. replicate n 0) sum);
-        kept =
-            ap (take (length cells)) (kept ∙ ap (map without_round) is)
-            ∙ rest_before x blank cells more;
-      }
+  made_ready low raised le up kept = record {
+    rounds = rounds_same low (map round_in raised) le up;
+    kept = ap (take (length cells)) (kept ∙ ap (map without_round) is)
+        ∙ rest_before x blank cells more;
+  }

@@ -12,7 +12,7 @@ use Rattle.std.proofs.Math.Seq.{take-set-lt, drop-append-add, take-append_seam}
 use Rattle.regex_lite_engine.specs.Walk.Machine.{Row}
 use Rattle.regex_lite_engine.specs.Walk.Cells.{row_at, rows_in}
 
--- lists that are told by the numbers of what they hold
+-- lists that are determined by the numbers of what they hold
 pub listed_alike : {X : Type 0} (f g : ℕ → X) (a n : ℕ) → ((k : ℕ) → a ≤ k → k < a + n → f k ≡ g k)
     → map f (range_with_len a n) ≡ map g (range_with_len a n)
 listed_alike f g a zero alike = refl

@@ -92,7 +92,7 @@ no_character n (inl surrogate) h =
     ]
 no_character n (inr large) h = let below = character_below n h in omega (arith, large, below)
 
--- the digits that are left of so many, after some of them
+-- the digits that are left of this many, after some of them
 pub record FixedFrom (verbose : Bool) (number read n : ℕ) (t rest : Text) (c : ℕ) : Type 0 where
   pub digits : Text
   pub count : read + length digits ≡ n

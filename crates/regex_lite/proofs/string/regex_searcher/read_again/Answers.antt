@@ -1,11 +1,15 @@
-use Rattle.std.proofs.Common.{arith, ap, length}
-use Rattle.regex_lite.proofs.string.SlotLemmas.{half}
+use Rattle.std.proofs.Common.{◌∙◌, arith, ap, length, take}
+use Rattle.regex_lite.specs.Groups.{spans_of}
+use Rattle.regex_lite.proofs.string.SlotLemmas.{half, resized_few}
 use Rattle.regex_lite.proofs.string.regex_searcher.read_again.Goals as goal
 
-pub write-requires : goal.write-requires
-write-requires c =
+pub returns-clause-spans : goal.returns-clause-spans
+returns-clause-spans c =
     let room = c.requires.room in
     let kept = c.search-found.ensures.slots in
-    let same = ap length c.slots.ensures in
+    let same = ap (λ slots. length slots) c.slots.ensures in
     let count = half c.slots.result.now in
-    omega (arith, room, kept, same, count)
+    let n = length c.args.locs.now in
+    c.write.ensures.spans
+    ∙ resized_few n (spans_of c.slots.result.now) (omega (arith, room, kept, same, count))
+    ∙ ap (λ slots. take n (spans_of slots)) c.slots.ensures

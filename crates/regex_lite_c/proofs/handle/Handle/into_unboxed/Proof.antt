@@ -1,6 +1,6 @@
 -- `into_unboxed` tests the pointer, and hands on the box.
 use Rattle.std.proofs.Common.{◌≡◌, List, [], ◌∷◌, ◌++◌, refl, sym, ap, subst, lit<}
-use mir.Syntax.{impl, tnil, dnil}
+use mir.Syntax.{Sym, impl, tnil, dnil}
 use mir.Val.{Val, vptr, vcons, vnil}
 use base.Logic.{SProp, ent, emp, id⊢}
 use base.Fml.{ftrue}
@@ -32,12 +32,15 @@ use Rattle.std.specs.contracts.impls.GlobalAllocator.TheImpl as HeapImpl
 use Rattle.std.proofs.alloc.Global.TheLaws as HeapLaws
 use Rattle.regex_lite.proofs.UnboxedLemmas.{Unboxed, both, both_good, unboxed_made}
 use Rattle.regex_lite.proofs.PointerLemmas.{word_had}
-use Rattle.regex_lite_c.proofs.handle.HandleLemmas.{ν, either}
+use Rattle.regex_lite_c.proofs.handle.HandleLemmas.{either}
 use Rattle.regex_lite.specs.contracts.string.regex.Regex as stored
 use Rattle.regex_lite_c.specs.contracts.handle.Handle as handle
 use Rattle.regex_lite_c.specs.contracts.handle.Handle.into_unboxed as f
 use Rattle.regex_lite_c.proofs.handle.Handle.into_unboxed.Statement.{statement}
 use Rattle.regex_lite_c.proofs.handle.Handle.into_unboxed.Code as code
+
+abbrev ν : Sym
+ν = handle.the_type.name
 
 pub into_unboxed_spec : {M : Type 1} → statement M
 into_unboxed_spec 𝓤 𝓛 𝓜 𝓡 wired =
@@ -77,7 +80,7 @@ into_unboxed_spec 𝓤 𝓛 𝓜 𝓡 wired =
     (subst (λ (ws : List Val). ent 𝓤 (Run (word c ∷ h ∷ [])) (Run (ws ++ (vs ++ [])))) (sym eu)
     (subst (λ (ws : List Val). ent 𝓤 (Run (word c ∷ h ∷ [])) (Run (word c ∷ (ws ++ [])))) (sym ev)
     (id⊢ 𝓤 (Run (word c ∷ h ∷ []))))) $
-    either ! c v
+    either R ! c v
     (λ e n. enter ! 𝓣.C 𝓣.Λ fn (word c ∷ h ∷ []) Post $
     alloc_all ! (λ l. pass_all ! refl (word-Good ν c, (fits, tt)) $
     sets !

@@ -1,5 +1,6 @@
 -- `nothing` is a null pointer.
 use Rattle.std.proofs.Common.{◌≡◌, [], ◌∷◌, refl, lit<}
+use mir.Syntax.{Sym}
 use mir.Val.{Val}
 use base.Logic.{SProp, emp}
 use types.Kit.{raw, ◌$◌, ◌∵◌, !, qed, by, drop, fjoin, use0}
@@ -16,11 +17,14 @@ use Rattle.std.proofs.raw_atomic.Walks.{proved_at, leaves}
 use Rattle.std.proofs.RcSteps.{word, word-Good}
 use Rattle.std.specs.Prelude.{Option, None}
 use Rattle.regex_lite.proofs.PointerLemmas.{word_made}
-use Rattle.regex_lite_c.proofs.handle.HandleLemmas.{ν}
 use Rattle.regex_lite.specs.contracts.string.regex.Regex as stored
+use Rattle.regex_lite_c.specs.contracts.handle.Handle as handle
 use Rattle.regex_lite_c.specs.contracts.handle.Handle.nothing as f
 use Rattle.regex_lite_c.proofs.handle.Handle.nothing.Statement.{statement}
 use Rattle.regex_lite_c.proofs.handle.Handle.nothing.Code as code
+
+abbrev ν : Sym
+ν = handle.the_type.name
 
 abbrev None' : Option stored.the_row.Denot
 None' = None

@@ -1,5 +1,6 @@
 -- `of` keeps the pointer.
 use Rattle.std.proofs.Common.{◌≡◌, List, [], ◌∷◌, ◌++◌, refl, sym, subst}
+use mir.Syntax.{Sym}
 use mir.Val.{Val, vptr}
 use base.Logic.{SProp, ent, emp, id⊢}
 use base.Fml.{ftrue}
@@ -25,11 +26,14 @@ use Rattle.std.specs.contracts.impls.GlobalAllocator.TheImpl as HeapImpl
 use Rattle.std.proofs.alloc.Global.TheLaws as HeapLaws
 use Rattle.regex_lite.proofs.UnboxedLemmas.{Unboxed, both, both_good, unboxed_had}
 use Rattle.regex_lite.proofs.PointerLemmas.{word_made}
-use Rattle.regex_lite_c.proofs.handle.HandleLemmas.{ν}
 use Rattle.regex_lite.specs.contracts.string.regex.Regex as stored
+use Rattle.regex_lite_c.specs.contracts.handle.Handle as handle
 use Rattle.regex_lite_c.specs.contracts.handle.Handle.of as f
 use Rattle.regex_lite_c.proofs.handle.Handle.of.Statement.{statement}
 use Rattle.regex_lite_c.proofs.handle.Handle.of.Code as code
+
+abbrev ν : Sym
+ν = handle.the_type.name
 
 pub of_spec : {M : Type 1} → statement M
 of_spec 𝓤 𝓛 𝓜 𝓡 wired =

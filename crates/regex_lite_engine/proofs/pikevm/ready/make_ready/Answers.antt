@@ -1,4 +1,4 @@
-use Rattle.std.proofs.Common.{◌≡◌, ◌+◌, ◌-◌, ◌++◌, ◌∙◌, length, replicate, ap, arith}
+use Rattle.std.proofs.Common.{◌≡◌, ◌+◌, ◌-◌, ◌++◌, length, replicate, subst, arith}
 use Rattle.regex_lite_engine.proofs.pikevm.ready.RaiseLemmas.{end_blank, made_ready}
 use Rattle.regex_lite_engine.proofs.pikevm.ready.make_ready.Goals as goal
 
@@ -8,7 +8,8 @@ raise-requires-clause-blank g c =
     let count : c.len-ready.result + more - length cells ≡ more =
     omega (arith, c.len-ready.ensures) in
     end_blank cells c.fill.new.cells.items c.blank.result more c.blank.ensures
-    (c.fill.ensures.filled ∙ ap (λ n. cells ++ replicate n c.blank.result) count)
+    (subst (λ n. c.fill.new.cells.items ≡ cells ++ replicate n c.blank.result) count
+    c.fill.ensures.filled)
 
 pub returns-clause-made : goal.returns-clause-made
 returns-clause-made g c =
@@ -16,6 +17,7 @@ returns-clause-made g c =
     let count : c.len-ready.result + more - length cells ≡ more =
     omega (arith, c.len-ready.ensures) in
     made_ready cells c.fill.new.cells.items c.blank.result more c.blank.ensures
-    (c.fill.ensures.filled ∙ ap (λ n. cells ++ replicate n c.blank.result) count)
+    (subst (λ n. c.fill.new.cells.items ≡ cells ++ replicate n c.blank.result) count
+    c.fill.ensures.filled)
     c.args.low c.raise.new.cells.items
     (omega (arith, c.min.ensures)) c.raise.ensures.raised c.raise.ensures.kept

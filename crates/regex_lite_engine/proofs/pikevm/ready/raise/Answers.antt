@@ -1,4 +1,4 @@
-use Rattle.std.proofs.Common.{◌≡◌, ◌+◌, ◌-◌, ◌∙◌, length, map, take, ap, sym, arith}
+use Rattle.std.proofs.Common.{◌≡◌, ◌+◌, ◌-◌, ◌∙◌, length, map, take, ap, subst, sym, arith}
 use Rattle.std.proofs.lemmas.List.{length-map, length-take-le}
 use Rattle.regex_lite_engine.specs.Walk.Cells.{round_in, without_round}
 use Rattle.regex_lite_engine.proofs.pikevm.ready.RaiseLemmas.{gap, round_raised, rest_kept}
@@ -21,7 +21,7 @@ cells-preserved g c =
       rounds =
           round_raised cells rounds c.args.by k x y z c.requires.some
           (omega (arith, next, long, v.below)) (omega (arith, next, all, v.below))
-          (v.rounds ∙ ap (gap rounds c.args.by) next) c.index.ensures;
+          (subst (λ n. map round_in cells ≡ gap rounds c.args.by n) next v.rounds) c.index.ensures;
       kept =
           rest_kept cells rounds c.args.by k x y z c.index_mut.ensures.value
           c.index_mut-in-cells.ensures.value

@@ -3,7 +3,8 @@ use Rattle.std.proofs.lemmas.Bool.Decides.{nat_tests}
 use Rattle.regex_lite_syntax.specs.Characters.{is_character}
 use Rattle.regex_lite_syntax.specs.Ranges.{in_ranges}
 use Rattle.std.specs.List.Sorted.{IsNonDecreasingBy}
-use Rattle.std.proofs.lemmas.List.Sorted.{IsPartitionPoint-from_clause, IsPartitionedBy-ltb}
+use Rattle.std.proofs.lemmas.Fn.{always_returns_same}
+use Rattle.std.proofs.lemmas.List.Sorted.{IsPartitionedBy-ltb}
 use Rattle.regex_lite_syntax.proofs.class.RangeSearchLemmas.{ends_rise, held_nowhere, held_there}
 use Rattle.regex_lite_syntax.proofs.class.Class.contains.Goals as goal
 
@@ -11,10 +12,9 @@ pub returns-then-at-len : goal.returns-then-at-len
 returns-then-at-len c =
     let rise : IsNonDecreasingBy (λ r. r.end) c.deref.result.now =
     rw c.deref.ensures.value (ends_rise 0 _ c.self.invariant.runs) in
-    let parts = IsPartitionPoint-from_clause (λ r. ltb r.end c.args.c) c.deref.result.now _
-    c.partition_point-at.ensures.partitioned
-    (IsPartitionedBy-ltb (λ r. r.end) _ c.args.c rise)
-    (λ a r after called. search (rules, tests)) in
+    let parts = c.partition_point-at.ensures.partitioned (λ r. ltb r.end c.args.c)
+    (search (rules, tests, always_returns_same))
+    (IsPartitionedBy-ltb (λ r. r.end) _ c.args.c rise) in
     let inside : c.partition_point-at.result < length c.deref.result.now =
     omega (arith, c.if-at-len.true, c.len.ensures, c.deref.ensures.len) in
     let is : IsTrue (is_character c.args.c) = search (rules, tests) in
@@ -30,10 +30,9 @@ pub returns-else-at-len : goal.returns-else-at-len
 returns-else-at-len c =
     let rise : IsNonDecreasingBy (λ r. r.end) c.deref.result.now =
     rw c.deref.ensures.value (ends_rise 0 _ c.self.invariant.runs) in
-    let parts = IsPartitionPoint-from_clause (λ r. ltb r.end c.args.c) c.deref.result.now _
-    c.partition_point-at.ensures.partitioned
-    (IsPartitionedBy-ltb (λ r. r.end) _ c.args.c rise)
-    (λ a r after called. search (rules, tests)) in
+    let parts = c.partition_point-at.ensures.partitioned (λ r. ltb r.end c.args.c)
+    (search (rules, tests, always_returns_same))
+    (IsPartitionedBy-ltb (λ r. r.end) _ c.args.c rise) in
     let outside = c.if-at-len.false in
     let none = held_nowhere c.args.c c.deref.result.now c.partition_point-at.result parts
     (omega (arith, outside, c.len.ensures, c.deref.ensures.len)) in

@@ -1,6 +1,7 @@
 use Rattle.std.proofs.Common.{rules, ◌≡◌, ◌∙◌, sym, ap, length, take, arith}
 use Rattle.std.proofs.lemmas.List.{take_at}
-use Rattle.std.proofs.lemmas.List.Sorted.{IsNonDecreasingBy-from_sort_by_key}
+use Rattle.std.proofs.lemmas.Fn.{always_returns_same}
+use Rattle.std.proofs.lemmas.List.Sorted.{IsNonDecreasingBy-from_sort}
 use Rattle.regex_lite_syntax.specs.declared.class.ClassRange.{ClassRange}
 use Rattle.regex_lite_syntax.specs.Ranges.{in_ranges}
 use Rattle.regex_lite_syntax.proofs.RangeLemmas.{in_ranges-permutation}
@@ -9,9 +10,9 @@ use Rattle.regex_lite_syntax.proofs.class.Class.new.Goals as goal
 pub join_all-runs-requires : goal.join_all-runs-requires
 join_all-runs-requires c =
     let start = λ (r : ClassRange). r.start in
-    let sorted = c.sort_unstable_by_key.ensures.sorted in
     rw c.deref_mut.ensures.value
-    (IsNonDecreasingBy-from_sort_by_key start _ sorted (λ at key after called. search rules))
+    (IsNonDecreasingBy-from_sort start _
+    (c.sort_unstable_by_key.ensures.sorted start (search (rules, always_returns_same))))
 
 pub returns : goal.returns
 returns c =

@@ -1,15 +1,19 @@
 -- `into_box` makes the box again.
-use Rattle.std.proofs.Common.{◌≡◌, List, [], ◌∷◌, ◌++◌, refl, sym, ap, subst}
+use Rattle.std.proofs.Common.{◌≡◌, List, [], ◌∷◌, ◌++◌, suc, refl, sym, ap, subst}
+use seplogic.Ra.Ura.{Ura}
 use mir.Syntax.{a_type, dcons, dnil}
 use mir.Val.{Val, vptr}
 use mir.MapTy.{inst_fn}
 use base.Logic.{SProp, ent, id⊢}
 use base.Fml.{ftrue, flft}
 use prog.Wp.{WpFn}
+use types.Logic.{Logic}
+use types.Kit.{Item, Goal, Seq, Soaks, mean}
 use types.Kit.{‵, raw, ◌⊛◌, some, later, at_ret, ◌$◌, ◌∵◌, !, qed, by, move, keep, drop, split}
 use types.Kit.{split3, join, fsplit, fjoin, pick, suffices, use1, await, rewrite, feq_i}
 use types.Run.{stop, fld, of_opd, no_more, and_then, first, blocks, exec, returns, enter}
 use types.ByLocal.{alloc_all, pass_all, free_all, look_at, get, get_in, sets, lands_last, env}
+use types.ByLocal.{holding}
 use types.Part.{sub, whole}
 use contract.Monad.{fact}
 use contract.BorrowLft.{◌⊑◌}
@@ -34,11 +38,34 @@ use Rattle.std.proofs.BoxSteps.Steps.{box_out, box_in}
 use Rattle.std.proofs.raw_atomic.Walks.{proved_at, leaves}
 use Rattle.std.specs.contracts.boxed.Box.from_raw as callee
 use Rattle.std.proofs.boxed.Box.from_raw.Met.{met}
-use Rattle.regex_lite.proofs.UnboxedLemmas.{Unboxed, both, both_good, unboxed_had}
+use Rattle.regex_lite.proofs.UnboxedLemmas.{Unboxed, both, both_good, others, unboxed_had}
 use Rattle.regex_lite.specs.contracts.owner.unboxed.Unboxed.into_box.{ended, clauses}
 use Rattle.regex_lite.specs.contracts.owner.unboxed.Unboxed.into_box.Key.{name as #self}
 use Rattle.regex_lite.proofs.owner.unboxed.Unboxed.into_box.Statement.{statement}
 use Rattle.regex_lite.proofs.owner.unboxed.Unboxed.into_box.Code as code
+
+module _ (E : box.Bx) where
+  abbrev B : RattleType
+  B = box.B E
+
+  module _ {M : Type 1} {𝓤 : Ura M} {𝓛 : Logic 𝓤} {K : Type 0} {Γ : List (Item 𝓤)}
+      {G : Goal 𝓤 𝓛.H} where
+    -- a box that comes later with these tokens, and two facts of it
+    box_comes : K → Soaks G → (tokens : Item 𝓤) {X : Type 0} (left : X → Item 𝓤)
+        (one two : B.Denot → Item 𝓤) (u : Val) {i : Item 𝓤}
+        → ent 𝓤 (mean 𝓛 i) (mean 𝓛 (later (some (λ (r : B.Denot).
+        (tokens ⊛ ‵ (B.own_val r (u ∷ []))) ⊛ some (λ (x : X). left x ⊛ (one r ⊛ two r))))))
+        → ((r : B.Denot) → Good (layout B) u
+        → Seq K 𝓛 (‵ (B.own_val r (u ∷ [])) ∷ tokens ∷ one r ∷ two r ∷ Γ) G)
+        → Seq K 𝓛 (i ∷ Γ) G
+    box_comes t soaks tokens left one two u is then =
+        use1 𝓛 (later (some (λ (r : B.Denot).
+        (tokens ⊛ ‵ (B.own_val r (u ∷ []))) ⊛ some (λ x. left x ⊛ (one r ⊛ two r))))) is $
+        await t soaks $ pick t (λ r. split t $ move t (1 ∷ []) $ pick t (λ x. split3 t $ drop t $
+        move t (2 ∷ []) $ split t $ move t (1 ∷ []) $
+        box_out E t r (u ∷ []) (λ b o h e us fits. box_in E t r b o r.value e refl $
+        rewrite t 0 (λ (xs : List Val). ‵ (B.own_val r xs)) (sym us) refl $
+        then r (subst (Good (layout B)) (sym (ap only us)) (box.box_typed E h b o fits)))))
 
 pub into_box_spec : {M : Type 1} → statement M
 into_box_spec 𝓤 𝓛 𝓜 𝓡 wired T A L LA g d dx dd allocator glue glued =
@@ -49,7 +76,6 @@ into_box_spec 𝓤 𝓛 𝓜 𝓡 wired T A L LA g d dx dd allocator glue glued 
     let LZ = param_laws 1 A LA in
     let E : box.Bx =
     record { row = T; laws = L; al = record { row = A; laws = LA; g = g; d = d; drops = dd } } in
-    let B : RattleType = box.B E in
     let En = ended T A g d dx dd in
     let c = clauses T A g d dx dd 𝓛 𝓜.mem 𝓡.returns in
     let inst = bounded (a_type ∷ a_type ∷ []) (T, (A, tt)) (dcons d (dcons dx (dcons dd dnil))) in
@@ -87,25 +113,20 @@ into_box_spec 𝓤 𝓛 𝓜 𝓡 wired T A L LA g d dx dd allocator glue glued 
     suffices ! (Run (w ∷ [])) (subst (λ (us : List Val). ent 𝓤 (Run (w ∷ [])) (Run us))
     (sym (λ i. ws i ++ [])) (id⊢ 𝓤 (Run (w ∷ [])))) $
     enter ! 𝓣.C 𝓣.Λ fn (w ∷ []) Post $
-    alloc_all ! (λ l. pass_all ! refl (both_good R Z LZ g b o h fits, tt) $
+    alloc_all ! (λ l.
     let Ev = env fn.locals l in
+    let held = holding 𝓛 Ev ((5, h) ∷ (3, h) ∷ (2, vptr b o) ∷ (1, w) ∷ []) in
+    pass_all ! {E = env (others fn.locals) (λ i. l (suc i))} refl
+    (both_good R Z LZ g b o h fits, tt) $
     sets ! (of_opd ! (get_in ! (fld ! refl (stop !)) (sub ! 0 refl (whole !)))) refl (tt, tt) $
     sets ! (of_opd ! (get_in ! (fld ! refl (stop !)) (sub ! 1 refl (whole !)))) refl fits $
     first ! $ blocks ! $ sets ! (of_opd ! (get ! refl)) refl fits $
-    calls_at_last ! (framed 𝓤 H 𝓜 𝓣) k known y
+    calls_at_last {Γ = held} ! (framed 𝓤 H 𝓜 𝓣) k known y
     (and_then ! (get ! refl) (and_then ! (get ! refl) (no_more !))) (λ u.
-    use1 𝓛 (later
-    (some (λ (r : B.Denot). (toks ⊛ ‵ (B.own_val r (u ∷ []))) ⊛ some (λ (ls : Lasts Ce κs y.0.3).
-    ‵ (lasts Ce κs y.0.3 ls) ⊛ (raw (fact 𝓤 (r.value ≡ v.value)) ⊛ raw (fact 𝓤 (r.alloc ≡ a)))))))
-    (id⊢ 𝓤 (k.post y u)) $
-    await ! tt $ pick !
-    (λ r. split ! $ move ! (1 ∷ []) $ pick ! (λ _. split3 ! $ drop ! $ move ! (2 ∷ []) $ split ! $
-    move ! (1 ∷ []) $
-    box_out E ! r (u ∷ []) (λ b' o' h' e' us fits'. box_in E ! r b' o' r.value e' refl $
-    rewrite ! 0 (λ (xs : List Val). ‵ (B.own_val r xs)) (sym us) refl $
-    let good : Good (layout B) u =
-    subst (Good (layout B)) (sym (ap only us)) (box.box_typed E h' b' o' fits') in
+    box_comes E {Γ = held} ! tt toks (λ (ls : Lasts Ce κs y.0.3). ‵ (lasts Ce κs y.0.3 ls))
+    (λ r. raw (fact 𝓤 (r.value ≡ v.value))) (λ r. raw (fact 𝓤 (r.alloc ≡ a))) u
+    (id⊢ 𝓤 (k.post y u)) (λ r good.
     lands_last ! refl good $ exec ! 𝓣.C 𝓣.Λ Ev (after 3 fn.body) (at_ret Ev Post) $
     sets ! (of_opd ! (get ! refl)) refl good $ nothing ! $ nothing ! $ fjoin ! $
     returns ! (look_at ! 0 refl) $ free_all ! refl $ keep ! (2 ∷ 0 ∷ 1 ∷ 3 ∷ []) $
-    by ! (leaves 𝓛 En hs c z u r ((tt, (tt, tt)), tt) (tt, tt)))))))))
+    by ! (leaves 𝓛 En hs c z u r ((tt, (tt, tt)), tt) (tt, tt)))))))

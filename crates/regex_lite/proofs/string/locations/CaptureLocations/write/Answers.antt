@@ -1,37 +1,46 @@
-use Rattle.std.proofs.Common.{◌≡◌, ◌≤◌, ◌∙◌, ap, sym, subst, length, take, rules}
-use Rattle.std.proofs.lemmas.List.{length-take-le}
-use Rattle.regex_lite.specs.Groups.{spans_of}
-use Rattle.regex_lite.proofs.string.SlotLemmas.{enough_slots, first_spans}
+use Rattle.std.proofs.Common.{◌≡◌, ◌∙◌, ◌*◌, ◌++◌, ap, length, min, replicate, None}
+use Rattle.std.proofs.Common.{arith, rules, take}
+use Rattle.std.proofs.lemmas.List.{length-append, with_items_is}
+use Rattle.regex_lite.specs.Groups.{resized, spans_of}
+use Rattle.regex_lite.proofs.string.SlotLemmas.{half, resized_length, spans_with_none}
 use Rattle.regex_lite.proofs.string.locations.CaptureLocations.write.Goals as goal
-
-pub slice_bounds-copy_from_slice-end : goal.slice_bounds-copy_from_slice-end
-slice_bounds-copy_from_slice-end c =
-    let own = c.self.inside.slots.items in
-    let len : c.len-len.result ≡ length own = search rules in
-    let few : length (spans_of own) ≤ length (spans_of c.args.slots.now) =
-    rw c.self.view_is c.requires in
-    let enough = enough_slots own c.args.slots.now c.self.invariant.0 c.self.invariant.2 few in
-    sym (length-take-le c.len-len.result c.args.slots.now
-    (subst (λ n. n ≤ length c.args.slots.now) (sym len) enough.1))
-
-pub copy_from_slice-requires : goal.copy_from_slice-requires
-copy_from_slice-requires c = sym c.len-len.ensures ∙ slice_bounds-copy_from_slice-end c
 
 pub returns-clause-spans : goal.returns-clause-spans
 returns-clause-spans c =
-    let own = c.self.inside.slots.items in
+    let vec = c.self.inside.slots in
     let slots = c.args.slots.now in
     let n = c.self.invariant.0 in
-    let len : c.len-len.result ≡ length own = search rules in
-    let few : length (spans_of own) ≤ length (spans_of slots) = rw c.self.view_is c.requires in
-    let enough = enough_slots own slots n c.self.invariant.2 few in
-    ap spans_of
-    (c.copy_from_slice.ensures.items ∙ ap (λ m. take m slots) (len ∙ c.self.invariant.2))
-    ∙ first_spans slots n
-    ∙ ap (λ m. take m (spans_of slots)) (sym enough.0 ∙ ap (λ spans. length spans) c.self.view_is)
+    let count = c.min-count.result in
+    let more = length c.split_at_mut-own.result.1.now in
+    let own = c.copy_from_slice.new.self in
+    let others = c.fill.new.self in
+    let two = c.self.invariant.2 in
+    let whole = ap length c.as_mut_slice.ensures.value in
+    let cut = c.split_at_mut-own.ensures.back_len in
+    let both = length-append own others in
+    let items = with_items_is vec (own ++ others)
+    (omega (
+      arith,
+      both,
+      c.copy_from_slice.ensures.len,
+      c.split_at_mut-own.ensures.front_len,
+      c.fill.ensures.len,
+      cut,
+      c.as_mut_slice.ensures.len,
+    )) in
+    let len : c.len.result ≡ length vec.items = search rules in
+    let few : count ≡ min (length slots) (2 * n) =
+    c.min-count.ensures ∙ ap (min (length slots)) (len ∙ two) in
+    let none : others ≡ replicate more None = c.fill.ensures.after (λ y is. search rules) in
+    let half_of = half vec.items in
+    let size : n ≡ length c.args.self.now =
+    omega (arith, half_of, two) ∙ ap (λ spans. length spans) c.self.view_is in
+    ap spans_of (items ∙ ap (λ xs. xs ++ others) c.copy_from_slice.ensures.after
+    ∙ ap (λ xs. take count slots ++ xs) none)
+    ∙ spans_with_none slots n n count more (omega arith) few (omega (arith, whole, cut, two))
+    ∙ ap (λ m. resized m (spans_of slots)) size
 
 pub returns-clause-len : goal.returns-clause-len
 returns-clause-len c =
-    let few = c.requires in
     ap (λ spans. length spans) (returns-clause-spans c)
-    ∙ length-take-le (length c.args.self.now) (spans_of c.args.slots.now) few
+    ∙ resized_length (length c.args.self.now) (spans_of c.args.slots.now)

@@ -4,22 +4,20 @@ use Rattle.std.specs.Result.{IsErrAnd}
 use Rattle.std.specs.declared.borrow.CowStr.TheVariants.{Borrowed}
 use Rattle.regex_lite_engine.specs.Search.Offsets.{position_at}
 use Rattle.regex_lite.specs.Ahead.{Passes, ahead}
-use Rattle.regex_lite.specs.Compiled.{AreOfRegex}
 use Rattle.regex_lite.specs.Groups.{whole_span}
 use Rattle.regex_lite.specs.Replacements.{IsRefused, IsReplacedInTurn}
 use Rattle.regex_lite.specs.Scanning.{RegexSearching, Scanning}
 use Rattle.regex_lite.proofs.string.AnsweredLemmas.{begun_on, borrowed_where_over}
 use Rattle.regex_lite.proofs.string.AnsweredLemmas.{owned_where_some, so_finished}
 use Rattle.regex_lite.proofs.string.ReplacementLemmas.{found_there, in_turn_at_end}
-use Rattle.regex_lite.proofs.string.ReplacementLemmas.{in_turn_passed, in_turn_refused}
-use Rattle.regex_lite.proofs.string.ScanLemmas.{of_regex}
+use Rattle.regex_lite.proofs.string.ReplacementLemmas.{haystack_kept, in_turn_passed}
+use Rattle.regex_lite.proofs.string.ReplacementLemmas.{in_turn_refused, of_passed, sought_kept}
 use Rattle.regex_lite.proofs.string.regex.Regex.replace_each.Goals as goal
 
 pub take_back-requires : goal.take_back-requires
 take_back-requires g c =
     let step = rw c.in_ok-caps.was at c.in-Some.ensures.steps in
-    subst (λ own. AreOfRegex own c.in_ok-caps.caps) (sym (ap (λ a. a.sought) step.4.passed))
-    (of_regex c.items.scan.finder.regex c.items.scan.haystack step.0 c.in_ok-caps.caps step.1)
+    of_passed (ahead c.items.scan) (ahead c.next.new.self) step.0 c.in_ok-caps.caps step.5 step.2
 
 handed_on : {T E : Type 0} {P Q : E → Type 0} (r : Result T E) → IsErrAnd r Q
     → ((e : E) → Q e → P e) → IfErr r P
@@ -34,7 +32,7 @@ returns-in_err-replace_with-clause-refused g c =
     let rewrite = c.items.rewrite in
     let are = found_there c.items.scan.finder.regex start.sought c.items.scan.haystack
     start.haystack step.0 c.in_ok-caps.caps
-    inv.regex inv.haystack step.1 in
+    inv.regex inv.haystack step.2 in
     handed_on c.from_residual-in_err-replace_with.result
     c.from_residual-in_err-replace_with.ensures.1
     (λ error same. elim c.in_err-replace_with.ensures.refused [
@@ -45,7 +43,7 @@ returns-in_err-replace_with-clause-refused g c =
           (ahead c.items.scan) (ahead c.next.new.self)
           c.items.rep c.replace_with.new.rep step.0 c.in_ok-caps.caps (unwrap_or rewrite.ended 0)
           (string_bytes rewrite.text)
-          asked.0 _ inv.so_far step.4 are asked.1))
+          asked.0 _ inv.so_far step.5 are asked.1))
     ])
 
 pub items-preserved : goal.items-preserved
@@ -57,12 +55,12 @@ items-preserved g c =
     let start = ahead c.args.scan.now in
     let old = ahead c.items.scan in
     let new = ahead c.take_back.new.self in
-    let passes = subst (λ own. Passes old step.0 (ahead own)) (sym c.take_back.ensures) step.4 in
+    let passes = subst (λ own. Passes old step.0 (ahead own)) (sym c.take_back.ensures) step.5 in
     let from = unwrap_or c.items.rewrite.ended 0 in
     let made = string_bytes c.items.rewrite.text in
     let caps = c.in_ok-caps.caps in
     let are = found_there old.sought start.sought old.haystack start.haystack step.0 caps inv.regex
-    inv.haystack step.1 in
+    inv.haystack step.2 in
     let same =
     ap (λ own. own.now) (inv.same ∙ c.start-rewrite.ensures.haystack) ∙ sym c.requires.haystack in
     let written =
@@ -78,11 +76,11 @@ items-preserved g c =
           begun_on start old new made _ _ _ (whole_span caps).1 step.0
           (ap (option_map (position_at start.haystack)) c.requires.begins) inv.begun passes
           done.ended;
-      regex = ap (λ a. a.sought) passes.passed ∙ inv.regex;
-      haystack = ap (λ a. a.haystack) passes.passed ∙ inv.haystack;
+      regex = sought_kept start old new step.0 passes inv.regex;
+      haystack = haystack_kept start old new step.0 passes inv.haystack;
       ended =
           done.ended
-          ∙ sym (ap (λ (own : Scanning RegexSearching). own.ended) c.take_back.ensures ∙ step.3);
+          ∙ sym (ap (λ (own : Scanning RegexSearching). own.ended) c.take_back.ensures ∙ step.4);
       same = c.replace_with.ensures.haystack ∙ inv.same;
     }
 

@@ -1,4 +1,5 @@
-use Rattle.std.proofs.Common.{◌*◌, ◌∙◌, ℕ, [], ◌∷◌, length, take, Some, None, sym, subst, ap}
+use Rattle.std.proofs.Common.{◌≡◌, ◌*◌, ◌∙◌, ℕ, [], ◌∷◌, length, take, Some, None, sym, subst, ap}
+use Rattle.regex_lite_syntax.specs.Tree.Properties.{captures_len}
 use Rattle.regex_lite_engine.specs.Search.Outcomes.{IsSpanOutcome}
 use Rattle.regex_lite.specs.Expression.{Expression, OfTree}
 use Rattle.regex_lite.specs.Keeping.{SearchesForGroups}
@@ -6,6 +7,7 @@ use Rattle.regex_lite.specs.MatchViews.{span_of_match}
 use Rattle.regex_lite.specs.Slots.{all_slots}
 use Rattle.regex_lite.proofs.string.KeptLemmas.{locations_read, room_for, room_read}
 use Rattle.regex_lite.proofs.string.KeptLemmas.{slots_again, slots_of_whole, still_searches}
+use Rattle.regex_lite.proofs.string.SlotLemmas.{resized_few}
 use Rattle.regex_lite.proofs.string.ToldLemmas.{same_pair, span_of}
 use Rattle.regex_lite.proofs.string.regex_searcher.RegexSearcher.read.Goals as goal
 
@@ -17,25 +19,18 @@ returns-in_default-clause-locations c = λ start told.
     let m = a.found.now in
     let only = subst (λ (re : Expression). SearchesForGroups re None) c.self.view_is
     (subst (SearchesForGroups c.self.inside.regex.now) c.in_default.is c.self.invariant.1) in
-    locations_read re bytes c.utf8.haystack start m told (all_slots [] (span_of_match m))
-    (slots_of_whole re bytes c.utf8.haystack start m told)
-    (only.0, only.1, ap (λ n. 2 * n) (sym only.2)) (length a.locs.now) c.write.new.self
+    let slots = all_slots [] (span_of_match m) in
+    let held = slots_of_whole re bytes c.utf8.haystack start m told in
+    let enough : OfTree re (λ tree. length slots ≡ 2 * captures_len tree) =
+    (only.0, only.1, ap (λ n. 2 * n) (sym only.2)) in
+    let few = room_read re bytes c.utf8.haystack start m told slots held enough a.locs.now
+    c.requires.few in
+    locations_read re bytes c.utf8.haystack start m told slots held enough (length a.locs.now)
+    c.write.new.self
     (c.write.ensures.spans
+    ∙ resized_few (length a.locs.now) (Some (c.start.result, c.end.result) ∷ []) few
     ∙ ap (λ (span : ℕ × ℕ). take (length a.locs.now) (Some span ∷ []))
     (same_pair c.start.ensures c.end.ensures))
-
-pub write-requires : goal.write-requires
-write-requires c =
-    let a = c.args in
-    let re = a.self.now in
-    let bytes = a.haystack.now in
-    let m = a.found.now in
-    let only = subst (λ (re : Expression). SearchesForGroups re None) c.self.view_is
-    (subst (SearchesForGroups c.self.inside.regex.now) c.in_default.is c.self.invariant.1) in
-    room_read re bytes c.utf8.haystack c.requires.found.0 m c.requires.found.1
-    (all_slots [] (span_of_match m))
-    (slots_of_whole re bytes c.utf8.haystack c.requires.found.0 m c.requires.found.1)
-    (only.0, only.1, ap (λ n. 2 * n) (sym only.2)) a.locs.now c.requires.few
 
 pub read_again-requires-clause-room : goal.read_again-requires-clause-room
 read_again-requires-clause-room c =

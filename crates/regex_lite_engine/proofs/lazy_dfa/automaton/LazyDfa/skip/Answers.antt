@@ -1,36 +1,11 @@
-use Rattle.std.proofs.Common.{rules, ◌∷◌, [], inr}
-use Rattle.std.specs.Prelude.{chars}
-use Rattle.regex_lite_engine.specs.Graph.Stored.{table_of}
-use Rattle.regex_lite_engine.proofs.lazy_dfa.ScanLemmas.{best_none, is_idle, skipped}
+use Rattle.std.proofs.Common.{rules}
+use Rattle.regex_lite_engine.proofs.lazy_dfa.ScanLemmas.{best_none}
 use Rattle.regex_lite_engine.proofs.lazy_dfa.automaton.LazyDfa.skip.Goals as goal
 
-pub returns-in_err-state-clause-idle : goal.returns-in_err-state-clause-idle
-returns-in_err-state-clause-idle c = λ low p scanning.
-    let none = best_none c.args.at.best c.is_some.result c.is_some.ensures c.if-is_some.false in
-    let passes = c.pass_over-here.ensures p scanning.is in
-    let idle = (c.if-not-is_empty.ensures scanning.state scanning.is_state).0 (search rules) in
-    inr
-    (is_idle (table_of c.args.graph.now) (c.args.graph.now.start ∷ []) (chars c.args.haystack.now)
-    low p c.args.self.now c.args.at scanning c.pass_over-here.result passes idle none)
+pub skip_idle-requires-clause-none : goal.skip_idle-requires-clause-none
+skip_idle-requires-clause-none c =
+    best_none c.args.at.best c.is_some.result c.is_some.ensures c.if-is_some.false
 
-pub returns-clause-on : goal.returns-clause-on
-returns-clause-on c = λ low p scanning.
-    let none = best_none c.args.at.best c.is_some.result c.is_some.ensures c.if-is_some.false in
-    let passes = c.pass_over-here.ensures p scanning.is in
-    let idle = (c.if-not-is_empty.ensures scanning.state scanning.is_state).0 (search rules) in
-    let found = c.in_ok-state.ensures in (
-      passes.q,
-      passes.later,
-      skipped (table_of c.args.graph.now) (c.args.graph.now.start ∷ []) (chars c.args.haystack.now)
-          low p c.args.self.now c.args.at scanning c.pass_over-here.result passes idle none
-          c.in_ok-state.state found.state found.is_state found.none found.searching found.sees,
-    )
-
-pub returns-clause-idle : goal.returns-clause-idle
-returns-clause-idle c = λ low p scanning.
-    let none = best_none c.args.at.best c.is_some.result c.is_some.ensures c.if-is_some.false in
-    let passes = c.pass_over-here.ensures p scanning.is in
-    let idle = (c.if-not-is_empty.ensures scanning.state scanning.is_state).0 (search rules) in
-    inr
-    (is_idle (table_of c.args.graph.now) (c.args.graph.now.start ∷ []) (chars c.args.haystack.now)
-    low p c.args.self.now c.args.at scanning c.pass_over-here.result passes idle none)
+pub skip_idle-requires-clause-empty : goal.skip_idle-requires-clause-empty
+skip_idle-requires-clause-empty c = λ state is.
+    (c.if-not-is_empty.ensures state is).0 (search rules)

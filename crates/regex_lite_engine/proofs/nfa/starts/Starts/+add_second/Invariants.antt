@@ -8,7 +8,7 @@ use Rattle.regex_lite_engine.specs.Nfa.Heads.{Reads}
 use Rattle.regex_lite_engine.specs.Nfa.Starts.{IsGrown}
 use Rattle.regex_lite_engine.proofs.nfa.starts.Starts.+add_second.Given as goal
 
--- the parts before read what is told
+-- the parts before read what is given
 abbrev pub invariant-add_second_of_parts-loop-part : goal.invariant-add_second_of_parts-loop-part
 invariant-add_second_of_parts-loop-part l = record {
   grown : IsGrown l.fn.self l.self;

@@ -1,5 +1,5 @@
-use Rattle.std.proofs.Common.{◌≡◌, ◌+◌, ◌<◌, length, take, set, reverse}
-use Rattle.std.proofs.Common.{slice_index, refl, ap, sym, ◌∙◌, arith}
+use Rattle.std.proofs.Common.{◌≡◌, ◌+◌, ◌<◌, length, take, reverse}
+use Rattle.std.proofs.Common.{slice_index, refl, ap, ◌∙◌, arith}
 use Rattle.std.proofs.lemmas.Bool.Decides.{nat_tests}
 use Rattle.regex_lite_engine.specs.declared.pikevm.cell.Cell.{Cell}
 use Rattle.regex_lite_engine.specs.Walk.Cells.{frame_in, other}
@@ -7,8 +7,8 @@ use Rattle.regex_lite_engine.specs.Walk.Machine.{State}
 use Rattle.regex_lite_engine.proofs.pikevm.memory.CellLemmas.{not_told, state_is, with_round}
 use Rattle.regex_lite_engine.proofs.pikevm.memory.ListLemmas.{threads_kept}
 use Rattle.regex_lite_engine.proofs.pikevm.memory.ReadyLemmas.{places_stay, frames_stay}
-use Rattle.regex_lite_engine.proofs.pikevm.memory.ReadyLemmas.{threads_stay, round_put}
-use Rattle.regex_lite_engine.proofs.pikevm.memory.ReadyLemmas.{round_read, rounds_long}
+use Rattle.regex_lite_engine.proofs.pikevm.memory.ReadyLemmas.{threads_stay, round_held}
+use Rattle.regex_lite_engine.proofs.pikevm.memory.ReadyLemmas.{round_written, rounds_long}
 use Rattle.regex_lite_engine.proofs.pikevm.memory.Memory.insert.Goals as goal
 
 pub returns-clause-fresh : goal.returns-clause-fresh
@@ -25,9 +25,8 @@ returns-clause-fresh g c =
       places_stay i.low low i.cells.items cells made,
     ) in
     let held : slice_index c.args.self.now.rounds c.args.place ≡ x.entered =
-    ap (λ (z : State). slice_index z.rounds c.args.place) (sym v)
-    ∙ ap (λ rs. slice_index rs c.args.place) (sym made.rounds)
-    ∙ round_read low cells c.args.place c.reach-k.result x c.reach-k.ensures.number inside
+    round_held i.low low i.cells.items cells made c.args.self.now.rounds
+    (ap (λ (z : State). z.rounds) v) c.args.place c.reach-k.result c.reach-k.ensures.number x inside
     c.index_mut-cell.ensures.value in
     let now = ap (λ (z : State). z.now) v in (
       (λ yes same. grind (arith, nat_tests, yes, same, held, now)),
@@ -42,9 +41,9 @@ returns-clause-added g c =
     let low = c.reach-k.new.low in let k = c.reach-k.result in
     let x = c.index_mut-cell.result.now in let is = c.index_mut-cell.ensures.value in
     let y : Cell _ = record x { entered = i.round } in
-    let rounds = round_put low cells c.args.place k y c.reach-k.ensures.number
-    ∙ ap (λ rs. set rs c.args.place i.round) (made.rounds ∙ ap (λ (z : State). z.rounds) v)
-    ∙ ap (λ n. set m.rounds c.args.place n) (ap (λ (z : State). z.now) v) in
+    let rounds = round_written i.low low i.cells.items cells made m.rounds
+    (ap (λ (z : State). z.rounds) v) c.args.place k c.reach-k.ensures.number y m.now
+    (ap (λ (z : State). z.now) v) in
     let frames = ap (λ fs. reverse (take i.depth fs)) (not_told frame_in cells k x y is refl)
     ∙ frames_stay i.low low i.cells.items cells made i.depth fit.frames_fit
     ∙ (ap (λ (z : State). z.frames) v) in

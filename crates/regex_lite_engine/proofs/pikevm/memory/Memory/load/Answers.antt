@@ -1,12 +1,11 @@
-use Rattle.std.proofs.Common.{◌≡◌, ◌<◌, [], length, map, slice_index}
+use Rattle.std.proofs.Common.{◌≡◌, ◌<◌, length, map, slice_index}
 use Rattle.std.proofs.Common.{slice_index_or, refl, ap, sym, ◌∙◌, arith}
-use Rattle.std.proofs.lemmas.List.{get_or-set_same}
 use Rattle.regex_lite_engine.specs.Walk.Beginnings.{untold}
-use Rattle.regex_lite_engine.specs.Walk.Cells.{nth_row, threads_on, other, row_on}
+use Rattle.regex_lite_engine.specs.Walk.Cells.{nth_row, other, row_on}
 use Rattle.regex_lite_engine.specs.Walk.Cells.{place_on, start_on, start_told}
 use Rattle.regex_lite_engine.specs.Walk.Machine.{State, thread_at}
 use Rattle.regex_lite_engine.proofs.pikevm.memory.CellLemmas.{row_fits, told_at, state_is}
-use Rattle.regex_lite_engine.proofs.pikevm.memory.ListLemmas.{first_row_alone, thread_is}
+use Rattle.regex_lite_engine.proofs.pikevm.memory.ListLemmas.{first_put, list_kept, thread_is}
 use Rattle.regex_lite_engine.proofs.pikevm.memory.ListLemmas.{thread_told, threads_long}
 use Rattle.regex_lite_engine.proofs.pikevm.memory.Memory.load.Goals as goal
 
@@ -63,8 +62,7 @@ returns-clause-thread g c =
     let short : c.args.k < length i.cells.items = omega (arith, lt, fit.threads_fit) in
     let some : 0 < length i.rows = omega (arith, fit.rows_fit) in
     let row : nth_row c.copy.new.self 0 ≡ nth_row i.rows (row_on i.side c.args.k) =
-    ap (λ z. nth_row z 0) c.copy.ensures.copied
-    ∙ get_or-set_same i.rows 0 (nth_row i.rows c.row_of.result) [] some
+    first_put i.rows c.copy.new.self (nth_row i.rows c.row_of.result) c.copy.ensures.copied some
     ∙ ap (nth_row i.rows) c.row_of.ensures in
     let place = told_at (place_on i.side) 0 i.cells.items c.args.k x short c.index.ensures in
     let start = told_at (start_told g.S.Beginning.told i.side) untold i.cells.items c.args.k x short
@@ -83,16 +81,12 @@ returns-clause-same g c =
     let i = c.self.inside in let m = c.args.self.now in let v = c.self.view_is in
     let fit = c.self.invariant in
     let written = nth_row i.rows c.row_of.result in
-    let threads = ap (λ z. threads_on g.S.Beginning.told i.side i.cells.items z i.room i.len)
-    c.copy.ensures.copied
-    ∙ first_row_alone g.S.Beginning.told i.side i.cells.items i.rows i.room i.len written
-    ∙ (ap (λ (z : State). z.threads) v) in
-    let next =
-    ap (λ z. threads_on g.S.Beginning.told (other i.side) i.cells.items z i.room i.next_len)
-    c.copy.ensures.copied
-    ∙ first_row_alone g.S.Beginning.told
-    (other i.side) i.cells.items i.rows i.room i.next_len written
-    ∙ (ap (λ (z : State). z.next) v) in
+    let threads = list_kept i.rows c.copy.new.self written c.copy.ensures.copied g.S.Beginning.told
+    i.side i.cells.items i.room i.len
+    ∙ ap (λ (z : State). z.threads) v in
+    let next = list_kept i.rows c.copy.new.self written c.copy.ensures.copied g.S.Beginning.told
+    (other i.side) i.cells.items i.room i.next_len
+    ∙ ap (λ (z : State). z.next) v in
     state_is _ _ (ap (λ (z : State). z.rounds) v) (ap (λ (z : State). z.now) v)
     (ap (λ (z : State). z.frames) v) refl threads next (ap (λ (z : State). z.room) v)
     (ap (λ (z : State). z.ready) v)

@@ -1,4 +1,4 @@
-use Rattle.std.proofs.Common.{◌++◌, ◌∷◌, length, replicate, refl, ap, ◌∙◌, arith}
+use Rattle.std.proofs.Common.{◌∷◌, length, set, refl, ap, ◌∙◌, arith}
 use Rattle.regex_lite_engine.specs.declared.pikevm.cell.Cell.{Cell}
 use Rattle.regex_lite_engine.specs.Walk.Cells.{round_in, frame_of, other}
 use Rattle.regex_lite_engine.specs.Walk.Machine.{State}
@@ -6,7 +6,7 @@ use Rattle.regex_lite_engine.proofs.pikevm.memory.CellLemmas.{not_told, frame_pu
 use Rattle.regex_lite_engine.proofs.pikevm.memory.CellLemmas.{state_is, with_frame}
 use Rattle.regex_lite_engine.proofs.pikevm.memory.ListLemmas.{threads_kept}
 use Rattle.regex_lite_engine.proofs.pikevm.memory.ReadyLemmas.{frames_stay, threads_stay}
-use Rattle.regex_lite_engine.proofs.pikevm.memory.ReadyLemmas.{rounds_long}
+use Rattle.regex_lite_engine.proofs.pikevm.memory.ReadyLemmas.{rounds_long, rounds_still}
 use Rattle.regex_lite_engine.proofs.pikevm.memory.Memory.push.Goals as goal
 
 pub provide-requires-clause-number : goal.provide-requires-clause-number
@@ -33,8 +33,8 @@ returns g c =
     ∙ ap (λ fs. frame_of c.args.frame ∷ fs)
     (frames_stay i.low low i.cells.items cells made i.depth fit.frames_fit
     ∙ ap (λ (z : State). z.frames) v) in
-    let rounds = ap (λ rs. replicate low 0 ++ rs) (not_told round_in cells i.depth x y is refl)
-    ∙ made.rounds ∙ (ap (λ (z : State). z.rounds) v) in
+    let rounds = rounds_still i.low low i.cells.items cells made (set cells i.depth y) m.rounds
+    (not_told round_in cells i.depth x y is refl) (ap (λ (z : State). z.rounds) v) in
     let threads = threads_kept g.S.Beginning.told i.side cells i.rows i.room i.len i.depth x y is
     (with_frame i.side x c.args.frame)
     ∙ threads_stay i.low low i.cells.items cells made g.S.Beginning.told i.side i.rows i.room i.len

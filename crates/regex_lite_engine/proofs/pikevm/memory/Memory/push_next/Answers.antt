@@ -1,5 +1,5 @@
-use Rattle.std.proofs.Common.{◌<◌, ◌+◌, ◌++◌, ◌∷◌, [], length, take, reverse}
-use Rattle.std.proofs.Common.{replicate, set, ap, sym, ◌∙◌, arith, length-set}
+use Rattle.std.proofs.Common.{◌≡◌, ◌<◌, ◌+◌, ◌++◌, ◌∷◌, [], length, take, reverse}
+use Rattle.std.proofs.Common.{set, ap, subst, sym, ◌∙◌, arith, length-set}
 use Rattle.regex_lite_engine.specs.Walk.Cells.{nth_row, threads_on, other, row_on}
 use Rattle.regex_lite_engine.specs.Walk.Machine.{State, Row}
 use Rattle.regex_lite_engine.proofs.pikevm.memory.CellLemmas.{back, row_fits, state_is}
@@ -46,7 +46,8 @@ invariant_of-self g c =
       ap (λ (z : State). length z.next) v,
       ap (λ (z : State). z.room) v,
     ) in
-    let copied = c.copy.ensures.copied ∙ ap (λ k. set i.rows k row) c.row_of.ensures in
+    let copied =
+    subst (λ k. c.copy.new.self ≡ set i.rows k row) c.row_of.ensures c.copy.ensures.copied in
     let still = ready.still_together i.low low i.cells.items cells c.provide.ensures.made
     i.cells.cap c.provide.new.cells.cap i.ready i.rows i.room i.depth i.len i.next_len
     c.provide.ensures.capacity fit in
@@ -80,12 +81,14 @@ returns g c =
       ap (λ (z : State). length z.next) v,
       ap (λ (z : State). z.room) v,
     ) in
-    let copied = c.copy.ensures.copied ∙ ap (λ k. set i.rows k row) c.row_of.ensures in
-    let rounds = ap (λ rs. replicate low 0 ++ rs)
+    let copied =
+    subst (λ k. c.copy.new.self ≡ set i.rows k row) c.row_of.ensures c.copy.ensures.copied in
+    let rounds = ready.rounds_still i.low low i.cells.items cells made (set cells i.next_len y)
+    m.rounds
     (rounds_stay g.S.Beginning.told side i.side (back i.side ∙ ap other (sym c.other-side.ensures))
     cells i.rows c.copy.new.self i.room i.next_len i.len c.args.place c.args.start x y row is
     c.put_thread.ensures copied lt fit.threads_few c.provide.ensures.ready fit.rows_fit)
-    ∙ made.rounds ∙ ap (λ (z : State). z.rounds) v in
+    (ap (λ (z : State). z.rounds) v) in
     let frames = ap (λ fs. reverse (take i.depth fs))
     (frames_stay g.S.Beginning.told side i.side (back i.side ∙ ap other (sym c.other-side.ensures))
     cells i.rows c.copy.new.self i.room i.next_len i.len c.args.place c.args.start x y row is

@@ -1,9 +1,6 @@
-use Rattle.std.proofs.Common.{◌<◌, length, ap, sym, ◌∙◌, arith, ℕ}
-use Rattle.regex_lite_engine.specs.Walk.Beginnings.{untold}
-use Rattle.regex_lite_engine.specs.Walk.Cells.{place_on, start_told}
-use Rattle.regex_lite_engine.specs.Walk.Machine.{State, Thread, thread_at}
-use Rattle.regex_lite_engine.proofs.pikevm.memory.CellLemmas.{told_at}
-use Rattle.regex_lite_engine.proofs.pikevm.memory.ListLemmas.{thread_is, threads_long}
+use Rattle.std.proofs.Common.{◌<◌, length, ap, arith}
+use Rattle.regex_lite_engine.specs.Walk.Machine.{State}
+use Rattle.regex_lite_engine.proofs.pikevm.memory.ListLemmas.{place_read, start_read, threads_long}
 use Rattle.regex_lite_engine.proofs.pikevm.memory.Memory.thread.Goals as goal
 
 pub index-requires : goal.index-requires
@@ -28,11 +25,9 @@ returns-clause-place g c =
     ) in
     let x = c.index.result.now in
     let short : c.args.k < length i.cells.items = omega (arith, lt, fit.threads_fit) in
-    let at = ap (λ ts. thread_at ts c.args.k) (sym (ap (λ (z : State). z.threads) v))
-    ∙ thread_is g.S.Beginning.told i.side i.cells.items i.rows i.room i.len c.args.k lt in
-    ap (λ (r : ℕ × g.row.S.Denot). r.0) c.thread.ensures
-    ∙ sym (told_at (place_on i.side) 0 i.cells.items c.args.k x short c.index.ensures)
-    ∙ sym (ap (λ (t : Thread). t.0) at)
+    place_read g.S.Beginning.told i.side i.cells.items i.rows i.room i.len c.args.k x lt short
+    c.index.ensures c.args.self.now.threads (ap (λ (z : State). z.threads) v) c.thread.result
+    c.thread.ensures
 
 pub returns-clause-start : goal.returns-clause-start
 returns-clause-start g c =
@@ -45,8 +40,6 @@ returns-clause-start g c =
     ) in
     let x = c.index.result.now in
     let short : c.args.k < length i.cells.items = omega (arith, lt, fit.threads_fit) in
-    let at = ap (λ ts. thread_at ts c.args.k) (sym (ap (λ (z : State). z.threads) v))
-    ∙ thread_is g.S.Beginning.told i.side i.cells.items i.rows i.room i.len c.args.k lt in
-    ap (λ (r : ℕ × g.row.S.Denot). g.S.Beginning.told r.1) c.thread.ensures
-    ∙ sym (told_at (start_told g.S.Beginning.told i.side) untold i.cells.items c.args.k x short
-    c.index.ensures) ∙ sym (ap (λ (t : Thread). t.1) at)
+    start_read g.S.Beginning.told i.side i.cells.items i.rows i.room i.len c.args.k x lt short
+    c.index.ensures c.args.self.now.threads (ap (λ (z : State). z.threads) v) c.thread.result
+    c.thread.ensures

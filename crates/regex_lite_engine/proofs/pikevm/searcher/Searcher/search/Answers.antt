@@ -90,9 +90,10 @@ returns-clause-found c = λ tree regular is.
     let m = position_at haystack c.in_ok-from.from in
     let row = c.run.new.cache.best.row in
     span_told tree regular graph of_graph haystack c.args.start c.if-start-haystack.false
-    c.span.result row
+    c.span-found.result row
     (answer_from (table_of graph) (chars haystack) graph.start s m c.in_ok-from.ensures.first
-    (with_start_kept (best_at c.span.result row))
-    (subst (λ z. IsBestOutcome (table_of graph) (chars haystack) graph.start m z) c.span.ensures
+    (with_start_kept (best_at c.span-found.result row))
+    (subst (λ z. IsBestOutcome (table_of graph) (chars haystack) graph.start m z)
+    c.span-found.ensures
     (one_best (table_of graph) (chars haystack) graph.start m (best_of c.run.new.cache.best)
     c.run.ensures.found)))

@@ -1,23 +1,26 @@
-use Rattle.std.proofs.Common.{◌≡◌, ℕ, ◌+◌, ◌^◌, ◌<◌, List, length, replicate, [], ◌++◌}
+use Rattle.std.proofs.Common.{◌≡◌, ℕ, ◌+◌, ◌^◌, ◌<◌, ◌≤◌, List, length, replicate, [], ◌++◌}
 use Rattle.std.proofs.Common.{None, if◌then◌else◌, Some, true, sym, ap, subst, ◌∙◌, arith}
 use Rattle.regex_lite_engine.specs.declared.pikevm.walk.Walk.{Walk}
 use Rattle.regex_lite_engine.specs.Search.Bounds.{StaysCounted}
 use Rattle.regex_lite_engine.specs.Walk.Again.{all_retold, best_again, retold}
 use Rattle.regex_lite_engine.specs.Walk.Beginnings.{Told}
 use Rattle.regex_lite_engine.specs.Walk.Machine.{Row, State, BestState, Thread, thread_at}
-use Rattle.regex_lite_engine.specs.Walk.Room.{due_tries, KeepsPosition}
+use Rattle.regex_lite_engine.specs.Walk.Room.{due_entries, due_tries, KeepsPosition}
 use Rattle.regex_lite_engine.specs.Walk.Searching.{ways_at}
 use Rattle.regex_lite_engine.specs.Walk.Turns.{begun, best_of, StepsTo}
 use Rattle.regex_lite_engine.specs.Walk.Walking.{Best}
 use Rattle.regex_lite_engine.proofs.pikevm.AgainLemmas.{thread_retold}
 use Rattle.regex_lite_engine.proofs.pikevm.CountLemmas.{still_counted}
+use Rattle.regex_lite_engine.proofs.pikevm.StateLemmas.{takes_up}
 use Rattle.regex_lite_engine.proofs.pikevm.StepLemmas.{room_pushed, stepped_again}
 use Rattle.regex_lite_engine.proofs.pikevm.StepLemmas.{stepped_walk, spent_walk, entries_walk}
 use Rattle.regex_lite_engine.proofs.pikevm.TurnLemmas.{begun_below, start_begun, start_taken}
 use Rattle.regex_lite_engine.proofs.pikevm.turn.Cache.follow_ways.Goals as goal
 
-abbrev as_best : Told → ℕ → Row → Best
-as_best i at row = Some (i, at, row)
+-- the best match with a row that is the same
+has_row : (best : Best) (i : Told) (at : ℕ) (row row' : Row) → best ≡ Some (i, at, row) → row ≡ row'
+    → best ≡ Some (i, at, row')
+has_row best i at row row' is same = cc
 
 pub take_up-place-requires : goal.take_up-place-requires
 take_up-place-requires g c =
@@ -44,7 +47,7 @@ explore-requires-clause-room g c =
     let lt : c.ways.k < length ws =
     (let t = c.ways-test.true in let e = c.ways-k-end.ensures (g.S.Beginning.told_of a.here.at) in
     omega (arith, t, e)) in
-    let em = up.memory ∙ ap (λ fs. record w.memory { row = w1.memory.row; frames = fs }) v.empty in
+    let em = takes_up w.memory w1.memory up.memory v.empty in
     let taken = start_taken (g.P.Patterns.starts a.patterns.now) (g.S.Beginning.told_of a.here.at)
     (length i.row) (best_of a.self.now.best) i.threads c.ways.k lt in
     let at : thread_at ws c.ways.k ≡ (q, start, w1.memory.row) =
@@ -81,7 +84,7 @@ ways-preserved g c =
     let lt : c.ways.k < length ws =
     (let t = c.ways-test.true in let e = c.ways-k-end.ensures (g.S.Beginning.told_of a.here.at) in
     omega (arith, t, e)) in
-    let em = up.memory ∙ ap (λ fs. record w.memory { row = w1.memory.row; frames = fs }) v.empty in
+    let em = takes_up w.memory w1.memory up.memory v.empty in
     let more = c.explore.ensures in
     let taken = start_taken (g.P.Patterns.starts a.patterns.now) (g.S.Beginning.told_of a.here.at)
     (length i.row) (best_of a.self.now.best) i.threads c.ways.k lt in
@@ -130,7 +133,9 @@ ways-preserved g c =
           v.kept.round c.explore.new.self start c.explore.result more.explored due c.ways.k v.spent;
       spent_entries =
           entries_walk (g.P.Patterns.table a.patterns.now) w w1 q em up.steps a.here i.now
-          v.kept.round c.explore.new.self start c.explore.result more.explored _ v.spent_entries;
+          v.kept.round c.explore.new.self start c.explore.result more.explored
+          (due_entries (g.P.Patterns.table a.patterns.now) i.rounds i.now
+          a.self.now.walk.steps.entered) v.spent_entries;
       empty = more.empty;
       counts = still_counted a.self.now.walk.steps w.steps c.explore.new.self.steps v.counts
           (subst (λ s. StaysCounted s c.explore.new.self.steps) up.steps more.counts);
@@ -155,7 +160,7 @@ returns-then-explore-clause-followed g c =
     let lt : c.ways.k < length ws =
     (let t = c.ways-test.true in let e = c.ways-k-end.ensures (g.S.Beginning.told_of a.here.at) in
     omega (arith, t, e)) in
-    let em = up.memory ∙ ap (λ fs. record w.memory { row = w1.memory.row; frames = fs }) v.empty in
+    let em = takes_up w.memory w1.memory up.memory v.empty in
     let more = c.explore.ensures in
     let taken = start_taken (g.P.Patterns.starts a.patterns.now) (g.S.Beginning.told_of a.here.at)
     (length i.row) (best_of a.self.now.best) i.threads c.ways.k lt in
@@ -177,7 +182,8 @@ returns-then-explore-clause-followed g c =
     let spent = spent_walk (g.P.Patterns.table a.patterns.now) w w1 q em up.steps a.here i.now
     v.kept.round c.explore.new.self start c.explore.result more.explored due c.ways.k v.spent in
     let found : best_of c.set.new.self ≡ Some (start, a.here.at, c.explore.new.self.memory.row) =
-    c.set.ensures.found ∙ ap (λ (r : Row). as_best start a.here.at r) c.row.ensures in
+    has_row (best_of c.set.new.self) start a.here.at c.row.result.now c.explore.new.self.memory.row
+    c.set.ensures.found c.row.ensures in
     record {
       steps =
           subst (λ z. StepsTo (g.P.Patterns.table a.patterns.now) a.here i.now (thread_at ws)
@@ -195,7 +201,9 @@ returns-then-explore-clause-followed g c =
       spent = omega (arith, spent, lt);
       spent_entries =
           entries_walk (g.P.Patterns.table a.patterns.now) w w1 q em up.steps a.here i.now
-          v.kept.round c.explore.new.self start c.explore.result more.explored _ v.spent_entries;
+          v.kept.round c.explore.new.self start c.explore.result more.explored
+          (due_entries (g.P.Patterns.table a.patterns.now) i.rounds i.now
+          a.self.now.walk.steps.entered) v.spent_entries;
       stack_empty = more.empty;
       kept = kept;
       best_width = c.set.ensures.width ∙ ap (λ (b : BestState). length b.row) v.best;
@@ -214,7 +222,7 @@ returns-then-explore-clause-again g c = λ tell there b0 alike.
     let lt : c.ways.k < length ws =
     (let t = c.ways-test.true in let e = c.ways-k-end.ensures (g.S.Beginning.told_of a.here.at) in
     omega (arith, t, e)) in
-    let em = up.memory ∙ ap (λ fs. record w.memory { row = w1.memory.row; frames = fs }) v.empty in
+    let em = takes_up w.memory w1.memory up.memory v.empty in
     let more = c.explore.ensures in
     let taken = start_taken (g.P.Patterns.starts a.patterns.now) (g.S.Beginning.told_of a.here.at)
     (length i.row) (best_of a.self.now.best) i.threads c.ways.k lt in
@@ -226,7 +234,8 @@ returns-then-explore-clause-again g c = λ tell there b0 alike.
     (replicate n None) (g.P.Patterns.starts a.patterns.now)) c.ways.k) (sym v.kept.row)
     ∙ up.thread in
     let found : best_of c.set.new.self ≡ Some (start, a.here.at, c.explore.new.self.memory.row) =
-    c.set.ensures.found ∙ ap (λ (r : Row). as_best start a.here.at r) c.row.ensures in
+    has_row (best_of c.set.new.self) start a.here.at c.row.result.now c.explore.new.self.memory.row
+    c.set.ensures.found c.row.ensures in
     subst (λ z. StepsTo (g.P.Patterns.table a.patterns.now) there i.now
     (thread_at (all_retold tell ws)) (length ws) i.rounds (all_retold tell i.next) b0
     (length ws) c.explore.new.self.memory.rounds (all_retold tell c.explore.new.self.memory.next)
@@ -248,7 +257,8 @@ returns-clause-again g c = λ tell there b0 alike.
     let ws =
     ways_at (g.P.Patterns.starts a.patterns.now) (g.S.Beginning.told_of a.here.at) a.self.now in
     let e = c.ways-k-end.ensures (g.S.Beginning.told_of a.here.at) in
-    let t = c.ways-test.false in let far = c.ways.far-k in
+    let t = c.ways-test.false in
+    let far : c.ways.k ≤ c.ways-k-end.result = search in
     let all : c.ways.k ≡ length ws = omega (arith, t, e, far) in
     subst (λ z. StepsTo (g.P.Patterns.table a.patterns.now) there i.now
     (thread_at (all_retold tell ws)) (length ws) i.rounds (all_retold tell i.next) b0

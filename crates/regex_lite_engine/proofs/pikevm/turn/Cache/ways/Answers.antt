@@ -1,4 +1,5 @@
 use Rattle.std.proofs.Common.{◌≡◌, None, length, replicate, ap, length-append, arith}
+use Rattle.regex_lite_engine.specs.Walk.Machine.{Row}
 use Rattle.regex_lite_engine.specs.Walk.Turns.{begun, best_of, with_starts}
 use Rattle.regex_lite_engine.proofs.pikevm.ThreadLemmas.{begun_length}
 use Rattle.regex_lite_engine.proofs.pikevm.turn.Cache.ways.Goals as goal
@@ -7,7 +8,7 @@ pub returns-then-is_none : goal.returns-then-is_none
 returns-then-is_none g c = λ at.
     let a = c.args in
     let m = a.self.now.walk.memory in
-    let blank = replicate (length m.row) None in
+    let blank : Row = replicate (length m.row) None in
     let none : best_of a.self.now.best ≡ None = c.is_none.ensures.0 c.if-is_none.true in
     let ways = ap (λ b.
     length (with_starts (g.P.Patterns.starts a.patterns.now) at b (length m.row) m.threads)) none in

@@ -1,12 +1,26 @@
-use Rattle.std.proofs.Common.{◌∷◌, ◌≡◌, ◌<◌, List, [], false, true}
+use Rattle.std.proofs.Common.{ℕ, ◌∷◌, ◌≡◌, ◌<◌, List, [], false, true}
 use Rattle.std.proofs.Common.{refl, sym, ap, subst, ◌∙◌, arith}
+use Rattle.regex_lite_engine.specs.declared.pikevm.here.Here.{Here}
+use Rattle.regex_lite_engine.specs.Graph.Places.{Place}
 use Rattle.regex_lite_engine.specs.Graph.Stored.{places_of}
-use Rattle.regex_lite_engine.specs.Walk.Machine.{explore, Frame, State}
+use Rattle.regex_lite_engine.specs.Walk.Beginnings.{Told}
+use Rattle.regex_lite_engine.specs.Walk.Machine.{explore, unwound, Frame, Row, Thread}
 use Rattle.regex_lite_engine.specs.Walk.Room.{explores, IsFit, WalksAgain, WalksTo, Went, work}
 use Rattle.regex_lite_engine.proofs.pikevm.CountLemmas.{still_counted}
+use Rattle.regex_lite_engine.proofs.pikevm.StateLemmas.{keeps_threads, still_holds}
 use Rattle.regex_lite_engine.proofs.pikevm.WentLemmas.{went_back, under_back}
 use Rattle.regex_lite_engine.proofs.pikevm.WentLemmas.{under_more, IsBack, IsUnder}
 use Rattle.regex_lite_engine.proofs.pikevm.walk.Walk.explore_in.Goals as goal
+
+-- frames were taken off, and this is left
+back_to : (table : List (Place ℕ)) (here : Here) (i : Told) (now : ℕ) (rounds : List ℕ) (row : Row)
+    (fs : List Frame) (left : Row × List Frame) (room : ℕ) (t : List Thread)
+    (tried entered looked : ℕ) →
+    unwound row fs ≡ left → IsFit table rounds now row fs room t tried entered looked
+    → IsBack table here i now rounds row fs left room t tried entered looked
+back_to table here i now rounds row fs left room t tried entered looked is fit =
+    subst (λ z. IsBack table here i now rounds row fs z room t tried entered looked) is
+    (went_back table here i now rounds row fs room t tried entered looked fit)
 
 pub returns-in-None-clause-explored : goal.returns-in-None-clause-explored
 returns-in-None-clause-explored g c =
@@ -22,15 +36,14 @@ returns-in-None-clause-explored g c =
     (explore c.places.place ∷ w.memory.frames) w.memory.next w.steps.tried w.steps.entered
     y.rounds y.row y.frames y.room y.next x.steps.tried x.steps.entered x.steps.looked false)
     v.kept.round c.in-Back.ensures.taken in
-    let back = subst (λ left. IsBack (places_of a.table.now) a.here (g.S.Beginning.told a.start)
-    m.now y.rounds y.row y.frames left y.room y.next x.steps.tried x.steps.entered x.steps.looked)
-    c.in-None.ensures.place.0
-    (went_back (places_of a.table.now) a.here (g.S.Beginning.told a.start) m.now y.rounds y.row
-    y.frames y.room y.next x.steps.tried x.steps.entered x.steps.looked went.fit) in
+    let back = back_to (places_of a.table.now) a.here (g.S.Beginning.told a.start) m.now y.rounds
+    y.row y.frames (n.row, []) y.room y.next x.steps.tried x.steps.entered x.steps.looked
+    c.in-None.ensures.place.0 went.fit in
     let under =
-    subst (λ (z : State). IsUnder (places_of a.table.now) a.here (g.S.Beginning.told a.start) m.now
-    m.rounds m.row (explore a.first ∷ m.frames) m.next i.steps.tried i.steps.entered z.rounds n.row
-    [] z.next x.steps.tried x.steps.entered) (sym c.next_place.ensures.same)
+    still_holds y n c.next_place.ensures.same (λ rounds now room next. IsUnder
+    (places_of a.table.now) a.here (g.S.Beginning.told a.start) m.now m.rounds m.row
+    (explore a.first ∷ m.frames) m.next i.steps.tried i.steps.entered rounds n.row [] next
+    x.steps.tried x.steps.entered)
     (under_back (places_of a.table.now) a.here (g.S.Beginning.told a.start) m.now m.rounds m.row
     (explore a.first ∷ m.frames) m.next i.steps.tried i.steps.entered
     w.memory.rounds w.memory.row
@@ -50,17 +63,14 @@ places-smaller g c =
     let v = c.places.invariant in let x = c.come_to.new.self in let y = x.memory in
     let n = c.next_place.new.self in
     let went = c.in-Back.ensures.taken in
-    let back =
-    subst (λ left. IsBack (places_of a.table.now) a.here (g.S.Beginning.told a.start) w.memory.now
-    y.rounds y.row y.frames left y.room y.next x.steps.tried x.steps.entered x.steps.looked)
-    c.in-Some.ensures.place
-    (went_back (places_of a.table.now) a.here (g.S.Beginning.told a.start) w.memory.now y.rounds
-    y.row y.frames y.room y.next x.steps.tried x.steps.entered x.steps.looked went.fit) in
+    let back = back_to (places_of a.table.now) a.here (g.S.Beginning.told a.start) w.memory.now
+    y.rounds y.row y.frames (n.row, explore c.in-Some.next ∷ n.frames) y.room y.next x.steps.tried
+    x.steps.entered x.steps.looked c.in-Some.ensures.place went.fit in
     let less = went.less refl in let few = back.few in
-    subst
-    (λ (z : State). work (places_of a.table.now) z.rounds z.now (explore c.in-Some.next ∷ n.frames)
+    still_holds y n c.next_place.ensures.same (λ rounds now room next.
+    work (places_of a.table.now) rounds now (explore c.in-Some.next ∷ n.frames)
     < work (places_of a.table.now) w.memory.rounds w.memory.now
-    (explore c.places.place ∷ w.memory.frames)) (sym c.next_place.ensures.same)
+    (explore c.places.place ∷ w.memory.frames))
     (subst (λ z. work (places_of a.table.now) y.rounds z (explore c.in-Some.next ∷ n.frames)
     < work (places_of a.table.now) w.memory.rounds w.memory.now
     (explore c.places.place ∷ w.memory.frames)) (sym c.in-Back.ensures.kept.round)
@@ -80,25 +90,24 @@ places-preserved g c =
     (explore c.places.place ∷ w.memory.frames) w.memory.next w.steps.tried w.steps.entered
     y.rounds y.row y.frames y.room y.next x.steps.tried x.steps.entered x.steps.looked false)
     v.kept.round c.in-Back.ensures.taken in
-    let back = subst (λ left. IsBack (places_of a.table.now) a.here (g.S.Beginning.told a.start)
-    m.now y.rounds y.row y.frames left y.room y.next x.steps.tried x.steps.entered x.steps.looked)
-    c.in-Some.ensures.place
-    (went_back (places_of a.table.now) a.here (g.S.Beginning.told a.start) m.now y.rounds y.row
-    y.frames y.room y.next x.steps.tried x.steps.entered x.steps.looked went.fit) in
+    let back = back_to (places_of a.table.now) a.here (g.S.Beginning.told a.start) m.now y.rounds
+    y.row y.frames (n.row, explore c.in-Some.next ∷ n.frames) y.room y.next x.steps.tried
+    x.steps.entered x.steps.looked c.in-Some.ensures.place went.fit in
     let round : y.now ≡ m.now = c.in-Back.ensures.kept.round ∙ v.kept.round in
+    let kept = keeps_threads y n c.next_place.ensures.same in
     record {
       room =
-          subst (λ (z : State). IsFit (places_of a.table.now) z.rounds z.now n.row
-          (explore c.in-Some.next ∷ n.frames) z.room z.next x.steps.tried x.steps.entered
-          x.steps.looked) (sym c.next_place.ensures.same)
+          still_holds y n c.next_place.ensures.same (λ rounds now room next. IsFit
+          (places_of a.table.now) rounds now n.row (explore c.in-Some.next ∷ n.frames) room next
+          x.steps.tried x.steps.entered x.steps.looked)
           (subst
           (λ z. IsFit (places_of a.table.now) y.rounds z n.row (explore c.in-Some.next ∷ n.frames)
           y.room y.next x.steps.tried x.steps.entered x.steps.looked) (sym round) back.fit);
       under =
-          subst (λ (z : State). IsUnder (places_of a.table.now) a.here (g.S.Beginning.told a.start)
-          m.now m.rounds m.row (explore a.first ∷ m.frames) m.next i.steps.tried i.steps.entered
-          z.rounds n.row (explore c.in-Some.next ∷ n.frames) z.next x.steps.tried x.steps.entered)
-          (sym c.next_place.ensures.same)
+          still_holds y n c.next_place.ensures.same (λ rounds now room next. IsUnder
+          (places_of a.table.now) a.here (g.S.Beginning.told a.start) m.now m.rounds m.row
+          (explore a.first ∷ m.frames) m.next i.steps.tried i.steps.entered rounds n.row
+          (explore c.in-Some.next ∷ n.frames) next x.steps.tried x.steps.entered)
           (under_back (places_of a.table.now) a.here (g.S.Beginning.told a.start) m.now m.rounds
           m.row (explore a.first ∷ m.frames) m.next i.steps.tried i.steps.entered
           w.memory.rounds w.memory.row
@@ -106,18 +115,13 @@ places-preserved g c =
           y.rounds y.row y.frames y.room y.next x.steps.tried x.steps.entered x.steps.looked
           (n.row, explore c.in-Some.next ∷ n.frames) v.under went back);
       kept = record {
-        round = ap (λ (z : State). z.now) c.next_place.ensures.same ∙ round;
-        threads =
-            ap (λ (z : State). z.threads) c.next_place.ensures.same ∙ c.in-Back.ensures.kept.threads
-            ∙ v.kept.threads;
-        room =
-            ap (λ (z : State). z.room) c.next_place.ensures.same ∙ c.in-Back.ensures.kept.room
-            ∙ v.kept.room;
+        round = kept.now ∙ round;
+        threads = kept.threads ∙ c.in-Back.ensures.kept.threads ∙ v.kept.threads;
+        room = kept.room ∙ c.in-Back.ensures.kept.room ∙ v.kept.room;
         row = c.next_place.ensures.width ∙ c.in-Back.ensures.kept.row ∙ v.kept.row;
       };
       counts = still_counted i.steps w.steps x.steps v.counts c.in-Back.ensures.counts;
-      ready =
-          ap (λ (z : State). z.ready) c.next_place.ensures.same ∙ c.in-Back.ensures.ready ∙ v.ready;
+      ready = kept.ready ∙ c.in-Back.ensures.ready ∙ v.ready;
     }
 
 pub returns-in-Complete-clause-explored : goal.returns-in-Complete-clause-explored

@@ -1,15 +1,11 @@
-use Rattle.std.proofs.Common.{◌≡◌, ◌-◌, ◌≤◌, None, Some, length}
-use Rattle.std.proofs.Common.{replicate, slice_get, sym, ap, ◌∙◌, arith}
-use Rattle.regex_lite_engine.specs.Walk.Machine.{State}
-use Rattle.regex_lite_engine.specs.Walk.Turns.{begun}
-use Rattle.regex_lite_engine.proofs.pikevm.ThreadLemmas.{at_back, begun_at}
+use Rattle.std.proofs.Common.{◌≡◌, ◌-◌, ◌≤◌, Some, length, slice_get, ap, ◌∙◌, arith}
+use Rattle.regex_lite_engine.proofs.pikevm.ThreadLemmas.{begun_taken}
 use Rattle.regex_lite_engine.proofs.pikevm.walk.Walk.take_up.Goals as goal
 
 pub returns-clause-thread : goal.returns-clause-thread
 returns-clause-thread g c =
     let a = c.args in
     let m = a.self.now.memory in
-    let blank = replicate (length m.row) None in
     let told = g.S.Beginning.told_of a.at in
     let starts = g.P.Patterns.starts a.patterns.now in
     let same = c.threads-threads.ensures.same in
@@ -17,8 +13,5 @@ returns-clause-thread g c =
     let index : a.k - length m.threads ≡ a.k - c.threads-threads.result = omega (arith, same) in
     let there : slice_get starts (a.k - length m.threads) ≡ Some c.start-start.result
     = ap (slice_get starts) index ∙ c.start-start.ensures in
-    at_back m.threads (begun told blank starts) a.k behind
-    ∙ begun_at told blank starts (a.k - length m.threads) c.start-start.result there
-    ∙ ap (λ t. (c.start-start.result.place, t, blank)) (sym c.at.ensures)
-    ∙ ap (λ r. (c.start-start.result.place, g.S.Beginning.told c.at.result, r))
-    (sym (ap (λ (z : State). z.row) c.clear_row.ensures))
+    begun_taken m c.clear_row.new.self told starts a.k c.start-start.result
+    (g.S.Beginning.told c.at.result) behind there c.at.ensures c.clear_row.ensures

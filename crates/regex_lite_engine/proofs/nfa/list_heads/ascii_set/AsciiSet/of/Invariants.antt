@@ -3,7 +3,7 @@ use Rattle.regex_lite_engine.specs.Nfa.ListHeads.{in_set}
 use Rattle.regex_lite_engine.specs.Nfa.Starts.{begins_with}
 use Rattle.regex_lite_engine.proofs.nfa.list_heads.ascii_set.AsciiSet.of.Given as goal
 
--- those below this one are told of
+-- those below this one are in it
 abbrev pub invariant-codes : goal.invariant-codes
 invariant-codes l = record {
   told : (code : ℕ) → code < 128

@@ -1,0 +1,179 @@
+//! A searcher for several patterns that callers keep, for one haystack after another.
+ghost use Rattle.std.specs.Prelude.{◌≡◌, ◌↔◌, None, IfOk, IfErr, IsTrue, length};
+ghost use Rattle.regex_lite_syntax.specs.Errors.{out_of_memory};
+ghost use Rattle.regex_lite.specs.Keeping.{FindsAllGroups};
+ghost use Rattle.regex_lite.specs.RegexListSearches.{AnyMatches, TellsLocationsOfList};
+ghost use Rattle.regex_lite.specs.RegexListSearches.{TellsMatchOfList};
+ghost use Rattle.regex_lite.specs.Scanning.{ListSearching};
+ghost use Rattle.regex_lite.specs.Searches.{CanStartAt};
+
+use crate::string::list::RegexList;
+use crate::string::list::searcher::ListSearcher;
+use crate::string::locations::CaptureLocations;
+use crate::string::matches::Match;
+use crate::string::scan::match_at;
+use regex_lite_syntax::Error;
+use std::fmt;
+use std::marker::Model;
+
+/// A list of patterns, and the memory for its searches: for many haystacks, one after another.
+///
+/// [`RegexList::searcher`] makes it. Whatever was searched before, `is_match`, `find` and `find_at`
+/// return what the calls of these names return for the list, and `captures_read` and
+/// `captures_read_at` write the groups that its `captures` and `captures_at` return. But no call
+/// needs memory, so none is refused.
+///
+/// ```
+/// let list = RegexList::new(alloc, &["warn", "error"])?;
+/// let mut searcher = list.searcher()?;
+/// searcher.find("2 errors"); // the number 1, and the match of "error"
+/// searcher.is_match("all is well"); // false
+/// ```
+///
+/// The test `examples::lists::many_haystacks` in tests/unit runs this example.
+#[derive(Drop)]
+pub struct RegexListSearcher<'r> {
+    matches: ListSearcher<'r>,
+    /// With slots for all groups, where some pattern has more than the whole match.
+    groups: Option<ListSearcher<'r>>,
+}
+
+impl<'r> Model for RegexListSearcher<'r> {
+    ghost use Rattle.std.specs.Prelude.{List};
+    ghost use Rattle.regex_lite.specs.Expression.{Expression};
+    ghost use Rattle.regex_lite.specs.Keeping.{FindsAllGroups};
+
+    ghost Value = { List Expression };
+
+    ghost view = { λ searcher. searcher.matches.list };
+
+    ghost invariant = { λ searcher. FindsAllGroups searcher.matches searcher.groups };
+}
+
+impl RegexList {
+    /// A searcher of this list, which callers keep for many haystacks.
+    ///
+    /// All memory for its searches is requested here, also for their groups.
+    ///
+    /// # Errors
+    ///
+    /// `Memory` if memory runs out.
+    pub fn searcher(&self) -> Result<RegexListSearcher<'_>, Error>
+        ensures list { IfOk result (λ searcher. searcher ≡ self.now) }
+        ensures refused { IfErr result (λ error. error ≡ out_of_memory) }
+    {
+        let matches = ListSearcher::new(self, 0)?;
+        let groups = self.searcher_of_groups()?;
+        Ok(RegexListSearcher { matches, groups })
+    }
+
+    /// What finds groups, where some pattern has more than the whole match.
+    fn searcher_of_groups(&self) -> Result<Option<ListSearcher<'_>>, Error>
+        ensures groups { IfOk result (λ groups. (matches : ListSearching) → matches.list ≡ self.now
+            → length matches.slots ≡ 0 → FindsAllGroups matches groups) }
+        ensures refused { IfErr result (λ error. error ≡ out_of_memory) }
+    {
+        let slots = self.kept_slots();
+        if slots == 0 {
+            return Ok(None);
+        }
+        let searcher = ListSearcher::new(self, slots)?;
+        Ok(Some(searcher))
+    }
+}
+
+impl<'r> RegexListSearcher<'r> {
+    /// [`RegexList::is_match`], which is never refused here.
+    pub fn is_match(&mut self, haystack: &str) -> bool
+        ensures found { IsTrue result ↔ AnyMatches self.old haystack.now 0 }
+        ensures same { self.new ≡ self.old }
+    {
+        self.find(haystack).is_some()
+    }
+
+    /// [`RegexList::find`], which is never refused here.
+    pub fn find<'h>(&mut self, haystack: &'h str) -> Option<(usize, Match<'h>)>
+        ensures found { TellsMatchOfList self.old haystack.now 0 result }
+        ensures same { self.new ≡ self.old }
+    {
+        self.find_at(haystack, 0)
+    }
+
+    /// [`RegexList::find_at`], which is never refused here.
+    ///
+    /// Condition: the start is above the haystack's length or on a character boundary.
+    pub fn find_at<'h>(&mut self, haystack: &'h str, start: usize) -> Option<(usize, Match<'h>)>
+        requires { CanStartAt haystack.now start }
+        ensures found { TellsMatchOfList self.old haystack.now start result }
+        ensures same { self.new ≡ self.old }
+    {
+        match_at(&mut self.matches, haystack, start)
+    }
+
+    /// The match that [`RegexList::find`] returns, with the number of its pattern, and the groups
+    /// of that pattern written to the locations. It is never refused.
+    ///
+    /// The groups have the indices that they have in their own pattern. As many are written as the
+    /// locations have; those that the pattern doesn't have are `None`. Without a match the
+    /// locations stay as they were.
+    ///
+    /// ```
+    /// let list = RegexList::new(alloc, &["([a-z]+)=([0-9]+)", "#([a-z]+)"])?;
+    /// let mut searcher = list.searcher()?;
+    /// let mut locations = list.capture_locations()?;
+    /// searcher.captures_read(&mut locations, "width=72"); // 0, and the match of "width=72"
+    /// locations.get(2); // Some((6, 8))
+    /// searcher.captures_read(&mut locations, "a #note"); // 1, and the match of "#note"
+    /// locations.get(1); // Some((3, 7))
+    /// locations.get(2); // None
+    /// ```
+    ///
+    /// The test `examples::lists::many_reads` in tests/unit runs this example.
+    pub fn captures_read<'h>(
+        &mut self,
+        locs: &mut CaptureLocations,
+        haystack: &'h str,
+    ) -> Option<(usize, Match<'h>)>
+        ensures found { TellsLocationsOfList self.old haystack.now 0 locs.new result }
+        ensures len { length locs.new ≡ length locs.old }
+        ensures none { result ≡ None → locs.new ≡ locs.old }
+        ensures same { self.new ≡ self.old }
+    {
+        self.captures_read_at(locs, haystack, 0)
+    }
+
+    /// The match that [`RegexList::find_at`] returns, with the number of its pattern, and the
+    /// groups of that pattern written to the locations. It is never refused.
+    ///
+    /// The groups have the indices that they have in their own pattern. As many are written as the
+    /// locations have; those that the pattern doesn't have are `None`. Without a match the
+    /// locations stay as they were.
+    ///
+    /// Condition: the start is above the haystack's length or on a character boundary.
+    pub fn captures_read_at<'h>(
+        &mut self,
+        locs: &mut CaptureLocations,
+        haystack: &'h str,
+        start: usize,
+    ) -> Option<(usize, Match<'h>)>
+        requires { CanStartAt haystack.now start }
+        ensures found { TellsLocationsOfList self.old haystack.now start locs.new result }
+        ensures len { length locs.new ≡ length locs.old }
+        ensures none { result ≡ None → locs.new ≡ locs.old }
+        ensures same { self.new ≡ self.old }
+    {
+        let Some(groups) = &mut self.groups else {
+            return self.matches.read_at(locs, haystack, start);
+        };
+        groups.read_at(locs, haystack, start)
+    }
+}
+
+/// Writes the list as the only field of `RegexListSearcher`.
+impl<'r> fmt::Debug for RegexListSearcher<'r> {
+    fn fmt<W: fmt::Write>(&self, f: &mut fmt::Formatter<W>) -> fmt::Result {
+        f.debug_tuple("RegexListSearcher")
+            .field(&self.matches)
+            .finish()
+    }
+}

@@ -1,0 +1,2 @@
+-- lemmas that the proofs of what is built share
+pub mod RefusalLemmas

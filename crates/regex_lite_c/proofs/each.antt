@@ -1,0 +1,2 @@
+-- lemmas that the proofs for many texts share
+pub mod EachLemmas

@@ -1,0 +1,90 @@
+-- Texts one after another, and what is returned of each.
+use Rattle.std.proofs.Common.{◌≡◌, ◌∙◌, ◌++◌, ◌+◌, ◌<◌, ◌≤◌, ℕ, zero, suc, List, [], ◌∷◌}
+use Rattle.std.proofs.Common.{Option, Some, None, add-one, ap, append_assoc, append-nil, arith}
+use Rattle.std.proofs.Common.{IsCharBoundary, drop, drop-cons, get_or, length, length-append}
+use Rattle.std.proofs.Common.{option_map, refl, slice_range, slice_set, subst, sym}
+use Rattle.regex_lite.specs.declared.string.matches.Match.{Match}
+use Rattle.regex_lite.specs.Expression.{Expression}
+use Rattle.regex_lite.specs.MatchViews.{span_of_match}
+use Rattle.regex_lite.specs.Searches.{TellsMatch}
+use Rattle.regex_lite_c.specs.Each.{AreFirstOfEach, AreFoundEach, AreTextLengths}
+use Rattle.regex_lite_c.specs.Spans.{AreWritten, TellsSpan, span_of}
+use Rattle.regex_lite_c.specs.declared.types.Span.{Span}
+use Rattle.regex_lite_c.proofs.walk.WalkLemmas.{written_more}
+
+-- this length is the next
+pub len_at : (lens : List ℕ) (k : ℕ) → k < length lens
+    → drop k lens ≡ get_or lens k 0 ∷ drop (k + 1) lens
+len_at lens k less =
+    drop-cons lens k 0 less ∙ ap (λ n. get_or lens k 0 ∷ drop n lens) (sym (add-one k))
+
+pub drop_all : {X : Type 0} (xs : List X) (k : ℕ) → length xs ≤ k → drop k xs ≡ []
+drop_all [] zero past = refl
+drop_all [] (suc k) past = refl
+drop_all (x ∷ xs) zero past = absurd (omega (arith, past))
+drop_all (x ∷ xs) (suc k) past = drop_all xs k (omega (arith, past))
+
+-- what is returned of a match is told of its span
+pub tells_span : (re : Expression) (haystack : List ℕ) (start : ℕ) (found : Option Match)
+    → TellsMatch re haystack start found
+    → TellsSpan re haystack start (option_map span_of_match found)
+tells_span re haystack start None tells = tells
+tells_span re haystack start (Some m) (tree, is, (found, answer, is_match)) =
+    (tree, is, (found, answer, is_match.span))
+
+-- this many texts were searched
+pub record AreSearched (re : Expression) (bytes lens : List ℕ) (at k : ℕ) (old new : List Span)
+    : Type 0 where
+  pub told : List (Option (ℕ × ℕ))
+  pub number : length told ≡ k
+  pub lengths : AreTextLengths bytes at (drop k lens)
+  pub on : (more : List (Option (ℕ × ℕ))) → AreFirstOfEach re bytes at (drop k lens) more
+      → AreFirstOfEach re bytes 0 lens (told ++ more)
+  pub written : AreWritten told old new
+
+pub none_searched : (re : Expression) (bytes lens : List ℕ) (old : List Span)
+    → AreTextLengths bytes 0 lens → AreSearched re bytes lens 0 0 old old
+none_searched re bytes lens old are = record {
+  told = [];
+  number = refl;
+  lengths = are;
+  on = λ more is. is;
+  written = record { each = λ k lt. absurd (omega (arith, lt)); rest = λ k le. refl };
+}
+
+-- the next ends between two characters
+pub next_ends : (re : Expression) (bytes lens : List ℕ) (at k : ℕ) (old new : List Span)
+    → AreSearched re bytes lens at k old new → k < length lens
+    → IsCharBoundary bytes (at + get_or lens k 0)
+next_ends re bytes lens at k old new so less =
+    (subst (AreTextLengths bytes at) (len_at lens k less) so.lengths).0
+
+-- one more was
+pub one_searched : (re : Expression) (bytes lens : List ℕ) (at k : ℕ) (old new : List Span)
+    (span : Span) (told : Option (ℕ × ℕ))
+    → AreSearched re bytes lens at k old new → k < length lens → k < length new
+    → TellsSpan re (slice_range bytes at (at + get_or lens k 0)) 0 told → span_of span ≡ told
+    → AreSearched re bytes lens (at + get_or lens k 0) (k + 1) old (slice_set new k span)
+one_searched re bytes lens at k old new span told so less room tells is =
+    let next = len_at lens k less in
+    record {
+      told = so.told ++ (told ∷ []);
+      number = omega (arith, length-append so.told (told ∷ []), so.number);
+      lengths = (subst (AreTextLengths bytes at) next so.lengths).1;
+      on = λ more are.
+          subst (AreFirstOfEach re bytes 0 lens) (sym (append_assoc so.told (told ∷ []) more))
+          (so.on (told ∷ more)
+          (subst (λ ns. AreFirstOfEach re bytes at ns (told ∷ more)) (sym next) (tells, are)));
+      written = written_more span_of so.told told old new k span so.written so.number room is;
+    }
+
+-- all were
+pub all_searched : (re : Expression) (bytes lens : List ℕ) (at k : ℕ) (old new : List Span)
+    → AreSearched re bytes lens at k old new → length lens ≤ k
+    → AreFoundEach re bytes lens old new
+all_searched re bytes lens at k old new so past = (
+  so.told,
+  subst (AreFirstOfEach re bytes 0 lens) (append-nil so.told)
+      (so.on [] (subst (λ ns. AreFirstOfEach re bytes at ns []) (sym (drop_all lens k past)) refl)),
+  so.written,
+)

@@ -1,0 +1,2 @@
+-- lemmas that the proofs of lists share
+pub mod ListBuildLemmas

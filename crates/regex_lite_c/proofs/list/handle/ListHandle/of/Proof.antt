@@ -1,0 +1,77 @@
+-- `of` keeps the pointer.
+use Rattle.std.proofs.Common.{◌≡◌, List, [], ◌∷◌, ◌++◌, refl, sym, subst}
+use mir.Syntax.{Sym}
+use mir.Val.{Val, vptr}
+use base.Logic.{SProp, ent, emp, id⊢}
+use base.Fml.{ftrue}
+use prog.Wp.{WpFn}
+use types.Kit.{‵, raw, ◌⊛◌, ◌$◌, ◌∵◌, !, qed, by, move, keep}
+use types.Kit.{drop, split, fsplit, fjoin, suffices, use0}
+use types.Run.{stop, fld, of_opd, no_more, and_then, returns, enter}
+use types.ByLocal.{alloc_all, pass_all, free_all, look_at, get, get_in, sets}
+use types.Part.{agg, sub, whole}
+use contract.Monad.{fact, fact_i}
+use contract.Running.{tables}
+use denote.Exit.{yes}
+use denote.RattleType.{RattleType, owns}
+use denote.Signature.{types_at, plain}
+use denote.RawPtr.{Ptr, block_ptr}
+use denote.Steps.{nothing}
+use denote.Triple.Walked.{Stays, stay_dropped, walk_of, Goes-dropped}
+use Rattle.std.proofs.raw_atomic.Walks.{proved_at, leaves}
+use Rattle.std.proofs.RcSteps.{word, word-Good}
+use Rattle.std.specs.Prelude.{Option, Some}
+use Rattle.std.specs.contracts.alloc.Global as Heap
+use Rattle.std.specs.contracts.impls.GlobalAllocator.TheImpl as HeapImpl
+use Rattle.std.proofs.alloc.Global.TheLaws as HeapLaws
+use Rattle.regex_lite.proofs.UnboxedLemmas.{Unboxed, both, both_good, unboxed_had}
+use Rattle.regex_lite.proofs.PointerLemmas.{word_made}
+use Rattle.regex_lite.specs.contracts.string.list.RegexList as stored
+use Rattle.regex_lite_c.specs.contracts.list.handle.ListHandle as handle
+use Rattle.regex_lite_c.specs.contracts.list.handle.ListHandle.of as f
+use Rattle.regex_lite_c.proofs.list.handle.ListHandle.of.Statement.{statement}
+use Rattle.regex_lite_c.proofs.list.handle.ListHandle.of.Code as code
+
+abbrev ν : Sym
+ν = handle.the_type.name
+
+pub of_spec : {M : Type 1} → statement M
+of_spec 𝓤 𝓛 𝓜 𝓡 wired =
+    let H = 𝓛.H in
+    let 𝓣 = tables 𝓤 H 𝓜 𝓡 𝓡.env in
+    let R : RattleType = stored.the_row in
+    let Z : RattleType = Heap.the_row in
+    let LZ = HeapLaws.the_row_laws in
+    let g = HeapImpl.ghosts in
+    let En = f.ended in
+    let cl = f.clauses 𝓛 𝓜.mem 𝓡.returns in
+    let fn = code.function in
+    let hs : Stays En.signature.params En.kept =
+    (stay_dropped (plain (λ _. Unboxed R Z LZ g)) yes, tt) in
+    proved_at 𝓛 En hs cl 𝓜 𝓡 (
+      Goes-dropped 𝓛 0 (plain (λ _. Unboxed R Z LZ g)) yes (λ κs x u. refl),
+      tt,
+    ) f.Key.name fn (code.unfolded 𝓤 H 𝓜 𝓡 wired) (λ z are.
+    let v = z.0.3.0 in
+    let Post : Val → SProp 𝓤 = (walk_of 𝓛 En hs cl).post z in
+    let Run : List Val → SProp 𝓤 = λ ws. WpFn 𝓤 H 𝓣.C 𝓣.Λ fn ws Post in
+    qed 𝓛 ((‵ ftrue ⊛ ‵ (owns (types_at En.signature.params z.0.0) z.0.3 z.0.4))
+    ∷ raw ((cl z.0.0 z.0.3).requires z.1) ∷ []) ∵
+    move ! (1 ∷ []) $ drop ! $ split ! $ move ! (1 ∷ []) $ fsplit ! $
+    unboxed_had R Z LZ g ! v z.0.4.0 (λ b o h e ws fits.
+    let w : Val = both (vptr b o) h in
+    let typed = both_good R Z LZ g b o h fits in
+    let c : Ptr = block_ptr b o in
+    let held : Option R.Denot = Some v.value in
+    -- [the box; the allocator; nothing; nothing]
+    suffices ! (Run (w ∷ [])) (subst (λ (us : List Val). ent 𝓤 (Run (w ∷ [])) (Run us))
+    (sym (λ i. ws i ++ [])) (id⊢ 𝓤 (Run (w ∷ [])))) $
+    enter ! 𝓣.C 𝓣.Λ fn (w ∷ []) Post $ alloc_all ! (λ l. pass_all ! refl (typed, tt) $
+    sets ! (of_opd ! (get_in ! (fld ! refl (stop !)) (sub ! 0 refl (whole !)))) refl (tt, tt) $
+    sets ! (of_opd ! (get ! refl)) refl (tt, tt) $
+    sets ! (agg ! (and_then ! (get ! refl) (no_more !))) refl (word-Good ν c) $
+    word_made [] ν c ! $ fjoin ! $
+    use0 𝓛 (raw (fact 𝓤 (held ≡ held))) (fact_i 𝓤 (held ≡ held) (emp 𝓤) refl) $ nothing ! $
+    nothing ! $ fjoin ! $
+    returns ! (look_at ! 0 refl) $ free_all ! refl $ keep ! (5 ∷ 0 ∷ 2 ∷ 1 ∷ []) $
+    by ! (leaves 𝓛 En hs cl z (word c) (record { ptr = c; value = held }) (tt, tt) (tt, tt)))))

@@ -1,0 +1,73 @@
+use Rattle.std.proofs.Common.{◌≡◌, ◌<◌, ◌∙◌, ℕ, zero, suc, List, IsUtf8, IsCharBoundary}
+use Rattle.std.proofs.Common.{None, ap, arith, inl, refl, subst, unwrap_or}
+use Rattle.regex_lite.specs.ListAhead.{ListComesNext, list_after}
+use Rattle.regex_lite.specs.Expression.{Expression}
+use Rattle.regex_lite_c.specs.ListWalks.{AreListSpansListed, IsListWalkAnswer}
+use Rattle.regex_lite_c.specs.Walks.{GoesOnAfterLast, ended_of}
+use Rattle.regex_lite_c.specs.declared.answer.TheConstants.{NO, YES}
+use Rattle.regex_lite_c.specs.declared.list.types.ListSpan.{ListSpan}
+use Rattle.regex_lite_c.specs.declared.types.Walk.{Walk}
+use Rattle.regex_lite_c.proofs.list.walk.find_all.Goals as goal
+
+-- with a text that can be searched from there on, what was listed is the answer
+walk_told : (list : List Expression) (bytes : List ℕ) (old_walk walk : Walk)
+    (old new : List ListSpan) (count answer : ℕ)
+    → IsUtf8 bytes → IsCharBoundary bytes (unwrap_or (ended_of old_walk) 0)
+    → (0 < count → (answer ≡ YES)
+    × AreListSpansListed (list_after list bytes (ended_of old_walk)) old new count
+    × GoesOnAfterLast (λ span. span.end) new count walk)
+    → (count ≡ 0 → (answer ≡ NO) × ListComesNext (list_after list bytes (ended_of old_walk)) None
+    × (walk ≡ old_walk) × (new ≡ old))
+    → IsListWalkAnswer list bytes old_walk walk old new count answer
+walk_told list bytes old_walk walk old new zero answer utf8 boundary some none =
+    let told = none refl in
+    let is = told.0 in
+    record {
+      found = λ wrong. absurd (omega (arith, is, wrong));
+      none = λ _. told.1;
+      same = λ _. (told.2, told.3, refl);
+      no_room = λ wrong. absurd (omega (arith, is, wrong));
+      refused = record {
+        not_text = (λ wrong. absurd (omega (arith, is, wrong)), λ wrong. absurd (wrong utf8));
+        bad_offset =
+            (λ wrong. absurd (omega (arith, is, wrong)), λ wrong. absurd (wrong.1 boundary));
+      };
+      one_of = inl (omega (arith, is));
+    }
+walk_told list bytes old_walk walk old new (suc n) answer utf8 boundary some none =
+    let told = some (omega arith) in
+    let is = told.0 in
+    record {
+      found = λ _. (told.1, told.2);
+      none = λ wrong. absurd (omega (arith, is, wrong));
+      same = λ wrong. absurd (wrong is);
+      no_room = λ wrong. absurd (omega (arith, is, wrong));
+      refused = record {
+        not_text = (λ wrong. absurd (omega (arith, is, wrong)), λ wrong. absurd (wrong utf8));
+        bad_offset =
+            (λ wrong. absurd (omega (arith, is, wrong)), λ wrong. absurd (wrong.1 boundary));
+      };
+      one_of = inl (omega (arith, is));
+    }
+
+pub returns-in-Ok-find_iter_after : goal.returns-in-Ok-find_iter_after
+returns-in-Ok-find_iter_after c =
+    let list = c.args.list.now in
+    let bytes = c.args.text.now in
+    let ended = c.ended-ended.ensures in
+    let text = c.in-Ok.ensures in
+    let found = c.write_next.ensures.found in
+    let none = c.write_next.ensures.none in
+    let is = c.in-Ok-find_iter_after.ensures.ahead
+    ∙ ap (λ b. list_after list b c.ended-ended.result) text.0 ∙ ap (list_after list bytes) ended in
+    walk_told list bytes c.args.walk.now c.write_next.new.walk c.args.spans.now
+    c.write_next.new.spans c.write_next.new.count c.write_next.result text.1
+    (subst (IsCharBoundary bytes) (c.unwrap_or.ensures ∙ ap (λ e. unwrap_or e 0) ended) text.2)
+    (λ some. let told = found some in (
+      told.0,
+      subst (λ a. AreListSpansListed a c.args.spans.now c.write_next.new.spans
+          c.write_next.new.count) is told.1,
+      told.2,
+    ))
+    (λ zero_found. let told = none zero_found in
+    (told.0, subst (λ a. ListComesNext a None) is told.1, told.2, told.3))

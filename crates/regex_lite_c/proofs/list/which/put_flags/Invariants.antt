@@ -1,0 +1,10 @@
+use Rattle.std.proofs.Common.{◌≡◌, ◌<◌, ◌≤◌, ℕ, map, option_map, slice_get}
+use Rattle.regex_lite_c.specs.ListSpans.{flag_of}
+use Rattle.regex_lite_c.proofs.list.which.put_flags.Given as goal
+
+abbrev pub invariant-loop-k : goal.invariant-loop-k
+invariant-loop-k l = record {
+  each : (j : ℕ) → j < l.k
+      → option_map (λ byte. byte) (slice_get l.matched j) ≡ slice_get (map flag_of l.set) j;
+  rest : (j : ℕ) → l.k ≤ j → slice_get l.matched j ≡ slice_get l.fn.matched j;
+}

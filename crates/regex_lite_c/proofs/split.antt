@@ -1,0 +1,2 @@
+-- lemmas that the proofs of pieces share
+pub mod CutLemmas

@@ -1,0 +1,42 @@
+-- What is returned of the first matches in many texts, whose bytes come one after another.
+use Rattle.std.specs.Prelude.{◌≡◌, ◌≢◌, ◌⊎◌, ◌↔◌, ◌<◌, ◌+◌, ℕ, List, [], ◌∷◌, Option}
+use Rattle.std.specs.Prelude.{IsCharBoundary, IsUtf8, length, slice_range}
+use Rattle.regex_lite.specs.Expression.{Expression}
+use Rattle.regex_lite_c.specs.Spans.{AreWritten, TellsSpan}
+use Rattle.regex_lite_c.specs.declared.answer.TheConstants.{YES, NOT_TEXT, BAD_OFFSET, NO_ROOM}
+use Rattle.regex_lite_c.specs.declared.answer.TheConstants.{OUT_OF_MEMORY}
+use Rattle.regex_lite_c.specs.declared.types.Span.{Span}
+
+-- from this offset on texts of these lengths come one after another, each of which ends between two
+-- characters, and nothing comes after them
+abbrev pub AreTextLengths : (bytes : List ℕ) → (at : ℕ) → (lens : List ℕ) → Type 0
+AreTextLengths bytes at [] = at ≡ length bytes
+AreTextLengths bytes at (len ∷ lens) =
+    IsCharBoundary bytes (at + len) × AreTextLengths bytes (at + len) lens
+
+-- where the first match of each of these texts is
+abbrev pub AreFirstOfEach : Expression → (bytes : List ℕ) → (at : ℕ) → (lens : List ℕ)
+    → (told : List (Option (ℕ × ℕ))) → Type 0
+AreFirstOfEach re bytes at [] told = told ≡ []
+AreFirstOfEach re bytes at (len ∷ lens) [] = ⊥
+AreFirstOfEach re bytes at (len ∷ lens) (one ∷ told) =
+    TellsSpan re (slice_range bytes at (at + len)) 0 one
+    × AreFirstOfEach re bytes (at + len) lens told
+
+-- and it was written to the front of the room
+abbrev pub AreFoundEach : Expression → (bytes lens : List ℕ) → (old new : List Span) → Type 0
+AreFoundEach re bytes lens old new =
+    (told : List (Option (ℕ × ℕ))) × AreFirstOfEach re bytes 0 lens told
+    × AreWritten told old new
+
+-- what is returned where many texts are searched
+pub record IsEachAnswer (re : Expression) (bytes lens : List ℕ) (old new : List Span)
+    (answer : ℕ) : Type 0 where
+  pub found : answer ≡ YES → AreFoundEach re bytes lens old new
+  pub same : answer ≢ YES → new ≡ old
+  pub not_text : (answer ≡ NOT_TEXT) ↔ (IsUtf8 bytes → ⊥)
+  pub bad_offset : (answer ≡ BAD_OFFSET)
+      ↔ (IsUtf8 bytes × (AreTextLengths bytes 0 lens → ⊥))
+  pub no_room : answer ≡ NO_ROOM → length old < length lens
+  pub one_of : (answer ≡ YES) ⊎ ((answer ≡ NOT_TEXT) ⊎ ((answer ≡ BAD_OFFSET)
+      ⊎ ((answer ≡ OUT_OF_MEMORY) ⊎ (answer ≡ NO_ROOM))))

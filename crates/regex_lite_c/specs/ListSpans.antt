@@ -1,0 +1,73 @@
+-- What is returned of searches for several patterns.
+use Rattle.std.specs.Prelude.{◌≡◌, ◌≢◌, ◌⊎◌, ◌<◌, ◌≤◌, ℕ, Bool, List, Option, Some, None}
+use Rattle.std.specs.Prelude.{chars, cond, length, map}
+use Rattle.regex_lite.specs.Expression.{Expression}
+use Rattle.regex_lite.specs.Groups.{Groups}
+use Rattle.regex_lite.specs.RegexListSearches.{TellsAnswerOfList, TellsGroupsOfList}
+use Rattle.regex_lite.specs.RegexListSearches.{TellsWhichMatch}
+use Rattle.regex_lite.specs.Searches.{offsets}
+use Rattle.regex_lite_c.specs.Answers.{RefusesText}
+use Rattle.regex_lite_c.specs.Spans.{AreWritten, AreWrittenAs}
+use Rattle.regex_lite_c.specs.declared.answer.TheConstants.{NO, YES, NOT_TEXT, BAD_OFFSET}
+use Rattle.regex_lite_c.specs.declared.answer.TheConstants.{NO_ROOM, OUT_OF_MEMORY}
+use Rattle.regex_lite_c.specs.declared.list.types.ListGroups.{ListGroups}
+use Rattle.regex_lite_c.specs.declared.list.types.ListSpan.{ListSpan}
+use Rattle.regex_lite_c.specs.declared.types.Span.{Span}
+
+-- the number of a pattern, and where its match starts and ends
+abbrev pub list_span_of : ListSpan → ℕ × (ℕ × ℕ)
+list_span_of span = (span.number, (span.start, span.end))
+
+-- what is returned of a search for the patterns from this offset on is the number of the pattern
+-- that matches, and where its match starts and ends
+abbrev pub TellsListSpan : List Expression → (haystack : List ℕ) → (start : ℕ)
+    → Option (ℕ × (ℕ × ℕ)) → Type 0
+TellsListSpan list haystack start told =
+    TellsAnswerOfList
+    (λ tree found span. span ≡ offsets (chars haystack) (found.start, found.end))
+    list haystack start told
+
+-- these are the groups of the match that starts first from this offset on, as many as are told, of
+-- the pattern with the number that is returned
+abbrev pub AreFirstListGroups : List Expression → (haystack : List ℕ) → (start : ℕ) → ListGroups
+    → Groups → Type 0
+AreFirstListGroups list haystack start told groups =
+    TellsGroupsOfList list haystack start (Some (told.number, groups))
+    × (told.count ≡ length groups.spans)
+
+-- what is returned where the groups of a match are searched for
+pub record IsListGroupsAnswer (list : List Expression) (bytes : List ℕ) (start : ℕ)
+    (old new : List Span) (old_told told : ListGroups) (answer : ℕ) : Type 0 where
+  pub found : answer ≡ YES → (groups : Groups)
+      × AreFirstListGroups list bytes start told groups × AreWritten groups.spans old new
+  pub no_room : answer ≡ NO_ROOM → (groups : Groups)
+      × AreFirstListGroups list bytes start told groups × (length old < told.count)
+  pub none : answer ≡ NO → TellsGroupsOfList list bytes start None
+  pub same : answer ≢ YES → new ≡ old
+  pub same_told : answer ≢ YES → answer ≢ NO_ROOM → told ≡ old_told
+  pub refused : RefusesText bytes start answer
+  pub one_of : (answer ≤ YES) ⊎ ((answer ≡ NOT_TEXT) ⊎ ((answer ≡ BAD_OFFSET)
+      ⊎ ((answer ≡ OUT_OF_MEMORY) ⊎ (answer ≡ NO_ROOM))))
+
+-- a byte for a pattern: 1 if it matches, and 0 if not
+abbrev pub flag_of : Bool → ℕ
+flag_of matches = cond matches 1 0
+
+-- whether each pattern matches from this offset on, for this many
+abbrev pub AreToldFlags : List Expression → (haystack : List ℕ) → (start count : ℕ) → List Bool
+    → Type 0
+AreToldFlags list haystack start count matched =
+    TellsWhichMatch list haystack start matched × (count ≡ length matched)
+
+-- what is returned where it is asked which patterns match
+pub record IsFlagsAnswer (list : List Expression) (bytes : List ℕ) (start : ℕ)
+    (old new : List ℕ) (old_count count answer : ℕ) : Type 0 where
+  pub told : answer ≡ YES → (matched : List Bool) × AreToldFlags list bytes start count matched
+      × AreWrittenAs (λ byte. byte) (map flag_of matched) old new
+  pub no_room : answer ≡ NO_ROOM → (matched : List Bool)
+      × AreToldFlags list bytes start count matched × (length old < count)
+  pub same : answer ≢ YES → new ≡ old
+  pub same_count : answer ≢ YES → answer ≢ NO_ROOM → count ≡ old_count
+  pub refused : RefusesText bytes start answer
+  pub one_of : (answer ≡ YES) ⊎ ((answer ≡ NOT_TEXT) ⊎ ((answer ≡ BAD_OFFSET)
+      ⊎ ((answer ≡ OUT_OF_MEMORY) ⊎ (answer ≡ NO_ROOM))))

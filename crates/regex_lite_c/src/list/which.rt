@@ -1,0 +1,105 @@
+//! Which of several patterns match, in bytes of the caller.
+ghost use Rattle.std.specs.Prelude.{◌≡◌, ◌<◌, ◌≤◌, IfSome, IsCharBoundary, None, length, map};
+ghost use Rattle.regex_lite_c.specs.ListSpans.{IsFlagsAnswer, flag_of};
+ghost use Rattle.regex_lite_c.specs.Spans.{AreWrittenAs};
+
+use crate::answer::{NO_ROOM, NOTHING_HELD, OUT_OF_MEMORY, YES};
+use crate::list::handle::ListHandle;
+use crate::text::text_from;
+use regex_lite::{RegexList, SetMatches};
+use std::alloc::Global;
+
+/// Which of the patterns match somewhere from this offset on: 1 with a byte written for each
+/// pattern by its number, 1 for one that matches and 0 for another. How many patterns there are is
+/// written too, also where there is too little room for as many bytes.
+#[unsafe(no_mangle)]
+pub extern "C" fn regex_lite_list_matches(
+    alloc: Global,
+    handle: &mut ListHandle,
+    text: &[u8],
+    start: usize,
+    matched: &mut [u8],
+    count: &mut usize,
+) -> u32
+    ensures same { handle.new.value ≡ handle.old.value }
+    ensures nothing_held { handle.old.value ≡ None → (result ≡ NOTHING_HELD)
+        × (matched.new ≡ matched.old) × (count.new ≡ count.old) }
+    ensures answer { IfSome handle.old.value (λ list. IsFlagsAnswer list text.now start
+        matched.old matched.new count.old count.new result) }
+{
+    let Some(list) = handle.take(alloc) else {
+        return NOTHING_HELD;
+    };
+    let answer = matches(&list, text, start, matched, count);
+    handle.put(list);
+    answer
+}
+
+/// Which of these patterns match.
+fn matches(
+    list: &RegexList,
+    text: &[u8],
+    start: usize,
+    matched: &mut [u8],
+    count: &mut usize,
+) -> u32
+    ensures { IsFlagsAnswer list.now text.now start matched.old matched.new count.old count.new
+        result }
+{
+    match text_from(text, start) {
+        Ok(text) => matches_at(list, text, start, matched, count),
+        Err(refusal) => refusal,
+    }
+}
+
+/// Which of these patterns match in a text that can be searched from there on.
+fn matches_at(
+    list: &RegexList,
+    text: &str,
+    start: usize,
+    matched: &mut [u8],
+    count: &mut usize,
+) -> u32
+    requires { IsCharBoundary text.now start }
+    ensures { IsFlagsAnswer list.now text.now start matched.old matched.new count.old count.new
+        result }
+{
+    match list.matches_at(text, start) {
+        Ok(set) => write_flags(&set, matched, count),
+        Err(_) => OUT_OF_MEMORY,
+    }
+}
+
+/// Writes for each pattern whether it matches, or nothing where there is too little room, and how
+/// many patterns there are.
+fn write_flags(set: &SetMatches, matched: &mut [u8], count: &mut usize) -> u32
+    ensures count { count.new ≡ length set.now }
+    ensures written { count.new ≤ length matched.old → (result ≡ YES)
+        × AreWrittenAs (λ byte. byte) (map flag_of set.now) matched.old matched.new }
+    ensures no_room { length matched.old < count.new
+        → (result ≡ NO_ROOM) × (matched.new ≡ matched.old) }
+{
+    *count = set.len();
+    if matched.len() < *count {
+        return NO_ROOM;
+    }
+    put_flags(set, matched);
+    YES
+}
+
+/// Writes for each pattern whether it matches.
+fn put_flags(set: &SetMatches, matched: &mut [u8])
+    requires { length set.now ≤ length matched.old }
+    ensures { AreWrittenAs (λ byte. byte) (map flag_of set.now) matched.old matched.new }
+{
+    for k in 0..set.len() {
+        matched[k] = flag(set.matched(k));
+    }
+}
+
+/// 1 for a pattern that matches, and 0 for another.
+fn flag(is_match: bool) -> u8
+    ensures { result ≡ flag_of is_match }
+{
+    if is_match { 1 } else { 0 }
+}
