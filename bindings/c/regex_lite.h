@@ -37,7 +37,13 @@ typedef struct regex_lite {
     void *place;
 } regex_lite;
 
-/* A handle that holds nothing. */
+/* A handle for several patterns that are searched for at once: what holds a list of them, or
+ * nothing. What is said of a handle above holds for it too. */
+typedef struct regex_lite_list {
+    void *place;
+} regex_lite_list;
+
+/* A handle of either kind that holds nothing. */
 #define REGEX_LITE_NOTHING {0}
 
 /* The settings under which a pattern is built. */
@@ -72,6 +78,15 @@ typedef struct regex_lite_walk {
 /* The start of a walk. */
 #define REGEX_LITE_START {false, 0}
 
+/* How far a text has been split. */
+typedef struct regex_lite_cut {
+    regex_lite_walk walk; /* over the matches before which pieces were written */
+    bool is_over;         /* whether the last piece was written */
+} regex_lite_cut;
+
+/* The start of a split. */
+#define REGEX_LITE_UNCUT {{false, 0}, false}
+
 /* How matches are replaced. */
 typedef struct regex_lite_replacing {
     size_t limit;    /* how many, from the first on; 0 stands for all */
@@ -89,6 +104,31 @@ typedef struct regex_lite_cost {
     uint64_t entered; /* how often it entered one */
     uint64_t looked;  /* how often it looked up what stands at one */
 } regex_lite_cost;
+
+/* One of several patterns, whose bytes come one after another. */
+typedef struct regex_lite_list_pattern {
+    size_t len;                 /* how many of the bytes are its own */
+    regex_lite_options options; /* the settings under which it is built */
+} regex_lite_list_pattern;
+
+/* What is returned of several patterns that are refused. */
+typedef struct regex_lite_list_refusal {
+    size_t number;      /* of the refused pattern; or how many there are, where none alone is */
+    size_t message_len; /* how long the message is */
+} regex_lite_list_refusal;
+
+/* A match of one of several patterns. */
+typedef struct regex_lite_list_span {
+    size_t number; /* of the pattern */
+    size_t start;
+    size_t end;
+} regex_lite_list_span;
+
+/* Which pattern a match is of, and how many groups that has, the whole match among them. */
+typedef struct regex_lite_list_groups {
+    size_t number;
+    size_t count;
+} regex_lite_list_groups;
 
 /* What a call returns. Where it isn't REGEX_LITE_YES, nothing was written but what is said. */
 enum {
@@ -164,6 +204,17 @@ uint32_t regex_lite_find_counted(regex_lite *handle, const uint8_t *text, size_t
 uint32_t regex_lite_shortest(regex_lite *handle, const uint8_t *text, size_t len, size_t start,
                              size_t *end);
 
+/* Searches many texts, whose bytes come one after another, and writes for each where its first
+ * match is, by offsets in that text; is_there is false where it has none: REGEX_LITE_YES. With room
+ * for fewer spans than texts nothing is written: REGEX_LITE_NO_ROOM.
+ *
+ * The lengths of the texts have to add up to `len`, and no text may end inside a character, else
+ * the answer is REGEX_LITE_BAD_OFFSET. The texts are searched in the same memory, and what the
+ * search of one learns of the pattern speeds up that of the next. */
+uint32_t regex_lite_find_each(regex_lite *handle, const uint8_t *texts, size_t len,
+                              const size_t *lens, size_t count, regex_lite_span *spans,
+                              size_t room);
+
 /* Writes the groups of the match that regex_lite_find writes, from the whole match on, and how many
  * they are: REGEX_LITE_YES. With room for fewer it writes how many they are alone. */
 uint32_t regex_lite_captures(regex_lite *handle, const uint8_t *text, size_t len, size_t start,
@@ -186,6 +237,14 @@ uint32_t regex_lite_captures_all(regex_lite *handle, const uint8_t *text, size_t
                                  regex_lite_walk *walk, regex_lite_span *spans, size_t room,
                                  size_t *count);
 
+/* Writes the next pieces of a text, as many as there is room for, and how many these are:
+ * REGEX_LITE_YES, or REGEX_LITE_NO where none is left. The pieces are what stands before, between
+ * and after the matches that regex_lite_find_all writes, so there is one more than matches.
+ *
+ * The cut is begun by REGEX_LITE_UNCUT, and goes on with the same handle and text. */
+uint32_t regex_lite_split(regex_lite *handle, const uint8_t *text, size_t len, regex_lite_cut *cut,
+                          regex_lite_span *pieces, size_t room, size_t *count);
+
 /* Writes the text with its matches replaced, and its length to replacing->len: REGEX_LITE_YES, or
  * REGEX_LITE_NO_ROOM with the length alone. In a template $1 or $name is a group, and $$ is a $. */
 uint32_t regex_lite_replace(regex_lite *handle, const uint8_t *text, size_t len,
@@ -196,6 +255,60 @@ uint32_t regex_lite_replace(regex_lite *handle, const uint8_t *text, size_t len,
  * REGEX_LITE_NO_ROOM with the length alone. */
 uint32_t regex_lite_escape(const uint8_t *text, size_t len, uint8_t *room, size_t room_len,
                            size_t *pattern_len);
+
+/* SEVERAL PATTERNS AT ONCE. They are numbered from 0 on, in their order, and a search goes over the
+ * text once for all of them. Of the matches that start first it finds that of the pattern with the
+ * lowest number, and of that pattern's matches the one that it prefers. */
+
+/* Builds the list of some patterns, whose bytes come one after another: REGEX_LITE_YES, and the
+ * handle holds it; else why not, and it holds nothing. What it held before is freed. There may be
+ * no pattern, and a pattern may stand in a list twice.
+ *
+ * The lengths of the patterns have to add up to `len`, else the answer is REGEX_LITE_BAD_OFFSET.
+ * With REGEX_LITE_NOT_TEXT, refusal->number is that of the first pattern that is no UTF-8. With any
+ * other refusal it is that of the first pattern that is refused by itself, or how many patterns
+ * there are where none is: where memory runs out, or where the patterns have more places together
+ * than can be numbered. The message is as that of regex_lite_new. */
+uint32_t regex_lite_list_new(regex_lite_list *handle, const uint8_t *bytes, size_t len,
+                             const regex_lite_list_pattern *patterns, size_t count,
+                             uint8_t *message, size_t message_room,
+                             regex_lite_list_refusal *refusal);
+
+/* Frees what the handle holds, if anything. */
+void regex_lite_list_free(regex_lite_list *handle);
+
+/* How many patterns the list has; 0 where nothing is held. */
+size_t regex_lite_list_len(regex_lite_list *handle);
+
+/* Whether one of the patterns matches somewhere from this offset on: REGEX_LITE_YES or
+ * REGEX_LITE_NO. Looks see the whole text, as with regex_lite_is_match. */
+uint32_t regex_lite_list_is_match(regex_lite_list *handle, const uint8_t *text, size_t len,
+                                  size_t start);
+
+/* Writes the match that is found from this offset on, with the number of its pattern:
+ * REGEX_LITE_YES, or REGEX_LITE_NO. */
+uint32_t regex_lite_list_find(regex_lite_list *handle, const uint8_t *text, size_t len,
+                              size_t start, regex_lite_list_span *span);
+
+/* Writes the groups of the match that regex_lite_list_find writes, from the whole match on, the
+ * number of its pattern, and how many groups that has: REGEX_LITE_YES. With room for fewer groups
+ * it writes the two numbers alone. */
+uint32_t regex_lite_list_captures(regex_lite_list *handle, const uint8_t *text, size_t len,
+                                  size_t start, regex_lite_span *spans, size_t room,
+                                  regex_lite_list_groups *groups);
+
+/* Writes the next matches of a text from left to right, whichever pattern each is of, as many as
+ * there is room for, and how many these are: REGEX_LITE_YES, or REGEX_LITE_NO where none is left.
+ * No two overlap. The walk is as that of regex_lite_find_all. */
+uint32_t regex_lite_list_find_all(regex_lite_list *handle, const uint8_t *text, size_t len,
+                                  regex_lite_walk *walk, regex_lite_list_span *spans, size_t room,
+                                  size_t *count);
+
+/* Writes for each pattern, by its number, whether it matches somewhere from this offset on: 1 or 0.
+ * And how many patterns there are: REGEX_LITE_YES. With room for fewer bytes it writes this number
+ * alone. Each pattern is searched for by itself. */
+uint32_t regex_lite_list_matches(regex_lite_list *handle, const uint8_t *text, size_t len,
+                                 size_t start, uint8_t *matched, size_t room, size_t *count);
 
 #ifdef __cplusplus
 }

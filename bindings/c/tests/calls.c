@@ -1,19 +1,6 @@
 /* Calls each function of the library, with what it takes and what it refuses. The values that are
  * expected come from the documents of the library and from the Rust crate. */
-#include <regex_lite.h>
-#include <stdio.h>
-#include <string.h>
-
-static int failed;
-
-#define WANT(condition) \
-    ((condition) ? (void)0 \
-                 : (void)(failed++, printf("line %d: not so: %s\n", __LINE__, #condition)))
-
-/* A text of C, as the two arguments that a call takes. */
-#define TEXT(text) (const uint8_t *)(text), strlen(text)
-
-static const regex_lite_options defaults = REGEX_LITE_DEFAULTS;
+#include "want.h"
 
 static uint32_t build(regex_lite *regex, const char *pattern, const regex_lite_options *options) {
     uint8_t message[100];
@@ -33,7 +20,7 @@ static void test_building(void) {
     size_t len = 7;
     WANT(build(&regex, "a+", &defaults) == REGEX_LITE_YES);
     WANT(regex.place != NULL);
-    /* A refused pattern leaves nothing behind. */
+    /* A refused pattern leaks nothing. */
     WANT(regex_lite_new(&regex, TEXT("a(b"), &defaults, message, sizeof message, &len) ==
          REGEX_LITE_SYNTAX);
     WANT(is(message, len, "found open group without closing ')'"));
@@ -166,7 +153,7 @@ static void test_captures(void) {
     regex_lite_free(&regex);
 }
 
-/* Walks over the text with room for so many matches at a time, and tests that they are a* in
+/* Walks over the text with room for this many matches at a time, and tests that they are a* in
  * "baac": an empty one at 0, one from 1 to 3, and an empty one at 4. */
 static void walk_with(regex_lite *regex, size_t room) {
     static const regex_lite_span wanted[] = {{true, 0, 0}, {true, 1, 3}, {true, 4, 4}};
@@ -202,7 +189,7 @@ static void test_walks(void) {
     regex_lite_free(&regex);
 }
 
-/* Walks over the groups of ([a-z])([0-9])? in "a1 b" with room for so many spans. */
+/* Walks over the groups of ([a-z])([0-9])? in "a1 b" with room for this many spans. */
 static void walk_groups_with(regex_lite *regex, size_t room) {
     static const regex_lite_span wanted[] = {{true, 0, 2}, {true, 0, 1}, {true, 1, 2},
                                              {true, 3, 4}, {true, 3, 4}, {false, 0, 0}};

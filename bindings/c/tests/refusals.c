@@ -1,5 +1,5 @@
 /* Refuses each request for memory in turn, the first, then the second and so on: each call then
- * returns what it returns with memory, or that it ran out of it, and nothing stays behind.
+ * returns what it returns with memory, or that it ran out of it, and nothing leaks.
  *
  * It is linked with --wrap for malloc, realloc and free. */
 #include <regex_lite.h>
@@ -51,7 +51,9 @@ static int call_all(void) {
     regex_lite_span spans[3];
     regex_lite_cost cost;
     uint8_t message[100], room[99];
-    uint32_t answers[9], others;
+    regex_lite_cut cut = REGEX_LITE_UNCUT;
+    const size_t lens[2] = {7, 12};
+    uint32_t answers[11], others;
     size_t n;
     int wrong = 0;
     answers[0] = regex_lite_new(&regex, TEXT("\\b(?<name>[Ss]am)(wise)?\\b"), &options, message,
@@ -66,7 +68,9 @@ static int call_all(void) {
     answers[7] = regex_lite_replace(&regex, TEXT(text), TEXT("<$name>"), &all, room, sizeof room);
     walk.is_begun = false;
     answers[8] = regex_lite_captures_all(&regex, TEXT(text), &walk, spans, 3, &n);
-    for (int i = 0; i < 9; i++)
+    answers[9] = regex_lite_split(&regex, TEXT(text), &cut, spans, 3, &n);
+    answers[10] = regex_lite_find_each(&regex, TEXT(text), lens, 2, spans, 2);
+    for (int i = 0; i < 11; i++)
         if (answers[i] != REGEX_LITE_YES &&
             answers[i] != (i == 0 ? REGEX_LITE_OUT_OF_MEMORY : others)) {
             printf("call %d: %u\n", i, (unsigned)answers[i]);
@@ -78,6 +82,49 @@ static int call_all(void) {
     return wrong;
 }
 
+/* Makes all calls for several patterns, and returns how many returned what they shouldn't. */
+static int call_lists(void) {
+    static const char text[] = "width=72 #note", patterns[] = "(?<key>[a-z]+)=([0-9]+)#(.*)";
+    regex_lite_list list = REGEX_LITE_NOTHING;
+    regex_lite_list_pattern each[2] = {{23, REGEX_LITE_DEFAULTS}, {5, REGEX_LITE_DEFAULTS}};
+    regex_lite_list_refusal refusal;
+    regex_lite_list_span span;
+    regex_lite_list_groups groups;
+    regex_lite_walk walk = REGEX_LITE_START;
+    regex_lite_span spans[3];
+    uint8_t message[100], matched[2];
+    uint32_t answers[6], others;
+    size_t n;
+    int wrong = 0;
+    answers[0] = regex_lite_list_new(&list, TEXT(patterns), each, 2, message, sizeof message,
+                                     &refusal);
+    others = answers[0] == REGEX_LITE_YES ? REGEX_LITE_OUT_OF_MEMORY : REGEX_LITE_NOTHING_HELD;
+    answers[1] = regex_lite_list_is_match(&list, TEXT(text), 0);
+    answers[2] = regex_lite_list_find(&list, TEXT(text), 0, &span);
+    answers[3] = regex_lite_list_captures(&list, TEXT(text), 0, spans, 3, &groups);
+    answers[4] = regex_lite_list_find_all(&list, TEXT(text), &walk, &span, 1, &n);
+    answers[5] = regex_lite_list_matches(&list, TEXT(text), 0, matched, 2, &n);
+    for (int i = 0; i < 6; i++)
+        if (answers[i] != REGEX_LITE_YES &&
+            answers[i] != (i == 0 ? REGEX_LITE_OUT_OF_MEMORY : others)) {
+            printf("call %d of a list: %u\n", i, (unsigned)answers[i]);
+            wrong++;
+        }
+    if (refusal.number != 2) wrong++;
+    regex_lite_list_free(&list);
+    /* A pattern that is refused is reported, or that memory ran out. */
+    each[0].len = 1;
+    each[1].len = 2;
+    answers[0] = regex_lite_list_new(&list, TEXT("ab("), each, 2, message, sizeof message,
+                                     &refusal);
+    if (!(answers[0] == REGEX_LITE_SYNTAX && refusal.number == 1) &&
+        !(answers[0] == REGEX_LITE_OUT_OF_MEMORY && refusal.number == 2)) {
+        printf("a bad pattern of a list: %u\n", (unsigned)answers[0]);
+        wrong++;
+    }
+    return wrong;
+}
+
 int main(void) {
     long before = blocks, at;
     for (at = 0;; at++) {
@@ -85,7 +132,7 @@ int main(void) {
         bool is_done;
         refused = 0;
         allowed = at;
-        wrong = call_all();
+        wrong = call_all() + call_lists();
         is_done = refused == 0;
         allowed = -1;
         if (wrong != 0 || blocks != before) {
@@ -94,6 +141,6 @@ int main(void) {
         }
         if (is_done) break;
     }
-    printf("refusals: each of %ld requests was refused, and nothing stayed behind\n", at);
+    printf("refusals: each of %ld requests was refused, and nothing leaked\n", at);
     return at < 10;
 }

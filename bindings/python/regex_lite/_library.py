@@ -7,7 +7,7 @@ import os
 import struct
 from ctypes import POINTER, byref, c_bool, c_char_p, c_size_t, c_uint32, c_uint64, c_void_p
 from pathlib import Path
-from typing import Any, Callable, Iterator, List, Optional, Tuple
+from typing import Any, Callable, Iterator, List, Optional, Sequence, Tuple
 
 NO, YES, NOTHING_HELD, NOT_TEXT, BAD_OFFSET, NO_ROOM, OUT_OF_MEMORY, NO_GROUP = range(8)
 LONGEST_MESSAGE = 100
@@ -71,11 +71,11 @@ def _load() -> ctypes.PyDLL:
 
 
 _LIBRARY = _load()
-_TEXT = [c_char_p, c_size_t]
+TEXT = [c_char_p, c_size_t]
 _ROOM = [c_void_p, c_size_t, POINTER(c_size_t)]
 
 
-def _call(name: str, result: object, *arguments: object) -> Callable[..., int]:
+def call(name: str, result: object, *arguments: object) -> Callable[..., int]:
     """A function of the library."""
     function = getattr(_LIBRARY, f'regex_lite_{name}')
     function.restype = result
@@ -84,26 +84,28 @@ def _call(name: str, result: object, *arguments: object) -> Callable[..., int]:
 
 
 _HANDLE = POINTER(Handle)
-_new = _call('new', c_uint32, _HANDLE, *_TEXT, POINTER(Options), *_ROOM)
-_free = _call('free', None, _HANDLE)
-_groups = _call('groups', c_size_t, _HANDLE)
-_places = _call('places', c_size_t, _HANDLE)
-_arrows = _call('arrows', c_size_t, _HANDLE)
-_find_counted = _call('find_counted', c_uint32, _HANDLE, *_TEXT, c_size_t, POINTER(CSpan),
-                      POINTER(Cost))
-_group_name = _call('group_name', c_uint32, _HANDLE, c_size_t, *_ROOM)
-_captures = _call('captures', c_uint32, _HANDLE, *_TEXT, c_size_t, POINTER(CSpan), c_size_t,
-                  POINTER(c_size_t))
-_find_all = _call('find_all', c_uint32, _HANDLE, *_TEXT, POINTER(Walk), POINTER(CSpan), c_size_t,
-                  POINTER(c_size_t))
-_captures_all = _call('captures_all', c_uint32, _HANDLE, *_TEXT, POINTER(Walk), POINTER(CSpan),
-                      c_size_t, POINTER(c_size_t))
-_replace = _call('replace', c_uint32, _HANDLE, *_TEXT, *_TEXT, POINTER(Replacing), c_void_p,
-                 c_size_t)
-_escape = _call('escape', c_uint32, *_TEXT, *_ROOM)
+_new = call('new', c_uint32, _HANDLE, *TEXT, POINTER(Options), *_ROOM)
+_free = call('free', None, _HANDLE)
+_groups = call('groups', c_size_t, _HANDLE)
+_places = call('places', c_size_t, _HANDLE)
+_arrows = call('arrows', c_size_t, _HANDLE)
+_find_counted = call('find_counted', c_uint32, _HANDLE, *TEXT, c_size_t, POINTER(CSpan),
+                     POINTER(Cost))
+_group_name = call('group_name', c_uint32, _HANDLE, c_size_t, *_ROOM)
+_captures = call('captures', c_uint32, _HANDLE, *TEXT, c_size_t, POINTER(CSpan), c_size_t,
+                 POINTER(c_size_t))
+_find_each = call('find_each', c_uint32, _HANDLE, *TEXT, POINTER(c_size_t), c_size_t,
+                  POINTER(CSpan), c_size_t)
+_find_all = call('find_all', c_uint32, _HANDLE, *TEXT, POINTER(Walk), POINTER(CSpan), c_size_t,
+                 POINTER(c_size_t))
+_captures_all = call('captures_all', c_uint32, _HANDLE, *TEXT, POINTER(Walk), POINTER(CSpan),
+                     c_size_t, POINTER(c_size_t))
+_replace = call('replace', c_uint32, _HANDLE, *TEXT, *TEXT, POINTER(Replacing), c_void_p,
+                c_size_t)
+_escape = call('escape', c_uint32, *TEXT, *_ROOM)
 
 
-def _checked(answer: int) -> bool:
+def checked(answer: int) -> bool:
     """Whether there is something, where the call isn't refused."""
     if answer == OUT_OF_MEMORY:
         raise MemoryError
@@ -115,6 +117,11 @@ def _checked(answer: int) -> bool:
 def _unpacked(spans: ctypes.Array[CSpan], count: int) -> Iterator[Tuple[Any, ...]]:
     """The first spans, field by field: much faster than by the fields of each."""
     return struct.iter_unpack('@?NN', memoryview(spans).cast('B')[:count * ctypes.sizeof(CSpan)])
+
+
+def groups_of(spans: ctypes.Array[CSpan], count: int) -> List[Span]:
+    """The first spans, as many as are asked for, of which some may be none."""
+    return [(start, end) if is_there else None for is_there, start, end in _unpacked(spans, count)]
 
 
 def encoded(text: str) -> bytes:
@@ -151,43 +158,48 @@ class Regex:
         if answer != NO_ROOM:
             return None
         room = ctypes.create_string_buffer(length.value)
-        _checked(_group_name(self._handle, index, room, length.value, length))
+        checked(_group_name(self._handle, index, room, length.value, length))
         return room.raw.decode()
 
     def captures(self, text: bytes, start: int) -> Optional[List[Span]]:
         """The spans of the groups of the first match from there on, in bytes of UTF-8."""
         spans, count = self._spans(), c_size_t()
-        if not _checked(_captures(self._handle, text, len(text), start, spans, len(spans), count)):
+        if not checked(_captures(self._handle, text, len(text), start, spans, len(spans), count)):
             return None
-        return [(start, end) if is_there else None
-                for is_there, start, end in _unpacked(spans, count.value)]
+        return groups_of(spans, count.value)
+
+    def find_each(self, texts: Sequence[bytes]) -> List[Span]:
+        """The span of the first match in each of the texts, in bytes of UTF-8."""
+        count, raw = len(texts), b''.join(texts)
+        lens, spans = (c_size_t * count)(*map(len, texts)), (CSpan * count)()
+        checked(_find_each(self._handle, raw, len(raw), lens, count, spans, count))
+        return groups_of(spans, count)
 
     def next_spans(self, text: bytes, walk: Walk, room: int) -> List[Tuple[int, int]]:
-        """The spans of the next matches, at most so many, and none at the end."""
+        """The spans of the next matches, at most this many, and none at the end."""
         spans, count = (CSpan * room)(), c_size_t()
-        _checked(_find_all(self._handle, text, len(text), walk, spans, room, count))
+        checked(_find_all(self._handle, text, len(text), walk, spans, room, count))
         return [(start, end) for _, start, end in _unpacked(spans, count.value)]
 
     def count(self, text: bytes, walk: Walk) -> int:
         """How many matches are left, which are walked over."""
         room, count, total = 4096, c_size_t(), 0
         spans = (CSpan * room)()
-        while _checked(_find_all(self._handle, text, len(text), walk, spans, room, count)):
+        while checked(_find_all(self._handle, text, len(text), walk, spans, room, count)):
             total += count.value
         return total
 
     def tried(self, text: bytes) -> int:
         """How many places a search for the first match tries."""
         span, cost = CSpan(), Cost()
-        _checked(_find_counted(self._handle, text, len(text), 0, span, cost))
+        checked(_find_counted(self._handle, text, len(text), 0, span, cost))
         return int(cost.tried)
 
     def next_captures(self, text: bytes, walk: Walk, room: int) -> List[List[Span]]:
-        """The spans of the groups of the next matches, at most so many, and none at the end."""
+        """The spans of the groups of the next matches, at most this many, and none at the end."""
         spans, count = (CSpan * (room * self.groups))(), c_size_t()
-        _checked(_captures_all(self._handle, text, len(text), walk, spans, len(spans), count))
-        found = [(start, end) if is_there else None
-                 for is_there, start, end in _unpacked(spans, count.value * self.groups)]
+        checked(_captures_all(self._handle, text, len(text), walk, spans, len(spans), count))
+        found = groups_of(spans, count.value * self.groups)
         return [found[i:i + self.groups] for i in range(0, len(found), self.groups)]
 
     def replaced(self, text: bytes, new: bytes, limit: int, is_literal: bool = True) -> bytes:
@@ -199,12 +211,12 @@ class Regex:
         if answer == NO_ROOM:
             room = ctypes.create_string_buffer(how.len)
             answer = _replace(self._handle, text, len(text), new, len(new), how, room, how.len)
-        _checked(answer)
+        checked(answer)
         return room.raw[:how.len]
 
 
 def escaped(text: bytes) -> bytes:
     """The pattern that means this text."""
     room, length = ctypes.create_string_buffer(2 * len(text) + 1), c_size_t()
-    _checked(_escape(text, len(text), room, len(room), byref(length)))
+    checked(_escape(text, len(text), room, len(room), byref(length)))
     return room.raw[:length.value]

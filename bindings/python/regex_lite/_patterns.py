@@ -3,7 +3,8 @@
 from __future__ import annotations
 
 import enum
-from typing import Callable, Dict, Iterator, List, Optional, Sequence, Tuple, TypeVar, Union
+from typing import (Callable, Dict, Iterable, Iterator, List, Optional, Sequence, Tuple, TypeVar,
+                    Union)
 
 from ._library import Options, Regex, Span, Walk, encoded, escaped
 from ._matches import Match, Offsets
@@ -29,20 +30,34 @@ DOTALL = S = Flags.DOTALL
 VERBOSE = X = Flags.VERBOSE
 
 
+def options_of(flags: int, nest_limit: int, size_limit: int) -> Options:
+    """The settings of the library for these flags and limits."""
+    unknown = int(flags) & ~int(I | M | S | X)
+    if unknown:
+        raise ValueError(f'no such flags: {unknown}')
+    return Options(bool(flags & I), bool(flags & M), bool(flags & S), False, False,
+                   bool(flags & X), nest_limit, size_limit)
+
+
+def in_parts(ask: Callable[[bytes, Walk, int], List[T]], raw: bytes) -> Iterator[T]:
+    """What is returned of all matches: at first of a few at a time, then of more."""
+    walk, room = Walk(), FIRST_ROOM
+    while True:
+        some = ask(raw, walk, room)
+        if not some:
+            return
+        yield from some
+        room = min(4 * room, MOST_ROOM)
+
+
 class Pattern:
     """A pattern that is ready to be searched for. It is used in the thread that built it."""
 
     def __init__(self, pattern: str, flags: int = 0, *, nest_limit: int = 50,
                  size_limit: int = 10485760) -> None:
-        unknown = int(flags) & ~int(I | M | S | X)
-        if unknown:
-            raise ValueError(f'no such flags: {unknown}')
-        flags = Flags(flags)
+        self._regex = Regex(pattern, options_of(flags, nest_limit, size_limit))
         self.pattern = pattern
-        self.flags = flags
-        options = Options(bool(flags & I), bool(flags & M), bool(flags & S), False, False,
-                          bool(flags & X), nest_limit, size_limit)
-        self._regex = Regex(pattern, options)
+        self.flags = Flags(flags)
         self.groups = self._regex.groups - 1
         names = {self._regex.name(i): i for i in range(1, self.groups + 1)}
         self.groupindex: Dict[str, int] = {name: i for name, i in names.items() if name is not None}
@@ -54,11 +69,19 @@ class Pattern:
         spans = self._regex.captures(raw, offsets.bytes(string, min(max(pos, 0), len(string))))
         return None if spans is None else self._match(string, offsets, spans)
 
+    def search_each(self, strings: Iterable[str]) -> List[Optional[Tuple[int, int]]]:
+        """The span of the first match in each of the strings. Where they are many and short, it
+        takes about a third of the time of `search`."""
+        every = list(strings)
+        raws = [encoded(string) for string in every]
+        return [Offsets(string, raw).in_characters([span])[0]
+                for string, raw, span in zip(every, raws, self._regex.find_each(raws))]
+
     def finditer(self, string: str) -> Iterator[Match]:
         """All matches, from left to right."""
         raw = encoded(string)
         offsets = Offsets(string, raw)
-        for spans in self._in_parts(self._regex.next_captures, raw):
+        for spans in in_parts(self._regex.next_captures, raw):
             yield self._match(string, offsets, spans)
 
     def findall(self, string: str) -> List[Union[str, Tuple[str, ...]]]:
@@ -70,8 +93,8 @@ class Pattern:
             return '' if span is None else raw[span[0]:span[1]].decode()
 
         if self.groups == 0:
-            return [text(span) for span in self._in_parts(self._regex.next_spans, raw)]
-        parts = self._in_parts(self._regex.next_captures, raw)
+            return [text(span) for span in in_parts(self._regex.next_spans, raw)]
+        parts = in_parts(self._regex.next_captures, raw)
         if self.groups == 1:
             return [text(spans[1]) for spans in parts]
         return [tuple([text(span) for span in spans[1:]]) for spans in parts]
@@ -113,17 +136,6 @@ class Pattern:
     def _match(self, string: str, offsets: Offsets, spans: Sequence[Span]) -> Match:
         """The match whose groups have these spans in bytes."""
         return Match(self, string, offsets.in_characters(spans))
-
-    @staticmethod
-    def _in_parts(ask: Callable[[bytes, Walk, int], List[T]], raw: bytes) -> Iterator[T]:
-        """What is told of all matches: at first of a few at a time, then of more."""
-        walk, room = Walk(), FIRST_ROOM
-        while True:
-            told = ask(raw, walk, room)
-            if not told:
-                return
-            yield from told
-            room = min(4 * room, MOST_ROOM)
 
 
 def compile(pattern: Union[str, Pattern], flags: int = 0, **limits: int) -> Pattern:

@@ -36,6 +36,12 @@ class Searches(unittest.TestCase):
         self.assertIsNone(pattern.search('aba', 3))
         self.assertIsNone(regex_lite.compile('^b').search('ab', 1))
 
+    def test_many_strings(self):
+        strings = ['b52', '', 'ü7', '€', 'no', '12'] * 50
+        wanted = [found and found.span() for found in (re.search(r'\d+', s) for s in strings)]
+        self.assertEqual(regex_lite.compile(r'\d+').search_each(strings), wanted)
+        self.assertEqual(regex_lite.compile('a').search_each([]), [])
+
     def test_hostile_patterns(self):
         for pattern in ('(a*)*b', '(a|a)*b', '(a|aa)+b', '(?:a?){30}a{30}b'):
             self.assertIsNone(regex_lite.search(pattern, 'a' * 1000))

@@ -11,7 +11,10 @@
 //! # Ok::<(), regex_lite_proved::Error>(())
 //! ```
 
+mod lists;
 mod raw;
+
+pub use lists::{ListCaptures, ListError, RegexList};
 
 use std::cell::UnsafeCell;
 use std::fmt;
@@ -76,6 +79,22 @@ impl Default for Options {
     }
 }
 
+impl Options {
+    /// These settings as C has them.
+    fn raw(self) -> raw::Options {
+        raw::Options {
+            case_insensitive: self.case_insensitive,
+            multi_line: self.multi_line,
+            dot_matches_new_line: self.dot_matches_new_line,
+            crlf: self.crlf,
+            swap_greed: self.swap_greed,
+            ignore_whitespace: self.ignore_whitespace,
+            nest_limit: self.nest_limit,
+            size_limit: self.size_limit,
+        }
+    }
+}
+
 /// A pattern that is ready to be searched for. It stays in its thread, as the handle of C does.
 pub struct Regex {
     handle: UnsafeCell<raw::Handle>,
@@ -90,16 +109,6 @@ impl Regex {
 
     /// The regex of a pattern under these settings.
     pub fn with_options(pattern: &str, options: Options) -> Result<Regex, Error> {
-        let options = raw::Options {
-            case_insensitive: options.case_insensitive,
-            multi_line: options.multi_line,
-            dot_matches_new_line: options.dot_matches_new_line,
-            crlf: options.crlf,
-            swap_greed: options.swap_greed,
-            ignore_whitespace: options.ignore_whitespace,
-            nest_limit: options.nest_limit,
-            size_limit: options.size_limit,
-        };
         let mut message = [0; 100];
         let mut len = 0;
         let mut regex = Regex {
@@ -112,7 +121,7 @@ impl Regex {
                 regex.handle.get(),
                 pattern.as_ptr(),
                 pattern.len(),
-                &options,
+                &options.raw(),
                 message.as_mut_ptr(),
                 message.len(),
                 &mut len,
@@ -124,11 +133,7 @@ impl Regex {
                 regex.groups = unsafe { raw::regex_lite_groups(regex.handle.get()) };
                 Ok(regex)
             }
-            raw::OUT_OF_MEMORY => Err(Error::OutOfMemory),
-            number => {
-                let message = String::from_utf8_lossy(&message[..len.min(message.len())]);
-                Err(Error::Pattern(number, message.into_owned()))
-            }
+            number => Err(refusal(number, &message, len)),
         }
     }
 
@@ -158,6 +163,31 @@ impl Regex {
             raw::regex_lite_find(handle, text.as_ptr(), text.len(), start, &mut span)
         };
         Ok(is_yes(answer)?.then(|| Match::new(text, span)))
+    }
+
+    /// The first match in each of these texts, which are copied first. The searches share their
+    /// memory, and what they learn of the pattern.
+    pub fn find_each<'t>(&self, texts: &[&'t str]) -> Result<Vec<Option<Match<'t>>>, Error> {
+        let joined = texts.concat();
+        let lens: Vec<usize> = texts.iter().map(|text| text.len()).collect();
+        let mut spans = vec![raw::Span::default(); texts.len()];
+        // SAFETY: as above; the spans overlap nothing.
+        let answer = unsafe {
+            raw::regex_lite_find_each(
+                self.handle.get(),
+                joined.as_ptr(),
+                joined.len(),
+                lens.as_ptr(),
+                lens.len(),
+                spans.as_mut_ptr(),
+                spans.len(),
+            )
+        };
+        is_yes(answer)?;
+        let found = |(text, span): (&&'t str, &raw::Span)| {
+            span.is_there.then(|| Match::new(text, *span))
+        };
+        Ok(texts.iter().zip(&spans).map(found).collect())
     }
 
     /// The groups of the first match.
@@ -212,6 +242,32 @@ impl Regex {
                 return Ok(found);
             }
             found.extend(spans[..count].iter().map(|span| Match::new(text, *span)));
+        }
+    }
+
+    /// What stands before, between and after the matches.
+    pub fn split<'t>(&self, text: &'t str) -> Result<Vec<&'t str>, Error> {
+        let mut cut = raw::Cut::default();
+        let mut spans = vec![raw::Span::default(); 4096];
+        let mut pieces = Vec::new();
+        loop {
+            let mut count = 0;
+            // SAFETY: as above; the cut goes on with the same regex and text.
+            let answer = unsafe {
+                raw::regex_lite_split(
+                    self.handle.get(),
+                    text.as_ptr(),
+                    text.len(),
+                    &mut cut,
+                    spans.as_mut_ptr(),
+                    spans.len(),
+                    &mut count,
+                )
+            };
+            if !is_yes(answer)? {
+                return Ok(pieces);
+            }
+            pieces.extend(spans[..count].iter().map(|span| &text[span.start..span.end]));
         }
     }
 
@@ -332,7 +388,7 @@ pub fn escape(text: &str) -> Result<String, Error> {
 }
 
 /// The text that a call writes to the room that it is lent, and whose length it returns too: at
-/// first to room for so many bytes, and then for as many as it needs.
+/// first to room for this many bytes, and then for as many as it needs.
 fn written(first: usize, mut call: impl FnMut(&mut [u8]) -> (u32, usize)) -> Result<String, Error> {
     let mut room = vec![0; first];
     let (mut answer, mut len) = call(&mut room);
@@ -343,6 +399,17 @@ fn written(first: usize, mut call: impl FnMut(&mut [u8]) -> (u32, usize)) -> Res
     is_yes(answer)?;
     room.truncate(len);
     Ok(String::from_utf8(room).expect("the library writes UTF-8"))
+}
+
+/// Why a pattern is refused, with a message of this many bytes, if there was room for it.
+fn refusal(number: u32, message: &[u8], len: usize) -> Error {
+    match number {
+        raw::OUT_OF_MEMORY => Error::OutOfMemory,
+        number => {
+            let message = String::from_utf8_lossy(&message[..len.min(message.len())]);
+            Error::Pattern(number, message.into_owned())
+        }
+    }
 }
 
 /// Whether the answer is yes, where the call isn't refused.

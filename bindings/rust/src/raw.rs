@@ -19,6 +19,17 @@ impl Handle {
     }
 }
 
+/// What holds a list of patterns, or nothing.
+#[repr(C)]
+pub struct ListHandle(*mut c_void);
+
+impl ListHandle {
+    /// One that holds nothing.
+    pub fn nothing() -> ListHandle {
+        ListHandle(ptr::null_mut())
+    }
+}
+
 #[repr(C)]
 pub struct Options {
     pub case_insensitive: bool,
@@ -47,10 +58,45 @@ pub struct Walk {
 }
 
 #[repr(C)]
+#[derive(Default)]
+pub struct Cut {
+    pub walk: Walk,
+    pub is_over: bool,
+}
+
+#[repr(C)]
 pub struct Replacing {
     pub limit: usize,
     pub is_literal: bool,
     pub len: usize,
+}
+
+#[repr(C)]
+pub struct ListPattern {
+    pub len: usize,
+    pub options: Options,
+}
+
+#[repr(C)]
+#[derive(Default)]
+pub struct ListRefusal {
+    pub number: usize,
+    pub message_len: usize,
+}
+
+#[repr(C)]
+#[derive(Default)]
+pub struct ListGroups {
+    pub number: usize,
+    pub count: usize,
+}
+
+#[repr(C)]
+#[derive(Clone, Copy, Default)]
+pub struct ListSpan {
+    pub number: usize,
+    pub start: usize,
+    pub end: usize,
 }
 
 extern "C" {
@@ -84,6 +130,15 @@ extern "C" {
         start: usize,
         span: *mut Span,
     ) -> u32;
+    pub fn regex_lite_find_each(
+        handle: *mut Handle,
+        texts: *const u8,
+        len: usize,
+        lens: *const usize,
+        count: usize,
+        spans: *mut Span,
+        room: usize,
+    ) -> u32;
     pub fn regex_lite_captures(
         handle: *mut Handle,
         text: *const u8,
@@ -99,6 +154,15 @@ extern "C" {
         len: usize,
         walk: *mut Walk,
         spans: *mut Span,
+        room: usize,
+        count: *mut usize,
+    ) -> u32;
+    pub fn regex_lite_split(
+        handle: *mut Handle,
+        text: *const u8,
+        len: usize,
+        cut: *mut Cut,
+        pieces: *mut Span,
         room: usize,
         count: *mut usize,
     ) -> u32;
@@ -118,5 +182,56 @@ extern "C" {
         room: *mut u8,
         room_len: usize,
         pattern_len: *mut usize,
+    ) -> u32;
+    pub fn regex_lite_list_new(
+        handle: *mut ListHandle,
+        bytes: *const u8,
+        len: usize,
+        patterns: *const ListPattern,
+        count: usize,
+        message: *mut u8,
+        message_room: usize,
+        refusal: *mut ListRefusal,
+    ) -> u32;
+    pub fn regex_lite_list_free(handle: *mut ListHandle);
+    pub fn regex_lite_list_is_match(
+        handle: *mut ListHandle,
+        text: *const u8,
+        len: usize,
+        start: usize,
+    ) -> u32;
+    pub fn regex_lite_list_find(
+        handle: *mut ListHandle,
+        text: *const u8,
+        len: usize,
+        start: usize,
+        span: *mut ListSpan,
+    ) -> u32;
+    pub fn regex_lite_list_captures(
+        handle: *mut ListHandle,
+        text: *const u8,
+        len: usize,
+        start: usize,
+        spans: *mut Span,
+        room: usize,
+        groups: *mut ListGroups,
+    ) -> u32;
+    pub fn regex_lite_list_find_all(
+        handle: *mut ListHandle,
+        text: *const u8,
+        len: usize,
+        walk: *mut Walk,
+        spans: *mut ListSpan,
+        room: usize,
+        count: *mut usize,
+    ) -> u32;
+    pub fn regex_lite_list_matches(
+        handle: *mut ListHandle,
+        text: *const u8,
+        len: usize,
+        start: usize,
+        matched: *mut u8,
+        room: usize,
+        count: *mut usize,
     ) -> u32;
 }

@@ -15,6 +15,17 @@ fn searches() -> Result<(), Error> {
 }
 
 #[test]
+fn many_texts() -> Result<(), Error> {
+    let regex = Regex::new("^(warn|error)|n$")?;
+    let found = regex.find_each(&["warn 1", "", "ok", "ü warn", "error"])?;
+    let ranges: Vec<_> = found.iter().map(|m| m.map(|m| m.range())).collect();
+    assert_eq!(ranges, [Some(0..4), None, None, Some(6..7), Some(0..5)]);
+    assert_eq!(found[3].map(|m| m.as_str()), Some("n"));
+    assert_eq!(regex.find_each(&[])?, []);
+    Ok(())
+}
+
+#[test]
 fn groups() -> Result<(), Error> {
     let regex = Regex::new("(?<key>[a-z]+)=([0-9]+)?")?;
     assert_eq!(regex.captures_len(), 3);
@@ -37,6 +48,17 @@ fn all_matches() -> Result<(), Error> {
     assert_eq!(ranges("a*", "baac")?, [0..0, 1..3, 4..4]);
     assert_eq!(ranges("x", "abc")?, []);
     assert_eq!(ranges("[0-9]", &"ab12".repeat(5000))?.len(), 10000);
+    Ok(())
+}
+
+#[test]
+fn pieces() -> Result<(), Error> {
+    let spaces = Regex::new(r"[ \t]+")?;
+    assert_eq!(spaces.split("a b \t  c\td    e")?, ["a", "b", "c", "d", "e"]);
+    assert_eq!(Regex::new("X")?.split("XaXbX")?, ["", "a", "b", ""]);
+    assert_eq!(Regex::new("a*")?.split("baac")?, ["", "b", "c", ""]);
+    assert_eq!(Regex::new("X")?.split("")?, [""]);
+    assert_eq!(Regex::new(",")?.split(&",".repeat(5000))?.len(), 5001);
     Ok(())
 }
 

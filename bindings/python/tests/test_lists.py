@@ -1,0 +1,68 @@
+"""Several patterns at once. The values that are expected are those of `re`, of the library's
+documents, or of the Rust crate."""
+
+import re
+import unittest
+
+import regex_lite
+
+
+class Lists(unittest.TestCase):
+    """What a list of patterns returns."""
+
+    def test_search(self):
+        words = regex_lite.RegexList(['if', '[a-z]+', '[0-9]+'])
+        self.assertEqual(len(words), 3)
+        number, found = words.search('(iffy)')
+        self.assertEqual((number, found.span(), found.group()), (0, (1, 3), 'if'))
+        number, found = words.search('(iffy)', 2)
+        self.assertEqual((number, found.span()), (1, (2, 5)))
+        self.assertIsNone(words.search('()'))
+
+    def test_groups(self):
+        lines = regex_lite.RegexList(['(?<key>[a-z]+)=([0-9]+)', '#(?<note>.*)'])
+        number, found = lines.search('ü#width')
+        self.assertEqual((number, found.groupdict()), (1, {'note': 'width'}))
+        self.assertEqual((found.span('note'), found.re.pattern), ((2, 7), '#(?<note>.*)'))
+        number, found = lines.search('#a\nwidth=72', 3)
+        self.assertEqual((number, found.groups()), (0, ('width', '72')))
+        many = regex_lite.RegexList(['(a)(b)(c)(d)(e)?'])
+        self.assertEqual(many.search('abcd')[1].groups(), ('a', 'b', 'c', 'd', None))
+
+    def test_finditer(self):
+        words = regex_lite.RegexList(['if', '[a-z]+', '[0-9]+'])
+        self.assertEqual(list(words.finditer('if x1')), [(0, (0, 2)), (1, (3, 4)), (2, (4, 5))])
+        self.assertEqual(list(words.finditer('€ if')), [(0, (2, 4))])
+        text = 'ab12' * 20000
+        ours = [span for _, span in regex_lite.RegexList(['[a-z]', '[0-9]']).finditer(text)]
+        self.assertEqual(ours, [found.span() for found in re.finditer('[a-z]|[0-9]', text)])
+
+    def test_matches(self):
+        words = regex_lite.RegexList(['[0-9]+', '[a-z]+', 'sam'])
+        self.assertEqual(words.matches('frodo 7'), [0, 1])
+        self.assertEqual(words.matches('...'), [])
+        self.assertEqual(words.matches('sam'), [1, 2])
+
+    def test_none(self):
+        nothing = regex_lite.RegexList([])
+        self.assertEqual((len(nothing), nothing.matches('a')), (0, []))
+        self.assertIsNone(nothing.search('a'))
+        self.assertEqual(list(nothing.finditer('a')), [])
+
+    def test_flags(self):
+        names = regex_lite.RegexList(['frodo', 'sam'], regex_lite.I)
+        number, found = names.search('Mr SAM')
+        self.assertEqual((number, found.group(), found.re.flags), (1, 'SAM', regex_lite.I))
+        self.assertRaises(ValueError, regex_lite.RegexList, ['a'], re.ASCII)
+
+    def test_refusals(self):
+        with self.assertRaises(regex_lite.error) as caught:
+            regex_lite.RegexList(['a', 'b(c', 'd)'])
+        self.assertEqual(caught.exception.msg, "found open group without closing ')'")
+        self.assertEqual(caught.exception.pattern, 'b(c')
+        self.assertRaises(regex_lite.error, regex_lite.RegexList, ['a', '((b))'], nest_limit=1)
+        self.assertRaises(TypeError, regex_lite.RegexList, ['a', b'b'])
+
+
+if __name__ == '__main__':
+    unittest.main()
