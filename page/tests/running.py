@@ -42,16 +42,16 @@ class WithServer(unittest.TestCase):
         data = body if isinstance(body, bytes) or body is None else json.dumps(body).encode()
         connection.request(method, path, data, {**own, **headers})
         reply = connection.getresponse()
-        told = reply.read()
+        content = reply.read()
         connection.close()
-        return reply.status, told, {name.lower(): value for name, value in reply.getheaders()}
+        return reply.status, content, {name.lower(): value for name, value in reply.getheaders()}
 
     def ask(self, pattern: str, text: str, replacement: str = '',
             flags: str = '') -> Dict[str, Any]:
         """What is shown of a question."""
         question = {'pattern': pattern, 'text': text, 'replacement': replacement, 'flags': flags}
-        status, told, _ = self.send('POST', '/search', question)
+        status, body, _ = self.send('POST', '/search', question)
         self.assertEqual(status, 200)
-        shown = json.loads(told)
+        shown = json.loads(body)
         assert isinstance(shown, dict)
         return shown
