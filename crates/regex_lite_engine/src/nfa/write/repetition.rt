@@ -1,14 +1,13 @@
 //! The places of a repetition.
-ghost use Rattle.std.specs.Prelude.{◌≡◌, ◌<◌, ◌+◌, ◌*◌, ◌^◌, ◌++◌, length, map, IfOk};
+ghost use Rattle.std.specs.Prelude.{◌≡◌, ◌<◌, ◌+◌, ◌-◌, ◌*◌, ◌^◌, ◌++◌, length, map, IfOk, None};
 ghost use Rattle.regex_lite_syntax.specs.Tree.Views.{tree_of};
 ghost use Rattle.regex_lite_syntax.specs.Tree.Properties.{nullable, greatest_index};
 ghost use Rattle.regex_lite_engine.specs.Graph.Stored.{place_of};
 ghost use Rattle.regex_lite_engine.specs.Graph.PlaceCounts.{places, copies, own_places};
 ghost use Rattle.regex_lite_engine.specs.Graph.PlaceCounts.{bounded_places};
 ghost use Rattle.regex_lite_engine.specs.Nfa.Layout.{IsAdded, layout, copies_layout};
-ghost use Rattle.regex_lite_engine.specs.Nfa.Layout.{exactly_layout, choices_layout, star_layout};
-ghost use Rattle.regex_lite_engine.specs.Nfa.Layout.{nullable_star_layout, at_least_layout};
-ghost use Rattle.regex_lite_engine.specs.Nfa.Layout.{between_layout, repetition_layout};
+ghost use Rattle.regex_lite_engine.specs.Nfa.Layout.{bounded_layout, choices_layout, star_layout};
+ghost use Rattle.regex_lite_engine.specs.Nfa.Layout.{at_least_layout, repetition_layout};
 
 use super::{Writer, choice_of};
 use crate::nfa::place::Place;
@@ -39,59 +38,34 @@ impl Writer {
             + own_places least most (nullable body))) }
     {
         match most {
-            None => {
-                if least > 0 {
-                    self.write_at_least(body, least - 1, greedy, exit)
-                } else if body.is_nullable() {
-                    self.write_nullable_star(body, greedy, exit)
-                } else {
-                    self.write_star(body, greedy, exit)
-                }
-            }
-            Some(most) => {
-                if most <= least {
-                    self.write_exactly(body, least, exit)
-                } else {
-                    self.write_between(body, least, most - least, greedy, exit)
-                }
-            }
+            None if least > 0 => self.write_at_least(body, least - 1, greedy, exit),
+            None => self.write_star(body, greedy, exit),
+            Some(most) => self.write_bounded(body, least, most, greedy, exit),
         }
     }
 
-    /// A choice and a body that leads back to it.
-    #[cycle(write)]
-    fn write_star(&mut self, body: &Hir, greedy: bool, exit: u32) -> Result<u32, AllocError>
-        requires room { length self.old + (places (tree_of body.now) + 1) < 2 ^ 32 }
-        requires slots { greatest_index (tree_of body.now) < 2 ^ 31 }
-        ensures written { IfOk result (λ entry. IsAdded
-            (map place_of self.old) (map place_of self.new) entry
-            (star_layout greedy (layout (tree_of body.now)) (length self.old) exit)) }
-        ensures grown { IfOk result (λ _.
-            length self.new ≡ length self.old + (places (tree_of body.now) + 1)) }
-    {
-        let (choice, _) = self.write_loop(body, greedy, exit)?;
-        Ok(choice)
-    }
-
-    /// The join, a loop that is entered at its body, and the choice between the two. A body that
-    /// can match the empty text needs it: after a pass that reads nothing the way comes to the
+    /// A choice, and a body that leads back to it.
+    ///
+    /// A body that can match the empty text needs a join after the loop, which is entered by a
+    /// choice between the body and the join: after a pass that reads nothing the way comes to the
     /// choice of the loop for the first time at that position, and may leave by it. In a plain loop
     /// it would come back to the choice where it set out.
     #[cycle(write)]
-    fn write_nullable_star(
-        &mut self,
-        body: &Hir,
-        greedy: bool,
-        exit: u32,
-    ) -> Result<u32, AllocError>
-        requires room { length self.old + (places (tree_of body.now) + 3) < 2 ^ 32 }
+    fn write_star(&mut self, body: &Hir, greedy: bool, exit: u32) -> Result<u32, AllocError>
+        requires room { let body = tree_of body.now in
+            length self.old + (places body + own_places 0 None (nullable body)) < 2 ^ 32 }
         requires slots { greatest_index (tree_of body.now) < 2 ^ 31 }
-        ensures written { IfOk result (λ entry. IsAdded
+        ensures written { let body = tree_of body.now in IfOk result (λ entry. IsAdded
             (map place_of self.old) (map place_of self.new) entry
-            (nullable_star_layout greedy (layout (tree_of body.now)) (length self.old) exit)) }
-        ensures grown { IfOk result (λ _.
-            length self.new ≡ length self.old + (places (tree_of body.now) + 3)) }
+            (repetition_layout greedy (layout body) 0 None (nullable body)
+            (length self.old) exit)) }
+        ensures grown { let body = tree_of body.now in IfOk result (λ _. length self.new
+            ≡ length self.old + (places body + own_places 0 None (nullable body))) }
     {
+        if !body.is_nullable() {
+            let (choice, _) = self.write_loop(body, greedy, exit)?;
+            return Ok(choice);
+        }
         let join = self.add(Place::Empty { to: exit })?;
         let (_, inner) = self.write_loop(body, greedy, join)?;
         self.add(choice_of(greedy, inner, join))
@@ -118,50 +92,39 @@ impl Writer {
         self.write_copies(body, before, inner)
     }
 
-    /// `count` copies, or one empty place for zero copies.
+    /// The required copies, and where more are allowed, the optional ones and a join after them.
+    /// Without any copy it is one empty place.
     #[cycle(write)]
-    fn write_exactly(&mut self, body: &Hir, count: u32, exit: u32) -> Result<u32, AllocError>
-        requires room { length self.old
-            + (count * places (tree_of body.now) + bounded_places count 0) < 2 ^ 32 }
-        requires slots { greatest_index (tree_of body.now) < 2 ^ 31 }
-        ensures written { IfOk result (λ entry. IsAdded
-            (map place_of self.old) (map place_of self.new) entry
-            (exactly_layout (layout (tree_of body.now)) count (length self.old) exit)) }
-        ensures grown { IfOk result (λ _. length self.new
-            ≡ length self.old + (count * places (tree_of body.now) + bounded_places count 0)) }
-    {
-        if count == 0 {
-            self.add(Place::Empty { to: exit })
-        } else {
-            self.write_copies(body, count, exit)
-        }
-    }
-
-    /// The required copies, then the optional ones, then the join.
-    #[cycle(write)]
-    fn write_between(
+    fn write_bounded(
         &mut self,
         body: &Hir,
-        needed: u32,
-        above: u32,
+        least: u32,
+        most: u32,
         greedy: bool,
         exit: u32,
     ) -> Result<u32, AllocError>
-        requires some { 0 < above }
         requires room { let body = tree_of body.now in length self.old
-            + ((needed + above) * places body + bounded_places needed above) < 2 ^ 32 }
+            + ((least + (most - least)) * places body + bounded_places least (most - least))
+            < 2 ^ 32 }
         requires slots { greatest_index (tree_of body.now) < 2 ^ 31 }
         ensures written { let body = layout (tree_of body.now) in IfOk result (λ entry. IsAdded
             (map place_of self.old) (map place_of self.new) entry
-            (between_layout greedy body needed above (length self.old) exit)) }
+            (bounded_layout greedy body least (most - least) (length self.old) exit)) }
         ensures grown { let body = tree_of body.now in IfOk result (λ _. length self.new
-            ≡ length self.old + ((needed + above) * places body + bounded_places needed above)) }
+            ≡ length self.old + ((least + (most - least)) * places body
+            + bounded_places least (most - least))) }
     {
+        if most <= least {
+            if least == 0 {
+                return self.add(Place::Empty { to: exit });
+            }
+            return self.write_copies(body, least, exit);
+        }
         let join = self.add(Place::Empty { to: exit })?;
-        let choices = self.write_choices(body, above, greedy, join)?;
-        if needed > 0 {
-            self.write_copies(body, needed, choices)
-        } else if above == 1 {
+        let choices = self.write_choices(body, most - least, greedy, join)?;
+        if least > 0 {
+            self.write_copies(body, least, choices)
+        } else if most == 1 {
             Ok(choices)
         } else {
             self.add(Place::Empty { to: choices })
