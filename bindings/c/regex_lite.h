@@ -280,6 +280,17 @@ void regex_lite_list_free(regex_lite_list *handle);
 /* How many patterns the list has; 0 where nothing is held. */
 size_t regex_lite_list_len(regex_lite_list *handle);
 
+/* Writes the pattern with this number: REGEX_LITE_YES or REGEX_LITE_NO_ROOM, with its length written
+ * either way; or REGEX_LITE_NO where the list has no such pattern. */
+uint32_t regex_lite_list_pattern(regex_lite_list *handle, size_t number, uint8_t *room,
+                                 size_t room_len, size_t *len);
+
+/* How many places the patterns have together, written out, and how many arrows lead from place to
+ * place: a search tries at most (arrows + patterns) * (characters + 1) places. 0 where nothing is
+ * held. */
+size_t regex_lite_list_places(regex_lite_list *handle);
+size_t regex_lite_list_arrows(regex_lite_list *handle);
+
 /* Whether one of the patterns matches somewhere from this offset on: REGEX_LITE_YES or
  * REGEX_LITE_NO. Looks see the whole text, as with regex_lite_is_match. */
 uint32_t regex_lite_list_is_match(regex_lite_list *handle, const uint8_t *text, size_t len,
@@ -289,6 +300,11 @@ uint32_t regex_lite_list_is_match(regex_lite_list *handle, const uint8_t *text, 
  * REGEX_LITE_YES, or REGEX_LITE_NO. */
 uint32_t regex_lite_list_find(regex_lite_list *handle, const uint8_t *text, size_t len,
                               size_t start, regex_lite_list_span *span);
+
+/* The same, with what the search cost written too, where the answer is one of these two. */
+uint32_t regex_lite_list_find_counted(regex_lite_list *handle, const uint8_t *text, size_t len,
+                                      size_t start, regex_lite_list_span *span,
+                                      regex_lite_cost *cost);
 
 /* Writes the groups of the match that regex_lite_list_find writes, from the whole match on, the
  * number of its pattern, and how many groups that has: REGEX_LITE_YES. With room for fewer groups
@@ -303,6 +319,16 @@ uint32_t regex_lite_list_captures(regex_lite_list *handle, const uint8_t *text, 
 uint32_t regex_lite_list_find_all(regex_lite_list *handle, const uint8_t *text, size_t len,
                                   regex_lite_walk *walk, regex_lite_list_span *spans, size_t room,
                                   size_t *count);
+
+/* Writes the groups of the matches that regex_lite_list_find_all writes, those of a match in a row,
+ * and how many matches these are. For each match it writes the number of its pattern, and how many
+ * groups that has. It writes as many as there is room for: REGEX_LITE_YES, or REGEX_LITE_NO where
+ * none is left. With too little room for the next match the answer is REGEX_LITE_NO_ROOM, and
+ * `count` is how many groups that has. */
+uint32_t regex_lite_list_captures_all(regex_lite_list *handle, const uint8_t *text, size_t len,
+                                      regex_lite_walk *walk, regex_lite_list_groups *groups,
+                                      size_t groups_room, regex_lite_span *spans, size_t room,
+                                      size_t *count);
 
 /* Writes for each pattern, by its number, whether it matches somewhere from this offset on: 1 or 0.
  * And how many patterns there are: REGEX_LITE_YES. With room for fewer bytes it writes this number

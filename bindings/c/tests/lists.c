@@ -204,6 +204,94 @@ static void test_walks(void) {
     regex_lite_list_free(&list);
 }
 
+/* Walks over the groups in "a=1 #x b=" with room for this many matches and groups at a time. */
+static void walk_over_groups(regex_lite_list *list, size_t matches, size_t room) {
+    static const regex_lite_list_groups wanted[] = {{0, 3}, {1, 2}, {0, 3}};
+    static const size_t starts[] = {0, 0, 2, 4, 5, 7, 7, 0};
+    regex_lite_walk walk = REGEX_LITE_START;
+    regex_lite_list_groups told[4];
+    regex_lite_span spans[9];
+    size_t seen = 0, at = 0, count = 7, i, k, used;
+    while (regex_lite_list_captures_all(list, TEXT("a=1 #x b="), &walk, told, matches, spans, room,
+                                        &count) == REGEX_LITE_YES) {
+        WANT(0 < count && count <= matches);
+        for (i = 0, used = 0; i < count && seen < 3; i++, seen++) {
+            WANT(told[i].number == wanted[seen].number && told[i].count == wanted[seen].count);
+            for (k = 0; k < told[i].count; k++, used++, at++)
+                WANT(spans[used].start == starts[at] && spans[used].is_there == (at < 7));
+        }
+        WANT(i == count && used <= room);
+    }
+    WANT(seen == 3 && at == 8 && count == 0);
+}
+
+static void test_walks_over_groups(void) {
+    static const char *const lines[] = {"([a-z])=([0-9])?", "#(.)"};
+    regex_lite_list list = REGEX_LITE_NOTHING;
+    regex_lite_walk walk = REGEX_LITE_START, inside = {true, 1};
+    regex_lite_list_groups told[2] = {{9, 9}, {9, 9}};
+    regex_lite_span spans[4] = {{true, 9, 9}, {true, 9, 9}, {true, 9, 9}, {true, 9, 9}};
+    size_t count = 7, matches, room;
+    WANT(regex_lite_list_captures_all(&list, TEXT("#a"), &walk, told, 2, spans, 4, &count) ==
+         REGEX_LITE_NOTHING_HELD);
+    WANT(count == 0);
+    WANT(build(&list, lines, 2) == REGEX_LITE_YES);
+    for (matches = 1; matches <= 4; matches++)
+        for (room = 3; room <= 9; room++) walk_over_groups(&list, matches, room);
+    /* Too little room: for its groups, or for a match. How many groups it has is written. */
+    WANT(regex_lite_list_captures_all(&list, TEXT("#a b="), &walk, told, 2, spans, 1, &count) ==
+         REGEX_LITE_NO_ROOM);
+    WANT(count == 2);
+    WANT(regex_lite_list_captures_all(&list, TEXT("b="), &walk, told, 0, spans, 4, &count) ==
+         REGEX_LITE_NO_ROOM);
+    WANT(count == 3);
+    WANT(regex_lite_list_captures_all(&list, TEXT("..."), &walk, told, 0, spans, 0, &count) ==
+         REGEX_LITE_NO);
+    WANT(regex_lite_list_captures_all(&list, TEXT("\xc3\xbc"), &inside, told, 2, spans, 4, &count) ==
+         REGEX_LITE_BAD_OFFSET);
+    WANT(regex_lite_list_captures_all(&list, TEXT("\xff"), &walk, told, 2, spans, 4, &count) ==
+         REGEX_LITE_NOT_TEXT);
+    WANT(count == 0 && !walk.is_begun && told[0].number == 9 && spans[0].start == 9);
+    /* What isn't needed stays as it was. */
+    WANT(regex_lite_list_captures_all(&list, TEXT("..#a."), &walk, told, 2, spans, 4, &count) ==
+         REGEX_LITE_YES);
+    WANT(count == 1 && walk.is_begun && walk.end == 4);
+    WANT(told[0].number == 1 && told[0].count == 2 && told[1].number == 9);
+    WANT(spans[0].start == 2 && spans[0].end == 4 && spans[1].start == 3 && spans[2].start == 9);
+    regex_lite_list_free(&list);
+}
+
+static void test_properties(void) {
+    static const char *const words[] = {"if", "a|b"};
+    regex_lite_list list = REGEX_LITE_NOTHING;
+    regex_lite_list_span span = {7, 7, 7};
+    regex_lite_cost cost = {7, 7, 7};
+    uint8_t room[4] = "...";
+    size_t len = 7;
+    WANT(regex_lite_list_pattern(&list, 0, room, 4, &len) == REGEX_LITE_NOTHING_HELD);
+    WANT(regex_lite_list_places(&list) == 0 && regex_lite_list_arrows(&list) == 0);
+    WANT(regex_lite_list_find_counted(&list, TEXT("if"), 0, &span, &cost) ==
+         REGEX_LITE_NOTHING_HELD);
+    WANT(build(&list, words, 2) == REGEX_LITE_YES);
+    WANT(regex_lite_list_pattern(&list, 2, room, 4, &len) == REGEX_LITE_NO && len == 7);
+    WANT(regex_lite_list_pattern(&list, 1, room, 2, &len) == REGEX_LITE_NO_ROOM && len == 3);
+    WANT(memcmp(room, "...", 3) == 0);
+    WANT(regex_lite_list_pattern(&list, 1, room, 3, &len) == REGEX_LITE_YES && len == 3);
+    WANT(memcmp(room, "a|b", 3) == 0);
+    /* Each pattern has two places and arrows of the whole match, and a place where it is complete. A
+     * choice has a place before and one after its branches, and an arrow to each and after them. */
+    WANT(regex_lite_list_places(&list) == 5 + 7 && regex_lite_list_arrows(&list) == 4 + 7);
+    WANT(regex_lite_list_find_counted(&list, TEXT("-if"), 0, &span, &cost) == REGEX_LITE_YES);
+    WANT(span.number == 0 && span.start == 1 && span.end == 3);
+    WANT(0 < cost.entered && cost.entered <= cost.tried && cost.tried <= (11 + 2) * (3 + 1));
+    WANT(regex_lite_list_find_counted(&list, TEXT("-"), 0, &span, &cost) == REGEX_LITE_NO);
+    WANT(cost.tried <= (11 + 2) * (1 + 1) && span.number == 0);
+    cost.tried = 7;
+    WANT(regex_lite_list_find_counted(&list, TEXT("-"), 2, &span, &cost) == REGEX_LITE_BAD_OFFSET);
+    WANT(cost.tried == 7);
+    regex_lite_list_free(&list);
+}
+
 static void test_which(void) {
     static const char *const words[] = {"[0-9]+", "[a-z]+", "sam"};
     regex_lite_list list = REGEX_LITE_NOTHING;
@@ -233,6 +321,8 @@ int main(void) {
     test_searches();
     test_captures();
     test_walks();
+    test_walks_over_groups();
+    test_properties();
     test_which();
     if (failed == 0) puts("lists: all is so");
     return failed != 0;

@@ -90,10 +90,11 @@ static int call_lists(void) {
     regex_lite_list_refusal refusal;
     regex_lite_list_span span;
     regex_lite_list_groups groups;
-    regex_lite_walk walk = REGEX_LITE_START;
+    regex_lite_walk walk = REGEX_LITE_START, group_walk = REGEX_LITE_START;
     regex_lite_span spans[3];
+    regex_lite_cost cost;
     uint8_t message[100], matched[2];
-    uint32_t answers[6], others;
+    uint32_t answers[8], others;
     size_t n;
     int wrong = 0;
     answers[0] = regex_lite_list_new(&list, TEXT(patterns), each, 2, message, sizeof message,
@@ -104,7 +105,10 @@ static int call_lists(void) {
     answers[3] = regex_lite_list_captures(&list, TEXT(text), 0, spans, 3, &groups);
     answers[4] = regex_lite_list_find_all(&list, TEXT(text), &walk, &span, 1, &n);
     answers[5] = regex_lite_list_matches(&list, TEXT(text), 0, matched, 2, &n);
-    for (int i = 0; i < 6; i++)
+    answers[6] = regex_lite_list_find_counted(&list, TEXT(text), 0, &span, &cost);
+    answers[7] = regex_lite_list_captures_all(&list, TEXT(text), &group_walk, &groups, 1, spans, 3,
+                                              &n);
+    for (int i = 0; i < 8; i++)
         if (answers[i] != REGEX_LITE_YES &&
             answers[i] != (i == 0 ? REGEX_LITE_OUT_OF_MEMORY : others)) {
             printf("call %d of a list: %u\n", i, (unsigned)answers[i]);

@@ -49,6 +49,9 @@ _list_captures = call('list_captures', c_uint32, _LIST, *TEXT, c_size_t, POINTER
                       c_size_t, POINTER(ListGroups))
 _list_find_all = call('list_find_all', c_uint32, _LIST, *TEXT, POINTER(Walk), POINTER(ListSpan),
                       c_size_t, POINTER(c_size_t))
+_list_captures_all = call('list_captures_all', c_uint32, _LIST, *TEXT, POINTER(Walk),
+                          POINTER(ListGroups), c_size_t, POINTER(CSpan), c_size_t,
+                          POINTER(c_size_t))
 _list_matches = call('list_matches', c_uint32, _LIST, *TEXT, c_size_t, c_void_p, c_size_t,
                      POINTER(c_size_t))
 
@@ -95,6 +98,25 @@ class RawList:
         checked(_list_find_all(self._handle, text, len(text), walk, spans, room, count))
         written = memoryview(spans).cast('B')[:count.value * ctypes.sizeof(ListSpan)]
         return [(number, start, end) for number, start, end in struct.iter_unpack('@NNN', written)]
+
+    def next_captures(self, text: bytes, walk: Walk, room: int) -> List[Tuple[int, List[Span]]]:
+        """The numbers of the patterns of the next matches, and the spans of their groups: at most
+        this many, and none at the end."""
+        told, count = (ListGroups * room)(), c_size_t()
+        while True:
+            spans = (CSpan * (room * self._room))()
+            answer = _list_captures_all(self._handle, text, len(text), walk, told, room, spans,
+                                        len(spans), count)
+            if answer != NO_ROOM:
+                break
+            self._room = count.value
+        checked(answer)
+        found, end = [], 0
+        groups = groups_of(spans, sum(own.count for own in told[:count.value]))
+        for own in told[:count.value]:
+            found.append((own.number, groups[end:end + own.count]))
+            end += own.count
+        return found
 
     def matches(self, text: bytes) -> List[int]:
         """The numbers of the patterns that match somewhere."""

@@ -37,8 +37,16 @@ class RegexList:
         number, spans = found
         return number, Match(self._pattern(number), string, offsets.in_characters(spans))
 
-    def finditer(self, string: str) -> Iterator[Tuple[int, Tuple[int, int]]]:
-        """All matches, from left to right: the number of the pattern of each, and its span."""
+    def finditer(self, string: str) -> Iterator[Tuple[int, Match]]:
+        """All matches, from left to right, each with the number of its pattern."""
+        raw = encoded(string)
+        offsets = Offsets(string, raw)
+        for number, spans in in_parts(self._list.next_captures, raw):
+            yield number, Match(self._pattern(number), string, offsets.in_characters(spans))
+
+    def spans(self, string: str) -> Iterator[Tuple[int, Tuple[int, int]]]:
+        """The same matches without their groups: the number of the pattern of each, and its span.
+        It takes a fraction of the time of `finditer`."""
         raw = encoded(string)
         offsets = Offsets(string, raw)
         for number, start, end in in_parts(self._list.next_spans, raw):

@@ -29,13 +29,29 @@ class Lists(unittest.TestCase):
         many = regex_lite.RegexList(['(a)(b)(c)(d)(e)?'])
         self.assertEqual(many.search('abcd')[1].groups(), ('a', 'b', 'c', 'd', None))
 
-    def test_finditer(self):
+    def test_spans(self):
         words = regex_lite.RegexList(['if', '[a-z]+', '[0-9]+'])
-        self.assertEqual(list(words.finditer('if x1')), [(0, (0, 2)), (1, (3, 4)), (2, (4, 5))])
-        self.assertEqual(list(words.finditer('€ if')), [(0, (2, 4))])
+        self.assertEqual(list(words.spans('if x1')), [(0, (0, 2)), (1, (3, 4)), (2, (4, 5))])
+        self.assertEqual(list(words.spans('€ if')), [(0, (2, 4))])
         text = 'ab12' * 20000
-        ours = [span for _, span in regex_lite.RegexList(['[a-z]', '[0-9]']).finditer(text)]
+        ours = [span for _, span in regex_lite.RegexList(['[a-z]', '[0-9]']).spans(text)]
         self.assertEqual(ours, [found.span() for found in re.finditer('[a-z]|[0-9]', text)])
+
+    def test_finditer(self):
+        lines = regex_lite.RegexList(['(?P<key>[a-z]+)=([0-9]+)?', '#(?P<note>.*)'])
+        found = [(number, match.group(), match.groupdict())
+                 for number, match in lines.finditer('width=72 ü=\nb= #wide')]
+        self.assertEqual(found, [(0, 'width=72', {'key': 'width'}), (0, 'b=', {'key': 'b'}),
+                                 (1, '#wide', {'note': 'wide'})])
+        self.assertEqual([match.groups() for _, match in lines.finditer('a= b=1')],
+                         [('a', None), ('b', '1')])
+        many = regex_lite.RegexList(['(a)(b)(c)(d)(e)(f)', '[a-z]'])
+        text = 'abcdefg' * 5000
+        ours = [match.span(6) if number == 0 else match.span()
+                for number, match in many.finditer(text)]
+        theirs = [match.span(6) if match.group(1) else match.span()
+                  for match in re.finditer('(a)(b)(c)(d)(e)(f)|[a-z]', text)]
+        self.assertEqual(ours, theirs)
 
     def test_matches(self):
         words = regex_lite.RegexList(['[0-9]+', '[a-z]+', 'sam'])
@@ -48,6 +64,7 @@ class Lists(unittest.TestCase):
         self.assertEqual((len(nothing), nothing.matches('a')), (0, []))
         self.assertIsNone(nothing.search('a'))
         self.assertEqual(list(nothing.finditer('a')), [])
+        self.assertEqual(list(nothing.spans('a')), [])
 
     def test_flags(self):
         names = regex_lite.RegexList(['frodo', 'sam'], regex_lite.I)

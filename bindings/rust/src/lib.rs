@@ -222,12 +222,9 @@ impl Regex {
     /// All matches, from left to right.
     pub fn find_all<'t>(&self, text: &'t str) -> Result<Vec<Match<'t>>, Error> {
         let mut walk = raw::Walk::default();
-        let mut spans = vec![raw::Span::default(); 4096];
-        let mut found = Vec::new();
-        loop {
-            let mut count = 0;
+        let spans = walked(|spans: &mut [raw::Span], count| {
             // SAFETY: as above; the walk goes on with the same regex and text.
-            let answer = unsafe {
+            unsafe {
                 raw::regex_lite_find_all(
                     self.handle.get(),
                     text.as_ptr(),
@@ -235,25 +232,19 @@ impl Regex {
                     &mut walk,
                     spans.as_mut_ptr(),
                     spans.len(),
-                    &mut count,
+                    count,
                 )
-            };
-            if !is_yes(answer)? {
-                return Ok(found);
             }
-            found.extend(spans[..count].iter().map(|span| Match::new(text, *span)));
-        }
+        })?;
+        Ok(spans.iter().map(|span| Match::new(text, *span)).collect())
     }
 
     /// What stands before, between and after the matches.
     pub fn split<'t>(&self, text: &'t str) -> Result<Vec<&'t str>, Error> {
         let mut cut = raw::Cut::default();
-        let mut spans = vec![raw::Span::default(); 4096];
-        let mut pieces = Vec::new();
-        loop {
-            let mut count = 0;
+        let pieces = walked(|spans: &mut [raw::Span], count| {
             // SAFETY: as above; the cut goes on with the same regex and text.
-            let answer = unsafe {
+            unsafe {
                 raw::regex_lite_split(
                     self.handle.get(),
                     text.as_ptr(),
@@ -261,14 +252,11 @@ impl Regex {
                     &mut cut,
                     spans.as_mut_ptr(),
                     spans.len(),
-                    &mut count,
+                    count,
                 )
-            };
-            if !is_yes(answer)? {
-                return Ok(pieces);
             }
-            pieces.extend(spans[..count].iter().map(|span| &text[span.start..span.end]));
-        }
+        })?;
+        Ok(pieces.iter().map(|span| &text[span.start..span.end]).collect())
     }
 
     /// The text with all matches replaced by what the template gives for their groups.
@@ -399,6 +387,22 @@ fn written(first: usize, mut call: impl FnMut(&mut [u8]) -> (u32, usize)) -> Res
     is_yes(answer)?;
     room.truncate(len);
     Ok(String::from_utf8(room).expect("the library writes UTF-8"))
+}
+
+/// What the calls of a walk write, one after another, each to the room that it is lent, until none is
+/// left. A call stores how much it has written.
+fn walked<T: Clone + Default>(
+    mut call: impl FnMut(&mut [T], &mut usize) -> u32,
+) -> Result<Vec<T>, Error> {
+    let mut room = vec![T::default(); 4096];
+    let mut all = Vec::new();
+    loop {
+        let mut count = 0;
+        if !is_yes(call(&mut room, &mut count))? {
+            return Ok(all);
+        }
+        all.extend_from_slice(&room[..count]);
+    }
 }
 
 /// Why a pattern is refused, with a message of this many bytes, if there was room for it.

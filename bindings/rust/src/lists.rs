@@ -1,11 +1,15 @@
 //! Several patterns that are searched for at once.
 
-use std::cell::UnsafeCell;
+use std::cell::{OnceCell, UnsafeCell};
 use std::error;
 use std::fmt;
 
 use crate::raw;
-use crate::{is_yes, refusal, Error, Match, Options};
+use crate::{is_yes, refusal, walked, Error, Match, Options, Regex};
+
+/// How many matches with groups there is room for at first, and at most.
+const FIRST_ROOM: usize = 16;
+const MOST_ROOM: usize = 1 << 16;
 
 /// Why a list of patterns is refused.
 #[derive(Clone, Debug, PartialEq, Eq)]
@@ -46,7 +50,26 @@ impl error::Error for ListError {
 /// ```
 pub struct RegexList {
     handle: UnsafeCell<raw::ListHandle>,
-    len: usize,
+    patterns: Vec<Pattern>,
+}
+
+/// One of several patterns.
+struct Pattern {
+    text: String,
+    options: Options,
+    /// It alone, once the names of its groups were asked for.
+    regex: OnceCell<Regex>,
+}
+
+impl Pattern {
+    /// The index of its group with this name.
+    fn index_of(&self, name: &str) -> Result<Option<usize>, Error> {
+        if let Some(regex) = self.regex.get() {
+            return Ok(regex.index_of(name));
+        }
+        let regex = Regex::with_options(&self.text, self.options)?;
+        Ok(self.regex.get_or_init(|| regex).index_of(name))
+    }
 }
 
 impl RegexList {
@@ -68,9 +91,14 @@ impl RegexList {
             .collect();
         let mut message = [0; 100];
         let mut told = raw::ListRefusal::default();
+        let own = |(text, options): &(&str, Options)| Pattern {
+            text: text.to_string(),
+            options: *options,
+            regex: OnceCell::new(),
+        };
         let list = RegexList {
             handle: UnsafeCell::new(raw::ListHandle::nothing()),
-            len: patterns.len(),
+            patterns: patterns.iter().map(own).collect(),
         };
         // SAFETY: all pointers are to live memory of these lengths, and nothing overlaps.
         let answer = unsafe {
@@ -96,12 +124,17 @@ impl RegexList {
 
     /// How many patterns there are.
     pub fn len(&self) -> usize {
-        self.len
+        self.patterns.len()
     }
 
     /// Whether there is no pattern.
     pub fn is_empty(&self) -> bool {
-        self.len == 0
+        self.patterns.is_empty()
+    }
+
+    /// The pattern with this number, if there is one.
+    pub fn as_str(&self, number: usize) -> Option<&str> {
+        Some(&self.patterns.get(number)?.text)
     }
 
     /// Whether one of the patterns matches somewhere.
@@ -132,7 +165,10 @@ impl RegexList {
     }
 
     /// The groups of the first match, by their indices in its pattern, and the number of that.
-    pub fn captures<'t>(&self, text: &'t str) -> Result<Option<(usize, ListCaptures<'t>)>, Error> {
+    pub fn captures<'t>(
+        &self,
+        text: &'t str,
+    ) -> Result<Option<(usize, ListCaptures<'_, 't>)>, Error> {
         self.captures_at(text, 0)
     }
 
@@ -142,7 +178,7 @@ impl RegexList {
         &self,
         text: &'t str,
         start: usize,
-    ) -> Result<Option<(usize, ListCaptures<'t>)>, Error> {
+    ) -> Result<Option<(usize, ListCaptures<'_, 't>)>, Error> {
         let mut spans = vec![raw::Span::default(); 4];
         let mut told = raw::ListGroups::default();
         let call = |spans: &mut [raw::Span], told: &mut raw::ListGroups| {
@@ -168,18 +204,15 @@ impl RegexList {
             return Ok(None);
         }
         spans.truncate(told.count);
-        Ok(Some((told.number, ListCaptures { text, spans })))
+        Ok(Some(self.groups(text, told, spans)))
     }
 
     /// All matches, from left to right, each with the number of its pattern.
     pub fn find_all<'t>(&self, text: &'t str) -> Result<Vec<(usize, Match<'t>)>, Error> {
         let mut walk = raw::Walk::default();
-        let mut spans = vec![raw::ListSpan::default(); 4096];
-        let mut found = Vec::new();
-        loop {
-            let mut count = 0;
+        let spans = walked(|spans: &mut [raw::ListSpan], count| {
             // SAFETY: as above; the walk goes on with the same list and text.
-            let answer = unsafe {
+            unsafe {
                 raw::regex_lite_list_find_all(
                     self.handle.get(),
                     text.as_ptr(),
@@ -187,19 +220,73 @@ impl RegexList {
                     &mut walk,
                     spans.as_mut_ptr(),
                     spans.len(),
+                    count,
+                )
+            }
+        })?;
+        Ok(spans.iter().map(|span| numbered(text, *span)).collect())
+    }
+
+    /// The groups of all matches, from left to right, each with the number of its pattern.
+    pub fn captures_all<'t>(
+        &self,
+        text: &'t str,
+    ) -> Result<Vec<(usize, ListCaptures<'_, 't>)>, Error> {
+        let mut walk = raw::Walk::default();
+        let mut told = vec![raw::ListGroups::default(); FIRST_ROOM];
+        let mut spans = vec![raw::Span::default(); 4 * FIRST_ROOM];
+        let mut all = Vec::new();
+        loop {
+            let mut count = 0;
+            // SAFETY: as above; the walk goes on with the same list and text.
+            let answer = unsafe {
+                raw::regex_lite_list_captures_all(
+                    self.handle.get(),
+                    text.as_ptr(),
+                    text.len(),
+                    &mut walk,
+                    told.as_mut_ptr(),
+                    told.len(),
+                    spans.as_mut_ptr(),
+                    spans.len(),
                     &mut count,
                 )
             };
-            if !is_yes(answer)? {
-                return Ok(found);
+            if answer == raw::NO_ROOM {
+                spans.resize(count, raw::Span::default());
+                continue;
             }
-            found.extend(spans[..count].iter().map(|span| numbered(text, *span)));
+            if !is_yes(answer)? {
+                return Ok(all);
+            }
+            let mut rest = &spans[..];
+            for own in &told[..count] {
+                let (groups, after) = rest.split_at(own.count);
+                all.push(self.groups(text, *own, groups.to_vec()));
+                rest = after;
+            }
+            // Each call reads the whole text, so there is room for more the next time.
+            if told.len() < MOST_ROOM {
+                told.resize(4 * told.len(), raw::ListGroups::default());
+                spans.resize(4 * spans.len(), raw::Span::default());
+            }
         }
+    }
+
+    /// The groups with these spans, and the number of their pattern.
+    fn groups<'t>(
+        &self,
+        text: &'t str,
+        told: raw::ListGroups,
+        spans: Vec<raw::Span>,
+    ) -> (usize, ListCaptures<'_, 't>) {
+        let pattern = &self.patterns[told.number];
+        (told.number, ListCaptures { pattern, text, spans })
     }
 
     /// For each pattern, by its number, whether it matches somewhere.
     pub fn matches(&self, text: &str) -> Result<Vec<bool>, Error> {
-        let mut flags = vec![0; self.len];
+        let mut flags = vec![0; self.len()];
         let mut count = 0;
         // SAFETY: as above; the flags overlap nothing.
         let answer = unsafe {
@@ -226,16 +313,24 @@ impl Drop for RegexList {
 }
 
 /// The groups of a match of one of several patterns.
-pub struct ListCaptures<'t> {
+pub struct ListCaptures<'l, 't> {
+    pattern: &'l Pattern,
     text: &'t str,
     spans: Vec<raw::Span>,
 }
 
-impl<'t> ListCaptures<'t> {
+impl<'l, 't> ListCaptures<'l, 't> {
     /// What the group with this index matched, if it is there and took part.
     pub fn get(&self, index: usize) -> Option<Match<'t>> {
         let span = self.spans.get(index).filter(|span| span.is_there)?;
         Some(Match::new(self.text, *span))
+    }
+
+    /// The text of the group with this name, if the pattern has one and it took part. At the first
+    /// name of its groups the pattern is built by itself, which fails only if memory runs out.
+    pub fn name(&self, name: &str) -> Result<Option<&'t str>, Error> {
+        let index = self.pattern.index_of(name)?;
+        Ok(index.and_then(|index| self.get(index)).map(|found| found.as_str()))
     }
 
     /// How many groups the pattern has, the whole match among them.

@@ -85,7 +85,7 @@ pub struct ListRefusal {
 }
 
 #[repr(C)]
-#[derive(Default)]
+#[derive(Clone, Copy, Default)]
 pub struct ListGroups {
     pub number: usize,
     pub count: usize,
@@ -222,6 +222,17 @@ extern "C" {
         len: usize,
         walk: *mut Walk,
         spans: *mut ListSpan,
+        room: usize,
+        count: *mut usize,
+    ) -> u32;
+    pub fn regex_lite_list_captures_all(
+        handle: *mut ListHandle,
+        text: *const u8,
+        len: usize,
+        walk: *mut Walk,
+        groups: *mut ListGroups,
+        groups_room: usize,
+        spans: *mut Span,
         room: usize,
         count: *mut usize,
     ) -> u32;

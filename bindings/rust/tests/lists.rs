@@ -56,6 +56,30 @@ fn all_matches() -> Tested {
 }
 
 #[test]
+fn all_groups() -> Tested {
+    let list = RegexList::new(&["(?<key>[a-z]+)=([0-9]+)?", "#(?<note>.)", "(?:(A)){2}(B)(C)(D)"])?;
+    let told = list.captures_all("a=1 #x b= AABCD")?;
+    let numbers: Vec<_> = told.iter().map(|(number, _)| *number).collect();
+    assert_eq!(numbers, [0, 1, 0, 2]);
+    assert_eq!(told[0].1.name("key")?, Some("a"));
+    assert_eq!((told[1].1.name("note")?, told[1].1.name("key")?), (Some("x"), None));
+    assert_eq!((told[2].1.get(1).map(|m| m.range()), told[2].1.get(2)), (Some(7..8), None));
+    assert_eq!((told[3].1.captures_len(), told[3].1.get(1).map(|m| m.range())), (5, Some(11..12)));
+    assert_eq!(list.as_str(1), Some("#(?<note>.)"));
+    assert_eq!(list.as_str(3), None);
+    assert!(list.captures_all("...")?.is_empty());
+    // More groups than there is room for at first, and more matches.
+    let wide = format!("{}|(x)", "(a)".repeat(100));
+    let list = RegexList::new(&["[0-9]", &wide])?;
+    let told = list.captures_all(&("a".repeat(100) + &"7x".repeat(2000)))?;
+    assert_eq!(told.len(), 4001);
+    assert_eq!(told[0].1.get(100).map(|m| m.range()), Some(99..100));
+    assert_eq!(told[4000].1.get(101).map(|m| m.as_str()), Some("x"));
+    assert_eq!((told[3999].0, told[3999].1.captures_len()), (0, 1));
+    Ok(())
+}
+
+#[test]
 fn which() -> Tested {
     let list = RegexList::new(&["[0-9]+", "[a-z]+", "sam"])?;
     assert_eq!(list.matches("frodo 7")?, [true, true, false]);

@@ -2,6 +2,7 @@
 use Rattle.std.specs.Prelude.{◌≡◌, ◌-◌, ◌^◌, ℕ, List, min}
 use Rattle.regex_lite_engine.specs.declared.pikevm.steps.Steps.{Steps}
 use Rattle.regex_lite.specs.Expression.{Expression}
+use Rattle.regex_lite.specs.RegexListSearches.{IsWithinListCost}
 use Rattle.regex_lite.specs.Searches.{IsWithinCost}
 use Rattle.regex_lite_c.specs.declared.types.Cost.{Cost}
 
@@ -15,3 +16,9 @@ pub record IsCostOf (steps : Steps) (cost : Cost) : Type 0 where
 abbrev pub IsCostOfSearch : Expression → (haystack : List ℕ) → (start : ℕ) → Cost → Type 0
 IsCostOfSearch re haystack start cost =
     (steps : Steps) × IsWithinCost re haystack start steps × IsCostOf steps cost
+
+-- so of several patterns
+abbrev pub IsCostOfListSearch : List Expression → (haystack : List ℕ) → (start : ℕ) → Cost
+    → Type 0
+IsCostOfListSearch list haystack start cost =
+    (steps : Steps) × IsWithinListCost list haystack start steps × IsCostOf steps cost

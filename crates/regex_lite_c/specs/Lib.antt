@@ -13,5 +13,6 @@ pub mod Replacing
 pub mod Walks
 pub mod ListWalks
 pub mod GroupWalks
+pub mod ListGroupWalks
 pub mod Cuts
 pub mod Each

@@ -93,7 +93,7 @@ fn fill_groups(
 }
 
 /// Yes where there are some, and else this answer.
-fn or_yes(count: usize, none: u32) -> u32
+pub(crate) fn or_yes(count: usize, none: u32) -> u32
     ensures some { 0 < count → result ≡ YES }
     ensures none { count ≡ 0 → result ≡ none }
 {

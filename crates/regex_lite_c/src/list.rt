@@ -1,9 +1,11 @@
 //! Several patterns that are searched for at once.
 
 mod build;
+mod group_walk;
 mod groups;
 mod handle;
 mod patterns;
+mod properties;
 mod search;
 mod types;
 mod walk;

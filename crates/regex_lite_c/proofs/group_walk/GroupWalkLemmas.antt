@@ -5,8 +5,10 @@ use Rattle.std.proofs.Common.{inl, inr, length, length-append, IsSome, Bool, con
 use Rattle.std.proofs.Common.{true, unwrap_or, option_map, refl, slice_get, subst, sym}
 use Rattle.std.proofs.lemmas.Bool.{cases_lt}
 use Rattle.std.proofs.lemmas.Grind.{flat_map-append}
+use Rattle.regex_lite_syntax.specs.Text.{Text}
 use Rattle.regex_lite_engine.specs.Search.Answer.{Found}
-use Rattle.regex_lite.specs.Ahead.{Ahead, AreGroupsFound, ComesNext, Passes}
+use Rattle.regex_lite.specs.Ahead.{Ahead, AheadOf, AreGroupsFound, ComesNext, Passes}
+use Rattle.regex_lite.specs.Ahead.{PassesAnswer}
 use Rattle.regex_lite.specs.Expression.{Expression}
 use Rattle.regex_lite.specs.Groups.{Groups, group_span, span_at, whole_span}
 use Rattle.regex_lite.specs.MatchList.{AreFirst, IsAnswerOf}
@@ -14,10 +16,12 @@ use Rattle.regex_lite.specs.Replacements.{AreGroupsOfEach}
 use Rattle.regex_lite_c.specs.GroupWalks.{AreGroupsListed, IsFilled, IsWithoutRoom, spans_of_all}
 use Rattle.regex_lite_c.specs.Spans.{AreWritten, AreWrittenAt, span_of}
 use Rattle.regex_lite_c.specs.Walks.{ended_of}
-use Rattle.regex_lite_c.specs.declared.answer.TheConstants.{NO, YES, NO_ROOM, OUT_OF_MEMORY}
+use Rattle.regex_lite_c.specs.declared.answer.TheConstants.{NO, YES, NOT_TEXT, BAD_OFFSET}
+use Rattle.regex_lite_c.specs.declared.answer.TheConstants.{NO_ROOM, OUT_OF_MEMORY}
 use Rattle.regex_lite_c.specs.declared.types.Span.{Span}
 use Rattle.regex_lite_c.specs.declared.types.Walk.{Walk}
-use Rattle.regex_lite_c.proofs.walk.WalkLemmas.{Lists, lists_all, lists_more, lists_none}
+use Rattle.regex_lite_c.proofs.walk.WalkLemmas.{ListsAnswers, lists_all, lists_more}
+use Rattle.regex_lite_c.proofs.walk.WalkLemmas.{lists_none}
 
 -- the last of these groups, where the walk goes on
 pub record EndsWith (groups : List Groups) (walk : Walk) : Type 0 where
@@ -26,38 +30,56 @@ pub record EndsWith (groups : List Groups) (walk : Walk) : Type 0 where
   pub is : groups ≡ front ++ (last ∷ [])
   pub end : ended_of walk ≡ Some (whole_span last).1
 
--- the groups of this many matches were written, to this many spans
-pub record IsSoFar (start now : Ahead) (old_walk walk : Walk) (old new : List Span) (used count : ℕ)
-    : Type 0 where
-  pub list : List Found
-  pub groups : List Groups
-  pub number : length list ≡ count
-  pub lists : (left : ℕ) → Lists start now (count + left) left list
-  pub each : AreGroupsOfEach start.sought start.haystack list groups
-  pub written : AreWritten (spans_of_all groups) old new
-  pub used_is : length (spans_of_all groups) ≡ used
-  pub counted : count ≤ used
-  pub fits : used ≤ length new
-  pub none : count ≡ 0 → (now ≡ start) × (walk ≡ old_walk) × (new ≡ old) × (used ≡ 0)
-  pub some : 0 < count → EndsWith groups walk
+-- The groups of each match are related to it by `Each`, whatever is searched for, a regex or several
+-- patterns
+module _ {S A : Type 0} (found_of : A → Found)
+    (IsAnswerTo : S → Text → (s : ℕ) → Option A → Type 0)
+    (Each : S → (haystack : List ℕ) → List A → List Groups → Type 0) where
+  -- the groups of this many matches were written, to this many spans
+  pub record AreSoFar (start now : AheadOf S) (old_walk walk : Walk) (old new : List Span)
+      (used count : ℕ) : Type 0 where
+    pub list : List A
+    pub groups : List Groups
+    pub number : length list ≡ count
+    pub lists : (left : ℕ)
+        → ListsAnswers found_of IsAnswerTo start now (count + left) left list
+    pub each : Each start.sought start.haystack list groups
+    pub written : AreWritten (spans_of_all groups) old new
+    pub used_is : length (spans_of_all groups) ≡ used
+    pub counted : count ≤ used
+    pub fits : used ≤ length new
+    pub none : count ≡ 0 → (now ≡ start) × (walk ≡ old_walk) × (new ≡ old) × (used ≡ 0)
+    pub some : 0 < count → EndsWith groups walk
+
+  unfoldable pub none_so_far : (start : AheadOf S) (walk : Walk) (old : List Span) → start.limit ≡ None
+      → Each start.sought start.haystack [] []
+      → AreSoFar start start walk walk old old 0 0
+  none_so_far start walk old limit each = record {
+    list = [];
+    groups = [];
+    number = refl;
+    lists = λ left.
+        subst (λ n. ListsAnswers found_of IsAnswerTo start start n left []) (omega arith)
+        (lists_none found_of IsAnswerTo start left limit);
+    each = each;
+    written = record { each = λ k lt. absurd (omega (arith, lt)); rest = λ k le. refl };
+    used_is = refl;
+    counted = omega arith;
+    fits = omega arith;
+    none = λ _. (refl, refl, refl, refl);
+    some = λ lt. absurd (omega (arith, lt));
+  }
+
+-- so of the matches of a regex
+abbrev pub IsSoFar : (start now : Ahead) (old_walk walk : Walk) (old new : List Span)
+    (used count : ℕ) → Type 0
+IsSoFar start now old_walk walk old new used count =
+    AreSoFar (λ own. own) IsAnswerOf AreGroupsOfEach start now old_walk walk old new used count
 
 pub nothing_yet : (start : Ahead) (walk : Walk) (old : List Span) → start.limit ≡ None
     → IsSoFar start start walk walk old old 0 0
-nothing_yet start walk old limit = record {
-  list = [];
-  groups = [];
-  number = refl;
-  lists = λ left.
-      subst (λ n. Lists start start n left []) (omega arith)
-      (lists_none (λ own. own) IsAnswerOf start left limit);
-  each = tt;
-  written = record { each = λ k lt. absurd (omega (arith, lt)); rest = λ k le. refl };
-  used_is = refl;
-  counted = omega arith;
-  fits = omega arith;
-  none = λ _. (refl, refl, refl, refl);
-  some = λ lt. absurd (omega (arith, lt));
-}
+nothing_yet start walk old limit =
+    none_so_far (λ own. own) IsAnswerOf AreGroupsOfEach start walk old limit tt
 
 each_more : (re : Expression) (haystack : List ℕ) (list : List Found) (groups : List Groups)
     (found : Found) (own : Groups)
@@ -81,7 +103,7 @@ module _ {X : Type 0} where
       let e : length (x ∷ xs) + k ≡ suc (length xs + k) = omega arith in
       ap (slice_get (x ∷ (xs ++ ys))) e ∙ get_right xs ys k
 
-written_after : (told more : List (Option (ℕ × ℕ))) (old now new : List Span)
+pub written_after : (told more : List (Option (ℕ × ℕ))) (old now new : List Span)
     → AreWritten told old now
     → AreWrittenAt (length told) more now new → AreWritten (told ++ more) old new
 written_after told more old now new before is =
@@ -102,7 +124,49 @@ written_after told more old now new before is =
           is.rest k (inr (omega (arith, le, longer))) ∙ before.rest k (omega (arith, le, longer));
     }
 
--- those of one more match were written
+-- those of one more match were written, whatever is searched for
+module _ {S A : Type 0} (found_of : A → Found)
+    (IsAnswerTo : S → Text → (s : ℕ) → Option A → Type 0)
+    (Each : S → (haystack : List ℕ) → List A → List Groups → Type 0) where
+  unfoldable pub more_so_far : (start now next : AheadOf S) (old_walk walk new_walk : Walk)
+      (old mid new : List Span) (used count : ℕ) (answer : A) (own : Groups)
+      → AreSoFar found_of IsAnswerTo Each start now old_walk walk old mid used count
+      → PassesAnswer found_of IsAnswerTo now answer next
+      → ((list : List A) (groups : List Groups) → Each start.sought start.haystack list groups
+      → Each start.sought start.haystack (list ++ (answer ∷ [])) (groups ++ (own ∷ [])))
+      → AreWrittenAt used own.spans mid new → length new ≡ length mid
+      → used + length own.spans ≤ length mid
+      → 0 < length own.spans → ended_of new_walk ≡ Some (whole_span own).1
+      → AreSoFar found_of IsAnswerTo Each start next old_walk new_walk old new
+      (used + length own.spans) (count + 1)
+  more_so_far start now next old_walk walk new_walk old mid new used count answer own so passes each
+      written same room some end =
+      let all = flat_map-append (λ g. g.spans) so.groups (own ∷ [])
+      ∙ ap (λ xs. spans_of_all so.groups ++ xs) (append-nil own.spans) in
+      let lists = so.lists in
+      let more = so.list ++ (answer ∷ []) in
+      record {
+        list = more;
+        groups = so.groups ++ (own ∷ []);
+        number = omega (arith, length-append so.list (answer ∷ []), so.number);
+        lists = λ left.
+            subst (λ n. ListsAnswers found_of IsAnswerTo start next n left more) (omega arith)
+            (lists_more found_of IsAnswerTo start now next (count + suc left) left so.list answer
+            (lists (suc left)) passes);
+        each = each so.list so.groups so.each;
+        written = subst (λ told. AreWritten told old new) (sym all)
+            (written_after (spans_of_all so.groups) own.spans old mid new so.written
+            (subst (λ n. AreWrittenAt n own.spans mid new) (sym so.used_is) written));
+        used_is =
+            ap length all ∙ length-append (spans_of_all so.groups) own.spans
+            ∙ ap (λ n. n + length own.spans) so.used_is;
+        counted = omega (arith, so.counted, some);
+        fits = omega (arith, room, same);
+        none = λ wrong. absurd (omega (arith, wrong));
+        some = λ _. record { front = so.groups; last = own; is = refl; end = end };
+      }
+
+-- so of the matches of a regex
 pub one_more : (start now next : Ahead) (old_walk walk new_walk : Walk) (old mid new : List Span)
     (used count : ℕ)
     (found : Found) (own : Groups) → IsSoFar start now old_walk walk old mid used count
@@ -113,30 +177,14 @@ pub one_more : (start now next : Ahead) (old_walk walk new_walk : Walk) (old mid
     → IsSoFar start next old_walk new_walk old new (used + length own.spans) (count + 1)
 one_more start now next old_walk walk new_walk old mid new used count found own so passes are
     written same room some end =
-    let all = flat_map-append (λ g. g.spans) so.groups (own ∷ [])
-    ∙ ap (λ xs. spans_of_all so.groups ++ xs) (append-nil own.spans) in
-    let lists = so.lists in
-    record {
-      list = so.list ++ (found ∷ []);
-      groups = so.groups ++ (own ∷ []);
-      number = omega (arith, length-append so.list (found ∷ []), so.number);
-      lists = λ left. subst (λ n. Lists start next n left (so.list ++ (found ∷ []))) (omega arith)
-          (lists_more (λ own. own) IsAnswerOf start now next (count + suc left) left so.list found
-          (lists (suc left)) passes);
-      each = each_more start.sought start.haystack so.list so.groups found own so.each
-          (subst (λ re. AreGroupsFound re start.haystack found own) (lists 0).sought
-          (subst (λ bytes. AreGroupsFound now.sought bytes found own) (lists 0).haystack are));
-      written = subst (λ told. AreWritten told old new) (sym all)
-          (written_after (spans_of_all so.groups) own.spans old mid new so.written
-          (subst (λ n. AreWrittenAt n own.spans mid new) (sym so.used_is) written));
-      used_is =
-          ap length all ∙ length-append (spans_of_all so.groups) own.spans
-          ∙ ap (λ n. n + length own.spans) so.used_is;
-      counted = omega (arith, so.counted, some);
-      fits = omega (arith, room, same);
-      none = λ wrong. absurd (omega (arith, wrong));
-      some = λ _. record { front = so.groups; last = own; is = refl; end = end };
-    }
+    let lists = so.lists 0 in
+    let is : AreGroupsFound start.sought start.haystack found own =
+    subst (λ re. AreGroupsFound re start.haystack found own) lists.sought
+    (subst (λ bytes. AreGroupsFound now.sought bytes found own) lists.haystack are) in
+    more_so_far (λ own. own) IsAnswerOf AreGroupsOfEach start now next old_walk walk new_walk old
+    mid new used count found own so passes
+    (λ list groups each. each_more start.sought start.haystack list groups found own each is)
+    written same room some end
 
 listed : (start now : Ahead) (old_walk walk : Walk) (old new : List Span) (used count : ℕ)
     → IsSoFar start now old_walk walk old new used count → 0 < count
@@ -216,3 +264,23 @@ end_of false start end span is some = let wrong = subst IsSome (sym is) some in 
 pub end_of_span : (s : Span) (span : Option (ℕ × ℕ)) → span_of s ≡ span → IsSome span
     → s.end ≡ (unwrap_or span (0, 0)).1
 end_of_span s span is some = end_of s.is_there s.start s.end span is some
+
+-- an answer of a walk is none of the refusals of a text
+pub not_three : (answer : ℕ) → (answer ≤ YES) ⊎ ((answer ≡ OUT_OF_MEMORY) ⊎ (answer ≡ NO_ROOM))
+    → answer ≡ NOT_TEXT → ⊥
+not_three answer (inl few) is = omega (arith, few, is)
+not_three answer (inr (inl memory)) is = omega (arith, memory, is)
+not_three answer (inr (inr room)) is = omega (arith, room, is)
+
+pub not_four : (answer : ℕ) → (answer ≤ YES) ⊎ ((answer ≡ OUT_OF_MEMORY) ⊎ (answer ≡ NO_ROOM))
+    → answer ≡ BAD_OFFSET → ⊥
+not_four answer (inl few) is = omega (arith, few, is)
+not_four answer (inr (inl memory)) is = omega (arith, memory, is)
+not_four answer (inr (inr room)) is = omega (arith, room, is)
+
+pub one_of_more : (answer : ℕ) → (answer ≤ YES) ⊎ ((answer ≡ OUT_OF_MEMORY) ⊎ (answer ≡ NO_ROOM))
+    → (answer ≤ YES)
+    ⊎ ((answer ≡ NOT_TEXT)
+    ⊎ ((answer ≡ BAD_OFFSET) ⊎ ((answer ≡ OUT_OF_MEMORY) ⊎ (answer ≡ NO_ROOM))))
+one_of_more answer (inl few) = inl few
+one_of_more answer (inr rest) = inr (inr (inr rest))

@@ -70,20 +70,6 @@ pub extern "C" fn regex_lite_list_free(alloc: Global, handle: &mut ListHandle)
     drop(handle.take(alloc));
 }
 
-/// How many patterns the list has; 0 where nothing is held.
-#[unsafe(no_mangle)]
-pub extern "C" fn regex_lite_list_len(alloc: Global, handle: &mut ListHandle) -> usize
-    ensures same { handle.new.value ≡ handle.old.value }
-    ensures counted { MatchOption handle.old.value (result ≡ 0) (λ list. result ≡ length list) }
-{
-    let Some(list) = handle.take(alloc) else {
-        return 0;
-    };
-    let len = list.len();
-    handle.put(list);
-    len
-}
-
 /// The list of these patterns, on the heap.
 fn built(
     alloc: Global,

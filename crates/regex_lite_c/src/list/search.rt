@@ -1,13 +1,15 @@
 //! Searches for several patterns in a text of the caller.
-ghost use Rattle.std.specs.Prelude.{◌≡◌, ◌≢◌, ◌↔◌, IfSome, Some, None};
+ghost use Rattle.std.specs.Prelude.{◌≡◌, ◌≢◌, ◌<◌, ◌≤◌, ◌↔◌, IfSome, Some, None};
 ghost use Rattle.regex_lite.specs.RegexListSearches.{AnyMatches};
 ghost use Rattle.regex_lite_c.specs.Answers.{IsSearchAnswer};
+ghost use Rattle.regex_lite_c.specs.Costs.{IsCostOfListSearch};
 ghost use Rattle.regex_lite_c.specs.ListSpans.{TellsListSpan, list_span_of};
 
 use crate::answer::{NO, NOTHING_HELD, OUT_OF_MEMORY, YES};
 use crate::list::handle::ListHandle;
 use crate::list::types::ListSpan;
 use crate::text::text_from;
+use crate::types::Cost;
 use regex_lite::RegexList;
 use std::alloc::Global;
 
@@ -93,5 +95,66 @@ fn find(list: &RegexList, text: &[u8], start: usize, span: &mut ListSpan) -> u32
         }
         Ok(None) => NO,
         Err(_) => OUT_OF_MEMORY,
+    }
+}
+
+/// The same, with what the search cost written too, where there is an answer.
+#[unsafe(no_mangle)]
+pub extern "C" fn regex_lite_list_find_counted(
+    alloc: Global,
+    handle: &mut ListHandle,
+    text: &[u8],
+    start: usize,
+    span: &mut ListSpan,
+    cost: &mut Cost,
+) -> u32
+    ensures same { handle.new.value ≡ handle.old.value }
+    ensures nothing_held { (result ≡ NOTHING_HELD) ↔ (handle.old.value ≡ None) }
+    ensures answer { IfSome handle.old.value (λ list. IsSearchAnswer text.now start result
+        (TellsListSpan list text.now start (Some (list_span_of span.new)))
+        (TellsListSpan list text.now start None)) }
+    ensures cost { result ≤ YES
+        → IfSome handle.old.value (λ list. IsCostOfListSearch list text.now start cost.new) }
+    ensures written { result ≢ YES → span.new ≡ span.old }
+    ensures same_cost { YES < result → cost.new ≡ cost.old }
+{
+    let Some(list) = handle.take(alloc) else {
+        return NOTHING_HELD;
+    };
+    let answer = find_counted(&list, text, start, span, cost);
+    handle.put(list);
+    answer
+}
+
+/// Where one of these patterns matches first, which, and what it cost to know that.
+fn find_counted(
+    list: &RegexList,
+    text: &[u8],
+    start: usize,
+    span: &mut ListSpan,
+    cost: &mut Cost,
+) -> u32
+    ensures answer { IsSearchAnswer text.now start result
+        (TellsListSpan list.now text.now start (Some (list_span_of span.new)))
+        (TellsListSpan list.now text.now start None) }
+    ensures held { result ≢ NOTHING_HELD }
+    ensures cost { result ≤ YES → IsCostOfListSearch list.now text.now start cost.new }
+    ensures written { result ≢ YES → span.new ≡ span.old }
+    ensures same_cost { YES < result → cost.new ≡ cost.old }
+{
+    let text = match text_from(text, start) {
+        Ok(text) => text,
+        Err(refusal) => return refusal,
+    };
+    let Ok(told) = list.find_counted_at(text, start) else {
+        return OUT_OF_MEMORY;
+    };
+    *cost = Cost::of(told.1);
+    match told.0 {
+        Some((number, found)) => {
+            *span = ListSpan::of(number, &found);
+            YES
+        }
+        None => NO,
     }
 }

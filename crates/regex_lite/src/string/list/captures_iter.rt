@@ -1,7 +1,7 @@
 //! The groups of all matches of several patterns in a haystack, match after match.
-ghost use Rattle.std.specs.Prelude.{◌≡◌, None, IfOk, IfErr};
+ghost use Rattle.std.specs.Prelude.{◌≡◌, None, IfOk, IfErr, IsCharBoundary, unwrap_or};
 ghost use Rattle.regex_lite_syntax.specs.Errors.{out_of_memory};
-ghost use Rattle.regex_lite.specs.ListAhead.{list_groups_ahead_of, whole_list};
+ghost use Rattle.regex_lite.specs.ListAhead.{list_after, list_groups_ahead_of, whole_list};
 ghost use Rattle.regex_lite.specs.Iterators.{list_groups_ended_of};
 
 use crate::string::captures::Captures;
@@ -43,6 +43,30 @@ impl RegexList {
         let searcher = ListSearcher::with_groups(self)?;
         Ok(ListCaptureMatches {
             scan: GroupScan::new(searcher, haystack, None),
+        })
+    }
+
+    /// The groups of all matches that [`RegexList::find_iter_after`] gives.
+    ///
+    /// Condition: the offset is on a character boundary of the haystack.
+    ///
+    /// # Errors
+    ///
+    /// `Memory` if memory runs out, also by an item, which then is the last.
+    pub fn captures_iter_after<'r, 'h>(
+        &'r self,
+        haystack: &'h str,
+        ended: Option<usize>,
+    ) -> Result<ListCaptureMatches<'r, 'h>, Error>
+        requires { IsCharBoundary haystack.now (unwrap_or ended 0) }
+        ensures ahead { IfOk result
+            (λ it. list_groups_ahead_of it ≡ list_after self.now haystack.now ended) }
+        ensures begins { IfOk result (λ it. list_groups_ended_of it ≡ ended) }
+        ensures refused { IfErr result (λ error. error ≡ out_of_memory) }
+    {
+        let searcher = ListSearcher::with_groups(self)?;
+        Ok(ListCaptureMatches {
+            scan: GroupScan::after(searcher, haystack, ended),
         })
     }
 }

@@ -1,33 +1,12 @@
-use Rattle.std.proofs.Common.{◌≡◌, ◌∙◌, ◌⊎◌, ◌≤◌, ℕ, List, IsUtf8, IsCharBoundary}
-use Rattle.std.proofs.Common.{ap, arith, inl, inr, subst, unwrap_or}
+use Rattle.std.proofs.Common.{◌∙◌, ℕ, List, IsUtf8, IsCharBoundary, ap, subst, unwrap_or}
 use Rattle.regex_lite.specs.Ahead.{after}
 use Rattle.regex_lite.specs.Expression.{Expression}
 use Rattle.regex_lite_c.specs.GroupWalks.{IsFilled, IsGroupWalkAnswer}
 use Rattle.regex_lite_c.specs.Walks.{ended_of}
-use Rattle.regex_lite_c.specs.declared.answer.TheConstants.{YES, NOT_TEXT, BAD_OFFSET}
-use Rattle.regex_lite_c.specs.declared.answer.TheConstants.{OUT_OF_MEMORY, NO_ROOM}
 use Rattle.regex_lite_c.specs.declared.types.Span.{Span}
 use Rattle.regex_lite_c.specs.declared.types.Walk.{Walk}
+use Rattle.regex_lite_c.proofs.group_walk.GroupWalkLemmas.{not_four, not_three, one_of_more}
 use Rattle.regex_lite_c.proofs.group_walk.captures_all.Goals as goal
-
-not_three : (answer : ℕ) → (answer ≤ YES) ⊎ ((answer ≡ OUT_OF_MEMORY) ⊎ (answer ≡ NO_ROOM))
-    → answer ≡ NOT_TEXT → ⊥
-not_three answer (inl few) is = omega (arith, few, is)
-not_three answer (inr (inl memory)) is = omega (arith, memory, is)
-not_three answer (inr (inr room)) is = omega (arith, room, is)
-
-not_four : (answer : ℕ) → (answer ≤ YES) ⊎ ((answer ≡ OUT_OF_MEMORY) ⊎ (answer ≡ NO_ROOM))
-    → answer ≡ BAD_OFFSET → ⊥
-not_four answer (inl few) is = omega (arith, few, is)
-not_four answer (inr (inl memory)) is = omega (arith, memory, is)
-not_four answer (inr (inr room)) is = omega (arith, room, is)
-
-one_of_more : (answer : ℕ) → (answer ≤ YES) ⊎ ((answer ≡ OUT_OF_MEMORY) ⊎ (answer ≡ NO_ROOM))
-    → (answer ≤ YES)
-    ⊎ ((answer ≡ NOT_TEXT)
-    ⊎ ((answer ≡ BAD_OFFSET) ⊎ ((answer ≡ OUT_OF_MEMORY) ⊎ (answer ≡ NO_ROOM))))
-one_of_more answer (inl few) = inl few
-one_of_more answer (inr rest) = inr (inr (inr rest))
 
 -- with a text that can be searched from there on, what was filled is the answer
 told : (re : Expression) (bytes : List ℕ) (old_walk walk : Walk) (old new : List Span)

@@ -1,0 +1,2 @@
+-- lemmas that the proofs of walks over the groups of several patterns share
+pub mod ListGroupWalkLemmas

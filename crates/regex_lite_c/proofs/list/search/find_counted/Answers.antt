@@ -1,0 +1,23 @@
+use Rattle.std.proofs.Common.{subst}
+use Rattle.regex_lite.specs.RegexListSearches.{IsWithinListCost}
+use Rattle.regex_lite_c.proofs.list.search.find_counted.Goals as goal
+
+pub returns-in-Some-clause-cost : goal.returns-in-Some-clause-cost
+returns-in-Some-clause-cost c =
+    let steps = c.in-Ok-find_counted_at.told.1 in
+    λ _. (
+      steps,
+      subst (λ bytes. IsWithinListCost c.args.list.now bytes c.args.start steps) c.in-Ok.ensures.0
+          c.in-Ok-find_counted_at.ensures.cost,
+      c.of.ensures,
+    )
+
+pub returns-in-None-clause-cost : goal.returns-in-None-clause-cost
+returns-in-None-clause-cost c =
+    let steps = c.in-Ok-find_counted_at.told.1 in
+    λ _. (
+      steps,
+      subst (λ bytes. IsWithinListCost c.args.list.now bytes c.args.start steps) c.in-Ok.ensures.0
+          c.in-Ok-find_counted_at.ensures.cost,
+      c.of.ensures,
+    )

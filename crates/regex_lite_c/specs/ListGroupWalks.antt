@@ -1,0 +1,88 @@
+-- What is returned of the groups of all matches of several patterns, some at a time.
+use Rattle.std.specs.Prelude.{◌≡◌, ◌≢◌, ◌⊎◌, ◌<◌, ◌≤◌, ◌++◌, ℕ, List, [], ◌∷◌, chars}
+use Rattle.std.specs.Prelude.{Some, None, length, unwrap_or}
+use Rattle.regex_lite_engine.specs.Search.Answer.{Found}
+use Rattle.regex_lite.specs.Expression.{Expression}
+use Rattle.regex_lite.specs.Groups.{Groups, whole_span}
+use Rattle.regex_lite.specs.ListAhead.{AreGroupsFoundInList, ListAhead, ListComesNext, list_after}
+use Rattle.regex_lite.specs.MatchList.{AreFirstAnswers, IsAnswerOfPatterns}
+use Rattle.regex_lite_c.specs.Answers.{RefusesText}
+use Rattle.regex_lite_c.specs.GroupWalks.{spans_of_all}
+use Rattle.regex_lite_c.specs.Spans.{AreWritten, AreWrittenAs}
+use Rattle.regex_lite_c.specs.Walks.{ended_of}
+use Rattle.regex_lite_c.specs.declared.answer.TheConstants.{NO, YES, NOT_TEXT, BAD_OFFSET}
+use Rattle.regex_lite_c.specs.declared.answer.TheConstants.{NO_ROOM, OUT_OF_MEMORY}
+use Rattle.regex_lite_c.specs.declared.list.types.ListGroups.{ListGroups}
+use Rattle.regex_lite_c.specs.declared.types.Span.{Span}
+use Rattle.regex_lite_c.specs.declared.types.Walk.{Walk}
+
+-- these are the groups of each match, of the pattern with its number
+abbrev pub AreListGroupsOfEach : List Expression → (haystack : List ℕ) → List (ℕ × Found)
+    → List Groups → Type 0
+AreListGroupsOfEach patterns haystack [] [] = Unit {0}
+AreListGroupsOfEach patterns haystack [] (groups ∷ list) = ⊥
+AreListGroupsOfEach patterns haystack (answer ∷ matches) [] = ⊥
+AreListGroupsOfEach patterns haystack (answer ∷ matches) (groups ∷ list) =
+    AreGroupsFoundInList patterns haystack answer.0 answer.1 groups
+    × AreListGroupsOfEach patterns haystack matches list
+
+-- the number of a pattern, and how many groups that has
+abbrev pub counts_of : ListGroups → ℕ × ℕ
+counts_of own = (own.number, own.count)
+
+-- those of each match
+abbrev pub counts_of_each : List (ℕ × Found) → List Groups → List (ℕ × ℕ)
+counts_of_each [] list = []
+counts_of_each (answer ∷ matches) [] = []
+counts_of_each (answer ∷ matches) (groups ∷ list) =
+    (answer.0, length groups.spans) ∷ counts_of_each matches list
+
+-- the groups of this many matches, the first of those ahead, were written to the front of the room,
+-- with the number of each match's pattern and how many groups that has, and the walk goes on where
+-- the last of these matches ends
+pub record AreListGroupsListed (a : ListAhead) (walk : Walk) (old_told told : List ListGroups)
+    (old new : List Span) (count : ℕ) : Type 0 where
+  pub list : List (ℕ × Found)
+  pub are_first : AreFirstAnswers (λ (own : ℕ × Found). own.1)
+      (IsAnswerOfPatterns a.sought (chars a.haystack)) count a.ended list
+  pub number : count ≡ length list
+  pub front : List Groups
+  pub last : Groups
+  pub each : AreListGroupsOfEach a.sought a.haystack list (front ++ (last ∷ []))
+  pub counts : AreWrittenAs counts_of (counts_of_each list (front ++ (last ∷ []))) old_told told
+  pub written : AreWritten (spans_of_all (front ++ (last ∷ []))) old new
+  pub end : ended_of walk ≡ Some (whole_span last).1
+
+-- there is a next match with this many groups, and the room is too small for them
+abbrev pub IsWithoutListRoom : ListAhead → (matches room need : ℕ) → Type 0
+IsWithoutListRoom a matches room need =
+    (answer : ℕ × Found) × (groups : Groups) × ListComesNext a (Some answer)
+    × AreGroupsFoundInList a.sought a.haystack answer.0 answer.1 groups
+    × (need ≡ length groups.spans) × ((matches ≡ 0) ⊎ (room < need))
+
+-- what is returned where groups are written as long as there is room
+pub record IsListFilled (a : ListAhead) (old_walk walk : Walk) (old_told told : List ListGroups)
+    (old new : List Span) (count answer : ℕ) : Type 0 where
+  pub found : answer ≡ YES
+      → AreListGroupsListed a walk old_told told old new count × (0 < count)
+  pub none : answer ≡ NO → ListComesNext a None
+  pub no_room : answer ≡ NO_ROOM → IsWithoutListRoom a (length old_told) (length old) count
+  pub same : answer ≢ YES → (walk ≡ old_walk) × (told ≡ old_told) × (new ≡ old)
+  pub no_count : answer ≢ YES → answer ≢ NO_ROOM → count ≡ 0
+  pub one_of : (answer ≤ YES) ⊎ ((answer ≡ OUT_OF_MEMORY) ⊎ (answer ≡ NO_ROOM))
+
+-- what is returned where a walk over the groups of the matches in this text goes on
+pub record IsListGroupWalkAnswer (list : List Expression) (bytes : List ℕ) (old_walk walk : Walk)
+    (old_told told : List ListGroups) (old new : List Span) (count answer : ℕ) : Type 0 where
+  pub found : answer ≡ YES
+      → AreListGroupsListed (list_after list bytes (ended_of old_walk)) walk old_told told old new
+      count × (0 < count)
+  pub none : answer ≡ NO → ListComesNext (list_after list bytes (ended_of old_walk)) None
+  pub no_room : answer ≡ NO_ROOM
+      → IsWithoutListRoom (list_after list bytes (ended_of old_walk)) (length old_told)
+      (length old) count
+  pub same : answer ≢ YES → (walk ≡ old_walk) × (told ≡ old_told) × (new ≡ old)
+  pub no_count : answer ≢ YES → answer ≢ NO_ROOM → count ≡ 0
+  pub refused : RefusesText bytes (unwrap_or (ended_of old_walk) 0) answer
+  pub one_of : (answer ≤ YES) ⊎ ((answer ≡ NOT_TEXT) ⊎ ((answer ≡ BAD_OFFSET)
+      ⊎ ((answer ≡ OUT_OF_MEMORY) ⊎ (answer ≡ NO_ROOM))))

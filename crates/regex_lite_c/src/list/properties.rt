@@ -1,0 +1,88 @@
+//! What a list of patterns says of its patterns.
+ghost use Rattle.std.specs.Prelude.{◌≡◌, IfSome, MatchOption, None, length};
+ghost use Rattle.regex_lite.specs.RegexList.{OfTrees};
+ghost use Rattle.regex_lite_engine.specs.Graph.SideBySide.{arrows_of_all, places_of_all};
+ghost use Rattle.regex_lite_c.specs.Rooms.{IsPatternAnswer};
+
+use crate::answer::{NO, NOTHING_HELD};
+use crate::list::handle::ListHandle;
+use crate::room;
+use regex_lite::RegexList;
+use std::alloc::Global;
+
+/// How many patterns the list has; 0 where nothing is held.
+#[unsafe(no_mangle)]
+pub extern "C" fn regex_lite_list_len(alloc: Global, handle: &mut ListHandle) -> usize
+    ensures same { handle.new.value ≡ handle.old.value }
+    ensures counted { MatchOption handle.old.value (result ≡ 0) (λ list. result ≡ length list) }
+{
+    let Some(list) = handle.take(alloc) else {
+        return 0;
+    };
+    let len = list.len();
+    handle.put(list);
+    len
+}
+
+/// Writes the pattern with this number to the room: 1, or 0 where there is none.
+#[unsafe(no_mangle)]
+pub extern "C" fn regex_lite_list_pattern(
+    alloc: Global,
+    handle: &mut ListHandle,
+    number: usize,
+    room: &mut [u8],
+    len: &mut usize,
+) -> u32
+    ensures same { handle.new.value ≡ handle.old.value }
+    ensures nothing_held { handle.old.value ≡ None
+        → (result ≡ NOTHING_HELD) × (room.new ≡ room.old) × (len.new ≡ len.old) }
+    ensures answer { IfSome handle.old.value (λ list.
+        IsPatternAnswer list number room.old room.new len.old len.new result) }
+{
+    let Some(list) = handle.take(alloc) else {
+        return NOTHING_HELD;
+    };
+    let answer = pattern(&list, number, room, len);
+    handle.put(list);
+    answer
+}
+
+/// Writes the pattern of this list with this number.
+fn pattern(list: &RegexList, number: usize, room: &mut [u8], len: &mut usize) -> u32
+    ensures { IsPatternAnswer list.now number room.old room.new len.old len.new result }
+{
+    match list.as_str(number) {
+        Some(pattern) => room::write(pattern.as_bytes(), room, len),
+        None => NO,
+    }
+}
+
+/// How many places the patterns have together when they are written out; 0 where nothing is held.
+#[unsafe(no_mangle)]
+pub extern "C" fn regex_lite_list_places(alloc: Global, handle: &mut ListHandle) -> usize
+    ensures same { handle.new.value ≡ handle.old.value }
+    ensures counted { MatchOption handle.old.value (result ≡ 0)
+        (λ list. OfTrees list (λ trees. result ≡ places_of_all trees)) }
+{
+    let Some(list) = handle.take(alloc) else {
+        return 0;
+    };
+    let count = list.places();
+    handle.put(list);
+    count
+}
+
+/// How many arrows lead from place to place in the patterns written out; 0 where nothing is held.
+#[unsafe(no_mangle)]
+pub extern "C" fn regex_lite_list_arrows(alloc: Global, handle: &mut ListHandle) -> usize
+    ensures same { handle.new.value ≡ handle.old.value }
+    ensures counted { MatchOption handle.old.value (result ≡ 0)
+        (λ list. OfTrees list (λ trees. result ≡ arrows_of_all trees)) }
+{
+    let Some(list) = handle.take(alloc) else {
+        return 0;
+    };
+    let count = list.arrows();
+    handle.put(list);
+    count
+}
