@@ -1,5 +1,6 @@
 -- lemmas that several proofs here share
 pub mod BoundaryLemmas
+pub mod ByBytesLemmas
 pub mod IntervalLemmas
 pub mod LearnLemmas
 pub mod RememberedLemmas

@@ -1,5 +1,6 @@
 //! A lazy automaton: it remembers the turns that searches have taken, so that later ones take them
 //! by a look-up.
+pub(crate) mod ascii;
 pub(crate) mod automaton;
 pub(crate) mod boundaries;
 pub(crate) mod classes;

@@ -1,5 +1,5 @@
 -- A search that goes by remembered turns.
-use Rattle.std.specs.Prelude.{◌≡◌, ◌+◌, ◌≤◌, ℕ, Bool, true, false, List, []}
+use Rattle.std.specs.Prelude.{◌≡◌, ◌+◌, ◌≤◌, ◌⊎◌, ℕ, Bool, true, false, List, []}
 use Rattle.std.specs.Prelude.{length, slice_get, IfSome, Option, None, Some}
 use Rattle.regex_lite_syntax.specs.Text.{Text}
 use Rattle.regex_lite_engine.specs.declared.lazy_dfa.scan.Scanned as code
@@ -33,6 +33,12 @@ module _ (table : List (Place ℕ)) (entries : List ℕ) (haystack : Text) (low 
     pub later : p ≤ r
     pub is : IsHere haystack r here
     pub coming : IsComing table haystack entries low (length haystack) r [] None
+
+  -- the first start is another one only where there was nothing to go on from, at or after position
+  -- p
+  abbrev pub IsSince : (p before first : ℕ) → Type 0
+  IsSince p before first =
+      (first ≡ before) ⊎ ((here : Here) × (here.at ≡ first) × IsIdleAt p here)
 
   module _ (p : ℕ) (automaton : Automaton) where
     -- a search from position low on stands at position p

@@ -82,6 +82,17 @@ impl Classes {
         }
     }
 
+    /// That of an ASCII character.
+    #[inline(always)]
+    #[tactic(auto, using(crate::proofs::lazy_dfa::IntervalLemmas::interval_within))]
+    pub(crate) fn of_ascii(&self, byte: u8) -> usize
+        requires { byte < 128 }
+        ensures same { result ≡ interval_of self.now.boundaries byte }
+        ensures few { result < 128 }
+    {
+        self.ascii[byte as usize] as usize
+    }
+
     /// That of the character.
     #[tactic(auto, using(crate::proofs::lazy_dfa::IntervalLemmas::interval_within))]
     fn interval(&self, c: char) -> usize

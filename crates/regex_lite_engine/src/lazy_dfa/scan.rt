@@ -1,12 +1,13 @@
 //! Searches that go on by remembered turns, without a try.
 ghost use Rattle.std.specs.Prelude.{◌≡◌, ◌↔◌, ◌+◌, ◌<◌, ◌≤◌, ◌⊎◌, ◌∷◌, [], ℕ, IfSome, IsSome};
-ghost use Rattle.std.specs.Prelude.{IsTrue, None, Some, chars, length, slice_get, true};
+ghost use Rattle.std.specs.Prelude.{IsCharBoundary, IsTrue, None, Some, chars, length, slice_get, true};
 ghost use Rattle.regex_lite_syntax.specs.Text.{Text};
 ghost use Rattle.regex_lite_engine.specs.Graph.Stored.{table_of};
 ghost use Rattle.regex_lite_engine.specs.LazyDfa.Automaton.{IsEmptyState, Remembers, State};
 ghost use Rattle.regex_lite_engine.specs.LazyDfa.Intervals.{side_of};
-ghost use Rattle.regex_lite_engine.specs.LazyDfa.Scanning.{best_told, IsIdleAt};
-ghost use Rattle.regex_lite_engine.specs.LazyDfa.Scanning.{IsScanning, LedTo, ScansTo};
+ghost use Rattle.regex_lite_engine.specs.LazyDfa.Scanning.{best_told};
+ghost use Rattle.regex_lite_engine.specs.LazyDfa.Scanning.{IsScanning, IsSince, LedTo, ScansTo};
+ghost use Rattle.regex_lite_engine.specs.Search.Offsets.{position_at};
 ghost use Rattle.regex_lite_engine.specs.Walk.Standing.{IsHere};
 
 use crate::Graph;
@@ -50,13 +51,19 @@ impl LazyDfa {
             self.now result }
     {
         let mut at = from;
-        let mut idle = None;
         'positions: loop {
-            let Some(on) = self.skip(graph, haystack, at, &mut idle) else {
-                return Scanned::Stuck { at, idle };
+            at = self.run(graph, haystack, at);
+            let Some(on) = self.skip(graph, haystack, at) else {
+                return Scanned::Stuck {
+                    at,
+                    idle: idle_since(haystack, from.first, at.first),
+                };
             };
             let Some((to, best)) = self.step(graph, on) else {
-                return Scanned::Stuck { at: on, idle };
+                return Scanned::Stuck {
+                    at: on,
+                    idle: idle_since(haystack, from.first, on.first),
+                };
             };
             if self.is_over(on.here, to, best) {
                 return Scanned::Found(best);
@@ -69,40 +76,28 @@ impl LazyDfa {
     /// can begin. None where no state is known for that.
     // Inlined, so that other positions cost no more than the test.
     #[inline(always)]
-    pub(super) fn skip(
-        &self,
-        graph: &Graph,
-        haystack: &str,
-        at: Standing,
-        idle: &mut Option<Here>,
-    ) -> Option<Standing>
+    pub(super) fn skip(&self, graph: &Graph, haystack: &str, at: Standing) -> Option<Standing>
         requires scanning { (low p : ℕ) × IsScanning (table_of graph.now) (graph.now.start ∷ [])
             (chars haystack.now) low p self.now at }
         ensures on { (low p : ℕ) → IsScanning (table_of graph.now) (graph.now.start ∷ [])
             (chars haystack.now) low p self.now at
             → IfSome result (λ on. (q : ℕ) × (p ≤ q) × IsScanning (table_of graph.now)
             (graph.now.start ∷ []) (chars haystack.now) low q self.now on) }
-        ensures idle { (low p : ℕ) → IsScanning (table_of graph.now) (graph.now.start ∷ [])
+        ensures first { (low p : ℕ) → IsScanning (table_of graph.now) (graph.now.start ∷ [])
             (chars haystack.now) low p self.now at
-            → (idle.new ≡ idle.old) ⊎ IfSome idle.new (IsIdleAt (table_of graph.now)
-            (graph.now.start ∷ []) (chars haystack.now) low p) }
+            → IfSome result (λ on. IsSince (table_of graph.now) (graph.now.start ∷ [])
+            (chars haystack.now) low p at.first on.first) }
         ensures none { at.best ≡ None → IfSome result (λ on. on.best ≡ None) }
     {
         if at.best.is_some() || !self.is_empty(at.state) {
             return Some(at);
         }
-        self.skip_idle(graph, haystack, at, idle)
+        self.skip_idle(graph, haystack, at)
     }
 
     /// The same where there is nothing to go on from and no match.
     #[inline(never)]
-    fn skip_idle(
-        &self,
-        graph: &Graph,
-        haystack: &str,
-        at: Standing,
-        idle: &mut Option<Here>,
-    ) -> Option<Standing>
+    fn skip_idle(&self, graph: &Graph, haystack: &str, at: Standing) -> Option<Standing>
         requires scanning { (low p : ℕ) × IsScanning (table_of graph.now) (graph.now.start ∷ [])
             (chars haystack.now) low p self.now at }
         requires none { best_told at.best ≡ None }
@@ -112,10 +107,10 @@ impl LazyDfa {
             (chars haystack.now) low p self.now at
             → IfSome result (λ on. (q : ℕ) × (p ≤ q) × IsScanning (table_of graph.now)
             (graph.now.start ∷ []) (chars haystack.now) low q self.now on) }
-        ensures idle { (low p : ℕ) → IsScanning (table_of graph.now) (graph.now.start ∷ [])
+        ensures first { (low p : ℕ) → IsScanning (table_of graph.now) (graph.now.start ∷ [])
             (chars haystack.now) low p self.now at
-            → (idle.new ≡ idle.old) ⊎ IfSome idle.new (IsIdleAt (table_of graph.now)
-            (graph.now.start ∷ []) (chars haystack.now) low p) }
+            → IfSome result (λ on. IsSince (table_of graph.now) (graph.now.start ∷ [])
+            (chars haystack.now) low p at.first on.first) }
         ensures none { IfSome result (λ on. on.best ≡ None) }
     {
         let pattern = OnePattern {
@@ -123,7 +118,6 @@ impl LazyDfa {
             may_start: false,
         };
         let here = pattern.pass_over(haystack, at.here);
-        *idle = Some(here);
         let state = self.empty_state(here.before)?;
         Some(Standing {
             here,
@@ -155,7 +149,7 @@ impl LazyDfa {
     }
 
     /// Whether the state has no ways.
-    fn is_empty(&self, x: u16) -> bool
+    pub(super) fn is_empty(&self, x: u16) -> bool
         requires { x < length self.now.states }
         ensures { (state : State) → slice_get self.now.states x ≡ Some state
             → IsTrue result ↔ (state.ways ≡ []) }
@@ -191,6 +185,8 @@ impl LazyDfa {
         ensures over { (state : State) → slice_get self.now.states to ≡ Some state
             → IsTrue result → (here.after ≡ None)
             ⊎ (¬ (best_told best ≡ None) × (state.ways ≡ [])) }
+        ensures none { (state : State) → slice_get self.now.states to ≡ Some state
+            → ¬ IsTrue result → state.ways ≡ [] → best ≡ None }
         ensures at_end { here.after ≡ None → IsTrue result }
     {
         if here.after.is_none() {
@@ -225,4 +221,17 @@ impl LazyDfa {
             best,
         }
     }
+}
+
+/// The place of this first start, if another one was the first before.
+pub(super) fn idle_since(haystack: &str, before: usize, first: usize) -> Option<Here>
+    requires { (first ≡ before) ⊎ IsCharBoundary haystack.now first }
+    ensures at { IfSome result (λ here. here.at ≡ first) }
+    ensures here { IfSome result (IsHere (chars haystack.now) (position_at haystack.now first)) }
+    ensures other { IfSome result (λ _. ¬ (first ≡ before)) }
+{
+    if first == before {
+        return None;
+    }
+    Some(Here::at(haystack, first))
 }

@@ -16,7 +16,7 @@ ghost use Rattle.regex_lite_engine.specs.Walk.Turns.{best_of};
 use crate::Graph;
 use crate::lazy_dfa::automaton::{LazyDfa, UNKNOWN};
 use crate::lazy_dfa::run::Progress;
-use crate::lazy_dfa::scan::Standing;
+use crate::lazy_dfa::scan::{Standing, idle_since};
 use crate::lazy_dfa::state::Hit;
 use crate::pikevm::here::Here;
 use crate::pikevm::shortest::is_known;
@@ -160,13 +160,19 @@ impl LazyDfa {
             self.now result }
     {
         let mut at = from;
-        let mut idle = None;
         'positions: loop {
-            let Some(on) = self.skip(graph, haystack, at, &mut idle) else {
-                return ScannedEnd::Unknown { at, idle };
+            at = self.run_to_match(graph, haystack, at);
+            let Some(on) = self.skip(graph, haystack, at) else {
+                return ScannedEnd::Unknown {
+                    at,
+                    idle: idle_since(haystack, from.first, at.first),
+                };
             };
             let Some((to, hit)) = self.step_shortest(graph, on) else {
-                return ScannedEnd::Unknown { at: on, idle };
+                return ScannedEnd::Unknown {
+                    at: on,
+                    idle: idle_since(haystack, from.first, on.first),
+                };
             };
             if hit {
                 return ScannedEnd::Known(Some(on.here.at));

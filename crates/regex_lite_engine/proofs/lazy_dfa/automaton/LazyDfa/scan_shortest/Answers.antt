@@ -1,78 +1,144 @@
-use Rattle.std.proofs.Common.{◌+◌, ◌∷◌, [], None, ap, sym, subst, arith}
+use Rattle.std.proofs.Common.{◌+◌, ◌^◌, ◌<◌, ◌∷◌, [], inl, None, length, refl, ap, sym, subst, ◌∙◌, arith}
 use Rattle.std.specs.Prelude.{chars}
 use Rattle.std.proofs.lemmas.Option.{slice_get_within}
 use Rattle.regex_lite_engine.specs.declared.lazy_dfa.scan.Standing.{Standing}
 use Rattle.regex_lite_engine.specs.Graph.Stored.{table_of}
 use Rattle.regex_lite_engine.specs.LazyDfa.Scanning.{EndsOrLeads, IsScanning}
+use Rattle.regex_lite_engine.proofs.lazy_dfa.ByBytesLemmas.{since_edge, since_idle, since_led}
+use Rattle.regex_lite_engine.proofs.lazy_dfa.ByBytesLemmas.{since_on}
 use Rattle.regex_lite_engine.proofs.lazy_dfa.ResumeLemmas.{none_by, some_by}
-use Rattle.regex_lite_engine.proofs.lazy_dfa.ScanLemmas.{end_none, scanned_on, still_idle}
+use Rattle.regex_lite_engine.proofs.lazy_dfa.ScanLemmas.{end_none, scanned_on}
 use Rattle.regex_lite_engine.proofs.pikevm.here.OffsetLemmas.{less_left}
 use Rattle.regex_lite_engine.proofs.lazy_dfa.automaton.LazyDfa.scan_shortest.Goals as goal
 
+pub run_to_match-at-requires-clause-scanning : goal.run_to_match-at-requires-clause-scanning
+run_to_match-at-requires-clause-scanning c =
+    let from = c.requires.scanning in
+    let v = c.positions.invariant.on from.0 from.1 from.2 in (from.0, v.0, v.2)
+
 pub skip-requires : goal.skip-requires
 skip-requires c =
-    let low = c.requires.scanning.0 in
-    let p = c.requires.scanning.1 in
-    let v = c.positions.invariant.on low p c.requires.scanning.2 in
-    record { scanning = (low, v.0.0, v.0.2) }
+    let from = c.requires.scanning in
+    let v = c.positions.invariant.on from.0 from.1 from.2 in
+    let r = c.run_to_match-at.ensures.on from.0 v.0 v.2 in
+    record { scanning = (from.0, r.0, r.2) }
+
+pub idle_since-requires : goal.idle_since-requires
+idle_since-requires c =
+    let table = table_of c.args.graph.now in
+    let entries = c.args.graph.now.start ∷ [] in
+    let bs = c.args.haystack.now in
+    let fits : length bs + 1 < 2 ^ 64 = omega arith in
+    let from = c.requires.scanning in
+    let v = c.positions.invariant.on from.0 from.1 from.2 in
+    let r = c.run_to_match-at.ensures.on from.0 v.0 v.2 in
+    since_edge table entries bs c.utf8.haystack fits from.0 from.1 c.args.from.first
+    c.run_to_match-at.result.first
+    (since_on table entries (chars bs) from.0 from.1 v.0 c.args.from.first c.positions.at.first
+    c.run_to_match-at.result.first v.1 v.3 r.3)
 
 pub returns-in_default : goal.returns-in_default
 returns-in_default c = λ low p from.
-    let v = c.positions.invariant.on low p from in (
-      v.0,
-      still_idle (table_of c.args.graph.now) (c.args.graph.now.start ∷ [])
-          (chars c.args.haystack.now) low p v.0.0 v.0.1 c.positions.idle c.skip.new.idle v.1
-          (c.in_default.ensures.idle low v.0.0 v.0.2),
+    let table = table_of c.args.graph.now in
+    let entries = c.args.graph.now.start ∷ [] in
+    let bs = c.args.haystack.now in
+    let fits : length bs + 1 < 2 ^ 64 = omega arith in
+    let v = c.positions.invariant.on low p from in
+    let r = c.run_to_match-at.ensures.on low v.0 v.2 in
+    let first = v.1 in
+    let later = r.1 in (
+      (r.0, omega (arith, first, later), r.2),
+      since_idle table entries bs c.utf8.haystack fits low p c.args.from.first
+          c.run_to_match-at.result.first
+          (since_on table entries (chars bs) low p v.0 c.args.from.first c.positions.at.first
+          c.run_to_match-at.result.first v.1 v.3 r.3) c.idle_since.result c.idle_since.ensures.at
+          c.idle_since.ensures.here c.idle_since.ensures.other,
     )
 
 pub step_shortest-requires-clause-state : goal.step_shortest-requires-clause-state
 step_shortest-requires-clause-state c =
-    let low = c.requires.scanning.0 in
-    let p = c.requires.scanning.1 in
-    let v = c.positions.invariant.on low p c.requires.scanning.2 in
-    let on = c.in-Some.ensures.on low v.0.0 v.0.2 in
+    let from = c.requires.scanning in
+    let v = c.positions.invariant.on from.0 from.1 from.2 in
+    let r = c.run_to_match-at.ensures.on from.0 v.0 v.2 in
+    let on = c.in-Some.ensures.on from.0 r.0 r.2 in
     slice_get_within c.args.self.now.states c.in-Some.on.state on.2.state on.2.is_state
+
+pub idle_since-requires-in_default-step_shortest : goal.idle_since-requires-in_default-step_shortest
+idle_since-requires-in_default-step_shortest c =
+    let table = table_of c.args.graph.now in
+    let entries = c.args.graph.now.start ∷ [] in
+    let bs = c.args.haystack.now in
+    let fits : length bs + 1 < 2 ^ 64 = omega arith in
+    let from = c.requires.scanning in
+    let v = c.positions.invariant.on from.0 from.1 from.2 in
+    let r = c.run_to_match-at.ensures.on from.0 v.0 v.2 in
+    let run = c.run_to_match-at.result.first in
+    since_edge table entries bs c.utf8.haystack fits from.0 from.1 c.args.from.first
+    c.in-Some.on.first
+    (since_on table entries (chars bs) from.0 from.1 v.0 c.args.from.first c.positions.at.first
+    c.in-Some.on.first v.1 v.3
+    (since_on table entries (chars bs) from.0 v.0 r.0 c.positions.at.first run c.in-Some.on.first
+    r.1 r.3 (c.in-Some.ensures.first from.0 r.0 r.2)))
 
 pub returns-in_default-step_shortest : goal.returns-in_default-step_shortest
 returns-in_default-step_shortest c = λ low p from.
+    let table = table_of c.args.graph.now in
+    let entries = c.args.graph.now.start ∷ [] in
+    let bs = c.args.haystack.now in
+    let fits : length bs + 1 < 2 ^ 64 = omega arith in
     let v = c.positions.invariant.on low p from in
-    let on = c.in-Some.ensures.on low v.0.0 v.0.2 in
-    let first = v.0.1 in
+    let r = c.run_to_match-at.ensures.on low v.0 v.2 in
+    let on = c.in-Some.ensures.on low r.0 r.2 in
+    let run = c.run_to_match-at.result.first in
+    let told = c.idle_since-in_default-step_shortest in
+    let first = v.1 in
+    let more = r.1 in
     let later = on.1 in (
-      (on.0, omega (arith, first, later), on.2),
-      still_idle (table_of c.args.graph.now) (c.args.graph.now.start ∷ [])
-          (chars c.args.haystack.now) low p v.0.0 v.0.1 c.positions.idle c.skip.new.idle v.1
-          (c.in-Some.ensures.idle low v.0.0 v.0.2),
+      (on.0, omega (arith, first, more, later), on.2),
+      since_idle table entries bs c.utf8.haystack fits low p c.args.from.first c.in-Some.on.first
+          (since_on table entries (chars bs) low p v.0 c.args.from.first c.positions.at.first
+          c.in-Some.on.first v.1 v.3
+          (since_on table entries (chars bs) low v.0 r.0 c.positions.at.first run
+          c.in-Some.on.first r.1 r.3 (c.in-Some.ensures.first low r.0 r.2))) told.result
+          told.ensures.at told.ensures.here told.ensures.other,
     )
 
 pub returns-then-hit : goal.returns-then-hit
 returns-then-hit c = λ low p from.
+    let table = table_of c.args.graph.now in
+    let entries = c.args.graph.now.start ∷ [] in
+    let h = chars c.args.haystack.now in
     let v = c.positions.invariant.on low p from in
-    let on = c.in-Some.ensures.on low v.0.0 v.0.2 in
-    subst (λ hit. EndsOrLeads (table_of c.args.graph.now) (c.args.graph.now.start ∷ [])
-    (chars c.args.haystack.now) low on.0 c.args.self.now c.in-Some.on c.in-Some-step_shortest.to
-    hit) c.if-hit.true
-    (c.in-Some-step_shortest.ensures (chars c.args.haystack.now) low on.0 on.2)
+    let r = c.run_to_match-at.ensures.on low v.0 v.2 in
+    let on = c.in-Some.ensures.on low r.0 r.2 in
+    subst
+    (λ hit. EndsOrLeads table entries h low on.0 c.args.self.now c.in-Some.on
+    c.in-Some-step_shortest.to hit) c.if-hit.true
+    (c.in-Some-step_shortest.ensures h low on.0 on.2)
 
 pub returns-then-is_none : goal.returns-then-is_none
 returns-then-is_none c = λ low p from.
+    let table = table_of c.args.graph.now in
+    let entries = c.args.graph.now.start ∷ [] in
+    let h = chars c.args.haystack.now in
     let v = c.positions.invariant.on low p from in
-    let on = c.in-Some.ensures.on low v.0.0 v.0.2 in
-    let led = subst (λ hit. EndsOrLeads (table_of c.args.graph.now) (c.args.graph.now.start ∷ [])
-    (chars c.args.haystack.now) low on.0 c.args.self.now c.in-Some.on c.in-Some-step_shortest.to
-    hit) c.if-hit.false
-    (c.in-Some-step_shortest.ensures (chars c.args.haystack.now) low on.0 on.2) in
-    end_none (table_of c.args.graph.now) (c.args.graph.now.start ∷ [])
-    (chars c.args.haystack.now) low on.0 c.args.self.now c.in-Some.on on.2
-    (c.in-Some.ensures.none c.positions.invariant.none) c.in-Some-step_shortest.to led
+    let r = c.run_to_match-at.ensures.on low v.0 v.2 in
+    let on = c.in-Some.ensures.on low r.0 r.2 in
+    let led = subst
+    (λ hit. EndsOrLeads table entries h low on.0 c.args.self.now c.in-Some.on
+    c.in-Some-step_shortest.to hit) c.if-hit.false
+    (c.in-Some-step_shortest.ensures h low on.0 on.2) in
+    end_none table entries h low on.0 c.args.self.now c.in-Some.on on.2
+    (c.in-Some.ensures.none
+    (c.run_to_match-at.ensures.none ∙ c.positions.invariant.none)) c.in-Some-step_shortest.to led
     (none_by c.in-Some.on.here.after c.is_none.result c.is_none.ensures c.if-is_none.true)
 
 pub go_on-at-requires-clause-here : goal.go_on-at-requires-clause-here
 go_on-at-requires-clause-here c =
-    let low = c.requires.scanning.0 in
-    let p = c.requires.scanning.1 in
-    let v = c.positions.invariant.on low p c.requires.scanning.2 in
-    let on = c.in-Some.ensures.on low v.0.0 v.0.2 in (
+    let from = c.requires.scanning in
+    let v = c.positions.invariant.on from.0 from.1 from.2 in
+    let r = c.run_to_match-at.ensures.on from.0 v.0 v.2 in
+    let on = c.in-Some.ensures.on from.0 r.0 r.2 in (
       on.0,
       on.2.is,
       some_by c.in-Some.on.here.after c.is_none.result c.is_none.ensures c.if-is_none.false,
@@ -80,53 +146,72 @@ go_on-at-requires-clause-here c =
 
 pub go_on-at-requires-clause-state : goal.go_on-at-requires-clause-state
 go_on-at-requires-clause-state c =
-    let low = c.requires.scanning.0 in
-    let p = c.requires.scanning.1 in
-    let v = c.positions.invariant.on low p c.requires.scanning.2 in
-    let on = c.in-Some.ensures.on low v.0.0 v.0.2 in
-    let led = subst (λ hit. EndsOrLeads (table_of c.args.graph.now) (c.args.graph.now.start ∷ [])
-    (chars c.args.haystack.now) low on.0 c.args.self.now c.in-Some.on c.in-Some-step_shortest.to
-    hit) c.if-hit.false
-    (c.in-Some-step_shortest.ensures (chars c.args.haystack.now) low on.0 on.2) in
+    let table = table_of c.args.graph.now in
+    let entries = c.args.graph.now.start ∷ [] in
+    let h = chars c.args.haystack.now in
+    let from = c.requires.scanning in
+    let v = c.positions.invariant.on from.0 from.1 from.2 in
+    let r = c.run_to_match-at.ensures.on from.0 v.0 v.2 in
+    let on = c.in-Some.ensures.on from.0 r.0 r.2 in
+    let led = subst
+    (λ hit. EndsOrLeads table entries h from.0 on.0 c.args.self.now c.in-Some.on
+    c.in-Some-step_shortest.to hit) c.if-hit.false
+    (c.in-Some-step_shortest.ensures h from.0 on.0 on.2) in
     slice_get_within c.args.self.now.states c.in-Some-step_shortest.to led.state led.is_state
 
 pub positions-smaller : goal.positions-smaller
 positions-smaller c =
-    let low = c.requires.scanning.0 in
-    let p = c.requires.scanning.1 in
-    let v = c.positions.invariant.on low p c.requires.scanning.2 in
-    let on = c.in-Some.ensures.on low v.0.0 v.0.2 in
+    let from = c.requires.scanning in
+    let v = c.positions.invariant.on from.0 from.1 from.2 in
+    let r = c.run_to_match-at.ensures.on from.0 v.0 v.2 in
+    let on = c.in-Some.ensures.on from.0 r.0 r.2 in
+    let more = r.1 in
     let later = on.1 in
-    less_left c.args.haystack.now v.0.0 on.0 c.positions.at.here c.go_on-at.result.here
-    c.utf8.haystack v.0.2.is
-    (c.go_on-at.ensures.here on.0 on.2.is) later
+    less_left c.args.haystack.now v.0 on.0 c.positions.at.here c.go_on-at.result.here
+    c.utf8.haystack v.2.is (c.go_on-at.ensures.here on.0 on.2.is) (omega (arith, more, later))
 
 pub positions-preserved : goal.positions-preserved
-positions-preserved c = record {
-  none = ap (λ (z : Standing). z.best) c.go_on-at.ensures.same;
-  on = λ low p from.
-      let v = c.positions.invariant.on low p from in
-      let on = c.in-Some.ensures.on low v.0.0 v.0.2 in
-      let led = subst (λ hit. EndsOrLeads (table_of c.args.graph.now) (c.args.graph.now.start ∷ [])
-      (chars c.args.haystack.now) low on.0 c.args.self.now c.in-Some.on c.in-Some-step_shortest.to
-      hit) c.if-hit.false
-      (c.in-Some-step_shortest.ensures (chars c.args.haystack.now) low on.0 on.2) in
-      let first = v.0.1 in
-      let later = on.1 in (
-        (
-          on.0 + 1,
-          omega (arith, first, later),
-          subst (λ at. IsScanning (table_of c.args.graph.now) (c.args.graph.now.start ∷ [])
-              (chars c.args.haystack.now) low (on.0 + 1) c.args.self.now at)
-              (sym c.go_on-at.ensures.same)
-              (scanned_on (table_of c.args.graph.now) (c.args.graph.now.start ∷ [])
-              (chars c.args.haystack.now) low on.0 c.args.self.now c.in-Some.on on.2
-              c.in-Some-step_shortest.to None led
-              c.go_on-at.result.here c.go_on-at.result.first (c.go_on-at.ensures.here on.0 on.2.is)
-              (c.go_on-at.ensures.first led.state led.is_state)),
-        ),
-        still_idle (table_of c.args.graph.now) (c.args.graph.now.start ∷ [])
-            (chars c.args.haystack.now) low p v.0.0 v.0.1 c.positions.idle c.skip.new.idle v.1
-            (c.in-Some.ensures.idle low v.0.0 v.0.2),
-      );
+positions-preserved c =
+    let table = table_of c.args.graph.now in
+    let entries = c.args.graph.now.start ∷ [] in
+    let h = chars c.args.haystack.now in
+    let now = c.args.self.now in
+    let to = c.in-Some-step_shortest.to in
+    let start = c.args.from.first in
+    let first = c.positions.at.first in
+    let run = c.run_to_match-at.result.first in
+    let skip = c.in-Some.on.first in
+    let last = c.go_on-at.result.first in
+    record {
+      none = ap (λ (z : Standing). z.best) c.go_on-at.ensures.same;
+      on = λ low p from.
+          let v = c.positions.invariant.on low p from in
+          let r = c.run_to_match-at.ensures.on low v.0 v.2 in
+          let on = c.in-Some.ensures.on low r.0 r.2 in
+          let led = subst
+          (λ hit. EndsOrLeads table entries h low on.0 now c.in-Some.on to hit) c.if-hit.false
+          (c.in-Some-step_shortest.ensures h low on.0 on.2) in
+          let next = c.go_on-at.ensures.here on.0 on.2.is in
+          let told = c.go_on-at.ensures.first led.state led.is_state in
+          let begun = v.1 in
+          let more = r.1 in
+          let later = on.1 in (
+            on.0 + 1,
+            omega (arith, begun, more, later),
+            subst (IsScanning table entries h low (on.0 + 1) now) (sym c.go_on-at.ensures.same)
+                (scanned_on table entries h low on.0 now c.in-Some.on on.2 to None led
+                c.go_on-at.result.here last next told),
+            since_on table entries h low p v.0 start first last v.1 v.3
+                (since_on table entries h low v.0 r.0 first run last r.1 r.3
+                (since_on table entries h low r.0 on.0 run skip last on.1
+                (c.in-Some.ensures.first low r.0 r.2)
+                (since_led table entries h low on.0 now c.in-Some.on to None led
+                c.go_on-at.result.here last next (λ _. refl) told))),
+          );
+    }
+
+pub positions-init : goal.positions-init
+positions-init c = record {
+  none = c.requires.none;
+  on = λ low p from. (p, omega arith, from, inl refl);
 }

@@ -1,7 +1,7 @@
-use Rattle.std.proofs.Common.{◌≡◌, ◌≤◌, ◌-◌, ◌∷◌, [], ℕ, IfSome, None, length}
+use Rattle.std.proofs.Common.{◌≡◌, ◌≤◌, ◌-◌, ◌∷◌, [], ℕ, None, length}
 use Rattle.std.specs.Prelude.{chars}
 use Rattle.regex_lite_engine.specs.Graph.Stored.{table_of}
-use Rattle.regex_lite_engine.specs.LazyDfa.Scanning.{IsIdleAt, IsScanning}
+use Rattle.regex_lite_engine.specs.LazyDfa.Scanning.{IsScanning, IsSince}
 use Rattle.regex_lite_engine.proofs.lazy_dfa.automaton.LazyDfa.scan_shortest.Given as goal
 
 abbrev pub invariant-positions : goal.invariant-positions
@@ -10,9 +10,10 @@ invariant-positions l = record {
   on : (low p : ℕ)
       → IsScanning (table_of l.graph) (l.graph.start ∷ []) (chars l.haystack) low p l.self
       l.fn.from
-      → ((q : ℕ) × (p ≤ q)
-      × IsScanning (table_of l.graph) (l.graph.start ∷ []) (chars l.haystack) low q l.self l.at)
-      × IfSome l.idle (IsIdleAt (table_of l.graph) (l.graph.start ∷ []) (chars l.haystack) low p);
+      → (q : ℕ) × (p ≤ q)
+      × IsScanning (table_of l.graph) (l.graph.start ∷ []) (chars l.haystack) low q l.self l.at
+      × IsSince (table_of l.graph) (l.graph.start ∷ []) (chars l.haystack) low p l.fn.from.first
+      l.at.first;
 }
 
 abbrev pub decreases-positions : goal.decreases-positions

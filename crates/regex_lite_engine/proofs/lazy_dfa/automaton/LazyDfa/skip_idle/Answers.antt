@@ -1,17 +1,8 @@
-use Rattle.std.proofs.Common.{◌∷◌, [], inr}
+use Rattle.std.proofs.Common.{◌∷◌, [], inr, refl}
 use Rattle.std.specs.Prelude.{chars}
 use Rattle.regex_lite_engine.specs.Graph.Stored.{table_of}
 use Rattle.regex_lite_engine.proofs.lazy_dfa.ScanLemmas.{is_idle, skipped}
 use Rattle.regex_lite_engine.proofs.lazy_dfa.automaton.LazyDfa.skip_idle.Goals as goal
-
-pub returns-in_err-state-clause-idle : goal.returns-in_err-state-clause-idle
-returns-in_err-state-clause-idle c = λ low p scanning.
-    let none = c.requires.none in
-    let passes = c.pass_over-here.ensures p scanning.is in
-    let idle = c.requires.empty scanning.state scanning.is_state in
-    inr
-    (is_idle (table_of c.args.graph.now) (c.args.graph.now.start ∷ []) (chars c.args.haystack.now)
-    low p c.args.self.now c.args.at scanning c.pass_over-here.result passes idle none)
 
 pub returns-clause-on : goal.returns-clause-on
 returns-clause-on c = λ low p scanning.
@@ -26,11 +17,15 @@ returns-clause-on c = λ low p scanning.
           c.in_ok-state.state found.state found.is_state found.none found.searching found.sees,
     )
 
-pub returns-clause-idle : goal.returns-clause-idle
-returns-clause-idle c = λ low p scanning.
+pub returns-clause-first : goal.returns-clause-first
+returns-clause-first c = λ low p scanning.
     let none = c.requires.none in
     let passes = c.pass_over-here.ensures p scanning.is in
     let idle = c.requires.empty scanning.state scanning.is_state in
-    inr
-    (is_idle (table_of c.args.graph.now) (c.args.graph.now.start ∷ []) (chars c.args.haystack.now)
-    low p c.args.self.now c.args.at scanning c.pass_over-here.result passes idle none)
+    inr (
+      c.pass_over-here.result,
+      refl,
+      is_idle (table_of c.args.graph.now) (c.args.graph.now.start ∷ [])
+          (chars c.args.haystack.now) low p c.args.self.now c.args.at scanning
+          c.pass_over-here.result passes idle none,
+    )
