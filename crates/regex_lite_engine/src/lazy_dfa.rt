@@ -5,6 +5,7 @@ pub(crate) mod automaton;
 pub(crate) mod boundaries;
 pub(crate) mod classes;
 pub(crate) mod find;
+pub(crate) mod idle;
 pub(crate) mod learn;
 pub(crate) mod remembering;
 pub(crate) mod run;

@@ -72,7 +72,8 @@ module _ (table : List (Place ℕ)) (entries : List ℕ) (h : Text) (low : ℕ) 
   -- a search goes by bytes from where it stands
   pub spot_of : (p : ℕ) (automaton : Automaton) (at : Standing) (spot : Spot)
       → IsScanning table entries h low p automaton at
-      → spot ≡ record { at = at.here.at; state = at.state; first = at.first; best = at.best }
+      → spot
+      ≡ record { at = at.here.at; state = at.state; first = at.first; best = at.best; idle = 0 }
       → IsSpotAt table entries h low p automaton spot
   spot_of p automaton at spot scanning e =
       subst (IsSpotAt table entries h low p automaton) (sym e)

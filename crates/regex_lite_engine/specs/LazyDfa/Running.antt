@@ -4,10 +4,11 @@ use Rattle.std.specs.Prelude.{MatchOption, None, Some, length, slice_index}
 use Rattle.regex_lite_syntax.specs.Text.{Text}
 use Rattle.regex_lite_engine.specs.declared.lazy_dfa.run.Progress.{Progress}
 use Rattle.regex_lite_engine.specs.declared.lazy_dfa.state.StoredWay.{StoredWay}
+use Rattle.regex_lite_engine.specs.declared.pikevm.here.Here.{Here}
 use Rattle.regex_lite_engine.specs.declared.pikevm.turn.Cache.{Cache}
 use Rattle.regex_lite_engine.specs.Graph.Places.{Place}
 use Rattle.regex_lite_engine.specs.Graph.Renumbered.{arrows_of}
-use Rattle.regex_lite_engine.specs.LazyDfa.Automaton.{Automaton}
+use Rattle.regex_lite_engine.specs.LazyDfa.Automaton.{Automaton, IsEmptyState}
 use Rattle.regex_lite_engine.specs.LazyDfa.Learning.{IsFirst, IsIn}
 use Rattle.regex_lite_engine.specs.Walk.Machine.{Thread}
 use Rattle.regex_lite_engine.specs.Walk.Searching.{IsBetween}
@@ -54,3 +55,9 @@ pub record GoesOnWith {S : Type 0} (old new : Cache S) : Type 0 where
   pub frames : new.walk.memory.frames ≡ []
   pub next : new.walk.memory.next ≡ []
   pub best_row : length new.best.row ≡ length old.best.row
+
+-- that is where it stands, in the state without ways, if that is known
+pub record StandsIdle (automaton : Automaton) (here : Here) (at : Progress) : Type 0 where
+  pub here_is : at.here ≡ here
+  pub first : at.first ≡ at.here.at
+  pub state : MatchOption at.state (Unit {0}) (λ x. IsEmptyState automaton x at.here.before)

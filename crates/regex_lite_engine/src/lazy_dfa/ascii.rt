@@ -22,49 +22,54 @@ pub(super) struct Spot {
     state: u16,
     first: usize,
     best: Option<(usize, usize)>,
+    /// How many turns in a row led from nothing to go on from to nothing.
+    idle: u32,
 }
+
+/// After this many of them it is faster to pass over the positions at which no match can begin.
+const MOST_IDLE: u32 = 8;
 
 impl LazyDfa {
     /// Goes on while characters are ASCII and turns are remembered, up to the last of them that
     /// isn't the end of the search.
     #[inline(always)]
-    pub(super) fn run(&self, graph: &Graph, haystack: &str, from: Standing) -> Standing
+    pub(super) fn run(&self, graph: &Graph, haystack: &str, at: &mut Standing)
         requires remembers { Remembers graph.now.places (graph.now.start ∷ []) self.now }
         requires scanning { (low p : ℕ) × IsScanning (table_of graph.now) (graph.now.start ∷ [])
-            (chars haystack.now) low p self.now from }
+            (chars haystack.now) low p self.now at.old }
         ensures { (low p : ℕ) → IsScanning (table_of graph.now) (graph.now.start ∷ [])
-            (chars haystack.now) low p self.now from
+            (chars haystack.now) low p self.now at.old
             → (q : ℕ) × (p ≤ q) × IsScanning (table_of graph.now) (graph.now.start ∷ [])
-            (chars haystack.now) low q self.now result
+            (chars haystack.now) low q self.now at.new
             × IsSince (table_of graph.now) (graph.now.start ∷ []) (chars haystack.now) low p
-            from.first result.first }
+            at.old.first at.new.first }
     {
-        if !is_before_ascii(from.here) {
-            return from;
+        if !is_before_ascii(haystack, at.here) {
+            return;
         }
-        self.run_spot(graph, haystack, Spot::of(from))
-            .standing(haystack)
+        let spot = self.run_spot(graph, haystack, Spot::of(*at));
+        *at = spot.standing(haystack);
     }
 
     /// The same up to the first match that ends, where there is none yet.
     #[inline(always)]
-    pub(super) fn run_to_match(&self, graph: &Graph, haystack: &str, from: Standing) -> Standing
+    pub(super) fn run_to_match(&self, graph: &Graph, haystack: &str, at: &mut Standing)
         requires remembers { Remembers graph.now.places (graph.now.start ∷ []) self.now }
         requires scanning { (low p : ℕ) × IsScanning (table_of graph.now) (graph.now.start ∷ [])
-            (chars haystack.now) low p self.now from }
+            (chars haystack.now) low p self.now at.old }
         ensures on { (low p : ℕ) → IsScanning (table_of graph.now) (graph.now.start ∷ [])
-            (chars haystack.now) low p self.now from
+            (chars haystack.now) low p self.now at.old
             → (q : ℕ) × (p ≤ q) × IsScanning (table_of graph.now) (graph.now.start ∷ [])
-            (chars haystack.now) low q self.now result
+            (chars haystack.now) low q self.now at.new
             × IsSince (table_of graph.now) (graph.now.start ∷ []) (chars haystack.now) low p
-            from.first result.first }
-        ensures none { result.best ≡ from.best }
+            at.old.first at.new.first }
+        ensures none { at.new.best ≡ at.old.best }
     {
-        if !is_before_ascii(from.here) {
-            return from;
+        if !is_before_ascii(haystack, at.here) {
+            return;
         }
-        self.run_spot_to_match(graph, haystack, Spot::of(from))
-            .standing(haystack)
+        let spot = self.run_spot_to_match(graph, haystack, Spot::of(*at));
+        *at = spot.standing(haystack);
     }
 
     /// The same, by bytes.
@@ -143,6 +148,7 @@ impl LazyDfa {
     /// leaves nothing to do.
     #[inline(always)]
     fn take(&self, spot: Spot, to: u16) -> Option<Spot>
+        requires from { spot.state < length self.now.states }
         requires to { to < length self.now.states }
         requires small { spot.at < usize.MAX }
         ensures taken { (state : State) → slice_get self.now.states to ≡ Some state
@@ -162,17 +168,35 @@ impl LazyDfa {
                 state: to,
                 first: spot.first,
                 best,
+                idle: spot.idle,
             });
         }
         if best.is_some() {
             return None;
         }
+        let idle = self.idle_after(spot)?;
         Some(Spot {
             at,
             state: to,
             first: at,
             best,
+            idle,
         })
+    }
+
+    /// How many turns in a row then led from nothing to go on from to nothing, unless that were too
+    /// many.
+    #[inline(always)]
+    fn idle_after(&self, spot: Spot) -> Option<u32>
+        requires { spot.state < length self.now.states }
+    {
+        if !self.is_empty(spot.state) {
+            return Some(0);
+        }
+        if spot.idle >= MOST_IDLE {
+            return None;
+        }
+        Some(spot.idle + 1)
     }
 
     /// Where the way began by which a match is complete in this state.
@@ -208,6 +232,7 @@ impl Spot {
           state = at.state;
           first = at.first;
           best = at.best;
+          idle = 0;
         } }
     {
         Spot {
@@ -215,6 +240,7 @@ impl Spot {
             state: at.state,
             first: at.first,
             best: at.best,
+            idle: 0,
         }
     }
 
@@ -234,6 +260,7 @@ impl Spot {
             state,
             first,
             best,
+            idle: _,
         } = self;
         let here = Here::at(haystack, at);
         Standing {
@@ -245,10 +272,17 @@ impl Spot {
     }
 }
 
-/// Whether the next character is ASCII.
-fn is_before_ascii(here: Here) -> bool {
+/// Whether the next two characters are ASCII. For a single one it doesn't pay to go by bytes.
+#[inline(always)]
+pub(super) fn is_before_ascii(haystack: &str, here: Here) -> bool {
     match here.after {
         None => false,
-        Some(c) => c.is_ascii(),
+        Some(c) => c.is_ascii() && is_ascii_at(haystack.as_bytes(), here.at + 1),
     }
+}
+
+/// Whether an ASCII character stands at this offset.
+#[inline(always)]
+fn is_ascii_at(bytes: &[u8], at: usize) -> bool {
+    at < bytes.len() && bytes[at] < 128
 }

@@ -12,7 +12,7 @@ use std::alloc::{AllocError, Global};
 use std::marker::Model;
 
 /// No more states than these are kept.
-const MOST_STATES: usize = 128;
+pub(super) const MOST_STATES: usize = 128;
 
 /// Nor more ways in all of them.
 const MOST_WAYS: usize = 3072;

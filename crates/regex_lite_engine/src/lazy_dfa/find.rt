@@ -25,8 +25,6 @@ use crate::lazy_dfa::run::Progress;
 use crate::lazy_dfa::scan::{Scanned, Standing};
 use crate::lazy_dfa::state::{Hit, StoredWay};
 use crate::pikevm::here::Here;
-use crate::pikevm::one_pattern::OnePattern;
-use crate::pikevm::patterns::Patterns;
 use crate::pikevm::run::is_over;
 use crate::pikevm::turn::Cache;
 
@@ -143,7 +141,7 @@ impl LazyDfa {
     }
 
     /// Where there is neither a thread nor a match, passes over positions at which no match can
-    /// begin.
+    /// begin, unless turns are faster.
     pub(super) fn at_idle(
         &mut self,
         graph: &Graph,
@@ -166,11 +164,10 @@ impl LazyDfa {
         if cache.walk.memory.threads() > 0 || !cache.best.is_none() {
             return at;
         }
-        let pattern = OnePattern {
-            graph,
-            may_start: false,
-        };
-        let here = pattern.pass_over(haystack, at.here);
+        if let Some(idle) = self.stay_idle(graph, haystack, at) {
+            return idle;
+        }
+        let here = self.leave_idle(graph, haystack, at.here);
         let state = self.idle_state(here.before);
         Progress {
             here,

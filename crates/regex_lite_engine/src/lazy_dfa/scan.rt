@@ -52,7 +52,7 @@ impl LazyDfa {
     {
         let mut at = from;
         'positions: loop {
-            at = self.run(graph, haystack, at);
+            self.run(graph, haystack, &mut at);
             let Some(on) = self.skip(graph, haystack, at) else {
                 return Scanned::Stuck {
                     at,
@@ -73,7 +73,7 @@ impl LazyDfa {
     }
 
     /// Where there is nothing to go on from and no match, goes on to the next position at which one
-    /// can begin. None where no state is known for that.
+    /// can begin. None where no state is known for that, or where turns would be faster.
     // Inlined, so that other positions cost no more than the test.
     #[inline(always)]
     pub(super) fn skip(&self, graph: &Graph, haystack: &str, at: Standing) -> Option<Standing>
@@ -118,6 +118,11 @@ impl LazyDfa {
             may_start: false,
         };
         let here = pattern.pass_over(haystack, at.here);
+        if !self.knows(at.state, at.here.after)
+            && self.is_worth_a_turn(graph, haystack, at.here, here)
+        {
+            return None;
+        }
         let state = self.empty_state(here.before)?;
         Some(Standing {
             here,

@@ -1,7 +1,9 @@
-use Rattle.std.proofs.Common.{rules, ◌≡◌, ◌∷◌, [], None, arith}
+use Rattle.std.proofs.Common.{rules, ◌≡◌, ◌∷◌, [], None, sym, subst, arith}
 use Rattle.std.specs.Prelude.{chars}
 use Rattle.std.proofs.lemmas.List.{nil_from_length}
 use Rattle.regex_lite_engine.specs.Graph.Stored.{table_of}
+use Rattle.regex_lite_engine.specs.LazyDfa.Learning.{IsFirst}
+use Rattle.regex_lite_engine.specs.Walk.Standing.{IsHere}
 use Rattle.regex_lite_engine.specs.Walk.Turns.{best_of}
 use Rattle.regex_lite_engine.proofs.lazy_dfa.RunLemmas.{at_later, maybe_in_empty}
 use Rattle.regex_lite_engine.proofs.lazy_dfa.RunLemmas.{own_first, passed_over}
@@ -12,10 +14,32 @@ returns-clause-remembers c =
     c.idle_state-state.ensures.remembers c.args.graph.now.places
     (c.args.graph.now.start ∷ []) c.requires.remembers
 
+pub returns-in-Some-clause-stands : goal.returns-in-Some-clause-stands
+returns-in-Some-clause-stands c = λ s stands.
+    let a = c.args in
+    let few = c.if-threads-gt0.false in
+    let same = c.threads.ensures.same in
+    let none = nil_from_length a.cache.now.walk.memory.threads (omega (arith, few, same)) in
+    let no_match : best_of a.cache.now.best ≡ None = search rules in
+    let idle = c.in-Some.idle in
+    let own = c.in-Some.ensures in
+    let first = own.first in
+    record {
+      p = stands.p;
+      is = subst (IsHere (chars a.haystack.now) stands.p) (sym own.here_is) stands.is;
+      on = stands.on;
+      first = omega (arith, first);
+      own = subst (λ z. IsFirst z idle.here.at a.cache.now.walk.memory.threads) (sym own.first)
+          (own_first idle.here.at a.cache.now.walk.memory.threads none);
+      state =
+          maybe_in_empty a.self.now idle.state idle.first idle.here.before a.cache.now own.state
+          none no_match;
+    }
+
 pub returns-clause-stands : goal.returns-clause-stands
 returns-clause-stands c = λ s stands.
     let a = c.args in
-    let passes = c.pass_over-here.ensures stands.p stands.is in
+    let passes = c.leave_idle-here.ensures stands.p stands.is in
     let few = c.if-threads-gt0.false in
     let same = c.threads.ensures.same in
     let none = nil_from_length a.cache.now.walk.memory.threads (omega (arith, few, same)) in
@@ -25,19 +49,19 @@ returns-clause-stands c = λ s stands.
       is = passes.is;
       on =
           passed_over (table_of c.args.graph.now) (chars c.args.haystack.now)
-          (c.args.graph.now.start ∷ []) s stands.p a.cache.now c.pass_over-here.result stands.on
+          (c.args.graph.now.start ∷ []) s stands.p a.cache.now c.leave_idle-here.result stands.on
           none no_match passes;
       first = omega arith;
-      own = own_first c.pass_over-here.result.at a.cache.now.walk.memory.threads none;
+      own = own_first c.leave_idle-here.result.at a.cache.now.walk.memory.threads none;
       state =
           maybe_in_empty c.idle_state-state.new.self c.idle_state-state.result
-          c.pass_over-here.result.at c.pass_over-here.result.before a.cache.now
+          c.leave_idle-here.result.at c.leave_idle-here.result.before a.cache.now
           c.idle_state-state.ensures.state none no_match;
     }
 
 pub returns-clause-later : goal.returns-clause-later
 returns-clause-later c =
     let stands = c.requires.stands.1 in
-    let passes = c.pass_over-here.ensures stands.p stands.is in
-    at_later (chars c.args.haystack.now) stands.p passes.q c.args.at.here c.pass_over-here.result
+    let passes = c.leave_idle-here.ensures stands.p stands.is in
+    at_later (chars c.args.haystack.now) stands.p passes.q c.args.at.here c.leave_idle-here.result
     stands.is passes.is passes.later

@@ -13,6 +13,13 @@ next_state-requires-clause-state c =
     slice_get_within c.args.self.now.states c.bytes.spot.state v.2.scanning.state
     v.2.scanning.is_state
 
+pub take-requires-clause-from : goal.take-requires-clause-from
+take-requires-clause-from c =
+    let from = c.requires.scanning in
+    let v = c.bytes.invariant.on from.0 from.1 from.2 in
+    slice_get_within c.args.self.now.states c.bytes.spot.state v.2.scanning.state
+    v.2.scanning.is_state
+
 pub take-requires-clause-to : goal.take-requires-clause-to
 take-requires-clause-to c =
     let leads = c.in-Some.ensures in
