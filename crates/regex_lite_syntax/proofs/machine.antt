@@ -2,10 +2,12 @@
 pub mod AskLemmas
 pub mod CompleteLemmas
 pub mod DepthLemmas
+pub mod FaultLemmas
 pub mod GrowthLemmas
 pub mod OneStepLemmas
 pub mod ParenLemmas
 pub mod ReadHeadLemmas
+pub mod ReadOnLemmas
 pub mod ReadStepLemmas
 pub mod RegularLemmas
 pub mod RunLemmas

@@ -12,6 +12,7 @@ pub mod Escaped
 pub mod FaultTexts
 pub mod Errors
 pub mod Limits
+pub mod FaultPlaces
 pub mod Refusals
 pub mod SyntaxLaws
 -- What the functions of the parser promise one another, and what an error holds inside. No public

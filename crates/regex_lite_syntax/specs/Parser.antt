@@ -7,3 +7,4 @@ pub mod ClassReadings
 pub mod FlagRuns
 pub mod Machine
 pub mod States
+pub mod Starts

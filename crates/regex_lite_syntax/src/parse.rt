@@ -23,6 +23,7 @@ mod atom;
 mod bracket;
 mod counted;
 mod escape;
+pub(crate) mod fault;
 mod gap;
 mod group;
 mod group_names;
@@ -136,6 +137,13 @@ impl Parser {
             (drop at chars.now) (drop result chars.now) }
     {
         skip_gap(chars, at, self.here.flags.ignore_whitespace)
+    }
+
+    /// How many groups are open.
+    fn open_groups(&self) -> usize
+        ensures { result ≡ length self.now.below.items }
+    {
+        self.below.len()
     }
 
     /// Whether more groups are open than the limit.

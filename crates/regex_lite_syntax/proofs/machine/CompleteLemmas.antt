@@ -71,11 +71,11 @@ over_bar p here rest frames branches items past e =
     go _ (step_part (standing p frames branches items) here rest past e) (stay refl)
 
 -- the frame of a group that is opened here
-abbrev frame_at : Point → GroupKind → (branches items : List Tree) → Frame
+abbrev pub frame_at : Point → GroupKind → (branches items : List Tree) → Frame
 frame_at here kind branches items =
     record { flags = here.flags; kind = kind; branches = branches; items = items }
 
-into_group : (level : ℕ) (p here first : Point) (kind : GroupKind) (frames : List Frame)
+pub into_group : (level : ℕ) (p here first : Point) (kind : GroupKind) (frames : List Frame)
     (branches items : List Tree)
     → level ≡ length frames → PastGap p here → Head level here first kind
     → LeadsOn (standing p frames branches items)
@@ -158,7 +158,7 @@ mutual
       let over = over_directive last here q frames branches items past s in
       leads_to (branch_leads d frames branches depth) over
 
-  alternatives_lead : {level : ℕ} {p q : Point} {branches : List Tree}
+  pub alternatives_lead : {level : ℕ} {p q : Point} {branches : List Tree}
       → Alternatives level p q branches
       → (frames : List Frame) → level ≡ length frames → Underway p q frames branches
   alternatives_lead (only items d branches_are) frames depth =

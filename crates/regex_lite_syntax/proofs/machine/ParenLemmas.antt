@@ -1,6 +1,7 @@
 -- After each part of a pattern are no more `(` than from its beginning on, and no other characters.
 use Rattle.std.proofs.Common.{inl, inr, ◌≡◌, refl, sym, ap, subst, ℕ, zero, suc, ◌+◌, ◌≤◌, Bool}
-use Rattle.std.proofs.Common.{true, false, ◌==◌, List, [], ◌∷◌, ◌++◌, Option, if◌then◌else◌, arith}
+use Rattle.std.proofs.Common.{true, false, ◌==◌, List, [], ◌∷◌, ◌++◌, length, Option}
+use Rattle.std.proofs.Common.{if◌then◌else◌, arith}
 use Rattle.std.specs.List.{count_by}
 use Rattle.std.proofs.lemmas.List.Sums.{sum_by-cons}
 use Rattle.regex_lite_syntax.specs.declared.flags.Flags.{Flags}
@@ -42,25 +43,37 @@ parens_more c rest = sum_by-cons (λ d. if d == the "(" then 1 else 0) c rest
 pub one_paren : (rest : Text) → parens (the "(" ∷ rest) ≡ 1 + parens rest
 one_paren rest = parens_more (the "(") rest
 
--- the second text has no more `(` than the first, and characters alone where the first has
+-- the second text is no longer than the first and has no more `(`, and characters alone where the
+-- first has
 pub record NoMore (t rest : Text) : Type 0 where
+  pub shorter : length rest ≤ length t
   pub within : parens rest ≤ parens t
   pub characters : AreCharacters t → AreCharacters rest
 
 pub nothing_read : {t rest : Text} → t ≡ rest → NoMore t rest
 nothing_read {t} {rest} e =
     let same = ap parens e in
-    record { within = omega (arith, same); characters = λ all. subst (λ u. AreCharacters u) e all }
+    let long = ap length e in
+    record {
+      shorter = omega (arith, long);
+      within = omega (arith, same);
+      characters = λ all. subst (λ u. AreCharacters u) e all;
+    }
 
 pub then_read : {t past rest : Text} → NoMore t past → NoMore past rest → NoMore t rest
 then_read a b =
     record {
+      shorter = omega (arith, a.shorter, b.shorter);
       within = omega (arith, a.within, b.within);
       characters = λ all. b.characters (a.characters all);
     }
 
 pub past_first : (c : ℕ) (rest : Text) → NoMore (c ∷ rest) rest
-past_first c rest = record { within = omega (arith, parens_more c rest); characters = λ all. all.1 }
+past_first c rest = record {
+  shorter = omega arith;
+  within = omega (arith, parens_more c rest);
+  characters = λ all. all.1;
+}
 
 pub one_read : {t rest : Text} {c : ℕ} → t ≡ c ∷ rest → NoMore t rest
 one_read {t} {rest} {c} e = then_read (nothing_read e) (past_first c rest)

@@ -40,7 +40,7 @@ pub record Reaches (flags : Flags) (nest_limit : ℕ) (pattern : Text) (p : Pars
   pub characters : AreCharacters pattern
 
 -- as many frames as open groups
-frames_are : (p : Parser) (t : Text) (d : ℕ) → length (state p t d).frames ≡ length p.below.items
+pub frames_are : (p : Parser) (t : Text) (d : ℕ) → length (state p t d).frames ≡ length p.below.items
 unfolding state
 frames_are p t d = length-reverse (map frame_of p.below.items) ∙ length-map p.below.items frame_of
 
@@ -111,7 +111,7 @@ no_levels f xs e =
     none_left xs (sym (length-map xs f) ∙ sym (length-reverse (map f xs)) ∙ ap length e)
 
 -- with a group open there is no tree
-open_refused : (flags : Flags) (nest_limit : ℕ) (pattern : Text) (p : Parser) (t : Text)
+pub open_refused : (flags : Flags) (nest_limit : ℕ) (pattern : Text) (p : Parser) (t : Text)
     → Reaches flags nest_limit pattern p t → Gap p.here.flags.ignore_whitespace t []
     → (p.below.items ≡ [] → ⊥)
     → HasTree flags pattern → ⊥
@@ -150,7 +150,7 @@ end_says flags nest_limit pattern p t kind.Slots r gap d = absurd d
 end_says flags nest_limit pattern p t kind.Replace r gap d = absurd d
 
 -- before the end with nothing to be read, there is no tree either
-stuck_refused : (flags : Flags) (nest_limit : ℕ) (pattern : Text) (p : Parser) (t u : Text)
+pub stuck_refused : (flags : Flags) (nest_limit : ℕ) (pattern : Text) (p : Parser) (t u : Text)
     → Reaches flags nest_limit pattern p t → WholeGap p.here.flags.ignore_whitespace t u
     → (u ≡ [] → ⊥)
     → (CanRead p u → ⊥) → HasTree flags pattern → ⊥
@@ -168,7 +168,7 @@ stuck_refused flags nest_limit pattern p t u r whole more stuck has =
     (λ _ gap. more (gap_to_end verbose t u whole gap)) has
 
 -- where a further group can't be numbered
-number_refused : (flags : Flags) (nest_limit : ℕ) (pattern : Text) (p : Parser) (t u : Text)
+pub number_refused : (flags : Flags) (nest_limit : ℕ) (pattern : Text) (p : Parser) (t u : Text)
     → Reaches flags nest_limit pattern p t → WholeGap p.here.flags.ignore_whitespace t u
     → PassesGroups (p.groups + 1) → BeginsCapture p u → GroupsRefused flags pattern
 unfolding state

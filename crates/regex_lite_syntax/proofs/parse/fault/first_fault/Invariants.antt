@@ -1,0 +1,12 @@
+use Rattle.std.proofs.Common.{◌≤◌, ◌-◌, drop, length}
+use Rattle.regex_lite_syntax.proofs.machine.FaultLemmas.{Comes}
+use Rattle.regex_lite_syntax.proofs.parse.fault.first_fault.Given as goal
+
+abbrev pub invariant-loop-starts : goal.invariant-loop-starts
+invariant-loop-starts l = record {
+  inside : l.at ≤ length l.chars;
+  comes : Comes l.fn.flags l.chars l.parser (drop l.at l.chars) l.starts.items;
+}
+
+abbrev pub decreases-loop-starts : goal.decreases-loop-starts
+decreases-loop-starts l = length l.chars - l.at

@@ -1,0 +1,62 @@
+-- How far the grammar reads a pattern, and where its first fault stands.
+use Rattle.std.specs.Prelude.{◌≡◌, ◌⊎◌, ℕ, ◌+◌, ◌<◌, ◌≤◌, List, [], length, drop}
+use Rattle.regex_lite_syntax.specs.declared.flags.Flags.{Flags}
+use Rattle.regex_lite_syntax.specs.Text.{Text}
+use Rattle.regex_lite_syntax.specs.Tree.{Tree}
+use Rattle.regex_lite_syntax.specs.Grammar.{Alternatives}
+use Rattle.regex_lite_syntax.specs.Grammar.Gaps.{Gap, WholeGap}
+use Rattle.regex_lite_syntax.specs.Grammar.GroupNames.{NamesDiffer}
+use Rattle.regex_lite_syntax.specs.Grammar.Heads.{GroupKind, Head}
+use Rattle.regex_lite_syntax.specs.Grammar.Points.{Point, PastGap, start}
+
+-- from p up to q the pattern is read as alternatives, and as those of groups that begin in them and
+-- are still open at q, this many of them
+pub data ReadsOn : (level : ℕ) → Point → Point → Type 0 where
+  outside : {level : ℕ} {p q : Point} (branches : List Tree)
+      → level ≡ 0
+      → Alternatives 0 p q branches
+      → ReadsOn level p q
+  in_group : {level : ℕ} {p q : Point}
+      (around : ℕ) (last here first : Point) (kind : GroupKind) (branches : List Tree)
+      → level ≡ around + 1
+      → ReadsOn around p last
+      → PastGap last here
+      → Head around here first kind
+      → Alternatives level first q branches
+      → ReadsOn level p q
+
+-- under these flags the pattern is read from its beginning up to q, and no name stands twice in it
+pub record IsReadTo (flags : Flags) (pattern : Text) (q : Point) : Type 0 where
+  pub level : ℕ
+  pub reads : ReadsOn level (start flags pattern) q
+  pub names_differ : NamesDiffer q.names
+
+-- the pattern is read up to its k-th character, but for a gap, and no further
+pub record IsStuckAt (flags : Flags) (pattern : Text) (k : ℕ) : Type 0 where
+  pub last : Point
+  pub reads : IsReadTo flags pattern last
+  pub gap : WholeGap last.flags.ignore_whitespace last.rest (drop k pattern)
+  pub inside : k < length pattern
+  pub farthest : (q : Point) → IsReadTo flags pattern q → length last.rest ≤ length q.rest
+
+-- the pattern is read to its end, and of the groups that are open there the innermost begins with
+-- its k-th character
+pub record IsUnclosedAt (flags : Flags) (pattern : Text) (k : ℕ) : Type 0 where
+  pub level : ℕ
+  pub last : Point
+  pub here : Point
+  pub first : Point
+  pub kind : GroupKind
+  pub end : Point
+  pub branches : List Tree
+  pub before : ReadsOn level (start flags pattern) last
+  pub past : PastGap last here
+  pub begins : here.rest ≡ drop k pattern
+  pub head : Head level here first kind
+  pub within : Alternatives (level + 1) first end branches
+  pub ends : Gap end.flags.ignore_whitespace end.rest []
+  pub names_differ : NamesDiffer end.names
+
+-- under these flags the first fault of the pattern stands at its k-th character
+abbrev pub IsFaultAt : Flags → Text → ℕ → Type 0
+IsFaultAt flags pattern k = IsStuckAt flags pattern k ⊎ IsUnclosedAt flags pattern k
