@@ -1,5 +1,7 @@
 -- How far the grammar reads a pattern, and where its first fault stands.
 use Rattle.std.specs.Prelude.{◌≡◌, ◌⊎◌, ℕ, ◌+◌, ◌<◌, ◌≤◌, List, [], length, drop}
+use Rattle.regex_lite_syntax.specs.declared.error.ErrorKind.{ErrorKind}
+use Rattle.regex_lite_syntax.specs.declared.error.ErrorKind.TheVariants.{Groups, Memory}
 use Rattle.regex_lite_syntax.specs.declared.flags.Flags.{Flags}
 use Rattle.regex_lite_syntax.specs.Text.{Text}
 use Rattle.regex_lite_syntax.specs.Tree.{Tree}
@@ -7,6 +9,7 @@ use Rattle.regex_lite_syntax.specs.Grammar.{Alternatives}
 use Rattle.regex_lite_syntax.specs.Grammar.Gaps.{Gap, WholeGap}
 use Rattle.regex_lite_syntax.specs.Grammar.GroupNames.{NamesDiffer}
 use Rattle.regex_lite_syntax.specs.Grammar.Heads.{GroupKind, Head}
+use Rattle.regex_lite_syntax.specs.Limits.{GroupsRefused}
 use Rattle.regex_lite_syntax.specs.Grammar.Points.{Point, PastGap, start}
 
 -- from p up to q the pattern is read as alternatives, and as those of groups that begin in them and
@@ -36,7 +39,6 @@ pub record IsStuckAt (flags : Flags) (pattern : Text) (k : ℕ) : Type 0 where
   pub last : Point
   pub reads : IsReadTo flags pattern last
   pub gap : WholeGap last.flags.ignore_whitespace last.rest (drop k pattern)
-  pub inside : k < length pattern
   pub farthest : (q : Point) → IsReadTo flags pattern q → length last.rest ≤ length q.rest
 
 -- the pattern is read to its end, and of the groups that are open there the innermost begins with
@@ -58,5 +60,12 @@ pub record IsUnclosedAt (flags : Flags) (pattern : Text) (k : ℕ) : Type 0 wher
   pub names_differ : NamesDiffer end.names
 
 -- under these flags the first fault of the pattern stands at its k-th character
-abbrev pub IsFaultAt : Flags → Text → ℕ → Type 0
-IsFaultAt flags pattern k = IsStuckAt flags pattern k ⊎ IsUnclosedAt flags pattern k
+pub record IsFaultAt (flags : Flags) (pattern : Text) (k : ℕ) : Type 0 where
+  pub inside : k < length pattern
+  pub place : IsStuckAt flags pattern k ⊎ IsUnclosedAt flags pattern k
+
+-- what an error says by its kind where the fault can't be told. Memory may run out with any pattern
+abbrev pub IsUntold : Flags → Text → ErrorKind → Type 0
+IsUntold flags pattern Groups = GroupsRefused flags pattern
+IsUntold flags pattern Memory = Unit {0}
+IsUntold flags pattern _ = ⊥

@@ -2,17 +2,19 @@
 use Rattle.std.proofs.Common.{Option, Some, None, MatchOption, option_to_list}
 use Rattle.std.proofs.Common.{inr, ◌≡◌, refl, sym, ◌∙◌, ap, subst, ℕ, ◌+◌, ◌<◌}
 use Rattle.std.proofs.Common.{List, [], ◌∷◌, ◌++◌, map, reverse, length, drop, arith}
+use Rattle.std.proofs.Common.{length-drop}
 use Rattle.std.proofs.lemmas.List.{length_push}
+use Rattle.regex_lite_syntax.proofs.machine.DepthLemmas.{head_opens}
 use Rattle.regex_lite_syntax.specs.Characters.{AreCharacters}
 use Rattle.regex_lite_syntax.specs.declared.flags.Flags.{Flags}
 use Rattle.regex_lite_syntax.specs.declared.error.ErrorKind.{ErrorKind}
 use Rattle.regex_lite_syntax.specs.declared.error.ErrorKind.TheVariants as kind
 use Rattle.regex_lite_syntax.specs.Refusals.{Refuses}
-use Rattle.regex_lite_syntax.specs.Limits.{GroupsRefused}
-use Rattle.regex_lite_syntax.proofs.parse.DenialLemmas.{refuses_more}
 use Rattle.regex_lite_syntax.specs.declared.parse.Parser.{Parser}
 use Rattle.regex_lite_syntax.specs.Text.{Text}
 use Rattle.regex_lite_syntax.specs.FaultPlaces.{IsReadTo, IsStuckAt, IsUnclosedAt, IsFaultAt}
+use Rattle.regex_lite_syntax.specs.FaultPlaces.{IsUntold}
+use Rattle.std.proofs.Common.{◌≢◌}
 use Rattle.regex_lite_syntax.specs.Grammar.{HasTree}
 use Rattle.regex_lite_syntax.specs.Grammar.Gaps.{Gap, WholeGap}
 use Rattle.regex_lite_syntax.specs.Grammar.GroupNames.{NamesDiffer}
@@ -139,10 +141,10 @@ comes_next flags pattern p q t u v old new here c whole there reads tracks =
 -- where nothing can be read, the pattern is read no further
 pub stuck_at : (flags : Flags) (pattern : Text) (p : Parser) (t u : Text) (starts : List ℕ)
     (here : ℕ) → Comes flags pattern p t starts → WholeGap p.here.flags.ignore_whitespace t u
-    → u ≡ drop here pattern → here < length pattern → (u ≡ [] → ⊥) → (CanRead p u → ⊥)
+    → u ≡ drop here pattern → (u ≡ [] → ⊥) → (CanRead p u → ⊥)
     → IsStuckAt flags pattern here × (HasTree flags pattern → ⊥)
 unfolding state
-stuck_at flags pattern p t u starts here c whole there inside more stuck =
+stuck_at flags pattern p t u starts here c whole there more stuck =
     let s = state p t c.deepest in
     let read : IsReadTo flags pattern s.point =
     record { level = length s.frames; reads = reads_of _ _ s c.stands; names_differ = c.differ } in (
@@ -150,7 +152,6 @@ stuck_at flags pattern p t u starts here c whole there inside more stuck =
         last = s.point;
         reads = read;
         gap = subst (λ x. WholeGap p.here.flags.ignore_whitespace t x) there whole;
-        inside = inside;
         farthest =
             stuck_farthest flags pattern s c.leads
             (λ q st differ. stuck (c.deepest, q, step_past_gap s q u whole st, differ));
@@ -204,7 +205,13 @@ end_found flags pattern p t starts outer None before after c gap is many cases =
     read_whole flags pattern p t starts c gap (sym many ∙ cases.0)
 end_found flags pattern p t starts outer (Some k) before after c gap is many cases =
     let fault = unclosed_fault flags pattern p t starts outer k c gap is in
-    (inr fault.0, fault.1)
+    (record { inside = at_head fault.0; place = inr fault.0 }, fault.1)
+  where
+    at_head : IsUnclosedAt flags pattern k → k < length pattern
+    at_head u =
+        let here = length-drop k pattern in
+        let head = ap length (sym u.begins ∙ (head_opens u.head).1) in
+        omega (arith, here, head)
 
 pub syntax_says : (k : ErrorKind) (s n g : Type 0) → k ≡ kind.Syntax → Refuses k s n g → s
 syntax_says k s n g e says = subst (λ j. Refuses j s n g) e says
@@ -212,22 +219,15 @@ syntax_says k s n g e says = subst (λ j. Refuses j s n g) e says
 -- what a refusal says that is no syntax fault
 pub other_says : (flags : Flags) (pattern : Text) (p : Parser) (t u : Text) (starts : List ℕ)
     (k : ErrorKind) → Comes flags pattern p t starts → WholeGap p.here.flags.ignore_whitespace t u
-    → (k ≡ kind.Syntax → ⊥) → Refuses k (¬ CanRead p u) ⊥ (BeginsTooMany p u)
-    → Refuses k ⊥ ⊥ (GroupsRefused flags pattern)
-other_says flags pattern p t u starts k c whole other says =
-    refuses_more k (k ≡ kind.Syntax) ⊥ (BeginsTooMany p u) ⊥ ⊥ (GroupsRefused flags pattern)
-    other (λ none. none)
-    (λ many. number_refused flags c.deepest pattern p t u
-    (reaches_as flags pattern p t starts c) whole many.0 many.1)
-    (as_syntax k says)
-  where
-    as_syntax : (k : ErrorKind) → Refuses k (¬ CanRead p u) ⊥ (BeginsTooMany p u)
-        → Refuses k (k ≡ kind.Syntax) ⊥ (BeginsTooMany p u)
-    as_syntax kind.Syntax says = refl
-    as_syntax kind.Groups says = says
-    as_syntax kind.Memory says = tt
-    as_syntax kind.Nesting says = absurd says
-    as_syntax kind.Size says = absurd says
-    as_syntax kind.Places says = absurd says
-    as_syntax kind.Slots says = absurd says
-    as_syntax kind.Replace says = absurd says
+    → k ≢ kind.Syntax → Refuses k (¬ CanRead p u) ⊥ (BeginsTooMany p u)
+    → IsUntold flags pattern k
+other_says flags pattern p t u starts kind.Syntax c whole other says = absurd (other refl)
+other_says flags pattern p t u starts kind.Groups c whole other says =
+    number_refused flags c.deepest pattern p t u (reaches_as flags pattern p t starts c) whole
+    says.0 says.1
+other_says flags pattern p t u starts kind.Memory c whole other says = tt
+other_says flags pattern p t u starts kind.Nesting c whole other says = absurd says
+other_says flags pattern p t u starts kind.Size c whole other says = absurd says
+other_says flags pattern p t u starts kind.Places c whole other says = absurd says
+other_says flags pattern p t u starts kind.Slots c whole other says = absurd says
+other_says flags pattern p t u starts kind.Replace c whole other says = absurd says

@@ -1,13 +1,12 @@
 //! Where in a pattern its first fault stands.
-ghost use Rattle.std.specs.Prelude.{◌≡◌, length, chars as chars_of, IfOk, IfErr, OnOk};
-ghost use Rattle.std.specs.Prelude.{MatchOption};
+ghost use Rattle.std.specs.Prelude.{◌≡◌, ◌≢◌, chars as chars_of, Some, MatchOption};
+ghost use Rattle.std.specs.Prelude.{IfOk, IfErr, OnOk};
+ghost use Rattle.regex_lite_syntax.specs.declared.error.ErrorKind.TheVariants.{Syntax};
 ghost use Rattle.regex_lite_syntax.specs.Errors.{kind_of};
 ghost use Rattle.regex_lite_syntax.specs.Characters.{AreCharacters};
-ghost use Rattle.regex_lite_syntax.specs.FaultPlaces.{IsFaultAt};
+ghost use Rattle.regex_lite_syntax.specs.FaultPlaces.{IsFaultAt, IsUntold};
 ghost use Rattle.regex_lite_syntax.specs.Grammar.{HasTree};
-ghost use Rattle.regex_lite_syntax.specs.Limits.{GroupsRefused};
 ghost use Rattle.regex_lite_syntax.specs.Parser.Starts.{Tracks};
-ghost use Rattle.regex_lite_syntax.specs.Refusals.{Refuses};
 
 use crate::error::{Error, ErrorKind};
 use crate::flags::Flags;
@@ -26,7 +25,7 @@ pub fn fault_at(alloc: Global, flags: Flags, pattern: &str) -> Result<Option<usi
         MatchOption found (HasTree flags pattern)
         (λ k. IsFaultAt flags pattern k × (HasTree flags pattern → ⊥))) }
     ensures refused { IfErr result (λ error.
-        Refuses (kind_of error) ⊥ ⊥ (GroupsRefused flags (chars_of pattern.now))) }
+        IsUntold flags (chars_of pattern.now) (kind_of error)) }
 {
     let chars = characters(alloc, pattern)?;
     first_fault(alloc, flags, &chars)
@@ -37,8 +36,7 @@ fn first_fault(alloc: Global, flags: Flags, chars: &[char]) -> Result<Option<usi
     requires { AreCharacters chars.now }
     ensures found { IfOk result (λ found. MatchOption found (HasTree flags chars.now)
         (λ k. IsFaultAt flags chars.now k × (HasTree flags chars.now → ⊥))) }
-    ensures refused { IfErr result (λ error.
-        Refuses (kind_of error) ⊥ ⊥ (GroupsRefused flags chars.now)) }
+    ensures refused { IfErr result (λ error. IsUntold flags chars.now (kind_of error)) }
 {
     let mut parser = Parser::new(alloc, flags);
     // Where the groups begin that are open, the innermost last.
@@ -51,14 +49,21 @@ fn first_fault(alloc: Global, flags: Flags, chars: &[char]) -> Result<Option<usi
         }
         match parser.step(chars, here) {
             Ok(next) => at = next,
-            Err(error) => {
-                return match error.kind() {
-                    ErrorKind::Syntax => Ok(Some(here)),
-                    _ => Err(error),
-                };
-            }
+            Err(error) => return fault_or_error(error, here),
         }
         track(&mut starts, parser.open_groups(), here)?;
+    }
+}
+
+/// What is told where the parser refuses to read on from the index with this error: a syntax fault
+/// stands there, and any other error is returned.
+fn fault_or_error(error: Error, here: usize) -> Result<Option<usize>, Error>
+    ensures fault { IfOk result (λ found. (kind_of error ≡ Syntax) × (found ≡ Some here)) }
+    ensures other { IfErr result (λ e. (kind_of error ≢ Syntax) × (e ≡ error)) }
+{
+    match error.kind() {
+        ErrorKind::Syntax => Ok(Some(here)),
+        _ => Err(error),
     }
 }
 

@@ -1,5 +1,9 @@
-use Rattle.std.proofs.Common.{inl, refl, sym, ◌∙◌, subst, arith, drop, length, ◌<◌, ◌≡◌, []}
+use Rattle.std.proofs.Common.{inl, refl, sym, subst, arith, drop, length, ◌<◌, ◌≡◌, []}
 use Rattle.regex_lite_syntax.specs.declared.error.ErrorKind.TheVariants as kind
+use Rattle.std.proofs.Common.{◌≢◌, Some, MatchOption}
+use Rattle.std.proofs.lemmas.Result.{IfOk-weaker, IfErr-weaker}
+use Rattle.regex_lite_syntax.specs.FaultPlaces.{IsFaultAt, IsUntold}
+use Rattle.regex_lite_syntax.specs.Grammar.{HasTree}
 use Rattle.regex_lite_syntax.specs.Errors.{kind_of}
 use Rattle.regex_lite_syntax.specs.Grammar.GroupNames.{NamesDiffer}
 use Rattle.regex_lite_syntax.specs.Grammar.Gaps.{Gap}
@@ -9,7 +13,6 @@ use Rattle.regex_lite_syntax.proofs.machine.FaultLemmas.{comes_first, comes_next
 use Rattle.regex_lite_syntax.proofs.machine.FaultLemmas.{end_found, syntax_says, other_says}
 use Rattle.regex_lite_syntax.proofs.parse.IndexLemmas.{drop_at, left_at_end}
 use Rattle.regex_lite_syntax.proofs.parse.fault.first_fault.Goals as goal
-use Rattle.regex_lite_syntax.proofs.parse.fault.first_fault.Goals.{in-Syntax, in_default}
 
 pub loop-starts-init : goal.loop-starts-init
 loop-starts-init c = record {
@@ -41,27 +44,28 @@ returns-in-Err-clause-found c =
     let inside : here < length xs =
     omega (arith, c.if-here-chars.false, c.skip_gap-here.ensures.inside) in
     let more : drop here xs ≡ [] → ⊥ = λ e. cc (e, drop_at xs here inside) in
-    elim c.match-kind.branch [
-      | in-Syntax w ↦
-          let stuck = syntax_says _ _ _ _ (sym c.kind.ensures ∙ w.in-Syntax.is)
-          c.in-Err.ensures.refused in
-          let fault = stuck_at c.args.flags xs c.loop-starts.parser _ _ _ here
-          c.loop-starts.invariant.comes c.skip_gap-here.ensures.gap refl inside more stuck in
-          rw w.result-is (inl fault.0, fault.1)
-      | in_default w ↦ rw w.result-is tt
-    ]
+    IfOk-weaker c.fault_or_error.result
+    (λ found. (kind_of c.in-Err.error ≡ kind.Syntax) × (found ≡ Some here))
+    (λ found. MatchOption found (HasTree c.args.flags xs)
+    (λ k. IsFaultAt c.args.flags xs k × (HasTree c.args.flags xs → ⊥)))
+    (λ found (syntax, is).
+    let stuck = syntax_says _ _ _ _ syntax c.in-Err.ensures.refused in
+    let fault = stuck_at c.args.flags xs c.loop-starts.parser _ _ _ here
+    c.loop-starts.invariant.comes c.skip_gap-here.ensures.gap refl more stuck in
+    rw is (record { inside = inside; place = inl fault.0 }, fault.1))
+    c.fault_or_error.ensures.fault
 
 pub returns-in-Err-clause-refused : goal.returns-in-Err-clause-refused
 returns-in-Err-clause-refused c =
-    elim c.match-kind.branch [
-      | in-Syntax w ↦ rw w.result-is tt
-      | in_default w ↦
-          let other : kind_of c.in-Err.error ≡ kind.Syntax → ⊥ =
-          λ e. w.in_default.not-Syntax (c.kind.ensures ∙ e) in
-          rw w.result-is
-          (other_says c.args.flags c.args.chars.now c.loop-starts.parser _ _ _ _
-          c.loop-starts.invariant.comes c.skip_gap-here.ensures.gap other c.in-Err.ensures.refused)
-    ]
+    let xs = c.args.chars.now in
+    IfErr-weaker c.fault_or_error.result
+    (λ e. (kind_of c.in-Err.error ≢ kind.Syntax) × (e ≡ c.in-Err.error))
+    (λ e. IsUntold c.args.flags xs (kind_of e))
+    (λ e (other, is).
+    rw is
+    (other_says c.args.flags xs c.loop-starts.parser _ _ _ _ c.loop-starts.invariant.comes
+    c.skip_gap-here.ensures.gap other c.in-Err.ensures.refused))
+    c.fault_or_error.ensures.other
 
 pub loop-starts-preserved : goal.loop-starts-preserved
 loop-starts-preserved c =
