@@ -5,6 +5,7 @@
 pub mod Headline
 pub mod Settings
 pub mod Expression
+pub mod FaultOffsets
 pub mod Groups
 pub mod MatchViews
 pub mod Searches
@@ -29,6 +30,7 @@ pub use Rattle.regex_lite_syntax.specs.Text
 pub use Rattle.regex_lite_syntax.specs.Grammar
 pub use Rattle.regex_lite_syntax.specs.Escaped
 pub use Rattle.regex_lite_syntax.specs.Limits
+pub use Rattle.regex_lite_syntax.specs.FaultPlaces
 pub use Rattle.regex_lite_syntax.specs.Tree.Matches
 pub use Rattle.regex_lite_syntax.specs.Tree.Properties
 pub use Rattle.regex_lite_engine.specs.Graph.PlaceCounts

@@ -9,6 +9,7 @@ mod counted;
 mod cursor;
 pub(super) mod escape;
 mod expand;
+mod fault;
 mod find_iter;
 mod finds;
 mod group_scan;

@@ -34,15 +34,15 @@ pub record IsReadTo (flags : Flags) (pattern : Text) (q : Point) : Type 0 where
   pub reads : ReadsOn level (start flags pattern) q
   pub names_differ : NamesDiffer q.names
 
--- the pattern is read up to its k-th character, but for a gap, and no further
+-- the pattern is read up to where its first k characters end, but for a gap there, and no further
 pub record IsStuckAt (flags : Flags) (pattern : Text) (k : ℕ) : Type 0 where
   pub last : Point
   pub reads : IsReadTo flags pattern last
   pub gap : WholeGap last.flags.ignore_whitespace last.rest (drop k pattern)
   pub farthest : (q : Point) → IsReadTo flags pattern q → length last.rest ≤ length q.rest
 
--- the pattern is read to its end, and of the groups that are open there the innermost begins with
--- its k-th character
+-- the pattern is read to its end, and the innermost group that is open there begins where its first
+-- k characters end
 pub record IsUnclosedAt (flags : Flags) (pattern : Text) (k : ℕ) : Type 0 where
   pub level : ℕ
   pub last : Point
@@ -59,7 +59,7 @@ pub record IsUnclosedAt (flags : Flags) (pattern : Text) (k : ℕ) : Type 0 wher
   pub ends : Gap end.flags.ignore_whitespace end.rest []
   pub names_differ : NamesDiffer end.names
 
--- under these flags the first fault of the pattern stands at its k-th character
+-- under these flags the first fault of the pattern stands where its first k characters end
 pub record IsFaultAt (flags : Flags) (pattern : Text) (k : ℕ) : Type 0 where
   pub inside : k < length pattern
   pub place : IsStuckAt flags pattern k ⊎ IsUnclosedAt flags pattern k

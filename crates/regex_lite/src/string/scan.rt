@@ -242,7 +242,7 @@ pub(super) fn match_at<'h, F: Finds>(
 
 /// Where the character ends that stands at this offset. At the haystack's end, where none stands,
 /// it is an offset above the length, from which nothing is found.
-fn next_offset(haystack: &str, at: usize) -> usize
+pub(super) fn next_offset(haystack: &str, at: usize) -> usize
     requires { IsCharBoundary haystack.now at }
     ensures { IsNextOffset haystack.now at result }
 {
