@@ -2,7 +2,7 @@ use Rattle.std.proofs.Common.{inl, inr, ◌≡◌, refl, sym, ◌∙◌, ap, sub
 use Rattle.std.proofs.Common.{List, length, chars, IsUtf8, arith, add-one}
 use Rattle.std.specs.Prelude.{IsCharBoundary}
 use Rattle.std.proofs.lemmas.List.{take_all}
-use Rattle.regex_lite_engine.specs.Search.Offsets.{IsOffset, position_at, search_start}
+use Rattle.regex_lite_engine.specs.Search.Offsets.{IsOffset, search_start}
 use Rattle.regex_lite_engine.proofs.OffsetLemmas.{boundary_at}
 use Rattle.regex_lite_engine.proofs.PositionLemmas.{position_is, position_of, start_position}
 use Rattle.regex_lite.specs.NextMatch.{IsNextOffset}
@@ -11,8 +11,8 @@ use Rattle.regex_lite.proofs.string.fault.offset_of.Goals as goal
 pub loop-init : goal.loop-init
 loop-init c = (omega arith, refl)
 
-pub next_offset-requires : goal.next_offset-requires
-next_offset-requires c =
+pub next_offset-at-requires : goal.next_offset-at-requires
+next_offset-at-requires c =
     boundary_at c.args.text.now c.loop.counter c.loop.at c.utf8.text c.loop.invariant
 
 -- before the end, the next offset is that of the next position
@@ -39,5 +39,5 @@ module _ (bytes : List ℕ) (utf8 : IsUtf8 bytes) (p at next : ℕ) (here : IsOf
 
 pub loop-preserved : goal.loop-preserved
 loop-preserved c =
-    next_at c.args.text.now c.utf8.text c.loop.counter c.loop.at c.next_offset.result
-    c.loop.invariant (omega (arith, c.loop-test.true, c.requires)) c.next_offset.ensures
+    next_at c.args.text.now c.utf8.text c.loop.counter c.loop.at c.next_offset-at.result
+    c.loop.invariant (omega (arith, c.loop-test.true, c.requires)) c.next_offset-at.ensures
