@@ -282,8 +282,8 @@ size_t regex_lite_list_len(regex_lite_list *handle);
 
 /* Writes the pattern with this number: REGEX_LITE_YES or REGEX_LITE_NO_ROOM, with its length written
  * either way; or REGEX_LITE_NO where the list has no such pattern. */
-uint32_t regex_lite_list_pattern(regex_lite_list *handle, size_t number, uint8_t *room,
-                                 size_t room_len, size_t *len);
+uint32_t regex_lite_list_pattern_at(regex_lite_list *handle, size_t number, uint8_t *room,
+                                    size_t room_len, size_t *len);
 
 /* How many places the patterns have together, written out, and how many arrows lead from place to
  * place: a search tries at most (arrows + patterns) * (characters + 1) places. 0 where nothing is

@@ -268,15 +268,15 @@ static void test_properties(void) {
     regex_lite_cost cost = {7, 7, 7};
     uint8_t room[4] = "...";
     size_t len = 7;
-    WANT(regex_lite_list_pattern(&list, 0, room, 4, &len) == REGEX_LITE_NOTHING_HELD);
+    WANT(regex_lite_list_pattern_at(&list, 0, room, 4, &len) == REGEX_LITE_NOTHING_HELD);
     WANT(regex_lite_list_places(&list) == 0 && regex_lite_list_arrows(&list) == 0);
     WANT(regex_lite_list_find_counted(&list, TEXT("if"), 0, &span, &cost) ==
          REGEX_LITE_NOTHING_HELD);
     WANT(build(&list, words, 2) == REGEX_LITE_YES);
-    WANT(regex_lite_list_pattern(&list, 2, room, 4, &len) == REGEX_LITE_NO && len == 7);
-    WANT(regex_lite_list_pattern(&list, 1, room, 2, &len) == REGEX_LITE_NO_ROOM && len == 3);
+    WANT(regex_lite_list_pattern_at(&list, 2, room, 4, &len) == REGEX_LITE_NO && len == 7);
+    WANT(regex_lite_list_pattern_at(&list, 1, room, 2, &len) == REGEX_LITE_NO_ROOM && len == 3);
     WANT(memcmp(room, "...", 3) == 0);
-    WANT(regex_lite_list_pattern(&list, 1, room, 3, &len) == REGEX_LITE_YES && len == 3);
+    WANT(regex_lite_list_pattern_at(&list, 1, room, 3, &len) == REGEX_LITE_YES && len == 3);
     WANT(memcmp(room, "a|b", 3) == 0);
     /* Each pattern has two places and arrows of the whole match, and a place where it is complete. A
      * choice has a place before and one after its branches, and an arrow to each and after them. */

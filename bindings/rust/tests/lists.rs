@@ -71,7 +71,8 @@ fn all_groups() -> Tested {
     // More groups than there is room for at first, and more matches.
     let wide = format!("{}|(x)", "(a)".repeat(100));
     let list = RegexList::new(&["[0-9]", &wide])?;
-    let told = list.captures_all(&("a".repeat(100) + &"7x".repeat(2000)))?;
+    let text = "a".repeat(100) + &"7x".repeat(2000);
+    let told = list.captures_all(&text)?;
     assert_eq!(told.len(), 4001);
     assert_eq!(told[0].1.get(100).map(|m| m.range()), Some(99..100));
     assert_eq!(told[4000].1.get(101).map(|m| m.as_str()), Some("x"));

@@ -26,7 +26,7 @@ pub extern "C" fn regex_lite_list_len(alloc: Global, handle: &mut ListHandle) ->
 
 /// Writes the pattern with this number to the room: 1, or 0 where there is none.
 #[unsafe(no_mangle)]
-pub extern "C" fn regex_lite_list_pattern(
+pub extern "C" fn regex_lite_list_pattern_at(
     alloc: Global,
     handle: &mut ListHandle,
     number: usize,
