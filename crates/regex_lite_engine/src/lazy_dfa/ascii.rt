@@ -33,43 +33,78 @@ impl LazyDfa {
     /// Goes on while characters are ASCII and turns are remembered, up to the last of them that
     /// isn't the end of the search.
     #[inline(always)]
-    pub(super) fn run(&self, graph: &Graph, haystack: &str, at: &mut Standing)
+    pub(super) fn run(&self, graph: &Graph, haystack: &str, at: Standing) -> Standing
         requires remembers { Remembers graph.now.places (graph.now.start ∷ []) self.now }
         requires scanning { (low p : ℕ) × IsScanning (table_of graph.now) (graph.now.start ∷ [])
-            (chars haystack.now) low p self.now at.old }
+            (chars haystack.now) low p self.now at }
         ensures { (low p : ℕ) → IsScanning (table_of graph.now) (graph.now.start ∷ [])
-            (chars haystack.now) low p self.now at.old
+            (chars haystack.now) low p self.now at
             → (q : ℕ) × (p ≤ q) × IsScanning (table_of graph.now) (graph.now.start ∷ [])
-            (chars haystack.now) low q self.now at.new
+            (chars haystack.now) low q self.now result
             × IsSince (table_of graph.now) (graph.now.start ∷ []) (chars haystack.now) low p
-            at.old.first at.new.first }
+            at.first result.first }
     {
         if !is_before_ascii(haystack, at.here) {
-            return;
+            return at;
         }
-        let spot = self.run_spot(graph, haystack, Spot::of(*at));
-        *at = spot.standing(haystack);
+        self.run_on(graph, haystack, at)
+    }
+
+    /// The same where that is so.
+    // Not inlined, since what an inlined one needs is cleared each time.
+    #[inline(never)]
+    fn run_on(&self, graph: &Graph, haystack: &str, at: Standing) -> Standing
+        requires remembers { Remembers graph.now.places (graph.now.start ∷ []) self.now }
+        requires scanning { (low p : ℕ) × IsScanning (table_of graph.now) (graph.now.start ∷ [])
+            (chars haystack.now) low p self.now at }
+        ensures { (low p : ℕ) → IsScanning (table_of graph.now) (graph.now.start ∷ [])
+            (chars haystack.now) low p self.now at
+            → (q : ℕ) × (p ≤ q) × IsScanning (table_of graph.now) (graph.now.start ∷ [])
+            (chars haystack.now) low q self.now result
+            × IsSince (table_of graph.now) (graph.now.start ∷ []) (chars haystack.now) low p
+            at.first result.first }
+    {
+        let spot = self.run_spot(graph, haystack, Spot::of(at));
+        spot.standing(haystack)
     }
 
     /// The same up to the first match that ends, where there is none yet.
     #[inline(always)]
-    pub(super) fn run_to_match(&self, graph: &Graph, haystack: &str, at: &mut Standing)
+    pub(super) fn run_to_match(&self, graph: &Graph, haystack: &str, at: Standing) -> Standing
         requires remembers { Remembers graph.now.places (graph.now.start ∷ []) self.now }
         requires scanning { (low p : ℕ) × IsScanning (table_of graph.now) (graph.now.start ∷ [])
-            (chars haystack.now) low p self.now at.old }
+            (chars haystack.now) low p self.now at }
         ensures on { (low p : ℕ) → IsScanning (table_of graph.now) (graph.now.start ∷ [])
-            (chars haystack.now) low p self.now at.old
+            (chars haystack.now) low p self.now at
             → (q : ℕ) × (p ≤ q) × IsScanning (table_of graph.now) (graph.now.start ∷ [])
-            (chars haystack.now) low q self.now at.new
+            (chars haystack.now) low q self.now result
             × IsSince (table_of graph.now) (graph.now.start ∷ []) (chars haystack.now) low p
-            at.old.first at.new.first }
-        ensures none { at.new.best ≡ at.old.best }
+            at.first result.first }
+        ensures none { result.best ≡ at.best }
     {
         if !is_before_ascii(haystack, at.here) {
-            return;
+            return at;
         }
-        let spot = self.run_spot_to_match(graph, haystack, Spot::of(*at));
-        *at = spot.standing(haystack);
+        self.run_to_match_on(graph, haystack, at)
+    }
+
+    /// The same where that is so.
+    // Not inlined, since what an inlined one needs is cleared each time.
+    #[inline(never)]
+    fn run_to_match_on(&self, graph: &Graph, haystack: &str, at: Standing) -> Standing
+        requires remembers { Remembers graph.now.places (graph.now.start ∷ []) self.now }
+        requires scanning { (low p : ℕ) × IsScanning (table_of graph.now) (graph.now.start ∷ [])
+            (chars haystack.now) low p self.now at }
+        ensures on { (low p : ℕ) → IsScanning (table_of graph.now) (graph.now.start ∷ [])
+            (chars haystack.now) low p self.now at
+            → (q : ℕ) × (p ≤ q) × IsScanning (table_of graph.now) (graph.now.start ∷ [])
+            (chars haystack.now) low q self.now result
+            × IsSince (table_of graph.now) (graph.now.start ∷ []) (chars haystack.now) low p
+            at.first result.first }
+        ensures none { result.best ≡ at.best }
+    {
+        let spot = self.run_spot_to_match(graph, haystack, Spot::of(at));
+        spot.standing(haystack)
     }
 
     /// The same, by bytes.

@@ -57,6 +57,7 @@ impl LazyDfa {
     }
 
     /// Whether it pays to take the turns up to this position, so that they are remembered.
+    #[inline(always)]
     pub(super) fn is_worth_a_turn(
         &self,
         graph: &Graph,
@@ -64,13 +65,14 @@ impl LazyDfa {
         here: Here,
         next: Here,
     ) -> bool {
-        here.at < next.at
+        goes_by_bytes(graph, haystack, here)
+            && here.at < next.at
             && next.at - here.at <= NEAR
             && self.states.len() < MOST_STATES
-            && goes_by_bytes(graph, haystack, here)
     }
 
     /// Whether the turn from this state is remembered.
+    #[inline(always)]
     pub(super) fn knows(&self, x: u16, next: Option<char>) -> bool
         requires { x < length self.now.states }
     {
@@ -79,6 +81,7 @@ impl LazyDfa {
 }
 
 /// Whether turns go by bytes there. A prefilter is faster.
+#[inline(always)]
 fn goes_by_bytes(graph: &Graph, haystack: &str, here: Here) -> bool {
     graph.prefilter().is_none() && is_before_ascii(haystack, here)
 }

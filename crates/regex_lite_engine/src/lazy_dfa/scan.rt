@@ -52,7 +52,7 @@ impl LazyDfa {
     {
         let mut at = from;
         'positions: loop {
-            self.run(graph, haystack, &mut at);
+            at = self.run(graph, haystack, at);
             let Some(on) = self.skip(graph, haystack, at) else {
                 return Scanned::Stuck {
                     at,
@@ -118,8 +118,8 @@ impl LazyDfa {
             may_start: false,
         };
         let here = pattern.pass_over(haystack, at.here);
-        if !self.knows(at.state, at.here.after)
-            && self.is_worth_a_turn(graph, haystack, at.here, here)
+        if self.is_worth_a_turn(graph, haystack, at.here, here)
+            && !self.knows(at.state, at.here.after)
         {
             return None;
         }
