@@ -8,6 +8,10 @@ pub mod FlagLetterLemmas
 pub mod GapLemmas
 pub mod HeadLemmas
 pub mod LiteralMatchLemmas
+pub mod LongerClassLemmas
+pub mod LongerEscapeLemmas
+pub mod LongerGapLemmas
+pub mod LongerHeadLemmas
 pub mod NameLemmas
 pub mod NameOpeningLemmas
 pub mod NameReadingLemmas

@@ -4,6 +4,7 @@ pub mod CompleteLemmas
 pub mod DepthLemmas
 pub mod FaultLemmas
 pub mod GrowthLemmas
+pub mod LongerRunLemmas
 pub mod OneStepLemmas
 pub mod ParenLemmas
 pub mod ReadHeadLemmas

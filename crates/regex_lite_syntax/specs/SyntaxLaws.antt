@@ -1,5 +1,8 @@
 -- Laws of the definitions.
-use Rattle.std.specs.Prelude.{◌≡◌, ◌↔◌, ℕ, List, false}
+use Rattle.std.specs.Prelude.{◌≡◌, ◌↔◌, ℕ, List, false, [], ◌++◌}
+use Rattle.regex_lite_syntax.specs.FaultPlaces.{IsReadTo}
+use Rattle.regex_lite_syntax.specs.Grammar.Gaps.{Gap}
+use Rattle.regex_lite_syntax.specs.Grammar.Points.{Point, onward}
 use Rattle.std.specs.List.Sorted.{IsStrictlyIncreasing}
 use Rattle.regex_lite_syntax.specs.declared.class.ClassRange.{ClassRange}
 use Rattle.regex_lite_syntax.specs.declared.flags.Flags.{Flags}
@@ -50,3 +53,11 @@ abbrev pub LiteralsMatchTheirText : Type 0
 LiteralsMatchTheirText =
     (text haystack : Text) (i j : ℕ)
     → Matches haystack (literal text) i j ↔ StandsAt text haystack i j
+
+-- reading goes from left to right: what is read of a pattern is read of each longer pattern that
+-- begins with it, where more than a gap is left
+abbrev pub ReadingGoesOn : Type 0
+ReadingGoesOn =
+    (flags : Flags) (pattern more : Text) (q : Point) → IsReadTo flags pattern q
+    → (Gap q.flags.ignore_whitespace q.rest [] → ⊥)
+    → IsReadTo flags (pattern ++ more) (onward q (q.rest ++ more))

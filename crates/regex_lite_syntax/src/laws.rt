@@ -2,6 +2,7 @@
 ghost use Rattle.regex_lite_syntax.specs.SyntaxLaws.{AtMostOneTree, EqualSetsHaveEqualRanges};
 ghost use Rattle.regex_lite_syntax.specs.SyntaxLaws.{EscapedTextsAreLiteral, GroupsAreNumbered};
 ghost use Rattle.regex_lite_syntax.specs.SyntaxLaws.{LiteralsMatchTheirText, NoIndexStandsTwice};
+ghost use Rattle.regex_lite_syntax.specs.SyntaxLaws.{ReadingGoesOn};
 
 /// Flags and a pattern have at most one tree, one number of groups and one depth of groups.
 pub fn at_most_one_tree()
@@ -33,4 +34,10 @@ pub fn escaped_texts_are_literal()
 /// The characters of a text, one after another, match exactly where the text stands.
 pub fn literals_match_their_text()
     ensures { LiteralsMatchTheirText }
+{}
+
+/// Reading goes from left to right: what is read of a pattern is read of each longer pattern that
+/// begins with it, where more than a gap is left.
+pub fn reading_goes_on()
+    ensures { ReadingGoesOn }
 {}

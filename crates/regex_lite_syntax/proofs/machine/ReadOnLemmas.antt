@@ -46,14 +46,14 @@ reads_of begin begun s h =
     reads_stacked begin s.frames begun h.from s.point s.branches s.items h.below h.here
 
 -- and the machine runs up to where it is read
-record Runs (level : ℕ) (p q : Point) : Type 0 where
-  frames : List Frame
-  branches : List Tree
-  items : List Tree
-  depth : level ≡ length frames
-  leads : LeadsOn (standing p [] [] []) (standing q frames branches items)
+pub record Runs (level : ℕ) (p q : Point) : Type 0 where
+  pub frames : List Frame
+  pub branches : List Tree
+  pub items : List Tree
+  pub depth : level ≡ length frames
+  pub leads : LeadsOn (standing p [] [] []) (standing q frames branches items)
 
-runs_of : {level : ℕ} {p q : Point} → ReadsOn level p q → Runs level p q
+pub runs_of : {level : ℕ} {p q : Point} → ReadsOn level p q → Runs level p q
 runs_of {p} {q} (outside branches none d) =
     let u = alternatives_lead d [] refl in record {
       frames = [];

@@ -172,7 +172,7 @@ does_keeps atom begin begun s p q h past d =
     subst (λ x. StandsOn begin begun s p x) (sym d.3)
     (same_groups (record { from = h.from; below = h.below; here = partial }) refl)
 
-leads_keeps : (begin : Point) (s q : State) → LeadsOn s q → (begun : List Text)
+pub leads_keeps : (begin : Point) (s q : State) → LeadsOn s q → (begun : List Text)
     → Stands begin begun s → (next : List Text) × Stands begin next q
 leads_keeps begin s q (stay e) begun h = (begun, subst (λ x. Stands begin begun x) e h)
 leads_keeps begin s q (go m st l) begun h =

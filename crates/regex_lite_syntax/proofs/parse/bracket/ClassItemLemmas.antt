@@ -164,7 +164,7 @@ open_at_once verbose t past p none part gap items =
       | inr to ↦ no_dash verbose past [] to.0 gap (λ b. b) to.1
     ]
 
-open_past_dash : (verbose : Bool) (sets : List Set) (t past rest : Text) → t ≡ the "-" ∷ past
+pub open_past_dash : (verbose : Bool) (sets : List Set) (t past rest : Text) → t ≡ the "-" ∷ past
     → EndsGap verbose t
     → WholeGap verbose past [] → ClassItems verbose sets t rest → ⊥
 open_past_dash verbose [] t past rest e ends gap items =

@@ -1,0 +1,152 @@
+-- Operators, heads of groups and directives in a longer text that begins with the text.
+use Rattle.std.proofs.Common.{inl, inr, ◌≢◌, ◌∙◌, ap, subst, ℕ, ◌<◌}
+use Rattle.std.proofs.Common.{Bool, true, false, length, [], ◌∷◌, ◌++◌, Option, append_assoc, arith}
+use Rattle.std.proofs.lemmas.List.{append_cancel_right}
+use Rattle.regex_lite_syntax.specs.declared.flags.Flags.{Flags}
+use Rattle.regex_lite_syntax.specs.Text.{Text, the}
+use Rattle.regex_lite_syntax.specs.Characters.{is_digit}
+use Rattle.regex_lite_syntax.specs.Grammar.Gaps.{EndsGap, Spaced}
+use Rattle.regex_lite_syntax.specs.Grammar.Counted.{WhiteSpace, Side, Number, Counted}
+use Rattle.regex_lite_syntax.specs.Grammar.Counted.{exactly, at_least, between}
+use Rattle.regex_lite_syntax.specs.Grammar.Operators.{Operator, uncounted, uncounted_lazy}
+use Rattle.regex_lite_syntax.specs.Grammar.Operators.{counted, counted_lazy}
+use Rattle.regex_lite_syntax.specs.Grammar.FlagLetters.{FlagLetters, setting, clearing}
+use Rattle.regex_lite_syntax.specs.Grammar.GroupNames.{NameWritten, NameOpening, with_p, without_p}
+use Rattle.regex_lite_syntax.specs.Grammar.GroupNames.{Named}
+use Rattle.regex_lite_syntax.specs.Grammar.Points.{Point, onward}
+use Rattle.regex_lite_syntax.specs.Grammar.Heads.{GroupKind, Head, numbered, named, plain}
+use Rattle.regex_lite_syntax.specs.Grammar.Heads.{Directive, sets}
+use Rattle.regex_lite_syntax.proofs.grammar.LongerGapLemmas.{GoesOn, some_gap, some_left}
+use Rattle.regex_lite_syntax.proofs.grammar.LongerGapLemmas.{gap_longer, gap_before, begins_longer}
+use Rattle.regex_lite_syntax.proofs.grammar.LongerGapLemmas.{no_gap_longer, spaced_longer}
+use Rattle.regex_lite_syntax.proofs.grammar.SpacedLemmas.{printed_ends}
+
+-- a `?` ends a gap
+question_ends : (t : Text) → EndsGap true (the "?" ∷ t)
+question_ends t = printed_ends (the "?") t (omega arith) (omega arith)
+
+-- the same point of a longer pattern
+abbrev pub longer : (more : Text) → Point → Point
+longer more p = onward p (p.rest ++ more)
+
+some_spaced : (verbose : Bool) (kind : ℕ → Bool) (cs t rest : Text) → 0 < length cs
+    → Spaced verbose kind cs t rest → t ≢ []
+some_spaced verbose kind [] t rest some s = absurd (omega (arith, some))
+some_spaced verbose kind (c ∷ cs) t rest some s = some_gap verbose t s.0 c s.1
+
+module _ (more : Text) where
+  white_longer : (t rest : Text) → WhiteSpace t rest → rest ≢ []
+      → WhiteSpace (t ++ more) (rest ++ more)
+  white_longer [] rest w some = absurd (some w)
+  white_longer (c ∷ t) rest (inl w) some = inl (ap (λ u. u ++ more) w)
+  white_longer (c ∷ t) rest (inr w) some = inr (w.0, white_longer t rest w.1 some)
+
+  pub side_longer : (verbose : Bool) (t rest : Text) → Side verbose t rest → rest ≢ []
+      → Side verbose (t ++ more) (rest ++ more)
+  side_longer true t rest s some = gap_longer more true t rest s some
+  side_longer false t rest s some = white_longer t rest s some
+
+  pub number_longer : {verbose : Bool} {t rest : Text} {n : ℕ} → Number verbose t rest n
+      → rest ≢ [] → Number verbose (t ++ more) (rest ++ more) n
+  number_longer {verbose} {t} {rest} k some = record {
+    first = k.first ++ more;
+    last = k.last ++ more;
+    digits = k.digits;
+    before =
+        side_longer verbose t k.first k.before
+        (some_spaced verbose is_digit k.digits k.first k.last k.some k.written);
+    written = spaced_longer more verbose is_digit k.digits k.first k.last k.written;
+    after = side_longer verbose k.last rest k.after some;
+    some = k.some;
+    value = k.value;
+    in_range = k.in_range;
+  }
+
+  pub counted_longer : {verbose : Bool} {t rest : Text} {least : ℕ} {most : Option ℕ}
+      → Counted verbose t rest least most → Counted verbose (t ++ more) (rest ++ more) least most
+  counted_longer (exactly k e) = exactly (number_longer k (λ e. cc e)) e
+  counted_longer {verbose} {rest} (at_least past k g e) =
+      at_least (past ++ more) (number_longer k (λ e. cc e)) (gap_before more verbose past rest _ g) e
+  counted_longer (between past n k m order e) =
+      between (past ++ more) n (number_longer k (λ e. cc e)) (number_longer m (λ e. cc e)) order e
+
+  -- an operator, past which more than a gap is left
+  pub operator_longer : {flags : Flags} {t rest : Text} {least : ℕ} {most : Option ℕ}
+      {greedy : Bool} → Operator flags t rest least most greedy
+      → GoesOn flags.ignore_whitespace rest
+      → Operator flags (t ++ more) (rest ++ more) least most greedy
+  operator_longer {flags} {rest} (uncounted c e b n g) goes =
+      uncounted c (ap (λ u. u ++ more) e) b
+      (begins_longer more (the "?") rest n (some_left flags.ignore_whitespace rest goes)) g
+  operator_longer (uncounted_lazy c e b g) goes =
+      uncounted_lazy c (ap (λ u. u ++ more) e) b g
+  operator_longer {flags} {rest} (counted opened e k n g) goes =
+      counted (opened ++ more) (ap (λ u. u ++ more) e) (counted_longer k)
+      (no_gap_longer more flags.ignore_whitespace rest (the "?") question_ends goes n) g
+  operator_longer {flags} {rest} (counted_lazy opened past e k q g) goes =
+      counted_lazy (opened ++ more) (past ++ more) (ap (λ u. u ++ more) e) (counted_longer k)
+      (gap_before more flags.ignore_whitespace past rest _ q) g
+
+  pub letters_longer : {old new : Flags} {t rest : Text} → FlagLetters old t rest new
+      → FlagLetters old (t ++ more) (rest ++ more) new
+  letters_longer {rest} (setting on p all differ e) =
+      setting on (ap (λ u. u ++ more) p ∙ append_assoc on rest more) all differ e
+  letters_longer {rest} (clearing on off past p q some all all_off differ e) =
+      clearing on off (past ++ more)
+      (ap (λ u. u ++ more) p ∙ append_assoc on (the "-" ∷ past) more)
+      (ap (λ u. u ++ more) q ∙ append_assoc off rest more) some all all_off differ e
+
+  pub written_longer : {t rest name : Text} → NameWritten t rest name
+      → NameWritten (t ++ more) (rest ++ more) name
+  written_longer {t} {rest} {name} w = record {
+    written = ap (λ u. u ++ more) w.written ∙ append_assoc name (the ">" ∷ rest) more;
+    inside = w.inside;
+    is_a_name = w.is_a_name;
+  }
+
+  pub opening_longer : {t past : Text} → NameOpening t past
+      → NameOpening (t ++ more) (past ++ more)
+  opening_longer (with_p e) = with_p (ap (λ u. u ++ more) e)
+  opening_longer (without_p e) = without_p (ap (λ u. u ++ more) e)
+
+  pub named_longer : {t rest name : Text} → Named t rest name
+      → Named (t ++ more) (rest ++ more) name
+  named_longer n = record {
+    past = n.past ++ more;
+    opens = opening_longer n.opens;
+    called = written_longer n.called;
+  }
+
+  -- a head, past which more than a gap is left
+  pub head_longer : {level : ℕ} {p q : Point} {kind : GroupKind} → Head level p q kind
+      → GoesOn q.flags.ignore_whitespace q.rest
+      → Head level (longer more p) (longer more q) kind
+  head_longer {p} (numbered rest e none h k) goes =
+      let here = subst (λ (x : Point). GoesOn x.flags.ignore_whitespace x.rest) h goes in
+      numbered (rest ++ more) (ap (λ u. u ++ more) e)
+      (no_gap_longer more p.flags.ignore_whitespace rest (the "?") question_ends here none)
+      (ap (longer more) h) k
+  head_longer {p} (named opened first rest name e g n h k) goes =
+      let question = some_named n in
+      named (opened ++ more) (first ++ more) (rest ++ more) name (ap (λ u. u ++ more) e)
+      (gap_longer more p.flags.ignore_whitespace opened first g question) (named_longer n)
+      (ap (longer more) h) k
+    where
+      some_opening : {t past : Text} → NameOpening t past → t ≢ []
+      some_opening (with_p e) empty = cc (e, empty)
+      some_opening (without_p e) empty = cc (e, empty)
+
+      some_named : {t rest name : Text} → Named t rest name → t ≢ []
+      some_named n = some_opening n.opens
+  head_longer {p} (plain opened first rest new e g letters h k) goes =
+      plain (opened ++ more) (first ++ more) (rest ++ more) new (ap (λ u. u ++ more) e)
+      (gap_before more p.flags.ignore_whitespace opened first _ g) (letters_longer letters)
+      (ap (longer more) h) k
+
+  pub directive_longer : {p q : Point} → Directive p q
+      → Directive (longer more p) (longer more q)
+  directive_longer {p} (sets opened first rest new e g n letters h) =
+      sets (opened ++ more) (first ++ more) (rest ++ more) new (ap (λ u. u ++ more) e)
+      (gap_before more p.flags.ignore_whitespace opened first _ g)
+      (λ same. n (append_cancel_right first (the ")" ∷ rest) more same)) (letters_longer letters)
+      (ap (longer more) h)

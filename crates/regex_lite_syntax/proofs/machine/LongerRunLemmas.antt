@@ -1,0 +1,147 @@
+-- What is read of a pattern is read of each longer pattern that begins with it.
+use Rattle.std.proofs.Common.{inl, inr, ◌≡◌, ◌≢◌, refl, sym, ap, subst}
+use Rattle.std.proofs.Common.{[], ◌∷◌, ◌++◌}
+use Rattle.regex_lite_syntax.specs.declared.flags.Flags.{Flags}
+use Rattle.regex_lite_syntax.specs.Text.{Text}
+use Rattle.regex_lite_syntax.specs.Tree.{Tree}
+use Rattle.regex_lite_syntax.specs.FaultPlaces.{IsReadTo}
+use Rattle.regex_lite_syntax.specs.Grammar.{HasTree}
+use Rattle.regex_lite_syntax.specs.Grammar.Atoms.{AtomKind, single, escape, bracketed}
+use Rattle.regex_lite_syntax.specs.Grammar.Atoms.{no_atom, atom_kind, AtomFrom, Atom}
+use Rattle.regex_lite_syntax.specs.Grammar.Points.{Point, start}
+use Rattle.regex_lite_syntax.specs.Parser.Machine.{State, first_state, opened, closed, parted}
+use Rattle.regex_lite_syntax.specs.Parser.Machine.{with_items, Kind, stop, paren, closing, bar}
+use Rattle.regex_lite_syntax.specs.Parser.Machine.{operator, atom, kind_at, Does, Step}
+use Rattle.regex_lite_syntax.specs.Parser.Machine.{LeadsOn, stay, go}
+use Rattle.regex_lite_syntax.proofs.grammar.LongerClassLemmas.{class_longer}
+use Rattle.regex_lite_syntax.proofs.grammar.LongerEscapeLemmas.{escape_longer}
+use Rattle.regex_lite_syntax.proofs.grammar.LongerGapLemmas.{GoesOn, some_left, goes_on_longer}
+use Rattle.regex_lite_syntax.proofs.grammar.LongerGapLemmas.{whole_longer}
+use Rattle.regex_lite_syntax.proofs.grammar.LongerHeadLemmas.{longer, operator_longer}
+use Rattle.regex_lite_syntax.proofs.grammar.LongerHeadLemmas.{head_longer, directive_longer}
+use Rattle.regex_lite_syntax.proofs.machine.OneStepLemmas.{at_end}
+use Rattle.regex_lite_syntax.proofs.machine.ReadOnLemmas.{runs_of, reads_of}
+use Rattle.regex_lite_syntax.proofs.machine.SoundLemmas.{leads_keeps, stands_first}
+use Rattle.regex_lite_syntax.proofs.machine.WholeLemmas.{refuses}
+
+module _ (more : Text) where
+  atom_from : (k : AtomKind) (flags : Flags) (t past rest : Text) (a : Tree)
+      → AtomFrom k flags t past rest a → rest ≢ []
+      → AtomFrom k flags (t ++ more) (past ++ more) (rest ++ more) a
+  atom_from (single p) flags t past rest a d some = (ap (λ u. u ++ more) d.0, d.1)
+  atom_from escape flags t past rest a d some =
+      (d.0, escape_longer more flags.ignore_whitespace past rest d.0 d.1 some, d.2)
+  atom_from bracketed flags t past rest a d some = (d.0, class_longer more d.1, d.2)
+  atom_from no_atom flags t past rest a d some = absurd d
+
+  pub atom_longer : (flags : Flags) (t rest : Text) (a : Tree) → Atom flags t rest a → rest ≢ []
+      → Atom flags (t ++ more) (rest ++ more) a
+  atom_longer flags t rest a d some = record {
+    first = d.first;
+    past_first = d.past_first ++ more;
+    begins = ap (λ u. u ++ more) d.begins;
+    goes_on = atom_from (atom_kind flags d.first) flags t d.past_first rest a d.goes_on some;
+  }
+
+  -- the same state before a longer rest of the pattern
+  abbrev pub longer_state : State → State
+  longer_state s = record s { point = longer more s.point }
+
+  does_longer : (k : Kind) (s : State) (p : Point) (q : State) → Does k s p q
+      → GoesOn q.point.flags.ignore_whitespace q.point.rest
+      → Does k (longer_state s) (longer more p) (longer_state q)
+  unfolding opened closed parted with_items
+  does_longer stop s p q d goes = absurd d
+  does_longer paren s p q (inl d) goes =
+      let here =
+      subst (λ (x : State). GoesOn x.point.flags.ignore_whitespace x.point.rest) d.3 goes in
+      inl (longer more d.0, d.1, head_longer more d.2 here, ap longer_state d.3)
+  does_longer paren s p q (inr d) goes =
+      inr (longer more d.0, directive_longer more d.1, ap longer_state d.2)
+  does_longer closing s p q d goes =
+      (d.0 ++ more, d.1, d.2, ap (λ u. u ++ more) d.3, d.4, ap longer_state d.5)
+  does_longer bar s p q d goes = (d.0 ++ more, ap (λ u. u ++ more) d.1, ap longer_state d.2)
+  does_longer operator s p q d goes =
+      let here =
+      subst (λ (x : State). GoesOn x.point.flags.ignore_whitespace x.point.rest) d.8 goes in (
+        d.0 ++ more,
+        d.1,
+        d.2,
+        d.3,
+        d.4,
+        d.5,
+        d.6,
+        operator_longer more d.7 here,
+        ap longer_state d.8,
+      )
+  does_longer atom s p q d goes =
+      let here =
+      subst (λ (x : State). GoesOn x.point.flags.ignore_whitespace x.point.rest) d.3 goes in (
+        d.0 ++ more,
+        d.1,
+        atom_longer p.flags p.rest d.0 d.1 d.2 (some_left p.flags.ignore_whitespace d.0 here),
+        ap longer_state d.3,
+      )
+
+  kind_longer : (t : Text) → t ≢ [] → kind_at (t ++ more) ≡ kind_at t
+  kind_longer [] some = absurd (some refl)
+  kind_longer (c ∷ t) some = refl
+
+  -- a step, past which more than a gap is left
+  pub step_longer : {s q : State} → Step s q → GoesOn q.point.flags.ignore_whitespace q.point.rest
+      → Step (longer_state s) (longer_state q)
+  step_longer {s} {q} st goes =
+      let verbose = s.point.flags.ignore_whitespace in
+      let p = st.past in
+      let whole =
+      whole_longer more verbose s.point.rest p.rest (st.gap.0, st.ends) (some_past st) in
+      record {
+        past = longer more p;
+        gap = (whole.0, ap (longer more) st.gap.1);
+        ends = whole.1;
+        does =
+            subst (λ k. Does k (longer_state s) (longer more p) (longer_state q))
+            (sym (kind_longer p.rest (some_past st)))
+            (does_longer (kind_at p.rest) s p q st.does goes);
+      }
+    where
+      some_past : (st : Step s q) → st.past.rest ≢ []
+      some_past st e = subst (λ t. Does (kind_at t) s st.past q) e st.does
+
+  -- before a step more than a gap is left
+  goes_before : {s q : State} → Step s q → GoesOn s.point.flags.ignore_whitespace s.point.rest
+  goes_before {s} {q} st g = at_end s q g st
+
+  pub leads_longer : {s q : State} → LeadsOn s q
+      → GoesOn q.point.flags.ignore_whitespace q.point.rest
+      → LeadsOn (longer_state s) (longer_state q)
+  leads_longer (stay e) goes = stay (ap longer_state e)
+  leads_longer {s} {q} (go m st l) goes =
+      go (longer_state m) (step_longer st (left l goes)) (leads_longer l goes)
+    where
+      left : {m : State} → LeadsOn m q → GoesOn q.point.flags.ignore_whitespace q.point.rest
+          → GoesOn m.point.flags.ignore_whitespace m.point.rest
+      left (stay e) goes =
+          subst (λ (x : State). GoesOn x.point.flags.ignore_whitespace x.point.rest) (sym e) goes
+      left (go n st' l') goes = goes_before st'
+
+-- what is read of a pattern, but for more than a gap, is read of each that begins with it
+pub read_longer : (flags : Flags) (pattern more : Text) (q : Point) → IsReadTo flags pattern q
+    → GoesOn q.flags.ignore_whitespace q.rest
+    → IsReadTo flags (pattern ++ more) (longer more q)
+read_longer flags pattern more q read goes =
+    let r = runs_of read.reads in
+    let l = leads_longer more r.leads goes in
+    let begin = start flags (pattern ++ more) in
+    let on = leads_keeps begin _ _ l [] (stands_first flags (pattern ++ more)) in
+    record { level = _; reads = reads_of begin on.0 _ on.1; names_differ = read.names_differ }
+
+-- so a state with no step of any longer pattern refuses them all
+pub refuses_longer : (flags : Flags) (pattern more : Text) (s : State)
+    → LeadsOn (first_state flags pattern) s
+    → GoesOn s.point.flags.ignore_whitespace s.point.rest
+    → ((q : State) → Step (longer_state more s) q → ⊥)
+    → HasTree flags (pattern ++ more) → ⊥
+refuses_longer flags pattern more s l goes stuck =
+    refuses flags (pattern ++ more) (longer_state more s) (leads_longer more l goes) stuck
+    (λ _ gap. goes_on_longer more s.point.flags.ignore_whitespace s.point.rest goes gap)
