@@ -74,13 +74,16 @@ module _ (more : Text) where
       let w = longer_gap more verbose t
       (λ g. closed (at_once (subst (λ u. WholeGap verbose t u)
       (gap_to_end verbose t full.0 full.1 g) full.1))) in
-      let dash = whole_gap_once verbose (t ++ more) _ _ w.longer f.dashed in
+      let dash =
+      whole_gap_once verbose (t ++ more) (w.first ∷ (w.rest ++ more)) (the "-" ∷ f.past_dash)
+      w.longer f.dashed in
       let dashed = subst (λ c. WholeGap verbose t (c ∷ w.rest)) (same_head dash) w.gap in
       let past = full_gap verbose w.rest in
       let v = longer_gap more verbose w.rest
       (λ g. closed (past_dash w.rest dashed (subst (λ u. WholeGap verbose w.rest u)
       (gap_to_end verbose w.rest past.0 past.1 g) past.1))) in
-      let end = whole_gap_once verbose (w.rest ++ more) _ last v.longer
+      let end =
+      whole_gap_once verbose (w.rest ++ more) (v.first ∷ (v.rest ++ more)) last v.longer
       (subst (λ u. WholeGap verbose u last) (sym (same_tail dash)) f.gap) in
       let same = same_head (end ∙ f.goes_on) in
       none (v.first ∷ v.rest) (record {
