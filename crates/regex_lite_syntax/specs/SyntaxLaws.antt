@@ -1,8 +1,5 @@
 -- Laws of the definitions.
-use Rattle.std.specs.Prelude.{◌≡◌, ◌↔◌, ℕ, List, false, [], ◌++◌}
-use Rattle.regex_lite_syntax.specs.FaultPlaces.{IsReadTo}
-use Rattle.regex_lite_syntax.specs.Grammar.Gaps.{Gap}
-use Rattle.regex_lite_syntax.specs.Grammar.Points.{Point, onward}
+use Rattle.std.specs.Prelude.{◌≡◌, ◌↔◌, ◌++◌, ℕ, List, [], false}
 use Rattle.std.specs.List.Sorted.{IsStrictlyIncreasing}
 use Rattle.regex_lite_syntax.specs.declared.class.ClassRange.{ClassRange}
 use Rattle.regex_lite_syntax.specs.declared.flags.Flags.{Flags}
@@ -14,6 +11,9 @@ use Rattle.regex_lite_syntax.specs.Tree.Matches.{Matches}
 use Rattle.regex_lite_syntax.specs.Tree.Numbering.{indices, IndicesDiffer}
 use Rattle.regex_lite_syntax.specs.Grammar.{Grammar, IsTree}
 use Rattle.regex_lite_syntax.specs.Escaped.{escaped, literal, StandsAt}
+use Rattle.regex_lite_syntax.specs.FaultPlaces.{IsReadTo}
+use Rattle.regex_lite_syntax.specs.Grammar.Gaps.{Gap}
+use Rattle.regex_lite_syntax.specs.Grammar.Points.{Point, onward}
 
 -- flags and a pattern have at most one tree, one number of groups and one depth of groups
 abbrev pub AtMostOneTree : Type 0
