@@ -87,14 +87,19 @@ def near_of(tree: Tree) -> str:
     )
 
 
+def in_mixed_case(dice: Dice, text: str) -> str:
+    """The text with some of its letters in the other case."""
+    return ''.join(
+        c.swapcase() if len(c.swapcase()) == 1 and dice.chance(0.3) else c for c in text
+    )
+
+
 def haystacks(dice: Dice, tree: Tree) -> tuple[str, str]:
     """A text that the tree often matches, perhaps with something round it, and a changed form."""
     near = sample(dice, tree)[:40]
     letters = near_of(tree) or 'ab'
     if IGNORES_CASE.search(pattern_of(tree)):
-        near = ''.join(
-            c.swapcase() if len(c.swapcase()) == 1 and dice.chance(0.3) else c for c in near
-        )
+        near = in_mixed_case(dice, near)
     if dice.chance(0.4):
         near = noise(dice, letters) + near + noise(dice, letters)
     if near and dice.chance(0.5):

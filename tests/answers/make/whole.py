@@ -6,7 +6,7 @@ from collections.abc import Iterator
 from .choice import MISSING_COUNTED
 from .data import faults_of
 from .dice import OPERATORS, Dice, edited, edited_often, noise
-from .flags import FAULTS_OF_ITEMS, IGNORES_CASE, framed, is_outside, near_of
+from .flags import FAULTS_OF_ITEMS, IGNORES_CASE, framed, in_mixed_case, is_outside, near_of
 from .leaves import (ALPHABETS, LINE_ENDS, MIXED, Branch, Directive, Group, Item, Leaf, Maker, Tree,
                      sample, some_flags)
 
@@ -155,9 +155,7 @@ def haystacks(dice: Dice, tree: Tree, pattern: str) -> tuple[str, str]:
     near = sample(dice, tree)[:60]
     letters = near_of(tree) or 'ab'
     if IGNORES_CASE.search(pattern):
-        near = ''.join(
-            c.swapcase() if len(c.swapcase()) == 1 and dice.chance(0.3) else c for c in near
-        )
+        near = in_mixed_case(dice, near)
     if dice.chance(0.3):
         near = noise(dice, letters) + near + noise(dice, letters)
     if near and dice.chance(0.3):
