@@ -102,18 +102,18 @@ class RawList:
     def next_captures(self, text: bytes, walk: Walk, room: int) -> List[Tuple[int, List[Span]]]:
         """The numbers of the patterns of the next matches, and the spans of their groups: at most
         this many, and none at the end."""
-        told, count = (ListGroups * room)(), c_size_t()
+        sizes, count = (ListGroups * room)(), c_size_t()
         while True:
             spans = (CSpan * (room * self._room))()
-            answer = _list_captures_all(self._handle, text, len(text), walk, told, room, spans,
+            answer = _list_captures_all(self._handle, text, len(text), walk, sizes, room, spans,
                                         len(spans), count)
             if answer != NO_ROOM:
                 break
             self._room = count.value
         checked(answer)
         found, end = [], 0
-        groups = groups_of(spans, sum(own.count for own in told[:count.value]))
-        for own in told[:count.value]:
+        groups = groups_of(spans, sum(own.count for own in sizes[:count.value]))
+        for own in sizes[:count.value]:
             found.append((own.number, groups[end:end + own.count]))
             end += own.count
         return found
