@@ -6,6 +6,7 @@ import base64
 import json
 import os
 import shutil
+import signal
 import subprocess
 import tempfile
 import time
@@ -27,12 +28,12 @@ class Browser:
     def __init__(self) -> None:
         read, self._write = os.pipe()
         self._read, write = os.pipe()
-        self._folder = tempfile.TemporaryDirectory()
+        self._folder = tempfile.TemporaryDirectory(ignore_cleanup_errors=True)
         # The browser takes requests from file 3, and writes to file 4.
         self._process = subprocess.Popen(
             ['sh', '-c', f'exec "$@" 3<&{read} 4>&{write}', 'sh', BROWSER or '', *OPTIONS,
              f'--user-data-dir={self._folder.name}'], pass_fds=(read, write),
-            stdout=subprocess.DEVNULL, stderr=subprocess.DEVNULL)
+            stdout=subprocess.DEVNULL, stderr=subprocess.DEVNULL, start_new_session=True)
         os.close(read)
         os.close(write)
         self._replies = os.fdopen(self._read, 'rb')
@@ -87,8 +88,8 @@ class Browser:
         self.call('Input.insertText', text=text)
 
     def end(self) -> None:
-        """Ends the browser."""
-        self._process.kill()
+        """Ends the browser with all its processes, some of which may still write to its folder."""
+        os.killpg(self._process.pid, signal.SIGKILL)
         self._process.wait()
         self._replies.close()
         os.close(self._write)
@@ -158,6 +159,28 @@ class Page(WithServer):
         self.assertEqual(self.browser.value('document.getElementById("pattern").ariaInvalid'),
                          'true')
         self.assertEqual((self.marked('match'), self.text('matches')), ([], ''))
+
+    def test_places_of_faults(self) -> None:
+        mark = 'document.querySelector("#fault mark")'
+        for pattern, before, marked in (
+                ('sam(?:wise|[a-)', 'At offset 11: sam(?:wise|', '[a-)'),
+                ('ü😀(<b>', 'At offset 6: ü😀', '(<b>'),
+                ('a' * 1000 + ')' * 101, f'At offset 1,000: …{"a" * 100}', f'{")" * 100}…')):
+            self.browser.write('pattern', pattern)
+            self.shows('fault', before + marked)
+            self.assertEqual(self.browser.value(f'{mark}.textContent'), marked)
+        self.assertEqual(self.browser.value('document.querySelectorAll("b").length'), 0)
+        # The mark is one without colours, and for who hears the page too.
+        self.assertEqual(self.browser.value(f'getComputedStyle({mark}).textDecorationLine'),
+                         'underline')
+        self.assertEqual(self.browser.value(
+            'document.getElementById("pattern").getAttribute("aria-describedby")'),
+            'refusal fault')
+        self.browser.write('pattern', '(' * 60 + ')' * 60)
+        self.shows('fault', '')
+        self.assertNotEqual(self.text('refusal'), '')
+        self.browser.write('pattern', 'a')
+        self.shows('refusal', '')
 
     def test_no_markup(self) -> None:
         bold = '<b>x</b><script>document.title = "y"</script>'
