@@ -3,7 +3,7 @@
 from __future__ import annotations
 
 from itertools import accumulate
-from typing import List, Optional, TypedDict
+from typing import List, Optional, Tuple, TypedDict
 
 from regex_lite import error
 from regex_lite._library import Options, Regex, Span, Walk, encoded
@@ -24,10 +24,12 @@ class Question(TypedDict):
 
 
 class Answer(TypedDict, total=False):
-    """What is shown: why the pattern is refused, or all the rest. The spans of the groups of each
-    match are given in bytes, and in units of UTF-16, as strings of the page have them."""
+    """What is shown: why the pattern is refused and where it is at fault, or all the rest. A place
+    in the pattern, and the spans of the groups of each match, are given in bytes, and in units of
+    UTF-16, as strings of the page have them."""
 
     refusal: str
+    fault: Tuple[int, int]
     names: List[Optional[str]]
     spans: List[List[Span]]
     matches: List[List[Span]]
@@ -60,11 +62,19 @@ def answer_to(question: Question) -> Answer:
         regex = Regex(question['pattern'], options)
         return _found(regex, encoded(question['text']), encoded(question['replacement']))
     except error as refusal:
-        return Answer(refusal=refusal.msg)
+        return _refused(refusal)
     except UnicodeEncodeError:
         return Answer(refusal='half of a character (a lone surrogate) stands in a field')
     except MemoryError:
         return Answer(refusal='out of memory')
+
+
+def _refused(refusal: error) -> Answer:
+    """Why a pattern is refused, and where it is at fault, if it has a place for that."""
+    if refusal.pos is None:
+        return Answer(refusal=refusal.msg)
+    before = refusal.pattern[:refusal.pos].encode()
+    return Answer(refusal=refusal.msg, fault=(len(before), _units_before(before)[-1]))
 
 
 def _found(regex: Regex, text: bytes, replacement: bytes) -> Answer:

@@ -140,7 +140,7 @@ enum {
     REGEX_LITE_NO_ROOM = 5,       /* too little room: how much is needed was written */
     REGEX_LITE_OUT_OF_MEMORY = 6, /* a request for memory was refused */
     REGEX_LITE_NO_GROUP = 7,      /* no group has this index */
-    REGEX_LITE_SYNTAX = 10,       /* from here on of regex_lite_new: no such pattern */
+    REGEX_LITE_SYNTAX = 10,       /* from here on of a pattern: bad syntax */
     REGEX_LITE_NESTING = 11,      /* deeper than the nest limit */
     REGEX_LITE_GROUPS = 12,       /* more groups than can be numbered */
     REGEX_LITE_SIZE = 13,         /* larger than the size limit */
@@ -157,6 +157,17 @@ enum {
 uint32_t regex_lite_new(regex_lite *handle, const uint8_t *pattern, size_t pattern_len,
                         const regex_lite_options *options, uint8_t *message, size_t message_room,
                         size_t *message_len);
+
+/* Writes where in a pattern its first fault is, as an offset in bytes: REGEX_LITE_YES. An editor
+ * can mark the pattern from there on. It returns REGEX_LITE_NO where the syntax has no fault; the
+ * limits of the options don't count.
+ *
+ * The fault is where the part begins that can't be read: a class, an escape, an operator, a list of
+ * flags, a group with a bad name. If groups are open at the end of the pattern, it is where the
+ * innermost of them begins. A pattern that is no UTF-8 is REGEX_LITE_NOT_TEXT, and one with more
+ * groups than can be numbered may be REGEX_LITE_GROUPS. */
+uint32_t regex_lite_fault_at(const uint8_t *pattern, size_t pattern_len,
+                             const regex_lite_options *options, size_t *at);
 
 /* Frees what the handle holds, if anything. */
 void regex_lite_free(regex_lite *handle);

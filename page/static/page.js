@@ -4,6 +4,7 @@
 
 const MOST_MARKED = 50000;  // characters of the text in which matches are marked
 const MOST_CELL = 200;      // characters of a group that the table shows
+const MOST_AROUND = 100;    // characters of a refused pattern before its fault, and from there on
 const MOST_BYTES = 2 << 20; // of a request
 const COLOURS = 5;
 
@@ -89,6 +90,19 @@ function drawTable(haystack, { names = [], matches = [], spans = [] }) {
   field('matches').tBodies[0].replaceChildren(...rows);
 }
 
+// A refused pattern, marked from where it is at fault.
+function drawFault(refused, fault) {
+  if (fault === undefined) {
+    field('fault').replaceChildren();
+    return;
+  }
+  const [bytes, at] = fault;
+  const [start, end] = [Math.max(at - MOST_AROUND, 0), at + MOST_AROUND];
+  const shown = element('code', '', (start > 0 ? '…' : '') + refused.slice(start, at));
+  shown.append(element('mark', '', refused.slice(at, end) + (end < refused.length ? '…' : '')));
+  field('fault').replaceChildren(`At offset ${number(bytes)}: `, shown);
+}
+
 function summary(answer, haystack) {
   const notes = [counted(answer.count, 'match').replace('matchs', 'matches')];
   if (answer.count > answer.matches.length) {
@@ -110,6 +124,7 @@ function show(question, answer) {
   const isRefused = 'refusal' in answer;
   pattern.setAttribute('aria-invalid', isRefused);
   field('refusal').textContent = isRefused ? answer.refusal : '';
+  drawFault(question.pattern, answer.fault);
   field('summary').textContent = isRefused ? '' : summary(answer, question.text);
   field('cost').textContent = isRefused ? '' : cost(answer);
   const replaced = isRefused ? '' : answer.replaced;

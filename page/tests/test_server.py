@@ -32,8 +32,16 @@ class Answers(WithServer):
         self.assertEqual(self.ask('a b # c', 'ab', flags='x')['count'], 1)
 
     def test_refused_patterns(self) -> None:
-        self.assertEqual(list(self.ask('(', '')), ['refusal'])
+        self.assertEqual(list(self.ask('(' * 60 + ')' * 60, '')), ['refusal'])
         self.assertIn('surrogate', self.ask('a', '\ud800')['refusal'])
+        self.assertIn('surrogate', self.ask('(\ud800', '')['refusal'])
+
+    def test_places_of_faults(self) -> None:
+        self.assertEqual(list(self.ask('(', '')), ['refusal', 'fault'])
+        self.assertEqual(self.ask('sam(?:wise|[a-)', '')['fault'], [11, 11])
+        self.assertEqual(self.ask('ü😀[b', '')['fault'], [6, 3])
+        self.assertEqual(self.ask('a # ) )', '')['fault'], [4, 4])
+        self.assertEqual(self.ask('a # )\n )', '', flags='x')['fault'], [7, 7])
 
     def test_many_matches(self) -> None:
         shown = self.ask('a', 'a' * 100_000, 'bb')

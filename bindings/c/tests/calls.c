@@ -44,6 +44,43 @@ static void test_building(void) {
     regex_lite_free(&regex);
 }
 
+/* Whether the first fault of a pattern is at this offset. */
+static bool is_at(const char *pattern, const regex_lite_options *options, size_t wanted) {
+    size_t at = SIZE_MAX;
+    return regex_lite_fault_at(TEXT(pattern), options, &at) == REGEX_LITE_YES && at == wanted;
+}
+
+/* Whether a pattern has none. The offset then stays as it was. */
+static bool is_faultless(const char *pattern, const regex_lite_options *options) {
+    size_t at = 7;
+    return regex_lite_fault_at(TEXT(pattern), options, &at) == REGEX_LITE_NO && at == 7;
+}
+
+static void test_faults(void) {
+    regex_lite_options options = REGEX_LITE_DEFAULTS;
+    size_t at = 7;
+    WANT(is_at("*", &defaults, 0));
+    WANT(is_at("a(b", &defaults, 1));
+    WANT(is_at("(?:a(?:b", &defaults, 4));
+    WANT(is_at("sam(?:wise|[a-)", &defaults, 11));
+    WANT(is_at("a\\q", &defaults, 1));
+    WANT(is_at("(?P<a>y)(?P<a>z)", &defaults, 8));
+    WANT(is_at("\xe2\x98\x83[b-a]", &defaults, 3));
+    WANT(is_faultless("", &defaults));
+    WANT(is_faultless("(?<a>b)(?i:c){2}", &defaults));
+    WANT(is_at(" a # )", &defaults, 5));
+    options.ignore_whitespace = true;
+    WANT(is_faultless(" a # )", &options));
+    WANT(is_at("a # )\n )", &options, 7));
+    /* The limits don't count. */
+    options.nest_limit = 0;
+    options.size_limit = 0;
+    WANT(is_faultless("((a{100}))", &options));
+    WANT(is_at("((a{100})", &options, 0));
+    WANT(regex_lite_fault_at((const uint8_t *)"(\xff", 2, &defaults, &at) == REGEX_LITE_NOT_TEXT);
+    WANT(at == 7);
+}
+
 /* Whether a pattern matches a text under these options. */
 static uint32_t matches(const char *pattern, const regex_lite_options *options, const char *text) {
     regex_lite regex = REGEX_LITE_NOTHING;
@@ -294,6 +331,7 @@ static void test_bad_input(void) {
 
 int main(void) {
     test_building();
+    test_faults();
     test_flags();
     test_swapped_greed();
     test_properties();

@@ -41,6 +41,17 @@ void __wrap_free(void *place) {
     __real_free(place);
 }
 
+/* Asks for the place of a fault, and returns how many answers are what they shouldn't be. */
+static int call_fault_at(void) {
+    regex_lite_options options = REGEX_LITE_DEFAULTS;
+    size_t at = 7;
+    uint32_t answer = regex_lite_fault_at(TEXT("(?:(?<a>b)(c"), &options, &at);
+    if (answer == REGEX_LITE_YES ? at == 10 : answer == REGEX_LITE_OUT_OF_MEMORY && at == 7)
+        return 0;
+    printf("the place of a fault: %u, %lu\n", (unsigned)answer, (unsigned long)at);
+    return 1;
+}
+
 /* Makes all calls that take memory, and returns how many returned what they shouldn't. */
 static int call_all(void) {
     static const char text[] = "Mister Samwise, Sam";
@@ -79,7 +90,7 @@ static int call_all(void) {
     n = regex_lite_escape(TEXT("a.b"), room, sizeof room, &n);
     if (n != REGEX_LITE_YES && n != REGEX_LITE_OUT_OF_MEMORY) wrong++;
     regex_lite_free(&regex);
-    return wrong;
+    return wrong + call_fault_at();
 }
 
 /* Makes all calls for several patterns, and returns how many returned what they shouldn't. */

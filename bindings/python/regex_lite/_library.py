@@ -10,6 +10,7 @@ from pathlib import Path
 from typing import Any, Callable, Iterator, List, Optional, Sequence, Tuple
 
 NO, YES, NOTHING_HELD, NOT_TEXT, BAD_OFFSET, NO_ROOM, OUT_OF_MEMORY, NO_GROUP = range(8)
+SYNTAX = 10
 LONGEST_MESSAGE = 100
 Span = Optional[Tuple[int, int]]
 
@@ -53,13 +54,23 @@ class Cost(ctypes.Structure):
 
 
 class error(Exception):
-    """A pattern is refused. `msg` says why, and `number` is that of the library."""
+    """A pattern is refused. `msg` says why, and `number` is that of the library.
 
-    def __init__(self, msg: str, pattern: str, number: int) -> None:
-        super().__init__(msg)
+    Where the syntax is wrong, `pos` is where the part of the pattern begins that is at fault, and
+    `lineno` and `colno` are the line and the column of that place, both from 1 on. Else they are
+    None."""
+
+    def __init__(self, msg: str, pattern: str, number: int, pos: Optional[int] = None) -> None:
+        super().__init__(msg if pos is None else f'{msg} at position {pos}')
         self.msg = msg
         self.pattern = pattern
         self.number = number
+        self.pos = pos
+        self.lineno: Optional[int] = None
+        self.colno: Optional[int] = None
+        if pos is not None:
+            self.lineno = pattern.count('\n', 0, pos) + 1
+            self.colno = pos - pattern.rfind('\n', 0, pos)
 
 
 def _load() -> ctypes.PyDLL:
@@ -85,6 +96,7 @@ def call(name: str, result: object, *arguments: object) -> Callable[..., int]:
 
 _HANDLE = POINTER(Handle)
 _new = call('new', c_uint32, _HANDLE, *TEXT, POINTER(Options), *_ROOM)
+_fault_at = call('fault_at', c_uint32, *TEXT, POINTER(Options), POINTER(c_size_t))
 _free = call('free', None, _HANDLE)
 _groups = call('groups', c_size_t, _HANDLE)
 _places = call('places', c_size_t, _HANDLE)
@@ -131,6 +143,22 @@ def encoded(text: str) -> bytes:
     return text.encode()
 
 
+def refusal(answer: int, message: bytes, pattern: str, options: Options) -> Exception:
+    """What is raised where a pattern is refused by this number."""
+    if answer == OUT_OF_MEMORY:
+        return MemoryError()
+    pos = _fault_in(pattern, options) if answer == SYNTAX else None
+    return error(message.decode(), pattern, answer, pos)
+
+
+def _fault_in(pattern: str, options: Options) -> Optional[int]:
+    """Where in a pattern its first fault stands, in characters."""
+    raw, at = encoded(pattern), c_size_t()
+    if not checked(_fault_at(raw, len(raw), options, at)):
+        return None
+    return len(raw[:at.value].decode())
+
+
 class Regex:
     """A regex of the library, which is freed with this object."""
 
@@ -139,10 +167,8 @@ class Regex:
         raw, length = encoded(pattern), c_size_t()
         message = ctypes.create_string_buffer(LONGEST_MESSAGE)
         answer = _new(self._handle, raw, len(raw), options, message, LONGEST_MESSAGE, length)
-        if answer == OUT_OF_MEMORY:
-            raise MemoryError
         if answer != YES:
-            raise error(message.raw[:length.value].decode(), pattern, answer)
+            raise refusal(answer, message.raw[:length.value], pattern, options)
         self.groups = _groups(self._handle)
         self.places = _places(self._handle)
         self.arrows = _arrows(self._handle)

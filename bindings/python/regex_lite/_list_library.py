@@ -7,8 +7,8 @@ import struct
 from ctypes import POINTER, c_size_t, c_uint32, c_void_p
 from typing import List, Optional, Sequence, Tuple
 
-from ._library import (LONGEST_MESSAGE, NO_ROOM, OUT_OF_MEMORY, TEXT, YES, CSpan, Options, Span,
-                       Walk, call, checked, encoded, error, groups_of)
+from ._library import (LONGEST_MESSAGE, NO_ROOM, TEXT, YES, CSpan, Options, Span, Walk, call,
+                       checked, encoded, groups_of, refusal)
 
 
 class ListHandle(ctypes.Structure):
@@ -67,11 +67,9 @@ class RawList:
         message = ctypes.create_string_buffer(LONGEST_MESSAGE)
         answer = _list_new(self._handle, raw, len(raw), each, len(each), message, LONGEST_MESSAGE,
                            refused)
-        if answer == OUT_OF_MEMORY:
-            raise MemoryError
         if answer != YES:
             bad = patterns[refused.number] if refused.number < len(patterns) else ''
-            raise error(message.raw[:refused.message_len].decode(), bad, answer)
+            raise refusal(answer, message.raw[:refused.message_len], bad, options)
         self._len = len(texts)
         self._room = 4  # groups for which there is room at first
 

@@ -6,6 +6,15 @@ import unittest
 import regex_lite
 
 
+def refused(module, pattern, flags=0):
+    """The error by which a module refuses a pattern."""
+    try:
+        module.compile(pattern, flags)
+    except module.error as error:
+        return error
+    raise AssertionError(f'{pattern!r} is not refused')
+
+
 class Searches(unittest.TestCase):
     """What a search returns."""
 
@@ -77,6 +86,27 @@ class Refusals(unittest.TestCase):
             regex_lite.compile('a(b')
         self.assertEqual(caught.exception.msg, "found open group without closing ')'")
         self.assertEqual(caught.exception.pattern, 'a(b')
+
+    def test_places(self):
+        for pattern, flags in (('a(b', 0), ('a(?:b(c', 0), ('ab)', 0), ('*', 0), (r'a\y', 0),
+                               ('a[b', 0), ('ü€😀[b', 0), ('a\n(?:b)\n ü)', 0), ('(\n', 0),
+                               ('a # ü )\n\n  )', re.VERBOSE)):
+            ours, theirs = refused(regex_lite, pattern, flags), refused(re, pattern, flags)
+            self.assertIsNotNone(ours.pos)
+            self.assertEqual((ours.pos, ours.lineno, ours.colno),
+                             (theirs.pos, theirs.lineno, theirs.colno), pattern)
+
+    def test_place_in_text(self):
+        self.assertEqual(str(refused(regex_lite, 'a(b')),
+                         "found open group without closing ')' at position 1")
+
+    def test_no_place(self):
+        for pattern, limit in (('((a))', {'nest_limit': 1}), ('a', {'size_limit': 143})):
+            with self.assertRaises(regex_lite.error) as caught:
+                regex_lite.compile(pattern, **limit)
+            fault = caught.exception
+            self.assertEqual((fault.pos, fault.lineno, fault.colno), (None, None, None))
+            self.assertEqual(str(fault), fault.msg)
 
     def test_limits(self):
         self.assertRaises(regex_lite.error, regex_lite.compile, '((a))', nest_limit=1)

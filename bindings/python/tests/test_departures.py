@@ -52,6 +52,18 @@ class Table(unittest.TestCase):
             self.assertEqual(re.findall('[[a]', '[a'), ['[', 'a'])
         self.assertRaises(regex_lite.error, regex_lite.compile, '[[a]')
 
+    def test_pos(self):
+        for pattern, theirs, ours in (('a[b-a]', 2, 1), ('a{2,1}', 2, 1),
+                                      ('a(?P<b>c)(?P<b>d)', 13, 9), ('(?iz)', 3, 0)):
+            self.assertEqual(self.pos(re, pattern), theirs)
+            self.assertEqual(self.pos(regex_lite, pattern), ours)
+
+    def pos(self, module, pattern):
+        """Where a module says that a pattern is at fault."""
+        with self.assertRaises(module.error) as caught:
+            module.compile(pattern)
+        return caught.exception.pos
+
     def test_each_row_is_tested(self):
         rows = re.findall(r'^\| .* \| `(test_\w+)` \|$', README.read_text(encoding='utf-8'), re.M)
         mine = [name for name in dir(self) if name.startswith('test_') and 'each_row' not in name]

@@ -76,7 +76,7 @@ class Lists(unittest.TestCase):
         with self.assertRaises(regex_lite.error) as caught:
             regex_lite.RegexList(['a', 'b(c', 'd)'])
         self.assertEqual(caught.exception.msg, "found open group without closing ')'")
-        self.assertEqual(caught.exception.pattern, 'b(c')
+        self.assertEqual((caught.exception.pattern, caught.exception.pos), ('b(c', 1))
         self.assertRaises(regex_lite.error, regex_lite.RegexList, ['a', '((b))'], nest_limit=1)
         self.assertRaises(TypeError, regex_lite.RegexList, ['a', b'b'])
 

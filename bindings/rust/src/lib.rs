@@ -23,8 +23,16 @@ use std::ops::Range;
 /// Why a call is refused.
 #[derive(Clone, Debug, PartialEq, Eq)]
 pub enum Error {
-    /// The pattern is refused: the number of regex_lite.h, and what is wrong.
-    Pattern(u32, String),
+    /// The pattern is refused.
+    Pattern {
+        /// The number of regex_lite.h for the reason.
+        number: u32,
+        /// What is wrong.
+        message: String,
+        /// Where the part of the pattern begins that is at fault, as an offset in bytes. There is
+        /// none where the pattern only passes a limit, or memory runs out for it.
+        at: Option<usize>,
+    },
     /// The offset is above the text's length, or inside a character.
     BadOffset,
     /// A request for memory was refused.
@@ -34,7 +42,7 @@ pub enum Error {
 impl fmt::Display for Error {
     fn fmt(&self, f: &mut fmt::Formatter<'_>) -> fmt::Result {
         match self {
-            Error::Pattern(_, message) => f.write_str(message),
+            Error::Pattern { message, .. } => f.write_str(message),
             Error::BadOffset => f.write_str("the offset is not between two characters"),
             Error::OutOfMemory => f.write_str("out of memory"),
         }
@@ -133,7 +141,7 @@ impl Regex {
                 regex.groups = unsafe { raw::regex_lite_groups(regex.handle.get()) };
                 Ok(regex)
             }
-            number => Err(refusal(number, &message, len)),
+            number => Err(refusal(number, &message, len, pattern, options)),
         }
     }
 
@@ -406,14 +414,23 @@ fn walked<T: Clone + Default>(
 }
 
 /// Why a pattern is refused, with a message of this many bytes, if there was room for it.
-fn refusal(number: u32, message: &[u8], len: usize) -> Error {
-    match number {
-        raw::OUT_OF_MEMORY => Error::OutOfMemory,
-        number => {
-            let message = String::from_utf8_lossy(&message[..len.min(message.len())]);
-            Error::Pattern(number, message.into_owned())
-        }
+fn refusal(number: u32, message: &[u8], len: usize, pattern: &str, options: Options) -> Error {
+    if number == raw::OUT_OF_MEMORY {
+        return Error::OutOfMemory;
     }
+    let message = String::from_utf8_lossy(&message[..len.min(message.len())]).into_owned();
+    let at = if number == raw::SYNTAX { fault_in(pattern, options) } else { None };
+    Error::Pattern { number, message, at }
+}
+
+/// Where in a pattern its first fault stands, unless memory runs out.
+fn fault_in(pattern: &str, options: Options) -> Option<usize> {
+    let mut at = 0;
+    // SAFETY: all pointers are to live memory of these lengths, and nothing overlaps.
+    let answer = unsafe {
+        raw::regex_lite_fault_at(pattern.as_ptr(), pattern.len(), &options.raw(), &mut at)
+    };
+    (answer == raw::YES).then_some(at)
 }
 
 /// Whether the answer is yes, where the call isn't refused.

@@ -116,9 +116,11 @@ impl RegexList {
         if answer == raw::YES {
             return Ok(list);
         }
+        let number = (told.number < patterns.len()).then_some(told.number);
+        let (pattern, options) = number.map_or(("", Options::default()), |k| patterns[k]);
         Err(ListError {
-            number: (told.number < patterns.len()).then_some(told.number),
-            error: refusal(answer, &message, told.message_len),
+            number,
+            error: refusal(answer, &message, told.message_len, pattern, options),
         })
     }
 

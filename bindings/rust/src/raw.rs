@@ -7,6 +7,7 @@ pub const YES: u32 = 1;
 pub const BAD_OFFSET: u32 = 4;
 pub const NO_ROOM: u32 = 5;
 pub const OUT_OF_MEMORY: u32 = 6;
+pub const SYNTAX: u32 = 10;
 
 /// What holds a regex, or nothing.
 #[repr(C)]
@@ -108,6 +109,12 @@ extern "C" {
         message: *mut u8,
         message_room: usize,
         message_len: *mut usize,
+    ) -> u32;
+    pub fn regex_lite_fault_at(
+        pattern: *const u8,
+        pattern_len: usize,
+        options: *const Options,
+        at: *mut usize,
     ) -> u32;
     pub fn regex_lite_free(handle: *mut Handle);
     pub fn regex_lite_groups(handle: *mut Handle) -> usize;

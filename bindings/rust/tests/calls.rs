@@ -80,12 +80,37 @@ fn settings_and_refusals() -> Result<(), Error> {
         ..Options::default()
     };
     assert!(Regex::with_options("SAM", options)?.is_match("sam")?);
-    let message = "found open group without closing ')'".to_string();
-    assert_eq!(Regex::new("a(b").err(), Some(Error::Pattern(10, message)));
     let small = Options {
         size_limit: 143,
         ..Options::default()
     };
     assert!(Regex::with_options("a", small).is_err());
     Ok(())
+}
+
+#[test]
+fn faults() {
+    let message = "found open group without closing ')'".to_string();
+    let open = Error::Pattern { number: 10, message, at: Some(2) };
+    assert_eq!(open.to_string(), "found open group without closing ')'");
+    assert_eq!(Regex::new("ü(b").err(), Some(open));
+    let verbose = Options {
+        ignore_whitespace: true,
+        ..Options::default()
+    };
+    assert_eq!(place("a # )\n )", verbose), Some(7));
+    assert_eq!(place("a # )\n )", Options::default()), Some(4));
+    let shallow = Options {
+        nest_limit: 1,
+        ..Options::default()
+    };
+    assert_eq!(place("((a))", shallow), None);
+}
+
+/// Where a pattern is at fault, which is refused under these settings.
+fn place(pattern: &str, options: Options) -> Option<usize> {
+    match Regex::with_options(pattern, options) {
+        Err(Error::Pattern { at, .. }) => at,
+        _ => panic!("{pattern} is not refused"),
+    }
 }

@@ -101,7 +101,7 @@ fn settings_and_refusals() -> Tested {
     let refused = RegexList::new(&["a", "b(c", "d)"]).err().unwrap();
     let message = "found open group without closing ')'".to_string();
     assert_eq!(refused.number, Some(1));
-    assert_eq!(refused.error, Error::Pattern(10, message));
+    assert_eq!(refused.error, Error::Pattern { number: 10, message, at: Some(1) });
     assert_eq!(refused.to_string(), "pattern 1: found open group without closing ')'");
     Ok(())
 }

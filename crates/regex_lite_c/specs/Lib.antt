@@ -3,6 +3,7 @@ pub mod Handles
 pub mod Options
 pub mod Answers
 pub mod Building
+pub mod Faults
 pub mod ListBuilding
 pub mod Spans
 pub mod ListSpans

@@ -70,10 +70,22 @@ fn built(alloc: Global, pattern: &str, options: &Options) -> Result<Box<Regex, G
 pub(crate) fn regex_of(alloc: Global, pattern: &str, options: &Options) -> Result<Regex, Error>
     ensures { Builds (settings_of pattern.now options.now) result }
 {
+    builder_of(alloc, pattern, options)?.build()
+}
+
+/// A builder of this pattern under these options.
+pub(crate) fn builder_of(
+    alloc: Global,
+    pattern: &str,
+    options: &Options,
+) -> Result<RegexBuilder, Error>
+    ensures ok { IfOk result (λ builder. builder ≡ settings_of pattern.now options.now) }
+    ensures refused { IfErr result (λ error. error ≡ out_of_memory) }
+{
     let mut builder = RegexBuilder::new(alloc, pattern)?;
     set_flags(&mut builder, options);
     set_limits(&mut builder, options);
-    builder.build()
+    Ok(builder)
 }
 
 /// Sets the flags of these options.

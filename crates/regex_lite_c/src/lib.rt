@@ -14,6 +14,7 @@
 mod answer;
 mod build;
 mod each;
+mod fault;
 mod group_walk;
 mod groups;
 mod handle;

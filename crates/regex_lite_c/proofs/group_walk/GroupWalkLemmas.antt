@@ -30,8 +30,8 @@ pub record EndsWith (groups : List Groups) (walk : Walk) : Type 0 where
   pub is : groups ≡ front ++ (last ∷ [])
   pub end : ended_of walk ≡ Some (whole_span last).1
 
--- The groups of each match are related to it by `Each`, whatever is searched for, a regex or several
--- patterns
+-- The groups of each match are related to it by `Each`, whatever is searched for, a regex or
+-- several patterns
 module _ {S A : Type 0} (found_of : A → Found)
     (IsAnswerTo : S → Text → (s : ℕ) → Option A → Type 0)
     (Each : S → (haystack : List ℕ) → List A → List Groups → Type 0) where
@@ -51,7 +51,8 @@ module _ {S A : Type 0} (found_of : A → Found)
     pub none : count ≡ 0 → (now ≡ start) × (walk ≡ old_walk) × (new ≡ old) × (used ≡ 0)
     pub some : 0 < count → EndsWith groups walk
 
-  unfoldable pub none_so_far : (start : AheadOf S) (walk : Walk) (old : List Span) → start.limit ≡ None
+  unfoldable pub none_so_far : (start : AheadOf S) (walk : Walk) (old : List Span)
+      → start.limit ≡ None
       → Each start.sought start.haystack [] []
       → AreSoFar start start walk walk old old 0 0
   none_so_far start walk old limit each = record {

@@ -38,7 +38,8 @@ returns-in-Ok-captures_iter_after c =
     let text = c.in-Ok.ensures in
     let is = c.in-Ok-captures_iter_after.ensures.ahead
     ∙ ap (λ b. list_after list b c.ended-ended.result) text.0 ∙ ap (list_after list bytes) ended in
-    walk_told list bytes c.args.walk.now c.fill_groups.new.walk c.args.told.now c.fill_groups.new.told
+    walk_told list bytes c.args.walk.now c.fill_groups.new.walk c.args.told.now
+    c.fill_groups.new.told
     c.args.spans.now c.fill_groups.new.spans c.fill_groups.new.count c.fill_groups.result text.1
     (subst (IsCharBoundary bytes) (c.unwrap_or.ensures ∙ ap (λ e. unwrap_or e 0) ended) text.2)
     (subst (λ a. IsListFilled a c.args.walk.now c.fill_groups.new.walk c.args.told.now
