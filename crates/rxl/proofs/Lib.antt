@@ -4,3 +4,4 @@ pub mod ListLemmas
 pub mod GroupLineLemmas
 pub mod PieceLemmas
 pub mod TemplateLemmas
+pub mod ReplacedLemmas

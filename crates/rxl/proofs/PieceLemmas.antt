@@ -2,7 +2,7 @@
 use Rattle.std.proofs.Common.{◌≡◌, ℕ, Bool, true, false, MatchBool, List, []}
 use Rattle.std.proofs.Common.{◌∷◌, ◌++◌, Option, flat_map, codes, refl, sym, ◌∙◌}
 use Rattle.std.proofs.lemmas.List.{append_assoc, append-nil}
-use Rattle.regex_lite.specs.declared.string.split.Split.{Split}
+use Rattle.regex_lite.specs.declared.string.iter.split.Split.{Split}
 use Rattle.regex_lite.specs.Expression.{Expression}
 use Rattle.regex_lite.specs.Pieces.{ArePieces, ArePiecesLeft}
 use Rattle.rxl.specs.declared.output.Output.{Output}

@@ -1,5 +1,6 @@
 //! What the commands print.
-ghost use Rattle.std.specs.Prelude.{◌≡◌, ⊤, true, option_map, IfOk, IfErr};
+ghost use Rattle.std.specs.Prelude.{◌≡◌, ◌↔◌, ⊤, true, option_map, IfOk, IfErr, IsTrue};
+ghost use Rattle.std.specs.Cow.{IsOwnedStr};
 ghost use Rattle.regex_lite.specs.Errors.{out_of_memory};
 ghost use Rattle.regex_lite.specs.Escapes.{escaped_pattern};
 ghost use Rattle.regex_lite.specs.MatchViews.{span_of_match};
@@ -10,6 +11,7 @@ ghost use Rattle.rxl.specs.Printed.{Prints, group_text, groups_line, span_text};
 use crate::output::Output;
 use regex_lite::{Captures, Error, Match, Regex, escape};
 use std::alloc::Global;
+use std::borrow::CowStr;
 use std::io::Write;
 
 /// Prints where the matches are, and returns whether there is one.
@@ -96,13 +98,17 @@ pub(crate) fn print_replaced<W: Write>(
         output.old (W.contents out.old) output.new (W.contents out.new) }
     ensures refused { IfErr result (λ error. error ≡ out_of_memory) }
 {
-    if !regex.is_match(haystack)? {
-        output.text(out, haystack);
-        return Ok(false);
-    }
     let replaced = regex.replace_all(haystack, template)?;
     output.text(out, replaced.as_str());
-    Ok(true)
+    // Without a match the haystack itself is returned, and with one a new text.
+    Ok(is_new(&replaced))
+}
+
+/// Whether the text is a new one.
+fn is_new(text: &CowStr<'_>) -> bool
+    ensures { IsTrue result ↔ IsOwnedStr text.now }
+{
+    matches!(text, CowStr::Owned(_))
 }
 
 /// Prints the text as a pattern that means it.
