@@ -66,7 +66,8 @@ module _ (more : Text) where
       → Counted verbose t rest least most → Counted verbose (t ++ more) (rest ++ more) least most
   counted_longer (exactly k e) = exactly (number_longer k (λ e. cc e)) e
   counted_longer {verbose} {rest} (at_least past k g e) =
-      at_least (past ++ more) (number_longer k (λ e. cc e)) (gap_before more verbose past rest _ g) e
+      at_least (past ++ more) (number_longer k (λ e. cc e))
+      (gap_before more verbose past rest _ g) e
   counted_longer (between past n k m order e) =
       between (past ++ more) n (number_longer k (λ e. cc e)) (number_longer m (λ e. cc e)) order e
 

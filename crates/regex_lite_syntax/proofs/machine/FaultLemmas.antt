@@ -147,7 +147,11 @@ unfolding state
 stuck_at flags pattern p t u starts here c whole there more stuck =
     let s = state p t c.deepest in
     let read : IsReadTo flags pattern s.point =
-    record { level = length s.frames; reads = reads_of _ _ s c.stands; names_differ = c.differ } in (
+    record {
+      level = length s.frames;
+      reads = reads_of _ _ s c.stands;
+      names_differ = c.differ;
+    } in (
       record {
         last = s.point;
         reads = read;

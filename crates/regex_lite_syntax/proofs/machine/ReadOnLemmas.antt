@@ -65,7 +65,8 @@ runs_of {p} {q} (outside branches none d) =
 runs_of (in_group around last here first kind branches deeper before past head d) =
     let r = runs_of before in
     let f = frame_at here kind r.branches r.items in
-    let into = into_group around last here first kind r.frames r.branches r.items r.depth past head in
+    let into =
+    into_group around last here first kind r.frames r.branches r.items r.depth past head in
     let depth = ap (λ n. n + 1) r.depth in
     let inner = deeper ∙ depth ∙ add-one (length r.frames) in
     let u = alternatives_lead d (f ∷ r.frames) inner in

@@ -40,7 +40,8 @@ pub record Reaches (flags : Flags) (nest_limit : ℕ) (pattern : Text) (p : Pars
   pub characters : AreCharacters pattern
 
 -- as many frames as open groups
-pub frames_are : (p : Parser) (t : Text) (d : ℕ) → length (state p t d).frames ≡ length p.below.items
+pub frames_are : (p : Parser) (t : Text) (d : ℕ)
+    → length (state p t d).frames ≡ length p.below.items
 unfolding state
 frames_are p t d = length-reverse (map frame_of p.below.items) ∙ length-map p.below.items frame_of
 

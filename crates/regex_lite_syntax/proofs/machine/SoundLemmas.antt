@@ -181,8 +181,11 @@ leads_keeps begin s q (go m st l) begun h =
 
 pub stands_first : (flags : Flags) (pattern : Text)
     → Stands (start flags pattern) [] (first_state flags pattern)
-stands_first flags pattern =
-    record { from = start flags pattern; below = (refl, refl); here = first refl (nothing refl refl) }
+stands_first flags pattern = record {
+  from = start flags pattern;
+  below = (refl, refl);
+  here = first refl (nothing refl refl);
+}
 
 -- a run to where only a gap is left, with no group open and no name twice, gives the pattern its
 -- tree

@@ -77,5 +77,6 @@ loop-starts-preserved c =
       comes =
           comes_next c.args.flags xs c.loop-starts.parser q _ _ _ _ _ here
           c.loop-starts.invariant.comes c.skip_gap-here.ensures.gap refl c.in-Ok.ensures.ok.reads
-          (subst (λ n. Tracks c.loop-starts.starts.items c.track.new.starts.items n here) c.open_groups.ensures c.in_ok-track.ensures);
+          (subst (λ n. Tracks c.loop-starts.starts.items c.track.new.starts.items n here)
+          c.open_groups.ensures c.in_ok-track.ensures);
     }
