@@ -2,3 +2,4 @@
 pub mod StaticNumberLemmas
 pub mod PointerLemmas
 pub mod UnboxedLemmas
+pub use Rattle.regex_lite.proofs.string.AgreementLemmas

@@ -8,8 +8,8 @@ use Rattle.regex_lite_syntax.specs.Text.{Text}
 use Rattle.regex_lite_engine.specs.Search.Answer.{Found}
 use Rattle.regex_lite_engine.specs.Search.Offsets.{position_at}
 use Rattle.regex_lite.specs.declared.string.matches.Match.{Match}
-use Rattle.regex_lite.specs.declared.string.find_iter.Matches.{Matches}
-use Rattle.regex_lite.specs.declared.string.captures_iter.CaptureMatches.{CaptureMatches}
+use Rattle.regex_lite.specs.declared.string.iter.find_iter.Matches.{Matches}
+use Rattle.regex_lite.specs.declared.string.iter.captures_iter.CaptureMatches.{CaptureMatches}
 use Rattle.regex_lite.specs.Expression.{Expression, OfTree}
 use Rattle.regex_lite.specs.Groups.{Groups, whole_span}
 use Rattle.regex_lite.specs.MatchList.{AreSomeWithin, AreWithin, IsAnswerOf}

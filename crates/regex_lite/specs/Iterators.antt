@@ -1,8 +1,8 @@
 -- What the first clauses of iterators speak of: where the last match ended, and whose groups they
 -- give.
 use Rattle.std.specs.Prelude.{ℕ, Option}
-use Rattle.regex_lite.specs.declared.string.captures_iter.CaptureMatches.{CaptureMatches}
-use Rattle.regex_lite.specs.declared.string.find_iter.Matches.{Matches}
+use Rattle.regex_lite.specs.declared.string.iter.captures_iter.CaptureMatches.{CaptureMatches}
+use Rattle.regex_lite.specs.declared.string.iter.find_iter.Matches.{Matches}
 use Rattle.regex_lite.specs.declared.string.list.captures_iter.ListCaptureMatches.{
   ListCaptureMatches,
 }

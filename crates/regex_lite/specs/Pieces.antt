@@ -1,13 +1,15 @@
 -- The pieces of a haystack between its matches.
-use Rattle.std.specs.Prelude.{◌≡◌, ◌+◌, ℕ, zero, suc, true, false, List, [], ◌∷◌}
-use Rattle.std.specs.Prelude.{Option, Some, None, MatchOption, MatchBool, map, drop}
+use Rattle.std.specs.Prelude.{◌≡◌, ◌+◌, ℕ, zero, suc, Bool, true, false, List, [], ◌∷◌}
+use Rattle.std.specs.Prelude.{Option, Some, None, MatchOption, MatchBool, is_none, map, drop}
 use Rattle.std.specs.Prelude.{length, slice_range, chars, unwrap_or, if◌then◌else◌}
 use Rattle.std.specs.Borrow.{Bor}
 use Rattle.std.specs.Iterator.{Count, at_most}
 use Rattle.regex_lite_syntax.specs.Text.{Text}
 use Rattle.regex_lite_engine.specs.Search.Answer.{Found}
-use Rattle.regex_lite.specs.declared.string.split.Split.{Split}
-use Rattle.regex_lite.specs.declared.string.split.SplitN.{SplitN}
+use Rattle.regex_lite.specs.declared.string.iter.split.Split.{Split}
+use Rattle.regex_lite.specs.declared.string.iter.split.Pieces.{Pieces}
+use Rattle.regex_lite.specs.declared.string.iter.split.Pieces.TheVariants.{Cut, Whole}
+use Rattle.regex_lite.specs.declared.string.iter.split.SplitN.{SplitN}
 use Rattle.regex_lite.specs.Expression.{Expression}
 use Rattle.regex_lite.specs.Searches.{offsets}
 use Rattle.regex_lite.specs.Ahead.{Ahead, AreAhead, ahead_of, most_left, whole}
@@ -44,8 +46,14 @@ ArePiecesLeft it list =
     MatchBool it.is_done (list ≡ [])
     (IsCut (ahead_of it.matches) (unwrap_or it.matches.scan.ended 0) list)
 
+-- the same where the haystack is cut, where all of it is left as it is, and where nothing is left
+abbrev pub AreLeft : Pieces → List (List ℕ) → Type 0
+AreLeft (Cut split) list = ArePiecesLeft split list
+AreLeft (Whole None) list = list ≡ []
+AreLeft (Whole (Some rest)) list = list ≡ rest.now ∷ []
+
 abbrev pub ArePiecesLeftN : SplitN → List (List ℕ) → Type 0
-ArePiecesLeftN it list = ArePiecesLeft it.pieces list
+ArePiecesLeftN it list = AreLeft it.pieces list
 
 -- the first of the pieces that were left came; or none was left, and none comes from then on
 abbrev pub GivesPiece : Split → Option (Bor (List ℕ)) → Split → Type 0
@@ -54,8 +62,16 @@ GivesPiece old item new =
     (λ piece. (old.is_done ≡ false)
     × ((list : List (List ℕ)) → ArePiecesLeft new list → ArePiecesLeft old (piece.now ∷ list)))
 
+-- none is left
+abbrev pub is_over : Pieces → Bool
+is_over (Cut split) = split.is_done
+is_over (Whole rest) = is_none rest
+
 abbrev pub GivesPieceN : SplitN → Option (Bor (List ℕ)) → SplitN → Type 0
-GivesPieceN old item new = GivesPiece old.pieces item new.pieces
+GivesPieceN old item new =
+    MatchOption item ((is_over old.pieces ≡ true) × (is_over new.pieces ≡ true))
+    (λ piece. (is_over old.pieces ≡ false)
+    × ((list : List (List ℕ)) → ArePiecesLeftN new list → ArePiecesLeftN old (piece.now ∷ list)))
 
 -- at most this many are left
 abbrev pub most_pieces : Split → Count
@@ -63,5 +79,10 @@ most_pieces it =
     at_most (if it.is_done then 0 else most_left it.matches.scan.limit
     (length it.matches.scan.haystack) it.matches.scan.ended + 1)
 
+abbrev pub most_of : Pieces → Count
+most_of (Cut split) = most_pieces split
+most_of (Whole None) = at_most 0
+most_of (Whole (Some rest)) = at_most 1
+
 abbrev pub most_pieces_n : SplitN → Count
-most_pieces_n it = most_pieces it.pieces
+most_pieces_n it = most_of it.pieces

@@ -9,8 +9,8 @@ use Rattle.std.proofs.lemmas.Option.{slice_get_within}
 use Rattle.std.proofs.lemmas.Str.{IsUtf8-drop, chars-nil, chars_past_char}
 use Rattle.regex_lite_engine.specs.Search.Offsets.{position_at, search_start, IsOffset}
 use Rattle.regex_lite_engine.proofs.OffsetLemmas.{boundary_at, offset_next}
-use Rattle.regex_lite_engine.proofs.pikevm.here.OffsetLemmas.{after_at, same_position}
-pub use Rattle.regex_lite_engine.proofs.pikevm.here.OffsetLemmas.{position_is}
+use Rattle.regex_lite_engine.proofs.search.here.OffsetLemmas.{after_at, same_position}
+pub use Rattle.regex_lite_engine.proofs.search.here.OffsetLemmas.{position_is}
 
 pub first_position : (bytes : List ℕ) → position_at bytes 0 ≡ 0
 first_position bytes = ap length chars-nil

@@ -1,6 +1,5 @@
 -- lemmas that several proofs here share
 pub mod AgainLemmas
-pub mod BlockLemmas
 pub mod BoundLemmas
 pub mod ComeLemmas
 pub mod CountLemmas
@@ -8,20 +7,10 @@ pub mod EnterLemmas
 pub mod EndLemmas
 pub mod InStepLemmas
 pub mod InStepMatchLemmas
-pub mod ListOutcomeLemmas
-pub mod ListSkipLemmas
-pub mod MarkLemmas
-pub mod OfferLemmas
-pub mod OneStartLemmas
-pub mod OptionLemmas
-pub mod OutcomeLemmas
 pub mod OwnPartLemmas
 pub mod PassLemmas
-pub mod PositionLemmas
-pub mod RecordLemmas
 pub mod RoomLemmas
 pub mod ShortestLemmas
-pub mod SkipLemmas
 pub mod StateLemmas
 pub mod StepLemmas
 pub mod ThreadLemmas

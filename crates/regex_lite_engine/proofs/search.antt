@@ -1,2 +1,12 @@
-pub mod FewPairsLemmas
-pub mod CharacterLemmas
+-- lemmas that several proofs here share
+pub mod BlockLemmas
+pub mod ListSkipLemmas
+pub mod MarkLemmas
+pub mod OfferLemmas
+pub mod OptionLemmas
+pub mod PositionLemmas
+pub mod RecordLemmas
+pub mod SkipLemmas
+pub mod OutcomeLemmas
+pub mod ListOutcomeLemmas
+pub mod OneStartLemmas

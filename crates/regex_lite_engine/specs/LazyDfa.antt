@@ -5,7 +5,7 @@ pub mod Automaton
 pub mod Stored
 pub mod Extending
 pub mod Scanning
-pub mod ByBytes
+pub mod Spots
 pub mod Learning
 pub mod Running
 pub mod Remembering

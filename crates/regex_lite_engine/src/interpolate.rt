@@ -13,7 +13,7 @@ ghost use Rattle.regex_lite_engine.specs.Interpolation.{is_index, is_name_charac
 ghost use Rattle.regex_lite_engine.specs.Interpolation.Pieces.{piece_of};
 
 /// A piece of a template.
-#[derive(Clone, Copy, PartialEq, Eq, Debug)]
+#[derive(Clone, Copy)]
 pub enum Piece<'t> {
     /// Text that stands for itself.
     Text(&'t str),

@@ -1,11 +1,11 @@
 //! A lazy automaton: it remembers the turns that searches have taken, so that later ones take them
 //! by a look-up.
-pub(crate) mod ascii;
 pub(crate) mod automaton;
 pub(crate) mod boundaries;
 pub(crate) mod classes;
 pub(crate) mod find;
 pub(crate) mod idle;
+mod interval;
 pub(crate) mod learn;
 pub(crate) mod remembering;
 pub(crate) mod run;
@@ -14,6 +14,7 @@ pub(crate) mod shortest;
 pub(crate) mod side;
 pub(crate) mod single;
 pub(crate) mod spans;
+pub(crate) mod spot;
 pub(crate) mod state;
 pub(crate) mod trial;
 mod turns;

@@ -14,13 +14,14 @@ pub mod laws;
 mod lazy_dfa;
 mod nfa;
 mod pikevm;
+mod prefilter;
 mod search;
 
 pub use nfa::Graph;
 pub use nfa::groups::Groups;
 pub use nfa::list::GraphList;
 pub use nfa::measured::Measured;
-pub use pikevm::list_searcher::ListSearcher;
-pub use pikevm::search::Outcome;
-pub use pikevm::searcher::Searcher;
-pub use pikevm::steps::Steps;
+pub use search::list_searcher::ListSearcher;
+pub use search::outcome::Outcome;
+pub use search::searcher::Searcher;
+pub use search::steps::Steps;

@@ -8,29 +8,25 @@ ghost use Rattle.regex_lite_engine.specs.Graph.Renumbered.{arrows_of, IsGraphOf,
 ghost use Rattle.regex_lite_engine.specs.Graph.Size.{Fits, IsDueToTree};
 ghost use Rattle.regex_lite_engine.specs.Graph.Places.{kept_back_of, kept_back_with, reading_of};
 ghost use Rattle.regex_lite_engine.specs.Graph.Stored.{LeadsBelow, place_of, table_of};
-ghost use Rattle.regex_lite_engine.specs.Nfa.Prefilter.{IsPrefilterOf};
-ghost use Rattle.regex_lite_engine.specs.Walk.Starts.{AreHeadsOf};
+ghost use Rattle.regex_lite_engine.specs.Prefilter.Bytes.{IsPrefilterOf};
+ghost use Rattle.regex_lite_engine.specs.Search.Starts.{AreHeadsOf};
 
 pub(crate) mod class;
 mod count;
 pub(crate) mod groups;
-pub(crate) mod heads;
 pub(crate) mod kept_back;
 pub(crate) mod list;
-pub(crate) mod list_heads;
 pub(crate) mod measured;
 pub(crate) mod place;
-pub(crate) mod prefilter;
-pub(crate) mod starts;
 pub(crate) mod table;
 mod write;
 
-use crate::pikevm::steps::Steps;
+use crate::prefilter::Prefilter;
+use crate::prefilter::heads::Heads;
+use crate::search::steps::Steps;
 use count::Counts;
 use groups::Groups;
-use heads::Heads;
 use place::Place;
-use prefilter::Prefilter;
 use regex_lite_syntax::{Error, Hir};
 use std::alloc::Global;
 use std::marker::Model;
@@ -55,8 +51,8 @@ pub struct Graph {
 impl Model for Graph {
     ghost use Rattle.std.specs.Prelude.{◌<◌, IfSome, length};
     ghost use Rattle.regex_lite_engine.specs.Graph.Stored.{StoredGraph, places_of};
-    ghost use Rattle.regex_lite_engine.specs.Nfa.Prefilter.{IsPrefilterOf};
-    ghost use Rattle.regex_lite_engine.specs.Walk.Starts.{AreHeadsOf};
+    ghost use Rattle.regex_lite_engine.specs.Prefilter.Bytes.{IsPrefilterOf};
+    ghost use Rattle.regex_lite_engine.specs.Search.Starts.{AreHeadsOf};
 
     ghost Value = { StoredGraph };
 

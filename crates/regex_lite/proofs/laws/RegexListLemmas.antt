@@ -6,7 +6,7 @@ use Rattle.std.proofs.lemmas.Bool.{false≢true}
 use Rattle.regex_lite_syntax.specs.Grammar.{IsTree}
 use Rattle.regex_lite_syntax.specs.Tree.{Tree}
 use Rattle.regex_lite_syntax.specs.Tree.Properties.{captures_len}
-use Rattle.regex_lite_engine.specs.declared.pikevm.steps.Steps.{Steps}
+use Rattle.regex_lite_engine.specs.declared.search.steps.Steps.{Steps}
 use Rattle.regex_lite_engine.specs.Graph.SideBySide.{places_of_all, tries_of_all}
 use Rattle.regex_lite_engine.specs.Graph.PlaceCounts.{whole_arrows, whole_places}
 use Rattle.regex_lite_engine.specs.Search.Answer.{Found, HasMatchFrom}

@@ -6,7 +6,7 @@ use Rattle.std.proofs.lemmas.Bool.{false≢true}
 use Rattle.std.proofs.lemmas.List.{length-take-le}
 use Rattle.std.proofs.lemmas.Option.{slice_get-get_or, slice_get_within, unwrap_or-slice_get}
 use Rattle.regex_lite_syntax.specs.Tree.{Tree}
-use Rattle.regex_lite_engine.specs.declared.pikevm.search.Outcome.{Outcome}
+use Rattle.regex_lite_engine.specs.declared.search.outcome.Outcome.{Outcome}
 use Rattle.regex_lite_engine.specs.WayLaws.{IsPatternTree}
 use Rattle.regex_lite_engine.specs.Graph.SideBySide.{AreRegular}
 use Rattle.regex_lite_engine.specs.Graph.StoredList.{HasGroupsOfList, IsGraphOfList, StoredGroups}

@@ -1,8 +1,7 @@
 -- Pieces, one after another.
-use Rattle.std.proofs.Common.{◌≡◌, ◌↔◌, ◌-◌, ℕ, zero, suc, nat_eq, Bool, false, MatchBool}
+use Rattle.std.proofs.Common.{◌≡◌, ◌↔◌, ◌<◌, ◌-◌, ℕ, zero, suc, Bool, false, MatchBool}
 use Rattle.std.proofs.Common.{Option, Some, None, unwrap_or, List, [], ◌∷◌, map, drop}
 use Rattle.std.proofs.Common.{slice_range, chars, refl, sym, ap, ◌∙◌, subst, arith}
-use Rattle.std.proofs.lemmas.Bool.Decides.{nat_tests}
 use Rattle.regex_lite_engine.specs.Search.Answer.{Found}
 use Rattle.regex_lite.specs.Expression.{Expression}
 use Rattle.regex_lite.specs.Ahead.{Ahead, IsOver, Passes, whole}
@@ -38,20 +37,16 @@ chosen P {Q} b is q = subst (λ b. MatchBool b P Q) (sym is) q
 pub chose : (P : Type 0) {Q : Type 0} (b : Bool) → b ≡ false → MatchBool b P Q → Q
 chose P {Q} b is q = subst (λ b. MatchBool b P Q) is q
 
--- what is left at first, where at most this many pieces may come
+-- what is left at first, where at most this many pieces may come, at least one
 pub left_at_first : (limit : ℕ) (re : Expression) (hay : List ℕ) (a : Ahead) (ended : Option ℕ)
-    → a ≡ whole re hay (Some (limit - 1)) → ended ≡ None → (list : List (List ℕ))
-    → MatchBool (nat_eq limit 0) (list ≡ []) (IsCut a (unwrap_or ended 0) list)
-    ↔ ArePiecesWithin limit re hay list
-left_at_first zero re hay a ended is begins list = (λ none. none, λ none. none)
-left_at_first (suc k) re hay a ended is begins list =
+    → 0 < limit → a ≡ whole re hay (Some (limit - 1)) → ended ≡ None → (list : List (List ℕ))
+    → IsCut a (unwrap_or ended 0) list ↔ ArePiecesWithin limit re hay list
+left_at_first zero re hay a ended some is begins list = absurd (omega (arith, some))
+left_at_first (suc k) re hay a ended some is begins list =
     let same : a ≡ whole re hay (Some k) = is ∙ ap (λ n. whole re hay (Some n)) (omega arith) in
-    let start : unwrap_or ended 0 ≡ 0 = ap (λ e. unwrap_or e 0) begins in
-    let more : nat_eq (suc k) 0 ≡ false = grind (arith, nat_tests) in (
+    let start : unwrap_or ended 0 ≡ 0 = ap (λ e. unwrap_or e 0) begins in (
       λ left. subst (λ from. IsCut (whole re hay (Some k)) from list) start
-          (subst (λ b. IsCut b (unwrap_or ended 0) list) same
-          (chose (list ≡ []) (nat_eq (suc k) 0) more left)),
-      λ cut. chosen (list ≡ []) (nat_eq (suc k) 0) more
-          (subst (λ b. IsCut b (unwrap_or ended 0) list) (sym same)
-          (subst (λ from. IsCut (whole re hay (Some k)) from list) (sym start) cut)),
+          (subst (λ b. IsCut b (unwrap_or ended 0) list) same left),
+      λ cut. subst (λ b. IsCut b (unwrap_or ended 0) list) (sym same)
+          (subst (λ from. IsCut (whole re hay (Some k)) from list) (sym start) cut),
     )

@@ -6,7 +6,7 @@ ghost use Rattle.regex_lite_engine.specs.Search.Offsets.{IsOffset};
 ghost use Rattle.regex_lite.specs.FaultOffsets.{HasTreeUnder, IsFaultOffset};
 
 use crate::string::builder::RegexBuilder;
-use crate::string::scan::next_offset;
+use crate::string::iter::scan::next_offset;
 use regex_lite_syntax::{Error, fault_at};
 
 impl RegexBuilder {

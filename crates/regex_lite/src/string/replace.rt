@@ -8,8 +8,8 @@ ghost use Rattle.regex_lite.specs.Searches.{MatchesFrom};
 ghost use Rattle.regex_lite.specs.Replacements.{IsHandedOn, IsRefused, IsReplacedBy};
 ghost use Rattle.regex_lite.specs.Replacements.{IsReplacedInTurn, IsReplacement, limit_of};
 
-use crate::string::find_iter::Matches;
-use crate::string::group_scan::GroupScan;
+use crate::string::iter::find_iter::Matches;
+use crate::string::iter::group_scan::GroupScan;
 use crate::string::regex::Regex;
 use crate::string::replacer::Replacer;
 use crate::string::rewrite::Rewrite;

@@ -5,7 +5,7 @@ ghost use Rattle.regex_lite.specs.Compiled.{AreOfRegex, SharesGroups};
 ghost use Rattle.regex_lite.specs.Scanning.{AreSlotsForGroups};
 
 use crate::string::captures::Captures;
-use crate::string::finds::Finds;
+use crate::string::iter::finds::Finds;
 use crate::string::matches::Match;
 use crate::string::regex::Regex;
 use crate::string::slots::all_slots;
@@ -16,7 +16,7 @@ use std::marker::Model;
 
 /// A regex, and the memory in which it is searched for, search after search.
 #[derive(Drop)]
-pub(super) struct Searcher<'r> {
+pub(crate) struct Searcher<'r> {
     regex: &'r Regex,
     inner: regex_lite_engine::Searcher<'r>,
 }

@@ -3,17 +3,17 @@ use Rattle.std.proofs.Common.{◌≡◌, ℕ, ◌<◌, ◌≤◌, ◌⊎◌, inl
 use Rattle.std.proofs.Common.{◌∷◌, ◌++◌, Option, Some, None, refl, sym, ap, subst, ◌∙◌}
 use Rattle.std.proofs.lemmas.Bool.{cases_lt}
 use Rattle.regex_lite_engine.specs.Backtrack.DepthFirst as walk
-use Rattle.regex_lite_engine.specs.Walk.Explored as explored
-use Rattle.regex_lite_engine.specs.Walk.Explored.{NotAfter, StartsAt}
-use Rattle.regex_lite_engine.specs.Walk.InStep as offered
-use Rattle.regex_lite_engine.specs.Walk.InStep.{StartsBelow}
+use Rattle.regex_lite_engine.specs.Search.Explored as explored
+use Rattle.regex_lite_engine.specs.Search.Explored.{NotAfter, StartsAt}
+use Rattle.regex_lite_engine.specs.Pikevm.InStep as offered
+use Rattle.regex_lite_engine.specs.Pikevm.InStep.{StartsBelow}
 use Rattle.regex_lite_engine.proofs.backtrack.DepthFirstLemmas.{at_starts}
 use Rattle.regex_lite_engine.proofs.laws.search.WayOrderLemmas.{NotAfter-trans, NotAfter-append}
 use Rattle.regex_lite_engine.proofs.pikevm.InStepLemmas.{or_dead}
-use Rattle.regex_lite_engine.proofs.pikevm.OfferLemmas as order
-use Rattle.regex_lite_engine.proofs.pikevm.OfferLemmas.{preferred_before, below_front, below_append}
-use Rattle.regex_lite_engine.proofs.pikevm.OptionLemmas.{not_there}
-use Rattle.regex_lite_engine.proofs.pikevm.RecordLemmas as records
+use Rattle.regex_lite_engine.proofs.search.OfferLemmas as order
+use Rattle.regex_lite_engine.proofs.search.OfferLemmas.{preferred_before, below_front, below_append}
+use Rattle.regex_lite_engine.proofs.search.OptionLemmas.{not_there}
+use Rattle.regex_lite_engine.proofs.search.RecordLemmas as records
 
 module _ (N : Type 0) (step : N → ℕ → Option N) (start : ℕ → N) (is_end : N → Bool)
     (first last : ℕ) where

@@ -24,18 +24,18 @@ use Rattle.regex_lite_engine.specs.Graph.Renumbered.{arrow_count}
 use Rattle.regex_lite_engine.specs.Graph.Stored.{place_of}
 use Rattle.regex_lite_engine.specs.Search.Marks.{Marks, marked, over, mark_of}
 use Rattle.regex_lite_engine.specs.Search.Offsets.{offset, IsOffset, HasSlots}
-use Rattle.regex_lite_engine.specs.Walk.InStep.{Offer}
-use Rattle.regex_lite_engine.specs.Walk.Machine.{Row}
-use Rattle.regex_lite_engine.specs.Walk.NumberedAnswer.{place_with, is_complete}
-use Rattle.regex_lite_engine.specs.Walk.NumberedAnswer.{numbered_step, is_end}
-use Rattle.regex_lite_engine.specs.Walk.Outcomes.{IsNumberedOutcome}
-use Rattle.regex_lite_engine.specs.Walk.Walking.{Node}
+use Rattle.regex_lite_engine.specs.Pikevm.InStep.{Offer}
+use Rattle.regex_lite_engine.specs.Pikevm.Machine.{Row}
+use Rattle.regex_lite_engine.specs.Search.NumberedAnswer.{place_with, is_complete}
+use Rattle.regex_lite_engine.specs.Search.NumberedAnswer.{numbered_step, is_end}
+use Rattle.regex_lite_engine.specs.Pikevm.Outcomes.{IsNumberedOutcome}
+use Rattle.regex_lite_engine.specs.Pikevm.Walking.{Node}
 use Rattle.regex_lite_engine.specs.Backtrack.Walking.{WayHolds}
 use Rattle.regex_lite_engine.proofs.OffsetLemmas.{offset_next}
 use Rattle.regex_lite_engine.proofs.backtrack.WalkLemmas.{walk_entered, walk_complete}
 use Rattle.regex_lite_engine.proofs.pikevm.EnterLemmas.{got_map, free_marks}
-use Rattle.regex_lite_engine.proofs.pikevm.MarkLemmas.{slots_set, slots_past}
-use Rattle.regex_lite_engine.proofs.pikevm.OptionLemmas.{not_there}
+use Rattle.regex_lite_engine.proofs.search.MarkLemmas.{slots_set, slots_past}
+use Rattle.regex_lite_engine.proofs.search.OptionLemmas.{not_there}
 use Rattle.regex_lite_engine.proofs.pikevm.WalkLemmas.{one, wide, no_more, offered_by}
 use Rattle.regex_lite_engine.proofs.backtrack.NumberedLemmas.{holds_on}
 

@@ -12,14 +12,14 @@ use Rattle.regex_lite_engine.specs.Backtrack.Walking.{IsWalking}
 use Rattle.regex_lite_engine.specs.Graph.Places.{Place}
 use Rattle.regex_lite_engine.specs.Graph.Stored.{place_of}
 use Rattle.regex_lite_engine.specs.Search.Offsets.{offset, position_at, IsOffset}
-use Rattle.regex_lite_engine.specs.Walk.Machine.{Row}
-use Rattle.regex_lite_engine.specs.Walk.NumberedAnswer.{place_with}
-use Rattle.regex_lite_engine.specs.Walk.Outcomes.{IsNumberedOutcome}
-use Rattle.regex_lite_engine.specs.Walk.Turns.{IsDeadAt}
+use Rattle.regex_lite_engine.specs.Pikevm.Machine.{Row}
+use Rattle.regex_lite_engine.specs.Search.NumberedAnswer.{place_with}
+use Rattle.regex_lite_engine.specs.Pikevm.Outcomes.{IsNumberedOutcome}
+use Rattle.regex_lite_engine.specs.Pikevm.Turns.{IsDeadAt}
 use Rattle.regex_lite_engine.proofs.OffsetLemmas.{offset_less}
 use Rattle.regex_lite_engine.proofs.backtrack.EnterLemmas.{walk_enters, Entered}
 use Rattle.regex_lite_engine.proofs.backtrack.WalkLemmas.{walk_between, walk_passed, walk_started}
-use Rattle.regex_lite_engine.proofs.pikevm.here.OffsetLemmas.{position_is}
+use Rattle.regex_lite_engine.proofs.search.here.OffsetLemmas.{position_is}
 
 module _ (bytes : List ℕ) (utf8 : IsUtf8 bytes) where
   -- positions do not fall

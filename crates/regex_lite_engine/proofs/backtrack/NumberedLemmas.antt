@@ -5,12 +5,12 @@ use Rattle.regex_lite_syntax.specs.Text.{Text}
 use Rattle.regex_lite_engine.specs.Backtrack.DepthFirst as walk
 use Rattle.regex_lite_engine.specs.Graph.Places.{Place}
 use Rattle.regex_lite_engine.specs.Search.Offsets.{offset}
-use Rattle.regex_lite_engine.specs.Walk.InStep.{Offer}
-use Rattle.regex_lite_engine.specs.Walk.Machine.{Row}
-use Rattle.regex_lite_engine.specs.Walk.NumberedAnswer.{place_with, numbered_step, is_end}
-use Rattle.regex_lite_engine.specs.Walk.Outcomes.{IsNumberedOutcome}
-use Rattle.regex_lite_engine.specs.Walk.Turns.{IsDeadAt}
-use Rattle.regex_lite_engine.specs.Walk.Walking.{Node}
+use Rattle.regex_lite_engine.specs.Pikevm.InStep.{Offer}
+use Rattle.regex_lite_engine.specs.Pikevm.Machine.{Row}
+use Rattle.regex_lite_engine.specs.Search.NumberedAnswer.{place_with, numbered_step, is_end}
+use Rattle.regex_lite_engine.specs.Pikevm.Outcomes.{IsNumberedOutcome}
+use Rattle.regex_lite_engine.specs.Pikevm.Turns.{IsDeadAt}
+use Rattle.regex_lite_engine.specs.Pikevm.Walking.{Node}
 use Rattle.regex_lite_engine.specs.Backtrack.Walking.{WayHolds}
 use Rattle.regex_lite_engine.proofs.backtrack.DepthFirstEnterLemmas.{
   depth_first_entered,
@@ -22,8 +22,8 @@ use Rattle.regex_lite_engine.specs.Search.Marks.{Marks, marked, over, mark_of, m
 use Rattle.regex_lite_engine.specs.Search.Offsets.{HasSlots}
 use Rattle.regex_lite_engine.proofs.laws.LeadsLemmas.{leads_append}
 use Rattle.regex_lite_engine.proofs.laws.search.OverLemmas.{answer_when_over}
-use Rattle.regex_lite_engine.proofs.pikevm.MarkLemmas.{same_slots, marks_append}
-use Rattle.regex_lite_engine.proofs.pikevm.RecordLemmas.{extended}
+use Rattle.regex_lite_engine.proofs.search.MarkLemmas.{same_slots, marks_append}
+use Rattle.regex_lite_engine.proofs.search.RecordLemmas.{extended}
 use Rattle.regex_lite_engine.proofs.pikevm.WalkLemmas.{same_node, wide, no_more, no_arrow_at}
 use Rattle.regex_lite_engine.proofs.pikevm.WalkLemmas.{offered_by, offers_listed}
 

@@ -8,7 +8,7 @@ use Rattle.std.proofs.lemmas.Str.{IsUtf8-drop}
 use Rattle.std.proofs.Math.Nat.{mul-le-mul_left, suc-mul}
 use Rattle.regex_lite_syntax.specs.Text.{Text}
 use Rattle.regex_lite_engine.specs.declared.backtrack.walk.Walk.{Walk}
-use Rattle.regex_lite_engine.specs.declared.pikevm.here.Here.{Here}
+use Rattle.regex_lite_engine.specs.declared.search.here.Here.{Here}
 use Rattle.regex_lite_engine.specs.Backtrack.Machine.{explore}
 use Rattle.regex_lite_engine.specs.Backtrack.Room.{HasRoom, left_of}
 use Rattle.regex_lite_engine.specs.Backtrack.Searching.{Explores, IsFresh, IsUnderWay}
@@ -17,18 +17,18 @@ use Rattle.regex_lite_engine.specs.Graph.Places.{Place, kept_back_with}
 use Rattle.regex_lite_engine.specs.Graph.Renumbered.{arrow_count, arrows_of}
 use Rattle.regex_lite_engine.specs.Search.Bounds.{characters_left}
 use Rattle.regex_lite_engine.specs.Search.Offsets.{position_at, IsOffset}
-use Rattle.regex_lite_engine.specs.Walk.Outcomes.{CanCount}
-use Rattle.regex_lite_engine.specs.Walk.Room.{lone}
-use Rattle.regex_lite_engine.specs.Walk.Standing.{IsHere}
-use Rattle.regex_lite_engine.specs.Walk.Turns.{IsDeadAt}
+use Rattle.regex_lite_engine.specs.Pikevm.Outcomes.{CanCount}
+use Rattle.regex_lite_engine.specs.Pikevm.Room.{lone}
+use Rattle.regex_lite_engine.specs.Search.Standing.{IsHere}
+use Rattle.regex_lite_engine.specs.Pikevm.Turns.{IsDeadAt}
 use Rattle.regex_lite_engine.proofs.OffsetLemmas.{boundary_at}
 use Rattle.regex_lite_engine.proofs.backtrack.LeadsLemmas.{start_left}
 use Rattle.regex_lite_engine.proofs.backtrack.LeftLemmas.{left_blank, left_most, lone_all}
 use Rattle.regex_lite_engine.proofs.backtrack.PairLemmas.{offset_grows}
 use Rattle.regex_lite_engine.proofs.backtrack.WalkLemmas.{walk_begun}
 use Rattle.regex_lite_engine.proofs.pikevm.EndLemmas.{over_at}
-use Rattle.regex_lite_engine.proofs.pikevm.OutcomeLemmas.{few_chars}
-use Rattle.regex_lite_engine.proofs.pikevm.here.OffsetLemmas.{chars_at, position_is}
+use Rattle.regex_lite_engine.proofs.search.OutcomeLemmas.{few_chars}
+use Rattle.regex_lite_engine.proofs.search.here.OffsetLemmas.{chars_at, position_is}
 
 -- nothing comes next at the end alone
 pub over_here : (text : Text) (q : ℕ) (here : Here) → IsHere text q here

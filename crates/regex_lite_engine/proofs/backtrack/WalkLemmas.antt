@@ -13,12 +13,12 @@ use Rattle.regex_lite_engine.specs.Backtrack.Searching.{Unwinds, taken_up}
 use Rattle.regex_lite_engine.specs.Backtrack.Walking as walk
 use Rattle.regex_lite_engine.specs.Graph.Places.{Place}
 use Rattle.regex_lite_engine.specs.Search.Offsets.{offset, IsOffset}
-use Rattle.regex_lite_engine.specs.Walk.InStep.{Offer}
-use Rattle.regex_lite_engine.specs.Walk.Machine.{Row}
-use Rattle.regex_lite_engine.specs.Walk.NumberedAnswer.{place_with, numbered_step, is_end}
-use Rattle.regex_lite_engine.specs.Walk.Outcomes.{IsNumberedOutcome}
-use Rattle.regex_lite_engine.specs.Walk.Turns.{IsBlank, IsDeadAt}
-use Rattle.regex_lite_engine.specs.Walk.Walking.{Node}
+use Rattle.regex_lite_engine.specs.Pikevm.InStep.{Offer}
+use Rattle.regex_lite_engine.specs.Pikevm.Machine.{Row}
+use Rattle.regex_lite_engine.specs.Search.NumberedAnswer.{place_with, numbered_step, is_end}
+use Rattle.regex_lite_engine.specs.Pikevm.Outcomes.{IsNumberedOutcome}
+use Rattle.regex_lite_engine.specs.Pikevm.Turns.{IsBlank, IsDeadAt}
+use Rattle.regex_lite_engine.specs.Pikevm.Walking.{Node}
 use Rattle.regex_lite_engine.specs.Backtrack.Walking.{WayHolds}
 use Rattle.regex_lite_engine.proofs.backtrack.DepthFirstLemmas.{
   depth_first_begun,
@@ -29,10 +29,10 @@ use Rattle.regex_lite_engine.proofs.backtrack.NumberedLemmas.{numbered_over, num
 use Rattle.regex_lite_engine.proofs.backtrack.NumberedLemmas.{numbered_complete}
 use Rattle.regex_lite_engine.proofs.backtrack.PairLemmas.{same_pair, offset_grows}
 use Rattle.regex_lite_engine.proofs.backtrack.PairLemmas.{none_entered, not_both}
-use Rattle.regex_lite_engine.proofs.pikevm.OptionLemmas.{not_there}
-use Rattle.regex_lite_engine.proofs.pikevm.RecordLemmas as records
+use Rattle.regex_lite_engine.proofs.search.OptionLemmas.{not_there}
+use Rattle.regex_lite_engine.proofs.search.RecordLemmas as records
 use Rattle.regex_lite_engine.proofs.pikevm.WalkLemmas.{same_node, none_or, wide, offered_by}
-use Rattle.regex_lite_engine.proofs.pikevm.here.OffsetLemmas.{same_position}
+use Rattle.regex_lite_engine.proofs.search.here.OffsetLemmas.{same_position}
 
 module _ (table : List (Place ℕ)) (haystack : Text) (s first : ℕ) where
   abbrev pub IsWalking : (from i : ℕ) → Pairs → Row → List Frame → Type 0

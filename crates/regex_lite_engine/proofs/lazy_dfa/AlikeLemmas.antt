@@ -15,17 +15,17 @@ use Rattle.regex_lite_syntax.specs.Tree.Looks.{holds_between, is_word}
 use Rattle.regex_lite_engine.specs.declared.lazy_dfa.side.Side.{Side}
 use Rattle.regex_lite_engine.specs.declared.nfa.place.Place as code
 use Rattle.regex_lite_engine.specs.declared.nfa.place.Place.TheVariants as stored
-use Rattle.regex_lite_engine.specs.declared.pikevm.here.Here.{Here}
+use Rattle.regex_lite_engine.specs.declared.search.here.Here.{Here}
 use Rattle.regex_lite_engine.specs.Graph.Places.{Place, go}
 use Rattle.regex_lite_engine.specs.Graph.Stored.{place_of}
 use Rattle.regex_lite_engine.specs.LazyDfa.Intervals.{Intervals, AreIntervalsOf, IsBoundary}
 use Rattle.regex_lite_engine.specs.LazyDfa.Intervals.{IsBoundedPlace, LooksAlike, character_bounds}
 use Rattle.regex_lite_engine.specs.LazyDfa.Intervals.{class_of, interval_of, look_bounds, side_of}
-use Rattle.regex_lite_engine.specs.Walk.Again.{AreAlike, FitAlike, FitsAlike}
-use Rattle.regex_lite_engine.specs.Walk.Entering.{reads}
+use Rattle.regex_lite_engine.specs.Pikevm.Again.{AreAlike, FitAlike, FitsAlike}
+use Rattle.regex_lite_engine.specs.Pikevm.Entering.{reads}
 use Rattle.regex_lite_engine.proofs.lazy_dfa.IntervalLemmas.{interval_within, same_between}
 use Rattle.regex_lite_engine.proofs.lazy_dfa.IntervalLemmas.{same_char, same_set}
-use Rattle.regex_lite_engine.proofs.pikevm.OptionLemmas.{not_there, same_some}
+use Rattle.regex_lite_engine.proofs.search.OptionLemmas.{not_there, same_some}
 
 -- the look, by what it sees of both neighbours
 abbrev holds_by : Look → Side → Side → Bool

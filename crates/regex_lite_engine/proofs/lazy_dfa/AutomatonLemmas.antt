@@ -15,7 +15,7 @@ use Rattle.regex_lite_engine.specs.LazyDfa.Automaton.{State, most_classes, unkno
 use Rattle.regex_lite_engine.specs.LazyDfa.Extending.{Extends, IsState}
 use Rattle.regex_lite_engine.specs.LazyDfa.Intervals.{Intervals}
 use Rattle.regex_lite_engine.specs.LazyDfa.Stored.{LieWithin, state_in, way_in}
-use Rattle.regex_lite_engine.proofs.pikevm.OptionLemmas.{not_there, same_some}
+use Rattle.regex_lite_engine.proofs.search.OptionLemmas.{not_there, same_some}
 
 -- what lies in a list lies there when more is added
 pub part_same : {A : Type 0} (from len : ℕ) (xs ys : List A) → from + len ≤ length xs

@@ -5,8 +5,8 @@ use Rattle.std.proofs.Common.{map, slice_get, Some, refl, sym, ap, subst, ◌∙
 use Rattle.std.proofs.lemmas.Bool.{cases_eq}
 use Rattle.std.proofs.lemmas.List.{length-map}
 use Rattle.regex_lite_engine.specs.declared.nfa.place.Place as code
-use Rattle.regex_lite_engine.specs.declared.pikevm.here.Here.{Here}
-use Rattle.regex_lite_engine.specs.declared.pikevm.turn.Cache.{Cache}
+use Rattle.regex_lite_engine.specs.declared.search.here.Here.{Here}
+use Rattle.regex_lite_engine.specs.declared.pikevm.cache.Cache.{Cache}
 use Rattle.regex_lite_engine.specs.Graph.Places.{Place, reading_of}
 use Rattle.regex_lite_engine.specs.Graph.Stored.{place_of}
 use Rattle.regex_lite_engine.specs.LazyDfa.Automaton.{Automaton, FitsTable, LeadsOn, Origin}
@@ -14,15 +14,15 @@ use Rattle.regex_lite_engine.specs.LazyDfa.Automaton.{Remembers, Sees, State, Su
 use Rattle.regex_lite_engine.specs.LazyDfa.Automaton.{hit_of, searching_after, way_of, ways_of}
 use Rattle.regex_lite_engine.specs.LazyDfa.Intervals.{class_of, side_of}
 use Rattle.regex_lite_engine.specs.LazyDfa.Learning.{HasTurned, IsIn}
-use Rattle.regex_lite_engine.specs.Walk.Again.{AreAlike}
-use Rattle.regex_lite_engine.specs.Walk.Machine.{Thread, thread_at}
-use Rattle.regex_lite_engine.specs.Walk.Room.{ThreadsBelow}
-use Rattle.regex_lite_engine.specs.Walk.Searching.{IsHit}
-use Rattle.regex_lite_engine.specs.Walk.Turns.{best_of}
-use Rattle.regex_lite_engine.specs.Walk.Walking.{Best}
+use Rattle.regex_lite_engine.specs.Pikevm.Again.{AreAlike}
+use Rattle.regex_lite_engine.specs.Pikevm.Machine.{Thread, thread_at}
+use Rattle.regex_lite_engine.specs.Pikevm.Room.{ThreadsBelow}
+use Rattle.regex_lite_engine.specs.Pikevm.Searching.{IsHit}
+use Rattle.regex_lite_engine.specs.Pikevm.Turns.{best_of}
+use Rattle.regex_lite_engine.specs.Pikevm.Walking.{Best}
 use Rattle.regex_lite_engine.proofs.lazy_dfa.AlikeLemmas.{alike_at, same_side_of}
 use Rattle.regex_lite_engine.proofs.lazy_dfa.RememberedLemmas.{remembered, set_other, set_there}
-use Rattle.regex_lite_engine.proofs.pikevm.OptionLemmas.{not_there, same_some}
+use Rattle.regex_lite_engine.proofs.search.OptionLemmas.{not_there, same_some}
 
 -- what is pending is none of it
 pub remembers_pending : (places : List code.Place) (entries : List ℕ) (automaton : Automaton)

@@ -3,14 +3,14 @@ use Rattle.std.proofs.Common.{◌≡◌, ℕ, List, [], Option, MatchOption, fal
 use Rattle.std.proofs.lemmas.List.{nil_from_length}
 use Rattle.regex_lite_syntax.specs.Text.{Text}
 use Rattle.regex_lite_engine.specs.declared.lazy_dfa.run.Progress.{Progress}
-use Rattle.regex_lite_engine.specs.declared.pikevm.turn.Cache.{Cache}
+use Rattle.regex_lite_engine.specs.declared.pikevm.cache.Cache.{Cache}
 use Rattle.regex_lite_engine.specs.Graph.Places.{Place}
 use Rattle.regex_lite_engine.specs.LazyDfa.Automaton.{Automaton}
 use Rattle.regex_lite_engine.specs.LazyDfa.Learning.{IsIn}
 use Rattle.regex_lite_engine.specs.LazyDfa.Running.{IsOnItsWay, Stands}
 use Rattle.regex_lite_engine.specs.LazyDfa.Scanning.{best_told}
-use Rattle.regex_lite_engine.specs.Walk.Outcomes.{IsBestOutcomeOf, with_start_kept}
-use Rattle.regex_lite_engine.specs.Walk.Turns.{best_at, best_of}
+use Rattle.regex_lite_engine.specs.Pikevm.Outcomes.{IsBestOutcomeOf, with_start_kept}
+use Rattle.regex_lite_engine.specs.Pikevm.Turns.{best_at, best_of}
 
 -- one that remembers nothing
 pub empty : Automaton

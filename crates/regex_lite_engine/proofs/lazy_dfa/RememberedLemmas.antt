@@ -6,9 +6,9 @@ use Rattle.std.proofs.lemmas.Bool.{cases_eq}
 use Rattle.std.proofs.lemmas.Bool.Decides.{nat_tests}
 use Rattle.regex_lite_syntax.specs.Text.{Text}
 use Rattle.regex_lite_engine.specs.declared.nfa.place.Place as code
-use Rattle.regex_lite_engine.specs.declared.pikevm.here.Here.{Here}
-use Rattle.regex_lite_engine.specs.declared.pikevm.patterns.Start.{Start}
-use Rattle.regex_lite_engine.specs.declared.pikevm.turn.Cache.{Cache}
+use Rattle.regex_lite_engine.specs.declared.search.here.Here.{Here}
+use Rattle.regex_lite_engine.specs.declared.search.patterns.Start.{Start}
+use Rattle.regex_lite_engine.specs.declared.pikevm.cache.Cache.{Cache}
 use Rattle.regex_lite_engine.specs.Graph.Places.{Place}
 use Rattle.regex_lite_engine.specs.Graph.Stored.{place_of}
 use Rattle.regex_lite_engine.specs.LazyDfa.Automaton.{Automaton, FitsTable, LeadsOn}
@@ -19,14 +19,14 @@ use Rattle.regex_lite_engine.specs.LazyDfa.Automaton.{most_classes, told_if, unk
 use Rattle.regex_lite_engine.specs.LazyDfa.Extending.{Extends}
 use Rattle.regex_lite_engine.specs.LazyDfa.Learning.{IsFirst}
 use Rattle.regex_lite_engine.specs.LazyDfa.Intervals.{Intervals, AreIntervalsOf, class_of, side_of}
-use Rattle.regex_lite_engine.specs.Walk.Again.{AreAlike, retold, all_retold, best_again}
-use Rattle.regex_lite_engine.specs.Walk.Beginnings.{Told, Tells, IsTold}
-use Rattle.regex_lite_engine.specs.Walk.Machine.{Thread}
-use Rattle.regex_lite_engine.specs.Walk.Searching.{TurnsAgain}
-use Rattle.regex_lite_engine.specs.Walk.Standing.{IsHere}
-use Rattle.regex_lite_engine.specs.Walk.Turns.{best_of, AreStartsAt, IsComing}
-use Rattle.regex_lite_engine.specs.Walk.Walking.{Best}
-use Rattle.regex_lite_engine.proofs.pikevm.OptionLemmas.{not_there, same_some}
+use Rattle.regex_lite_engine.specs.Pikevm.Again.{AreAlike, retold, all_retold, best_again}
+use Rattle.regex_lite_engine.specs.Pikevm.Beginnings.{Told, Tells, IsTold}
+use Rattle.regex_lite_engine.specs.Pikevm.Machine.{Thread}
+use Rattle.regex_lite_engine.specs.Pikevm.Searching.{TurnsAgain}
+use Rattle.regex_lite_engine.specs.Search.Standing.{IsHere}
+use Rattle.regex_lite_engine.specs.Pikevm.Turns.{best_of, AreStartsAt, IsComing}
+use Rattle.regex_lite_engine.specs.Pikevm.Walking.{Best}
+use Rattle.regex_lite_engine.proofs.search.OptionLemmas.{not_there, same_some}
 
 eq_same : (a b : ℕ) → a ≡ b → (a == b) ≡ true
 eq_same a b e = grind (arith, nat_tests)

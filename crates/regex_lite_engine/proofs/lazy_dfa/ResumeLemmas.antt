@@ -8,8 +8,8 @@ use Rattle.std.proofs.lemmas.List.Sums.{sum_by-cons}
 use Rattle.regex_lite_syntax.specs.Text.{Text}
 use Rattle.regex_lite_engine.specs.declared.lazy_dfa.scan.Standing.{Standing}
 use Rattle.regex_lite_engine.specs.declared.lazy_dfa.state.StoredWay.{StoredWay}
-use Rattle.regex_lite_engine.specs.declared.pikevm.here.Here.{Here}
-use Rattle.regex_lite_engine.specs.declared.pikevm.turn.Cache.{Cache}
+use Rattle.regex_lite_engine.specs.declared.search.here.Here.{Here}
+use Rattle.regex_lite_engine.specs.declared.pikevm.cache.Cache.{Cache}
 use Rattle.regex_lite_engine.specs.Graph.Places.{Arrow, Condition, Place, complete, condition_reads}
 use Rattle.regex_lite_engine.specs.Graph.Places.{free, holding, reading, reading_arrows}
 use Rattle.regex_lite_engine.specs.Graph.Places.{reading_count, reading_of, with_arrows}
@@ -23,16 +23,16 @@ use Rattle.regex_lite_engine.specs.LazyDfa.Scanning.{best_told, IsIdleAt, IsScan
 use Rattle.regex_lite_engine.specs.LazyDfa.Stored.{way_in}
 use Rattle.regex_lite_engine.specs.Search.Bounds.{StepCounts}
 use Rattle.regex_lite_engine.specs.Search.Offsets.{offset}
-use Rattle.regex_lite_engine.specs.Walk.Beginnings.{IsTold, Told}
-use Rattle.regex_lite_engine.specs.Walk.InStep.{Offer}
-use Rattle.regex_lite_engine.specs.Walk.Machine.{Row, Thread, thread_at}
-use Rattle.regex_lite_engine.specs.Walk.Room.{ThreadsBelow}
-use Rattle.regex_lite_engine.specs.Walk.Searching.{IsBetween}
-use Rattle.regex_lite_engine.specs.Walk.Standing.{IsHere}
-use Rattle.regex_lite_engine.specs.Walk.Turns.{best_of, IsComing}
-use Rattle.regex_lite_engine.specs.Walk.Walking.{Best, Node, ThreadsHold, WayTold}
+use Rattle.regex_lite_engine.specs.Pikevm.Beginnings.{IsTold, Told}
+use Rattle.regex_lite_engine.specs.Pikevm.InStep.{Offer}
+use Rattle.regex_lite_engine.specs.Pikevm.Machine.{Row, Thread, thread_at}
+use Rattle.regex_lite_engine.specs.Pikevm.Room.{ThreadsBelow}
+use Rattle.regex_lite_engine.specs.Pikevm.Searching.{IsBetween}
+use Rattle.regex_lite_engine.specs.Search.Standing.{IsHere}
+use Rattle.regex_lite_engine.specs.Pikevm.Turns.{best_of, IsComing}
+use Rattle.regex_lite_engine.specs.Pikevm.Walking.{Best, Node, ThreadsHold, WayTold}
 use Rattle.regex_lite_engine.proofs.lazy_dfa.RunLemmas.{moved_on}
-use Rattle.regex_lite_engine.proofs.pikevm.OptionLemmas.{not_there}
+use Rattle.regex_lite_engine.proofs.search.OptionLemmas.{not_there}
 
 eq_there : (a b : ℕ) → (a == b) ≡ true → a ≡ b
 eq_there a b e = grind (arith, nat_tests)

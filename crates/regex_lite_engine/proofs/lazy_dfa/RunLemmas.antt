@@ -5,8 +5,8 @@ use Rattle.std.proofs.Common.{option_map, MatchOption, refl, sym, ap, subst, ◌
 use Rattle.std.proofs.Math.Nat.{mul-le-mul_left, mul-suc}
 use Rattle.std.proofs.lemmas.Bool.{cases_lt}
 use Rattle.regex_lite_syntax.specs.Text.{Text}
-use Rattle.regex_lite_engine.specs.declared.pikevm.here.Here.{Here}
-use Rattle.regex_lite_engine.specs.declared.pikevm.turn.Cache.{Cache}
+use Rattle.regex_lite_engine.specs.declared.search.here.Here.{Here}
+use Rattle.regex_lite_engine.specs.declared.pikevm.cache.Cache.{Cache}
 use Rattle.regex_lite_engine.specs.Graph.Places.{Place}
 use Rattle.regex_lite_engine.specs.Graph.Renumbered.{arrows_of}
 use Rattle.regex_lite_engine.specs.LazyDfa.Automaton.{Automaton, IsEmptyState, Suits, ways_of}
@@ -15,17 +15,17 @@ use Rattle.regex_lite_engine.specs.LazyDfa.Learning.{HasTurned, IsFirst, IsIn}
 use Rattle.regex_lite_engine.specs.LazyDfa.Running.{IsOnItsWay}
 use Rattle.regex_lite_engine.specs.Search.Offsets.{offset}
 use Rattle.regex_lite_engine.specs.Search.Bounds.{IsBoundedBy, StepCounts}
-use Rattle.regex_lite_engine.specs.Walk.Machine.{Row, Thread}
-use Rattle.regex_lite_engine.specs.Walk.NumberedList.{IsEntry}
-use Rattle.regex_lite_engine.specs.Walk.Outcomes.{IsFresh, with_start_kept}
-use Rattle.regex_lite_engine.specs.Walk.Searching.{IsBetween, IsHit, TurnsAgain}
-use Rattle.regex_lite_engine.specs.Walk.Standing.{IsHere}
-use Rattle.regex_lite_engine.specs.Walk.Starts.{PassesTo}
-use Rattle.regex_lite_engine.specs.Walk.Turns.{AreDeadAt, AreStartsAt, IsAmong}
-use Rattle.regex_lite_engine.specs.Walk.Turns.{best_at, best_of, IsComing}
-use Rattle.regex_lite_engine.specs.Walk.Walking.{Best}
-use Rattle.regex_lite_engine.proofs.pikevm.here.OffsetLemmas.{offset_less}
-use Rattle.regex_lite_engine.proofs.pikevm.OptionLemmas.{not_there, same_some}
+use Rattle.regex_lite_engine.specs.Pikevm.Machine.{Row, Thread}
+use Rattle.regex_lite_engine.specs.Search.NumberedList.{IsEntry}
+use Rattle.regex_lite_engine.specs.Pikevm.Outcomes.{IsFresh, with_start_kept}
+use Rattle.regex_lite_engine.specs.Pikevm.Searching.{IsBetween, IsHit, TurnsAgain}
+use Rattle.regex_lite_engine.specs.Search.Standing.{IsHere}
+use Rattle.regex_lite_engine.specs.Search.Starts.{PassesTo}
+use Rattle.regex_lite_engine.specs.Pikevm.Turns.{AreDeadAt, AreStartsAt, IsAmong}
+use Rattle.regex_lite_engine.specs.Pikevm.Turns.{best_at, best_of, IsComing}
+use Rattle.regex_lite_engine.specs.Pikevm.Walking.{Best}
+use Rattle.regex_lite_engine.proofs.search.here.OffsetLemmas.{offset_less}
+use Rattle.regex_lite_engine.proofs.search.OptionLemmas.{not_there, same_some}
 use Rattle.regex_lite_engine.proofs.pikevm.PassLemmas.{begun}
 use Rattle.regex_lite_engine.proofs.pikevm.TurnLemmas.{jumped}
 

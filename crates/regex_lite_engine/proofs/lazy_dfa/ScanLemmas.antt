@@ -4,7 +4,7 @@ use Rattle.std.proofs.Common.{List, [], length, slice_get, Option, Some, None, i
 use Rattle.std.proofs.Common.{option_map, IfSome, refl, sym, ap, subst, ◌∙◌, arith}
 use Rattle.regex_lite_syntax.specs.Text.{Text, before}
 use Rattle.regex_lite_engine.specs.declared.lazy_dfa.scan.Standing.{Standing}
-use Rattle.regex_lite_engine.specs.declared.pikevm.here.Here.{Here}
+use Rattle.regex_lite_engine.specs.declared.search.here.Here.{Here}
 use Rattle.regex_lite_engine.specs.Graph.Places.{Place}
 use Rattle.regex_lite_engine.specs.LazyDfa.Automaton.{Automaton, LeadsOn, Origin, State}
 use Rattle.regex_lite_engine.specs.LazyDfa.Automaton.{Suits, Way, best_left}
@@ -12,13 +12,13 @@ use Rattle.regex_lite_engine.specs.LazyDfa.Automaton.{searching_after, threads_o
 use Rattle.regex_lite_engine.specs.LazyDfa.Intervals.{class_of, side_of}
 use Rattle.regex_lite_engine.specs.LazyDfa.Scanning.{best_told, end_told}
 use Rattle.regex_lite_engine.specs.LazyDfa.Scanning.{IsIdleAt, IsScanning, LedTo}
-use Rattle.regex_lite_engine.specs.Walk.Outcomes.{IsBestOutcomeOf, IsNumberedEndOf}
-use Rattle.regex_lite_engine.specs.Walk.Standing.{IsHere}
-use Rattle.regex_lite_engine.specs.Walk.Starts.{PassesTo}
-use Rattle.regex_lite_engine.specs.Walk.Turns.{AreDeadAt, EndsAt, IsComing}
-use Rattle.regex_lite_engine.specs.Walk.Walking.{Best}
+use Rattle.regex_lite_engine.specs.Pikevm.Outcomes.{IsBestOutcomeOf, IsNumberedEndOf}
+use Rattle.regex_lite_engine.specs.Search.Standing.{IsHere}
+use Rattle.regex_lite_engine.specs.Search.Starts.{PassesTo}
+use Rattle.regex_lite_engine.specs.Pikevm.Turns.{AreDeadAt, EndsAt, IsComing}
+use Rattle.regex_lite_engine.specs.Pikevm.Walking.{Best}
 use Rattle.regex_lite_engine.proofs.pikevm.EndLemmas.{ended_all, over_at}
-use Rattle.regex_lite_engine.proofs.pikevm.OptionLemmas.{not_there, same_some}
+use Rattle.regex_lite_engine.proofs.search.OptionLemmas.{not_there, same_some}
 use Rattle.regex_lite_engine.proofs.pikevm.ShortestLemmas.{shortest_known}
 use Rattle.regex_lite_engine.proofs.pikevm.TurnLemmas.{jumped}
 

@@ -10,17 +10,17 @@ use Rattle.regex_lite_syntax.specs.Ranges.{in_ranges}
 use Rattle.regex_lite_syntax.specs.Sets.{just}
 use Rattle.regex_lite_engine.specs.declared.nfa.place.Place as code
 use Rattle.regex_lite_engine.specs.declared.nfa.place.Place.TheVariants as stored
-use Rattle.regex_lite_engine.specs.declared.pikevm.here.Here.{Here}
+use Rattle.regex_lite_engine.specs.declared.search.here.Here.{Here}
 use Rattle.regex_lite_engine.specs.Graph.Places.{Place, with_arrows}
 use Rattle.regex_lite_engine.specs.Graph.Stored.{place_of}
-use Rattle.regex_lite_engine.specs.Walk.Again.{FitsAlike, retold, all_retold, best_again}
-use Rattle.regex_lite_engine.specs.declared.pikevm.patterns.Start.{Start}
-use Rattle.regex_lite_engine.specs.Walk.Beginnings.{Told}
-use Rattle.regex_lite_engine.specs.Walk.Entering.{Enters, reads, ReadsOn}
-use Rattle.regex_lite_engine.specs.Walk.Machine.{Row, Frame, explore, restore, Thread, thread_at}
-use Rattle.regex_lite_engine.specs.Walk.Room.{WalksTo}
-use Rattle.regex_lite_engine.specs.Walk.Turns.{begun, with_starts}
-use Rattle.regex_lite_engine.specs.Walk.Walking.{Best, IsWalking}
+use Rattle.regex_lite_engine.specs.Pikevm.Again.{FitsAlike, retold, all_retold, best_again}
+use Rattle.regex_lite_engine.specs.declared.search.patterns.Start.{Start}
+use Rattle.regex_lite_engine.specs.Pikevm.Beginnings.{Told}
+use Rattle.regex_lite_engine.specs.Pikevm.Entering.{Enters, reads, ReadsOn}
+use Rattle.regex_lite_engine.specs.Pikevm.Machine.{Row, Frame, explore, restore, Thread, thread_at}
+use Rattle.regex_lite_engine.specs.Pikevm.Room.{WalksTo}
+use Rattle.regex_lite_engine.specs.Pikevm.Turns.{begun, with_starts}
+use Rattle.regex_lite_engine.specs.Pikevm.Walking.{Best, IsWalking}
 use Rattle.regex_lite_engine.proofs.pikevm.EnterLemmas.{reads_none, walk_enters}
 
 -- the frames are the same but for slots that hold again what they held

@@ -3,14 +3,14 @@ use Rattle.std.proofs.Common.{◌≡◌, ℕ, Bool, false, ◌+◌, ◌≤◌, L
 use Rattle.std.proofs.Common.{Some, slice_get, slice_set, slice_index, if◌then◌else◌}
 use Rattle.std.proofs.Common.{refl, sym, ap, subst, ◌∙◌, arith, length-set}
 use Rattle.regex_lite_engine.specs.declared.nfa.place.Place as code
-use Rattle.regex_lite_engine.specs.declared.pikevm.here.Here.{Here}
+use Rattle.regex_lite_engine.specs.declared.search.here.Here.{Here}
 use Rattle.regex_lite_engine.specs.Graph.Places.{Place}
 use Rattle.regex_lite_engine.specs.Graph.Stored.{LeadsBelow, place_of}
 use Rattle.regex_lite_engine.specs.Search.Bounds.{StepCounts}
-use Rattle.regex_lite_engine.specs.Walk.Beginnings.{Told}
-use Rattle.regex_lite_engine.specs.Walk.Entering.{Enters}
-use Rattle.regex_lite_engine.specs.Walk.Machine.{explore, Frame, Row, State, Thread}
-use Rattle.regex_lite_engine.specs.Walk.Room.{IsFit, Went}
+use Rattle.regex_lite_engine.specs.Pikevm.Beginnings.{Told}
+use Rattle.regex_lite_engine.specs.Pikevm.Entering.{Enters}
+use Rattle.regex_lite_engine.specs.Pikevm.Machine.{explore, Frame, Row, State, Thread}
+use Rattle.regex_lite_engine.specs.Pikevm.Room.{IsFit, Went}
 use Rattle.regex_lite_engine.proofs.pikevm.WentLemmas.{went_entered, went_seen}
 
 -- the place q is marked as entered: the memory is m before that and n after it

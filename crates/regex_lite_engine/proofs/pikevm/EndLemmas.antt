@@ -9,26 +9,26 @@ use Rattle.std.proofs.lemmas.Option.{slice_get_within}
 use Rattle.std.proofs.Math.Nat.{mul-le-mul_left, mul-suc}
 use Rattle.regex_lite_syntax.specs.Text.{Text, before, after}
 use Rattle.regex_lite_syntax.specs.Tree.Looks.{holds_between}
-use Rattle.regex_lite_engine.specs.declared.pikevm.here.Here.{Here}
+use Rattle.regex_lite_engine.specs.declared.search.here.Here.{Here}
 use Rattle.regex_lite_engine.specs.Graph.Places.{Condition, Arrow, Place, complete}
 use Rattle.regex_lite_engine.specs.Graph.Places.{with_arrows, free, holding, reading, taken}
 use Rattle.regex_lite_engine.specs.Graph.Places.{behind, arrived, arrow_taken, step_from}
 use Rattle.regex_lite_engine.specs.Search.Answer.{Found}
 use Rattle.regex_lite_engine.specs.Search.Marks.{marks_along}
-use Rattle.regex_lite_engine.specs.Walk.Explored.{IsGrown}
-use Rattle.regex_lite_engine.specs.Walk.NumberedAnswer.{place_with, numbered_step}
-use Rattle.regex_lite_engine.specs.Walk.NumberedAnswer.{is_end, IsNumberedFound}
-use Rattle.regex_lite_engine.specs.Walk.NumberedList.{StartsOf, IsOverOf}
-use Rattle.regex_lite_engine.specs.Walk.InStep.{Offer, StartsBelow}
-use Rattle.regex_lite_engine.specs.Walk.Standing.{IsHere}
-use Rattle.regex_lite_engine.specs.Walk.Outcomes.{IsBestOutcome, IsBestOutcomeOf}
-use Rattle.regex_lite_engine.specs.Walk.Turns.{IsComing, FromIs}
-use Rattle.regex_lite_engine.specs.Walk.Machine.{Thread}
-use Rattle.regex_lite_engine.specs.Walk.Walking.{Node, Best, BestHolds, InStep}
+use Rattle.regex_lite_engine.specs.Search.Explored.{IsGrown}
+use Rattle.regex_lite_engine.specs.Search.NumberedAnswer.{place_with, numbered_step}
+use Rattle.regex_lite_engine.specs.Search.NumberedAnswer.{is_end, IsNumberedFound}
+use Rattle.regex_lite_engine.specs.Search.NumberedList.{StartsOf, IsOverOf}
+use Rattle.regex_lite_engine.specs.Pikevm.InStep.{Offer, StartsBelow}
+use Rattle.regex_lite_engine.specs.Search.Standing.{IsHere}
+use Rattle.regex_lite_engine.specs.Pikevm.Outcomes.{IsBestOutcome, IsBestOutcomeOf}
+use Rattle.regex_lite_engine.specs.Pikevm.Turns.{IsComing, FromIs}
+use Rattle.regex_lite_engine.specs.Pikevm.Machine.{Thread}
+use Rattle.regex_lite_engine.specs.Pikevm.Walking.{Node, Best, BestHolds, InStep}
 use Rattle.regex_lite_engine.proofs.laws.several.OverListLemmas.{list_answer_when_over}
 use Rattle.regex_lite_engine.proofs.pikevm.TurnLemmas.{only_entry}
-use Rattle.regex_lite_engine.proofs.pikevm.OptionLemmas.{not_there, same_some}
-use Rattle.regex_lite_engine.proofs.pikevm.PositionLemmas as deep
+use Rattle.regex_lite_engine.proofs.search.OptionLemmas.{not_there, same_some}
+use Rattle.regex_lite_engine.proofs.search.PositionLemmas as deep
 
 taken_in_text : (h : Text) (a : Condition) (i j : ℕ) → i ≤ length h → taken h a i ≡ Some j
     → j ≤ length h

@@ -9,29 +9,29 @@ use Rattle.regex_lite_syntax.specs.Text.{Text, after}
 use Rattle.regex_lite_syntax.specs.Ranges.{in_ranges}
 use Rattle.regex_lite_syntax.specs.Sets.{Set, just}
 use Rattle.regex_lite_syntax.specs.Tree.Looks.{holds_between}
-use Rattle.regex_lite_engine.specs.Walk.Beginnings.{Told}
+use Rattle.regex_lite_engine.specs.Pikevm.Beginnings.{Told}
 use Rattle.regex_lite_engine.specs.declared.nfa.place.Place as code
 use Rattle.regex_lite_engine.specs.declared.nfa.place.Place.TheVariants as stored
-use Rattle.regex_lite_engine.specs.declared.pikevm.here.Here.{Here}
+use Rattle.regex_lite_engine.specs.declared.search.here.Here.{Here}
 use Rattle.regex_lite_engine.specs.Graph.Places.{Arrow, Place, with_arrows, go, go_holding}
 use Rattle.regex_lite_engine.specs.Graph.Places.{go_marking, go_reading, one_of, arrived}
 use Rattle.regex_lite_engine.specs.Graph.Places.{behind, arrow_taken, step_from}
 use Rattle.regex_lite_engine.specs.Graph.Renumbered.{arrow_count}
 use Rattle.regex_lite_engine.specs.Graph.Stored.{place_of}
 use Rattle.regex_lite_engine.specs.Search.Marks.{Marks, marked, over, mark_of}
-use Rattle.regex_lite_engine.specs.Walk.Entering.{Enters, reads, ReadsOn, Same}
-use Rattle.regex_lite_engine.specs.Walk.InStep.{Offer}
-use Rattle.regex_lite_engine.specs.Walk.Machine.{Row, Frame, explore, restore, Thread, thread_at}
-use Rattle.regex_lite_engine.specs.Walk.NumberedAnswer.{place_with, is_complete}
-use Rattle.regex_lite_engine.specs.Walk.NumberedAnswer.{numbered_step, is_end}
-use Rattle.regex_lite_engine.specs.Walk.Standing.{IsHere}
+use Rattle.regex_lite_engine.specs.Pikevm.Entering.{Enters, reads, ReadsOn, Same}
+use Rattle.regex_lite_engine.specs.Pikevm.InStep.{Offer}
+use Rattle.regex_lite_engine.specs.Pikevm.Machine.{Row, Frame, explore, restore, Thread, thread_at}
+use Rattle.regex_lite_engine.specs.Search.NumberedAnswer.{place_with, is_complete}
+use Rattle.regex_lite_engine.specs.Search.NumberedAnswer.{numbered_step, is_end}
+use Rattle.regex_lite_engine.specs.Search.Standing.{IsHere}
 use Rattle.regex_lite_engine.specs.Search.Offsets.{HasSlots}
-use Rattle.regex_lite_engine.specs.Walk.Walking.{Node, Best, WayTold, FramesHold}
-use Rattle.regex_lite_engine.specs.Walk.Walking.{ThreadsHold, IsWalking}
-use Rattle.regex_lite_engine.proofs.pikevm.MarkLemmas.{slots_set, slots_past}
+use Rattle.regex_lite_engine.specs.Pikevm.Walking.{Node, Best, WayTold, FramesHold}
+use Rattle.regex_lite_engine.specs.Pikevm.Walking.{ThreadsHold, IsWalking}
+use Rattle.regex_lite_engine.proofs.search.MarkLemmas.{slots_set, slots_past}
 use Rattle.regex_lite_engine.proofs.pikevm.ThreadLemmas.{same_len, same_at, pushed_len}
 use Rattle.regex_lite_engine.proofs.pikevm.ThreadLemmas.{pushed_last, pushed_kept}
-use Rattle.regex_lite_engine.proofs.pikevm.OptionLemmas.{not_there, same_some}
+use Rattle.regex_lite_engine.proofs.search.OptionLemmas.{not_there, same_some}
 use Rattle.regex_lite_engine.proofs.pikevm.WalkLemmas.{one, wide, no_more, offered_by}
 use Rattle.regex_lite_engine.proofs.pikevm.WalkLemmas.{holds_on, held_same, held_more}
 use Rattle.regex_lite_engine.proofs.pikevm.WalkLemmas.{walk_entered, walk_read, walk_complete}

@@ -3,13 +3,13 @@ use Rattle.std.proofs.Common.{◌≡◌, ℕ, suc, ◌≤◌, ◌⊎◌, inl, in
 use Rattle.std.proofs.Common.{IsTrue, List, [], ◌∷◌, ◌++◌, Option, Some, None}
 use Rattle.std.proofs.Common.{refl, sym, ap, subst, ◌∙◌, arith, append-nil}
 use Rattle.regex_lite_engine.specs.Search.Preference.{IsPreferred}
-use Rattle.regex_lite_engine.specs.Walk.Explored.{NotAfter, IsAnswered, IsGrown}
-use Rattle.regex_lite_engine.specs.Walk.InStep as walk
-use Rattle.regex_lite_engine.specs.Walk.InStep.{StartsBelow}
-use Rattle.regex_lite_engine.proofs.pikevm.OfferLemmas as order
-use Rattle.regex_lite_engine.proofs.pikevm.OfferLemmas.{preferred_before, preferred_append}
-use Rattle.regex_lite_engine.proofs.pikevm.OfferLemmas.{preferred_longer, below_append}
-use Rattle.regex_lite_engine.proofs.pikevm.RecordLemmas as records
+use Rattle.regex_lite_engine.specs.Search.Explored.{NotAfter, IsAnswered, IsGrown}
+use Rattle.regex_lite_engine.specs.Pikevm.InStep as walk
+use Rattle.regex_lite_engine.specs.Pikevm.InStep.{StartsBelow}
+use Rattle.regex_lite_engine.proofs.search.OfferLemmas as order
+use Rattle.regex_lite_engine.proofs.search.OfferLemmas.{preferred_before, preferred_append}
+use Rattle.regex_lite_engine.proofs.search.OfferLemmas.{preferred_longer, below_append}
+use Rattle.regex_lite_engine.proofs.search.RecordLemmas as records
 use Rattle.regex_lite_engine.proofs.laws.search.WayOrderLemmas.{NotAfter-trans, NotAfter-append}
 
 pub or_dead : {A B D : Type 0} → (A → B) → A ⊎ D → B ⊎ D

@@ -2,14 +2,14 @@
 use Rattle.std.proofs.Common.{◌≡◌, ℕ, ◌≤◌, ◌⊎◌, inl, inr, Bool, IsTrue, List, [], ◌∷◌}
 use Rattle.std.proofs.Common.{◌++◌, Option, Some, None, refl, sym, ap, subst, ◌∙◌}
 use Rattle.regex_lite_engine.specs.Search.Preference.{IsPreferred}
-use Rattle.regex_lite_engine.specs.Walk.Explored.{NotAfter, IsAnswered, IsGrown}
-use Rattle.regex_lite_engine.specs.Walk.InStep as walk
-use Rattle.regex_lite_engine.specs.Walk.InStep.{StartsBelow}
+use Rattle.regex_lite_engine.specs.Search.Explored.{NotAfter, IsAnswered, IsGrown}
+use Rattle.regex_lite_engine.specs.Pikevm.InStep as walk
+use Rattle.regex_lite_engine.specs.Pikevm.InStep.{StartsBelow}
 use Rattle.regex_lite_engine.proofs.pikevm.InStepLemmas as deep
 use Rattle.regex_lite_engine.proofs.pikevm.InStepLemmas.{or_dead}
-use Rattle.regex_lite_engine.proofs.pikevm.OptionLemmas.{not_there, same_some}
-use Rattle.regex_lite_engine.proofs.pikevm.OfferLemmas.{preferred_before}
-use Rattle.regex_lite_engine.proofs.pikevm.RecordLemmas as records
+use Rattle.regex_lite_engine.proofs.search.OptionLemmas.{not_there, same_some}
+use Rattle.regex_lite_engine.proofs.search.OfferLemmas.{preferred_before}
+use Rattle.regex_lite_engine.proofs.search.RecordLemmas as records
 use Rattle.regex_lite_engine.proofs.laws.search.WayOrderLemmas.{Before-trans, NotAfter-trans}
 
 module _ (N : Type 0) (step : N → ℕ → Option N) (same : (x y : N) → (x ≡ y) ⊎ (x ≡ y → ⊥))

@@ -2,16 +2,16 @@
 use Rattle.std.proofs.Common.{ℕ, ◌+◌, ◌-◌, ◌*◌, ◌≤◌, List, length, ap, sym, subst, arith}
 use Rattle.std.proofs.Math.Nat.{mul-le-mul_left}
 use Rattle.regex_lite_syntax.specs.Text.{Text}
-use Rattle.regex_lite_engine.specs.declared.pikevm.turn.Cache.{Cache}
+use Rattle.regex_lite_engine.specs.declared.pikevm.cache.Cache.{Cache}
 use Rattle.regex_lite_engine.specs.Graph.Parts.{IsOwnPart, row_of}
 use Rattle.regex_lite_engine.specs.Graph.Places.{Place}
 use Rattle.regex_lite_engine.specs.Graph.Renumbered.{arrows_of}
 use Rattle.regex_lite_engine.specs.Search.Bounds.{IsBoundedBy}
-use Rattle.regex_lite_engine.specs.Walk.Outcomes.{IsFresh}
-use Rattle.regex_lite_engine.specs.Walk.Passing.{IsUnderWay}
-use Rattle.regex_lite_engine.specs.Walk.Turns.{IsComing}
+use Rattle.regex_lite_engine.specs.Pikevm.Outcomes.{IsFresh}
+use Rattle.regex_lite_engine.specs.Pikevm.Passing.{IsUnderWay}
+use Rattle.regex_lite_engine.specs.Pikevm.Turns.{IsComing}
 use Rattle.regex_lite_engine.proofs.pikevm.EndLemmas.{bound_more}
-use Rattle.regex_lite_engine.proofs.pikevm.SkipLemmas.{bound_later}
+use Rattle.regex_lite_engine.proofs.search.SkipLemmas.{bound_later}
 use Rattle.regex_lite_engine.proofs.pikevm.TurnLemmas.{none_coming}
 
 module _ (table : List (Place ℕ)) (haystack : Text) (entries : List ℕ) (s : ℕ) where

@@ -11,19 +11,19 @@ use Rattle.regex_lite_syntax.specs.declared.class.ClassRange.{ClassRange}
 use Rattle.regex_lite_syntax.specs.Ranges.{in_ranges}
 use Rattle.regex_lite_syntax.specs.Sets.{just}
 use Rattle.regex_lite_syntax.specs.Tree.Looks.{holds_between}
-use Rattle.regex_lite_engine.specs.Walk.Beginnings.{Told}
+use Rattle.regex_lite_engine.specs.Pikevm.Beginnings.{Told}
 use Rattle.regex_lite_engine.specs.declared.nfa.place.Place as code
 use Rattle.regex_lite_engine.specs.declared.nfa.place.Place.TheVariants as stored
-use Rattle.regex_lite_engine.specs.declared.pikevm.here.Here.{Here}
+use Rattle.regex_lite_engine.specs.declared.search.here.Here.{Here}
 use Rattle.regex_lite_engine.specs.Graph.Places.{Place, with_arrows, go, one_of}
 use Rattle.regex_lite_engine.specs.Graph.Places.{kept_back, reading_count}
 use Rattle.regex_lite_engine.specs.Graph.Renumbered.{arrow_count}
 use Rattle.regex_lite_engine.specs.Graph.Stored.{LeadBelow, LeadsBelow, place_of}
-use Rattle.regex_lite_engine.specs.Walk.Entering.{Enters, reads, ReadsOn, Pushed, Same}
-use Rattle.regex_lite_engine.specs.Walk.Machine.{Row, Frame, explore, Thread, thread_at}
-use Rattle.regex_lite_engine.specs.Walk.Room.{left_of, explores, FramesBelow, ThreadsBelow}
+use Rattle.regex_lite_engine.specs.Pikevm.Entering.{Enters, reads, ReadsOn, Pushed, Same}
+use Rattle.regex_lite_engine.specs.Pikevm.Machine.{Row, Frame, explore, Thread, thread_at}
+use Rattle.regex_lite_engine.specs.Pikevm.Room.{left_of, explores, FramesBelow, ThreadsBelow}
 use Rattle.regex_lite_engine.proofs.pikevm.EnterLemmas.{reads_none}
-use Rattle.regex_lite_engine.proofs.pikevm.OptionLemmas.{not_there, same_some}
+use Rattle.regex_lite_engine.proofs.search.OptionLemmas.{not_there, same_some}
 use Rattle.regex_lite_engine.proofs.pikevm.ThreadLemmas.{same_len, same_at, pushed_len}
 use Rattle.regex_lite_engine.proofs.pikevm.ThreadLemmas.{pushed_last, pushed_kept}
 

@@ -1,6 +1,6 @@
 -- What a step of a search keeps of the working memory.
 use Rattle.std.proofs.Common.{◌≡◌, ℕ, ◌+◌, List, [], sym, ap, subst, ◌∙◌}
-use Rattle.regex_lite_engine.specs.Walk.Machine.{Frame, Row, State, Thread}
+use Rattle.regex_lite_engine.specs.Pikevm.Machine.{Frame, Row, State, Thread}
 
 -- a round begins
 pub record BeginsRound (old new : State) : Type 0 where

@@ -2,19 +2,19 @@
 use Rattle.std.proofs.Common.{◌≡◌, ℕ, suc, ◌+◌, ◌^◌, ◌<◌, ◌≤◌, Bool, List, [], ◌∷◌, ◌++◌}
 use Rattle.std.proofs.Common.{length, if◌then◌else◌, Some, refl, sym, ap, subst, ◌∙◌, arith}
 use Rattle.regex_lite_syntax.specs.Text.{Text}
-use Rattle.regex_lite_engine.specs.Walk.Beginnings.{Told, untold}
-use Rattle.regex_lite_engine.specs.declared.pikevm.here.Here.{Here}
+use Rattle.regex_lite_engine.specs.Pikevm.Beginnings.{Told, untold}
+use Rattle.regex_lite_engine.specs.declared.search.here.Here.{Here}
 use Rattle.regex_lite_engine.specs.Search.Bounds.{StepCounts}
 use Rattle.regex_lite_engine.specs.declared.pikevm.walk.Walk.{Walk}
 use Rattle.regex_lite_engine.specs.Graph.Places.{Place, kept_back, kept_back_of}
-use Rattle.regex_lite_engine.specs.Walk.Again.{AreAlike, all_retold}
-use Rattle.regex_lite_engine.specs.Walk.InStep.{Offer}
-use Rattle.regex_lite_engine.specs.Walk.Machine.{Row, Frame, explore, Thread, thread_at, State}
-use Rattle.regex_lite_engine.specs.Walk.Room.{IsFit, HasRoom, Explores}
-use Rattle.regex_lite_engine.specs.Walk.Room.{WalksTo, due_tries, due_entries}
-use Rattle.regex_lite_engine.specs.Walk.Turns.{Between, StepsTo}
-use Rattle.regex_lite_engine.specs.Walk.Walking.{Node, Best, WayTold}
-use Rattle.regex_lite_engine.specs.Walk.Walking.{ThreadsHold, InStep, IsWalking}
+use Rattle.regex_lite_engine.specs.Pikevm.Again.{AreAlike, all_retold}
+use Rattle.regex_lite_engine.specs.Pikevm.InStep.{Offer}
+use Rattle.regex_lite_engine.specs.Pikevm.Machine.{Row, Frame, explore, Thread, thread_at, State}
+use Rattle.regex_lite_engine.specs.Pikevm.Room.{IsFit, HasRoom, Explores}
+use Rattle.regex_lite_engine.specs.Pikevm.Room.{WalksTo, due_tries, due_entries}
+use Rattle.regex_lite_engine.specs.Pikevm.Turns.{Between, StepsTo}
+use Rattle.regex_lite_engine.specs.Pikevm.Walking.{Node, Best, WayTold}
+use Rattle.regex_lite_engine.specs.Pikevm.Walking.{ThreadsHold, InStep, IsWalking}
 use Rattle.regex_lite_engine.proofs.pikevm.RoomLemmas.{left_most}
 
 module _ (table : List (Place ℕ)) (h : Text) (s : List ℕ) (first last p from : ℕ) (rounds : List ℕ)

@@ -2,12 +2,12 @@
 use Rattle.std.proofs.Common.{◌≡◌, ℕ, zero, suc, ◌+◌, ◌-◌, ◌<◌, ◌≤◌, slice_get, Some, List}
 use Rattle.std.proofs.Common.{None, [], ◌∷◌, ◌++◌, length, replicate, refl, sym, ap, ◌∙◌}
 use Rattle.std.proofs.Common.{arith, length-append}
-use Rattle.regex_lite_engine.specs.declared.pikevm.patterns.Start.{Start}
-use Rattle.regex_lite_engine.specs.Walk.Beginnings.{Told}
-use Rattle.regex_lite_engine.specs.Walk.Entering.{Pushed, Same}
-use Rattle.regex_lite_engine.specs.Walk.Machine.{Row, State, Thread, thread_at}
-use Rattle.regex_lite_engine.specs.Walk.Turns.{begun}
-use Rattle.regex_lite_engine.proofs.pikevm.OptionLemmas.{not_there, same_some}
+use Rattle.regex_lite_engine.specs.declared.search.patterns.Start.{Start}
+use Rattle.regex_lite_engine.specs.Pikevm.Beginnings.{Told}
+use Rattle.regex_lite_engine.specs.Pikevm.Entering.{Pushed, Same}
+use Rattle.regex_lite_engine.specs.Pikevm.Machine.{Row, State, Thread, thread_at}
+use Rattle.regex_lite_engine.specs.Pikevm.Turns.{begun}
+use Rattle.regex_lite_engine.proofs.search.OptionLemmas.{not_there, same_some}
 
 at_end : (ts : List Thread) (thread : Thread) → thread_at (ts ++ thread ∷ []) (length ts) ≡ thread
 at_end [] thread = refl

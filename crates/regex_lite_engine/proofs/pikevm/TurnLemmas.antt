@@ -9,29 +9,29 @@ use Rattle.std.proofs.lemmas.List.Sums.{sum_by-cons}
 use Rattle.std.proofs.lemmas.List.{nil_from_length}
 use Rattle.std.proofs.lemmas.Option.{slice_get-get_or}
 use Rattle.regex_lite_syntax.specs.Text.{Text}
-use Rattle.regex_lite_engine.specs.declared.pikevm.here.Here.{Here}
+use Rattle.regex_lite_engine.specs.declared.search.here.Here.{Here}
 use Rattle.regex_lite_engine.specs.Graph.Places.{Place, kept_back, reading_count}
 use Rattle.regex_lite_engine.specs.Graph.Parts.{IsOwnPart, IsWithin}
 use Rattle.regex_lite_engine.specs.Graph.Renumbered.{arrow_count, arrows_of}
 use Rattle.regex_lite_engine.specs.Search.Preference.{IsPreferred}
-use Rattle.regex_lite_engine.specs.Walk.Explored.{IsDead}
-use Rattle.regex_lite_engine.specs.Walk.InStep as walk
-use Rattle.regex_lite_engine.specs.Walk.InStep.{Offer, StartsBelow}
-use Rattle.regex_lite_engine.specs.Walk.NumberedList.{IsEntry, StartsOf}
-use Rattle.regex_lite_engine.specs.Walk.Machine.{BestState, Row, Thread, thread_at, State}
-use Rattle.regex_lite_engine.specs.Walk.NumberedAnswer.{numbered_step, is_end}
+use Rattle.regex_lite_engine.specs.Search.Explored.{IsDead}
+use Rattle.regex_lite_engine.specs.Pikevm.InStep as walk
+use Rattle.regex_lite_engine.specs.Pikevm.InStep.{Offer, StartsBelow}
+use Rattle.regex_lite_engine.specs.Search.NumberedList.{IsEntry, StartsOf}
+use Rattle.regex_lite_engine.specs.Pikevm.Machine.{BestState, Row, Thread, thread_at, State}
+use Rattle.regex_lite_engine.specs.Search.NumberedAnswer.{numbered_step, is_end}
 use Rattle.regex_lite_engine.specs.Search.Offsets.{offset}
-use Rattle.regex_lite_engine.specs.declared.pikevm.patterns.Start.{Start}
-use Rattle.regex_lite_engine.specs.Walk.Beginnings.{Told, Tells}
-use Rattle.regex_lite_engine.specs.Walk.Standing.{IsHere}
-use Rattle.regex_lite_engine.specs.Walk.Room.{IsFit, ThreadsBelow, lone}
-use Rattle.regex_lite_engine.specs.Walk.Turns.{begun, with_starts, IsAmong, AreFrom, AreDeadAt}
-use Rattle.regex_lite_engine.specs.Walk.Turns.{AreStartsAt, Between, StepsTo, IsComing}
-use Rattle.regex_lite_engine.specs.Walk.Turns.{IsDeadAt, Begun, FromIs, IsBlank, IsReady}
-use Rattle.regex_lite_engine.specs.Walk.Walking.{Node, Best, WayTold, ThreadsHold, InStep}
-use Rattle.regex_lite_engine.proofs.pikevm.OptionLemmas.{not_there, same_some}
+use Rattle.regex_lite_engine.specs.declared.search.patterns.Start.{Start}
+use Rattle.regex_lite_engine.specs.Pikevm.Beginnings.{Told, Tells}
+use Rattle.regex_lite_engine.specs.Search.Standing.{IsHere}
+use Rattle.regex_lite_engine.specs.Pikevm.Room.{IsFit, ThreadsBelow, lone}
+use Rattle.regex_lite_engine.specs.Pikevm.Turns.{begun, with_starts, IsAmong, AreFrom, AreDeadAt}
+use Rattle.regex_lite_engine.specs.Pikevm.Turns.{AreStartsAt, Between, StepsTo, IsComing}
+use Rattle.regex_lite_engine.specs.Pikevm.Turns.{IsDeadAt, Begun, FromIs, IsBlank, IsReady}
+use Rattle.regex_lite_engine.specs.Pikevm.Walking.{Node, Best, WayTold, ThreadsHold, InStep}
+use Rattle.regex_lite_engine.proofs.search.OptionLemmas.{not_there, same_some}
 use Rattle.regex_lite_engine.proofs.pikevm.OwnPartLemmas.{recorded_within}
-use Rattle.regex_lite_engine.proofs.pikevm.PositionLemmas as deep
+use Rattle.regex_lite_engine.proofs.search.PositionLemmas as deep
 use Rattle.regex_lite_engine.proofs.pikevm.RoomLemmas.{left_most}
 use Rattle.regex_lite_engine.proofs.pikevm.ThreadLemmas.{at_front, at_back, begun_at, begun_length}
 use Rattle.regex_lite_engine.proofs.pikevm.WalkLemmas.{held_same}

@@ -6,25 +6,25 @@ use Rattle.std.proofs.lemmas.Option.{slice_get_past}
 use Rattle.std.proofs.lemmas.List.{get_or-set_same, get_or-set_other}
 use Rattle.std.proofs.lemmas.Bool.{cases_eq}
 use Rattle.regex_lite_syntax.specs.Text.{Text}
-use Rattle.regex_lite_engine.specs.Walk.Beginnings.{Told}
+use Rattle.regex_lite_engine.specs.Pikevm.Beginnings.{Told}
 use Rattle.regex_lite_engine.specs.Graph.Places.{Place, complete, with_arrows}
 use Rattle.regex_lite_engine.specs.Graph.Places.{arrow_taken, step_from}
 use Rattle.regex_lite_engine.specs.Graph.Renumbered.{arrow_count}
 use Rattle.regex_lite_engine.specs.Search.Marks.{Marks, marked, over, mark_of, marks_along}
-use Rattle.regex_lite_engine.specs.Walk.NumberedList.{StartsOf}
-use Rattle.regex_lite_engine.specs.Walk.InStep.{Offer}
-use Rattle.regex_lite_engine.specs.Walk.Machine.{Row, Frame, explore, restore, Thread}
-use Rattle.regex_lite_engine.specs.Walk.NumberedAnswer.{place_with, is_complete}
-use Rattle.regex_lite_engine.specs.Walk.NumberedAnswer.{numbered_step, is_end}
+use Rattle.regex_lite_engine.specs.Search.NumberedList.{StartsOf}
+use Rattle.regex_lite_engine.specs.Pikevm.InStep.{Offer}
+use Rattle.regex_lite_engine.specs.Pikevm.Machine.{Row, Frame, explore, restore, Thread}
+use Rattle.regex_lite_engine.specs.Search.NumberedAnswer.{place_with, is_complete}
+use Rattle.regex_lite_engine.specs.Search.NumberedAnswer.{numbered_step, is_end}
 use Rattle.regex_lite_engine.specs.Search.Offsets.{offset, HasSlots}
-use Rattle.regex_lite_engine.specs.Walk.Walking.{Node, WayTold, FramesHold}
-use Rattle.regex_lite_engine.specs.Walk.Walking.{ThreadsHold, InStep, Best, IsWalking}
+use Rattle.regex_lite_engine.specs.Pikevm.Walking.{Node, WayTold, FramesHold}
+use Rattle.regex_lite_engine.specs.Pikevm.Walking.{ThreadsHold, InStep, Best, IsWalking}
 use Rattle.regex_lite_engine.proofs.laws.LeadsLemmas.{leads_append}
 use Rattle.regex_lite_engine.proofs.pikevm.InStepLemmas as deep
 use Rattle.regex_lite_engine.proofs.pikevm.InStepMatchLemmas as at_match
-use Rattle.regex_lite_engine.proofs.pikevm.MarkLemmas.{marks_append, same_slots}
-use Rattle.regex_lite_engine.proofs.pikevm.OfferLemmas as order
-use Rattle.regex_lite_engine.proofs.pikevm.RecordLemmas as records
+use Rattle.regex_lite_engine.proofs.search.MarkLemmas.{marks_append, same_slots}
+use Rattle.regex_lite_engine.proofs.search.OfferLemmas as order
+use Rattle.regex_lite_engine.proofs.search.RecordLemmas as records
 
 pub same_node : (x y : Node) → (x ≡ y) ⊎ (x ≡ y → ⊥)
 same_node (a, b) (c, d) = go (cases_eq a c) (cases_eq b d)

@@ -5,25 +5,25 @@ use Rattle.std.proofs.Common.{slice_set, slice_index, if◌then◌else◌, Optio
 use Rattle.std.proofs.Common.{unwrap_or, refl, sym, ap, subst, ◌∙◌, arith, length-set}
 use Rattle.std.proofs.lemmas.List.{set-get_or, get_or-set_same, get_or-set_other}
 use Rattle.std.proofs.lemmas.Bool.{cases_eq}
-use Rattle.regex_lite_engine.specs.Walk.Beginnings.{Told}
+use Rattle.regex_lite_engine.specs.Pikevm.Beginnings.{Told}
 use Rattle.regex_lite_engine.specs.declared.nfa.place.Place as code
 use Rattle.regex_lite_engine.specs.declared.pikevm.enter.Onward.{Onward}
 use Rattle.regex_lite_engine.specs.declared.pikevm.enter.Onward.TheVariants as onward
-use Rattle.regex_lite_engine.specs.declared.pikevm.here.Here.{Here}
+use Rattle.regex_lite_engine.specs.declared.search.here.Here.{Here}
 use Rattle.regex_lite_engine.specs.Graph.Places.{Place, with_arrows, kept_back, reading_count}
 use Rattle.regex_lite_engine.specs.Graph.Renumbered.{arrow_count}
 use Rattle.regex_lite_engine.specs.Graph.Stored.{LeadsBelow, place_of}
-use Rattle.regex_lite_engine.specs.Walk.Again.{all_retold}
-use Rattle.regex_lite_engine.specs.Walk.Entering.{completes, Enters}
-use Rattle.regex_lite_engine.specs.Walk.Machine.{Row, Frame, explore, restore}
-use Rattle.regex_lite_engine.specs.Walk.Machine.{unwound, Thread, thread_at}
-use Rattle.regex_lite_engine.specs.Walk.Room.{left_of, lone, weight, due_tries}
-use Rattle.regex_lite_engine.specs.Walk.Room.{due_entries, explores, FramesBelow}
-use Rattle.regex_lite_engine.specs.Walk.Room.{IsFit, WalksTo, WalksAgain, Went}
-use Rattle.regex_lite_engine.specs.Walk.Walking.{IsWalking}
+use Rattle.regex_lite_engine.specs.Pikevm.Again.{all_retold}
+use Rattle.regex_lite_engine.specs.Pikevm.Entering.{completes, Enters}
+use Rattle.regex_lite_engine.specs.Pikevm.Machine.{Row, Frame, explore, restore}
+use Rattle.regex_lite_engine.specs.Pikevm.Machine.{unwound, Thread, thread_at}
+use Rattle.regex_lite_engine.specs.Pikevm.Room.{left_of, lone, weight, due_tries}
+use Rattle.regex_lite_engine.specs.Pikevm.Room.{due_entries, explores, FramesBelow}
+use Rattle.regex_lite_engine.specs.Pikevm.Room.{IsFit, WalksTo, WalksAgain, Went}
+use Rattle.regex_lite_engine.specs.Pikevm.Walking.{IsWalking}
 use Rattle.regex_lite_engine.proofs.pikevm.AgainLemmas.{entered_again}
 use Rattle.regex_lite_engine.proofs.pikevm.EnterLemmas.{walk_enters}
-use Rattle.regex_lite_engine.proofs.pikevm.OptionLemmas.{not_there, same_some}
+use Rattle.regex_lite_engine.proofs.search.OptionLemmas.{not_there, same_some}
 use Rattle.regex_lite_engine.proofs.pikevm.WalkLemmas.{walk_seen, walk_restored}
 use Rattle.regex_lite_engine.proofs.pikevm.RoomLemmas.{left_enter, enters_few, enters_keeps}
 use Rattle.regex_lite_engine.proofs.pikevm.RoomLemmas.{enters_reads, enters_within}

@@ -11,7 +11,7 @@ use Rattle.regex_lite_engine.specs.declared.nfa.place.Place.{Place}
 use Rattle.regex_lite_engine.specs.declared.nfa.place.Place.TheVariants as stored
 use Rattle.regex_lite_engine.specs.declared.backtrack.enter.Onward.{Onward}
 use Rattle.regex_lite_engine.specs.Backtrack.Machine.{Frame, explore, restore, onto, completes}
-use Rattle.regex_lite_engine.specs.Walk.Machine.{Row}
+use Rattle.regex_lite_engine.specs.Pikevm.Machine.{Row}
 
 module _ (at : ℕ) where
   -- where a character of the set comes next, the walk goes on after it

@@ -9,7 +9,7 @@ use Rattle.regex_lite_engine.specs.Graph.Places.{reading_of, kept_back_of, kept_
 use Rattle.regex_lite_engine.specs.declared.nfa.place.Place as code
 use Rattle.regex_lite_engine.specs.declared.nfa.place.Place.TheVariants as stored
 use Rattle.regex_lite_engine.specs.declared.nfa.kept_back.KeptBack.{KeptBack}
-use Rattle.regex_lite_engine.specs.declared.nfa.heads.Heads.{Heads}
+use Rattle.regex_lite_engine.specs.declared.prefilter.heads.Heads.{Heads}
 
 -- the table of a graph as callers see it
 pub record StoredTable : Type 0 where

@@ -6,7 +6,7 @@ use Rattle.std.specs.declared.rc.RcStr.{RcStr}
 use Rattle.regex_lite_syntax.specs.Tree.{Tree}
 use Rattle.regex_lite_syntax.specs.Tree.Properties.{captures_len, group_name, static_captures_len}
 use Rattle.regex_lite_syntax.specs.Tree.Views.{text_of_name}
-use Rattle.regex_lite_engine.specs.declared.nfa.list_heads.ListHeads.{ListHeads}
+use Rattle.regex_lite_engine.specs.declared.prefilter.list_heads.ListHeads.{ListHeads}
 use Rattle.regex_lite_engine.specs.declared.nfa.place.Place as code
 use Rattle.regex_lite_engine.specs.Graph.Addresses.{Address}
 use Rattle.regex_lite_engine.specs.Graph.Parts.{HaveOwnParts}

@@ -1,13 +1,17 @@
 -- Classes of characters that no place of a graph distinguishes: those between the same boundaries.
-use Rattle.std.specs.Prelude.{◌≡◌, ◌+◌, ◌⊎◌, ℕ, suc, Bool, true, false, All, List, []}
-use Rattle.std.specs.Prelude.{◌∷◌, Option, Some, None, is_none, length, nat_le, slice_get}
+use Rattle.std.specs.Prelude.{◌≡◌, ◌+◌, ◌≤◌, ◌<◌, ◌⊎◌, ℕ, suc, Bool, true, false, All, List, []}
+use Rattle.std.specs.Prelude.{◌∷◌, Option, Some, None, chars, drop, is_none, length, nat_le}
+use Rattle.std.specs.Prelude.{slice_get}
+use Rattle.std.specs.Char.{len_utf8}
 use Rattle.regex_lite_syntax.specs.declared.class.ClassRange.{ClassRange}
 use Rattle.regex_lite_syntax.specs.Text.{the}
 use Rattle.regex_lite_syntax.specs.Tree.Looks.{is, is_word}
+use Rattle.regex_lite_engine.specs.declared.lazy_dfa.classes.Ahead.{Ahead}
+use Rattle.regex_lite_engine.specs.declared.lazy_dfa.interval.Interval.{Interval}
 use Rattle.regex_lite_engine.specs.declared.lazy_dfa.side.Side.{Side}
 use Rattle.regex_lite_engine.specs.declared.nfa.place.Place as code
 use Rattle.regex_lite_engine.specs.declared.nfa.place.Place.TheVariants as stored
-use Rattle.regex_lite_engine.specs.declared.pikevm.here.Here.{Here}
+use Rattle.regex_lite_engine.specs.declared.search.here.Here.{Here}
 
 -- where the intervals begin, but for the lowest; and whether some place looks at its neighbours
 pub record Intervals : Type 0 where
@@ -27,6 +31,20 @@ interval_of (b ∷ boundaries) c = tick (nat_le b c) + interval_of boundaries c
 abbrev pub class_of : (boundaries : List ℕ) → Option ℕ → ℕ
 class_of boundaries None = suc (length boundaries)
 class_of boundaries (Some c) = interval_of boundaries c
+
+-- all characters of the interval are of its class
+pub record IsInterval (boundaries : List ℕ) (interval : Interval) : Type 0 where
+  pub all : (c : ℕ) → interval.start ≤ c → c < interval.end
+      → interval_of boundaries c ≡ interval.class
+  pub few : interval.class ≤ length boundaries
+
+-- a character of this class begins at the offset, and ends there
+pub record IsAhead (boundaries bytes : List ℕ) (at : ℕ) (ahead : Ahead) : Type 0 where
+  pub inside : at < length bytes
+  pub character : ℕ
+  pub begins : slice_get (chars (drop at bytes)) 0 ≡ Some character
+  pub ends : ahead.end ≡ at + len_utf8 character
+  pub class : interval_of boundaries character ≡ ahead.class
 
 abbrev pub IsBoundary : List ℕ → ℕ → Type 0
 IsBoundary [] b = ⊥

@@ -1,17 +1,17 @@
 -- What is known of a search whose turns are remembered.
 use Rattle.std.specs.Prelude.{◌≡◌, ℕ, Bool, true, List, [], ◌∷◌, slice_get, Option, Some}
 use Rattle.regex_lite_syntax.specs.Text.{Text}
-use Rattle.regex_lite_engine.specs.declared.pikevm.here.Here.{Here}
-use Rattle.regex_lite_engine.specs.declared.pikevm.patterns.Start.{Start}
-use Rattle.regex_lite_engine.specs.declared.pikevm.turn.Cache.{Cache}
+use Rattle.regex_lite_engine.specs.declared.search.here.Here.{Here}
+use Rattle.regex_lite_engine.specs.declared.search.patterns.Start.{Start}
+use Rattle.regex_lite_engine.specs.declared.pikevm.cache.Cache.{Cache}
 use Rattle.regex_lite_engine.specs.Graph.Places.{Place}
 use Rattle.regex_lite_engine.specs.LazyDfa.Automaton.{Automaton, State, Suits, ways_of}
 use Rattle.regex_lite_engine.specs.LazyDfa.Intervals.{side_of}
-use Rattle.regex_lite_engine.specs.Walk.Beginnings.{Told, Tells}
-use Rattle.regex_lite_engine.specs.Walk.Machine.{Thread}
-use Rattle.regex_lite_engine.specs.Walk.Searching.{IsHit, TurnsAgain}
-use Rattle.regex_lite_engine.specs.Walk.Standing.{IsHere}
-use Rattle.regex_lite_engine.specs.Walk.Turns.{best_of, AreStartsAt}
+use Rattle.regex_lite_engine.specs.Pikevm.Beginnings.{Told, Tells}
+use Rattle.regex_lite_engine.specs.Pikevm.Machine.{Thread}
+use Rattle.regex_lite_engine.specs.Pikevm.Searching.{IsHit, TurnsAgain}
+use Rattle.regex_lite_engine.specs.Search.Standing.{IsHere}
+use Rattle.regex_lite_engine.specs.Pikevm.Turns.{best_of, AreStartsAt}
 
 -- the position's own start is the first where there is no thread, and else another
 abbrev pub IsFirst : (first at : ℕ) → List Thread → Type 0

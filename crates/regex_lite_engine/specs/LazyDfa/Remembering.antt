@@ -5,9 +5,9 @@ use Rattle.regex_lite_engine.specs.declared.lazy_dfa.spans.SpanSearcher.{SpanSea
 use Rattle.regex_lite_engine.specs.Graph.Places.{Place}
 use Rattle.regex_lite_engine.specs.Graph.Stored.{StoredGraph, table_of}
 use Rattle.regex_lite_engine.specs.LazyDfa.Automaton.{Automaton, Remembers}
-use Rattle.regex_lite_engine.specs.Walk.NumberedAnswer.{IsNumberedMatch}
-use Rattle.regex_lite_engine.specs.Walk.Outcomes.{IsCountable}
-use Rattle.regex_lite_engine.specs.Walk.Searching.{IsBetween}
+use Rattle.regex_lite_engine.specs.Search.NumberedAnswer.{IsNumberedMatch}
+use Rattle.regex_lite_engine.specs.Pikevm.Outcomes.{IsCountable}
+use Rattle.regex_lite_engine.specs.Pikevm.Searching.{IsBetween}
 
 -- all turns are those of searches in this graph
 pub record RemembersAll (graph : StoredGraph) (automaton : Automaton) : Type 0 where

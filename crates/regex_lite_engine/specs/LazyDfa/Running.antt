@@ -4,16 +4,16 @@ use Rattle.std.specs.Prelude.{MatchOption, None, Some, length, slice_index}
 use Rattle.regex_lite_syntax.specs.Text.{Text}
 use Rattle.regex_lite_engine.specs.declared.lazy_dfa.run.Progress.{Progress}
 use Rattle.regex_lite_engine.specs.declared.lazy_dfa.state.StoredWay.{StoredWay}
-use Rattle.regex_lite_engine.specs.declared.pikevm.here.Here.{Here}
-use Rattle.regex_lite_engine.specs.declared.pikevm.turn.Cache.{Cache}
+use Rattle.regex_lite_engine.specs.declared.search.here.Here.{Here}
+use Rattle.regex_lite_engine.specs.declared.pikevm.cache.Cache.{Cache}
 use Rattle.regex_lite_engine.specs.Graph.Places.{Place}
 use Rattle.regex_lite_engine.specs.Graph.Renumbered.{arrows_of}
 use Rattle.regex_lite_engine.specs.LazyDfa.Automaton.{Automaton, IsEmptyState}
 use Rattle.regex_lite_engine.specs.LazyDfa.Learning.{IsFirst, IsIn}
-use Rattle.regex_lite_engine.specs.Walk.Machine.{Thread}
-use Rattle.regex_lite_engine.specs.Walk.Searching.{IsBetween}
-use Rattle.regex_lite_engine.specs.Walk.Standing.{IsHere}
-use Rattle.regex_lite_engine.specs.Walk.Turns.{best_of, IsComing}
+use Rattle.regex_lite_engine.specs.Pikevm.Machine.{Thread}
+use Rattle.regex_lite_engine.specs.Pikevm.Searching.{IsBetween}
+use Rattle.regex_lite_engine.specs.Search.Standing.{IsHere}
+use Rattle.regex_lite_engine.specs.Pikevm.Turns.{best_of, IsComing}
 
 module _ (table : List (Place ℕ)) (haystack : Text) (entries : List ℕ) (s : ℕ) where
   -- a search from position s on has come to position p

@@ -7,15 +7,16 @@ use Rattle.regex_lite_engine.specs.declared.lazy_dfa.scan.Scanned.TheVariants as
 use Rattle.regex_lite_engine.specs.declared.lazy_dfa.scan.Standing.{Standing}
 use Rattle.regex_lite_engine.specs.declared.lazy_dfa.shortest.ScannedEnd as code_end
 use Rattle.regex_lite_engine.specs.declared.lazy_dfa.shortest.ScannedEnd.TheVariants as stored_end
-use Rattle.regex_lite_engine.specs.declared.pikevm.here.Here.{Here}
+use Rattle.regex_lite_engine.specs.declared.search.here.Here.{Here}
 use Rattle.regex_lite_engine.specs.Graph.Places.{Place}
 use Rattle.regex_lite_engine.specs.LazyDfa.Automaton.{Automaton, State, Suits, threads_of}
 use Rattle.regex_lite_engine.specs.LazyDfa.Intervals.{side_of}
-use Rattle.regex_lite_engine.specs.Walk.Beginnings.{untold}
-use Rattle.regex_lite_engine.specs.Walk.Outcomes.{IsBestOutcomeOf, IsNumberedEndOf, with_start_kept}
-use Rattle.regex_lite_engine.specs.Walk.Standing.{IsHere}
-use Rattle.regex_lite_engine.specs.Walk.Turns.{best_at, IsComing}
-use Rattle.regex_lite_engine.specs.Walk.Walking.{Best}
+use Rattle.regex_lite_engine.specs.Pikevm.Beginnings.{untold}
+use Rattle.regex_lite_engine.specs.Pikevm.Outcomes.{IsBestOutcomeOf, IsNumberedEndOf}
+use Rattle.regex_lite_engine.specs.Pikevm.Outcomes.{with_start_kept}
+use Rattle.regex_lite_engine.specs.Search.Standing.{IsHere}
+use Rattle.regex_lite_engine.specs.Pikevm.Turns.{best_at, IsComing}
+use Rattle.regex_lite_engine.specs.Pikevm.Walking.{Best}
 
 -- the match with this span, without slots
 abbrev pub best_told : Option (ℕ × ℕ) → Best

@@ -15,7 +15,7 @@ use crate::backtrack::frame::Frame;
 use crate::backtrack::stack::Stack;
 use crate::nfa::class::MappedClass;
 use crate::nfa::place::Place;
-use crate::pikevm::here::{Here, byte_len, first_char};
+use crate::search::here::{Here, byte_len, first_char};
 
 /// How a way goes on from a place.
 #[derive(Clone, Copy)]

@@ -5,13 +5,13 @@ ghost use Rattle.regex_lite_engine.specs.Graph.Renumbered.{arrows_of};
 ghost use Rattle.regex_lite_engine.specs.Graph.Stored.{table_of};
 ghost use Rattle.regex_lite_engine.specs.Search.Bounds.{IsBounded, StaysCounted, characters_left};
 ghost use Rattle.regex_lite_engine.specs.Search.Offsets.{position_at};
-ghost use Rattle.regex_lite_engine.specs.Walk.Outcomes.{IsNumberedOutcome, CanCount};
-ghost use Rattle.regex_lite_engine.specs.Walk.Turns.{best_at};
+ghost use Rattle.regex_lite_engine.specs.Pikevm.Outcomes.{IsNumberedOutcome, CanCount};
+ghost use Rattle.regex_lite_engine.specs.Pikevm.Turns.{best_at};
 
 use crate::Graph;
 use crate::backtrack::walk::Walk;
-use crate::pikevm::here::Here;
-use crate::pikevm::skip::pass_over;
+use crate::search::here::Here;
+use crate::search::skip::pass_over;
 
 /// Goes from start to start, up to the first from which a way leads to a match. Returns where the
 /// match starts and where it ends; its slots are those of the walk.

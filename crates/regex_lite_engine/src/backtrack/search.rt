@@ -6,16 +6,16 @@ ghost use Rattle.regex_lite_engine.specs.Backtrack.Searching.{IsFresh};
 ghost use Rattle.regex_lite_engine.specs.Graph.Renumbered.{IsGraphOf};
 ghost use Rattle.regex_lite_engine.specs.Graph.Stored.{table_of};
 ghost use Rattle.regex_lite_engine.specs.Search.Outcomes.{IsOutcome, HasCost};
-ghost use Rattle.regex_lite_engine.specs.Walk.Outcomes.{IsCountable, match_told};
-ghost use Rattle.regex_lite_engine.specs.Walk.Turns.{best_at};
+ghost use Rattle.regex_lite_engine.specs.Pikevm.Outcomes.{IsCountable, match_told};
+ghost use Rattle.regex_lite_engine.specs.Pikevm.Turns.{best_at};
 
 use crate::Graph;
 use crate::backtrack::run::run;
 use crate::backtrack::stack::Stack;
 use crate::backtrack::visited::Visited;
 use crate::backtrack::walk::Walk;
-use crate::pikevm::search::Outcome;
-use crate::pikevm::steps::Steps;
+use crate::search::outcome::Outcome;
+use crate::search::steps::Steps;
 use std::alloc::{AllocError, Global};
 
 impl Graph {

@@ -33,6 +33,23 @@ pub struct Visited {
     first: usize,
 }
 
+impl Words {
+    /// Words for this number of pairs, each 0.
+    // Inlined, since few words would be copied else.
+    #[inline(always)]
+    fn for_pairs(alloc: Global, count: usize) -> Result<Words, AllocError>
+        ensures none { IfOk result (λ words. bits_of (words_of words) count
+            ≡ replicate count false) }
+        ensures room { IfOk result (λ words. count ≤ 64 * room_of words) }
+    {
+        if count <= 64 * FEW {
+            return Ok(Words::Few([0; FEW]));
+        }
+        let words = Vec::with_capacity(alloc, count.div_ceil(64))?;
+        Ok(Words::Many(words))
+    }
+}
+
 impl Model for Visited {
     ghost use Rattle.std.specs.Prelude.{◌*◌, ◌≤◌};
     ghost use Rattle.regex_lite_engine.specs.Backtrack.Bits.{bits_of, room_of, words_of};
@@ -65,14 +82,8 @@ impl Visited {
     {
         let columns = (last - first).checked_add(1).ok_or(AllocError)?;
         let count = places.checked_mul(columns).ok_or(AllocError)?;
-        // Made here, since a function that returned them would copy them.
-        let words = if count <= 64 * FEW {
-            Words::Few([0; FEW])
-        } else {
-            Words::Many(Vec::with_capacity(alloc, count.div_ceil(64))?)
-        };
         Ok(Visited {
-            words,
+            words: Words::for_pairs(alloc, count)?,
             count,
             places,
             first,

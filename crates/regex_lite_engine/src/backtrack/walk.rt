@@ -10,7 +10,7 @@ use crate::backtrack::enter::{Onward, enter};
 use crate::backtrack::frame::Frame;
 use crate::backtrack::stack::Stack;
 use crate::backtrack::visited::Visited;
-use crate::pikevm::steps::Steps;
+use crate::search::steps::Steps;
 
 /// What a search works in, and what it has counted.
 #[derive(Drop)]

@@ -1,13 +1,23 @@
 //! Classes of characters that no place of a graph distinguishes.
 ghost use Rattle.std.specs.Prelude.{◌≡◌, ◌+◌, ◌≤◌, ◌<◌, ℕ, IfOk, IfSome};
-ghost use Rattle.std.specs.Prelude.{length, nat_le, slice_index};
-ghost use Rattle.regex_lite_engine.specs.LazyDfa.Intervals.{AreIntervalsOf, class_of};
+ghost use Rattle.std.specs.Prelude.{IsCharBoundary, length, nat_le, slice_index};
+ghost use Rattle.regex_lite_engine.specs.LazyDfa.Intervals.{AreIntervalsOf, IsAhead, IsInterval};
+ghost use Rattle.regex_lite_engine.specs.LazyDfa.Intervals.{class_of};
 ghost use Rattle.regex_lite_engine.specs.LazyDfa.Intervals.{interval_of, tick};
 
 use crate::lazy_dfa::boundaries::Boundaries;
+use crate::lazy_dfa::interval::Interval;
 use crate::nfa::place::Place;
+use crate::search::here::first_char;
 use std::alloc::{AllocError, Global};
 use std::marker::Model;
+
+/// The class of a character, and the offset at which the character ends.
+#[derive(Clone, Copy)]
+pub(crate) struct Ahead {
+    pub class: usize,
+    pub end: usize,
+}
 
 /// The intervals between the boundaries of all that a graph reads. The end of a haystack is in a
 /// class of its own.
@@ -82,17 +92,6 @@ impl Classes {
         }
     }
 
-    /// That of an ASCII character.
-    #[inline(always)]
-    #[tactic(auto, using(crate::proofs::lazy_dfa::IntervalLemmas::interval_within))]
-    pub(crate) fn of_ascii(&self, byte: u8) -> usize
-        requires { byte < 128 }
-        ensures same { result ≡ interval_of self.now.boundaries byte }
-        ensures few { result < 128 }
-    {
-        self.ascii[byte as usize] as usize
-    }
-
     /// That of the character.
     #[tactic(auto, using(crate::proofs::lazy_dfa::IntervalLemmas::interval_within))]
     fn interval(&self, c: char) -> usize
@@ -102,8 +101,68 @@ impl Classes {
         if c.is_ascii() {
             self.ascii[c as usize] as usize
         } else {
-            interval(&self.boundaries, c as u32) as usize
+            Interval::around(&self.boundaries, c as u32).class
         }
+    }
+
+    /// That of the character at this offset, and where the character ends. None at the end of the
+    /// haystack. The interval of one that isn't ASCII is remembered as `near`.
+    #[inline(always)]
+    #[tactic(auto, using(crate::proofs::lazy_dfa::IntervalLemmas::interval_within))]
+    pub(super) fn ahead(&self, haystack: &str, at: usize, near: &mut Interval) -> Option<Ahead>
+        requires boundary { IsCharBoundary haystack.now at }
+        requires near { IsInterval self.now.boundaries near.old }
+        ensures ahead { IfSome result (IsAhead self.now.boundaries haystack.now at) }
+        ensures few { IfSome result (λ ahead. ahead.class < 128) }
+        ensures near { IsInterval self.now.boundaries near.new }
+    {
+        let bytes = haystack.as_bytes();
+        if at >= bytes.len() {
+            return None;
+        }
+        let byte = bytes[at];
+        if byte >= 128 {
+            return self.wide_ahead(haystack, at, near);
+        }
+        Some(Ahead {
+            class: self.ascii[byte as usize] as usize,
+            end: at + 1,
+        })
+    }
+
+    /// The same of any character.
+    #[inline(always)]
+    fn wide_ahead(&self, haystack: &str, at: usize, near: &mut Interval) -> Option<Ahead>
+        requires inside { at < length haystack.now }
+        requires boundary { IsCharBoundary haystack.now at }
+        requires near { IsInterval self.now.boundaries near.old }
+        ensures ahead { IfSome result (IsAhead self.now.boundaries haystack.now at) }
+        ensures few { IfSome result (λ ahead. ahead.class < 128) }
+        ensures near { IsInterval self.now.boundaries near.new }
+    {
+        let Some(c) = first_char(haystack, at) else {
+            return None;
+        };
+        Some(Ahead {
+            class: self.class_near(c as u32, near),
+            end: at + c.len_utf8(),
+        })
+    }
+
+    /// The class of the character, which is likely to be in this interval. Else its own takes that
+    /// place.
+    #[inline(always)]
+    fn class_near(&self, c: u32, near: &mut Interval) -> usize
+        requires { IsInterval self.now.boundaries near.old }
+        ensures same { interval_of self.now.boundaries c ≡ result }
+        ensures few { result < 128 }
+        ensures near { IsInterval self.now.boundaries near.new }
+    {
+        let boundaries = &self.boundaries;
+        if !near.has(c) {
+            near.come_to(boundaries, c);
+        }
+        near.class
     }
 }
 
@@ -131,18 +190,4 @@ fn count_from(ascii: &mut [u8; 128], from: usize)
     'characters: for c in from..128 {
         ascii[c] += 1;
     }
-}
-
-/// How many of the boundaries lie at this number or below it.
-#[tactic(auto, using(crate::proofs::lazy_dfa::IntervalLemmas::interval_cons))]
-fn interval(boundaries: &[u32], c: u32) -> u32
-    requires { length boundaries.now ≤ 125 }
-    ensures same { result ≡ interval_of boundaries.now c }
-    ensures few { result ≤ length boundaries.now }
-{
-    let mut below = 0;
-    'bounds: for k in (0..boundaries.len()).rev() {
-        below += u32::from(boundaries[k] <= c);
-    }
-    below
 }

@@ -13,10 +13,10 @@ ghost use Rattle.regex_lite_engine.specs.LazyDfa.Running.{IsOnItsWay, Stands};
 ghost use Rattle.regex_lite_engine.specs.LazyDfa.Scanning.{best_told, ScansTo};
 ghost use Rattle.regex_lite_engine.specs.Search.Bounds.{IsBoundedBy, characters_left};
 ghost use Rattle.regex_lite_engine.specs.Search.Offsets.{position_at};
-ghost use Rattle.regex_lite_engine.specs.Walk.Outcomes.{CanCount, IsBestOutcomeOf, IsFresh};
-ghost use Rattle.regex_lite_engine.specs.Walk.Searching.{IsBetween};
-ghost use Rattle.regex_lite_engine.specs.Walk.Standing.{IsHere};
-ghost use Rattle.regex_lite_engine.specs.Walk.Turns.{best_of};
+ghost use Rattle.regex_lite_engine.specs.Pikevm.Outcomes.{CanCount, IsBestOutcomeOf, IsFresh};
+ghost use Rattle.regex_lite_engine.specs.Pikevm.Searching.{IsBetween};
+ghost use Rattle.regex_lite_engine.specs.Search.Standing.{IsHere};
+ghost use Rattle.regex_lite_engine.specs.Pikevm.Turns.{best_of};
 
 use crate::Graph;
 use crate::lazy_dfa::automaton::LazyDfa;
@@ -24,9 +24,9 @@ use crate::lazy_dfa::learn::Taken;
 use crate::lazy_dfa::run::Progress;
 use crate::lazy_dfa::scan::{Scanned, Standing};
 use crate::lazy_dfa::state::{Hit, StoredWay};
-use crate::pikevm::here::Here;
+use crate::pikevm::cache::Cache;
 use crate::pikevm::run::is_over;
-use crate::pikevm::turn::Cache;
+use crate::search::here::Here;
 
 impl LazyDfa {
     /// Where the most preferred match starts and ends, from the least start at or after this
@@ -164,7 +164,7 @@ impl LazyDfa {
         if cache.walk.memory.threads() > 0 || !cache.best.is_none() {
             return at;
         }
-        if let Some(idle) = self.stay_idle(graph, haystack, at) {
+        if let Some(idle) = self.stay_idle(graph, at) {
             return idle;
         }
         let here = self.leave_idle(graph, haystack, at.here);

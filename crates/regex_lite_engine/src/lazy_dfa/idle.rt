@@ -3,27 +3,27 @@
 ghost use Rattle.std.specs.Prelude.{◌<◌, ◌∷◌, [], ℕ, IfSome, chars, length};
 ghost use Rattle.regex_lite_engine.specs.Graph.Stored.{table_of};
 ghost use Rattle.regex_lite_engine.specs.LazyDfa.Running.{StandsIdle};
-ghost use Rattle.regex_lite_engine.specs.Walk.Standing.{IsHere};
-ghost use Rattle.regex_lite_engine.specs.Walk.Starts.{PassesTo};
-ghost use Rattle.regex_lite_engine.specs.Walk.Turns.{AreDeadAt};
+ghost use Rattle.regex_lite_engine.specs.Search.Standing.{IsHere};
+ghost use Rattle.regex_lite_engine.specs.Search.Starts.{PassesTo};
+ghost use Rattle.regex_lite_engine.specs.Pikevm.Turns.{AreDeadAt};
 
 use crate::Graph;
-use crate::lazy_dfa::ascii::is_before_ascii;
 use crate::lazy_dfa::automaton::{LazyDfa, MOST_STATES, UNKNOWN};
 use crate::lazy_dfa::run::Progress;
-use crate::pikevm::here::Here;
-use crate::pikevm::one_pattern::OnePattern;
-use crate::pikevm::patterns::Patterns;
+use crate::search::here::Here;
+use crate::search::one_pattern::OnePattern;
+use crate::search::patterns::Patterns;
 
 /// Turns over no more bytes than these are faster than passing over them.
 const NEAR: usize = 4;
 
 impl LazyDfa {
-    /// The same place, if turns lead on from there by bytes.
-    pub(super) fn stay_idle(&self, graph: &Graph, haystack: &str, at: Progress) -> Option<Progress>
+    /// The same place, if turns lead on from there.
+    pub(super) fn stay_idle(&self, graph: &Graph, at: Progress) -> Option<Progress>
         ensures { IfSome result (StandsIdle self.now at.here) }
     {
-        if !goes_by_bytes(graph, haystack, at.here) {
+        // A prefilter is faster than turns.
+        if graph.prefilter().is_some() {
             return None;
         }
         let state = self.empty_state(at.here.before)?;
@@ -50,7 +50,7 @@ impl LazyDfa {
             may_start: false,
         };
         let next = pattern.pass_over(haystack, here);
-        if self.is_worth_a_turn(graph, haystack, here, next) {
+        if self.is_worth_a_turn(graph, here, next) {
             return here;
         }
         next
@@ -58,14 +58,8 @@ impl LazyDfa {
 
     /// Whether it pays to take the turns up to this position, so that they are remembered.
     #[inline(always)]
-    pub(super) fn is_worth_a_turn(
-        &self,
-        graph: &Graph,
-        haystack: &str,
-        here: Here,
-        next: Here,
-    ) -> bool {
-        goes_by_bytes(graph, haystack, here)
+    pub(super) fn is_worth_a_turn(&self, graph: &Graph, here: Here, next: Here) -> bool {
+        graph.prefilter().is_none()
             && here.at < next.at
             && next.at - here.at <= NEAR
             && self.states.len() < MOST_STATES
@@ -78,10 +72,4 @@ impl LazyDfa {
     {
         self.states[x as usize].next[self.classes.class(next)] != UNKNOWN
     }
-}
-
-/// Whether turns go by bytes there. A prefilter is faster.
-#[inline(always)]
-fn goes_by_bytes(graph: &Graph, haystack: &str, here: Here) -> bool {
-    graph.prefilter().is_none() && is_before_ascii(haystack, here)
 }

@@ -7,17 +7,17 @@ ghost use Rattle.regex_lite_engine.specs.LazyDfa.Automaton.{hit_of, searching_af
 ghost use Rattle.regex_lite_engine.specs.LazyDfa.Intervals.{side_of};
 ghost use Rattle.regex_lite_engine.specs.LazyDfa.Learning.{HasTurned, IsIn};
 ghost use Rattle.regex_lite_engine.specs.LazyDfa.Stored.{hit_in};
-ghost use Rattle.regex_lite_engine.specs.Walk.Searching.{IsBetween};
-ghost use Rattle.regex_lite_engine.specs.Walk.Turns.{best_of};
+ghost use Rattle.regex_lite_engine.specs.Pikevm.Searching.{IsBetween};
+ghost use Rattle.regex_lite_engine.specs.Pikevm.Turns.{best_of};
 
 use crate::Graph;
 use crate::lazy_dfa::automaton::LazyDfa;
 use crate::lazy_dfa::run::Progress;
 use crate::lazy_dfa::side::Side;
 use crate::lazy_dfa::state::Hit;
-use crate::pikevm::here::Here;
+use crate::pikevm::cache::Cache;
 use crate::pikevm::memory::Memory;
-use crate::pikevm::turn::Cache;
+use crate::search::here::Here;
 
 /// A turn that a search has taken: from which state, with which first start, and where. A match
 /// was complete there, or not.

@@ -5,7 +5,7 @@ ghost use Rattle.regex_lite_engine.specs.LazyDfa.Remembering.{RemembersAll};
 
 use crate::Graph;
 use crate::lazy_dfa::automaton::LazyDfa;
-use crate::nfa::prefilter::Prefilter;
+use crate::prefilter::Prefilter;
 use crate::search::MOST_PAIRS;
 use std::alloc::{AllocError, Global};
 

@@ -10,17 +10,17 @@ ghost use Rattle.regex_lite_engine.specs.LazyDfa.Running.{GoesOnWith, IsOnItsWay
 ghost use Rattle.regex_lite_engine.specs.LazyDfa.Running.{Stands, started_at};
 ghost use Rattle.regex_lite_engine.specs.Search.Bounds.{characters_left};
 ghost use Rattle.regex_lite_engine.specs.Search.Offsets.{position_at};
-ghost use Rattle.regex_lite_engine.specs.Walk.Outcomes.{CanCount, IsFresh};
-ghost use Rattle.regex_lite_engine.specs.Walk.Searching.{IsHit, TurnsAgain};
-ghost use Rattle.regex_lite_engine.specs.Walk.Standing.{IsHere};
-ghost use Rattle.regex_lite_engine.specs.Walk.Turns.{EndsAt, best_of};
+ghost use Rattle.regex_lite_engine.specs.Pikevm.Outcomes.{CanCount, IsFresh};
+ghost use Rattle.regex_lite_engine.specs.Pikevm.Searching.{IsHit, TurnsAgain};
+ghost use Rattle.regex_lite_engine.specs.Search.Standing.{IsHere};
+ghost use Rattle.regex_lite_engine.specs.Pikevm.Turns.{EndsAt, best_of};
 
 use crate::Graph;
 use crate::lazy_dfa::state::StoredWay;
-use crate::pikevm::here::Here;
-use crate::pikevm::one_pattern::OnePattern;
-use crate::pikevm::patterns::Patterns;
-use crate::pikevm::turn::Cache;
+use crate::pikevm::cache::Cache;
+use crate::search::here::Here;
+use crate::search::one_pattern::OnePattern;
+use crate::search::patterns::Patterns;
 
 /// Where a search stands, and its state, if that is known.
 #[derive(Clone, Copy)]

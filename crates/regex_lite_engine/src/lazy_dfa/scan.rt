@@ -1,6 +1,7 @@
 //! Searches that go on by remembered turns, without a try.
 ghost use Rattle.std.specs.Prelude.{◌≡◌, ◌↔◌, ◌+◌, ◌<◌, ◌≤◌, ◌⊎◌, ◌∷◌, [], ℕ, IfSome, IsSome};
-ghost use Rattle.std.specs.Prelude.{IsCharBoundary, IsTrue, None, Some, chars, length, slice_get, true};
+ghost use Rattle.std.specs.Prelude.{IsCharBoundary, IsTrue, None, Some, chars, length, slice_get};
+ghost use Rattle.std.specs.Prelude.{true};
 ghost use Rattle.regex_lite_syntax.specs.Text.{Text};
 ghost use Rattle.regex_lite_engine.specs.Graph.Stored.{table_of};
 ghost use Rattle.regex_lite_engine.specs.LazyDfa.Automaton.{IsEmptyState, Remembers, State};
@@ -8,15 +9,15 @@ ghost use Rattle.regex_lite_engine.specs.LazyDfa.Intervals.{side_of};
 ghost use Rattle.regex_lite_engine.specs.LazyDfa.Scanning.{best_told};
 ghost use Rattle.regex_lite_engine.specs.LazyDfa.Scanning.{IsScanning, IsSince, LedTo, ScansTo};
 ghost use Rattle.regex_lite_engine.specs.Search.Offsets.{position_at};
-ghost use Rattle.regex_lite_engine.specs.Walk.Standing.{IsHere};
+ghost use Rattle.regex_lite_engine.specs.Search.Standing.{IsHere};
 
 use crate::Graph;
 use crate::lazy_dfa::automaton::{LazyDfa, UNKNOWN};
 use crate::lazy_dfa::side::Side;
 use crate::lazy_dfa::state::Hit;
-use crate::pikevm::here::Here;
-use crate::pikevm::one_pattern::OnePattern;
-use crate::pikevm::patterns::Patterns;
+use crate::search::here::Here;
+use crate::search::one_pattern::OnePattern;
+use crate::search::patterns::Patterns;
 
 /// Where a search stands that goes by remembered turns.
 #[derive(Clone, Copy)]
@@ -52,7 +53,7 @@ impl LazyDfa {
     {
         let mut at = from;
         'positions: loop {
-            at = self.run(graph, haystack, at);
+            self.run(graph, haystack, &mut at);
             let Some(on) = self.skip(graph, haystack, at) else {
                 return Scanned::Stuck {
                     at,
@@ -118,9 +119,7 @@ impl LazyDfa {
             may_start: false,
         };
         let here = pattern.pass_over(haystack, at.here);
-        if self.is_worth_a_turn(graph, haystack, at.here, here)
-            && !self.knows(at.state, at.here.after)
-        {
+        if self.is_worth_a_turn(graph, at.here, here) && !self.knows(at.state, at.here.after) {
             return None;
         }
         let state = self.empty_state(here.before)?;

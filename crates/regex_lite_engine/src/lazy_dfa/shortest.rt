@@ -10,17 +10,17 @@ ghost use Rattle.regex_lite_engine.specs.LazyDfa.Scanning.{EndsOrLeads, IsScanni
 ghost use Rattle.regex_lite_engine.specs.LazyDfa.Scanning.{ScansToEnd, end_told};
 ghost use Rattle.regex_lite_engine.specs.Search.Bounds.{IsBoundedBy, characters_left};
 ghost use Rattle.regex_lite_engine.specs.Search.Offsets.{position_at};
-ghost use Rattle.regex_lite_engine.specs.Walk.Outcomes.{CanCount, IsFresh, IsNumberedEndOf};
-ghost use Rattle.regex_lite_engine.specs.Walk.Turns.{best_of};
+ghost use Rattle.regex_lite_engine.specs.Pikevm.Outcomes.{CanCount, IsFresh, IsNumberedEndOf};
+ghost use Rattle.regex_lite_engine.specs.Pikevm.Turns.{best_of};
 
 use crate::Graph;
 use crate::lazy_dfa::automaton::{LazyDfa, UNKNOWN};
 use crate::lazy_dfa::run::Progress;
 use crate::lazy_dfa::scan::{Standing, idle_since};
 use crate::lazy_dfa::state::Hit;
-use crate::pikevm::here::Here;
+use crate::pikevm::cache::Cache;
 use crate::pikevm::shortest::is_known;
-use crate::pikevm::turn::Cache;
+use crate::search::here::Here;
 
 /// How far remembered turns lead towards the first match that ends.
 #[derive(Clone, Copy)]
@@ -161,7 +161,7 @@ impl LazyDfa {
     {
         let mut at = from;
         'positions: loop {
-            at = self.run_to_match(graph, haystack, at);
+            self.run_to_match(graph, haystack, &mut at);
             let Some(on) = self.skip(graph, haystack, at) else {
                 return ScannedEnd::Unknown {
                     at,

@@ -9,17 +9,16 @@ ghost use Rattle.regex_lite_engine.specs.LazyDfa.Scanning.{best_told, end_told};
 ghost use Rattle.regex_lite_engine.specs.Search.Bounds.{IsBoundedBy, characters_left};
 ghost use Rattle.regex_lite_engine.specs.Search.Offsets.{position_at};
 ghost use Rattle.regex_lite_engine.specs.Search.Outcomes.{HasCost, IsEndOutcome, IsOutcome};
-ghost use Rattle.regex_lite_engine.specs.Walk.Outcomes.{CanCount, IsBestOutcomeOf, IsFresh};
-ghost use Rattle.regex_lite_engine.specs.Walk.Outcomes.{IsNumberedEndOf, match_told};
-ghost use Rattle.regex_lite_engine.specs.Walk.Turns.{best_at};
+ghost use Rattle.regex_lite_engine.specs.Pikevm.Outcomes.{CanCount, IsBestOutcomeOf, IsFresh};
+ghost use Rattle.regex_lite_engine.specs.Pikevm.Outcomes.{IsNumberedEndOf, match_told};
+ghost use Rattle.regex_lite_engine.specs.Pikevm.Turns.{best_at};
 
 use crate::Graph;
 use crate::lazy_dfa::automaton::LazyDfa;
 use crate::lazy_dfa::run::Progress;
-use crate::pikevm::cache_for;
-use crate::pikevm::search::Outcome;
-use crate::pikevm::steps::Steps;
-use crate::pikevm::turn::Cache;
+use crate::pikevm::cache::{Cache, cache_for};
+use crate::search::outcome::Outcome;
+use crate::search::steps::Steps;
 use std::alloc::{AllocError, Global};
 
 /// A search takes this number of turns before it gets an automaton. A match near the start is found

@@ -5,15 +5,13 @@ ghost use Rattle.regex_lite_engine.specs.Graph.Stored.{StoredGraph, table_of};
 ghost use Rattle.regex_lite_engine.specs.LazyDfa.Remembering.{FindsSpansIn, NoneStartsBefore};
 ghost use Rattle.regex_lite_engine.specs.LazyDfa.Scanning.{best_told};
 ghost use Rattle.regex_lite_engine.specs.Search.Offsets.{position_at};
-ghost use Rattle.regex_lite_engine.specs.Walk.NumberedAnswer.{IsNumberedAnswer};
-ghost use Rattle.regex_lite_engine.specs.Walk.Outcomes.{IsBestOutcomeOf};
+ghost use Rattle.regex_lite_engine.specs.Search.NumberedAnswer.{IsNumberedAnswer};
+ghost use Rattle.regex_lite_engine.specs.Pikevm.Outcomes.{IsBestOutcomeOf};
 
 use crate::Graph;
 use crate::lazy_dfa::automaton::LazyDfa;
 use crate::lazy_dfa::trial::Trial;
-use crate::pikevm::cache_for;
-use crate::pikevm::searcher::restart;
-use crate::pikevm::turn::Cache;
+use crate::pikevm::cache::{Cache, cache_for, restart};
 use std::alloc::Global;
 
 /// An automaton, and the memory of the searches whose turns it remembers.

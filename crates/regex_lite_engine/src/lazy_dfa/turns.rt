@@ -4,14 +4,15 @@ ghost use Rattle.regex_lite_engine.specs.Graph.Stored.{table_of};
 ghost use Rattle.regex_lite_engine.specs.LazyDfa.Automaton.{Automaton};
 ghost use Rattle.regex_lite_engine.specs.LazyDfa.Running.{IsOnItsWay, Stands};
 ghost use Rattle.regex_lite_engine.specs.Search.Bounds.{characters_left};
-ghost use Rattle.regex_lite_engine.specs.Walk.Outcomes.{CanCount, IsBestOutcomeOf, IsNumberedEndOf};
-ghost use Rattle.regex_lite_engine.specs.Walk.Turns.{best_of};
+ghost use Rattle.regex_lite_engine.specs.Pikevm.Outcomes.{CanCount, IsBestOutcomeOf};
+ghost use Rattle.regex_lite_engine.specs.Pikevm.Outcomes.{IsNumberedEndOf};
+ghost use Rattle.regex_lite_engine.specs.Pikevm.Turns.{best_of};
 
 use crate::Graph;
 use crate::lazy_dfa::run::Progress;
+use crate::pikevm::cache::Cache;
 use crate::pikevm::run::is_over;
 use crate::pikevm::shortest::is_known;
-use crate::pikevm::turn::Cache;
 
 impl Cache<usize> {
     /// Goes on by ordinary turns until the most preferred match is known, and by no more than this

@@ -11,15 +11,15 @@ ghost use Rattle.regex_lite_engine.specs.Graph.Size.{Fits, IsDueToTree};
 ghost use Rattle.regex_lite_engine.specs.Graph.StoredList.{HasGroupsOfList, IsGraphOfList};
 ghost use Rattle.regex_lite_engine.specs.Graph.StoredList.{TellGroupsOf, table_of_list};
 ghost use Rattle.regex_lite_engine.specs.Nfa.Totals.{AreTotalsOf};
-ghost use Rattle.regex_lite_engine.specs.Walk.Starts.{AreListHeadsOf};
+ghost use Rattle.regex_lite_engine.specs.Search.Starts.{AreListHeadsOf};
 
 use crate::nfa::count::Counts;
 use crate::nfa::count::totals::Totals;
 use crate::nfa::groups::Groups;
-use crate::nfa::list_heads::ListHeads;
 use crate::nfa::measured::Measured;
 use crate::nfa::table::Table;
 use crate::nfa::write::write_all;
+use crate::prefilter::list_heads::ListHeads;
 use regex_lite_syntax::{Error, Hir};
 use std::alloc::Global;
 use std::marker::Model;
@@ -41,7 +41,7 @@ impl Model for GraphList {
     ghost use Rattle.std.specs.Prelude.{◌<◌, ◌^◌, All, length};
     ghost use Rattle.regex_lite_engine.specs.Graph.Stored.{places_of};
     ghost use Rattle.regex_lite_engine.specs.Graph.StoredList.{StoredList};
-    ghost use Rattle.regex_lite_engine.specs.Walk.Starts.{AreListHeadsOf};
+    ghost use Rattle.regex_lite_engine.specs.Search.Starts.{AreListHeadsOf};
 
     ghost Value = { StoredList };
 

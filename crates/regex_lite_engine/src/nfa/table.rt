@@ -9,7 +9,7 @@ ghost use Rattle.regex_lite_engine.specs.Graph.Stored.{IsClosed, LeadsBelow, pla
 use crate::lazy_dfa::classes::Classes;
 use crate::nfa::kept_back::KeptBack;
 use crate::nfa::place::Place;
-use crate::pikevm::steps::Steps;
+use crate::search::steps::Steps;
 use std::alloc::{AllocError, Global};
 use std::marker::Model;
 

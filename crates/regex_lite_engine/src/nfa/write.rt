@@ -5,7 +5,7 @@ ghost use Rattle.std.specs.Prelude.{length, map, drop, slice_set, slice_index_or
 ghost use Rattle.regex_lite_syntax.specs.Tree.{trees};
 ghost use Rattle.regex_lite_syntax.specs.Tree.Views.{tree_of};
 ghost use Rattle.regex_lite_syntax.specs.Tree.Properties.{greatest_index, greatest_index_in};
-ghost use Rattle.regex_lite_engine.specs.Graph.Places.{complete, choice};
+ghost use Rattle.regex_lite_engine.specs.Graph.Places.{choice, complete, go_marking, with_arrows};
 ghost use Rattle.regex_lite_engine.specs.Graph.Stored.{place_of};
 ghost use Rattle.regex_lite_engine.specs.Graph.PlaceCounts.{places, places_in, whole_places};
 ghost use Rattle.regex_lite_engine.specs.Graph.SideBySide.{places_of_all};
@@ -124,6 +124,34 @@ impl Writer {
         self.places[number as usize] = place;
     }
 
+    /// Adds the place at which the group ends, and returns its number.
+    fn close_group(&mut self, index: u32, exit: u32) -> Result<u32, AllocError>
+        requires room { length self.old + 1 < 2 ^ 32 }
+        requires slot { index < 2 ^ 31 }
+        ensures number { IfOk result (λ number. number ≡ length self.old) }
+        ensures added { IfOk result (λ _. map place_of self.new ≡ map place_of self.old
+            ++ with_arrows (go_marking (2 * index + 1) exit ∷ []) ∷ []) }
+    {
+        self.add(Place::Slot {
+            slot: 2 * index + 1,
+            to: exit,
+        })
+    }
+
+    /// Adds the place at which the group begins, and returns its number.
+    fn open_group(&mut self, index: u32, body: u32) -> Result<u32, AllocError>
+        requires room { length self.old + 1 < 2 ^ 32 }
+        requires slot { index < 2 ^ 31 }
+        ensures number { IfOk result (λ number. number ≡ length self.old) }
+        ensures added { IfOk result (λ _. map place_of self.new ≡ map place_of self.old
+            ++ with_arrows (go_marking (2 * index) body ∷ []) ∷ []) }
+    {
+        self.add(Place::Slot {
+            slot: 2 * index,
+            to: body,
+        })
+    }
+
     /// Adds the places of a whole pattern: the one where its match is complete, and then the tree
     /// with those of group 0 round it. Returns where it is entered.
     fn write_pattern(&mut self, hir: &Hir) -> Result<u32, AllocError>
@@ -136,7 +164,9 @@ impl Writer {
             length self.new ≡ length self.old + whole_places (tree_of hir.now)) }
     {
         let end = self.add(Place::Match)?;
-        self.write_capture(0, hir, end)
+        let close = self.close_group(0, end)?;
+        let inner = self.write(hir, close)?;
+        self.open_group(0, inner)
     }
 
     /// Adds the places of the tree, which lead on to `exit`, and returns where they are entered.
@@ -167,33 +197,14 @@ impl Writer {
                 greedy,
                 body,
             } => self.write_repetition(body, *least, *most, *greedy, exit),
-            Hir::Capture { index, body, .. } => self.write_capture(*index, body, exit),
+            Hir::Capture { index, body, .. } => {
+                let close = self.close_group(*index, exit)?;
+                let inner = self.write(body, close)?;
+                self.open_group(*index, inner)
+            }
             Hir::Concat(parts) => self.write_concat(parts, exit),
             Hir::Alternation(branches) => self.write_alternation(branches, exit),
         }
-    }
-
-    /// Writes a group: the place that closes it, its body, the place that opens it. Returns the
-    /// place where it is entered.
-    #[cycle(write)]
-    fn write_capture(&mut self, index: u32, body: &Hir, exit: u32) -> Result<u32, AllocError>
-        requires room { length self.old + (places (tree_of body.now) + 2) < 2 ^ 32 }
-        requires slots { (index < 2 ^ 31) × (greatest_index (tree_of body.now) < 2 ^ 31) }
-        ensures written { IfOk result (λ entry. IsAdded
-            (map place_of self.old) (map place_of self.new) entry
-            (capture_layout index (layout (tree_of body.now)) (length self.old) exit)) }
-        ensures grown { IfOk result (λ _.
-            length self.new ≡ length self.old + (places (tree_of body.now) + 2)) }
-    {
-        let close = self.add(Place::Slot {
-            slot: 2 * index + 1,
-            to: exit,
-        })?;
-        let inner = self.write(body, close)?;
-        self.add(Place::Slot {
-            slot: 2 * index,
-            to: inner,
-        })
     }
 
     /// Writes the parts of a concatenation, the last one first. Returns the place where the

@@ -2,8 +2,8 @@
 ghost use Rattle.std.specs.Prelude.{◌≡◌, ◌↔◌, IfOk, IfSome, IsTrue, None, Some, length, option_map};
 
 use crate::pikevm::beginning::{Beginning, Origin};
-use crate::pikevm::search::Outcome;
 use crate::pikevm::slot::Slot;
+use crate::search::outcome::Outcome;
 use std::alloc::{AllocError, Global};
 use std::marker::Model;
 
@@ -15,8 +15,8 @@ pub struct Best<S: Beginning> {
 }
 
 impl<S: Beginning> Model for Best<S> {
-    ghost use Rattle.regex_lite_engine.specs.Walk.Machine.{BestState};
-    ghost use Rattle.regex_lite_engine.specs.Walk.Beginnings.{found_told};
+    ghost use Rattle.regex_lite_engine.specs.Pikevm.Machine.{BestState};
+    ghost use Rattle.regex_lite_engine.specs.Pikevm.Beginnings.{found_told};
 
     ghost Value = { BestState };
 
@@ -27,7 +27,7 @@ impl<S: Beginning> Model for Best<S> {
 }
 
 impl<S: Beginning> Best<S> {
-    ghost use Rattle.regex_lite_engine.specs.Walk.Turns.{best_of};
+    ghost use Rattle.regex_lite_engine.specs.Pikevm.Turns.{best_of};
 
     /// None yet, with room for a row of `width` slots.
     pub fn with_width(alloc: Global, width: usize) -> Result<Best<S>, AllocError>
@@ -82,8 +82,8 @@ impl<S: Beginning> Best<S> {
 }
 
 impl Best<usize> {
-    ghost use Rattle.regex_lite_engine.specs.Walk.Turns.{best_at, best_of};
-    ghost use Rattle.regex_lite_engine.specs.Walk.Outcomes.{match_told, with_start_kept};
+    ghost use Rattle.regex_lite_engine.specs.Pikevm.Turns.{best_at, best_of};
+    ghost use Rattle.regex_lite_engine.specs.Pikevm.Outcomes.{match_told, with_start_kept};
 
     /// Where it starts and where it ends.
     pub fn span(&self) -> Option<(usize, usize)>
@@ -110,9 +110,9 @@ impl Best<usize> {
 }
 
 impl Best<Origin> {
-    ghost use Rattle.regex_lite_engine.specs.Walk.Outcomes.{numbered_at, numbered_told};
-    ghost use Rattle.regex_lite_engine.specs.Walk.Outcomes.{with_origin_kept};
-    ghost use Rattle.regex_lite_engine.specs.Walk.Turns.{best_of};
+    ghost use Rattle.regex_lite_engine.specs.Pikevm.Outcomes.{numbered_at, numbered_told};
+    ghost use Rattle.regex_lite_engine.specs.Pikevm.Outcomes.{with_origin_kept};
+    ghost use Rattle.regex_lite_engine.specs.Pikevm.Turns.{best_of};
 
     /// The number of its pattern, and where it starts and where it ends.
     pub fn numbered_span(&self) -> Option<(usize, (usize, usize))>

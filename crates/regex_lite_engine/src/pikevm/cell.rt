@@ -1,6 +1,6 @@
 //! What a search keeps for each number.
 ghost use Rattle.std.specs.Prelude.{◌≡◌};
-ghost use Rattle.regex_lite_engine.specs.Walk.Cells.{other, place_on, start_on, with_thread};
+ghost use Rattle.regex_lite_engine.specs.Pikevm.Cells.{other, place_on, start_on, with_thread};
 
 use crate::pikevm::beginning::{Beginning, Origin, Unkept};
 use crate::pikevm::slot::Slot;

@@ -4,17 +4,17 @@ ghost use Rattle.regex_lite_syntax.specs.Ranges.{in_ranges};
 ghost use Rattle.regex_lite_syntax.specs.Sets.{just};
 ghost use Rattle.regex_lite_engine.specs.Graph.Places.{kept_back};
 ghost use Rattle.regex_lite_engine.specs.Graph.Stored.{place_of};
-ghost use Rattle.regex_lite_engine.specs.Walk.Entering.{completes, onto, reads};
-ghost use Rattle.regex_lite_engine.specs.Walk.Entering.{Enters, ReadsOn, SlotMarked};
-ghost use Rattle.regex_lite_engine.specs.Walk.Machine.{explore};
+ghost use Rattle.regex_lite_engine.specs.Pikevm.Entering.{completes, onto, reads};
+ghost use Rattle.regex_lite_engine.specs.Pikevm.Entering.{Enters, ReadsOn, SlotMarked};
+ghost use Rattle.regex_lite_engine.specs.Pikevm.Machine.{explore};
 
 use crate::nfa::class::MappedClass;
 use crate::nfa::place::Place;
 use crate::pikevm::beginning::Beginning;
 use crate::pikevm::cell::Frame;
-use crate::pikevm::here::Here;
 use crate::pikevm::memory::Memory;
 use crate::pikevm::slot::Slot;
+use crate::search::here::Here;
 
 /// How a walk goes on from a place.
 #[derive(Clone, Copy)]

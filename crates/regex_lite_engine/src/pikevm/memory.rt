@@ -1,7 +1,7 @@
 //! All that a search works in.
 ghost use Rattle.std.specs.Prelude.{◌≡◌, ◌+◌, ◌*◌, ◌^◌, ◌≤◌, ◌<◌, [], ℕ, IfOk, length};
 ghost use Rattle.std.specs.Prelude.{map, slice_index, slice_set, vec_capacity};
-ghost use Rattle.regex_lite_engine.specs.Walk.Cells.{round_in};
+ghost use Rattle.regex_lite_engine.specs.Pikevm.Cells.{round_in};
 
 use crate::pikevm::beginning::Beginning;
 use crate::pikevm::cell::{Cell, Side};
@@ -44,9 +44,9 @@ pub struct Memory<S: Beginning> {
 
 impl<S: Beginning> Model for Memory<S> {
     ghost use Rattle.std.specs.Prelude.{vec_capacity};
-    ghost use Rattle.regex_lite_engine.specs.Walk.Machine.{State};
-    ghost use Rattle.regex_lite_engine.specs.Walk.Cells.{rounds_in, frames_in, nth_row};
-    ghost use Rattle.regex_lite_engine.specs.Walk.Cells.{threads_on, other, HoldTogether};
+    ghost use Rattle.regex_lite_engine.specs.Pikevm.Machine.{State};
+    ghost use Rattle.regex_lite_engine.specs.Pikevm.Cells.{rounds_in, frames_in, nth_row};
+    ghost use Rattle.regex_lite_engine.specs.Pikevm.Cells.{threads_on, other, HoldTogether};
 
     ghost Value = { State };
 

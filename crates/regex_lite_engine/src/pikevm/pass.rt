@@ -1,16 +1,16 @@
 //! From position to position, past those at which no match can start.
 ghost use Rattle.std.specs.Prelude.{◌≡◌, ℕ, chars, length};
 ghost use Rattle.regex_lite_engine.specs.Search.Bounds.{StaysCounted, characters_left};
-ghost use Rattle.regex_lite_engine.specs.Walk.Outcomes.{CanCount};
-ghost use Rattle.regex_lite_engine.specs.Walk.Passing.{IsUnderWay, Passes};
-ghost use Rattle.regex_lite_engine.specs.Walk.Standing.{IsHere};
-ghost use Rattle.regex_lite_engine.specs.Walk.Starts.{GoesOnAt};
-ghost use Rattle.regex_lite_engine.specs.Walk.Turns.{best_of};
+ghost use Rattle.regex_lite_engine.specs.Pikevm.Outcomes.{CanCount};
+ghost use Rattle.regex_lite_engine.specs.Pikevm.Passing.{IsUnderWay, Passes};
+ghost use Rattle.regex_lite_engine.specs.Search.Standing.{IsHere};
+ghost use Rattle.regex_lite_engine.specs.Search.Starts.{GoesOnAt};
+ghost use Rattle.regex_lite_engine.specs.Pikevm.Turns.{best_of};
 
 use crate::pikevm::beginning::Beginning;
-use crate::pikevm::here::Here;
-use crate::pikevm::patterns::Patterns;
-use crate::pikevm::turn::Cache;
+use crate::pikevm::cache::Cache;
+use crate::search::here::Here;
+use crate::search::patterns::Patterns;
 
 impl<S: Beginning> Cache<S> {
     /// Goes on from here to the next position at which there is something to do, and over it.

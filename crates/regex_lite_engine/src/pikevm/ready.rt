@@ -1,7 +1,7 @@
 //! Cells are made ready when a search first reaches them.
 ghost use Rattle.std.specs.Prelude.{◌≡◌, ◌+◌, ◌-◌, ◌≤◌, ◌<◌, ◌++◌, length, map};
 ghost use Rattle.std.specs.Prelude.{take, drop, replicate, true, vec_capacity};
-ghost use Rattle.regex_lite_engine.specs.Walk.Cells.{round_in, without_round, MakesReady};
+ghost use Rattle.regex_lite_engine.specs.Pikevm.Cells.{round_in, without_round, MakesReady};
 
 use crate::pikevm::beginning::Beginning;
 use crate::pikevm::cell::Cell;

@@ -1,7 +1,7 @@
 //! Rows of slots.
 ghost use Rattle.std.specs.Prelude.{◌≡◌, ◌+◌, ◌-◌, ◌≤◌, ◌<◌, ◌⊎◌, [], ◌++◌, IfOk, None, length};
 ghost use Rattle.std.specs.Prelude.{take, drop, replicate, slice_index_or, slice_set, vec_capacity};
-ghost use Rattle.regex_lite_engine.specs.Walk.Cells.{padded};
+ghost use Rattle.regex_lite_engine.specs.Pikevm.Cells.{padded};
 
 use crate::pikevm::slot::Slot;
 use std::alloc::{AllocError, Global};
@@ -20,8 +20,8 @@ pub struct Rows {
 
 impl Model for Rows {
     ghost use Rattle.std.specs.Prelude.{◌*◌, List, vec_capacity};
-    ghost use Rattle.regex_lite_engine.specs.Walk.Machine.{Row};
-    ghost use Rattle.regex_lite_engine.specs.Walk.Cells.{rows_in, padded, AreRows};
+    ghost use Rattle.regex_lite_engine.specs.Pikevm.Machine.{Row};
+    ghost use Rattle.regex_lite_engine.specs.Pikevm.Cells.{rows_in, padded, AreRows};
 
     ghost Value = { List Row };
 

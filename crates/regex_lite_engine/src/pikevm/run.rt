@@ -3,16 +3,16 @@ ghost use Rattle.std.specs.Prelude.{◌≡◌, ◌+◌, ◌⊎◌, IsCharBoundar
 ghost use Rattle.regex_lite_engine.specs.Graph.Renumbered.{arrows_of};
 ghost use Rattle.regex_lite_engine.specs.Search.Bounds.{IsBoundedBy, StaysCounted, characters_left};
 ghost use Rattle.regex_lite_engine.specs.Search.Offsets.{position_at};
-ghost use Rattle.regex_lite_engine.specs.Walk.Outcomes.{IsBestOutcomeOf, IsFresh, CanCount};
-ghost use Rattle.regex_lite_engine.specs.Walk.Searching.{IsBetween};
-ghost use Rattle.regex_lite_engine.specs.Walk.Turns.{best_of};
+ghost use Rattle.regex_lite_engine.specs.Pikevm.Outcomes.{IsBestOutcomeOf, IsFresh, CanCount};
+ghost use Rattle.regex_lite_engine.specs.Pikevm.Searching.{IsBetween};
+ghost use Rattle.regex_lite_engine.specs.Pikevm.Turns.{best_of};
 
 use crate::pikevm::beginning::Beginning;
 use crate::pikevm::best::Best;
-use crate::pikevm::here::Here;
+use crate::pikevm::cache::Cache;
 use crate::pikevm::memory::Memory;
-use crate::pikevm::patterns::Patterns;
-use crate::pikevm::turn::Cache;
+use crate::search::here::Here;
+use crate::search::patterns::Patterns;
 
 /// Goes from position to position, until the most preferred match is known.
 pub fn run<S: Beginning, P: Patterns>(

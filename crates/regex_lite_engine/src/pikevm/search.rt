@@ -8,22 +8,13 @@ ghost use Rattle.regex_lite_engine.specs.Search.Outcomes.{IsOutcome, IsEndOutcom
 use crate::Graph;
 use crate::lazy_dfa::remembering::pays_once;
 use crate::pikevm::beginning::Unkept;
-use crate::pikevm::cache_for;
-use crate::pikevm::one_pattern::OnePattern;
+use crate::pikevm::cache::{Cache, cache_for};
 use crate::pikevm::run::run;
 use crate::pikevm::shortest::run_shortest;
-use crate::pikevm::steps::Steps;
-use crate::pikevm::turn::Cache;
+use crate::search::one_pattern::OnePattern;
+use crate::search::outcome::Outcome;
+use crate::search::steps::Steps;
 use std::alloc::{AllocError, Global};
-
-/// What a search found: where the match starts and ends, and what its slots hold, all as offsets.
-/// Slots 2k and 2k + 1 are the start and the end of group k.
-#[derive(Drop)]
-pub struct Outcome {
-    pub start: usize,
-    pub end: usize,
-    pub slots: Vec<Option<usize>>,
-}
 
 impl Graph {
     /// What [`Graph::search`] returns, found position by position.

@@ -5,15 +5,15 @@ ghost use Rattle.regex_lite_engine.specs.Graph.Parts.{IsOwnPart, row_of};
 ghost use Rattle.regex_lite_engine.specs.Graph.Renumbered.{arrows_of};
 ghost use Rattle.regex_lite_engine.specs.Search.Bounds.{IsBoundedBy, StaysCounted, characters_left};
 ghost use Rattle.regex_lite_engine.specs.Search.Offsets.{position_at};
-ghost use Rattle.regex_lite_engine.specs.Walk.Outcomes.{IsNumberedEndOf, IsFresh, CanCount};
-ghost use Rattle.regex_lite_engine.specs.Walk.Searching.{IsBetween};
-ghost use Rattle.regex_lite_engine.specs.Walk.Turns.{best_of};
+ghost use Rattle.regex_lite_engine.specs.Pikevm.Outcomes.{IsNumberedEndOf, IsFresh, CanCount};
+ghost use Rattle.regex_lite_engine.specs.Pikevm.Searching.{IsBetween};
+ghost use Rattle.regex_lite_engine.specs.Pikevm.Turns.{best_of};
 
 use crate::pikevm::beginning::{Beginning, Unkept};
 use crate::pikevm::best::Best;
-use crate::pikevm::here::Here;
-use crate::pikevm::patterns::Patterns;
-use crate::pikevm::turn::Cache;
+use crate::pikevm::cache::Cache;
+use crate::search::here::Here;
+use crate::search::patterns::Patterns;
 
 /// Goes from position to position, up to the first at which a match is complete.
 pub fn run_shortest<P: Patterns>(

@@ -13,7 +13,7 @@ pub struct Slot {
 impl Model for Slot {
     ghost use Rattle.std.specs.Prelude.{ℕ, Option};
     ghost use Rattle.std.proofs.Common.{ap};
-    ghost use Rattle.regex_lite_engine.specs.Walk.Slots.{held_in, word_of, word_back};
+    ghost use Rattle.regex_lite_engine.specs.Search.Slots.{held_in, word_of, word_back};
 
     ghost Value = { Option ℕ };
 

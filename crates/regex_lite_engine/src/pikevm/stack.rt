@@ -1,9 +1,9 @@
 //! What a walk still has to do at a position, last put first out.
 ghost use Rattle.std.specs.Prelude.{◌≡◌, ◌↔◌, ◌+◌, ◌≤◌, ◌<◌, ◌++◌, [], ◌∷◌, ℕ};
 ghost use Rattle.std.specs.Prelude.{IsTrue, MatchOption, length, map, true};
-ghost use Rattle.regex_lite_engine.specs.Walk.Cells.{frame_of};
-ghost use Rattle.regex_lite_engine.specs.Walk.Machine.{explore, unwound};
-ghost use Rattle.regex_lite_engine.specs.Walk.Room.{FramesBelow};
+ghost use Rattle.regex_lite_engine.specs.Pikevm.Cells.{frame_of};
+ghost use Rattle.regex_lite_engine.specs.Pikevm.Machine.{explore, unwound};
+ghost use Rattle.regex_lite_engine.specs.Pikevm.Room.{FramesBelow};
 
 use crate::pikevm::beginning::Beginning;
 use crate::pikevm::cell::Frame;

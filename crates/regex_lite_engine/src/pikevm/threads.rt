@@ -2,8 +2,8 @@
 //! each with where its way began and with a row of slots.
 ghost use Rattle.std.specs.Prelude.{◌≡◌, ◌+◌, ◌^◌, ◌<◌, ◌++◌, [], ◌∷◌};
 ghost use Rattle.std.specs.Prelude.{None, length, replicate, true};
-ghost use Rattle.regex_lite_engine.specs.Walk.Cells.{row_on};
-ghost use Rattle.regex_lite_engine.specs.Walk.Machine.{thread_at};
+ghost use Rattle.regex_lite_engine.specs.Pikevm.Cells.{row_on};
+ghost use Rattle.regex_lite_engine.specs.Pikevm.Machine.{thread_at};
 
 use crate::pikevm::beginning::Beginning;
 use crate::pikevm::cell::Side;

@@ -3,31 +3,24 @@ ghost use Rattle.std.specs.Prelude.{◌≡◌, ◌+◌, ◌^◌, ◌≤◌, ◌<
 ghost use Rattle.std.specs.Prelude.{List, ℕ, All, None, length, true};
 ghost use Rattle.regex_lite_engine.specs.Graph.Renumbered.{arrows_of};
 ghost use Rattle.regex_lite_engine.specs.Search.Bounds.{StaysCounted};
-ghost use Rattle.regex_lite_engine.specs.Walk.Beginnings.{Told};
-ghost use Rattle.regex_lite_engine.specs.Walk.Turns.{best_of};
+ghost use Rattle.regex_lite_engine.specs.Pikevm.Beginnings.{Told};
+ghost use Rattle.regex_lite_engine.specs.Pikevm.Turns.{best_of};
 
 use crate::pikevm::beginning::Beginning;
-use crate::pikevm::best::Best;
-use crate::pikevm::here::Here;
-use crate::pikevm::patterns::Patterns;
+use crate::pikevm::cache::Cache;
 use crate::pikevm::walk::Walk;
-
-/// All that a search works in. Its memory is asked for before the first step.
-#[derive(Drop)]
-pub struct Cache<S: Beginning> {
-    pub walk: Walk<S>,
-    pub best: Best<S>,
-}
+use crate::search::here::Here;
+use crate::search::patterns::Patterns;
 
 impl<S: Beginning> Cache<S> {
     ghost use Rattle.regex_lite_syntax.specs.Text.{Text};
-    ghost use Rattle.regex_lite_engine.specs.Walk.Standing.{IsHere};
-    ghost use Rattle.regex_lite_engine.specs.Walk.Room.{HasRoom};
-    ghost use Rattle.regex_lite_engine.specs.Walk.Turns.{AreStartsAt, EndsAt, IsComing};
+    ghost use Rattle.regex_lite_engine.specs.Search.Standing.{IsHere};
+    ghost use Rattle.regex_lite_engine.specs.Pikevm.Room.{HasRoom};
+    ghost use Rattle.regex_lite_engine.specs.Pikevm.Turns.{AreStartsAt, EndsAt, IsComing};
     ghost use Rattle.regex_lite_engine.specs.Graph.Parts.{IsOwnPart};
-    ghost use Rattle.regex_lite_engine.specs.Walk.Searching.{ways_at, IsPlaced, Follows};
-    ghost use Rattle.regex_lite_engine.specs.Walk.Searching.{FollowsAgain, IsHit, TurnsAgain};
-    ghost use Rattle.regex_lite_engine.specs.Walk.Searching.{IsBetween, SpendsWithin};
+    ghost use Rattle.regex_lite_engine.specs.Pikevm.Searching.{ways_at, IsPlaced, Follows};
+    ghost use Rattle.regex_lite_engine.specs.Pikevm.Searching.{FollowsAgain, IsHit, TurnsAgain};
+    ghost use Rattle.regex_lite_engine.specs.Pikevm.Searching.{IsBetween, SpendsWithin};
 
     /// Goes over the position. Its own starts come last, and only while there is no match. Returns
     /// whether a match is complete there.

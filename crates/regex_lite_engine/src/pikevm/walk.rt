@@ -3,18 +3,18 @@ ghost use Rattle.std.specs.Prelude.{◌≡◌, ◌+◌, ◌≤◌, ◌<◌, ◌+
 ghost use Rattle.std.specs.Prelude.{None, length, replicate, true};
 ghost use Rattle.regex_lite_engine.specs.Graph.Stored.{places_of};
 ghost use Rattle.regex_lite_engine.specs.Search.Bounds.{StaysCounted};
-ghost use Rattle.regex_lite_engine.specs.Walk.Entering.{completes, onto};
-ghost use Rattle.regex_lite_engine.specs.Walk.Machine.{explore, thread_at};
-ghost use Rattle.regex_lite_engine.specs.Walk.Turns.{begun};
-ghost use Rattle.regex_lite_engine.specs.Walk.Room.{HasRoom, TakesFrame, Explores, KeepsPosition};
+ghost use Rattle.regex_lite_engine.specs.Pikevm.Entering.{completes, onto};
+ghost use Rattle.regex_lite_engine.specs.Pikevm.Machine.{explore, thread_at};
+ghost use Rattle.regex_lite_engine.specs.Pikevm.Turns.{begun};
+ghost use Rattle.regex_lite_engine.specs.Pikevm.Room.{HasRoom, TakesFrame, Explores, KeepsPosition};
 
 use crate::nfa::table::Table;
 use crate::pikevm::beginning::Beginning;
 use crate::pikevm::enter::{Onward, enter};
-use crate::pikevm::here::Here;
 use crate::pikevm::memory::Memory;
-use crate::pikevm::patterns::Patterns;
-use crate::pikevm::steps::Steps;
+use crate::search::here::Here;
+use crate::search::patterns::Patterns;
+use crate::search::steps::Steps;
 
 /// What a walk works in, and what it has counted.
 #[derive(Drop)]

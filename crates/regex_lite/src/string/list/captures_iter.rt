@@ -5,7 +5,7 @@ ghost use Rattle.regex_lite.specs.ListAhead.{list_after, list_groups_ahead_of, w
 ghost use Rattle.regex_lite.specs.Iterators.{list_groups_ended_of};
 
 use crate::string::captures::Captures;
-use crate::string::group_scan::GroupScan;
+use crate::string::iter::group_scan::GroupScan;
 use crate::string::list::RegexList;
 use crate::string::list::searcher::ListSearcher;
 use regex_lite_syntax::Error;

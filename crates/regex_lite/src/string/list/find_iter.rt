@@ -4,10 +4,10 @@ ghost use Rattle.regex_lite_syntax.specs.Errors.{out_of_memory};
 ghost use Rattle.regex_lite.specs.ListAhead.{list_after, list_ahead_of, whole_list};
 ghost use Rattle.regex_lite.specs.Iterators.{list_ended_of};
 
+use crate::string::iter::scan::Scan;
 use crate::string::list::RegexList;
 use crate::string::list::searcher::ListSearcher;
 use crate::string::matches::Match;
-use crate::string::scan::Scan;
 use regex_lite_syntax::Error;
 use std::fmt;
 use std::iter::FusedIterator;

@@ -7,11 +7,11 @@ ghost use Rattle.regex_lite.specs.RegexListSearches.{TellsMatchOfList};
 ghost use Rattle.regex_lite.specs.Scanning.{ListSearching};
 ghost use Rattle.regex_lite.specs.Searches.{CanStartAt};
 
+use crate::string::iter::scan::match_at;
 use crate::string::list::RegexList;
 use crate::string::list::searcher::ListSearcher;
 use crate::string::locations::CaptureLocations;
 use crate::string::matches::Match;
-use crate::string::scan::match_at;
 use regex_lite_syntax::Error;
 use std::fmt;
 use std::marker::Model;

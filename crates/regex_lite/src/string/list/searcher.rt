@@ -6,11 +6,11 @@ ghost use Rattle.regex_lite.specs.Scanning.{AreSlotsForAllGroups};
 ghost use Rattle.regex_lite.specs.Searches.{CanStartAt};
 
 use crate::string::captures::Captures;
-use crate::string::finds::Finds;
+use crate::string::iter::finds::Finds;
+use crate::string::iter::scan::match_at;
 use crate::string::list::RegexList;
 use crate::string::locations::CaptureLocations;
 use crate::string::matches::Match;
-use crate::string::scan::match_at;
 use crate::string::slots::{all_slots, or_whole};
 use crate::string::source::Source;
 use regex_lite_syntax::Error;

@@ -9,8 +9,8 @@ use Rattle.regex_lite_engine.specs.Graph.WrittenOut.{start_address, written_out,
 use Rattle.regex_lite_engine.specs.Graph.Renumbered.{IsRenumbered, IsNumberOf}
 use Rattle.regex_lite_engine.specs.Search.Marks.{marks_along}
 use Rattle.regex_lite_engine.specs.Search.Answer.{IsMatchFrom, Found, IsAnswer, IsShortest}
-use Rattle.regex_lite_engine.specs.Walk.NumberedAnswer.{IsNumberedMatch, IsNumberedAnswer}
-use Rattle.regex_lite_engine.specs.Walk.NumberedAnswer.{IsNumberedShortest}
+use Rattle.regex_lite_engine.specs.Search.NumberedAnswer.{IsNumberedMatch, IsNumberedAnswer}
+use Rattle.regex_lite_engine.specs.Search.NumberedAnswer.{IsNumberedShortest}
 use Rattle.regex_lite_engine.proofs.laws.PatternWayLemmas.{match_way, walk_match}
 use Rattle.regex_lite_engine.proofs.laws.search.NumberedWayLemmas.{IsPart, IsPartNumber, whole_part}
 use Rattle.regex_lite_engine.proofs.laws.search.NumberedWayLemmas.{whole_number, marks_named}

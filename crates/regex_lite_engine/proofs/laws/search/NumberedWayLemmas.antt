@@ -17,8 +17,8 @@ use Rattle.regex_lite_engine.specs.Graph.WrittenOut.{place_of_pattern, IsWayThro
 use Rattle.regex_lite_engine.specs.Graph.Stored.{LeadBelow, LeadsBelow, LeadInto, LeadsInto}
 use Rattle.regex_lite_engine.specs.Graph.Renumbered.{IsRenumbered, IsNumberOf}
 use Rattle.regex_lite_engine.specs.Search.Marks.{over, marked, mark_of, mark_of_arrow, marks_along}
-use Rattle.regex_lite_engine.specs.Walk.NumberedAnswer.{place_with, is_complete}
-use Rattle.regex_lite_engine.specs.Walk.NumberedAnswer.{numbered_step, IsNumberedWay}
+use Rattle.regex_lite_engine.specs.Search.NumberedAnswer.{place_with, is_complete}
+use Rattle.regex_lite_engine.specs.Search.NumberedAnswer.{numbered_step, IsNumberedWay}
 use Rattle.regex_lite_engine.proofs.laws.LeadsLemmas.{same_some}
 use Rattle.regex_lite_engine.proofs.laws.search.NamedWayLemmas.{known_on, unnamed_walk}
 use Rattle.regex_lite_engine.proofs.laws.search.NamedWayLemmas.{named_way, unnamed_way}

@@ -8,11 +8,11 @@ use Rattle.regex_lite_engine.specs.Graph.Places.{Place, complete, with_arrows, s
 use Rattle.regex_lite_engine.specs.Search.Marks.{marks_along}
 use Rattle.regex_lite_engine.specs.Search.Preference.{IsPreferred}
 use Rattle.regex_lite_engine.specs.Search.Answer.{Found}
-use Rattle.regex_lite_engine.specs.Walk.Explored.{Before, NotAfter, StartsAt}
-use Rattle.regex_lite_engine.specs.Walk.Explored.{StartsDiffer, IsWhole, IsFirst}
-use Rattle.regex_lite_engine.specs.Walk.NumberedAnswer.{place_with, is_complete, numbered_step}
-use Rattle.regex_lite_engine.specs.Walk.NumberedAnswer.{is_end, IsNumberedWay, IsNumberedMatch}
-use Rattle.regex_lite_engine.specs.Walk.NumberedAnswer.{IsNumberedAnswer, IsOver, IsOfWay}
+use Rattle.regex_lite_engine.specs.Search.Explored.{Before, NotAfter, StartsAt}
+use Rattle.regex_lite_engine.specs.Search.Explored.{StartsDiffer, IsWhole, IsFirst}
+use Rattle.regex_lite_engine.specs.Search.NumberedAnswer.{place_with, is_complete, numbered_step}
+use Rattle.regex_lite_engine.specs.Search.NumberedAnswer.{is_end, IsNumberedWay, IsNumberedMatch}
+use Rattle.regex_lite_engine.specs.Search.NumberedAnswer.{IsNumberedAnswer, IsOver, IsOfWay}
 use Rattle.regex_lite_engine.proofs.laws.LeadsLemmas.{same_some, leads_to_one}
 use Rattle.regex_lite_engine.proofs.laws.search.SearchLawLemmas.{search_law}
 

@@ -3,7 +3,7 @@ use Rattle.std.proofs.Common.{◌≡◌, refl, sym, ap, subst, ◌∙◌, ◌<�
 use Rattle.std.proofs.Common.{zero, suc, Bool, List, [], ◌∷◌, ◌++◌, length, Option}
 use Rattle.std.proofs.Common.{Some, arith, append_assoc, append-nil, length-append}
 use Rattle.regex_lite_engine.specs.Graph.Ways.{Leads, NoneTwice}
-use Rattle.regex_lite_engine.specs.Walk.Explored.{StartsDiffer, IsGrown}
+use Rattle.regex_lite_engine.specs.Search.Explored.{StartsDiffer, IsGrown}
 use Rattle.regex_lite_engine.proofs.laws.LeadsLemmas.{same_some, leads_append, leads_to_one}
 use Rattle.regex_lite_engine.proofs.laws.search.CutLemmas.{rest_of, same_rest, no_rest}
 use Rattle.regex_lite_engine.proofs.laws.search.CutLemmas.{both_empty, cut_snoc}

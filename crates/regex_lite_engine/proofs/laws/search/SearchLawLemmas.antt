@@ -2,8 +2,8 @@
 use Rattle.std.proofs.Common.{◌≡◌, refl, sym, ap, subst, ◌∙◌, ◌⊎◌, inl, inr, ℕ, Bool, IsTrue}
 use Rattle.std.proofs.Common.{List, [], ◌∷◌, ◌++◌, Option, Some, None, append_assoc, append-nil}
 use Rattle.regex_lite_engine.specs.Graph.Ways.{Leads, NoneTwice}
-use Rattle.regex_lite_engine.specs.Walk.Explored.{NotAfter, StartsDiffer, IsWhole}
-use Rattle.regex_lite_engine.specs.Walk.Explored.{IsFirst, IsDead, IsAnswered, IsExplored}
+use Rattle.regex_lite_engine.specs.Search.Explored.{NotAfter, StartsDiffer, IsWhole}
+use Rattle.regex_lite_engine.specs.Search.Explored.{IsFirst, IsDead, IsAnswered, IsExplored}
 use Rattle.regex_lite_engine.proofs.laws.LeadsLemmas.{same_some, leads_append}
 use Rattle.regex_lite_engine.proofs.laws.LeadsLemmas.{leads_split, leads_to_one}
 use Rattle.regex_lite_engine.proofs.laws.search.CutLemmas.{rest_of}

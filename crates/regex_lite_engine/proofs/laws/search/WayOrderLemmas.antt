@@ -1,7 +1,7 @@
 -- The order of ways.
 use Rattle.std.proofs.Common.{◌≡◌, ℕ, ◌<◌, ◌⊎◌, inl, inr, ⊎_elim, List, []}
 use Rattle.std.proofs.Common.{◌∷◌, ◌++◌, refl, sym, ap, subst, ◌∙◌, lt_trans}
-use Rattle.regex_lite_engine.specs.Walk.Explored.{Before, NotAfter}
+use Rattle.regex_lite_engine.specs.Search.Explored.{Before, NotAfter}
 
 pub Before-trans : (a b c : List ℕ) → Before a b → Before b c → Before a c
 Before-trans a b [] p q = q

@@ -8,12 +8,12 @@ use Rattle.regex_lite_engine.specs.Graph.Places.{Place}
 use Rattle.regex_lite_engine.specs.Search.Marks.{marks_along}
 use Rattle.regex_lite_engine.specs.Search.Preference.{IsPreferred}
 use Rattle.regex_lite_engine.specs.Search.Answer.{Found}
-use Rattle.regex_lite_engine.specs.Walk.Explored.{NotAfter, StartsDiffer, IsWhole, IsFirst}
-use Rattle.regex_lite_engine.specs.Walk.NumberedAnswer.{place_with, numbered_step}
-use Rattle.regex_lite_engine.specs.Walk.NumberedAnswer.{is_end, IsNumberedWay}
-use Rattle.regex_lite_engine.specs.Walk.NumberedAnswer.{IsNumberedMatch, IsNumberedFound}
-use Rattle.regex_lite_engine.specs.Walk.NumberedList.{IsEntry, StartsOf, IsMatchOfAny}
-use Rattle.regex_lite_engine.specs.Walk.NumberedList.{IsNumberedAnswerOf, IsOverOf, IsOfWayOf}
+use Rattle.regex_lite_engine.specs.Search.Explored.{NotAfter, StartsDiffer, IsWhole, IsFirst}
+use Rattle.regex_lite_engine.specs.Search.NumberedAnswer.{place_with, numbered_step}
+use Rattle.regex_lite_engine.specs.Search.NumberedAnswer.{is_end, IsNumberedWay}
+use Rattle.regex_lite_engine.specs.Search.NumberedAnswer.{IsNumberedMatch, IsNumberedFound}
+use Rattle.regex_lite_engine.specs.Search.NumberedList.{IsEntry, StartsOf, IsMatchOfAny}
+use Rattle.regex_lite_engine.specs.Search.NumberedList.{IsNumberedAnswerOf, IsOverOf, IsOfWayOf}
 use Rattle.regex_lite_engine.proofs.laws.LeadsLemmas.{same_some, leads_to_one}
 use Rattle.regex_lite_engine.proofs.laws.search.OverLemmas.{before_preferred}
 use Rattle.regex_lite_engine.proofs.laws.search.SearchLawLemmas.{search_law}

@@ -1,11 +1,12 @@
 -- What a part of a list of trees takes, beside what is after it.
-use Rattle.std.proofs.Common.{◌≡◌, ◌≤◌, ◌<◌, ℕ, zero, suc, ◌+◌, List, []}
+use Rattle.std.proofs.Common.{◌≡◌, ◌≤◌, ◌<◌, ℕ, zero, suc, ◌+◌, ◌-◌, ◌*◌, List, []}
+use Rattle.std.proofs.Common.{Bool, None, rules}
 use Rattle.std.proofs.Common.{◌∷◌, map, drop, length, get_or, ap, arith}
 use Rattle.regex_lite_syntax.specs.declared.hir.Hir.{Hir}
 use Rattle.regex_lite_syntax.specs.Tree.{trees}
 use Rattle.regex_lite_syntax.specs.Tree.Views.{tree_of}
 use Rattle.regex_lite_syntax.specs.Tree.Properties.{greatest_index, greatest_index_in}
-use Rattle.regex_lite_engine.specs.Graph.PlaceCounts.{places, places_in}
+use Rattle.regex_lite_engine.specs.Graph.PlaceCounts.{copies, own_places, places, places_in}
 
 pub part_places : (parts : List Hir) (i : ℕ) (part : Hir) → i < length parts
     → part ≡ get_or parts i part
@@ -25,3 +26,10 @@ part_index (a ∷ rest) zero part inside is =
     let same = ap (λ hir. greatest_index (tree_of hir)) is in omega (arith, same)
 part_index (a ∷ rest) (suc i) part inside is =
     omega (arith, part_index rest i part (omega arith) is)
+
+-- the copy in the loop, with the choice, and those before it
+pub loop_room : (least body : ℕ) (nullable_body : Bool) → 0 < least
+    → copies least None * body + own_places least None nullable_body
+    ≡ (least - 1) * body + (body + 1)
+loop_room zero body nullable_body some = absurd (omega arith)
+loop_room (suc n) body nullable_body some = search rules

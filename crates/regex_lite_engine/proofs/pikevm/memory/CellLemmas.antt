@@ -10,9 +10,9 @@ use Rattle.regex_lite_engine.specs.declared.pikevm.cell.Cell.{Cell}
 use Rattle.regex_lite_engine.specs.declared.pikevm.cell.Frame as code
 use Rattle.regex_lite_engine.specs.declared.pikevm.cell.Side.{Side}
 use Rattle.regex_lite_engine.specs.declared.pikevm.cell.Side.TheVariants.{First, Second}
-use Rattle.regex_lite_engine.specs.Walk.Cells.{round_in, frame_in, frames_in, other}
-use Rattle.regex_lite_engine.specs.Walk.Cells.{place_on, start_on, with_thread, row_on}
-use Rattle.regex_lite_engine.specs.Walk.Machine.{Row, Frame, Thread, State}
+use Rattle.regex_lite_engine.specs.Pikevm.Cells.{round_in, frame_in, frames_in, other}
+use Rattle.regex_lite_engine.specs.Pikevm.Cells.{place_on, start_on, with_thread, row_on}
+use Rattle.regex_lite_engine.specs.Pikevm.Machine.{Row, Frame, Thread, State}
 
 -- a cell with a thread more
 module _ {S : Type 0} (place : ℕ) (start : S) (x : Cell S) where

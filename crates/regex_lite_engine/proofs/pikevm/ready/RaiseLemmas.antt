@@ -6,7 +6,7 @@ use Rattle.std.proofs.lemmas.List.{append_assoc, length-map, length-replicate}
 use Rattle.std.proofs.lemmas.List.{map-set, replicate-append-replicate}
 use Rattle.std.proofs.Math.Seq.{take-append_seam}
 use Rattle.regex_lite_engine.specs.declared.pikevm.cell.Cell.{Cell}
-use Rattle.regex_lite_engine.specs.Walk.Cells.{round_in, without_round, MakesReady}
+use Rattle.regex_lite_engine.specs.Pikevm.Cells.{round_in, without_round, MakesReady}
 use Rattle.regex_lite_engine.proofs.pikevm.memory.CellLemmas.{not_told, told_at}
 
 -- the rounds from k on stand higher up by this many

@@ -7,7 +7,7 @@ ghost use Rattle.regex_lite_engine.specs.Graph.PlaceCounts.{places, copies, own_
 ghost use Rattle.regex_lite_engine.specs.Graph.PlaceCounts.{bounded_places};
 ghost use Rattle.regex_lite_engine.specs.Nfa.Layout.{IsAdded, layout, copies_layout};
 ghost use Rattle.regex_lite_engine.specs.Nfa.Layout.{bounded_layout, choices_layout, star_layout};
-ghost use Rattle.regex_lite_engine.specs.Nfa.Layout.{at_least_layout, repetition_layout};
+ghost use Rattle.regex_lite_engine.specs.Nfa.Layout.{repetition_layout};
 
 use super::{Writer, choice_of};
 use crate::nfa::place::Place;
@@ -38,7 +38,10 @@ impl Writer {
             + own_places least most (nullable body))) }
     {
         match most {
-            None if least > 0 => self.write_at_least(body, least - 1, greedy, exit),
+            None if least > 0 => {
+                let (_, inner) = self.write_loop(body, greedy, exit)?;
+                self.write_copies(body, least - 1, inner)
+            }
             None => self.write_star(body, greedy, exit),
             Some(most) => self.write_bounded(body, least, most, greedy, exit),
         }
@@ -69,27 +72,6 @@ impl Writer {
         let join = self.add(Place::Empty { to: exit })?;
         let (_, inner) = self.write_loop(body, greedy, join)?;
         self.add(choice_of(greedy, inner, join))
-    }
-
-    /// A loop that is entered at its body, after `before` copies of the body.
-    #[cycle(write)]
-    fn write_at_least(
-        &mut self,
-        body: &Hir,
-        before: u32,
-        greedy: bool,
-        exit: u32,
-    ) -> Result<u32, AllocError>
-        requires room { length self.old + ((before + 1) * places (tree_of body.now) + 1) < 2 ^ 32 }
-        requires slots { greatest_index (tree_of body.now) < 2 ^ 31 }
-        ensures written { IfOk result (λ entry. IsAdded
-            (map place_of self.old) (map place_of self.new) entry
-            (at_least_layout greedy (layout (tree_of body.now)) before (length self.old) exit)) }
-        ensures grown { IfOk result (λ _.
-            length self.new ≡ length self.old + ((before + 1) * places (tree_of body.now) + 1)) }
-    {
-        let (_, inner) = self.write_loop(body, greedy, exit)?;
-        self.write_copies(body, before, inner)
     }
 
     /// The required copies, and where more are allowed, the optional ones and a join after them.

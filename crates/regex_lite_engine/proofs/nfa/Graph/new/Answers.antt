@@ -11,7 +11,7 @@ use Rattle.regex_lite_engine.proofs.nfa.write.RenumberingLemmas.{starts, closed,
 use Rattle.regex_lite_engine.proofs.nfa.count.ArrowCountLemmas.{arrows_whole}
 use Rattle.regex_lite_engine.proofs.nfa.count.ReadingCountLemmas.{reading_whole, reading_few}
 use Rattle.regex_lite_engine.proofs.nfa.count.KeptBackLemmas.{kept_back_whole}
-use Rattle.regex_lite_engine.proofs.nfa.starts.WayLemmas.{written_heads}
+use Rattle.regex_lite_engine.proofs.nfa.WayLemmas.{written_heads}
 use Rattle.regex_lite_engine.proofs.ArrowBoundLemmas.{arrows_few}
 use Rattle.regex_lite_engine.proofs.nfa.Graph.new.Goals as goal
 

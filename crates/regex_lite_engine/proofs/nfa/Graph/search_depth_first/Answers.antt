@@ -2,8 +2,8 @@ use Rattle.std.proofs.Common.{rules, length, ◌<◌, ◌^◌, sym, subst, arith
 use Rattle.std.specs.Prelude.{chars}
 use Rattle.regex_lite_engine.specs.Graph.Stored.{table_of}
 use Rattle.regex_lite_engine.specs.Search.Offsets.{position_at}
-use Rattle.regex_lite_engine.specs.Walk.Outcomes.{IsNumberedOutcome}
-use Rattle.regex_lite_engine.proofs.pikevm.OutcomeLemmas.{answer_told, can_count}
+use Rattle.regex_lite_engine.specs.Pikevm.Outcomes.{IsNumberedOutcome}
+use Rattle.regex_lite_engine.proofs.search.OutcomeLemmas.{answer_told, can_count}
 use Rattle.regex_lite_engine.proofs.nfa.Graph.search_depth_first.Goals as goal
 
 pub run-found-requires-clause-counts : goal.run-found-requires-clause-counts

@@ -2,10 +2,10 @@ use Rattle.std.proofs.Common.{rules, length, ◌<◌, ◌^◌, ap, subst, arith}
 use Rattle.std.specs.Prelude.{chars}
 use Rattle.regex_lite_engine.specs.Graph.Stored.{places_of, table_of}
 use Rattle.regex_lite_engine.specs.Search.Offsets.{position_at}
-use Rattle.regex_lite_engine.specs.Walk.Outcomes.{IsBestOutcome, IsCountable, IsFresh}
-use Rattle.regex_lite_engine.specs.Walk.Turns.{best_of}
+use Rattle.regex_lite_engine.specs.Pikevm.Outcomes.{IsBestOutcome, IsCountable, IsFresh}
+use Rattle.regex_lite_engine.specs.Pikevm.Turns.{best_of}
 use Rattle.regex_lite_engine.proofs.pikevm.EndLemmas.{one_best}
-use Rattle.regex_lite_engine.proofs.pikevm.OutcomeLemmas.{can_count, answer_told}
+use Rattle.regex_lite_engine.proofs.search.OutcomeLemmas.{can_count, answer_told}
 use Rattle.regex_lite_engine.proofs.nfa.Graph.search_in_step.Goals as goal
 
 pub run-requires-clause-fresh : goal.run-requires-clause-fresh

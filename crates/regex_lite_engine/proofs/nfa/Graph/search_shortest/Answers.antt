@@ -3,10 +3,10 @@ use Rattle.std.specs.Prelude.{chars}
 use Rattle.regex_lite_engine.specs.Graph.Stored.{places_of, table_of}
 use Rattle.regex_lite_engine.specs.Search.Offsets.{position_at}
 use Rattle.regex_lite_engine.specs.Search.Outcomes.{IsEndOutcome}
-use Rattle.regex_lite_engine.specs.Walk.Turns.{best_of}
-use Rattle.regex_lite_engine.specs.Walk.Outcomes.{IsCountable, IsFresh}
+use Rattle.regex_lite_engine.specs.Pikevm.Turns.{best_of}
+use Rattle.regex_lite_engine.specs.Pikevm.Outcomes.{IsCountable, IsFresh}
 use Rattle.regex_lite_engine.proofs.pikevm.ShortestLemmas.{one_end}
-use Rattle.regex_lite_engine.proofs.pikevm.OutcomeLemmas.{can_count, cost_told, end_told}
+use Rattle.regex_lite_engine.proofs.search.OutcomeLemmas.{can_count, cost_told, end_told}
 use Rattle.regex_lite_engine.proofs.nfa.Graph.search_shortest.Goals as goal
 
 pub run_shortest-requires-clause-counts : goal.run_shortest-requires-clause-counts

@@ -4,10 +4,10 @@ use Rattle.regex_lite_engine.specs.Graph.Stored.{places_of, table_of}
 use Rattle.regex_lite_engine.specs.LazyDfa.Scanning.{end_told}
 use Rattle.regex_lite_engine.specs.Search.Offsets.{position_at}
 use Rattle.regex_lite_engine.specs.Search.Outcomes.{IsEndOutcome}
-use Rattle.regex_lite_engine.specs.Walk.Outcomes.{IsCountable, IsFresh}
+use Rattle.regex_lite_engine.specs.Pikevm.Outcomes.{IsCountable, IsFresh}
 use Rattle.regex_lite_engine.proofs.lazy_dfa.ScanLemmas.{end_back}
-use Rattle.regex_lite_engine.proofs.pikevm.OutcomeLemmas as outcome
-use Rattle.regex_lite_engine.proofs.pikevm.OutcomeLemmas.{can_count, cost_told}
+use Rattle.regex_lite_engine.proofs.search.OutcomeLemmas as outcome
+use Rattle.regex_lite_engine.proofs.search.OutcomeLemmas.{can_count, cost_told}
 use Rattle.regex_lite_engine.proofs.pikevm.ShortestLemmas.{one_end}
 use Rattle.regex_lite_engine.proofs.nfa.Graph.search_shortest_remembering.Goals as goal
 

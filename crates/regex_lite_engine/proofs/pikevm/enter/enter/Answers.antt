@@ -1,7 +1,7 @@
 use Rattle.std.proofs.Common.{◌∷◌, false, refl, sym, subst}
 use Rattle.regex_lite_engine.specs.declared.nfa.place.Place as code
-use Rattle.regex_lite_engine.specs.Walk.Entering.{Enters}
-use Rattle.regex_lite_engine.specs.Walk.Machine.{explore}
+use Rattle.regex_lite_engine.specs.Pikevm.Entering.{Enters}
+use Rattle.regex_lite_engine.specs.Pikevm.Machine.{explore}
 use Rattle.regex_lite_engine.proofs.pikevm.StateLemmas.{keeps_threads}
 use Rattle.regex_lite_engine.proofs.pikevm.enter.enter.Goals as goal
 

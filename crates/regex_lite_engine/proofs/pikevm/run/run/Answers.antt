@@ -3,10 +3,10 @@ use Rattle.std.specs.Prelude.{chars}
 use Rattle.regex_lite_engine.specs.Graph.Renumbered.{arrows_of}
 use Rattle.regex_lite_engine.specs.Search.Bounds.{IsBoundedBy, characters_left}
 use Rattle.regex_lite_engine.specs.Search.Offsets.{position_at}
-use Rattle.regex_lite_engine.specs.Walk.Outcomes.{CanCount, IsBestOutcomeOf}
-use Rattle.regex_lite_engine.specs.Walk.Searching.{IsBetween}
-use Rattle.regex_lite_engine.specs.Walk.Turns.{best_of}
-use Rattle.regex_lite_engine.proofs.pikevm.here.OffsetLemmas.{less_left}
+use Rattle.regex_lite_engine.specs.Pikevm.Outcomes.{CanCount, IsBestOutcomeOf}
+use Rattle.regex_lite_engine.specs.Pikevm.Searching.{IsBetween}
+use Rattle.regex_lite_engine.specs.Pikevm.Turns.{best_of}
+use Rattle.regex_lite_engine.proofs.search.here.OffsetLemmas.{less_left}
 use Rattle.regex_lite_engine.proofs.pikevm.CountLemmas.{counted_at_first, still_counted}
 use Rattle.regex_lite_engine.proofs.pikevm.EndLemmas.{ended_all, over_at, some_after}
 use Rattle.regex_lite_engine.proofs.pikevm.PassLemmas.{begun, bounded}

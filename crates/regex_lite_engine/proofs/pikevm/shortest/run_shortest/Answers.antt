@@ -4,10 +4,10 @@ use Rattle.regex_lite_engine.specs.Graph.Parts.{IsOwnPart, row_of}
 use Rattle.regex_lite_engine.specs.Graph.Renumbered.{arrows_of}
 use Rattle.regex_lite_engine.specs.Search.Bounds.{IsBoundedBy, characters_left}
 use Rattle.regex_lite_engine.specs.Search.Offsets.{position_at}
-use Rattle.regex_lite_engine.specs.Walk.Outcomes.{CanCount, IsNumberedEndOf}
-use Rattle.regex_lite_engine.specs.Walk.Searching.{IsBetween}
-use Rattle.regex_lite_engine.specs.Walk.Turns.{best_of}
-use Rattle.regex_lite_engine.proofs.pikevm.here.OffsetLemmas.{less_left}
+use Rattle.regex_lite_engine.specs.Pikevm.Outcomes.{CanCount, IsNumberedEndOf}
+use Rattle.regex_lite_engine.specs.Pikevm.Searching.{IsBetween}
+use Rattle.regex_lite_engine.specs.Pikevm.Turns.{best_of}
+use Rattle.regex_lite_engine.proofs.search.here.OffsetLemmas.{less_left}
 use Rattle.regex_lite_engine.proofs.pikevm.CountLemmas.{counted_at_first, still_counted}
 use Rattle.regex_lite_engine.proofs.pikevm.EndLemmas.{over_at, some_after}
 use Rattle.regex_lite_engine.proofs.pikevm.PassLemmas.{begun, bounded, bounded_within}

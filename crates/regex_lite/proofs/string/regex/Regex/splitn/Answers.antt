@@ -1,5 +1,5 @@
-use Rattle.std.proofs.Common.{Some, ap, ◌∙◌}
-use Rattle.regex_lite.specs.Ahead.{ahead_of, whole}
+use Rattle.std.proofs.Common.{arith}
+use Rattle.regex_lite.specs.Ahead.{ahead_of}
 use Rattle.regex_lite.proofs.string.PieceLemmas.{left_at_first}
 use Rattle.regex_lite.proofs.string.regex.Regex.splitn.Goals as goal
 
@@ -7,7 +7,5 @@ pub returns-clause-pieces : goal.returns-clause-pieces
 returns-clause-pieces c list =
     let it = c.in_ok-matches in
     left_at_first c.args.limit c.args.self.now c.args.haystack.now (ahead_of it.matches)
-    it.matches.scan.ended
-    (it.ensures.ahead
-    ∙ ap (λ n. whole c.args.self.now c.args.haystack.now (Some n)) c.saturating_sub.ensures)
-    it.ensures.begins list
+    it.matches.scan.ended (omega (arith, c.if-limit-lt2.false)) it.ensures.ahead it.ensures.begins
+    list

@@ -3,8 +3,8 @@ use Rattle.std.specs.Prelude.{chars}
 use Rattle.std.proofs.lemmas.List.{nil_from_length}
 use Rattle.regex_lite_engine.specs.Graph.Stored.{table_of}
 use Rattle.regex_lite_engine.specs.LazyDfa.Learning.{IsFirst}
-use Rattle.regex_lite_engine.specs.Walk.Standing.{IsHere}
-use Rattle.regex_lite_engine.specs.Walk.Turns.{best_of}
+use Rattle.regex_lite_engine.specs.Search.Standing.{IsHere}
+use Rattle.regex_lite_engine.specs.Pikevm.Turns.{best_of}
 use Rattle.regex_lite_engine.proofs.lazy_dfa.RunLemmas.{at_later, maybe_in_empty}
 use Rattle.regex_lite_engine.proofs.lazy_dfa.RunLemmas.{own_first, passed_over}
 use Rattle.regex_lite_engine.proofs.lazy_dfa.automaton.LazyDfa.at_idle.Goals as goal

@@ -5,7 +5,7 @@ use Rattle.regex_lite_engine.specs.LazyDfa.Automaton.{Automaton, FitsTable, Reme
 use Rattle.regex_lite_engine.specs.LazyDfa.Automaton.{Suits, searching_after, ways_of}
 use Rattle.regex_lite_engine.specs.LazyDfa.Intervals.{class_of}
 use Rattle.regex_lite_engine.specs.LazyDfa.Learning.{IsIn}
-use Rattle.regex_lite_engine.specs.Walk.Turns.{best_of}
+use Rattle.regex_lite_engine.specs.Pikevm.Turns.{best_of}
 use Rattle.regex_lite_engine.proofs.lazy_dfa.LearnLemmas.{learned, remembers_pending}
 use Rattle.regex_lite_engine.proofs.lazy_dfa.LearnLemmas.{still_in, suits_after, ways_fit}
 use Rattle.regex_lite_engine.proofs.lazy_dfa.RememberedLemmas.{remembers_more, still_remembers}

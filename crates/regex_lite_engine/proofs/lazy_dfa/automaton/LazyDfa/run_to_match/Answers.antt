@@ -1,5 +1,127 @@
-use Rattle.std.proofs.Common.{inl, refl, arith}
+use Rattle.std.proofs.Common.{◌≡◌, ◌+◌, ◌^◌, ◌<◌, ◌∷◌, [], inl, length, refl, ap, ◌∙◌, arith}
+use Rattle.std.specs.Prelude.{chars}
+use Rattle.std.proofs.lemmas.Option.{slice_get_within}
+use Rattle.regex_lite_engine.specs.declared.lazy_dfa.scan.Standing.{Standing}
+use Rattle.regex_lite_engine.specs.Graph.Stored.{table_of}
+use Rattle.regex_lite_engine.proofs.lazy_dfa.SpotLemmas.{further, ran, since_on, spot_edge, spot_of}
+use Rattle.regex_lite_engine.proofs.lazy_dfa.SpotLemmas.{spot_on, spot_since}
 use Rattle.regex_lite_engine.proofs.lazy_dfa.automaton.LazyDfa.run_to_match.Goals as goal
+use Rattle.regex_lite_engine.proofs.lazy_dfa.automaton.LazyDfa.run_to_match.Goals.{in-Some+then-is_hit}
+use Rattle.regex_lite_engine.proofs.lazy_dfa.automaton.LazyDfa.run_to_match.Goals.{in-Some+else-is_hit+in_default-take}
+use Rattle.regex_lite_engine.proofs.lazy_dfa.automaton.LazyDfa.run_to_match.Goals.{in_default}
 
-pub returns-then-not-is_before_ascii-clause-on : goal.returns-then-not-is_before_ascii-clause-on
-returns-then-not-is_before_ascii-clause-on c = λ low p from. (p, omega arith, from, inl refl)
+pub turns-init : goal.turns-init
+turns-init c = record {
+  near = c.none-near.ensures c.args.self.now.intervals.boundaries;
+  none = refl;
+  on = λ low p from. (
+    p,
+    omega arith,
+    spot_of (table_of c.args.graph.now) (c.args.graph.now.start ∷ []) (chars c.args.haystack.now)
+        low p c.args.self.now c.args.at.now c.of-spot.result from c.of-spot.ensures,
+    inl refl,
+  );
+}
+
+pub turn-requires-clause-boundary : goal.turn-requires-clause-boundary
+turn-requires-clause-boundary c =
+    let bs = c.args.haystack.now in
+    let fits : length bs + 1 < 2 ^ 64 = omega arith in
+    let from = c.requires.scanning in
+    let v = c.turns.invariant.on from.0 from.1 from.2 in
+    spot_edge (table_of c.args.graph.now) (c.args.graph.now.start ∷ []) bs c.utf8.haystack fits
+    from.0 v.0 c.args.self.now c.turns.spot c.turns.at v.2
+
+pub turn-requires-clause-state : goal.turn-requires-clause-state
+turn-requires-clause-state c =
+    let from = c.requires.scanning in
+    let v = c.turns.invariant.on from.0 from.1 from.2 in
+    slice_get_within c.args.self.now.states c.turns.spot.state v.2.scanning.state
+    v.2.scanning.is_state
+
+pub take-requires-clause-from : goal.take-requires-clause-from
+take-requires-clause-from c =
+    let from = c.requires.scanning in
+    let v = c.turns.invariant.on from.0 from.1 from.2 in
+    slice_get_within c.args.self.now.states c.turns.spot.state v.2.scanning.state
+    v.2.scanning.is_state
+
+pub take-requires-clause-to : goal.take-requires-clause-to
+take-requires-clause-to c =
+    let turn = c.in-Some.ensures.turn in
+    slice_get_within c.args.self.now.states c.in-Some.turn.to turn.to turn.is_to
+
+pub turns-smaller : goal.turns-smaller
+turns-smaller c =
+    let turn = c.in-Some.ensures.turn in
+    further (table_of c.args.graph.now) (c.args.graph.now.start ∷ []) c.args.self.now
+    c.args.haystack.now c.turns.spot c.in-Some-take.on c.in-Some.turn c.turns.at c.take.new.at turn
+    (c.in-Some-take.ensures.taken turn.to turn.is_to)
+
+pub turns-preserved : goal.turns-preserved
+turns-preserved c = record {
+  near = c.turn.ensures.near;
+  none =
+      let turn = c.in-Some.ensures.turn in
+      c.take.ensures.same turn.to turn.is_to
+      (c.is_hit.ensures turn.to turn.is_to c.if-is_hit.false)
+      ∙ c.turns.invariant.none;
+  on = λ low p from.
+      let table = table_of c.args.graph.now in
+      let entries = c.args.graph.now.start ∷ [] in
+      let bs = c.args.haystack.now in
+      let u = c.utf8.haystack in
+      let fits : length bs + 1 < 2 ^ 64 = omega arith in
+      let now = c.args.self.now in
+      let spot = c.turns.spot in
+      let told = c.turns.at in
+      let v = c.turns.invariant.on low p from in
+      let le = v.1 in
+      let turn = c.in-Some.ensures.turn in
+      let after = c.take.new.at in
+      let on = c.in-Some-take.on in
+      let taken = c.in-Some-take.ensures.taken turn.to turn.is_to in (
+        v.0 + 1,
+        omega (arith, le),
+        spot_on table entries bs u fits low v.0 now spot told v.2 c.in-Some.turn turn after on
+            taken,
+        since_on table entries (chars bs) low p v.0 c.args.at.now.first told.first after.first le
+            v.3
+            (spot_since table entries bs u fits low v.0 now spot told v.2 c.in-Some.turn turn after
+            on taken),
+      );
+}
+
+pub settle-requires : goal.settle-requires
+settle-requires c =
+    let bs = c.args.haystack.now in
+    let fits : length bs + 1 < 2 ^ 64 = omega arith in
+    let from = c.requires.scanning in
+    let v = c.turns.invariant.on from.0 from.1 from.2 in
+    spot_edge (table_of c.args.graph.now) (c.args.graph.now.start ∷ []) bs c.utf8.haystack fits
+    from.0 v.0 c.args.self.now c.turns.spot c.turns.at v.2
+
+stays : (c : goal.After-settle) → c.match-turn.at ≡ c.turns.at
+stays c = elim c.match-turn.branch [
+  | in-Some+then-is_hit w ↦ w.at-is
+  | in-Some+else-is_hit+in_default-take w ↦
+      let turn = w.in-Some.ensures.turn in
+      w.at-is ∙ w.in_default-take.ensures.taken turn.to turn.is_to
+  | in_default w ↦ w.at-is
+]
+
+pub returns-clause-on : goal.returns-clause-on
+returns-clause-on c = λ low p from.
+    let bs = c.args.haystack.now in
+    let fits : length bs + 1 < 2 ^ 64 = omega arith in
+    ran (table_of c.args.graph.now) (c.args.graph.now.start ∷ []) bs c.utf8.haystack fits low p
+    c.args.at.now.first c.args.self.now c.turns.spot c.turns.at c.settle.new.self
+    (c.turns.invariant.on low p from) c.settle.ensures.here
+    (c.settle.ensures.same
+    ∙ ap (λ (s : Standing). record s { here = c.settle.new.self.here; state = c.turns.spot.state })
+    (stays c))
+
+pub returns-clause-none : goal.returns-clause-none
+returns-clause-none c =
+    ap (λ (s : Standing). s.best) c.settle.ensures.same
+    ∙ ap (λ (s : Standing). s.best) (stays c) ∙ c.turns.invariant.none

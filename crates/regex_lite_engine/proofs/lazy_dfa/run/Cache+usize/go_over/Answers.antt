@@ -4,7 +4,7 @@ use Rattle.std.proofs.lemmas.List.{length-map}
 use Rattle.regex_lite_engine.specs.Graph.Renumbered.{arrows_of}
 use Rattle.regex_lite_engine.specs.Graph.Stored.{place_of, table_of}
 use Rattle.regex_lite_engine.proofs.lazy_dfa.RunLemmas.{one_start}
-use Rattle.regex_lite_engine.proofs.pikevm.OneStartLemmas.{one_inside}
+use Rattle.regex_lite_engine.proofs.search.OneStartLemmas.{one_inside}
 use Rattle.regex_lite_engine.proofs.pikevm.PassLemmas.{bound_on}
 use Rattle.regex_lite_engine.proofs.lazy_dfa.run.Cache+usize.go_over.Goals as goal
 

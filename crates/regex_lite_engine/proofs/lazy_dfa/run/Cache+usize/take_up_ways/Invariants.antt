@@ -1,6 +1,6 @@
 use Rattle.std.proofs.Common.{◌≡◌, [], None, map, take}
 use Rattle.regex_lite_engine.specs.LazyDfa.Running.{GoesOnWith, started_at}
-use Rattle.regex_lite_engine.specs.Walk.Turns.{best_of}
+use Rattle.regex_lite_engine.specs.Pikevm.Turns.{best_of}
 use Rattle.regex_lite_engine.proofs.lazy_dfa.run.Cache+usize.take_up_ways.Given as goal
 
 abbrev pub invariant-loop-way : goal.invariant-loop-way

@@ -1,7 +1,7 @@
 use Rattle.std.proofs.Common.{rules, length, ◌<◌, ◌^◌, arith}
 use Rattle.regex_lite_engine.specs.Graph.Stored.{table_of}
 use Rattle.regex_lite_engine.specs.Search.Offsets.{position_at}
-use Rattle.regex_lite_engine.proofs.pikevm.OutcomeLemmas.{can_count}
+use Rattle.regex_lite_engine.proofs.search.OutcomeLemmas.{can_count}
 use Rattle.regex_lite_engine.proofs.lazy_dfa.spans.SpanSearcher.find.Goals as goal
 
 pub find-requires-clause-counts : goal.find-requires-clause-counts

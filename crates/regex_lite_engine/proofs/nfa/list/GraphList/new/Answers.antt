@@ -7,7 +7,7 @@ use Rattle.regex_lite_engine.specs.Nfa.Layout.{patterns_table}
 use Rattle.regex_lite_engine.proofs.nfa.list.TableLemmas.{closed, name, written, entered}
 use Rattle.regex_lite_engine.proofs.nfa.list.TableLemmas.{entries_inside, parted}
 use Rattle.regex_lite_engine.proofs.nfa.list.TableLemmas.{entry_for_each, few_entries}
-use Rattle.regex_lite_engine.proofs.nfa.starts.WayLemmas.{listed_heads}
+use Rattle.regex_lite_engine.proofs.nfa.WayLemmas.{listed_heads}
 use Rattle.regex_lite_engine.proofs.nfa.write.SeveralLemmas.{arrows_add_up}
 use Rattle.regex_lite_engine.proofs.nfa.list.GraphList.new.Goals as goal
 

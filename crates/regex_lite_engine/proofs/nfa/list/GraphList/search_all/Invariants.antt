@@ -8,7 +8,7 @@ use Rattle.regex_lite_engine.specs.Search.Answer.{HasMatchFrom}
 use Rattle.regex_lite_engine.specs.Search.AnswerOfList.{HasTree}
 use Rattle.regex_lite_engine.specs.Search.Bounds.{IsBoundedBy}
 use Rattle.regex_lite_engine.specs.Search.Offsets.{position_at}
-use Rattle.regex_lite_engine.specs.Walk.Searching.{IsBetween}
+use Rattle.regex_lite_engine.specs.Pikevm.Searching.{IsBetween}
 use Rattle.regex_lite_engine.proofs.nfa.list.GraphList.search_all.Given as goal
 
 abbrev pub invariant-loop-number : goal.invariant-loop-number

@@ -5,7 +5,7 @@ use Rattle.regex_lite_engine.specs.Search.AnswerOfList.{TellsWhich}
 use Rattle.regex_lite_engine.specs.Search.Offsets.{search_start}
 use Rattle.regex_lite_engine.specs.Graph.SideBySide.{places_of_all, tries_of_all}
 use Rattle.regex_lite_engine.specs.Search.Bounds.{IsBoundedBy}
-use Rattle.regex_lite_engine.proofs.pikevm.ListOutcomeLemmas.{at_position}
+use Rattle.regex_lite_engine.proofs.search.ListOutcomeLemmas.{at_position}
 use Rattle.regex_lite_engine.proofs.nfa.list.GraphList.search_each.Goals as goal
 
 pub returns-clause-found : goal.returns-clause-found

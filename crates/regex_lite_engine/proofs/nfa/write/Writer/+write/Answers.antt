@@ -1,10 +1,14 @@
-use Rattle.std.proofs.Common.{◌≡◌, ◌∙◌, sym, ap, subst, map, length, set, IfOk, length-append}
+use Rattle.std.proofs.Common.{arith, rules, ◌+◌, ◌*◌, ◌≡◌, ◌∙◌, sym, ap, subst, map, length, set}
+use Rattle.std.proofs.Common.{IfOk, length-append}
 use Rattle.std.proofs.lemmas.List.{length-map, map-append, map-set}
 use Rattle.regex_lite_syntax.specs.Tree.{Tree, repetition}
 use Rattle.regex_lite_syntax.specs.Tree.Views.{tree_of}
 use Rattle.regex_lite_engine.specs.Graph.Stored.{place_of}
+use Rattle.regex_lite_engine.specs.Graph.PlaceCounts.{copies, own_places, places}
 use Rattle.regex_lite_engine.specs.Nfa.Layout.{IsAdded, layout}
+use Rattle.regex_lite_syntax.specs.Tree.Properties.{nullable}
 use Rattle.regex_lite_syntax.proofs.TreeLemmas.{tree_of-Repetition}
+use Rattle.regex_lite_engine.proofs.nfa.write.RoomLemmas.{loop_room}
 use Rattle.regex_lite_engine.proofs.nfa.write.WrittenOverLemmas.{loop_written}
 use Rattle.regex_lite_engine.proofs.nfa.write.Writer.+write.Goals as goal
 
@@ -38,3 +42,12 @@ write_loop-returns-clause-written t c =
     (ap length choice.ensures.added ∙ length-append old _)
     (ap (map place_of) choice.ensures.added ∙ map-append place_of old _)
     inner.ensures.written.0 inner.ensures.written.1 put
+
+pub write_repetition-write_loop-requires : goal.write_repetition-write_loop-requires
+write_repetition-write_loop-requires t c =
+    let least = c.args.least in
+    let body = tree_of c.args.body.now in
+    let endless = ap (λ most. copies least most * places body
+    + own_places least most (nullable body)) c.in-None.is in
+    let parts = loop_room least (places body) (nullable body) (search rules) in
+    (search rules, (omega (arith, endless, parts, c.requires.room), c.requires.slots))

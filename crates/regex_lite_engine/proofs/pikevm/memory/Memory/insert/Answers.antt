@@ -2,8 +2,8 @@ use Rattle.std.proofs.Common.{◌≡◌, ◌+◌, ◌<◌, length, take, reverse
 use Rattle.std.proofs.Common.{slice_index, refl, ap, ◌∙◌, arith}
 use Rattle.std.proofs.lemmas.Bool.Decides.{nat_tests}
 use Rattle.regex_lite_engine.specs.declared.pikevm.cell.Cell.{Cell}
-use Rattle.regex_lite_engine.specs.Walk.Cells.{frame_in, other}
-use Rattle.regex_lite_engine.specs.Walk.Machine.{State}
+use Rattle.regex_lite_engine.specs.Pikevm.Cells.{frame_in, other}
+use Rattle.regex_lite_engine.specs.Pikevm.Machine.{State}
 use Rattle.regex_lite_engine.proofs.pikevm.memory.CellLemmas.{not_told, state_is, with_round}
 use Rattle.regex_lite_engine.proofs.pikevm.memory.ListLemmas.{threads_kept}
 use Rattle.regex_lite_engine.proofs.pikevm.memory.ReadyLemmas.{places_stay, frames_stay}

@@ -1,9 +1,9 @@
 use Rattle.std.proofs.Common.{◌≡◌, ◌<◌, length, map, slice_index}
 use Rattle.std.proofs.Common.{slice_index_or, refl, ap, sym, ◌∙◌, arith}
-use Rattle.regex_lite_engine.specs.Walk.Beginnings.{untold}
-use Rattle.regex_lite_engine.specs.Walk.Cells.{nth_row, other, row_on}
-use Rattle.regex_lite_engine.specs.Walk.Cells.{place_on, start_on, start_told}
-use Rattle.regex_lite_engine.specs.Walk.Machine.{State, thread_at}
+use Rattle.regex_lite_engine.specs.Pikevm.Beginnings.{untold}
+use Rattle.regex_lite_engine.specs.Pikevm.Cells.{nth_row, other, row_on}
+use Rattle.regex_lite_engine.specs.Pikevm.Cells.{place_on, start_on, start_told}
+use Rattle.regex_lite_engine.specs.Pikevm.Machine.{State, thread_at}
 use Rattle.regex_lite_engine.proofs.pikevm.memory.CellLemmas.{row_fits, told_at, state_is}
 use Rattle.regex_lite_engine.proofs.pikevm.memory.ListLemmas.{first_put, list_kept, thread_is}
 use Rattle.regex_lite_engine.proofs.pikevm.memory.ListLemmas.{thread_told, threads_long}

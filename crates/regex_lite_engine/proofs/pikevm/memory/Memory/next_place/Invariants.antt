@@ -1,6 +1,6 @@
 use Rattle.std.proofs.Common.{◌≡◌, ℕ, length}
-use Rattle.regex_lite_engine.specs.Walk.Machine.{unwound}
-use Rattle.regex_lite_engine.specs.Walk.Room.{FramesBelow}
+use Rattle.regex_lite_engine.specs.Pikevm.Machine.{unwound}
+use Rattle.regex_lite_engine.specs.Pikevm.Room.{FramesBelow}
 use Rattle.regex_lite_engine.proofs.pikevm.memory.Memory.next_place.Given as goal
 
 abbrev pub invariant-frames : goal.invariant-frames

@@ -1,5 +1,5 @@
 use Rattle.std.proofs.Common.{◌<◌, refl, ap, sym, ◌∙◌, arith}
-use Rattle.regex_lite_engine.specs.Walk.Machine.{State}
+use Rattle.regex_lite_engine.specs.Pikevm.Machine.{State}
 use Rattle.regex_lite_engine.proofs.pikevm.memory.CellLemmas.{frame_taken, state_is}
 use Rattle.regex_lite_engine.proofs.pikevm.memory.Memory.pop.Goals as goal
 

@@ -1,5 +1,5 @@
 use Rattle.std.proofs.Common.{◌≡◌, ◌++◌, map, drop}
-use Rattle.regex_lite_engine.specs.Walk.Machine.{explore}
+use Rattle.regex_lite_engine.specs.Pikevm.Machine.{explore}
 use Rattle.regex_lite_engine.proofs.pikevm.memory.Memory.push_all.Given as goal
 
 abbrev pub invariant-loop-i : goal.invariant-loop-i

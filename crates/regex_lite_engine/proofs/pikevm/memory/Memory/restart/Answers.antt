@@ -1,8 +1,8 @@
 use Rattle.std.proofs.Common.{◌≤◌, slice_index, refl, sym, subst}
 use Rattle.std.specs.Prelude.{vec_capacity}
 use Rattle.regex_lite_engine.specs.declared.pikevm.memory.Memory.TheInside.{Inside}
-use Rattle.regex_lite_engine.specs.Walk.Cells.{rounds_in, HoldTogether}
-use Rattle.regex_lite_engine.specs.Walk.Machine.{State}
+use Rattle.regex_lite_engine.specs.Pikevm.Cells.{rounds_in, HoldTogether}
+use Rattle.regex_lite_engine.specs.Pikevm.Machine.{State}
 use Rattle.regex_lite_engine.proofs.pikevm.memory.ReadyLemmas.{none_entered, none_left}
 use Rattle.regex_lite_engine.proofs.pikevm.memory.Memory.restart.Goals as goal
 use Rattle.regex_lite_engine.proofs.pikevm.memory.Memory.restart.Goals.{

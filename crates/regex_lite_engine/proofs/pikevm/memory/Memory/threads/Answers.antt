@@ -1,5 +1,5 @@
 use Rattle.std.proofs.Common.{length, ap, sym, ◌∙◌, arith}
-use Rattle.regex_lite_engine.specs.Walk.Machine.{State}
+use Rattle.regex_lite_engine.specs.Pikevm.Machine.{State}
 use Rattle.regex_lite_engine.proofs.pikevm.memory.ListLemmas.{threads_long}
 use Rattle.regex_lite_engine.proofs.pikevm.memory.Memory.threads.Goals as goal
 

@@ -4,9 +4,9 @@ use Rattle.std.proofs.lemmas.List.{length-map}
 use Rattle.regex_lite_engine.specs.Graph.Places.{kept_back}
 use Rattle.regex_lite_engine.specs.Graph.Stored.{LeadsBelow, places_of, place_of}
 use Rattle.regex_lite_engine.specs.declared.pikevm.enter.Onward as code
-use Rattle.regex_lite_engine.specs.Walk.Entering.{completes, onto, Enters}
-use Rattle.regex_lite_engine.specs.Walk.Machine.{explore}
-use Rattle.regex_lite_engine.specs.Walk.Room.{Went}
+use Rattle.regex_lite_engine.specs.Pikevm.Entering.{completes, onto, Enters}
+use Rattle.regex_lite_engine.specs.Pikevm.Machine.{explore}
+use Rattle.regex_lite_engine.specs.Pikevm.Room.{Went}
 use Rattle.regex_lite_engine.proofs.pikevm.ComeLemmas.{come_new, come_seen, still_fits}
 use Rattle.regex_lite_engine.proofs.pikevm.RoomLemmas.{left_room}
 use Rattle.regex_lite_engine.proofs.pikevm.StateLemmas.{drops_frames}

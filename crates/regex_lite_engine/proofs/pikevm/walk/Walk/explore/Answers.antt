@@ -1,6 +1,6 @@
 use Rattle.std.proofs.Common.{[], ◌∷◌, sym, subst}
-use Rattle.regex_lite_engine.specs.Walk.Machine.{explore}
-use Rattle.regex_lite_engine.specs.Walk.Room.{HasRoom, Explores}
+use Rattle.regex_lite_engine.specs.Pikevm.Machine.{explore}
+use Rattle.regex_lite_engine.specs.Pikevm.Room.{HasRoom, Explores}
 use Rattle.regex_lite_engine.proofs.pikevm.walk.Walk.explore.Goals as goal
 
 pub explore_in-requires-clause-room : goal.explore_in-requires-clause-room

@@ -1,11 +1,11 @@
 use Rattle.std.proofs.Common.{ℕ, ◌∷◌, ◌≡◌, ◌<◌, List, [], false, true}
 use Rattle.std.proofs.Common.{refl, sym, ap, subst, ◌∙◌, arith}
-use Rattle.regex_lite_engine.specs.declared.pikevm.here.Here.{Here}
+use Rattle.regex_lite_engine.specs.declared.search.here.Here.{Here}
 use Rattle.regex_lite_engine.specs.Graph.Places.{Place}
 use Rattle.regex_lite_engine.specs.Graph.Stored.{places_of}
-use Rattle.regex_lite_engine.specs.Walk.Beginnings.{Told}
-use Rattle.regex_lite_engine.specs.Walk.Machine.{explore, unwound, Frame, Row, Thread}
-use Rattle.regex_lite_engine.specs.Walk.Room.{explores, IsFit, WalksAgain, WalksTo, Went, work}
+use Rattle.regex_lite_engine.specs.Pikevm.Beginnings.{Told}
+use Rattle.regex_lite_engine.specs.Pikevm.Machine.{explore, unwound, Frame, Row, Thread}
+use Rattle.regex_lite_engine.specs.Pikevm.Room.{explores, IsFit, WalksAgain, WalksTo, Went, work}
 use Rattle.regex_lite_engine.proofs.pikevm.CountLemmas.{still_counted}
 use Rattle.regex_lite_engine.proofs.pikevm.StateLemmas.{keeps_threads, still_holds}
 use Rattle.regex_lite_engine.proofs.pikevm.WentLemmas.{went_back, under_back}

@@ -1,8 +1,8 @@
 use Rattle.std.proofs.Common.{◌≡◌, ◌∷◌}
 use Rattle.regex_lite_engine.specs.Graph.Stored.{places_of}
 use Rattle.regex_lite_engine.specs.Search.Bounds.{StaysCounted}
-use Rattle.regex_lite_engine.specs.Walk.Machine.{explore}
-use Rattle.regex_lite_engine.specs.Walk.Room.{HasRoom, KeepsPosition, work}
+use Rattle.regex_lite_engine.specs.Pikevm.Machine.{explore}
+use Rattle.regex_lite_engine.specs.Pikevm.Room.{HasRoom, KeepsPosition, work}
 use Rattle.regex_lite_engine.proofs.pikevm.WentLemmas.{IsUnder}
 use Rattle.regex_lite_engine.proofs.pikevm.walk.Walk.explore_in.Given as goal
 

@@ -1,0 +1,5 @@
+use Rattle.std.proofs.lemmas.Str.{IsCharBoundary-start}
+use Rattle.regex_lite.proofs.string.iter.cursor.Cursor.start.Goals as goal
+
+pub invariant_of-result : goal.invariant_of-result
+invariant_of-result c = record { stands = IsCharBoundary-start _ c.utf8.haystack }

@@ -1,0 +1,123 @@
+//! The groups of all matches of a haystack, match after match.
+ghost use Rattle.std.specs.Prelude.{◌≡◌, None, IfOk, IfErr, IsCharBoundary, unwrap_or};
+ghost use Rattle.regex_lite_syntax.specs.Errors.{out_of_memory};
+ghost use Rattle.regex_lite.specs.Ahead.{after, groups_ahead_of, whole};
+ghost use Rattle.regex_lite.specs.Iterators.{groups_ended_of};
+
+use crate::string::captures::Captures;
+use crate::string::iter::group_scan::GroupScan;
+use crate::string::regex::Regex;
+use crate::string::searcher::Searcher;
+use regex_lite_syntax::Error;
+use std::fmt;
+use std::iter::FusedIterator;
+
+impl Regex {
+    /// The groups of all matches that [`Regex::find_iter`] gives.
+    ///
+    /// ```
+    /// let regex = Regex::new(alloc, "([a-z])([0-9])")?;
+    /// for item in regex.captures_iter("a1 b2")? {
+    ///     let caps = item?;
+    ///     if caps.get(2).is_some() {
+    ///         caps.at(2); // "1", then "2"
+    ///     }
+    /// }
+    /// ```
+    ///
+    /// The test `examples::all_groups` in tests/unit runs this example.
+    ///
+    /// # Errors
+    ///
+    /// `Memory` if memory runs out. Each item takes memory of its own. One that is refused is the
+    /// last.
+    pub fn captures_iter<'r, 'h>(
+        &'r self,
+        haystack: &'h str,
+    ) -> Result<CaptureMatches<'r, 'h>, Error>
+        ensures ahead { IfOk result (λ it. groups_ahead_of it ≡ whole self.now haystack.now None) }
+        ensures begins { IfOk result (λ it. groups_ended_of it ≡ None) }
+        ensures refused { IfErr result (λ error. error ≡ out_of_memory) }
+    {
+        CaptureMatches::new(self, haystack, None)
+    }
+
+    /// The groups of all matches that [`Regex::find_iter_after`] gives.
+    ///
+    /// Condition: the offset is on a character boundary of the haystack.
+    ///
+    /// # Errors
+    ///
+    /// `Memory` if memory runs out, also by an item, which then is the last.
+    pub fn captures_iter_after<'r, 'h>(
+        &'r self,
+        haystack: &'h str,
+        ended: Option<usize>,
+    ) -> Result<CaptureMatches<'r, 'h>, Error>
+        requires { IsCharBoundary haystack.now (unwrap_or ended 0) }
+        ensures ahead { IfOk result
+            (λ it. groups_ahead_of it ≡ after self.now haystack.now ended) }
+        ensures begins { IfOk result (λ it. groups_ended_of it ≡ ended) }
+        ensures refused { IfErr result (λ error. error ≡ out_of_memory) }
+    {
+        let searcher = Searcher::with_groups(self, haystack.len())?;
+        Ok(CaptureMatches {
+            scan: GroupScan::after(searcher, haystack, ended),
+        })
+    }
+}
+
+/// The groups of all matches of a haystack, match after match: an iterator that
+/// [`Regex::captures_iter`] makes.
+///
+/// After the last match, and after an error, it gives `None`, and goes on giving it. The groups
+/// borrow the haystack alone, and outlive the iterator and the regex.
+#[derive(Drop)]
+pub struct CaptureMatches<'r, 'h> {
+    pub(crate) scan: GroupScan<'h, Searcher<'r>>,
+}
+
+impl<'r, 'h> CaptureMatches<'r, 'h> {
+    /// The groups of the matches that the limit allows, where there is one.
+    pub(crate) fn new(
+        regex: &'r Regex,
+        haystack: &'h str,
+        limit: Option<usize>,
+    ) -> Result<CaptureMatches<'r, 'h>, Error>
+        ensures ahead { IfOk result
+            (λ it. groups_ahead_of it ≡ whole regex.now haystack.now limit) }
+        ensures begins { IfOk result (λ it. groups_ended_of it ≡ None) }
+        ensures refused { IfErr result (λ error. error ≡ out_of_memory) }
+    {
+        let searcher = Searcher::with_groups(regex, haystack.len())?;
+        Ok(CaptureMatches {
+            scan: GroupScan::new(searcher, haystack, limit),
+        })
+    }
+}
+
+impl<'r, 'h> Iterator for CaptureMatches<'r, 'h> {
+    ghost use Rattle.regex_lite.specs.Ahead.{GivesGroups, most_groups};
+
+    type Item = Result<Captures<'h>, Error>;
+
+    ghost next_gives = { GivesGroups };
+
+    ghost remaining = { most_groups };
+
+    fn next(&mut self) -> Option<Result<Captures<'h>, Error>> {
+        match self.scan.next()? {
+            Ok((_, caps)) => Some(Ok(caps)),
+            Err(error) => Some(Err(error)),
+        }
+    }
+}
+
+impl<'r, 'h> FusedIterator for CaptureMatches<'r, 'h> {}
+
+/// Writes the regex, and where the iterator stands.
+impl<'r, 'h> fmt::Debug for CaptureMatches<'r, 'h> {
+    fn fmt<W: fmt::Write>(&self, f: &mut fmt::Formatter<W>) -> fmt::Result {
+        self.scan.fmt_as("CaptureMatches", f)
+    }
+}

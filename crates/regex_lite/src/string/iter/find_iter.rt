@@ -1,0 +1,125 @@
+//! The matches of a haystack, one after another.
+ghost use Rattle.std.specs.Prelude.{◌≡◌, None, IfOk, IfErr, IsCharBoundary, unwrap_or};
+ghost use Rattle.regex_lite_syntax.specs.Errors.{out_of_memory};
+ghost use Rattle.regex_lite.specs.Ahead.{after, ahead_of, whole};
+ghost use Rattle.regex_lite.specs.Iterators.{ended_of};
+
+use crate::string::iter::scan::Scan;
+use crate::string::matches::Match;
+use crate::string::regex::Regex;
+use crate::string::searcher::Searcher;
+use regex_lite_syntax::Error;
+use std::fmt;
+use std::iter::FusedIterator;
+
+impl Regex {
+    /// All matches, from left to right.
+    ///
+    /// The first is that of [`Regex::find`]. The next is looked for where the last one ended;
+    /// where that would be an empty match at that very place, it is looked for one character
+    /// further on. So no two matches overlap.
+    ///
+    /// ```
+    /// let regex = Regex::new(alloc, "a*")?;
+    /// for found in regex.find_iter("aab")? {
+    ///     found.range(); // 0..2, then 3..3
+    /// }
+    /// ```
+    ///
+    /// The test `examples::all_matches` in tests/unit runs this example.
+    ///
+    /// # Errors
+    ///
+    /// `Memory` if memory runs out. The items need no memory, so they never fail.
+    pub fn find_iter<'r, 'h>(&'r self, haystack: &'h str) -> Result<Matches<'r, 'h>, Error>
+        ensures ahead { IfOk result (λ it. ahead_of it ≡ whole self.now haystack.now None) }
+        ensures begins { IfOk result (λ it. ended_of it ≡ None) }
+        ensures refused { IfErr result (λ error. error ≡ out_of_memory) }
+    {
+        Matches::new(self, haystack, None)
+    }
+
+    /// The matches that [`Regex::find_iter`] gives after one that ended at this offset; `None`
+    /// stands for its start. So a list of matches can be gone on with.
+    ///
+    /// Condition: the offset is on a character boundary of the haystack.
+    ///
+    /// ```
+    /// let regex = Regex::new(alloc, "a*")?;
+    /// for found in regex.find_iter_after("aabaa", Some(2))? {
+    ///     found.range(); // 3..5
+    /// }
+    /// ```
+    ///
+    /// The test `examples::later_matches` in tests/unit runs this example.
+    ///
+    /// # Errors
+    ///
+    /// `Memory` if memory runs out. The items need no memory, so they never fail.
+    pub fn find_iter_after<'r, 'h>(
+        &'r self,
+        haystack: &'h str,
+        ended: Option<usize>,
+    ) -> Result<Matches<'r, 'h>, Error>
+        requires { IsCharBoundary haystack.now (unwrap_or ended 0) }
+        ensures ahead { IfOk result (λ it. ahead_of it ≡ after self.now haystack.now ended) }
+        ensures begins { IfOk result (λ it. ended_of it ≡ ended) }
+        ensures refused { IfErr result (λ error. error ≡ out_of_memory) }
+    {
+        let searcher = Searcher::new(self, 0, haystack.len())?;
+        Ok(Matches {
+            scan: Scan::after(searcher, haystack, ended),
+        })
+    }
+}
+
+/// The matches of a haystack, one after another: an iterator that [`Regex::find_iter`] makes.
+///
+/// After the last match it gives `None`, and goes on giving it. The matches borrow the haystack
+/// alone, and outlive the iterator and the regex.
+#[derive(Drop)]
+pub struct Matches<'r, 'h> {
+    pub(crate) scan: Scan<'h, Searcher<'r>>,
+}
+
+impl<'r, 'h> Matches<'r, 'h> {
+    /// The matches that the limit allows, where there is one.
+    pub(crate) fn new(
+        regex: &'r Regex,
+        haystack: &'h str,
+        limit: Option<usize>,
+    ) -> Result<Matches<'r, 'h>, Error>
+        ensures ahead { IfOk result (λ it. ahead_of it ≡ whole regex.now haystack.now limit) }
+        ensures begins { IfOk result (λ it. ended_of it ≡ None) }
+        ensures refused { IfErr result (λ error. error ≡ out_of_memory) }
+    {
+        let searcher = Searcher::new(regex, 0, haystack.len())?;
+        Ok(Matches {
+            scan: Scan::new(searcher, haystack, limit),
+        })
+    }
+}
+
+impl<'r, 'h> Iterator for Matches<'r, 'h> {
+    ghost use Rattle.regex_lite.specs.Ahead.{GivesMatch, most_matches};
+
+    type Item = Match<'h>;
+
+    ghost next_gives = { GivesMatch };
+
+    ghost remaining = { most_matches };
+
+    fn next(&mut self) -> Option<Match<'h>> {
+        let (_, found) = self.scan.next()?;
+        Some(found)
+    }
+}
+
+impl<'r, 'h> FusedIterator for Matches<'r, 'h> {}
+
+/// Writes the regex, and where the iterator stands.
+impl<'r, 'h> fmt::Debug for Matches<'r, 'h> {
+    fn fmt<W: fmt::Write>(&self, f: &mut fmt::Formatter<W>) -> fmt::Result {
+        self.scan.fmt_as("Matches", f)
+    }
+}

@@ -1,0 +1,237 @@
+-- A search that goes by remembered turns, by offsets alone.
+use Rattle.std.proofs.Common.{◌≡◌, ℕ, ◌+◌, ◌-◌, ◌^◌, ◌<◌, ◌≤◌, ◌⊎◌, inl, inr, List, [], length}
+use Rattle.std.proofs.Common.{drop, suc, slice_get, Option, Some, None, IfSome, refl, sym, ap}
+use Rattle.std.proofs.Common.{subst, ◌∙◌, arith}
+use Rattle.std.specs.Prelude.{IsUtf8, IsCharBoundary, chars}
+use Rattle.std.specs.Char.{len_utf8}
+use Rattle.std.proofs.lemmas.Str.{len_utf8_bounds}
+use Rattle.regex_lite_syntax.specs.Text.{Text}
+use Rattle.regex_lite_engine.specs.declared.lazy_dfa.scan.Standing.{Standing}
+use Rattle.regex_lite_engine.specs.declared.lazy_dfa.spot.Spot.{Spot}
+use Rattle.regex_lite_engine.specs.declared.lazy_dfa.spot.Turn.{Turn}
+use Rattle.regex_lite_engine.specs.declared.search.here.Here.{Here}
+use Rattle.regex_lite_engine.specs.Graph.Places.{Place}
+use Rattle.regex_lite_engine.specs.LazyDfa.Automaton.{Automaton, State, best_left, threads_of}
+use Rattle.regex_lite_engine.specs.LazyDfa.Intervals.{class_of, side_of}
+use Rattle.regex_lite_engine.specs.LazyDfa.Scanning.{best_told, IsIdleAt, IsScanning}
+use Rattle.regex_lite_engine.specs.LazyDfa.Scanning.{IsSince, LedTo}
+use Rattle.regex_lite_engine.specs.LazyDfa.Spots.{IsSpotAt, IsTaken, IsTurn}
+use Rattle.regex_lite_engine.specs.Search.Offsets.{position_at, IsOffset}
+use Rattle.regex_lite_engine.specs.Search.Standing.{IsHere}
+use Rattle.regex_lite_engine.specs.Pikevm.Turns.{IsComing}
+use Rattle.regex_lite_engine.proofs.PositionLemmas.{position_of}
+use Rattle.regex_lite_engine.proofs.lazy_dfa.ScanLemmas.{led_step, scanned_on}
+use Rattle.regex_lite_engine.proofs.search.OptionLemmas.{same_some}
+use Rattle.regex_lite_engine.proofs.search.here.OffsetLemmas.{after_at, boundary_at, here_next}
+use Rattle.regex_lite_engine.proofs.search.here.OffsetLemmas.{moved}
+
+module _ (table : List (Place ℕ)) (entries : List ℕ) (h : Text) (low : ℕ) where
+  pub since_on : (p q a b c : ℕ) → p ≤ q → IsSince table entries h low p a b
+      → IsSince table entries h low q b c → IsSince table entries h low p a c
+  since_on p q a b c le (inl e) (inl f) = inl (f ∙ e)
+  since_on p q a b c le (inr (here, at, idle)) (inl f) = inr (here, at ∙ sym f, idle)
+  since_on p q a b c le before (inr (here, at, idle)) = let later = idle.later in inr (
+    here,
+    at,
+    record { r = idle.r; later = omega (arith, le, later); is = idle.is; coming = idle.coming },
+  )
+
+  -- a search goes by offsets from where it stands
+  pub spot_of : (p : ℕ) (automaton : Automaton) (at : Standing) (spot : Spot)
+      → IsScanning table entries h low p automaton at
+      → spot ≡ record { at = at.here.at; state = at.state; idle = 0 }
+      → IsSpotAt table entries h low p automaton spot at
+  spot_of p automaton at spot scanning e =
+      subst (λ z. IsSpotAt table entries h low p automaton z at) (sym e)
+      (record { here = at.here; at = refl; scanning = scanning })
+
+  -- after a turn
+  pub since_led : (q : ℕ) (automaton : Automaton) (at : Standing) (to : ℕ)
+      (best : Option (ℕ × ℕ)) → (led : LedTo table entries h low q automaton at to best)
+      → (next : Here) (first : ℕ) → IsHere h (q + 1) next → (led.state.ways ≡ [] → best ≡ None)
+      → ((led.state.ways ≡ []) × (first ≡ next.at))
+      ⊎ ((led.state.ways ≡ [] → ⊥) × (first ≡ at.first)) → IsSince table entries h low q at.first
+      first
+  since_led q automaton at to best led next first is over (inr (some, e)) = inl e
+  since_led q automaton at to best led next first is over (inl (none, e)) = inr (
+    next,
+    sym e,
+    record {
+      r = q + 1;
+      later = omega arith;
+      is = is;
+      coming = subst (λ b. IsComing table h entries low (length h) (q + 1) [] (best_told b))
+          (over none)
+          (subst (λ ways. IsComing table h entries low (length h) (q + 1)
+          (threads_of at.first ways) (best_told best)) none led.coming);
+    },
+  )
+
+-- a turn goes on in the haystack
+pub further : (table : List (Place ℕ)) (entries : List ℕ) (automaton : Automaton) (bs : List ℕ)
+    (spot on : Spot) (turn : Turn) (told after : Standing)
+    (leads : IsTurn table entries automaton bs spot.at spot.state turn)
+    → IsTaken spot turn leads.to told after on → length bs - on.at < length bs - spot.at
+further table entries automaton bs spot on turn told after leads taken =
+    let inside = leads.ahead.inside in
+    let ends = leads.ahead.ends in
+    let at = taken.at in
+    let some = (len_utf8_bounds leads.ahead.character).0 in
+    omega (arith, inside, ends, at, some)
+
+module _ (table : List (Place ℕ)) (entries : List ℕ) (bs : List ℕ) (u : IsUtf8 bs)
+    (fits : length bs + 1 < 2 ^ 64) (low : ℕ) where
+  -- where there was nothing to go on from is an offset of a character
+  pub since_edge : (p before first : ℕ) → IsSince table entries (chars bs) low p before first
+      → (first ≡ before) ⊎ IsCharBoundary bs first
+  since_edge p before first (inl e) = inl e
+  since_edge p before first (inr (here, at, idle)) =
+      let is = idle.is in
+      inr (boundary_at bs idle.r first u (is.inside, sym at ∙ is.bytes))
+
+  pub since_idle : (p before first : ℕ) → IsSince table entries (chars bs) low p before first
+      → (idle : Option Here) → IfSome idle (λ here. here.at ≡ first)
+      → IfSome idle (IsHere (chars bs) (position_at bs first))
+      → IfSome idle (λ _. first ≡ before → ⊥)
+      → IfSome idle (IsIdleAt table entries (chars bs) low p)
+  since_idle p before first since None at is other = tt
+  since_idle p before first (inl e) (Some x) at is other = absurd (other e)
+  since_idle p before first (inr (here, at', idle)) (Some x) at is other =
+      let own = idle.is in
+      record {
+        r = idle.r;
+        later = idle.later;
+        is = subst (λ z. IsHere (chars bs) z x)
+            (position_of bs u idle.r first (own.inside, sym at' ∙ own.bytes)) is;
+        coming = idle.coming;
+      }
+
+  module _ (p : ℕ) (automaton : Automaton) (spot : Spot) (told : Standing)
+      (is : IsSpotAt table entries (chars bs) low p automaton spot told) where
+    own_offset : IsOffset (chars bs) p spot.at
+    own_offset = let own = is.scanning.is in (own.inside, sym is.at ∙ own.bytes)
+
+    pub spot_edge : IsCharBoundary bs spot.at
+    spot_edge = boundary_at bs p spot.at u own_offset
+
+    -- the characters beside it are read
+    pub standing_there : (x : Here) → IsHere (chars bs) (position_at bs spot.at) x
+        → IsScanning table entries (chars bs) low p automaton
+        (record { here = x; state = spot.state; first = told.first; best = told.best })
+    standing_there x there =
+        let js = subst (λ z. IsHere (chars bs) z x) (position_of bs u p spot.at own_offset) there in
+        let own = is.scanning in
+        record {
+          state = own.state;
+          is_state = own.is_state;
+          is = js;
+          later = own.later;
+          own = λ e. own.own e ∙ own.is.bytes ∙ sym js.bytes;
+          suits = own.suits;
+          sees = λ looks. ap side_of (js.behind ∙ sym own.is.behind) ∙ own.sees looks;
+          coming = own.coming;
+        }
+
+    module _ (turn : Turn) (leads : IsTurn table entries automaton bs spot.at spot.state turn) where
+      abbrev next_character : ℕ
+      next_character = leads.ahead.character
+
+      abbrev from : Standing
+      from = record { here = is.here; state = spot.state; first = told.first; best = told.best }
+
+      after_is : is.here.after ≡ Some next_character
+      after_is =
+          is.scanning.is.ahead ∙ sym (after_at bs p spot.at u own_offset) ∙ leads.ahead.begins
+
+      -- the turn ends inside the haystack
+      end_inside : turn.end ≤ length bs
+      end_inside =
+          let edge = boundary_at bs (suc p) (is.here.at + len_utf8 next_character) u
+          (moved bs p next_character is.here is.scanning.is after_is) in
+          subst (λ z. z ≤ length bs)
+          (ap (λ z. z + len_utf8 next_character) is.at ∙ sym leads.ahead.ends) edge.0
+
+      module _ (after : Standing) (on : Spot)
+          (taken : IsTaken spot turn leads.to told after on) where
+        led : LedTo table entries (chars bs) low p automaton from turn.to after.best
+        led =
+            led_step table entries (chars bs) low p automaton from is.scanning leads.class turn.to
+            leads.from leads.to leads.is_from leads.is_to leads.leads
+            (ap (class_of automaton.intervals.boundaries) after_is ∙ leads.ahead.class)
+            leads.to.hit refl after.best
+            (taken.best
+            ∙ ap (λ z. best_left leads.to.hit told.first z (best_told told.best)) (sym is.at))
+
+        abbrev next : Here
+        next = record {
+          before = Some next_character;
+          after = slice_get (chars (drop on.at bs)) 0;
+          at = on.at;
+          small = let at = taken.at in let inside = end_inside in omega (arith, at, inside, fits);
+        }
+
+        next_is : IsHere (chars bs) (p + 1) next
+        next_is =
+            here_next bs p next_character is.here next u after_is refl
+            (taken.at ∙ leads.ahead.ends ∙ ap (λ z. z + len_utf8 next_character) (sym is.at))
+            refl is.scanning.is
+
+        same : leads.to ≡ led.state
+        same = same_some (sym leads.is_to ∙ led.is_state)
+
+        first_is : ((led.state.ways ≡ []) × (after.first ≡ next.at))
+            ⊎ ((led.state.ways ≡ [] → ⊥) × (after.first ≡ told.first))
+        first_is =
+            subst
+            (λ s. ((s.ways ≡ []) × (after.first ≡ on.at))
+            ⊎ ((s.ways ≡ [] → ⊥) × (after.first ≡ told.first))) same (by_ways taken.first)
+          where
+            by_ways : ((leads.to.ways ≡ []) × (after.first ≡ on.at) × (after.best ≡ None))
+                ⊎ ((leads.to.ways ≡ [] → ⊥) × (after.first ≡ told.first))
+                → ((leads.to.ways ≡ []) × (after.first ≡ on.at))
+                ⊎ ((leads.to.ways ≡ [] → ⊥) × (after.first ≡ told.first))
+            by_ways (inl (none, e, free)) = inl (none, e)
+            by_ways (inr (some, e)) = inr (some, e)
+
+        free : led.state.ways ≡ [] → after.best ≡ None
+        free none = by_ways taken.first
+          where
+            by_ways : ((leads.to.ways ≡ []) × (after.first ≡ on.at) × (after.best ≡ None))
+                ⊎ ((leads.to.ways ≡ [] → ⊥) × (after.first ≡ told.first)) → after.best ≡ None
+            by_ways (inl (e, at, free)) = free
+            by_ways (inr (some, e)) = absurd (some (ap (λ (s : State). s.ways) same ∙ none))
+
+        pub spot_on : IsSpotAt table entries (chars bs) low (p + 1) automaton on after
+        spot_on = record {
+          here = next;
+          at = refl;
+          scanning =
+              subst
+              (λ z. IsScanning table entries (chars bs) low (p + 1) automaton
+              (record { here = next; state = z; first = after.first; best = after.best }))
+              (sym taken.is_to)
+              (scanned_on table entries (chars bs) low p automaton from is.scanning turn.to
+              after.best led next after.first next_is first_is);
+        }
+
+        pub spot_since : IsSince table entries (chars bs) low p told.first after.first
+        spot_since =
+            since_led table entries (chars bs) low p automaton from turn.to after.best led next
+            after.first next_is free first_is
+
+  -- a search has gone by offsets
+  pub ran : (p before : ℕ) (automaton : Automaton) (spot : Spot) (told at : Standing)
+      → (q : ℕ) × (p ≤ q) × IsSpotAt table entries (chars bs) low q automaton spot told
+      × IsSince table entries (chars bs) low p before told.first →
+      IsHere (chars bs) (position_at bs spot.at) at.here →
+      at ≡ record told { here = at.here; state = spot.state } →
+      (q : ℕ) × (p ≤ q) × IsScanning table entries (chars bs) low q automaton at
+      × IsSince table entries (chars bs) low p before at.first
+  ran p before automaton spot told at (q, le, is, since) here e = (
+    q,
+    le,
+    subst (IsScanning table entries (chars bs) low q automaton) (sym e)
+        (standing_there q automaton spot told is at.here here),
+    subst (IsSince table entries (chars bs) low p before) (sym (ap (λ (s : Standing). s.first) e))
+        since,
+  )

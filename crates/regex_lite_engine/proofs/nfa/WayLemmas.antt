@@ -1,0 +1,134 @@
+-- Where the tree of a graph does not match, no arrows of the graph lead to a complete match.
+use Rattle.std.proofs.Common.{◌≡◌, ◌≢◌, ◌<◌, length, ◌⊎◌, inl, inr, sym, ap, subst}
+use Rattle.std.proofs.Common.{◌∙◌, arith, ℕ, suc, List, Option, Some, None, slice_get}
+use Rattle.std.specs.Prelude.{IfSome, MatchOption}
+use Rattle.std.proofs.lemmas.Bool.{cases_eq}
+use Rattle.std.proofs.lemmas.Option.{slice_get_within}
+use Rattle.regex_lite_syntax.specs.Text.{Text}
+use Rattle.regex_lite_syntax.specs.Tree.{Tree}
+use Rattle.regex_lite_syntax.specs.Tree.Matches.{Matches}
+use Rattle.regex_lite_syntax.specs.Tree.Regular.{IsRegular}
+use Rattle.regex_lite_engine.specs.Graph.Places.{Place}
+use Rattle.regex_lite_engine.specs.Graph.Addresses.{Address}
+use Rattle.regex_lite_engine.specs.Graph.WrittenOut.{start_address, written_out}
+use Rattle.regex_lite_engine.specs.Graph.Renumbered.{IsRenumbered, IsNumberOf}
+use Rattle.regex_lite_engine.specs.Graph.SideBySide.{side_by_side, start_of, AreEntries, AreRegular}
+use Rattle.regex_lite_engine.specs.Search.NumberedAnswer.{numbered_step}
+use Rattle.regex_lite_engine.specs.Pikevm.Turns.{IsDeadAt}
+use Rattle.regex_lite_engine.specs.Search.NumberedList.{IsEntry}
+use Rattle.regex_lite_engine.specs.Search.Starts.{AreHeadsOf, AreListHeadsOf}
+use Rattle.regex_lite_engine.specs.Nfa.Layout.{whole_layout, whole_table}
+use Rattle.regex_lite_engine.specs.Prefilter.Heads.{AreHeadsOfTree, AreSecondOfTree, NeverBegins}
+use Rattle.regex_lite_engine.specs.Prefilter.ListHeads.{AreHeadsOfTrees}
+use Rattle.regex_lite_engine.specs.Prefilter.Starts.{MayBegin}
+use Rattle.regex_lite_engine.specs.declared.prefilter.heads.Heads.{Heads}
+use Rattle.regex_lite_engine.specs.declared.prefilter.list_heads.ListHeads.{ListHeads}
+use Rattle.regex_lite_engine.specs.declared.prefilter.starts.Starts.{Starts}
+use Rattle.regex_lite_engine.proofs.prefilter.list_heads.IndexLemmas.{walkable}
+use Rattle.regex_lite_engine.proofs.prefilter.list_heads.ThirdLemmas.{stuck_matches}
+use Rattle.regex_lite_engine.proofs.prefilter.list_heads.TreeLemmas.{left_out_matches}
+use Rattle.regex_lite_engine.proofs.prefilter.list_heads.TreeLemmas.{none_matches, there_is}
+use Rattle.regex_lite_engine.proofs.laws.several.PartLemmas.{name_in_pattern, InPattern}
+use Rattle.regex_lite_engine.proofs.laws.several.PartLemmas.{part_of_list, entry_of_part}
+use Rattle.regex_lite_engine.proofs.nfa.write.RenumberingLemmas.{whole_names, renumbered}
+use Rattle.regex_lite_engine.proofs.nfa.write.RenumberingLemmas.{starts as starts_there}
+use Rattle.regex_lite_engine.proofs.laws.LoopLemmas.{without_loops}
+use Rattle.regex_lite_engine.proofs.laws.PatternWayLemmas.{walk_match}
+use Rattle.regex_lite_engine.proofs.laws.search.NumberedWayLemmas.{IsPart, IsPartNumber, whole_part}
+use Rattle.regex_lite_engine.proofs.laws.search.NumberedWayLemmas.{whole_number, in_addresses}
+
+one_or_two : (m n : ℕ × ℕ) → (m ≡ n) ⊎ (m ≢ n)
+one_or_two (q, i) (p, j) = elim (cases_eq q p) [
+  | inr apart ↦ inr (λ e. apart (ap (λ z. z.0) e))
+  | inl e ↦ elim (cases_eq i j) [
+    | inr apart ↦ inr (λ f. apart (ap (λ z. z.1) f))
+    | inl f ↦ inl (cc (e, f))
+  ]
+]
+
+pub dead_without_match : (tree : Tree) (haystack : Text) (table : List (Place ℕ)) (start : ℕ)
+    (name : ℕ → Address) (Part : ℕ → Type 0) → IsPart (written_out tree) name table Part
+    → IsPartNumber name Part start_address start → IsRegular tree → (i : ℕ)
+    → ((j : ℕ) → Matches haystack tree i j → ⊥) → IsDeadAt table haystack start i
+dead_without_match tree haystack table start name Part r first regular i none arrows end
+    ends leads =
+    let way = without_loops (numbered_step table haystack) one_or_two arrows (start, i) end leads in
+    let through = in_addresses tree haystack table start name Part r first i end.0 end.1 way.0
+    (record { is_way = way.1; ends = ends }) in
+    none end.1 (walk_match tree haystack i end.1 way.0 regular through.0)
+
+-- the heads of a tree are those of its written-out places
+pub written_heads : (tree : Tree) → IsRegular tree → (table : List (Place ℕ)) (start : ℕ)
+    → table ≡ whole_table tree → start ≡ (whole_layout tree).1 → (heads : Heads)
+    → AreHeadsOfTree tree heads → AreHeadsOf table start heads
+written_heads tree regular table start table_is start_is heads of_tree haystack i never =
+    let name = whole_names tree regular in
+    let written = subst (λ t. IsRenumbered (written_out tree) name t) (sym table_is)
+    (renumbered tree regular) in
+    let first = subst (λ s. IsNumberOf name table start_address s) (sym start_is)
+    (subst (λ t. IsNumberOf name t start_address (whole_layout tree).1) (sym table_is)
+    (starts_there tree regular)) in
+    dead_without_match tree haystack table start name (λ q. q < length table)
+    (whole_part (written_out tree) name table written)
+    (whole_number name table start_address start first) regular i (none never)
+  where
+    by_second : (o : Option Starts) → IfSome o (AreSecondOfTree tree)
+        → MatchOption o ⊥ (λ second. ¬ (MayBegin second haystack (suc i)))
+        → (j : ℕ) → Matches haystack tree i j → ⊥
+    by_second None told off j m = off
+    by_second (Some second) told off j m = off (told haystack i j m)
+
+    none : NeverBegins heads haystack i → (j : ℕ) → Matches haystack tree i j → ⊥
+    none (inl off) j m = off (of_tree.first haystack i j m)
+    none (inr off) j m = by_second heads.second of_tree.second off j m
+
+-- what the index of several trees says holds for their places in a table
+pub listed_heads : (trees : List Tree) → AreRegular trees → (name : ℕ → Address)
+    (table : List (Place ℕ)) (entries : List ℕ) → IsRenumbered (side_by_side trees) name table
+    → AreEntries trees name table entries → length entries ≡ length trees → (heads : ListHeads)
+    → AreHeadsOfTrees trees heads → AreListHeadsOf table entries heads
+listed_heads trees regular name table entries written are all heads w = record {
+  count = w.count ∙ sym all;
+  walkable = walkable w.parts heads w.index (w.of_trees.all ∙ sym w.count);
+  any = λ haystack p never number entry is. (
+      let own = own_tree number entry is in
+      let part = own_part number own.0 own.1 in
+      dead number entry is haystack p
+      (none_matches w.parts heads.any part.0 number w.index.any part.1 own.0
+      (w.of_trees.each number own.0 part.0 own.1 part.1) haystack p never));
+  each = λ haystack p number entry is off. (
+      let own = own_tree number entry is in
+      let part = own_part number own.0 own.1 in
+      dead number entry is haystack p
+      (left_out_matches w.parts heads w.index part.0 number part.1
+      (omega (arith, slice_get_within trees number own.0 own.1, w.count)) own.0
+      (w.of_trees.each number own.0 part.0 own.1 part.1) haystack p off));
+  third = λ haystack p number entry is off. (
+      let own = own_tree number entry is in
+      dead number entry is haystack p
+      (stuck_matches heads.thirds number own.0 (λ mask at. w.thirds number own.0 mask own.1 at)
+      haystack p off));
+}
+  where
+    own_tree : (number entry : ℕ) → IsEntry entries number entry
+        → (tree : Tree) × (slice_get trees number ≡ Some tree)
+        × IsNumberOf name table (start_of number) entry
+    own_tree number entry is = are.of_pattern number entry is
+
+    own_part : (number : ℕ) (tree : Tree) → slice_get trees number ≡ Some tree
+        → (part : Heads) × (slice_get w.parts number ≡ Some part)
+    own_part number tree there =
+        there_is w.parts number
+        (omega (arith, slice_get_within trees number tree there, w.of_trees.all))
+
+    dead : (number entry : ℕ) (is : IsEntry entries number entry) (haystack : Text) (i : ℕ)
+        → ((j : ℕ) → Matches haystack (are.of_pattern number entry is).0 i j → ⊥)
+        → IsDeadAt table haystack entry i
+    dead number entry is haystack i none =
+        let own = are.of_pattern number entry is in
+        dead_without_match own.0 haystack table entry
+        (name_in_pattern trees number own.0 own.1 name table written)
+        (InPattern trees number own.0 own.1 name table written)
+        (part_of_list trees number own.0 own.1 name table written)
+        (entry_of_part trees number own.0 own.1 name table written entry own.2)
+        (regular number own.0 own.1) i none

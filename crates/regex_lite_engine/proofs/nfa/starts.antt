@@ -1,3 +1,0 @@
--- lemmas that several proofs here share
-pub mod StartLemmas
-pub mod WayLemmas

@@ -1,0 +1,82 @@
+use Rattle.std.proofs.Common.{◌+◌, ◌≤◌, length, sym, subst, arith}
+use Rattle.std.specs.Prelude.{chars}
+use Rattle.regex_lite_engine.specs.Graph.Parts.{row_of}
+use Rattle.regex_lite_engine.specs.Graph.Renumbered.{arrows_of}
+use Rattle.regex_lite_engine.specs.Pikevm.Passing.{IsUnderWay}
+use Rattle.regex_lite_engine.specs.Search.Starts.{GoesOnAt}
+use Rattle.regex_lite_engine.specs.Pikevm.Turns.{best_of}
+use Rattle.regex_lite_engine.proofs.pikevm.PassLemmas.{bound_on}
+use Rattle.regex_lite_engine.proofs.search.SkipLemmas.{onward}
+use Rattle.regex_lite_engine.proofs.pikevm.cache.Cache.pass.Goals as goal
+
+pub returns-clause-passes : goal.returns-clause-passes
+returns-clause-passes g c s p is before =
+    let a = c.args in
+    let table = g.P.Patterns.table c.come_to.new.self in
+    let entries = g.P.Patterns.entries c.come_to.new.self in
+    let haystack = chars a.haystack.now in
+    let old = a.self.now in
+    let on : IsUnderWay table haystack entries s p old =
+    subst (λ t. IsUnderWay t haystack entries s p old) (sym c.come_to.ensures.table)
+    (subst (λ es. IsUnderWay (g.P.Patterns.table a.patterns.now) haystack es s p old)
+    (sym c.come_to.ensures.entries) before) in
+    let new = c.turn.new.self in
+    let goes : GoesOnAt table haystack entries old.walk.memory.threads (best_of old.best) p
+    c.next_start-here.result =
+    subst (λ t. GoesOnAt t haystack entries old.walk.memory.threads (best_of old.best) p
+    c.next_start-here.result) (sym c.come_to.ensures.table)
+    (subst (λ es. GoesOnAt (g.P.Patterns.table a.patterns.now) haystack es
+    old.walk.memory.threads (best_of old.best) p c.next_start-here.result)
+    (sym c.come_to.ensures.entries) (c.next_start-here.ensures p is)) in
+    let w = onward table haystack entries s (length haystack) p old.walk.memory.threads
+    (best_of old.best) c.next_start-here.result goes on.coming in
+    let low = on.low in
+    let later = w.later in
+    let first : s ≤ w.q = omega (arith, low, later) in
+    let rounds = on.rounds in
+    let now = c.turn.ensures.round in
+    let tries = c.turn.ensures.tries in
+    let few = c.come_to.ensures.few in
+    record {
+      q = w.q;
+      later = w.later;
+      is = w.is;
+      before = w.coming;
+      ends = c.turn.ensures.ends;
+      after = record {
+        low = omega (arith, first);
+        ready = c.turn.ensures.ready;
+        coming = c.turn.ensures.comes haystack entries w.q s (length haystack) w.is first
+            w.is.inside (c.come_to.ensures.starts w.q w.is) w.coming;
+        tries = bound_on table haystack entries s
+            (old.walk.steps.tried + length old.walk.memory.threads)
+            (new.walk.steps.tried + length new.walk.memory.threads) p w.q
+            (arrows_of table + length entries) low later on.tries (omega (arith, tries, few));
+        entries = bound_on table haystack entries s old.walk.steps.entered
+            new.walk.steps.entered p w.q (length table) low later on.entries
+            c.turn.ensures.entries;
+        own = λ begin len part. (
+            let spends = c.turn.ensures.own haystack entries w.q s (length haystack) begin len w.is
+            first w.is.inside (c.come_to.ensures.starts w.q w.is) w.coming part in
+            let spent_tries = spends.tries in
+            record {
+              tries = bound_on table haystack entries s
+                  (old.walk.steps.tried + length old.walk.memory.threads)
+                  (new.walk.steps.tried + length new.walk.memory.threads) p w.q
+                  (arrows_of (row_of table begin len) + length entries) low later
+                  (on.own begin len part).tries (omega (arith, spent_tries, few));
+              entries = bound_on table haystack entries s old.walk.steps.entered
+                  new.walk.steps.entered p w.q len low later (on.own begin len part).entries
+                  spends.entries;
+            });
+        rounds = omega (arith, rounds, now, first, later);
+      };
+    }
+
+pub turn-requires-clause-few_ways : goal.turn-requires-clause-few_ways
+turn-requires-clause-few_ways g c =
+    let threads = c.threads-threads.ensures.few in
+    let same = c.threads-threads.ensures.same in
+    let starts = c.come_to.ensures.few in
+    let few = c.come_to.ensures.countable in
+    omega (arith, threads, same, starts, few)

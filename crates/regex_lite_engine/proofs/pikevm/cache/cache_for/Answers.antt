@@ -1,0 +1,56 @@
+use Rattle.std.proofs.Common.{◌≡◌, ◌<◌, length, map, sym, subst, ◌∙◌, ap, arith}
+use Rattle.std.proofs.lemmas.List.{length-map}
+use Rattle.regex_lite_engine.specs.Graph.Stored.{place_of}
+use Rattle.regex_lite_engine.proofs.pikevm.cache.cache_for.Goals as goal
+
+pub overflow_add-room : goal.overflow_add-room
+overflow_add-room g c = omega (
+  arith,
+  c.places-places.ensures.same,
+  c.places-places.ensures.few,
+  c.reading-room.ensures.few c.requires,
+)
+
+pub returns-clause-fresh : goal.returns-clause-fresh
+returns-clause-fresh g c =
+    let count : length (map place_of c.args.table.now.places) ≡ length c.args.table.now.places =
+    length-map c.args.table.now.places place_of in
+    let places : c.places-places.result ≡ length c.args.table.now.places =
+    c.places-places.ensures.same in
+    let kept = c.places-places.ensures.kept_back (subst (λ n. 0 < n) (sym places) c.requires) in
+    let reading = c.reading-room.ensures.each in
+    let blank = c.in_ok-blank.ensures in
+    let tried = c.none.ensures.tried in let entered = c.none.ensures.entered in
+    let looked = c.none.ensures.looked in
+    let rounds = blank.rounds in let now = blank.now in let room = blank.room in
+    record {
+      between = record {
+        all_seen = omega (arith, rounds, places, count);
+        old_rounds = λ q. (let le = blank.old q in let e = blank.now in omega (arith, le, e));
+        cap = omega (arith, room, reading);
+        few = omega (arith, ap length blank.threads);
+        below = λ k lt. absurd (omega (arith, lt, ap length blank.threads));
+        none_next = blank.next;
+        stack_room = omega (arith, kept, places, count);
+        stack_empty = blank.frames;
+        best_width = c.in_ok-with_width.ensures.width ∙ sym blank.width;
+        entered_tried = omega (arith, tried, entered);
+        looked_entered = omega (arith, entered, looked);
+        match_entered = λ some. absurd (some c.in_ok-with_width.ensures.none);
+      };
+      none = c.in_ok-with_width.ensures.none;
+      no_threads = blank.threads;
+      few_rounds = omega (arith, now);
+      no_tries = tried;
+      no_entries = entered;
+    }
+
+pub returns-clause-countable : goal.returns-clause-countable
+returns-clause-countable g c =
+    let count : length (map place_of c.args.table.now.places) ≡ length c.args.table.now.places =
+    length-map c.args.table.now.places place_of in
+    let places = c.places-places.ensures.same in let few = c.places-places.ensures.few in
+    record {
+      few_places = omega (arith, count, places, few);
+      few_arrows = c.reading-room.ensures.few_arrows;
+    }

@@ -1,0 +1,12 @@
+use Rattle.std.proofs.Common.{◌≡◌, ◌≤◌, ◌<◌, ℕ, true, length}
+use Rattle.regex_lite_engine.specs.Prefilter.Bytes.{StandsBelow}
+use Rattle.regex_lite_engine.specs.Prefilter.Starts.{stops_at}
+use Rattle.regex_lite_engine.proofs.prefilter.fill_row.Given as goal
+
+abbrev pub invariant-loop-code : goal.invariant-loop-code
+invariant-loop-code l = record {
+  same : length l.bytes ≡ length l.fn.bytes;
+  room : l.len ≤ length l.bytes;
+  written : (byte : ℕ) → byte < l.code → stops_at l.starts byte ≡ true
+      → StandsBelow l.bytes l.len byte;
+}

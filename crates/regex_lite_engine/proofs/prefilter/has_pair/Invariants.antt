@@ -1,0 +1,9 @@
+use Rattle.std.proofs.Common.{◌≡◌, ◌<◌, ◌∷◌, [], ℕ, false, slice_index}
+use Rattle.regex_lite_engine.specs.declared.prefilter.Prefilter.TheVariants.{Pair}
+use Rattle.regex_lite_engine.specs.Prefilter.Bytes.{suits}
+use Rattle.regex_lite_engine.proofs.prefilter.has_pair.Given as goal
+
+abbrev pub invariant-loop-k : goal.invariant-loop-k
+invariant-loop-k l = l.is_there ≡ false → (k : ℕ) → k < l.k
+    → suits (Pair (l.first ∷ (l.or_first ∷ [])) (l.second ∷ (l.or_second ∷ [])))
+    (slice_index l.block k) (slice_index l.next k) ≡ false

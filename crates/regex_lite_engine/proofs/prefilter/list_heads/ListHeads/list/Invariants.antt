@@ -1,0 +1,14 @@
+use Rattle.std.proofs.Common.{◌≡◌, ◌≤◌, ◌*◌, Some}
+use Rattle.std.specs.Prelude.{filter, vec_capacity}
+use Rattle.std.specs.List.{range_with_len}
+use Rattle.regex_lite_engine.specs.Prefilter.ListHeads.{may_start}
+use Rattle.regex_lite_engine.proofs.prefilter.list_heads.ListHeads.list.Given as goal
+
+abbrev pub invariant-loop-k : goal.invariant-loop-k
+invariant-loop-k l = record {
+  listed : l.numbers.items
+      ≡ filter (may_start l.fn.self l.fn.before (Some l.fn.first) l.fn.second)
+      (range_with_len 0 (64 * l.k));
+  capacity : vec_capacity l.fn.numbers ≤ vec_capacity l.numbers;
+  same : l.self ≡ l.fn.self;
+}

@@ -1,0 +1,212 @@
+-- Sets of ASCII characters as bits of two words, and a set for each first character.
+use Rattle.std.proofs.Common.{◌≡◌, ◌==◌, ℕ, zero, suc, refl, ◌+◌, ◌*◌, ◌/◌, ◌%◌, ◌^◌}
+use Rattle.std.proofs.Common.{◌<◌, ◌≤◌, ◌&&◌, ◌||◌, inl, inr, Bool, true, false}
+use Rattle.std.proofs.Common.{List, [], ◌∷◌, length, nat_lt, slice_get, slice_index}
+use Rattle.std.proofs.Common.{slice_set, bit_or, Some, ap, sym, ◌∙◌, arith}
+use Rattle.std.specs.Int.{bit_at}
+use Rattle.std.specs.Prelude.{replicate}
+use Rattle.std.proofs.lemmas.Bool.{cases_lt, cases_eq}
+use Rattle.std.proofs.lemmas.Bool.Decides.{nat_tests}
+use Rattle.std.proofs.lemmas.Nat.Bits.{bit_at-zero}
+use Rattle.regex_lite_syntax.specs.AsciiMaps.{bit_of_words}
+use Rattle.regex_lite_engine.specs.declared.prefilter.heads.Heads.{Heads}
+use Rattle.regex_lite_engine.specs.declared.prefilter.list_heads.ascii_set.AsciiSet.{AsciiSet}
+use Rattle.regex_lite_engine.specs.Prefilter.ListHeads.{begins_with_pair, in_set, in_some_set}
+use Rattle.regex_lite_engine.proofs.prefilter.list_heads.RowBitLemmas.{bit_is_set}
+use Rattle.regex_lite_engine.proofs.prefilter.list_heads.WalkLemmas.{bit_of_either}
+
+one_inserted : (words : List ℕ) → length words ≡ 2 → (code : ℕ) → code < 128
+    → (other : ℕ) → other < 128
+    → (bit_of_words (slice_set words (code / 64) (bit_or (slice_index words (code / 64))
+    (1 * 2 ^ (code % 64) % 18446744073709551616))) other == 1)
+    ≡ ((bit_of_words words other == 1) || other == code)
+one_inserted words all code code_in other other_in =
+    let at : 0 * 2 + code / 64 ≡ code / 64 = omega arith in
+    let from : 64 * (0 * 2) + other ≡ other = omega arith in
+    let inside : 0 * 2 + code / 64 < length words = omega (arith, all, code_in) in
+    let told = bit_is_set words 2 0 code inside (omega (arith, code_in)) 0 other
+    (omega (arith, other_in)) in
+    sym (ap (λ k. bit_of_words (slice_set words k (bit_or (slice_index words k)
+    (1 * 2 ^ (code % 64) % 18446744073709551616))) other == 1) at)
+    ∙ sym (ap (λ n. bit_of_words (slice_set words (0 * 2 + code / 64)
+    (bit_or (slice_index words (0 * 2 + code / 64))
+    (1 * 2 ^ (code % 64) % 18446744073709551616))) n == 1) from)
+    ∙ told
+    ∙ ap (λ n. (bit_of_words words n == 1) || (other == code && 0 == 0)) from
+    ∙ ap (λ b. (bit_of_words words other == 1) || b) (with_true (other == code))
+  where
+    with_true : (b : Bool) → (b && true) ≡ b
+    with_true true = refl
+    with_true false = refl
+
+zeros : (other : ℕ) → other < 128 → (bit_of_words (0 ∷ (0 ∷ [])) other == 1) ≡ false
+zeros other other_in = elim (cases_lt other 64) [
+  | inl lt ↦ at 0 refl (omega (arith, lt))
+  | inr le ↦ at 1 refl (omega (arith, le, other_in))
+]
+  where
+    at : (k : ℕ) → slice_index (0 ∷ (0 ∷ [])) k ≡ 0 → other / 64 ≡ k
+        → (bit_of_words (0 ∷ (0 ∷ [])) other == 1) ≡ false
+    at k word e =
+        ap (λ k. bit_at (slice_index (0 ∷ (0 ∷ [])) k) (other % 64) == 1) e
+        ∙ ap (λ z. bit_at z (other % 64) == 1) word
+        ∙ ap (λ b. b == 1) (bit_at-zero (other % 64))
+
+-- two words with one bit
+pub just_one : (code : ℕ) → code < 128 → (other : ℕ) → other < 128
+    → (bit_of_words (slice_set (0 ∷ (0 ∷ [])) (code / 64)
+    (bit_or (slice_index (0 ∷ (0 ∷ [])) (code / 64))
+    (1 * 2 ^ (code % 64) % 18446744073709551616))) other == 1) ≡ (other == code)
+just_one code code_in other other_in =
+    one_inserted (0 ∷ (0 ∷ [])) refl code code_in other other_in
+    ∙ ap (λ b. b || other == code) (zeros other other_in)
+
+-- each word of two has the bits of both
+pub both_added : (xs ys : List ℕ) (code : ℕ) → code < 128
+    → (bit_of_words (bit_or (slice_index xs 0) (slice_index ys 0)
+    ∷ (bit_or (slice_index xs 1) (slice_index ys 1) ∷ [])) code == 1)
+    ≡ ((bit_of_words xs code == 1) || (bit_of_words ys code == 1))
+both_added xs ys code code_in = elim (cases_lt code 64) [
+  | inl lt ↦ in_word 0 refl (omega (arith, lt))
+  | inr le ↦ in_word 1 refl (omega (arith, le, code_in))
+]
+  where
+    words : List ℕ
+    words = bit_or (slice_index xs 0) (slice_index ys 0)
+        ∷ (bit_or (slice_index xs 1) (slice_index ys 1) ∷ [])
+
+    in_word : (k : ℕ) → slice_index words k ≡ bit_or (slice_index xs k) (slice_index ys k)
+        → code / 64 ≡ k → (bit_of_words words code == 1)
+        ≡ ((bit_of_words xs code == 1) || (bit_of_words ys code == 1))
+    in_word k word e =
+        ap (λ k. bit_at (slice_index words k) (code % 64) == 1) e
+        ∙ ap (λ z. bit_at z (code % 64) == 1) word
+        ∙ bit_of_either (slice_index xs k) (slice_index ys k) (code % 64)
+        ∙ sym (ap (λ k. (bit_at (slice_index xs k) (code % 64) == 1)
+        || (bit_at (slice_index ys k) (code % 64) == 1)) e)
+
+-- no pair is in sets that are all empty
+pub no_pair : (n : ℕ) (set : AsciiSet) (a b : ℕ) → in_set set b ≡ false
+    → in_some_set (slice_get (replicate n set) a) b ≡ false
+no_pair zero set a b off = refl
+no_pair (suc n) set zero b off = off
+no_pair (suc n) set (suc a) b off = no_pair n set a b off
+
+set_at : {X : Type 0} (xs : List X) (k : ℕ) (x : X) → k < length xs
+    → slice_get (slice_set xs k x) k ≡ Some x
+set_at [] k x lt = absurd (omega (arith, lt))
+set_at (y ∷ xs) zero x lt = refl
+set_at (y ∷ xs) (suc k) x lt = set_at xs k x (omega (arith, lt))
+
+set_beside : {X : Type 0} (xs : List X) (k i : ℕ) (x : X) → (i ≡ k → ⊥)
+    → slice_get (slice_set xs k x) i ≡ slice_get xs i
+set_beside [] k i x apart = refl
+set_beside (y ∷ xs) zero zero x apart = absurd (apart refl)
+set_beside (y ∷ xs) zero (suc i) x apart = refl
+set_beside (y ∷ xs) (suc k) zero x apart = refl
+set_beside (y ∷ xs) (suc k) (suc i) x apart = set_beside xs k i x (λ e. apart (ap suc e))
+
+or_off : (b : Bool) → (b || false) ≡ b
+or_off true = refl
+or_off false = refl
+
+-- The pairs with one first character more. Those of the first characters below it were added before
+module _ (before : ℕ → ℕ → Bool) (part : Heads) (first : ℕ) where
+  abbrev pub AddedBelow : (end : ℕ) → List AsciiSet → Type 0
+  AddedBelow end pairs = (a b : ℕ) → a < 128 → b < 128
+      → in_some_set (slice_get pairs a) b
+      ≡ (before a b || (nat_lt a end && begins_with_pair a b part))
+
+  -- the others are as they were
+  beside : (a b : ℕ) → (a ≡ first → ⊥)
+      → (before a b || (nat_lt a first && begins_with_pair a b part))
+      ≡ (before a b || (nat_lt a (first + 1) && begins_with_pair a b part))
+  beside a b apart =
+      let same : nat_lt a first ≡ nat_lt a (first + 1) = elim (cases_lt a first) [
+        | inl lt ↦
+            let one : nat_lt a first ≡ true = grind (arith, nat_tests) in
+            let two : nat_lt a (first + 1) ≡ true = grind (arith, nat_tests) in
+            one ∙ sym two
+        | inr le ↦
+            let above : first < a = more a le apart in
+            let one : nat_lt a first ≡ false = grind (arith, nat_tests) in
+            let two : nat_lt a (first + 1) ≡ false = grind (arith, nat_tests) in
+            one ∙ sym two
+      ] in
+      ap (λ t. before a b || (t && begins_with_pair a b part)) same
+    where
+      more : (a : ℕ) → first ≤ a → (a ≡ first → ⊥) → first < a
+      more a le apart = elim (cases_lt first a) [
+        | inl lt ↦ lt
+        | inr ge ↦ absurd (apart (omega (arith, le, ge)))
+      ]
+
+  here_before : (b : ℕ) → (before first b || (nat_lt first first && begins_with_pair first b part))
+      ≡ before first b
+  here_before b =
+      let off : nat_lt first first ≡ false = grind (arith, nat_tests) in
+      ap (λ t. before first b || (t && begins_with_pair first b part)) off
+      ∙ or_off (before first b)
+
+  here_after : (b : ℕ) → (before first b || begins_with_pair first b part)
+      ≡ (before first b || (nat_lt first (first + 1) && begins_with_pair first b part))
+  here_after b =
+      let on : nat_lt first (first + 1) ≡ true = grind (arith, nat_tests) in
+      sym (ap (λ t. before first b || (t && begins_with_pair first b part)) on)
+
+  -- where no match begins with it
+  pub none_more : (pairs : List AsciiSet) → AddedBelow first pairs
+      → ((b : ℕ) → begins_with_pair first b part ≡ false) → AddedBelow (first + 1) pairs
+  none_more pairs so_far off a b a_in b_in = elim (cases_eq a first) [
+    | inr apart ↦ so_far a b a_in b_in ∙ beside a b apart
+    | inl same ↦
+        ap (λ k. in_some_set (slice_get pairs k) b) same
+        ∙ so_far first b (omega (arith, same, a_in)) b_in
+        ∙ here_before b
+        ∙ sym (or_off (before first b))
+        ∙ sym (ap (λ t. before first b || t) (off b))
+        ∙ here_after b
+        ∙ sym (ap (λ k. before k b || (nat_lt k (first + 1) && begins_with_pair k b part)) same)
+  ]
+
+  -- where one may, its set has what may come second
+  pub one_more : (pairs : List AsciiSet) (old new : AsciiSet) → first < length pairs
+      → slice_get pairs first ≡ Some old → AddedBelow first pairs
+      → ((b : ℕ) → b < 128 → in_set new b ≡ (in_set old b || begins_with_pair first b part))
+      → AddedBelow (first + 1) (slice_set pairs first new)
+  one_more pairs old new inside is so_far added a b a_in b_in = elim (cases_eq a first) [
+    | inr apart ↦
+        ap (λ o. in_some_set o b) (set_beside pairs first a new apart)
+        ∙ so_far a b a_in b_in ∙ beside a b apart
+    | inl same ↦
+        let first_in : first < 128 = omega (arith, same, a_in) in
+        ap (λ k. in_some_set (slice_get (slice_set pairs first new) k) b) same
+        ∙ ap (λ o. in_some_set o b) (set_at pairs first new inside)
+        ∙ added b b_in
+        ∙ ap (λ t. t || begins_with_pair first b part)
+        (sym (ap (λ o. in_some_set o b) is) ∙ so_far first b first_in b_in ∙ here_before b)
+        ∙ here_after b
+        ∙ sym (ap (λ k. before k b || (nat_lt k (first + 1) && begins_with_pair k b part)) same)
+  ]
+
+-- none of the sixteen first characters from this one on is that of a pair
+pub row_passed : (first a : ℕ) (before pair : Bool)
+    → (first ≤ a → a < first + 16 → pair ≡ false)
+    → (before || (nat_lt a first && pair)) ≡ (before || (nat_lt a (first + 16) && pair))
+row_passed first a before pair none = elim (cases_lt a first) [
+  | inl less ↦
+      let one : nat_lt a first ≡ true = grind (arith, nat_tests) in
+      let other : nat_lt a (first + 16) ≡ true = grind (arith, nat_tests) in
+      ap (λ b. before || (b && pair)) (one ∙ sym other)
+  | inr le ↦ elim (cases_lt a (first + 16)) [
+    | inl inside ↦
+        let one : nat_lt a first ≡ false = grind (arith, nat_tests) in
+        let other : nat_lt a (first + 16) ≡ true = grind (arith, nat_tests) in
+        ap (λ b. before || (b && pair)) one
+        ∙ sym (ap (λ b. before || (b && pair)) other ∙ ap (λ p. before || p) (none le inside))
+    | inr beyond ↦
+        let one : nat_lt a first ≡ false = grind (arith, nat_tests) in
+        let other : nat_lt a (first + 16) ≡ false = grind (arith, nat_tests) in
+        ap (λ b. before || (b && pair)) (one ∙ sym other)
+  ]
+]

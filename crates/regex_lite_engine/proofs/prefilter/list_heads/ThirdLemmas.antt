@@ -1,0 +1,136 @@
+-- The masks of third characters.
+use Rattle.std.proofs.Common.{◌≡◌, ◌==◌, ◌-◌, ◌*◌, ◌%◌, ◌^◌, ◌<◌, ◌||◌, ◌&&◌, ◌++◌, []}
+use Rattle.std.proofs.Common.{◌∷◌, inl, inr, ℕ, suc, Bool, cond, true, false, IsTrue}
+use Rattle.std.proofs.Common.{List, Option, Some, refl, ap, sym, subst, ◌∙◌, bit_or}
+use Rattle.std.proofs.Common.{get_or, length, length-append, slice_get, arith, w32}
+use Rattle.std.specs.Int.{bit_at}
+use Rattle.std.specs.Prelude.{None, filter, is_none}
+use Rattle.std.proofs.Math.ListN.{get_or-append}
+use Rattle.std.proofs.Math.Seq.{get_or-append_seam}
+use Rattle.std.proofs.lemmas.Bool.{cases_eq, cases_lt}
+use Rattle.std.proofs.lemmas.Nat.Bits.{bit_at_ones, bit_at_set_same, bit_at_set_other}
+use Rattle.std.proofs.lemmas.Option.{slice_get-get_or, slice_get_cases, slice_get_past}
+use Rattle.std.proofs.lemmas.Option.{slice_get_within, get_or_from_slice_get}
+use Rattle.regex_lite_syntax.specs.Text.{Text, after}
+use Rattle.regex_lite_syntax.specs.Tree.{Tree}
+use Rattle.regex_lite_syntax.specs.Tree.Matches.{Matches}
+use Rattle.regex_lite_engine.specs.declared.prefilter.list_heads.thirds.Thirds.{Thirds}
+use Rattle.regex_lite_engine.specs.declared.prefilter.starts.Starts.{Starts}
+use Rattle.regex_lite_engine.specs.Prefilter.Starts.{begins_with, may_begin}
+use Rattle.regex_lite_engine.specs.Prefilter.Thirds.{in_mask, in_some_mask, may_go_on}
+use Rattle.regex_lite_engine.specs.Prefilter.Thirds.{AreMasksOf, IsThirdOfTree}
+use Rattle.regex_lite_engine.proofs.search.OptionLemmas.{same_some}
+
+pub all_in_mask : (c : ℕ) → in_mask (2 ^ 32 - 1) c ≡ true
+all_in_mask c = ap (λ bit. bit == 1) (bit_at_ones 32 (c % 32) (omega arith))
+
+-- a character that is added is in the mask, and so is each that was in it
+module _ (mask code c : ℕ) where
+  abbrev more : ℕ
+  more = bit_or mask (1 * 2 ^ (code % 32) % 2 ^ 32)
+
+  pub added : c % 32 ≡ code % 32 → in_mask more c ≡ true
+  added same =
+      ap (λ k. bit_at more k == 1) same
+      ∙ ap (λ bit. bit == 1) (bit_at_set_same w32 mask (code % 32) (omega arith))
+
+  pub kept : in_mask mask c ≡ true → in_mask more c ≡ true
+  kept there = elim (cases_eq (c % 32) (code % 32)) [
+    | inl same ↦ added same
+    | inr apart ↦
+        ap (λ bit. bit == 1)
+        (bit_at_set_other w32 mask (code % 32) (omega arith) (c % 32) apart)
+        ∙ there
+  ]
+
+-- a pattern that may not go on with the third character doesn't match
+pub stuck_matches : (thirds : Thirds) (k : ℕ) (tree : Tree)
+    → ((mask : ℕ) → slice_get thirds.masks.items k ≡ Some mask → IsThirdOfTree tree mask)
+    → (haystack : Text) (i : ℕ)
+    → may_go_on thirds (after haystack (suc (suc i))) k ≡ false
+    → (j : ℕ) → Matches haystack tree i j → ⊥
+stuck_matches thirds k tree told h i off j m = by_third (after h (suc (suc i))) refl off
+  where
+    never : true ≡ false → ⊥
+    never e = cc
+
+    by_mask : (o : Option ℕ) → slice_get thirds.masks.items k ≡ o → (c : ℕ)
+        → after h (suc (suc i)) ≡ Some c → in_some_mask o c ≡ false → ⊥
+    by_mask None is c third e = never e
+    by_mask (Some mask) is c third e = never (sym (told mask is h i j c m third) ∙ e)
+
+    by_third : (o : Option ℕ) → after h (suc (suc i)) ≡ o → may_go_on thirds o k ≡ false → ⊥
+    by_third None third e = never e
+    by_third (Some c) third e = by_mask (slice_get thirds.masks.items k) refl c third e
+
+-- after the end there is none
+pub none_later : (h : Text) (p : ℕ) → after h p ≡ None → after h (suc p) ≡ None
+none_later h p end = elim (slice_get_cases h p).1 [
+  | inl (c, inside, there, same) ↦ absurd (apart c (sym there ∙ end))
+  | inr (beyond, none) ↦ slice_get_past h (suc p) (omega (arith, beyond))
+]
+  where
+    apart : (c : ℕ) → Some c ≡ None → ⊥
+    apart c e = cc
+
+-- those that pass one test and then another
+pub filter_twice : (f g : ℕ → Bool) (numbers : List ℕ)
+    → filter g (filter f numbers) ≡ filter (λ k. f k && g k) numbers
+filter_twice f g [] = refl
+filter_twice f g (k ∷ numbers) = by_first (f k) (filter_twice f g numbers)
+  where
+    by_first : (b : Bool) → filter g (filter f numbers) ≡ filter (λ n. f n && g n) numbers
+        → filter g (cond b (k ∷ filter f numbers) (filter f numbers))
+        ≡ cond (b && g k) (k ∷ filter (λ n. f n && g n) numbers) (filter (λ n. f n && g n) numbers)
+    by_first true rest = by_second (g k) rest
+      where
+        by_second : (b : Bool) → filter g (filter f numbers) ≡ filter (λ n. f n && g n) numbers
+            → cond b (k ∷ filter g (filter f numbers)) (filter g (filter f numbers))
+            ≡ cond b (k ∷ filter (λ n. f n && g n) numbers) (filter (λ n. f n && g n) numbers)
+        by_second true e = ap (λ xs. k ∷ xs) e
+        by_second false e = e
+    by_first false rest = rest
+
+-- none is left out where there is no third character
+pub all_go_on : (thirds : Thirds) (numbers : List ℕ)
+    → numbers ≡ filter (may_go_on thirds None) numbers
+all_go_on thirds [] = refl
+all_go_on thirds (k ∷ numbers) = ap (λ rest. k ∷ rest) (all_go_on thirds numbers)
+
+-- where the haystack's start alone doesn't do, a match begins with the character
+pub begins_by_character : (starts : Starts) (b : Option ℕ) (c : ℕ) → starts.at_start ≡ false
+    → IsTrue (may_begin starts b (Some c)) → begins_with starts c ≡ true
+begins_by_character starts b c off may = by_parts (begins_with starts c) starts.at_start off may
+  where
+    by_parts : (x y : Bool) → y ≡ false → IsTrue (x || (y && is_none b)) → x ≡ true
+    by_parts true y e may = refl
+    by_parts false true e may = cc
+    by_parts false false e may = absurd cc
+
+-- that of the next tree too
+pub masks_more : (trees : List Tree) (masks : List ℕ) (tree : Tree) (mask : ℕ)
+    → slice_get trees (length masks) ≡ Some tree → IsThirdOfTree tree mask
+    → AreMasksOf trees masks → AreMasksOf trees (masks ++ mask ∷ [])
+masks_more trees masks tree mask next told so_far number own found there at =
+    elim (cases_lt number (length masks)) [
+      | inl less ↦ so_far number own found there (before less)
+      | inr le ↦ last (omega (arith, le, within, length-append masks (mask ∷ [])))
+    ]
+  where
+    within : number < length (masks ++ mask ∷ [])
+    within = slice_get_within (masks ++ mask ∷ []) number found at
+
+    here : get_or (masks ++ mask ∷ []) number found ≡ found
+    here = get_or_from_slice_get (masks ++ mask ∷ []) number found found at
+
+    before : number < length masks → slice_get masks number ≡ Some found
+    before less =
+        slice_get-get_or masks number found less
+        ∙ ap Some (sym (get_or-append masks (mask ∷ []) found number less) ∙ here)
+
+    last : number ≡ length masks → IsThirdOfTree own found
+    last is =
+        let mask_is : mask ≡ found = sym (get_or-append_seam masks mask [] found)
+        ∙ ap (λ n. get_or (masks ++ mask ∷ []) n found) (sym is) ∙ here in
+        let tree_is : tree ≡ own = same_some (sym next ∙ ap (slice_get trees) (sym is) ∙ there) in
+        subst (IsThirdOfTree own) mask_is (subst (λ t. IsThirdOfTree t mask) tree_is told)

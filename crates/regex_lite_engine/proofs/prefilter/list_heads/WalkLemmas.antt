@@ -1,0 +1,191 @@
+-- The words of the rows, and the numbers of the patterns that may start.
+use Rattle.std.proofs.Common.{◌≡◌, ◌==◌, ℕ, zero, suc, refl, ◌+◌, ◌*◌, ◌-◌, ◌%◌, ◌<◌, ◌≤◌, ◌&&◌}
+use Rattle.std.proofs.Common.{◌||◌, Bool, true, false, cond, List, [], ◌∷◌, ◌++◌, length, min, max}
+use Rattle.std.proofs.Common.{bit_and, bit_or, slice_index, Option, Some, None, ap, sym, ◌∙◌, arith}
+use Rattle.std.specs.Int.{bit_at}
+use Rattle.std.specs.List.{filter, range_with_len}
+use Rattle.std.specs.Prelude.{is_none, option_map, unwrap_or}
+use Rattle.std.proofs.lemmas.Bool.Decides.{nat_tests}
+use Rattle.std.proofs.lemmas.List.{append-nil, length-append}
+use Rattle.std.proofs.lemmas.Nat.Bits.{bit_at-lt, bit_at_and, bit_at_or}
+use Rattle.regex_lite_engine.specs.declared.prefilter.list_heads.ListHeads.{ListHeads}
+use Rattle.regex_lite_engine.specs.declared.prefilter.list_heads.rows.Rows.{Rows}
+use Rattle.regex_lite_engine.specs.Prefilter.ListHeads.{column, first_row, has, may_start}
+use Rattle.regex_lite_engine.specs.Prefilter.ListHeads.{second_row}
+use Rattle.regex_lite_engine.specs.Prefilter.ListHeads.{set_from, start_row, IsWalkable}
+use Rattle.regex_lite_engine.specs.Prefilter.ListHeads.{NeverBeginsWith}
+use Rattle.regex_lite_engine.proofs.prefilter.list_heads.NumberLemmas.{filter_none}
+use Rattle.regex_lite_engine.proofs.prefilter.list_heads.NumberLemmas.{filter_parts, set_passes}
+use Rattle.regex_lite_engine.proofs.prefilter.list_heads.RowBitLemmas.{word_of_bit}
+
+both_bits : (a b : ℕ) → a < 2 → b < 2 → (min a b == 1) ≡ ((a == 1) && (b == 1))
+both_bits zero zero a_in b_in = refl
+both_bits zero (suc zero) a_in b_in = refl
+both_bits zero (suc (suc b)) a_in b_in = absurd (omega (arith, b_in))
+both_bits (suc zero) zero a_in b_in = refl
+both_bits (suc zero) (suc zero) a_in b_in = refl
+both_bits (suc zero) (suc (suc b)) a_in b_in = absurd (omega (arith, b_in))
+both_bits (suc (suc a)) b a_in b_in = absurd (omega (arith, a_in))
+
+one_bit : (a b : ℕ) → a < 2 → b < 2 → (max a b == 1) ≡ ((a == 1) || (b == 1))
+one_bit zero zero a_in b_in = refl
+one_bit zero (suc zero) a_in b_in = refl
+one_bit zero (suc (suc b)) a_in b_in = absurd (omega (arith, b_in))
+one_bit (suc zero) zero a_in b_in = refl
+one_bit (suc zero) (suc zero) a_in b_in = refl
+one_bit (suc zero) (suc (suc b)) a_in b_in = absurd (omega (arith, b_in))
+one_bit (suc (suc a)) b a_in b_in = absurd (omega (arith, a_in))
+
+pub bit_of_both : (a b i : ℕ)
+    → (bit_at (bit_and a b) i == 1) ≡ ((bit_at a i == 1) && (bit_at b i == 1))
+bit_of_both a b i =
+    ap (λ z. z == 1) (bit_at_and a b i)
+    ∙ both_bits (bit_at a i) (bit_at b i) (bit_at-lt a i) (bit_at-lt b i)
+
+pub bit_of_either : (a b i : ℕ)
+    → (bit_at (bit_or a b) i == 1) ≡ ((bit_at a i == 1) || (bit_at b i == 1))
+bit_of_either a b i =
+    ap (λ z. z == 1) (bit_at_or a b i)
+    ∙ one_bit (bit_at a i) (bit_at b i) (bit_at-lt a i) (bit_at-lt b i)
+
+-- a bit of a word of the row
+pub bit_in_row : (rows : Rows) (row k n word : ℕ)
+    → word ≡ slice_index rows.words.items (row * rows.width + k) → 64 * k ≤ n → n < 64 * (k + 1)
+    → (bit_at word (n - 64 * k) == 1) ≡ has rows row n
+bit_in_row rows row k n word is low high =
+    let place = word_of_bit (row * rows.width) n k low high in
+    ap (λ w. bit_at w (n - 64 * k) == 1) is
+    ∙ sym (ap (λ i. bit_at (slice_index rows.words.items i)
+    ((64 * (row * rows.width) + n) % 64) == 1)
+    place.0
+    ∙ ap (λ i. bit_at (slice_index rows.words.items (row * rows.width + k)) i == 1) place.1)
+
+and_same : (a : Bool) → (a && a) ≡ a
+and_same true = refl
+and_same false = refl
+
+-- what the rows of both characters say
+pub by_rows : (heads : ListHeads) (b : Option ℕ) (c : ℕ) (second : Option ℕ) (row : ℕ)
+    → row ≡ unwrap_or (option_map second_row second) (first_row c) → (n : ℕ)
+    → ((has heads.rows (first_row c) n && has heads.rows row n)
+    || (is_none b && has heads.rows start_row n)) ≡ may_start heads b (Some c) second n
+by_rows heads b c None row is n =
+    ap (λ r. (has heads.rows (first_row c) n && has heads.rows r n)
+    || (is_none b && has heads.rows start_row n)) is
+    ∙ ap (λ z. z || (is_none b && has heads.rows start_row n))
+    (and_same (has heads.rows (first_row c) n))
+by_rows heads b c (Some d) row is n =
+    ap (λ r. (has heads.rows (first_row c) n && has heads.rows r n)
+    || (is_none b && has heads.rows start_row n)) is
+
+-- the bits of a word show which of its patterns may start
+pub word_tells : (heads : ListHeads) (b : Option ℕ) (c : ℕ) (second : Option ℕ)
+    (k word first row : ℕ)
+    → first ≡ first_row c → row ≡ unwrap_or (option_map second_row second) first
+    → ((n : ℕ) → 64 * k ≤ n → n < 64 * (k + 1) → (bit_at word (n - 64 * k) == 1)
+    ≡ ((has heads.rows first n && has heads.rows row n)
+    || (is_none b && has heads.rows start_row n)))
+    → set_from (64 * k) word
+    ≡ filter (may_start heads b (Some c) second) (range_with_len (64 * k) 64)
+word_tells heads b c second k word first row first_is row_is bits =
+    set_passes (may_start heads b (Some c) second) (64 * k) word
+    (λ n low high. bits n low (omega (arith, high))
+    ∙ ap (λ r. (has heads.rows r n && has heads.rows row n)
+    || (is_none b && has heads.rows start_row n)) first_is
+    ∙ by_rows heads b c second row
+    (row_is ∙ ap (unwrap_or (option_map second_row second)) first_is) n)
+
+and_off : (b x : Bool) → x ≡ false → (b && x) ≡ false
+and_off true x e = e
+and_off false x e = refl
+
+column_in : (c : ℕ) → column c < 129
+column_in c = grind (arith, nat_tests)
+
+-- no pattern is after the last
+pub none_starts_behind : (heads : ListHeads) → IsWalkable heads → (b : Option ℕ) (c : ℕ)
+    (second : Option ℕ) (n : ℕ) → heads.count ≤ n → n < 64 * heads.rows.width
+    → may_start heads b (Some c) second n ≡ false
+none_starts_behind heads w b c second n low high = by_second second
+  where
+    first_off : has heads.rows (first_row c) n ≡ false
+    first_off =
+        let inside = column_in c in
+        w.none_behind (first_row c) n (omega (arith, inside)) low high
+
+    start_off : (is_none b && has heads.rows start_row n) ≡ false
+    start_off = and_off (is_none b) (has heads.rows start_row n)
+        (w.none_behind start_row n (omega arith) low high)
+
+    by_second : (second : Option ℕ) → may_start heads b (Some c) second n ≡ false
+    by_second None =
+        ap (λ z. z || (is_none b && has heads.rows start_row n)) first_off ∙ start_off
+    by_second (Some d) =
+        ap (λ z. (z && has heads.rows (second_row d) n)
+        || (is_none b && has heads.rows start_row n))
+        first_off
+        ∙ start_off
+
+-- none is listed after the haystack's start where no match begins with both characters
+pub none_listed : (heads : ListHeads) → IsWalkable heads → (b : Option ℕ) (c : ℕ)
+    (second : Option ℕ) → is_none b ≡ false → NeverBeginsWith heads c second
+    → filter (may_start heads b (Some c) second) (range_with_len 0 heads.count) ≡ []
+none_listed heads w b c None later never = absurd never
+none_listed heads w b c (Some d) later (c_in, d_in, off) =
+    filter_none (may_start heads b (Some c) (Some d)) 0 heads.count
+    (λ n low high. ap (λ z. z || (is_none b && has heads.rows start_row n))
+    (w.not_in_rows c d n c_in d_in (omega (arith, high)) off)
+    ∙ ap (λ z. z && has heads.rows start_row n) later)
+
+pub filter_at_most : (p : ℕ → Bool) (a n : ℕ) → length (filter p (range_with_len a n)) ≤ n
+filter_at_most p a zero = omega arith
+filter_at_most p a (suc n) = one_more (p a) (filter p (range_with_len (a + 1) n))
+    (filter_at_most p (a + 1) n)
+  where
+    one_more : (b : Bool) (rest : List ℕ) → length rest ≤ n
+        → length (cond b (a ∷ rest) rest) ≤ suc n
+    one_more true rest le = omega (arith, le)
+    one_more false rest le = omega (arith, le)
+
+module _ (p : ℕ → Bool) (count width : ℕ) (enough : count ≤ 64 * width)
+    (none : (n : ℕ) → count ≤ n → n < 64 * width → p n ≡ false) where
+  -- after the last there is nothing to list
+  pub all_words : filter p (range_with_len 0 (64 * width)) ≡ filter p (range_with_len 0 count)
+  all_words =
+      let total : 64 * width ≡ count + (64 * width - count) = omega (arith, enough) in
+      let from : 0 + count ≡ count = omega arith in
+      ap (λ n. filter p (range_with_len 0 n)) total
+      ∙ filter_parts p 0 count (64 * width - count)
+      ∙ ap (λ rest. filter p (range_with_len 0 count) ++ rest)
+      (ap (λ a. filter p (range_with_len a (64 * width - count))) from
+      ∙ filter_none p count (64 * width - count)
+      (λ n low high. none n low (omega (arith, high, enough))))
+      ∙ append-nil (filter p (range_with_len 0 count))
+
+  module _ (k : ℕ) (inside : k < width) where
+    -- a word more
+    pub word_more : filter p (range_with_len 0 (64 * (k + 1)))
+        ≡ filter p (range_with_len 0 (64 * k)) ++ filter p (range_with_len (64 * k) 64)
+    word_more =
+        let total : 64 * (k + 1) ≡ 64 * k + 64 = omega arith in
+        let from : 0 + 64 * k ≡ 64 * k = omega arith in
+        ap (λ n. filter p (range_with_len 0 n)) total
+        ∙ filter_parts p 0 (64 * k) 64
+        ∙ ap (λ a. filter p (range_with_len 0 (64 * k)) ++ filter p (range_with_len a 64)) from
+
+    pub fits_word : length (filter p (range_with_len 0 (64 * k)))
+        + length (filter p (range_with_len (64 * k) 64)) ≤ count
+    fits_word =
+        let total : 64 * width ≡ 64 * (k + 1) + 64 * (width - (k + 1)) = omega (arith, inside) in
+        let before : ℕ = 64 * (k + 1) in
+        let later : ℕ = 64 * (width - (k + 1)) in
+        let all = ap (λ n. filter p (range_with_len 0 n)) total ∙ filter_parts p 0 before later in
+        let lengths = length-append (filter p (range_with_len 0 before))
+        (filter p (range_with_len (0 + before) later)) in
+        let parts = ap length word_more in
+        let two = length-append (filter p (range_with_len 0 (64 * k)))
+        (filter p (range_with_len (64 * k) 64)) in
+        let most = filter_at_most p 0 count in
+        let same = ap length all_words in
+        let whole = ap length all in
+        omega (arith, lengths, parts, two, most, same, whole)

@@ -1,0 +1,15 @@
+use Rattle.std.proofs.Common.{◌≡◌, ◌<◌, ◌-◌, ◌&&◌, ℕ, nat_lt}
+use Rattle.regex_lite_engine.specs.Prefilter.ListHeads.{in_set}
+use Rattle.regex_lite_engine.specs.Prefilter.Starts.{begins_with}
+use Rattle.regex_lite_engine.proofs.prefilter.list_heads.ascii_set.AsciiSet.of.Given as goal
+
+-- those below this one are in it
+abbrev pub invariant-codes : goal.invariant-codes
+invariant-codes l = record {
+  told : (code : ℕ) → code < 128
+      → in_set l.set code ≡ (nat_lt code l.code && begins_with l.starts code);
+  same : l.starts ≡ l.fn.starts;
+}
+
+abbrev pub decreases-codes : goal.decreases-codes
+decreases-codes l = 128 - l.code

@@ -1,0 +1,2 @@
+-- lemmas that several proofs here share
+pub mod StartLemmas

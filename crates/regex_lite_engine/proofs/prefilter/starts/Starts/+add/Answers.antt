@@ -1,0 +1,124 @@
+use Rattle.std.proofs.Common.{◌≡◌, ◌⊎◌, inl, inr, IsTrue, sym, ap}
+use Rattle.std.proofs.Common.{◌∙◌, subst, refl, nat_eq, drop, ◌+◌}
+use Rattle.regex_lite_syntax.specs.Tree.{Tree, Trees, repetition, concat, alternation}
+use Rattle.regex_lite_syntax.specs.Tree.Matches.{Chain, SomeBranch}
+use Rattle.regex_lite_syntax.specs.Tree.Views.{tree_of}
+use Rattle.regex_lite_syntax.proofs.TreeLemmas.{tree_of-Repetition, tree_of-Concat}
+use Rattle.regex_lite_syntax.proofs.TreeLemmas.{tree_of-Alternation, trees_of, trees_more}
+use Rattle.regex_lite_engine.specs.Prefilter.Starts.{MayBegin, BeginsOrPasses}
+use Rattle.regex_lite_engine.proofs.prefilter.starts.StartLemmas.{grown_on, repetition_begins}
+use Rattle.regex_lite_engine.proofs.prefilter.starts.StartLemmas.{part_more, branch_more}
+use Rattle.regex_lite_engine.proofs.prefilter.starts.Starts.+add.Goals as goal
+use Rattle.regex_lite_engine.proofs.prefilter.starts.Starts.+add.Goals.{
+  add_branches-then-add,
+  add_branches-else-add,
+}
+
+pub add-returns-in-Concat-clause-begins : goal.add-returns-in-Concat-clause-begins
+add-returns-in-Concat-clause-begins t c =
+    let r = c.in-Concat in
+    let same = ap tree_of r.is ∙ tree_of-Concat r.parts
+    ∙ ap (λ hirs. concat (trees_of hirs)) (sym c.deref-in-Concat.ensures.value) in
+    subst (λ (tree : Tree). BeginsOrPasses tree c.add_parts.new.self c.add_parts.result)
+    (sym same) c.add_parts.ensures.begins
+
+pub add-returns-in-Alternation-clause-begins : goal.add-returns-in-Alternation-clause-begins
+add-returns-in-Alternation-clause-begins t c =
+    let r = c.in-Alternation in
+    let same = ap tree_of r.is ∙ tree_of-Alternation r.branches
+    ∙ ap (λ hirs. alternation (trees_of hirs)) (sym c.deref-in-Alternation.ensures.value) in
+    subst (λ (tree : Tree). BeginsOrPasses tree c.add_branches.new.self c.add_branches.result)
+    (sym same) c.add_branches.ensures.begins
+
+pub add-returns-then-add-clause-begins : goal.add-returns-then-add-clause-begins
+add-returns-then-add-clause-begins t c =
+    let r = c.in-Repetition in
+    let body = tree_of c.deref-in-Repetition.result.now in
+    let same : tree_of c.args.hir.now ≡ repetition r.least r.most r.greedy body =
+    ap tree_of r.is ∙ tree_of-Repetition r.least r.most r.greedy r.body
+    ∙ ap (λ hir. repetition r.least r.most r.greedy (tree_of hir))
+    (sym c.deref-in-Repetition.ensures) in
+    subst (λ (tree : Tree). BeginsOrPasses tree c.add.new.self c.add.result) (sym same)
+    (repetition_begins r.least r.most r.greedy body c.add.new.self c.add.result c.add.result
+    (λ e. subst IsTrue (sym e) refl) (λ e. subst IsTrue (sym c.if-add.true) refl)
+    c.add.ensures.begins)
+
+pub add-returns-else-add-clause-begins : goal.add-returns-else-add-clause-begins
+add-returns-else-add-clause-begins t c =
+    let r = c.in-Repetition in
+    let body = tree_of c.deref-in-Repetition.result.now in
+    let same : tree_of c.args.hir.now ≡ repetition r.least r.most r.greedy body =
+    ap tree_of r.is ∙ tree_of-Repetition r.least r.most r.greedy r.body
+    ∙ ap (λ hir. repetition r.least r.most r.greedy (tree_of hir))
+    (sym c.deref-in-Repetition.ensures) in
+    let not_body = c.if-add.false in
+    subst (λ (tree : Tree). BeginsOrPasses tree c.add.new.self (nat_eq r.least 0)) (sym same)
+    (repetition_begins r.least r.most r.greedy body c.add.new.self c.add.result (nat_eq r.least 0)
+    (λ e. absurd (let both = sym e ∙ not_body in cc))
+    (λ e. subst (λ z. IsTrue (nat_eq z 0)) (sym e) refl)
+    c.add.ensures.begins)
+
+pub add_parts-loop-part-preserved : goal.add_parts-loop-part-preserved
+add_parts-loop-part-preserved t c =
+    let v = c.loop-part.invariant in
+    let hirs = c.args.parts.now in
+    let k = c.loop-part.part-index in
+    let part = c.part-item.result in
+    let one = trees_more hirs k part c.loop-part-test.true c.part-item.is in
+    record {
+      grown = grown_on c.args.self.now c.loop-part.self c.add.new.self v.grown c.add.ensures.grown;
+      left = λ h i j m.
+          elim (part_more (tree_of part) (trees_of (drop (k + 1) hirs)) c.loop-part.self
+          c.add.new.self c.add.result c.add.ensures.grown c.add.ensures.begins h i j
+          (subst (λ (z : Trees). MayBegin c.loop-part.self h i ⊎ Chain h z i j) one
+          (v.left h i j m))) [
+            | inl begins ↦ inl begins
+            | inr (p, on) ↦ inr on
+          ];
+    }
+
+pub add_parts-returns-then-not-add-clause-begins :
+    goal.add_parts-returns-then-not-add-clause-begins
+add_parts-returns-then-not-add-clause-begins t c =
+    let v = c.loop-part.invariant in
+    let hirs = c.args.parts.now in
+    let k = c.loop-part.part-index in
+    let part = c.part-item.result in
+    let one = trees_more hirs k part c.loop-part-test.true c.part-item.is in
+    λ h i j m. elim (part_more (tree_of part) (trees_of (drop (k + 1) hirs)) c.loop-part.self
+    c.add.new.self c.add.result c.add.ensures.grown c.add.ensures.begins h i j
+    (subst (λ (z : Trees). MayBegin c.loop-part.self h i ⊎ Chain h z i j) one (v.left h i j m))) [
+      | inl begins ↦ inl begins
+      | inr (p, on) ↦ absurd (let never = c.if-not-add.true in cc)
+    ]
+
+pub add_branches-loop-branch-preserved : goal.add_branches-loop-branch-preserved
+add_branches-loop-branch-preserved t c =
+    let v = c.loop-branch.invariant in
+    let hirs = c.args.branches.now in
+    let k = c.loop-branch.branch-index in
+    let branch = c.branch-item.result in
+    let one = trees_more hirs k branch c.loop-branch-test.true c.branch-item.is in
+    let before = c.loop-branch.passable in
+    let after = c.if-add.passable in
+    let changes : (IsTrue before → IsTrue after) × (IsTrue c.add.result → IsTrue after) =
+    elim c.if-add.branch [
+      | add_branches-then-add w ↦ (
+        λ p. subst IsTrue (sym w.passable-is) refl,
+        λ p. subst IsTrue (sym w.passable-is) refl,
+      )
+      | add_branches-else-add w ↦ (
+        λ p. subst IsTrue (sym w.passable-is) p,
+        λ p. absurd (let never = w.if-add.false in cc),
+      )
+    ] in
+    record {
+      grown =
+          grown_on c.args.self.now c.loop-branch.self c.add.new.self v.grown c.add.ensures.grown;
+      left = λ h i j m.
+          branch_more (tree_of branch) (trees_of (drop (k + 1) hirs)) c.loop-branch.self
+          c.add.new.self c.add.result c.add.ensures.grown c.add.ensures.begins h i j before after
+          changes.0 changes.1
+          (subst (λ (z : Trees). MayBegin c.loop-branch.self h i
+          ⊎ ((IsTrue before × (i ≡ j)) ⊎ SomeBranch h z i j)) one (v.left h i j m));
+    }

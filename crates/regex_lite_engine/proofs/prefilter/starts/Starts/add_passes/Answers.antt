@@ -1,0 +1,13 @@
+use Rattle.std.proofs.Common.{subst}
+use Rattle.regex_lite_syntax.specs.Tree.Views.{tree_of}
+use Rattle.regex_lite_engine.specs.Prefilter.Heads.{ReadsEach}
+use Rattle.regex_lite_engine.proofs.prefilter.heads.HeadLemmas.{passes_read}
+use Rattle.regex_lite_engine.proofs.prefilter.starts.Starts.add_passes.Goals as goal
+
+pub returns-after-body-clause-reads : goal.returns-after-body-clause-reads
+returns-after-body-clause-reads c =
+    let old = c.args.self.now in
+    let body = tree_of c.args.body.now in
+    λ least most greedy some each.
+    passes_read least most greedy body old c.add.new.self c.add.result some c.add.ensures.grown
+    (subst (ReadsEach body old) c.in-One.is each) c.add.ensures.begins

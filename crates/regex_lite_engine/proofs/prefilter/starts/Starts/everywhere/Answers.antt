@@ -1,0 +1,10 @@
+use Rattle.std.proofs.Common.{true, refl}
+use Rattle.std.specs.Prelude.{replicate}
+use Rattle.regex_lite_engine.proofs.prefilter.starts.StartLemmas.{everywhere_begins}
+use Rattle.regex_lite_engine.proofs.prefilter.starts.Starts.everywhere.Goals as goal
+
+pub returns : goal.returns
+returns c =
+    everywhere_begins
+    (record { any = true; ascii = replicate 128 true; others = true; at_start = true })
+    refl refl refl

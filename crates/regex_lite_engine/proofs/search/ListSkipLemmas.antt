@@ -1,0 +1,109 @@
+-- Positions at which no match of several patterns can begin, and the bytes of their characters.
+use Rattle.std.proofs.Common.{◌≡◌, ℕ, zero, suc, ◌+◌, ◌<◌, ◌≤◌, ◌⊎◌, inl, inr}
+use Rattle.std.proofs.Common.{◌&&◌, ◌||◌, false, List, length, slice_get}
+use Rattle.std.proofs.Common.{slice_index, Some, sym, ap, subst, ◌∙◌, arith}
+use Rattle.std.specs.Prelude.{IsUtf8, chars}
+use Rattle.std.proofs.lemmas.Bool.{cases_lt}
+use Rattle.std.proofs.lemmas.Option.{slice_get_within}
+use Rattle.regex_lite_engine.specs.declared.prefilter.list_heads.ListHeads.{ListHeads}
+use Rattle.regex_lite_engine.specs.declared.search.here.Here.{Here}
+use Rattle.regex_lite_engine.specs.Graph.Places.{Place}
+use Rattle.regex_lite_engine.specs.Prefilter.ListHeads.{has, may_start, start_row, IsPassedByAll}
+use Rattle.regex_lite_engine.specs.Prefilter.Starts.{MayBegin}
+use Rattle.regex_lite_engine.specs.Search.Offsets.{offset}
+use Rattle.regex_lite_engine.specs.Search.Standing.{IsHere}
+use Rattle.regex_lite_engine.specs.Search.Starts.{AreListHeadsOf, PassesTo}
+use Rattle.regex_lite_engine.specs.Pikevm.Turns.{AreDeadAt}
+use Rattle.regex_lite_engine.proofs.search.SkipLemmas.{ascii_there, begins_later}
+use Rattle.regex_lite_engine.proofs.search.SkipLemmas.{first_byte, inside, next_at, there}
+use Rattle.regex_lite_engine.proofs.search.here.OffsetLemmas.{offset_less}
+
+module _ (table : List (Place ℕ)) (entries : List ℕ) (heads : ListHeads)
+    (w : AreListHeadsOf table entries heads) (bs : List ℕ) (u : IsUtf8 bs) where
+  -- none begins after the haystack's start where the bytes say so
+  dead_later : (i : ℕ) → suc i < length (chars bs) → offset (chars bs) (suc i) < length bs
+      → IsPassedByAll heads bs (offset (chars bs) (suc i))
+      → AreDeadAt table (chars bs) entries (suc i)
+  dead_later i within short (inl off) number entry is =
+      let next = there (chars bs) (suc i) within in
+      w.any (chars bs) (suc i) (begins_later heads.any (chars bs) i
+      (there (chars bs) i (omega (arith, within)))
+      (next.0, next.1, first_byte heads.any bs (suc i) next.0 u next.1 within short ∙ off))
+      number entry is
+  dead_later i within short (inr (more, (first_in, second_in, off))) number entry is =
+      w.each (chars bs) (suc i) number entry is
+      (ap (λ o. may_start heads o (slice_get (chars bs) (suc i))
+      (slice_get (chars bs) (suc (suc i))) number) before_is
+      ∙ ap (λ o. may_start heads (Some before) o (slice_get (chars bs) (suc (suc i))) number)
+      first_is
+      ∙ ap (λ o. may_start heads (Some before) (Some first) o number) second_is
+      ∙ ap (λ z. z || (false && has heads.rows start_row number))
+      (w.walkable.not_in_rows first second number first_in second_in
+      (omega (arith, slice_get_within entries number entry is, w.count)) off))
+    where
+      at : ℕ
+      at = offset (chars bs) (suc i)
+
+      first : ℕ
+      first = slice_index bs at
+
+      second : ℕ
+      second = slice_index bs (at + 1)
+
+      before : ℕ
+      before = (there (chars bs) i (omega (arith, within))).0
+
+      before_is : slice_get (chars bs) i ≡ Some before
+      before_is = (there (chars bs) i (omega (arith, within))).1
+
+      first_is : slice_get (chars bs) (suc i) ≡ Some first
+      first_is = ascii_there bs (suc i) u within short first_in
+
+      second_is : slice_get (chars bs) (suc (suc i)) ≡ Some second
+      second_is =
+          let later = next_at bs (suc i) u within more first_in in
+          ascii_there bs (suc (suc i)) u (inside bs (suc i) u within more first_in)
+          (omega (arith, later, more))
+          (subst (λ k. slice_index bs k < 128) (sym later) second_in)
+          ∙ ap (λ k. Some (slice_index bs k)) later
+
+  module _ (p q : ℕ) (x y : Here) (is : IsHere (chars bs) p x) (js : IsHere (chars bs) q y)
+      (le : x.at ≤ y.at) (most : y.at ≤ length bs)
+      (pass : (k : ℕ) → x.at ≤ k → k < y.at → IsPassedByAll heads bs k)
+      (start : p ≡ 0 → MayBegin heads.any (chars bs) 0 → ⊥) where
+    a : x.at ≡ offset (chars bs) p
+    a = is.bytes
+
+    b : y.at ≡ offset (chars bs) q
+    b = js.bytes
+
+    within : q ≤ length (chars bs)
+    within = js.inside
+
+    later : p ≤ q
+    later = go (cases_lt q p)
+      where
+        go : (q < p) ⊎ (p ≤ q) → p ≤ q
+        go (inr le') = le'
+        go (inl lt) =
+            let less = offset_less (chars bs) q p lt is.inside in
+            absurd (omega (arith, less, a, b, le))
+
+    dead : (i : ℕ) → p ≤ i → i < q → AreDeadAt table (chars bs) entries i
+    dead zero low high = w.any (chars bs) 0 (start (omega (arith, low)))
+    dead (suc i) low high =
+        let less = offset_less (chars bs) (suc i) q high within in
+        dead_later i (omega (arith, high, within)) (omega (arith, less, b, most))
+        (pass (offset (chars bs) (suc i)) (from (cases_lt p (suc i))) (omega (arith, less, b)))
+      where
+        from : (p < suc i) ⊎ (suc i ≤ p) → x.at ≤ offset (chars bs) (suc i)
+        from (inl lt) =
+            let more = offset_less (chars bs) p (suc i) lt (omega (arith, high, within)) in
+            omega (arith, a, more)
+        from (inr ge) =
+            let same : p ≡ suc i = omega (arith, ge, low) in
+            let equal = a ∙ ap (offset (chars bs)) same in
+            omega (arith, equal)
+
+    pub passes_to : PassesTo (AreDeadAt table (chars bs) entries) (chars bs) p y
+    passes_to = record { q = q; later = later; is = js; passed = dead }

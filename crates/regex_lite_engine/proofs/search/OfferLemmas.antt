@@ -1,0 +1,158 @@
+-- The order of ways, and the ways that are still to be followed.
+use Rattle.std.proofs.Common.{◌≡◌, ℕ, zero, suc, ◌+◌, ◌<◌, ◌≤◌, ◌⊎◌, inl, inr, ⊎_elim, List, []}
+use Rattle.std.proofs.Common.{◌∷◌, ◌++◌, Option, Some, None, refl, sym, ap, subst, ◌∙◌, arith}
+use Rattle.std.proofs.lemmas.Bool.{cases_lt, cases_order}
+use Rattle.regex_lite_engine.specs.Search.Preference.{IsPreferred}
+use Rattle.regex_lite_engine.specs.Search.Explored.{Before}
+use Rattle.regex_lite_engine.specs.Pikevm.InStep as walk
+use Rattle.regex_lite_engine.specs.Pikevm.InStep.{StartsBelow}
+use Rattle.regex_lite_engine.proofs.search.OptionLemmas.{not_there}
+
+pub preferred_before : (a b : List ℕ) → IsPreferred a b → Before a b
+preferred_before [] b p = absurd p
+preferred_before (x ∷ a) [] p = absurd p
+preferred_before (x ∷ a) (y ∷ b) (inl p) = inl p
+preferred_before (x ∷ a) (y ∷ b) (inr (e, p)) = inr (e, preferred_before a b p)
+
+-- what continues the preferred one is preferred
+pub preferred_append : (a b c : List ℕ) → IsPreferred a b → IsPreferred (a ++ c) b
+preferred_append [] b c p = absurd p
+preferred_append (x ∷ a) [] c p = absurd p
+preferred_append (x ∷ a) (y ∷ b) c (inl p) = inl p
+preferred_append (x ∷ a) (y ∷ b) c (inr (e, p)) = inr (e, preferred_append a b c p)
+
+-- and it is preferred to what continues the other
+pub preferred_longer : (a b c : List ℕ) → IsPreferred a b → IsPreferred a (b ++ c)
+preferred_longer [] b c p = absurd p
+preferred_longer (x ∷ a) [] c p = absurd p
+preferred_longer (x ∷ a) (y ∷ b) c (inl p) = inl p
+preferred_longer (x ∷ a) (y ∷ b) c (inr (e, p)) = inr (e, preferred_longer a b c p)
+
+pub preferred_snoc : (w : List ℕ) (j k : ℕ) → j < k → IsPreferred (w ++ j ∷ []) (w ++ k ∷ [])
+preferred_snoc [] j k p = inl p
+preferred_snoc (x ∷ w) j k p = inr (refl, preferred_snoc w j k p)
+
+pub below_front : (from i : ℕ) (rest v : List ℕ) → StartsBelow from v → from ≤ i
+    → IsPreferred v (i ∷ rest)
+below_front from i rest [] h q = absurd h
+below_front from i rest (j ∷ v) h q = inl (omega (arith, h, q))
+
+pub below_append : (from : ℕ) (v x : List ℕ) → StartsBelow from v → StartsBelow from (v ++ x)
+below_append from [] x h = absurd h
+below_append from (i ∷ v) x h = h
+
+pub below_up : (from from' : ℕ) (v : List ℕ) → from ≤ from' → StartsBelow from v
+    → StartsBelow from' v
+below_up from from' [] le h = absurd h
+below_up from from' (i ∷ v) le h = omega (arith, h, le)
+
+module _ (N : Type 0) (step : N → ℕ → Option N) where
+  abbrev pub Offer : Type 0
+  Offer = walk.Offer N
+
+  abbrev pub In : N → List ℕ → List Offer → Type 0
+  In n w os = walk.In N n w os
+
+  abbrev pub Ordered : List Offer → Type 0
+  Ordered os = walk.Ordered N os
+
+  pub in_left : (n : N) (w : List ℕ) (os ps : List Offer) → In n w os → In n w (os ++ ps)
+  in_left n w [] ps i = absurd i
+  in_left n w (o ∷ os) ps (inl e) = inl e
+  in_left n w (o ∷ os) ps (inr i) = inr (in_left n w os ps i)
+
+  pub in_right : (n : N) (w : List ℕ) (os ps : List Offer) → In n w ps → In n w (os ++ ps)
+  in_right n w [] ps i = i
+  in_right n w (o ∷ os) ps i = inr (in_right n w os ps i)
+
+  pub in_either : (n : N) (w : List ℕ) (os ps : List Offer) → In n w (os ++ ps)
+      → In n w os ⊎ In n w ps
+  in_either n w [] ps i = inr i
+  in_either n w (o ∷ os) ps (inl e) = inl (inl e)
+  in_either n w (o ∷ os) ps (inr i) = ⊎_elim (λ a. inl (inr a)) (λ a. inr a) (in_either n w os ps i)
+
+  abbrev pub one_offer : Option N → List ℕ → List Offer
+  one_offer None w = []
+  one_offer (Some m) w = (m, w) ∷ []
+
+  -- the arrows of n from the k-th on, after the way w
+  abbrev pub offers : N → List ℕ → ℕ → ℕ → List Offer
+  offers n w zero k = []
+  offers n w (suc c) k = one_offer (step n k) (w ++ k ∷ []) ++ offers n w c (suc k)
+
+  -- an offer among them is one of its arrows
+  pub offered : (n : N) (w : List ℕ) (c k : ℕ) (m : N) (v : List ℕ) → In m v (offers n w c k) →
+      (j : ℕ) × (k ≤ j) × (step n j ≡ Some m) × (v ≡ w ++ j ∷ [])
+  offered n w zero k m v i = absurd i
+  offered n w (suc c) k m v i =
+      by_first (step n k) refl
+      (in_either m v (one_offer (step n k) (w ++ k ∷ [])) (offers n w c (suc k)) i)
+      (λ i'. offered n w c (suc k) m v i')
+    where
+      Goal : Type 0
+      Goal = (j : ℕ) × (k ≤ j) × (step n j ≡ Some m) × (v ≡ w ++ j ∷ [])
+
+      by_first : (o : Option N) → step n k ≡ o
+          → In m v (one_offer (step n k) (w ++ k ∷ [])) ⊎ In m v (offers n w c (suc k)) →
+          (In m v (offers n w c (suc k))
+          → (j : ℕ) × (suc k ≤ j) × (step n j ≡ Some m) × (v ≡ w ++ j ∷ [])) → Goal
+      by_first o e (inr i') f = let r = f i' in (r.0, omega (arith, r.1), r.2, r.3)
+      by_first None e (inl i') f = absurd (subst (λ z. In m v (one_offer z (w ++ k ∷ []))) e i')
+      by_first (Some q) e (inl i') f = here (subst (λ z. In m v (one_offer z (w ++ k ∷ []))) e i')
+        where
+          here : In m v ((q, w ++ k ∷ []) ∷ []) → Goal
+          here (inl g) = (k, omega arith, e ∙ ap Some (sym g.0), g.1)
+          here (inr g) = absurd g
+
+  -- and each of its arrows is among them
+  pub offers_arrow : (n : N) (w : List ℕ) (c k j : ℕ) (m : N) → k ≤ j → j < k + c
+      → step n j ≡ Some m → In m (w ++ j ∷ []) (offers n w c k)
+  offers_arrow n w zero k j m p q e = absurd (omega (arith, p, q))
+  offers_arrow n w (suc c) k j m p q e =
+      by_place (cases_order k j) (λ lt. offers_arrow n w c (suc k) j m lt (omega (arith, q)) e)
+    where
+      here : k ≡ j → In m (w ++ j ∷ []) (one_offer (step n k) (w ++ k ∷ []))
+      here f =
+          subst (λ z. In m (w ++ j ∷ []) (one_offer z (w ++ k ∷ []))) (sym (ap (step n) f ∙ e))
+          (inl (refl, ap (λ z. w ++ z ∷ []) (sym f)))
+
+      by_place : (k ≡ j) ⊎ ((k < j) ⊎ (j < k))
+          → (suc k ≤ j → In m (w ++ j ∷ []) (offers n w c (suc k)))
+          → In m (w ++ j ∷ []) (offers n w (suc c) k)
+      by_place (inl f) g =
+          in_left m (w ++ j ∷ []) (one_offer (step n k) (w ++ k ∷ []))
+          (offers n w c (suc k)) (here f)
+      by_place (inr (inl lt)) g =
+          in_right m (w ++ j ∷ []) (one_offer (step n k) (w ++ k ∷ []))
+          (offers n w c (suc k)) (g lt)
+      by_place (inr (inr lt)) g = absurd (omega (arith, lt, p))
+
+  -- where there are no more than c, those are all
+  pub arrow_offered : (n : N) (w : List ℕ) (c : ℕ) → ((k : ℕ) → c ≤ k → step n k ≡ None)
+      → (k : ℕ) (m : N) → step n k ≡ Some m → In m (w ++ k ∷ []) (offers n w c 0)
+  arrow_offered n w c no_more k m e = by_size (cases_lt k c)
+    where
+      by_size : (k < c) ⊎ (c ≤ k) → In m (w ++ k ∷ []) (offers n w c 0)
+      by_size (inl lt) = offers_arrow n w c 0 k m (omega arith) (omega (arith, lt)) e
+      by_size (inr le) = absurd (not_there (sym (no_more k le) ∙ e))
+
+  pub offers_ordered : (n : N) (w : List ℕ) (c k : ℕ) (rest : List Offer) → Ordered rest
+      → ((m : N) (v : List ℕ) → In m v rest → IsPreferred w v) →
+      Ordered (offers n w c k ++ rest)
+  offers_ordered n w zero k rest o f = o
+  offers_ordered n w (suc c) k rest o f =
+      by_first (step n k) (offers_ordered n w c (suc k) rest o f)
+    where
+      later : (m : N) (v : List ℕ) → In m v (offers n w c (suc k) ++ rest)
+          → IsPreferred (w ++ k ∷ []) v
+      later m v i =
+          ⊎_elim (λ a.
+          (let r = offered n w c (suc k) m v a in subst (λ z. IsPreferred (w ++ k ∷ []) z) (sym r.3)
+          (preferred_snoc w k r.0 (omega (arith, r.1)))))
+          (λ b. preferred_append w v (k ∷ []) (f m v b))
+          (in_either m v (offers n w c (suc k)) rest i)
+
+      by_first : (x : Option N) → Ordered (offers n w c (suc k) ++ rest)
+          → Ordered ((one_offer x (w ++ k ∷ []) ++ offers n w c (suc k)) ++ rest)
+      by_first None h = h
+      by_first (Some q) h = (later, h)

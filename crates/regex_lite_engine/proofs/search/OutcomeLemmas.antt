@@ -1,0 +1,123 @@
+-- What a search returns: where it starts, that its counts fit, and the tree's answer by offsets.
+use Rattle.std.proofs.Common.{◌≡◌, ℕ, ◌+◌, ◌*◌, ◌^◌, ◌<◌, ◌≤◌, List, [], length}
+use Rattle.std.proofs.Common.{Option, Some, None, sym, subst, ◌∙◌, arith}
+use Rattle.std.specs.Prelude.{IsUtf8, chars, option_map}
+use Rattle.std.proofs.lemmas.List.{length-map}
+use Rattle.std.proofs.lemmas.Str.{encodes-chars, length-le-encodes}
+use Rattle.std.proofs.Math.Nat.{mul-le-mul_left, mul-le-mul_right}
+use Rattle.regex_lite_syntax.specs.Tree.{Tree}
+use Rattle.regex_lite_syntax.specs.Tree.Regular.{IsRegular}
+use Rattle.regex_lite_engine.specs.declared.search.outcome.Outcome.{Outcome}
+use Rattle.regex_lite_engine.specs.Graph.PlaceCounts.{whole_places, whole_arrows}
+use Rattle.regex_lite_engine.specs.Graph.Places.{Place}
+use Rattle.regex_lite_engine.specs.Graph.Renumbered.{IsGraphOf, arrows_of}
+use Rattle.regex_lite_engine.specs.Graph.Stored.{StoredGraph, place_of, table_of}
+use Rattle.regex_lite_engine.specs.Search.Bounds.{IsBounded, characters_left}
+use Rattle.regex_lite_engine.specs.Search.Answer.{IsAnswer, IsShortest}
+use Rattle.regex_lite_engine.specs.Search.Offsets.{position_at, search_start}
+use Rattle.regex_lite_engine.specs.Search.Outcomes.{IsSpanOutcome, IsOutcome, IsEndOutcome}
+use Rattle.regex_lite_engine.specs.Pikevm.Outcomes.{IsNumberedOutcome, IsNumberedEnd}
+use Rattle.regex_lite_engine.specs.Pikevm.Outcomes.{IsCountable, CanCount, match_told}
+use Rattle.regex_lite_engine.specs.Pikevm.Turns.{best_at}
+use Rattle.regex_lite_engine.specs.Pikevm.Walking.{Best}
+use Rattle.regex_lite_engine.proofs.laws.search.NumberedAnswerLemmas.{
+  answer_of_numbers,
+  shortest_of_numbers,
+}
+
+-- there are no more characters than bytes
+pub few_chars : (bytes : List ℕ) → IsUtf8 bytes → length (chars bytes) ≤ length bytes
+few_chars bytes utf8 =
+    subst (λ z. length (chars bytes) ≤ length z) (encodes-chars bytes utf8)
+    (length-le-encodes (chars bytes))
+
+few_products : (a b : ℕ) → a ≤ 2 ^ 35 → b ≤ 2 ^ 64 → a * b < 2 ^ 127
+few_products a b few_a few_b =
+    let left : a * b ≤ a * 2 ^ 64 = mul-le-mul_left a few_b in
+    let right : a * 2 ^ 64 ≤ 2 ^ 35 * 2 ^ 64 = mul-le-mul_right (2 ^ 64) few_a in
+    omega (arith, left, right)
+
+pub can_count : (table : List (Place ℕ)) (bytes : List ℕ) (s : ℕ) → IsUtf8 bytes
+    → length bytes < 2 ^ 63 → IsCountable table → (patterns : ℕ) → patterns < 2 ^ 32
+    → CanCount table patterns (characters_left (chars bytes) s)
+can_count table bytes s utf8 short countable patterns few_patterns =
+    let few = few_chars bytes utf8 in
+    let places = countable.few_places in
+    let arrows = countable.few_arrows in
+    record {
+      tries = few_products (arrows_of table + patterns) (characters_left (chars bytes) s + 1)
+          (omega (arith, arrows, few_patterns)) (omega (arith, few, short));
+      entries = few_products (length table) (characters_left (chars bytes) s + 1)
+          (omega (arith, places)) (omega (arith, few, short));
+      rounds = omega (arith, few, short);
+    }
+
+-- a start inside the haystack is that of a position
+start_inside : (bytes : List ℕ) (start : ℕ) → start ≤ length bytes
+    → search_start bytes start ≡ position_at bytes start
+start_inside bytes start inside = omega (arith, inside)
+
+-- what is allowed of the graph is allowed of the tree
+pub cost_told : (tree : Tree) (graph : StoredGraph) → IsGraphOf tree graph
+    → (haystack : List ℕ) (start : ℕ) → start ≤ length haystack → (tried entered looked : ℕ)
+    → IsBounded (length (table_of graph)) (arrows_of (table_of graph)) (chars haystack)
+    (position_at haystack start) tried entered looked
+    → IsBounded (whole_places tree) (whole_arrows tree) (chars haystack)
+    (search_start haystack start) tried entered looked
+cost_told tree graph is haystack start inside tried entered looked bounded =
+    subst
+    (λ z. IsBounded (whole_places tree) (whole_arrows tree) (chars haystack) z tried entered looked)
+    (sym (start_inside haystack start inside))
+    (subst (λ z. IsBounded (whole_places tree) z (chars haystack)
+    (position_at haystack start) tried entered looked)
+    is.each_arrow
+    (subst (λ z. IsBounded z (arrows_of (table_of graph)) (chars haystack)
+    (position_at haystack start) tried entered looked)
+    (length-map graph.places place_of ∙ is.places) bounded))
+
+module _ (tree : Tree) (regular : IsRegular tree) (graph : StoredGraph)
+    (is : IsGraphOf tree graph) (haystack : List ℕ) (start : ℕ)
+    (inside : start ≤ length haystack) where
+  at_position : (P : ℕ → Type 0) → P (position_at haystack start)
+      → P (search_start haystack start)
+  at_position P p = subst P (sym (start_inside haystack start inside)) p
+
+  pub span_told : (span : Option (ℕ × ℕ)) (slots : List (Option ℕ))
+      → IsNumberedOutcome (table_of graph) (chars haystack) graph.start
+      (position_at haystack start) (best_at span slots)
+      → IsSpanOutcome tree haystack start slots span
+  span_told None slots none =
+      at_position (λ s. IsAnswer tree (chars haystack) s None)
+      (answer_of_numbers tree (chars haystack) (table_of graph) graph.start is.name is.written
+      is.start regular (position_at haystack start) None none)
+  span_told (Some span) slots (found, answer, from, to, held) = (
+    found,
+    at_position (λ s. IsAnswer tree (chars haystack) s (Some found))
+        (answer_of_numbers tree (chars haystack) (table_of graph) graph.start is.name
+        is.written is.start regular (position_at haystack start) (Some found) answer),
+    record { start = from; end = to; slots = held },
+  )
+
+  pub answer_told : (outcome : Option Outcome)
+      → IsNumberedOutcome (table_of graph) (chars haystack) graph.start
+      (position_at haystack start) (match_told outcome)
+      → IsOutcome tree haystack start outcome
+  answer_told None none = span_told None [] none
+  answer_told (Some outcome) some =
+      span_told (Some (outcome.start, outcome.end)) outcome.slots.items some
+
+  pub end_told : (best : Best)
+      → IsNumberedEnd (table_of graph) (chars haystack) graph.start
+      (position_at haystack start) best
+      → IsEndOutcome tree haystack start (option_map (λ z. z.1) best)
+  end_told None none =
+      at_position (λ s. IsShortest tree (chars haystack) s None)
+      (shortest_of_numbers tree (chars haystack) (table_of graph) graph.start is.name
+      is.written is.start regular (position_at haystack start) None none)
+  end_told (Some best) (end, shortest, to) = (
+    end,
+    at_position (λ s. IsShortest tree (chars haystack) s (Some end))
+        (shortest_of_numbers tree (chars haystack) (table_of graph) graph.start is.name
+        is.written is.start regular (position_at haystack start) (Some end) shortest),
+    to,
+  )

@@ -1,0 +1,63 @@
+-- The ways that a walk has recorded, and one more.
+use Rattle.std.proofs.Common.{◌≡◌, ℕ, ◌⊎◌, inl, inr, Bool, List, Option}
+use Rattle.std.proofs.Common.{Some, None, refl, sym, ap, subst, ◌∙◌}
+use Rattle.regex_lite_engine.specs.Search.Explored.{IsGrown}
+use Rattle.regex_lite_engine.proofs.search.OptionLemmas.{not_there, same_some}
+
+module _ (N : Type 0) (same : (x y : N) → (x ≡ y) ⊎ (x ≡ y → ⊥)) where
+  abbrev Recorded : Type 0
+  Recorded = N → Option (List ℕ)
+
+  module _ (recorded : Recorded) (n : N) (w : List ℕ) where
+    -- w at n, and elsewhere what was there
+    abbrev at_test : (m : N) → (m ≡ n) ⊎ (m ≡ n → ⊥) → Option (List ℕ)
+    at_test m d = elim d [ inl e ↦ Some w | inr differ ↦ recorded m ]
+
+    pub extended : Recorded
+    extended = λ m. at_test m (same m n)
+
+    pub extended_here : extended n ≡ Some w
+    unfolding extended
+    extended_here = by_test (same n n)
+      where
+        by_test : (d : (n ≡ n) ⊎ (n ≡ n → ⊥)) → at_test n d ≡ Some w
+        by_test (inl e) = refl
+        by_test (inr f) = absurd (f refl)
+
+    pub back : (m : N) (v : List ℕ) → extended m ≡ Some v
+        → ((m ≡ n) × (v ≡ w)) ⊎ (recorded m ≡ Some v)
+    unfolding extended
+    back m v r = by_test (same m n) r
+      where
+        by_test : (d : (m ≡ n) ⊎ (m ≡ n → ⊥)) → at_test m d ≡ Some v
+            → ((m ≡ n) × (v ≡ w)) ⊎ (recorded m ≡ Some v)
+        by_test (inl e) q = inl (e, sym (same_some q))
+        by_test (inr f) q = inr q
+
+    module _ (fresh : recorded n ≡ None) where
+      pub kept : (m : N) (v : List ℕ) → recorded m ≡ Some v → extended m ≡ Some v
+      unfolding extended
+      kept m v r = by_test (same m n)
+        where
+          by_test : (d : (m ≡ n) ⊎ (m ≡ n → ⊥)) → at_test m d ≡ Some v
+          by_test (inl e) = absurd (not_there (sym fresh ∙ ap recorded (sym e) ∙ r))
+          by_test (inr f) = r
+
+      module _ (step : N → ℕ → Option N) (is_end : N → Bool)
+          (IsStart : (front : List ℕ) → N → Type 0) (best : Option (List ℕ)) where
+        abbrev Grown : Recorded → N → List ℕ → Type 0
+        Grown some m v = IsGrown N step is_end IsStart some best m v
+
+        pub grown_still : (m : N) (v : List ℕ) → Grown recorded m v → Grown extended m v
+        grown_still m v (inl g) = inl g
+        grown_still m v (inr (o, x, k, r, s, e)) = inr (o, x, k, kept o x r, s, e)
+
+        pub grown_extended : ((m : N) (v : List ℕ) → recorded m ≡ Some v → Grown recorded m v)
+            → Grown recorded n w → (m : N) (v : List ℕ) → extended m ≡ Some v → Grown extended m v
+        grown_extended old new m v r = by_case (back m v r)
+          where
+            by_case : ((m ≡ n) × (v ≡ w)) ⊎ (recorded m ≡ Some v) → Grown extended m v
+            by_case (inl e) =
+                subst (λ z. Grown extended z v) (sym e.0)
+                (subst (λ z. Grown extended n z) (sym e.1) (grown_still n w new))
+            by_case (inr q) = grown_still m v (old m v q)

@@ -1,0 +1,385 @@
+-- Positions at which no match can begin, and the bytes of their characters.
+use Rattle.std.proofs.Common.{◌≡◌, ℕ, zero, suc, ◌+◌, ◌*◌, ◌-◌, ◌<◌, ◌≤◌, ◌⊎◌, inl, inr}
+use Rattle.std.proofs.Common.{Bool, true, false, IsTrue, List, [], ◌∷◌, ◌++◌, length}
+use Rattle.std.proofs.Common.{take, drop, sum_by, slice_get, slice_index}
+use Rattle.std.proofs.Common.{slice_index_or, nat_lt, if◌then◌else◌, ◌&&◌, ◌||◌, Option}
+use Rattle.std.proofs.Common.{Some, None, refl, sym, ap, subst, ◌∙◌, arith, length-drop}
+use Rattle.std.specs.Prelude.{IsUtf8, IsCharBoundary, MatchOption, chars, is_none}
+use Rattle.std.specs.Char.{len_utf8}
+use lib.Utf8.{encode, encodes}
+use Rattle.std.proofs.Math.Nat.{mul-le-mul_left}
+use Rattle.std.proofs.lemmas.Bool.{cases_lt, cases_eq}
+use Rattle.std.proofs.lemmas.Bool.Decides.{nat_tests}
+use Rattle.std.proofs.lemmas.List.{take_all}
+use Rattle.std.proofs.lemmas.Option.{slice_get_within}
+use Rattle.std.proofs.lemmas.Str.{encodes-chars, char_from_byte, byte_from_char}
+use Rattle.regex_lite_syntax.specs.Text.{Text, after}
+use Rattle.regex_lite_engine.specs.declared.prefilter.starts.Starts.{Starts}
+use Rattle.regex_lite_engine.specs.declared.search.here.Here.{Here}
+use Rattle.regex_lite_engine.specs.Graph.Places.{Place}
+use Rattle.regex_lite_engine.specs.declared.prefilter.heads.Heads.{Heads}
+use Rattle.regex_lite_engine.specs.Prefilter.Heads.{IsCutOff, IsPassed, NeverBegins}
+use Rattle.regex_lite_engine.specs.Prefilter.Starts.{begins_with, stops_at, may_begin, MayBegin}
+use Rattle.regex_lite_engine.specs.Search.Offsets.{offset}
+use Rattle.regex_lite_engine.specs.Pikevm.Machine.{Thread}
+use Rattle.regex_lite_engine.specs.Search.Standing.{IsHere}
+use Rattle.regex_lite_engine.specs.Search.Starts.{GoesOnAt, PassesTo}
+use Rattle.regex_lite_engine.specs.Pikevm.Turns.{IsComing}
+use Rattle.regex_lite_engine.specs.Pikevm.Walking.{Best}
+use Rattle.regex_lite_engine.proofs.search.OptionLemmas.{not_there, same_some}
+use Rattle.regex_lite_engine.proofs.pikevm.TurnLemmas.{jumped}
+use Rattle.regex_lite_engine.proofs.search.here.OffsetLemmas.{length_encodes, offset_next}
+use Rattle.regex_lite_engine.proofs.search.here.OffsetLemmas.{offset_less, offset_most}
+use Rattle.regex_lite_engine.proofs.search.here.OffsetLemmas.{rest_at, boundary_at}
+
+never_both : (a : Bool) → (a && false) ≡ true → ⊥
+never_both true e = cc
+never_both false e = cc
+
+-- a byte inside of a character stops no scan
+stops_outside : (s : Starts) (byte : ℕ) → byte < 192 → 128 ≤ byte → stops_at s byte ≡ true → ⊥
+stops_outside s byte below above e =
+    let ascii : nat_lt byte 128 ≡ false = grind (arith, nat_tests) in
+    let inside : nat_lt byte 192 ≡ true = grind (arith, nat_tests) in
+    let by_ascii = ap (λ z. s.any && (if z then slice_index_or s.ascii byte true
+    else (if nat_lt byte 192 then false else s.others))) ascii in
+    let by_inside = ap (λ z. s.any && (if z then false else s.others)) inside in
+    never_both s.any (sym (by_ascii ∙ by_inside) ∙ e)
+
+-- the scan stops at a boundary
+pub stops_between : (s : Starts) (bs : List ℕ) (at : ℕ) → at ≤ length bs
+    → (at < length bs → stops_at s (slice_index bs at) ≡ true) → IsCharBoundary bs at
+stops_between s bs at le stops =
+    (le, λ lt high. go (cases_lt (slice_index bs at) 192) high (stops lt))
+  where
+    go : (slice_index bs at < 192) ⊎ (192 ≤ slice_index bs at) → 128 ≤ slice_index bs at
+        → stops_at s (slice_index bs at) ≡ true → 192 ≤ slice_index bs at
+    go (inr le) high e = le
+    go (inl lt) high e = absurd (stops_outside s (slice_index bs at) lt high e)
+
+first_of : (i : ℕ) (cs : List ℕ) (c : ℕ) → slice_get cs i ≡ Some c
+    → drop i cs ≡ c ∷ drop (suc i) cs
+first_of i [] c e = absurd (not_there e)
+first_of zero (x ∷ cs) c e = ap (λ z. z ∷ cs) (same_some e)
+first_of (suc i) (x ∷ cs) c e = first_of i cs c e
+
+get_drop : (k : ℕ) (bs : List ℕ) → slice_index (drop k bs) 0 ≡ slice_index bs k
+get_drop zero bs = refl
+get_drop (suc k) [] = refl
+get_drop (suc k) (b ∷ bs) = get_drop k bs
+
+pub there : (cs : List ℕ) (i : ℕ) → i < length cs → (c : ℕ) × (slice_get cs i ≡ Some c)
+there [] i lt = absurd (omega (arith, lt))
+there (c ∷ cs) zero lt = (c, refl)
+there (c ∷ cs) (suc i) lt = there cs i (omega (arith, lt))
+
+-- a match can begin with a character if the scan stops at its first byte
+pub first_byte : (s : Starts) (bs : List ℕ) (i c : ℕ) → IsUtf8 bs → slice_get (chars bs) i ≡ Some c
+    → i < length (chars bs) → offset (chars bs) i < length bs
+    → begins_with s c ≡ stops_at s (slice_index bs (offset (chars bs) i))
+first_byte s bs i c u e within short = by_byte (cases_lt byte 128)
+  where
+    at : ℕ
+    at = offset (chars bs) i
+
+    byte : ℕ
+    byte = slice_index bs at
+
+    rest : drop at bs ≡ encode c ++ encodes (drop (suc i) (chars bs))
+    rest = ap (drop at) (sym (encodes-chars bs u)) ∙ rest_at (chars bs) i
+        ∙ ap encodes (first_of i (chars bs) c e)
+
+    head : slice_index (drop at bs) 0 ≡ byte
+    head = get_drop at bs
+
+    some : 0 < length (drop at bs)
+    some = omega (arith, short, length-drop at bs)
+
+    edge : IsCharBoundary bs at
+    edge = boundary_at bs i at u (omega (arith, within), refl)
+
+    begins : Bool → Bool
+    begins b = s.any && (if b then slice_index_or s.ascii c true else s.others)
+
+    stops : Bool → Bool
+    stops b = s.any && (if b then slice_index_or s.ascii byte true
+        else (if nat_lt byte 192 then false else s.others))
+
+    by_byte : (byte < 128) ⊎ (128 ≤ byte) → begins_with s c ≡ stops_at s byte
+    by_byte (inl lt) =
+        let same : c ≡ byte =
+        char_from_byte (drop at bs) (encodes (drop (suc i) (chars bs))) c rest
+        (omega (arith, lt, head)) some
+        ∙ head in
+        let low : nat_lt byte 128 ≡ true = grind (arith, nat_tests) in
+        let low_c : nat_lt c 128 ≡ true = ap (λ z. nat_lt z 128) same ∙ low in
+        ap begins low_c ∙ ap (λ z. s.any && slice_index_or s.ascii z true) same
+        ∙ sym (ap stops low)
+    by_byte (inr high) =
+        let lead : 192 ≤ byte = edge.1 short high in
+        let high_c : 128 ≤ c = by_char (cases_lt c 128) in
+        let off : nat_lt byte 128 ≡ false = grind (arith, nat_tests) in
+        let lead_off : nat_lt byte 192 ≡ false = grind (arith, nat_tests) in
+        let off_c : nat_lt c 128 ≡ false = grind (arith, nat_tests) in
+        ap begins off_c
+        ∙ sym (ap stops off ∙ ap (λ z. s.any && (if z then false else s.others)) lead_off)
+      where
+        by_char : (c < 128) ⊎ (128 ≤ c) → 128 ≤ c
+        by_char (inr le) = le
+        by_char (inl lt) =
+            let same = byte_from_char (drop at bs) (encodes (drop (suc i) (chars bs))) c rest lt in
+            absurd (omega (arith, same, head, high, lt))
+
+-- an ASCII byte at the place of a character is that character
+pub ascii_there : (bs : List ℕ) (i : ℕ) → IsUtf8 bs → i < length (chars bs)
+    → offset (chars bs) i < length bs → slice_index bs (offset (chars bs) i) < 128
+    → slice_get (chars bs) i ≡ Some (slice_index bs (offset (chars bs) i))
+ascii_there bs i u within short ascii =
+    let at = offset (chars bs) i in
+    let own = there (chars bs) i within in
+    let rest : drop at bs ≡ encode own.0 ++ encodes (drop (suc i) (chars bs)) =
+    ap (drop at) (sym (encodes-chars bs u)) ∙ rest_at (chars bs) i
+    ∙ ap encodes (first_of i (chars bs) own.0 own.1) in
+    let head = get_drop at bs in
+    let some : 0 < length (drop at bs) = omega (arith, short, length-drop at bs) in
+    let same = char_from_byte (drop at bs) (encodes (drop (suc i) (chars bs))) own.0 rest
+    (omega (arith, ascii, head)) some in
+    own.1 ∙ ap Some (same ∙ head)
+
+-- where the scan stops, or at the end, one can begin
+pub stopped : (s : Starts) (bs : List ℕ) (q : ℕ) (y : Here) → IsUtf8 bs → IsHere (chars bs) q y
+    → (y.at < length bs → stops_at s (slice_index bs y.at) ≡ true)
+    → may_begin s y.before y.after ≡ true
+stopped s bs q y u is stops = by_next y.after refl
+  where
+    ahead : (c : ℕ) → y.after ≡ Some c → begins_with s c ≡ true
+    ahead c e =
+        let at_q : slice_get (chars bs) q ≡ Some c = sym is.ahead ∙ e in
+        let within = slice_get_within (chars bs) q c at_q in
+        let less = offset_less (chars bs) q (suc q) (omega arith) (omega (arith, within)) in
+        let most : offset (chars bs) (suc q) ≤ length bs =
+        subst (λ z. offset (chars bs) (suc q) ≤ length z) (encodes-chars bs u)
+        (offset_most (chars bs) (suc q)) in
+        let at = is.bytes in
+        first_byte s bs q c u at_q within (omega (arith, less, most))
+        ∙ ap (λ z. stops_at s (slice_index bs z)) (sym at) ∙ stops (omega (arith, at, less, most))
+
+    by_next : (o : Option ℕ) → y.after ≡ o → may_begin s y.before o ≡ true
+    by_next None e = refl
+    by_next (Some c) e = ap (λ z. z || (s.at_start && is_none y.before)) (ahead c e)
+
+-- none begins where that is known
+pub never_at : (s : Starts) (h : Text) (p : ℕ) (x : Here) → IsHere h p x
+    → may_begin s x.before x.after ≡ false → MayBegin s h p → ⊥
+never_at s h p x is off may =
+    let by_last = subst (λ o. IsTrue (may_begin s o (after h p))) (sym is.behind) may in
+    let by_next = subst (λ o. IsTrue (may_begin s x.before o)) (sym is.ahead) by_last in
+    let never = subst IsTrue off by_next in cc
+
+-- after the haystack's start a match begins with a character of the set
+pub begins_later : (s : Starts) (h : Text) (i : ℕ) → (d : ℕ) × (slice_get h i ≡ Some d)
+    → (c : ℕ) × (slice_get h (suc i) ≡ Some c) × (begins_with s c ≡ false)
+    → MayBegin s h (suc i) → ⊥
+begins_later s h i (d, behind) (c, ahead, off) may =
+    let by_next = subst (λ o. IsTrue (may_begin s (slice_get h i) o)) ahead may in
+    let by_last = subst (λ o. IsTrue (may_begin s o (Some c))) behind by_next in
+    let by_char = subst (λ z. IsTrue (z || (s.at_start && false))) off by_last in
+    neither s.at_start by_char
+  where
+    neither : (a : Bool) → IsTrue (false || (a && false)) → ⊥
+    neither true t = cc
+    neither false t = cc
+
+whole : (bs : List ℕ) → IsUtf8 bs → offset (chars bs) (length (chars bs)) ≡ length bs
+whole bs u =
+    let all : take (length (chars bs)) (chars bs) ≡ chars bs =
+    take_all (length (chars bs)) (chars bs) (omega arith) in
+    ap (sum_by len_utf8) all ∙ sym (length_encodes (chars bs)) ∙ ap length (encodes-chars bs u)
+
+-- after an ASCII character the next one begins at the next byte
+module _ (bs : List ℕ) (i : ℕ) (u : IsUtf8 bs) (within : i < length (chars bs))
+    (short : offset (chars bs) i + 1 < length bs)
+    (ascii : slice_index bs (offset (chars bs) i) < 128) where
+  abbrev pub at : ℕ
+  at = offset (chars bs) i
+
+  abbrev here : (c : ℕ) × (slice_get (chars bs) i ≡ Some c)
+  here = there (chars bs) i within
+
+  rest : drop at bs ≡ encode here.0 ++ encodes (drop (suc i) (chars bs))
+  rest = ap (drop at) (sym (encodes-chars bs u)) ∙ rest_at (chars bs) i
+      ∙ ap encodes (first_of i (chars bs) here.0 here.1)
+
+  low : here.0 < 128
+  low =
+      let head = get_drop at bs in
+      let some : 0 < length (drop at bs) = omega (arith, short, length-drop at bs) in
+      let same = char_from_byte (drop at bs) (encodes (drop (suc i) (chars bs))) here.0 rest
+      (omega (arith, ascii, head)) some in
+      omega (arith, same, head, ascii)
+
+  pub next_at : offset (chars bs) (suc i) ≡ at + 1
+  next_at =
+      let test : nat_lt here.0 128 ≡ true = grind (arith, nat_tests, low) in
+      let one : len_utf8 here.0 ≡ 1 = rw test refl in
+      omega (arith, offset_next (chars bs) i here.0 here.1, one)
+
+  pub inside : suc i < length (chars bs)
+  inside = elim (cases_lt (suc i) (length (chars bs))) [
+    | inl lt ↦ lt
+    | inr le ↦
+        let last : suc i ≡ length (chars bs) = omega (arith, le, within) in
+        let end = ap (offset (chars bs)) last ∙ whole bs u in
+        absurd (omega (arith, end, next_at, short))
+  ]
+
+  pub second_off : (second : Starts) → stops_at second (slice_index bs (at + 1)) ≡ false
+      → MayBegin second (chars bs) (suc i) → ⊥
+  second_off second off =
+      let next = there (chars bs) (suc i) inside in
+      begins_later second (chars bs) i here (
+        next.0,
+        next.1,
+        first_byte second bs (suc i) next.0 u next.1 inside (omega (arith, next_at, short))
+            ∙ ap (λ z. stops_at second (slice_index bs z)) next_at ∙ off,
+      )
+
+-- none begins where the bytes show that no second character does
+pub cut_off_never : (heads : Heads) (bs : List ℕ) (i : ℕ) → IsUtf8 bs → i < length (chars bs)
+    → IsCutOff heads bs (offset (chars bs) i) → NeverBegins heads (chars bs) i
+cut_off_never heads bs i u within cut = inr (by_second heads.second cut)
+  where
+    at : ℕ
+    at = offset (chars bs) i
+
+    by_second : (o : Option Starts)
+        → MatchOption o ⊥ (λ second. (at + 1 < length bs) × (slice_index bs at < 128)
+        × (stops_at second (slice_index bs (at + 1)) ≡ false))
+        → MatchOption o ⊥ (λ second. ¬ (MayBegin second (chars bs) (suc i)))
+    by_second None never = never
+    by_second (Some second) (short, ascii, off) = second_off bs i u within short ascii second off
+
+-- a search stands before a character where they do
+pub cut_off_here : (heads : Heads) (bs : List ℕ) (p : ℕ) (x : Here) → IsUtf8 bs
+    → IsHere (chars bs) p x → IsCutOff heads bs x.at → NeverBegins heads (chars bs) p
+cut_off_here heads bs p x u is cut =
+    cut_off_never heads bs p u (before_end (cases_lt p (length (chars bs))))
+    (subst (IsCutOff heads bs) is.bytes cut)
+  where
+    short : (o : Option Starts)
+        → MatchOption o ⊥ (λ second. (x.at + 1 < length bs) × (slice_index bs x.at < 128)
+        × (stops_at second (slice_index bs (x.at + 1)) ≡ false)) → x.at < length bs
+    short None never = absurd never
+    short (Some second) (lt, ascii, off) = omega (arith, lt)
+
+    before_end : (p < length (chars bs)) ⊎ (length (chars bs) ≤ p) → p < length (chars bs)
+    before_end (inl lt) = lt
+    before_end (inr le) =
+        let inside = is.inside in
+        let last : p ≡ length (chars bs) = omega (arith, le, inside) in
+        let end = is.bytes ∙ ap (offset (chars bs)) last ∙ whole bs u in
+        absurd (omega (arith, end, short heads.second cut))
+
+module _ (heads : Heads) (bs : List ℕ) (p q : ℕ) (x y : Here) (u : IsUtf8 bs)
+    (is : IsHere (chars bs) p x) (js : IsHere (chars bs) q y)
+    (not_here : NeverBegins heads (chars bs) p) (le : x.at ≤ y.at) (most : y.at ≤ length bs)
+    (pass : (k : ℕ) → x.at ≤ k → k < y.at → IsPassed heads bs k) where
+  a : x.at ≡ offset (chars bs) p
+  a = is.bytes
+
+  b : y.at ≡ offset (chars bs) q
+  b = js.bytes
+
+  within : q ≤ length (chars bs)
+  within = js.inside
+
+  later : p ≤ q
+  later = go (cases_lt q p)
+    where
+      go : (q < p) ⊎ (p ≤ q) → p ≤ q
+      go (inr le') = le'
+      go (inl lt) =
+          let less = offset_less (chars bs) q p lt is.inside in
+          absurd (omega (arith, less, a, b, le))
+
+  never_later : (i : ℕ) → p < i → i < q → NeverBegins heads (chars bs) i
+  never_later zero low high = absurd (omega (arith, low))
+  never_later (suc i) low high =
+      let next = there (chars bs) (suc i) (omega (arith, high, within)) in
+      let less = offset_less (chars bs) (suc i) q high within in
+      let more = offset_less (chars bs) p (suc i) low (omega (arith, high, within)) in
+      elim (pass (offset (chars bs) (suc i)) (omega (arith, a, more)) (omega (arith, b, less))) [
+        | inl off ↦
+            let none =
+            first_byte heads.first bs (suc i) next.0 u next.1 (omega (arith, high, within))
+            (omega (arith, less, b, most))
+            ∙ off in
+            inl (begins_later heads.first (chars bs) i
+            (there (chars bs) i (omega (arith, high, within))) (next.0, next.1, none))
+        | inr cut ↦ cut_off_never heads bs (suc i) u (omega (arith, high, within)) cut
+      ]
+
+  pub passes_between : PassesTo (NeverBegins heads (chars bs)) (chars bs) p y
+  passes_between = record {
+    q = q;
+    later = later;
+    is = js;
+    passed = λ i low high. by_order i low high (cases_eq i p);
+  }
+    where
+      by_order : (i : ℕ) → p ≤ i → i < q → (i ≡ p) ⊎ (i ≡ p → ⊥) → NeverBegins heads (chars bs) i
+      by_order i low high (inl same) = subst (NeverBegins heads (chars bs)) (sym same) not_here
+      by_order i low high (inr apart) = never_later i (above i low apart) high
+        where
+          above : (i : ℕ) → p ≤ i → (i ≡ p → ⊥) → p < i
+          above i low apart = elim (cases_lt p i) [
+            | inl lt ↦ lt
+            | inr le' ↦ absurd (apart (omega (arith, low, le')))
+          ]
+
+pub passes_none : (Passed : ℕ → Type 0) (h : Text) (p : ℕ) (x : Here) → IsHere h p x
+    → PassesTo Passed h p x
+passes_none Passed h p x is = record {
+  q = p;
+  later = omega arith;
+  is = is;
+  passed = λ i low high. absurd (omega (arith, low, high));
+}
+
+pub passes_as : (Passed Other : ℕ → Type 0) (h : Text) (p : ℕ) (x : Here)
+    → ((i : ℕ) → Passed i → Other i) → PassesTo Passed h p x → PassesTo Other h p x
+passes_as Passed Other h p x each w = record {
+  q = w.q;
+  later = w.later;
+  is = w.is;
+  passed = λ i low high. each i (w.passed i low high);
+}
+
+-- where a search stands after the positions that it passes over
+pub record Onward (table : List (Place ℕ)) (h : Text) (s : List ℕ) (first last p : ℕ)
+    (threads : List Thread) (best : Best) (x : Here) : Type 0 where
+  pub q : ℕ
+  pub later : p ≤ q
+  pub is : IsHere h q x
+  pub coming : IsComing table h s first last q threads best
+
+pub onward : (table : List (Place ℕ)) (h : Text) (s : List ℕ) (first last p : ℕ)
+    (threads : List Thread)
+    (best : Best) (x : Here) → GoesOnAt table h s threads best p x
+    → IsComing table h s first last p threads best → Onward table h s first last p threads best x
+onward table h s first last p threads best x (inl is) u =
+    record { q = p; later = omega arith; is = is; coming = u }
+onward table h s first last p threads best x (inr (empty, none, w)) u = record {
+  q = w.q;
+  later = w.later;
+  is = w.is;
+  coming = subst (λ z. IsComing table h s first last w.q threads z) (sym none)
+      (jumped table h s first last p w.q threads empty w.later w.passed
+      (subst (λ z. IsComing table h s first last p threads z) none u));
+}
+
+-- a bound up to a position holds up to a later one
+pub bound_later : (a p q s m : ℕ) → p ≤ q → a ≤ m * (p - s) → a ≤ m * (q - s)
+bound_later a p q s m le bound =
+    let more : m * (p - s) ≤ m * (q - s) = mul-le-mul_left m (omega (arith, le)) in
+    omega (arith, bound, more)

@@ -1,0 +1,178 @@
+-- Positions and offsets.
+use Rattle.std.proofs.Common.{◌≡◌, ℕ, zero, suc, ◌+◌, ◌-◌, ◌<◌, ◌≤◌, ◌⊎◌, inl, inr, List, []}
+use Rattle.std.proofs.Common.{◌∷◌, ◌++◌, length, take, drop, sum_by, slice_get, Some, None}
+use Rattle.std.proofs.Common.{refl, sym, ap, subst, ◌∙◌, arith, length-append, append-nil}
+use Rattle.std.specs.Prelude.{IsUtf8, IsCharBoundary, chars}
+use Rattle.std.specs.Char.{len_utf8, IsScalar}
+use Rattle.regex_lite_engine.specs.declared.search.here.Here.{Here}
+use lib.Utf8.{encode, encodes}
+use Rattle.std.proofs.lemmas.List.{take-append-drop, length-take-le}
+use Rattle.std.proofs.lemmas.Option.{slice_get_within}
+use Rattle.std.proofs.lemmas.Str.{encodes-chars, chars-append, IsUtf8-take, IsCharBoundary-at_seam}
+use Rattle.std.proofs.lemmas.Str.{IsUtf8-encode, chars-nil, chars_from_encodes, chars_past_char}
+use Rattle.regex_lite_syntax.specs.Text.{before, after}
+use Rattle.regex_lite_engine.specs.Search.Offsets.{offset, position_at, IsOffset}
+use Rattle.regex_lite_engine.specs.Search.Standing.{IsHere}
+use Rattle.std.proofs.lemmas.Bool.{cases_order}
+pub use Rattle.regex_lite_engine.proofs.OffsetLemmas.{length_encodes, offset_next, offset_less}
+pub use Rattle.regex_lite_engine.proofs.OffsetLemmas.{offset_most, rest_at, utf8_rest, boundary_at}
+
+-- the characters that follow a place
+pub chars_at : (bs : List ℕ) (p at : ℕ) → IsUtf8 bs → IsOffset (chars bs) p at
+    → chars (drop at bs) ≡ drop p (chars bs)
+chars_at bs p at u (le, e) =
+    let same : encodes (chars bs) ≡ bs = encodes-chars bs u in
+    let cut : encodes (drop p (chars bs)) ≡ drop at bs =
+    sym (rest_at (chars bs) p) ∙ ap (drop (offset (chars bs) p)) same
+    ∙ ap (λ z. drop z bs) (sym e) in
+    sym (chars_from_encodes (drop p (chars bs)) (drop at bs)
+    (subst IsUtf8 cut (utf8_rest (chars bs) p (subst IsUtf8 (sym same) u))) cut)
+
+pub chars_cut : (bs : List ℕ) (at : ℕ) → IsUtf8 bs → IsCharBoundary bs at
+    → chars bs ≡ chars (take at bs) ++ chars (drop at bs)
+chars_cut bs at u b =
+    ap chars (sym (take-append-drop at bs))
+    ∙ chars-append (take at bs) (drop at bs) (IsUtf8-take bs at u b)
+
+pub position_is : (bs : List ℕ) (at : ℕ) → IsUtf8 bs → IsCharBoundary bs at
+    → IsOffset (chars bs) (position_at bs at) at
+position_is bs at u b = (within, spans)
+  where
+    xs : List ℕ
+    xs = chars (take at bs)
+
+    ys : List ℕ
+    ys = chars (drop at bs)
+
+    both : chars bs ≡ xs ++ ys
+    both = chars_cut bs at u b
+
+    within : position_at bs at ≤ length (chars bs)
+    within = omega (arith, ap length both, length-append xs ys)
+
+    front : (us cs : List ℕ) → take (length us) (us ++ cs) ≡ us
+    front [] cs = refl
+    front (a ∷ us) cs = ap (λ z. a ∷ z) (front us cs)
+
+    spans : at ≡ offset (chars bs) (position_at bs at)
+    spans =
+        sym (length-take-le at bs b.0)
+        ∙ ap length (sym (encodes-chars (take at bs) (IsUtf8-take bs at u b))) ∙ length_encodes xs
+        ∙ ap (sum_by len_utf8) (sym (front xs ys))
+        ∙ ap (λ z. sum_by len_utf8 (take (length xs) z)) (sym both)
+
+-- an offset has one position
+pub same_position : (cs : List ℕ) (p q : ℕ) → p ≤ length cs → q ≤ length cs
+    → offset cs p ≡ offset cs q → p ≡ q
+same_position cs p q lp lq e = go (cases_order p q)
+  where
+    go : (p ≡ q) ⊎ ((p < q) ⊎ (q < p)) → p ≡ q
+    go (inl d) = d
+    go (inr (inl lt)) = let less = offset_less cs p q lt lq in absurd (omega (arith, less, e))
+    go (inr (inr lt)) = let less = offset_less cs q p lt lp in absurd (omega (arith, less, e))
+
+get_drop : (p : ℕ) (cs : List ℕ) → slice_get (drop p cs) 0 ≡ slice_get cs p
+get_drop zero cs = refl
+get_drop (suc p) [] = refl
+get_drop (suc p) (c ∷ cs) = get_drop p cs
+
+pub after_at : (bs : List ℕ) (p at : ℕ) → IsUtf8 bs → IsOffset (chars bs) p at
+    → slice_get (chars (drop at bs)) 0 ≡ after (chars bs) p
+after_at bs p at u is = ap (λ z. slice_get z 0) (chars_at bs p at u is) ∙ get_drop p (chars bs)
+
+pub none_before : (bs : List ℕ) (p at : ℕ) → at ≤ length bs → IsOffset (chars bs) p at
+    → length (take at bs) ≡ 0 → None ≡ before (chars bs) p
+none_before bs zero at le is empty = refl
+none_before bs (suc p) at le (within, e) empty =
+    let less = offset_less (chars bs) 0 (suc p) (omega arith) within in
+    absurd (omega (arith, less, e, empty, length-take-le at bs le))
+
+last_of : (xs ys : List ℕ) (c : ℕ) → slice_get ((xs ++ c ∷ []) ++ ys) (length xs) ≡ Some c
+last_of [] ys c = refl
+last_of (x ∷ xs) ys c = last_of xs ys c
+
+pub some_before : (bs rest : List ℕ) (p at c : ℕ) → IsUtf8 bs → IsCharBoundary bs at → IsScalar c
+    → IsOffset (chars bs) p at → take at bs ≡ rest ++ encode c → Some c ≡ before (chars bs) p
+some_before bs rest p at c u b scalar is e =
+    sym (ap (before (chars bs)) p_is ∙ ap (λ z. slice_get z (length (chars rest)))
+    (chars_cut bs at u b ∙ ap (λ z. z ++ chars (drop at bs)) xs)
+    ∙ last_of (chars rest) (chars (drop at bs)) c)
+  where
+    front : (us vs : List ℕ) → take (length us) (us ++ vs) ≡ us
+    front [] vs = refl
+    front (a ∷ us) vs = ap (λ z. a ∷ z) (front us vs)
+
+    uc : IsUtf8 (encode c)
+    uc = IsUtf8-encode c scalar
+
+    ut : IsUtf8 (take at bs)
+    ut = IsUtf8-take bs at u b
+
+    ur : IsUtf8 rest
+    ur =
+        subst IsUtf8 (ap (take (length rest)) e ∙ front rest (encode c)) (IsUtf8-take (take at bs)
+        (length rest) ut (IsCharBoundary-at_seam (take at bs) rest (encode c) e uc))
+
+    one : chars (encode c) ≡ c ∷ []
+    one =
+        chars_past_char (encode c) [] c uc (sym (append-nil (encode c))) ∙ ap (λ z. c ∷ z) chars-nil
+
+    xs : chars (take at bs) ≡ chars rest ++ c ∷ []
+    xs = ap chars e ∙ chars-append rest (encode c) ur ∙ ap (λ z. chars rest ++ z) one
+
+    p_is : p ≡ suc (length (chars rest))
+    p_is = let pos = position_is bs at u b in
+        let same : p ≡ position_at bs at =
+        same_position (chars bs) p (position_at bs at) is.0 pos.0 (sym is.1 ∙ pos.1) in
+        omega (arith, same, ap length xs, length-append (chars rest) (c ∷ []))
+
+pub moved : (bs : List ℕ) (p c : ℕ) (x : Here) → IsHere (chars bs) p x → x.after ≡ Some c
+    → IsOffset (chars bs) (suc p) (x.at + len_utf8 c)
+moved bs p c x is e =
+    let at : slice_get (chars bs) p ≡ Some c = sym is.ahead ∙ e in
+    let within = slice_get_within (chars bs) p c at in let next = offset_next (chars bs) p c at in
+    let bytes = is.bytes in
+    (omega (arith, within), omega (arith, next, bytes))
+
+pub here_next : (bs : List ℕ) (p c : ℕ) (x y : Here) → IsUtf8 bs → x.after ≡ Some c
+    → y.before ≡ Some c → y.at ≡ x.at + len_utf8 c → y.after ≡ slice_get (chars (drop y.at bs)) 0 →
+    IsHere (chars bs) p x → IsHere (chars bs) (p + 1) y
+here_next bs p c x y u e eb ey ea is =
+    let next : IsOffset (chars bs) (suc p) y.at =
+    subst (IsOffset (chars bs) (suc p)) (sym ey) (moved bs p c x is e) in
+    subst (λ z. IsHere (chars bs) z y) (omega arith)
+    (record {
+      inside = next.0;
+      bytes = next.1;
+      behind = eb ∙ sym (sym is.ahead ∙ e);
+      ahead = ea ∙ after_at bs (suc p) y.at u next;
+    })
+
+pub here_begins : (bs : List ℕ) (at : ℕ) (x : Here) → IsUtf8 bs → IsCharBoundary bs at → x.at ≡ at
+    → ((p : ℕ) → IsOffset (chars bs) p at → x.before ≡ before (chars bs) p) →
+    x.after ≡ slice_get (chars (drop at bs)) 0 → IsHere (chars bs) (position_at bs at) x
+here_begins bs at x u edge e eb ea = let is = position_is bs at u edge in
+    record {
+      inside = is.0;
+      bytes = e ∙ is.1;
+      behind = eb (position_at bs at) is;
+      ahead = ea ∙ after_at bs (position_at bs at) at u is;
+    }
+
+-- there is less to come
+pub less_left : (bs : List ℕ) (p q : ℕ) (x y : Here) → IsUtf8 bs → IsHere (chars bs) p x
+    → IsHere (chars bs) (q + 1) y → p ≤ q → length bs - y.at < length bs - x.at
+less_left bs p q x y u is js later =
+    let a = is.bytes in let b = js.bytes in let within = js.inside in
+    let less = offset_less (chars bs) p (q + 1) (omega (arith, later)) within in
+    let most : offset (chars bs) (q + 1) ≤ length bs =
+    subst (λ z. offset (chars bs) (q + 1) ≤ length z) (encodes-chars bs u)
+    (offset_most (chars bs) (q + 1)) in
+    omega (arith, a, b, less, most)
+
+pub at_most : (bs : List ℕ) (p : ℕ) (x : Here) → IsUtf8 bs → IsHere (chars bs) p x
+    → x.at ≤ length bs
+at_most bs p x u is = let a = is.bytes in
+    let most : offset (chars bs) p ≤ length bs =
+    subst (λ z. offset (chars bs) p ≤ length z) (encodes-chars bs u) (offset_most (chars bs) p) in
+    omega (arith, a, most)

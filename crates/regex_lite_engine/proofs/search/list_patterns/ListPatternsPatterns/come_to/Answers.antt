@@ -1,0 +1,51 @@
+use Rattle.std.proofs.Common.{◌<◌, length, sym, subst, ap, arith}
+use Rattle.std.specs.Prelude.{chars}
+use Rattle.std.specs.List.{All}
+use Rattle.std.proofs.lemmas.List.{length-map}
+use Rattle.regex_lite_engine.specs.Graph.StoredList.{table_of_list}
+use Rattle.regex_lite_engine.specs.Prefilter.ListHeads.{is_candidate_at}
+use Rattle.regex_lite_engine.specs.Search.Starts.{start_of}
+use Rattle.regex_lite_engine.proofs.prefilter.list_heads.WalkLemmas.{filter_at_most}
+use Rattle.regex_lite_engine.proofs.search.list_patterns.ListStartLemmas.{all_below, listed_start}
+use Rattle.regex_lite_engine.proofs.search.list_patterns.ListStartLemmas.{places_inside}
+use Rattle.regex_lite_engine.proofs.search.list_patterns.ListPatternsPatterns.come_to.Goals as goal
+
+pub invariant_of-self : goal.invariant_of-self
+invariant_of-self c =
+    let list = c.args.self.now.list.now in
+    let n = length list.entries in
+    let told = c.list_starts.ensures in
+    record {
+      room = omega (arith, c.args.self.now.room, told.capacity);
+      inside = subst (All (λ number. number < n)) (sym (told.listed c.requires.0 c.requires.1))
+          (all_below (is_candidate_at list.heads (chars c.args.haystack.now) c.requires.0) 0 n n
+          (omega arith));
+    }
+
+pub returns-clause-starts : goal.returns-clause-starts
+returns-clause-starts c p is =
+    let list = c.args.self.now.list.now in
+    listed_start (table_of_list list) (chars c.args.haystack.now) list.entries list.heads
+    c.list_starts.ensures.heads p c.list_starts.new.numbers.items
+    (c.list_starts.ensures.listed p is)
+
+pub returns-clause-inside : goal.returns-clause-inside
+returns-clause-inside c =
+    let list = c.args.self.now.list.now in
+    let n = length list.entries in
+    let told = c.list_starts.ensures in
+    places_inside list.entries c.list_starts.new.numbers.items (length (table_of_list list))
+    told.inside
+    (subst (All (λ number. number < n)) (sym (told.listed c.requires.0 c.requires.1))
+    (all_below (is_candidate_at list.heads (chars c.args.haystack.now) c.requires.0) 0 n n
+    (omega arith)))
+
+pub returns-clause-few : goal.returns-clause-few
+returns-clause-few c =
+    let list = c.args.self.now.list.now in
+    let numbers = c.list_starts.new.numbers.items in
+    let mapped = length-map numbers (start_of list.entries) in
+    let listed = ap length (c.list_starts.ensures.listed c.requires.0 c.requires.1) in
+    let most = filter_at_most
+    (is_candidate_at list.heads (chars c.args.haystack.now) c.requires.0) 0 (length list.entries) in
+    omega (arith, mapped, listed, most)

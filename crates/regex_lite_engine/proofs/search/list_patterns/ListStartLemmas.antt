@@ -1,0 +1,131 @@
+-- The patterns that may start at a position, as starts in the order of their numbers.
+use Rattle.std.proofs.Common.{◌≡◌, ℕ, zero, suc, refl, ◌+◌, ◌<◌, ◌≤◌, ◌⊎◌, inl, inr}
+use Rattle.std.proofs.Common.{◌&&◌, Bool, true, false, cond, List, [], ◌∷◌, length}
+use Rattle.std.proofs.Common.{map, get_or, slice_index, ap, sym, subst, ◌∙◌, arith}
+use Rattle.std.specs.List.{All, filter, range_with_len}
+use Rattle.std.proofs.Math.ListN.{get_or-map}
+use Rattle.std.proofs.lemmas.Bool.{cases_lt, cases_eq}
+use Rattle.std.proofs.lemmas.List.{get_or_default, length-map}
+use Rattle.std.proofs.lemmas.Option.{get_or_from_slice_get, slice_get-get_or, slice_get_within}
+use Rattle.regex_lite_syntax.specs.Text.{Text, after}
+use Rattle.regex_lite_engine.specs.declared.prefilter.list_heads.ListHeads.{ListHeads}
+use Rattle.regex_lite_engine.specs.declared.search.patterns.Start.{Start}
+use Rattle.regex_lite_engine.specs.Graph.Places.{Place}
+use Rattle.regex_lite_engine.specs.Prefilter.ListHeads.{is_candidate_at, may_start_at}
+use Rattle.regex_lite_engine.specs.Prefilter.Thirds.{may_go_on}
+use Rattle.regex_lite_engine.specs.Search.NumberedList.{IsEntry}
+use Rattle.regex_lite_engine.specs.Search.Starts.{start_of, AreListHeadsOf}
+use Rattle.regex_lite_engine.specs.Pikevm.Turns.{AreFrom, AreStartsAt, IsAmong, IsDeadAt}
+
+from_lower : (entries : List ℕ) (a : ℕ) (starts : List Start) → AreFrom entries (a + 1) starts
+    → AreFrom entries a starts
+from_lower entries a [] w = tt
+from_lower entries a (start ∷ starts) (le, is, rest) = (omega (arith, le), is, rest)
+
+in_order : (entries : List ℕ) (test : ℕ → Bool) (a n : ℕ) → a + n ≤ length entries
+    → AreFrom entries a (map (start_of entries) (filter test (range_with_len a n)))
+in_order entries test a zero le = tt
+in_order entries test a (suc n) le =
+    by_test (test a) (filter test (range_with_len (a + 1) n))
+    (in_order entries test (a + 1) n (omega (arith, le)))
+  where
+    by_test : (b : Bool) (rest : List ℕ) → AreFrom entries (a + 1) (map (start_of entries) rest)
+        → AreFrom entries a (map (start_of entries) (cond b (a ∷ rest) rest))
+    by_test true rest later =
+        let next : a + 1 ≡ suc a = omega arith in (
+          omega arith,
+          slice_get-get_or entries a 0 (omega (arith, le)),
+          subst (λ k. AreFrom entries k (map (start_of entries) rest)) next later,
+        )
+    by_test false rest later = from_lower entries a (map (start_of entries) rest) later
+
+among : (entries : List ℕ) (test : ℕ → Bool) (a n number entry : ℕ) → a ≤ number → number < a + n
+    → test number ≡ true → slice_index entries number ≡ entry
+    → IsAmong number entry (map (start_of entries) (filter test (range_with_len a n)))
+among entries test a zero number entry low high passes is = absurd (omega (arith, low, high))
+among entries test a (suc n) number entry low high passes is = by_place (cases_eq number a)
+    (λ above. among entries test (a + 1) n number entry above (omega (arith, high)) passes is)
+  where
+    rest : List ℕ
+    rest = filter test (range_with_len (a + 1) n)
+
+    later : (b : Bool) → IsAmong number entry (map (start_of entries) rest)
+        → IsAmong number entry (map (start_of entries) (cond b (a ∷ rest) rest))
+    later true w = inr w
+    later false w = w
+
+    by_place : (number ≡ a) ⊎ (number ≡ a → ⊥)
+        → (a + 1 ≤ number → IsAmong number entry (map (start_of entries) rest))
+        → IsAmong number entry (map (start_of entries) (cond (test a) (a ∷ rest) rest))
+    by_place (inl same) others =
+        subst (λ b. IsAmong number entry (map (start_of entries) (cond b (a ∷ rest) rest)))
+        (sym (ap test (sym same) ∙ passes))
+        (inl (same, sym is ∙ ap (slice_index entries) same))
+    by_place (inr apart) others = later (test a) (others (above (cases_lt a number)))
+      where
+        above : (a < number) ⊎ (number ≤ a) → a + 1 ≤ number
+        above (inl lt) = omega (arith, lt)
+        above (inr ge) = absurd (apart (omega (arith, low, ge)))
+
+-- the numbers that pass are below the end
+pub all_below : (test : ℕ → Bool) (a n m : ℕ) → a + n ≤ m
+    → All (λ number. number < m) (filter test (range_with_len a n))
+all_below test a zero m le k d lt = absurd (omega (arith, lt))
+all_below test a (suc n) m le k d lt =
+    by_test (test a) (filter test (range_with_len (a + 1) n))
+    (all_below test (a + 1) n m (omega (arith, le))) k d lt
+  where
+    by_test : (b : Bool) (rest : List ℕ) → All (λ number. number < m) rest
+        → All (λ number. number < m) (cond b (a ∷ rest) rest)
+    by_test true rest all zero d lt = omega (arith, le)
+    by_test true rest all (suc k) d lt = all k d (omega (arith, lt))
+    by_test false rest all k d lt = all k d lt
+
+pub places_inside : (entries numbers : List ℕ) (end : ℕ) → All (λ entry. entry < end) entries
+    → All (λ number. number < length entries) numbers
+    → All (λ (start : Start). start.place < end) (map (start_of entries) numbers)
+places_inside entries numbers end all inside k d lt =
+    let mapped = length-map numbers (start_of entries) in
+    let within : k < length numbers = omega (arith, lt, mapped) in
+    let is : get_or (map (start_of entries) numbers) k d ≡ start_of entries (get_or numbers k 0)
+    = get_or_default (map (start_of entries) numbers) k d (start_of entries 0) lt
+    ∙ get_or-map (start_of entries) numbers k 0 in
+    subst (λ (start : Start). start.place < end) (sym is)
+    (all (get_or numbers k 0) 0 (inside k 0 within))
+
+pub listed_start : (table : List (Place ℕ)) (haystack : Text) (entries : List ℕ) (heads : ListHeads)
+    → AreListHeadsOf table entries heads → (p : ℕ) (numbers : List ℕ)
+    → numbers ≡ filter (is_candidate_at heads haystack p) (range_with_len 0 (length entries))
+    → AreStartsAt table haystack entries p (map (start_of entries) numbers)
+listed_start table haystack entries heads w p numbers listed =
+    subst (λ z. AreStartsAt table haystack entries p
+    (map (start_of entries) z)) (sym listed) (record {
+      in_order = in_order entries test 0 (length entries) (omega arith);
+      each = λ number entry is. by_test number entry is (test number) refl;
+    })
+  where
+    test : ℕ → Bool
+    test = is_candidate_at heads haystack p
+
+    by_part : (number entry : ℕ) → IsEntry entries number entry → (a b : Bool)
+        → may_start_at heads haystack p number ≡ a
+        → may_go_on heads.thirds (after haystack (suc (suc p))) number ≡ b
+        → (a && b) ≡ false → IsDeadAt table haystack entry p
+    by_part number entry is false b by_two by_third off = w.each haystack p number entry is by_two
+    by_part number entry is true false by_two by_third off =
+        w.third haystack p number entry is by_third
+    by_part number entry is true true by_two by_third off = absurd cc
+
+    by_test : (number entry : ℕ) → IsEntry entries number entry → (b : Bool) → test number ≡ b
+        → IsAmong number entry
+        (map (start_of entries)
+        (filter (is_candidate_at heads haystack p) (range_with_len 0 (length entries))))
+        ⊎ IsDeadAt table haystack entry p
+    by_test number entry is true may =
+        let within = slice_get_within entries number entry is in
+        inl (among entries (is_candidate_at heads haystack p) 0 (length entries) number entry
+        (omega arith)
+        (omega (arith, within)) may (get_or_from_slice_get entries number entry 0 is))
+    by_test number entry is false off =
+        inr (by_part number entry is (may_start_at heads haystack p number)
+        (may_go_on heads.thirds (after haystack (suc (suc p))) number) refl refl off)

@@ -1,0 +1,17 @@
+use Rattle.std.proofs.Common.{◌∷◌, [], slice_index}
+use Rattle.std.specs.Prelude.{chars}
+use Rattle.regex_lite_engine.specs.Graph.StoredList.{table_of_list}
+use Rattle.regex_lite_engine.specs.Pikevm.Turns.{AreDeadAt, IsDeadAt}
+use Rattle.regex_lite_engine.proofs.search.SkipLemmas.{passes_as}
+use Rattle.regex_lite_engine.proofs.pikevm.TurnLemmas.{one_dead}
+use Rattle.regex_lite_engine.proofs.search.one_of_list.OneOfListPatterns.pass_over.Goals as goal
+
+pub returns : goal.returns
+returns c = λ p is.
+    let one = c.args.self.now in
+    let table = table_of_list one.list.now in
+    let entry = slice_index one.list.now.entries one.number in
+    let haystack = chars c.args.haystack.now in
+    passes_as (IsDeadAt table haystack entry) (AreDeadAt table haystack (entry ∷ [])) haystack p
+    c.pass_over_one.result (λ i dead. one_dead table haystack entry i dead)
+    (c.pass_over_one.ensures p is)

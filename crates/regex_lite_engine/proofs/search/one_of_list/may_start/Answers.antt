@@ -1,0 +1,22 @@
+use Rattle.std.proofs.Common.{◌≡◌, ◌+◌, suc, Some, slice_index, ap, sym, ◌∙◌, arith}
+use Rattle.std.specs.Prelude.{chars}
+use Rattle.std.proofs.lemmas.Option.{slice_get-get_or}
+use Rattle.regex_lite_syntax.specs.Text.{after}
+use Rattle.regex_lite_engine.specs.Prefilter.ListHeads.{may_start}
+use Rattle.regex_lite_engine.proofs.search.one_of_list.may_start.Goals as goal
+
+pub returns-clause-dead : goal.returns-clause-dead
+returns-clause-dead c = λ p is off.
+    let h = chars c.args.haystack.now in
+    let heads = c.heads.result.now in
+    let number = c.args.number in
+    let later = c.next-second.ensures p is in
+    let next : p + 1 ≡ suc p = omega arith in
+    c.heads.ensures.all.each h p number (slice_index c.args.list.now.entries number)
+    (slice_get-get_or c.args.list.now.entries number 0 c.requires.number)
+    (ap (λ b. may_start heads b (after h p) (after h (suc p)) number) (sym is.behind)
+    ∙ ap (λ a. may_start heads c.args.here.before a (after h (suc p)) number)
+    (sym is.ahead ∙ c.in-Some.is)
+    ∙ ap (λ s. may_start heads c.args.here.before (Some c.in-Some.first) s number)
+    (sym (later.ahead ∙ ap (after h) next))
+    ∙ sym c.may_start.ensures ∙ off)

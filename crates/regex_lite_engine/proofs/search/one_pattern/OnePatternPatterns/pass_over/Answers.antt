@@ -1,0 +1,22 @@
+use Rattle.std.proofs.Common.{◌∷◌, [], sym, subst}
+use Rattle.std.specs.Prelude.{chars}
+use Rattle.regex_lite_engine.specs.Graph.Stored.{table_of}
+use Rattle.regex_lite_engine.specs.Prefilter.Heads.{NeverBegins}
+use Rattle.regex_lite_engine.specs.Search.Starts.{PassesTo}
+use Rattle.regex_lite_engine.specs.Pikevm.Turns.{AreDeadAt}
+use Rattle.regex_lite_engine.proofs.search.SkipLemmas.{passes_as}
+use Rattle.regex_lite_engine.proofs.pikevm.TurnLemmas.{one_dead}
+use Rattle.regex_lite_engine.proofs.search.one_pattern.OnePatternPatterns.pass_over.Goals as goal
+
+pub returns : goal.returns
+returns c = λ p is.
+    let graph = c.args.self.now.graph.now in
+    let haystack = chars c.args.haystack.now in
+    passes_as (NeverBegins graph.heads haystack)
+    (AreDeadAt (table_of graph) haystack (graph.start ∷ [])) haystack p
+    c.pass_over.result
+    (λ i never. one_dead (table_of graph) haystack graph.start i (c.heads.ensures.all haystack i
+    (subst (λ h. NeverBegins h haystack i) (sym c.heads.ensures.same) never)))
+    (subst (λ h. PassesTo (NeverBegins h haystack) haystack p c.pass_over.result)
+    c.heads.ensures.same
+    (c.pass_over.ensures.passes p is))

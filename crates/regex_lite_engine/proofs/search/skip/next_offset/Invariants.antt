@@ -1,0 +1,13 @@
+use Rattle.std.proofs.Common.{length, ◌-◌, ◌≤◌, ◌<◌, ℕ}
+use Rattle.regex_lite_engine.specs.Prefilter.Heads.{IsPassed}
+use Rattle.regex_lite_engine.proofs.search.skip.next_offset.Given as goal
+
+abbrev pub invariant-stops : goal.invariant-stops
+invariant-stops l = record {
+  low : l.from ≤ l.at;
+  high : l.at ≤ length l.bytes;
+  passed : (k : ℕ) → l.from ≤ k → k < l.at → IsPassed l.heads l.bytes k;
+}
+
+abbrev pub decreases-stops : goal.decreases-stops
+decreases-stops l = length l.bytes - l.at

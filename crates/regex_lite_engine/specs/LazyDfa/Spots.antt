@@ -1,0 +1,46 @@
+-- A search that goes by remembered turns from offset to offset, without the characters beside them.
+use Rattle.std.specs.Prelude.{◌≡◌, ◌⊎◌, ℕ, List, [], None, Some, slice_get}
+use Rattle.regex_lite_syntax.specs.Text.{Text}
+use Rattle.regex_lite_engine.specs.declared.lazy_dfa.scan.Standing.{Standing}
+use Rattle.regex_lite_engine.specs.declared.lazy_dfa.spot.Spot.{Spot}
+use Rattle.regex_lite_engine.specs.declared.lazy_dfa.spot.Turn.{Turn}
+use Rattle.regex_lite_engine.specs.declared.search.here.Here.{Here}
+use Rattle.regex_lite_engine.specs.Graph.Places.{Place}
+use Rattle.regex_lite_engine.specs.LazyDfa.Automaton.{Automaton, LeadsOn, State, best_left}
+use Rattle.regex_lite_engine.specs.LazyDfa.Intervals.{IsAhead}
+use Rattle.regex_lite_engine.specs.LazyDfa.Scanning.{best_told, IsScanning}
+
+-- a search from position low on stands there, at position p, with this first start and last match
+pub record IsSpotAt (table : List (Place ℕ)) (entries : List ℕ) (haystack : Text) (low p : ℕ)
+    (automaton : Automaton) (spot : Spot) (told : Standing) : Type 0 where
+  pub here : Here
+  pub at : here.at ≡ spot.at
+  pub scanning : IsScanning table entries haystack low p automaton (record {
+    here = here;
+    state = spot.state;
+    first = told.first;
+    best = told.best;
+  })
+
+-- wherever a search in state x sees a character of the class of the one at this offset, its turn
+-- leads to that state, and here to that offset
+pub record IsTurn (table : List (Place ℕ)) (entries : List ℕ) (automaton : Automaton)
+    (bytes : List ℕ) (at x : ℕ) (turn : Turn) : Type 0 where
+  pub class : ℕ
+  pub ahead : IsAhead automaton.intervals.boundaries bytes at
+      (record { class = class; end = turn.end })
+  pub from : State
+  pub is_from : slice_get automaton.states x ≡ Some from
+  pub to : State
+  pub is_to : slice_get automaton.states turn.to ≡ Some to
+  pub leads : LeadsOn table entries automaton.intervals from class to
+
+-- after the turn to this state the search stands there, and has something to do
+pub record IsTaken (spot : Spot) (turn : Turn) (state : State) (before after : Standing)
+    (on : Spot) : Type 0 where
+  pub at : on.at ≡ turn.end
+  pub is_to : on.state ≡ turn.to
+  pub best : best_told after.best
+      ≡ best_left state.hit before.first spot.at (best_told before.best)
+  pub first : ((state.ways ≡ []) × (after.first ≡ on.at) × (after.best ≡ None))
+      ⊎ ((state.ways ≡ [] → ⊥) × (after.first ≡ before.first))

@@ -1,0 +1,13 @@
+-- What the functions of the search by ordered sets promise one another.
+pub mod Beginnings
+pub mod Machine
+pub mod Cells
+pub mod InStep
+pub mod Walking
+pub mod Entering
+pub mod Again
+pub mod Room
+pub mod Turns
+pub mod Searching
+pub mod Passing
+pub mod Outcomes

@@ -1,0 +1,48 @@
+-- A turn that holds again: at another position that looks the same, where something else is known
+-- of where the ways began, and no slots are kept.
+use Rattle.std.specs.Prelude.{◌≡◌, ℕ, Bool, true, false, List, []}
+use Rattle.std.specs.Prelude.{◌∷◌, map, slice_get, Option, Some, None}
+use Rattle.regex_lite_syntax.specs.Tree.Looks.{holds_between}
+use Rattle.regex_lite_engine.specs.declared.search.here.Here.{Here}
+use Rattle.regex_lite_engine.specs.Graph.Places.{Arrow, Condition, free, holding}
+use Rattle.regex_lite_engine.specs.Graph.Places.{reading, Place, complete, with_arrows}
+use Rattle.regex_lite_engine.specs.Pikevm.Beginnings.{Told}
+use Rattle.regex_lite_engine.specs.Pikevm.Entering.{reads}
+use Rattle.regex_lite_engine.specs.Pikevm.Machine.{Thread}
+use Rattle.regex_lite_engine.specs.Pikevm.Walking.{Best}
+
+-- the condition is met between these neighbours
+abbrev pub is_met : Condition → (before after : Option ℕ) → Bool
+is_met free b a = true
+is_met (holding test) b a = holds_between test b a
+is_met (reading set) b a = reads set a
+
+-- the conditions of the arrows are met here where they are met there
+abbrev pub FitAlike : List (Arrow ℕ) → (here there : Here) → Type 0
+FitAlike [] here there = Unit {0}
+FitAlike (arrow ∷ arrows) here there =
+    (is_met arrow.condition here.before here.after
+    ≡ is_met arrow.condition there.before there.after)
+    × FitAlike arrows here there
+
+abbrev pub FitsAlike : Place ℕ → (here there : Here) → Type 0
+FitsAlike complete here there = Unit {0}
+FitsAlike (with_arrows arrows) here there = FitAlike arrows here there
+
+-- no place distinguishes the two
+abbrev pub AreAlike : List (Place ℕ) → (here there : Here) → Type 0
+AreAlike table here there =
+    (q : ℕ) (place : Place ℕ) → slice_get table q ≡ Some place → FitsAlike place here there
+
+-- the thread, of which something else is known
+abbrev pub retold : (Told → Told) → Thread → Thread
+retold tell thread = (thread.0, tell thread.1, [])
+
+abbrev pub all_retold : (Told → Told) → List Thread → List Thread
+all_retold tell threads = map (retold tell) threads
+
+-- the best match after the turn: that of before, or one that ends at this offset
+abbrev pub best_again : (Told → Told) → (at : ℕ) → (hit : Bool) → (found before : Best) → Best
+best_again tell at false found before = before
+best_again tell at true None before = before
+best_again tell at true (Some found) before = Some (tell found.0, at, [])

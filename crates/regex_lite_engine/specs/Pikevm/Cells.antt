@@ -1,0 +1,118 @@
+-- How the working memory of a search lies in its cells and rows.
+use Rattle.std.specs.Prelude.{◌≡◌, Bool, true, ◌+◌, ◌-◌, ◌*◌, ◌≤◌, ◌<◌, ℕ}
+use Rattle.std.specs.Prelude.{List, [], ◌++◌, take, drop, reverse, replicate}
+use Rattle.std.specs.Prelude.{length, map, None, slice_index, slice_index_or}
+use Rattle.std.specs.List.{range_with_len}
+use Rattle.regex_lite_engine.specs.declared.pikevm.cell.Cell.{Cell}
+use Rattle.regex_lite_engine.specs.declared.pikevm.cell.Frame as code
+use Rattle.regex_lite_engine.specs.declared.pikevm.cell.Frame.TheVariants as stored
+use Rattle.regex_lite_engine.specs.declared.pikevm.cell.Side.{Side}
+use Rattle.regex_lite_engine.specs.declared.pikevm.cell.Side.TheVariants.{First, Second}
+use Rattle.regex_lite_engine.specs.Pikevm.Beginnings.{Told, untold}
+use Rattle.regex_lite_engine.specs.Pikevm.Machine.{Row, Frame, explore, restore, Thread}
+
+-- row k of rows of one width that lie one after the other
+abbrev pub row_at : (slots : Row) → (width k : ℕ) → Row
+row_at slots width k = take width (drop (k * width) slots)
+
+-- slots of which those after the last that was come to hold nothing
+abbrev pub padded : Row → (size : ℕ) → Row
+padded slots size = slots ++ replicate (size - length slots) None
+
+-- there is room for this many rows of this width, of which the first is there
+pub record AreRows (slots : Row) (capacity width count : ℕ) : Type 0 where
+  pub within : length slots ≤ count * width
+  pub fitting : count * width ≤ capacity
+  pub first : 0 < count → width ≤ length slots
+
+abbrev pub rows_in : (slots : Row) → (width count : ℕ) → List Row
+rows_in slots width count = map (row_at slots width) (range_with_len 0 count)
+
+-- the row with this number
+abbrev pub nth_row : List Row → ℕ → Row
+nth_row rows k = slice_index_or rows k []
+
+-- what is left to do
+abbrev pub frame_of : code.Frame → Frame
+frame_of (stored.Explore place) = explore place
+frame_of (stored.Restore slot old) = restore slot old
+
+abbrev pub frame_in : {S : Type 0} → Cell S → Frame
+frame_in cell = frame_of cell.frame
+
+abbrev pub round_in : {S : Type 0} → Cell S → ℕ
+round_in cell = cell.entered
+
+-- of all places: those below `low` have no cell yet, and were not entered
+abbrev pub rounds_in : {S : Type 0} → (low : ℕ) → List (Cell S) → List ℕ
+rounds_in low cells = replicate low 0 ++ map round_in cells
+
+-- the frames of the first cells, the last one next
+abbrev pub frames_in : {S : Type 0} → List (Cell S) → (depth : ℕ) → List Frame
+frames_in cells depth = reverse (take depth (map frame_in cells))
+
+abbrev pub other : Side → Side
+other First = Second
+other Second = First
+
+-- the thread of the one list or the other
+abbrev pub place_on : {S : Type 0} → Side → Cell S → ℕ
+place_on First cell = cell.first_place
+place_on Second cell = cell.second_place
+
+abbrev pub start_on : {S : Type 0} → Side → Cell S → S
+start_on First cell = cell.first_start
+start_on Second cell = cell.second_start
+
+abbrev pub with_thread : {S : Type 0} → Side → (place : ℕ) → (start : S) → Cell S → Cell S
+with_thread First place start cell =
+    record cell { first_place = place; first_start = start }
+with_thread Second place start cell =
+    record cell { second_place = place; second_start = start }
+
+-- the number of a thread's row: that of the way that is followed is 0, and after it those of both
+-- lists take turns, so that few threads need only the first rows
+abbrev pub row_on : Side → (k : ℕ) → ℕ
+row_on First k = 2 * k + 1
+row_on Second k = 2 * k + 2
+
+-- what the thread keeps of where its way began
+abbrev pub start_told : {S : Type 0} → (S → Told) → Side → Cell S → Told
+start_told told side cell = told (start_on side cell)
+
+module _ {S : Type 0} (told : S → Told) (side : Side) (cells : List (Cell S)) (rows : List Row)
+    (room : ℕ) where
+  abbrev pub thread_on : ℕ → Thread
+  thread_on k = (
+    slice_index (map (place_on side) cells) k,
+    slice_index_or (map (start_told told side) cells) k untold,
+    nth_row rows (row_on side k),
+  )
+
+  -- the first n threads of the list
+  abbrev pub threads_on : (n : ℕ) → List Thread
+  threads_on n = map thread_on (range_with_len 0 n)
+
+-- there is room for what is kept, and for cells of all places
+pub record HoldTogether {S : Type 0} (cells : List (Cell S)) (capacity low : ℕ) (ready : Bool)
+    (rows : List Row) (room depth len next_len : ℕ) : Type 0 where
+  pub all_ready : ready ≡ true → low ≡ 0
+  pub cells_fit : low + length cells ≤ capacity
+  pub frames_fit : depth ≤ length cells
+  pub threads_fit : len ≤ length cells
+  pub next_fit : next_len ≤ length cells
+  pub threads_few : len ≤ room
+  pub next_few : next_len ≤ room
+  pub room_few : room ≤ low + length cells
+  pub rows_fit : length rows ≡ 2 * room + 1
+
+-- what a cell holds but for its round
+abbrev pub without_round : {S : Type 0} → Cell S → Cell S
+without_round cell = record cell { entered = 0 }
+
+-- more cells are ready, and nothing has changed: each place keeps its round, and each number what
+-- else it has
+pub record MakesReady {S : Type 0} (low : ℕ) (cells : List (Cell S)) (new_low : ℕ)
+    (new_cells : List (Cell S)) : Type 0 where
+  pub rounds : rounds_in new_low new_cells ≡ rounds_in low cells
+  pub kept : take (length cells) (map without_round new_cells) ≡ map without_round cells

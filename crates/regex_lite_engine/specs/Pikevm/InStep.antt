@@ -1,0 +1,68 @@
+-- A walk over a graph that goes from position to position: what it has recorded, and the ways that
+-- it has still to follow. Nodes stand at positions, and a way has its start in front.
+use Rattle.std.specs.Prelude.{◌≡◌, ◌<◌, ◌≤◌, ◌⊎◌, ℕ, suc, Bool, IsTrue}
+use Rattle.std.specs.Prelude.{List, [], ◌∷◌, ◌++◌, Option, Some}
+use Rattle.regex_lite_engine.specs.Search.Preference.{IsPreferred}
+use Rattle.regex_lite_engine.specs.Search.Explored.{NotAfter, IsAnswered, IsGrown, IsDead}
+
+-- a node, and a way to it
+abbrev pub Offer : Type 0 → Type 0
+Offer N = N × List ℕ
+
+-- the way starts below this position
+abbrev pub StartsBelow : ℕ → List ℕ → Type 0
+StartsBelow from [] = ⊥
+StartsBelow from (i ∷ ks) = i < from
+
+module _ (N : Type 0) where
+  abbrev pub In : N → List ℕ → List (Offer N) → Type 0
+  In n w [] = ⊥
+  In n w (o ∷ os) = ((n ≡ o.0) × (w ≡ o.1)) ⊎ In n w os
+
+  -- each way is preferred to those after it
+  abbrev pub Ordered : List (Offer N) → Type 0
+  Ordered [] = Unit {0}
+  Ordered (o ∷ os) = ((n : N) (w : List ℕ) → In n w os → IsPreferred o.1 w) × Ordered os
+
+module _ (N : Type 0) (step : N → ℕ → Option N) (IsStart : (front : List ℕ) → N → Type 0)
+    (is_end : N → Bool) (position : N → ℕ) where
+  -- At position p. What is offered there are the ways of `now`, and what is offered at the next
+  -- position so far those of `next`. The starts below `from` were offered, or lead to no end
+  pub record IsInStep (p from : ℕ) (recorded : N → Option (List ℕ)) (now next : List (Offer N))
+      (best : Option (List ℕ)) : Type 0 where
+    -- each way is a start alone, or a recorded way and one arrow
+    pub grown : (n : N) (w : List ℕ) → recorded n ≡ Some w
+        → IsGrown N step is_end IsStart recorded best n w
+    pub now_grown : (n : N) (w : List ℕ) → In N n w now
+        → IsGrown N step is_end IsStart recorded best n w
+    pub next_grown : (n : N) (w : List ℕ) → In N n w next
+        → IsGrown N step is_end IsStart recorded best n w
+    -- nothing is forgotten
+    pub starts : (front : List ℕ) (n : N) → IsStart front n → StartsBelow from front
+        → (IsAnswered N step is_end IsStart recorded best n front
+        ⊎ (In N n front now ⊎ In N n front next))
+        ⊎ IsDead N step is_end n
+    pub arrows : (n : N) (w : List ℕ) (k : ℕ) (m : N) → recorded n ≡ Some w → step n k ≡ Some m
+        → IsAnswered N step is_end IsStart recorded best m (w ++ k ∷ [])
+        ⊎ (In N m (w ++ k ∷ []) now ⊎ In N m (w ++ k ∷ []) next)
+    -- the best way is that of the ends which is preferred
+    pub best_ends : (b : List ℕ) → best ≡ Some b
+        → (n : N) × IsTrue (is_end n) × (recorded n ≡ Some b)
+    pub best_least : (n : N) (w : List ℕ) → IsTrue (is_end n) → recorded n ≡ Some w
+        → (b : List ℕ) × (best ≡ Some b) × NotAfter b w
+    -- ways are followed in the order of preference
+    pub now_ordered : Ordered N now
+    pub next_ordered : Ordered N next
+    pub behind : (n : N) (w : List ℕ) (m : N) (v : List ℕ) → In N n w next → In N m v now
+        → IsPreferred w v
+    pub ahead : (n : N) (w : List ℕ) (m : N) (v : List ℕ) → In N n w now → recorded m ≡ Some v
+        → position m ≡ p → NotAfter v w
+    pub now_better : (n : N) (w b : List ℕ) → In N n w now → best ≡ Some b → IsPreferred w b
+    pub next_better : (n : N) (w b : List ℕ) → In N n w next → best ≡ Some b → IsPreferred w b
+    -- where nodes stand, and where ways start
+    pub now_stands : (n : N) (w : List ℕ) → In N n w now → position n ≡ p
+    pub next_stands : (n : N) (w : List ℕ) → In N n w next → position n ≡ suc p
+    pub past : (n : N) (w : List ℕ) → recorded n ≡ Some w → position n ≤ p
+    pub now_below : (n : N) (w : List ℕ) → In N n w now → StartsBelow from w
+    pub next_below : (n : N) (w : List ℕ) → In N n w next → StartsBelow from w
+    pub best_below : (b : List ℕ) → best ≡ Some b → StartsBelow from b

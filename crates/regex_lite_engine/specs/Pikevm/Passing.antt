@@ -1,0 +1,42 @@
+-- From one position of a search to a later one.
+use Rattle.std.specs.Prelude.{◌+◌, ◌-◌, ◌*◌, ◌^◌, ◌≤◌, ◌<◌, ℕ, List, length}
+use Rattle.regex_lite_syntax.specs.Text.{Text}
+use Rattle.regex_lite_engine.specs.declared.search.here.Here.{Here}
+use Rattle.regex_lite_engine.specs.declared.pikevm.cache.Cache.{Cache}
+use Rattle.regex_lite_engine.specs.Graph.Parts.{IsOwnPart, row_of}
+use Rattle.regex_lite_engine.specs.Graph.Places.{Place}
+use Rattle.regex_lite_engine.specs.Graph.Renumbered.{arrows_of}
+use Rattle.regex_lite_engine.specs.Pikevm.Searching.{IsBetween}
+use Rattle.regex_lite_engine.specs.Search.Standing.{IsHere}
+use Rattle.regex_lite_engine.specs.Pikevm.Turns.{best_of, IsComing, EndsAt}
+
+module _ (table : List (Place ℕ)) (haystack : Text) (starts : List ℕ) (s : ℕ) where
+  -- a search up to position p has cost no more than what is in this part of the table
+  pub record HasSpentWithin {S : Type 0} (low len p : ℕ) (cache : Cache S) : Type 0 where
+    pub tries :
+        cache.walk.steps.tried + length cache.walk.memory.threads
+        ≤ (arrows_of (row_of table low len) + length starts) * (p - s)
+    pub entries : cache.walk.steps.entered ≤ len * (p - s)
+
+  -- a search from position s on has come to position p
+  pub record IsUnderWay {S : Type 0} (p : ℕ) (cache : Cache S) : Type 0 where
+    pub low : s ≤ p
+    pub ready : IsBetween table cache
+    pub coming : IsComing table haystack starts s (length haystack) p cache.walk.memory.threads
+        (best_of cache.best)
+    pub tries :
+        cache.walk.steps.tried + length cache.walk.memory.threads
+        ≤ (arrows_of table + length starts) * (p - s)
+    pub entries : cache.walk.steps.entered ≤ length table * (p - s)
+    pub own : (low len : ℕ) → IsOwnPart table starts low len → HasSpentWithin low len p cache
+    pub rounds : cache.walk.memory.now < 2 ^ 63 + (p - s)
+
+  -- it has gone over a position that is not before p
+  pub record Passes {S : Type 0} (p : ℕ) (cache cache' : Cache S) (here : Here) : Type 0 where
+    pub q : ℕ
+    pub later : p ≤ q
+    pub is : IsHere haystack q here
+    pub before : IsComing table haystack starts s (length haystack) q cache.walk.memory.threads
+        (best_of cache.best)
+    pub ends : EndsAt here.at (best_of cache.best) (best_of cache'.best)
+    pub after : IsUnderWay (q + 1) cache'

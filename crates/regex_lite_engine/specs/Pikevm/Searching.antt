@@ -1,0 +1,99 @@
+-- What a search works in, as one value.
+use Rattle.std.specs.Prelude.{◌≡◌, ◌+◌, ◌^◌, ◌≤◌, ◌<◌, ℕ, Bool, true, false, List, [], None, length}
+use Rattle.regex_lite_syntax.specs.Text.{Text}
+use Rattle.regex_lite_engine.specs.declared.search.here.Here.{Here}
+use Rattle.regex_lite_engine.specs.declared.search.patterns.Start.{Start}
+use Rattle.regex_lite_engine.specs.declared.pikevm.cache.Cache.{Cache}
+use Rattle.regex_lite_engine.specs.Graph.Parts.{row_of}
+use Rattle.regex_lite_engine.specs.Graph.Places.{Place, kept_back_of}
+use Rattle.regex_lite_engine.specs.Graph.Renumbered.{arrows_of}
+use Rattle.regex_lite_engine.specs.Pikevm.Again.{AreAlike, all_retold, best_again}
+use Rattle.regex_lite_engine.specs.Pikevm.Beginnings.{Told, Tells}
+use Rattle.regex_lite_engine.specs.Pikevm.Machine.{Thread, thread_at}
+use Rattle.regex_lite_engine.specs.Pikevm.Room.{KeepsPosition, ThreadsBelow, due_tries, due_entries}
+use Rattle.regex_lite_engine.specs.Search.Standing.{IsHere}
+use Rattle.regex_lite_engine.specs.Pikevm.Turns.{best_of, with_starts, AreStartsAt}
+use Rattle.regex_lite_engine.specs.Pikevm.Turns.{IsComing, StepsTo, IsReady}
+use Rattle.regex_lite_engine.specs.Pikevm.Walking.{Best}
+
+-- the ways that are followed at a position: its threads, and its own starts
+abbrev pub ways_at : {S : Type 0} → List Start → (told : ℕ → Told) → Cache S → List Thread
+ways_at starts told cache =
+    with_starts starts told (best_of cache.best) (length cache.walk.memory.row)
+    cache.walk.memory.threads
+
+-- there is a match that was complete there, or that of before
+abbrev pub IsHit : (hit : Bool) → (before after : Best) → Type 0
+IsHit true before after = after ≡ None → ⊥
+IsHit false before after = after ≡ before
+
+module _ (table : List (Place ℕ)) where
+  -- between two positions
+  abbrev pub IsBetween : {S : Type 0} → Cache S → Type 0
+  IsBetween cache =
+      IsReady table cache.walk.memory cache.best cache.walk.steps.tried cache.walk.steps.entered
+      cache.walk.steps.looked
+
+  -- before these ways are followed
+  pub record IsPlaced {S : Type 0} (ways : List Thread) (cache : Cache S) : Type 0 where
+    pub stack_empty : cache.walk.memory.frames ≡ []
+    pub stack_room : kept_back_of table < length table
+    pub below : ThreadsBelow (length table) cache.walk.memory.threads
+    pub best_width : length cache.best.row ≡ length cache.walk.memory.row
+    pub budget :
+        due_tries table cache.walk.memory.rounds cache.walk.memory.now [] cache.walk.memory.next
+        cache.walk.steps.tried + length ways < 2 ^ 127
+
+  -- these ways were followed
+  pub record Follows {S : Type 0} (here : Here) (ways : List Thread) (cache cache' : Cache S)
+      : Type 0 where
+    pub steps : StepsTo table here cache.walk.memory.now (thread_at ways) (length ways)
+        cache.walk.memory.rounds cache.walk.memory.next (best_of cache.best) (length ways)
+        cache'.walk.memory.rounds cache'.walk.memory.next (best_of cache'.best)
+    pub spent :
+        due_tries table cache'.walk.memory.rounds cache.walk.memory.now [] cache'.walk.memory.next
+        cache'.walk.steps.tried
+        ≤ due_tries table cache.walk.memory.rounds cache.walk.memory.now [] cache.walk.memory.next
+        cache.walk.steps.tried + length ways
+    pub spent_entries :
+        due_entries table cache'.walk.memory.rounds cache.walk.memory.now
+        cache'.walk.steps.entered
+        ≤ due_entries table cache.walk.memory.rounds cache.walk.memory.now
+        cache.walk.steps.entered
+    pub stack_empty : cache'.walk.memory.frames ≡ []
+    pub kept : KeepsPosition cache.walk.memory cache'.walk.memory
+    pub best_width : length cache'.best.row ≡ length cache.best.row
+
+  -- they would be wherever it looks the same, whatever is kept of where the ways began
+  abbrev pub FollowsAgain : {S : Type 0} → Here → (ways : List Thread) → Cache S → Cache S
+      → (hit : Bool) → Type 0
+  FollowsAgain here ways cache cache' hit =
+      (tell : Told → Told) (there : Here) (best : Best) → AreAlike table here there
+      → StepsTo table there cache.walk.memory.now (thread_at (all_retold tell ways)) (length ways)
+      cache.walk.memory.rounds (all_retold tell cache.walk.memory.next) best (length ways)
+      cache'.walk.memory.rounds (all_retold tell cache'.walk.memory.next)
+      (best_again tell there.at hit (best_of cache'.best) best)
+
+  -- a turn holds again wherever it looks the same and the same starts suffice, as long as there is
+  -- a match in both or in neither
+  abbrev pub TurnsAgain : {S : Type 0} → List Start → Here → (told : ℕ → Told) → Cache S → Cache S
+      → (hit : Bool) → Type 0
+  TurnsAgain starts here told cache cache' hit =
+      (tell : Told → Told) (there : Here) (best : Best) → AreAlike table here there
+      → ((number : ℕ) → Tells (tell (told number)) there.at number)
+      → (best ≡ None → best_of cache.best ≡ None) → (best_of cache.best ≡ None → best ≡ None)
+      → (haystack : Text) (entries : List ℕ) (p first last : ℕ) → IsHere haystack p there
+      → first ≤ p → p ≤ last → AreStartsAt table haystack entries p starts
+      → IsComing table haystack entries first last p (all_retold tell cache.walk.memory.threads)
+      best
+      → IsComing table haystack entries first last (p + 1)
+      (all_retold tell cache'.walk.memory.threads)
+      (best_again tell there.at hit (best_of cache'.best) best)
+
+  -- a position has cost no more than what is in this part of the table, and this many starts
+  pub record SpendsWithin {S : Type 0} (low len starts : ℕ) (cache cache' : Cache S) : Type 0 where
+    pub tries :
+        cache'.walk.steps.tried + length cache'.walk.memory.threads
+        ≤ cache.walk.steps.tried + length cache.walk.memory.threads
+        + (arrows_of (row_of table low len) + starts)
+    pub entries : cache'.walk.steps.entered ≤ cache.walk.steps.entered + len

@@ -1,0 +1,87 @@
+-- What a search over a table of numbered places keeps true while it goes over one position.
+use Rattle.std.specs.Prelude.{◌≡◌, ◌+◌, ◌<◌, ℕ, suc, IsTrue, List, [], ◌∷◌, ◌++◌}
+use Rattle.std.specs.Prelude.{length, Option, Some, None, slice_set, slice_index}
+use Rattle.regex_lite_syntax.specs.Text.{Text}
+use Rattle.regex_lite_engine.specs.Graph.Places.{Place}
+use Rattle.regex_lite_engine.specs.Graph.Ways.{Leads}
+use Rattle.regex_lite_engine.specs.Search.Marks.{marks_along}
+use Rattle.regex_lite_engine.specs.Search.NumberedAnswer.{place_with, numbered_step, is_end}
+use Rattle.regex_lite_engine.specs.Search.NumberedList.{IsEntry, StartsOf}
+use Rattle.regex_lite_engine.specs.Search.Offsets.{offset, HasSlots}
+use Rattle.regex_lite_engine.specs.Pikevm.Beginnings.{Told, Tells}
+use Rattle.regex_lite_engine.specs.Pikevm.Machine.{Row, Frame, explore, restore, Thread}
+use Rattle.regex_lite_engine.specs.Pikevm.InStep.{Offer, IsInStep}
+
+-- a place at a position
+abbrev pub Node : Type 0
+Node = ℕ × ℕ
+
+-- the best match so far: what is kept of its start, the offset of its end, and its row
+abbrev pub Best : Type 0
+Best = Option (Told × ℕ × Row)
+
+module _ (table : List (Place ℕ)) (haystack : Text) where
+  module _ (s : List ℕ) where
+    -- the way w leads to n from where a pattern is entered, of which i is kept, and the row has
+    -- what it marks. It begins with the position there, and then the pattern's number
+    abbrev pub WayTold : (i : Told) → Row → Node → (w : List ℕ) → Type 0
+    WayTold i row n w =
+        (j : ℕ) × (number : ℕ) × (entry : ℕ) × (ks : List ℕ) × Tells i (offset haystack j) number
+        × IsEntry s number entry × (w ≡ j ∷ (number ∷ ks))
+        × Leads Node (numbered_step table haystack) (entry, j) ks n
+        × HasSlots haystack row (marks_along haystack (place_with table) (Some (entry, j)) ks)
+
+    -- the frames hold the offers at position p, the first on top. The row of each is that which
+    -- stands when its frame comes off
+    abbrev pub FramesHold : (p : ℕ) → (i : Told) → Row → List Frame → List (Offer Node) → Type 0
+    FramesHold p i row [] os = os ≡ []
+    FramesHold p i row (explore q ∷ frames) os =
+        (w : List ℕ) × (rest : List (Offer Node)) × (os ≡ ((q, p), w) ∷ rest)
+        × WayTold i row (q, p) w × FramesHold p i row frames rest
+    FramesHold p i row (restore slot old ∷ frames) os =
+        FramesHold p i (slice_set row slot old) frames os
+
+    -- the threads from the k-th on hold the offers at position p
+    abbrev pub ThreadsHold : (p : ℕ) → (ℕ → Thread) → (k : ℕ) → List (Offer Node) → Type 0
+    ThreadsHold p threads k [] = Unit {0}
+    ThreadsHold p threads k (o ∷ os) =
+        (o.0 ≡ ((threads k).0, p)) × WayTold (threads k).1 (threads k).2 o.0 o.1
+        × ThreadsHold p threads (suc k) os
+
+    -- the best match is that of the way
+    abbrev pub BestHolds : Best → Option (List ℕ) → Type 0
+    BestHolds None way = way ≡ None
+    BestHolds (Some b) way =
+        (w : List ℕ) × (way ≡ Some w)
+        × ((q : ℕ) × (e : ℕ) × (b.1 ≡ offset haystack e) × IsTrue (is_end table haystack (q, e))
+        × WayTold b.0 b.2 (q, e) w)
+
+    module _ (first last : ℕ) where
+      abbrev pub InStep : (p from : ℕ) → (recorded : Node → Option (List ℕ))
+          → (offers next : List (Offer Node)) → (way : Option (List ℕ)) → Type 0
+      InStep =
+          IsInStep Node (numbered_step table haystack) (StartsOf s first last)
+          (is_end table haystack) (λ n. n.1)
+
+      -- At position p. The frames belong to a thread of whose start i is kept. Left are the
+      -- frames, then the threads from the k-th to the n-th; at the next position there are so far
+      -- the m threads of `next`. Starts below `from` were offered
+      pub record IsWalking (p from : ℕ) (rounds : List ℕ) (now : ℕ) (i : Told) (row : Row)
+          (frames : List Frame) (threads : ℕ → Thread) (k n : ℕ) (next : ℕ → Thread) (m : ℕ)
+          (best : Best) : Type 0 where
+        pub recorded : Node → Option (List ℕ)
+        pub under : List (Offer Node)
+        pub later : List (Offer Node)
+        pub coming : List (Offer Node)
+        pub way : Option (List ℕ)
+        pub in_step : InStep p from recorded (under ++ later) coming way
+        -- just the places with a record at the position are in the set of those entered
+        pub seen : (q : ℕ) (v : List ℕ) → recorded (q, p) ≡ Some v → slice_index rounds q ≡ now
+        pub met : (q : ℕ) → q < length rounds → slice_index rounds q ≡ now
+            → (v : List ℕ) × (recorded (q, p) ≡ Some v)
+        pub frames_hold : FramesHold p i row frames under
+        pub later_hold : ThreadsHold p threads k later
+        pub later_all : k + length later ≡ n
+        pub coming_hold : ThreadsHold (suc p) next 0 coming
+        pub coming_all : length coming ≡ m
+        pub best_holds : BestHolds best way

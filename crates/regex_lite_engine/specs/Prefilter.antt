@@ -1,0 +1,6 @@
+-- Where a match can begin, by the next characters.
+pub mod Starts
+pub mod Heads
+pub mod ListHeads
+pub mod Thirds
+pub mod Bytes

@@ -1,0 +1,83 @@
+-- The answer of a search in a graph whose places have numbers.
+use Rattle.std.specs.Prelude.{◌≡◌, ◌≤◌, ◌⊎◌, ℕ, Bool, true, false, IsTrue, List, []}
+use Rattle.std.specs.Prelude.{◌∷◌, Option, Some, None, length, slice_get, unwrap_or}
+use Rattle.regex_lite_syntax.specs.Text.{Text}
+use Rattle.regex_lite_syntax.specs.Tree.Matches.{IsPosition}
+use Rattle.regex_lite_engine.specs.Graph.Places.{Place, complete, with_arrows, step}
+use Rattle.regex_lite_engine.specs.Graph.Ways.{Leads, IsWay}
+use Rattle.regex_lite_engine.specs.Search.Marks.{marks_along}
+use Rattle.regex_lite_engine.specs.Search.Preference.{IsPreferred}
+use Rattle.regex_lite_engine.specs.Search.Answer.{Found}
+use Rattle.regex_lite_engine.specs.Search.Explored.{StartsAt, IsExplored}
+
+-- the place with a number. Where there is none, it has no arrow
+abbrev pub place_with : List (Place ℕ) → ℕ → Place ℕ
+place_with table q = unwrap_or (slice_get table q) (with_arrows [])
+
+abbrev pub is_complete : {A : Type 0} → Place A → Bool
+is_complete complete = true
+is_complete (with_arrows arrows) = false
+
+module _ (table : List (Place ℕ)) (haystack : Text) where
+  -- where arrow k leads from a place and position
+  abbrev pub numbered_step : ℕ × ℕ → ℕ → Option (ℕ × ℕ)
+  numbered_step = step haystack (place_with table)
+
+  -- a match is complete there
+  abbrev pub is_end : ℕ × ℕ → Bool
+  is_end pair = is_complete (place_with table pair.0)
+
+  module _ (start : ℕ) where
+    -- a way from position i to position j, where a match is complete at place q
+    pub record IsNumberedWay (i : ℕ) (way : List ℕ) (q j : ℕ) : Type 0 where
+      pub is_way : IsWay (ℕ × ℕ) numbered_step (start, i) way (q, j)
+      pub ends : IsTrue (is_end (q, j))
+
+    -- it begins at a position at or after s
+    pub record IsNumberedMatch (s i : ℕ) (way : List ℕ) (q j : ℕ) : Type 0 where
+      pub from : s ≤ i
+      pub inside : IsPosition haystack i
+      pub leads : IsNumberedWay i way q j
+
+    pub record IsNumberedFound (s : ℕ) (found : Found) : Type 0 where
+      pub from : s ≤ found.start
+      pub inside : IsPosition haystack found.start
+      pub least : (i q j : ℕ) (way : List ℕ) → IsNumberedMatch s i way q j → found.start ≤ i
+      pub way : List ℕ
+      pub last : ℕ
+      pub is_way : IsNumberedWay found.start way last found.end
+      pub preferred : (other : List ℕ) (q j : ℕ) → IsNumberedWay found.start other q j
+          → (way ≡ other) ⊎ IsPreferred way other
+      pub marks : found.marks
+          ≡ marks_along haystack (place_with table) (Some (start, found.start)) way
+
+    -- the answer of a search from position s on
+    abbrev pub IsNumberedAnswer : (s : ℕ) → Option Found → Type 0
+    IsNumberedAnswer s None =
+        (i q j : ℕ) (way : List ℕ) → IsNumberedMatch s i way q j → ⊥
+    IsNumberedAnswer s (Some found) = IsNumberedFound s found
+
+    -- what a search from position s on for the shortest match answers
+    abbrev pub IsNumberedShortest : (s : ℕ) → Option ℕ → Type 0
+    IsNumberedShortest s None =
+        (i q j : ℕ) (way : List ℕ) → IsNumberedMatch s i way q j → ⊥
+    IsNumberedShortest s (Some end) =
+        ((i : ℕ) × (q : ℕ) × (way : List ℕ) × IsNumberedMatch s i way q end)
+        × ((i q j : ℕ) (way : List ℕ) → IsNumberedMatch s i way q j → end ≤ j)
+
+    -- a search from position s on is over
+    abbrev pub IsOver : (s : ℕ) → (recorded : ℕ × ℕ → Option (List ℕ)) → (best : Option (List ℕ))
+        → Type 0
+    IsOver s recorded best =
+        IsExplored (ℕ × ℕ) numbered_step is_end (StartsAt (λ i. (start, i)) s (length haystack))
+        recorded best
+
+    -- the answer has the start, the end and the marks of this way
+    abbrev pub IsOfWay : Option (List ℕ) → Option Found → Type 0
+    IsOfWay None answer = answer ≡ None
+    IsOfWay (Some best) answer =
+        (found : Found) × (way : List ℕ) × (q : ℕ) × (answer ≡ Some found)
+        × (best ≡ found.start ∷ way)
+        × Leads (ℕ × ℕ) numbered_step (start, found.start) way (q, found.end)
+        × (found.marks
+        ≡ marks_along haystack (place_with table) (Some (start, found.start)) way)

@@ -1,0 +1,71 @@
+-- The answer of a search for several patterns in a graph whose places have numbers. Each pattern is
+-- entered at a place of its own.
+use Rattle.std.specs.Prelude.{◌≡◌, ◌≤◌, ◌<◌, ◌⊎◌, ℕ, List, [], ◌∷◌}
+use Rattle.std.specs.Prelude.{Option, Some, None, length, slice_get}
+use Rattle.regex_lite_syntax.specs.Text.{Text}
+use Rattle.regex_lite_engine.specs.Graph.Places.{Place}
+use Rattle.regex_lite_engine.specs.Graph.Ways.{Leads}
+use Rattle.regex_lite_engine.specs.Search.Marks.{marks_along}
+use Rattle.regex_lite_engine.specs.Search.Answer.{Found}
+use Rattle.regex_lite_engine.specs.Search.Explored.{IsExplored}
+use Rattle.regex_lite_engine.specs.Search.NumberedAnswer.{place_with, numbered_step, is_end}
+use Rattle.regex_lite_engine.specs.Search.NumberedAnswer.{IsNumberedMatch, IsNumberedFound}
+
+-- the pattern with this number is entered at this place
+abbrev pub IsEntry : (entries : List ℕ) → (number entry : ℕ) → Type 0
+IsEntry entries number entry = slice_get entries number ≡ Some entry
+
+-- There is a start of each pattern at each position from the first to the last. It is given by the
+-- position, and then by the pattern's number
+abbrev pub StartsOf : (entries : List ℕ) → (first last : ℕ) → (front : List ℕ) → ℕ × ℕ → Type 0
+StartsOf entries first last front n =
+    (i : ℕ) × (number : ℕ) × (entry : ℕ) × (first ≤ i) × (i ≤ last)
+    × IsEntry entries number entry × (front ≡ i ∷ (number ∷ [])) × (n ≡ (entry, i))
+
+module _ (table : List (Place ℕ)) (haystack : Text) (entries : List ℕ) where
+  -- a match of any pattern from a position at or after s
+  pub record IsMatchOfAny (s i number : ℕ) (way : List ℕ) (q j : ℕ) : Type 0 where
+    pub entry : ℕ
+    pub is_entry : IsEntry entries number entry
+    pub is_match : IsNumberedMatch table haystack entry s i way q j
+
+  -- the pattern's answer, and all matches of the patterns start further on, or there and have no
+  -- lower number
+  pub record IsNumberedFoundOf (s number : ℕ) (found : Found) : Type 0 where
+    pub entry : ℕ
+    pub is_entry : IsEntry entries number entry
+    pub answer : IsNumberedFound table haystack entry s found
+    pub first : (i k : ℕ) (way : List ℕ) (q j : ℕ) → IsMatchOfAny s i k way q j
+        → (found.start < i) ⊎ ((found.start ≡ i) × (number ≤ k))
+
+  -- the answer of a search from position s on
+  abbrev pub IsNumberedAnswerOf : (s : ℕ) → Option (ℕ × Found) → Type 0
+  IsNumberedAnswerOf s None =
+      (i k : ℕ) (way : List ℕ) (q j : ℕ) → IsMatchOfAny s i k way q j → ⊥
+  IsNumberedAnswerOf s (Some told) = IsNumberedFoundOf s told.0 told.1
+
+  -- the least position at which a match of any pattern ends that starts at or after s
+  pub record IsNumberedShortestOf (s end : ℕ) : Type 0 where
+    pub start : ℕ
+    pub number : ℕ
+    pub way : List ℕ
+    pub last : ℕ
+    pub is_match : IsMatchOfAny s start number way last end
+    pub least : (i k : ℕ) (way : List ℕ) (q j : ℕ) → IsMatchOfAny s i k way q j → end ≤ j
+
+  -- a search from position s on is over
+  abbrev pub IsOverOf : (s : ℕ) → (recorded : ℕ × ℕ → Option (List ℕ)) → (best : Option (List ℕ))
+      → Type 0
+  IsOverOf s recorded best =
+      IsExplored (ℕ × ℕ) (numbered_step table haystack) (is_end table haystack)
+      (StartsOf entries s (length haystack)) recorded best
+
+  -- the answer has the number, the start, the end and the marks of this way
+  abbrev pub IsOfWayOf : Option (List ℕ) → Option (ℕ × Found) → Type 0
+  IsOfWayOf None answer = answer ≡ None
+  IsOfWayOf (Some best) answer =
+      (number : ℕ) × (entry : ℕ) × (found : Found) × (way : List ℕ) × (q : ℕ)
+      × (answer ≡ Some (number, found)) × IsEntry entries number entry
+      × (best ≡ found.start ∷ (number ∷ way))
+      × Leads (ℕ × ℕ) (numbered_step table haystack) (entry, found.start) way (q, found.end)
+      × (found.marks ≡ marks_along haystack (place_with table) (Some (entry, found.start)) way)

@@ -1,0 +1,59 @@
+-- Where a match can begin in a graph, and the positions that a search passes over.
+use Rattle.std.specs.Prelude.{◌≡◌, ◌≤◌, ◌<◌, ◌⊎◌, ℕ, suc, false}
+use Rattle.std.specs.Prelude.{List, [], None, length, slice_index}
+use Rattle.regex_lite_syntax.specs.Text.{Text, after}
+use Rattle.regex_lite_engine.specs.declared.prefilter.heads.Heads.{Heads}
+use Rattle.regex_lite_engine.specs.declared.prefilter.list_heads.ListHeads.{ListHeads}
+use Rattle.regex_lite_engine.specs.declared.search.here.Here.{Here}
+use Rattle.regex_lite_engine.specs.declared.search.patterns.Start.{Start}
+use Rattle.regex_lite_engine.specs.Graph.Places.{Place}
+use Rattle.regex_lite_engine.specs.Prefilter.Heads.{NeverBegins}
+use Rattle.regex_lite_engine.specs.Prefilter.ListHeads.{may_start_at, IsWalkable}
+use Rattle.regex_lite_engine.specs.Prefilter.Starts.{MayBegin}
+use Rattle.regex_lite_engine.specs.Prefilter.Thirds.{may_go_on}
+use Rattle.regex_lite_engine.specs.Pikevm.Machine.{Thread}
+use Rattle.regex_lite_engine.specs.Search.NumberedList.{IsEntry}
+use Rattle.regex_lite_engine.specs.Search.Standing.{IsHere}
+use Rattle.regex_lite_engine.specs.Pikevm.Turns.{AreDeadAt, IsDeadAt}
+use Rattle.regex_lite_engine.specs.Pikevm.Walking.{Best}
+
+-- no way from the start leads to a complete match where none can begin
+abbrev pub AreHeadsOf : List (Place ℕ) → (start : ℕ) → Heads → Type 0
+AreHeadsOf table start heads =
+    (haystack : Text) (i : ℕ) → NeverBegins heads haystack i → IsDeadAt table haystack start i
+
+-- `here` is at position p or a later one, and each position between is one of these
+pub record PassesTo (Passed : ℕ → Type 0) (haystack : Text) (p : ℕ) (here : Here) : Type 0 where
+  pub q : ℕ
+  pub later : p ≤ q
+  pub is : IsHere haystack q here
+  pub passed : (i : ℕ) → p ≤ i → i < q → Passed i
+
+-- A search goes on here from position p. Where there is neither a thread nor a match it passes over
+-- positions at which no match can start
+abbrev pub GoesOnAt : List (Place ℕ) → Text → (entries : List ℕ) → List Thread → Best → (p : ℕ)
+    → Here → Type 0
+GoesOnAt table haystack entries threads best p here =
+    IsHere haystack p here
+    ⊎ ((threads ≡ []) × (best ≡ None)
+    × PassesTo (AreDeadAt table haystack entries) haystack p here)
+
+-- where the index of several patterns says so, no way from an entry leads to a complete match
+pub record AreListHeadsOf (table : List (Place ℕ)) (entries : List ℕ) (heads : ListHeads)
+    : Type 0 where
+  pub count : heads.count ≡ length entries
+  pub walkable : IsWalkable heads
+  -- of no pattern where none of all can begin
+  pub any : (haystack : Text) (p : ℕ) → (MayBegin heads.any haystack p → ⊥)
+      → AreDeadAt table haystack entries p
+  -- of none that may not start there
+  pub each : (haystack : Text) (p number entry : ℕ) → IsEntry entries number entry
+      → may_start_at heads haystack p number ≡ false → IsDeadAt table haystack entry p
+  -- nor of one that may not go on with the third character
+  pub third : (haystack : Text) (p number entry : ℕ) → IsEntry entries number entry
+      → may_go_on heads.thirds (after haystack (suc (suc p))) number ≡ false
+      → IsDeadAt table haystack entry p
+
+-- the pattern with this number, and the place where it is entered
+abbrev pub start_of : (entries : List ℕ) → (number : ℕ) → Start
+start_of entries number = record { number = number; place = slice_index entries number }

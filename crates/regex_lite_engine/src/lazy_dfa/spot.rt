@@ -1,0 +1,238 @@
+//! Scans that go by offsets, without the characters beside them.
+ghost use Rattle.std.specs.Prelude.{◌≡◌, ◌+◌, ◌<◌, ◌≤◌, ◌∷◌, [], ℕ, IfSome, IsCharBoundary};
+ghost use Rattle.std.specs.Prelude.{MatchOption, None, Some, chars, false, length, slice_get};
+ghost use Rattle.regex_lite_engine.specs.Graph.Stored.{table_of};
+ghost use Rattle.regex_lite_engine.specs.LazyDfa.Automaton.{Remembers, State};
+ghost use Rattle.regex_lite_engine.specs.LazyDfa.Intervals.{IsInterval};
+ghost use Rattle.regex_lite_engine.specs.LazyDfa.Scanning.{IsScanning, IsSince};
+ghost use Rattle.regex_lite_engine.specs.LazyDfa.Spots.{IsTaken, IsTurn};
+ghost use Rattle.regex_lite_engine.specs.LazyDfa.Stored.{hit_in};
+ghost use Rattle.regex_lite_engine.specs.Search.Offsets.{position_at};
+ghost use Rattle.regex_lite_engine.specs.Search.Standing.{IsHere};
+
+use crate::Graph;
+use crate::lazy_dfa::automaton::{LazyDfa, UNKNOWN};
+use crate::lazy_dfa::classes::Ahead;
+use crate::lazy_dfa::interval::Interval;
+use crate::lazy_dfa::scan::Standing;
+use crate::lazy_dfa::state::Hit;
+use crate::search::here::Here;
+
+/// Where a scan stands between two turns. What changes less often is left in its [`Standing`], so
+/// that a turn moves little.
+#[derive(Clone, Copy)]
+pub(super) struct Spot {
+    at: usize,
+    state: u16,
+    /// How many turns in a row led from nothing to go on from to nothing.
+    idle: u32,
+}
+
+/// Where a turn leads: to this state, and to this offset.
+#[derive(Clone, Copy)]
+pub(super) struct Turn {
+    to: u16,
+    end: usize,
+}
+
+/// After this many of them it is faster to pass over the positions at which no match can begin.
+const MOST_IDLE: u32 = 8;
+
+impl LazyDfa {
+    /// Goes on while turns are remembered, up to the last of them that isn't the end of the search.
+    // Not inlined, since what an inlined one needs is cleared each time.
+    #[inline(never)]
+    pub(super) fn run(&self, graph: &Graph, haystack: &str, at: &mut Standing)
+        requires remembers { Remembers graph.now.places (graph.now.start ∷ []) self.now }
+        requires scanning { (low p : ℕ) × IsScanning (table_of graph.now) (graph.now.start ∷ [])
+            (chars haystack.now) low p self.now at.old }
+        ensures { (low p : ℕ) → IsScanning (table_of graph.now) (graph.now.start ∷ [])
+            (chars haystack.now) low p self.now at.old
+            → (q : ℕ) × (p ≤ q) × IsScanning (table_of graph.now) (graph.now.start ∷ [])
+            (chars haystack.now) low q self.now at.new
+            × IsSince (table_of graph.now) (graph.now.start ∷ []) (chars haystack.now) low p
+            at.old.first at.new.first }
+    {
+        let mut near = Interval::none();
+        let mut spot = Spot::of(at);
+        'turns: while let Some(turn) = self.turn(graph, haystack, spot, &mut near) {
+            let Some(on) = self.take(spot, turn, at) else {
+                break;
+            };
+            spot = on;
+        }
+        at.settle(haystack, spot);
+    }
+
+    /// The same up to the first match that ends, where there is none yet.
+    // Not inlined, since what an inlined one needs is cleared each time.
+    #[inline(never)]
+    pub(super) fn run_to_match(&self, graph: &Graph, haystack: &str, at: &mut Standing)
+        requires remembers { Remembers graph.now.places (graph.now.start ∷ []) self.now }
+        requires scanning { (low p : ℕ) × IsScanning (table_of graph.now) (graph.now.start ∷ [])
+            (chars haystack.now) low p self.now at.old }
+        ensures on { (low p : ℕ) → IsScanning (table_of graph.now) (graph.now.start ∷ [])
+            (chars haystack.now) low p self.now at.old
+            → (q : ℕ) × (p ≤ q) × IsScanning (table_of graph.now) (graph.now.start ∷ [])
+            (chars haystack.now) low q self.now at.new
+            × IsSince (table_of graph.now) (graph.now.start ∷ []) (chars haystack.now) low p
+            at.old.first at.new.first }
+        ensures none { at.new.best ≡ at.old.best }
+    {
+        let mut near = Interval::none();
+        let mut spot = Spot::of(at);
+        'turns: while let Some(turn) = self.turn(graph, haystack, spot, &mut near) {
+            if self.is_hit(turn.to) {
+                break;
+            }
+            let Some(on) = self.take(spot, turn, at) else {
+                break;
+            };
+            spot = on;
+        }
+        at.settle(haystack, spot);
+    }
+
+    /// The turn from there, if it is remembered. None at the end of the haystack.
+    #[inline(always)]
+    fn turn(&self, graph: &Graph, haystack: &str, spot: Spot, near: &mut Interval) -> Option<Turn>
+        requires remembers { Remembers graph.now.places (graph.now.start ∷ []) self.now }
+        requires boundary { IsCharBoundary haystack.now spot.at }
+        requires state { spot.state < length self.now.states }
+        requires near { IsInterval self.now.intervals.boundaries near.old }
+        ensures turn { IfSome result (IsTurn (table_of graph.now) (graph.now.start ∷ []) self.now
+            haystack.now spot.at spot.state) }
+        ensures near { IsInterval self.now.intervals.boundaries near.new }
+    {
+        let Some(Ahead { class, end }) = self.classes.ahead(haystack, spot.at, near) else {
+            return None;
+        };
+        let to = self.states[spot.state as usize].next[class];
+        if to == UNKNOWN {
+            return None;
+        }
+        Some(Turn { to, end })
+    }
+
+    /// Takes the turn. None where that completes a match of which the start isn't known, or leaves
+    /// nothing to do.
+    #[inline(always)]
+    fn take(&self, spot: Spot, turn: Turn, at: &mut Standing) -> Option<Spot>
+        requires from { spot.state < length self.now.states }
+        requires to { turn.to < length self.now.states }
+        ensures taken { (state : State) → slice_get self.now.states turn.to ≡ Some state
+            → MatchOption result (at.new ≡ at.old) (IsTaken spot turn state at.old at.new) }
+        ensures same { (state : State) → slice_get self.now.states turn.to ≡ Some state
+            → state.hit ≡ None → at.new.best ≡ at.old.best }
+    {
+        let Turn { to, end } = turn;
+        let hit = self.hit(to);
+        if let Hit::AtLater = hit {
+            return None;
+        }
+        if self.is_empty(to) {
+            return self.take_to_nothing(spot, turn, at);
+        }
+        if let Hit::AtFirst = hit {
+            at.best = Some((at.first, spot.at));
+        }
+        Some(Spot {
+            at: end,
+            state: to,
+            idle: spot.idle,
+        })
+    }
+
+    /// The same where there is nothing to go on from after the turn.
+    #[inline(always)]
+    fn take_to_nothing(&self, spot: Spot, turn: Turn, at: &mut Standing) -> Option<Spot>
+        requires from { spot.state < length self.now.states }
+        requires to { turn.to < length self.now.states }
+        requires empty { (state : State) → slice_get self.now.states turn.to ≡ Some state
+            → state.ways ≡ [] }
+        ensures taken { (state : State) → slice_get self.now.states turn.to ≡ Some state
+            → MatchOption result (at.new ≡ at.old) (IsTaken spot turn state at.old at.new) }
+        ensures same { at.new.best ≡ at.old.best }
+    {
+        let Turn { to, end } = turn;
+        if at.best.is_some() || self.is_hit(to) {
+            return None;
+        }
+        let idle = self.idle_after(spot)?;
+        at.first = end;
+        Some(Spot {
+            at: end,
+            state: to,
+            idle,
+        })
+    }
+
+    /// How many turns in a row then led from nothing to go on from to nothing, unless that were too
+    /// many.
+    #[inline(always)]
+    fn idle_after(&self, spot: Spot) -> Option<u32>
+        requires { spot.state < length self.now.states }
+    {
+        if !self.is_empty(spot.state) {
+            return Some(0);
+        }
+        if spot.idle >= MOST_IDLE {
+            return None;
+        }
+        Some(spot.idle + 1)
+    }
+
+    /// Where the way began by which a match is complete in this state.
+    #[inline(always)]
+    fn hit(&self, x: u16) -> Hit
+        requires { x < length self.now.states }
+        ensures { (state : State) → slice_get self.now.states x ≡ Some state
+            → hit_in result ≡ state.hit }
+    {
+        self.states[x as usize].hit
+    }
+
+    /// Whether a match is complete in this state.
+    #[inline(always)]
+    fn is_hit(&self, x: u16) -> bool
+        requires { x < length self.now.states }
+        ensures { (state : State) → slice_get self.now.states x ≡ Some state
+            → result ≡ false → state.hit ≡ None }
+    {
+        match self.hit(x) {
+            Hit::Nowhere => false,
+            Hit::AtFirst | Hit::AtLater => true,
+        }
+    }
+}
+
+impl Spot {
+    /// Where this scan stands.
+    #[inline(always)]
+    fn of(at: &Standing) -> Spot
+        ensures { result ≡ record { at = at.now.here.at; state = at.now.state; idle = 0 } }
+    {
+        Spot {
+            at: at.here.at,
+            state: at.state,
+            idle: 0,
+        }
+    }
+}
+
+impl Standing {
+    /// Lets it stand there, with the characters beside that.
+    #[inline(always)]
+    fn settle(&mut self, haystack: &str, spot: Spot)
+        requires { IsCharBoundary haystack.now spot.at }
+        ensures here { IsHere (chars haystack.now) (position_at haystack.now spot.at)
+            self.new.here }
+        ensures same { self.new ≡ record self.old {
+          here = self.new.here;
+          state = spot.state;
+        } }
+    {
+        self.here = Here::at(haystack, spot.at);
+        self.state = spot.state;
+    }
+}

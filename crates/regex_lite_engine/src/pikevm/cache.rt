@@ -1,0 +1,54 @@
+//! The working memory of a search by ordered sets, and its best match.
+ghost use Rattle.std.specs.Prelude.{◌≡◌, ◌<◌, List, ℕ, IfOk, length};
+ghost use Rattle.regex_lite_engine.specs.Graph.Places.{Place};
+ghost use Rattle.regex_lite_engine.specs.Graph.Stored.{places_of};
+ghost use Rattle.regex_lite_engine.specs.Pikevm.Outcomes.{IsCountable, IsFresh};
+ghost use Rattle.regex_lite_engine.specs.Pikevm.Searching.{IsBetween};
+
+use crate::nfa::table::Table;
+use crate::pikevm::beginning::Beginning;
+use crate::pikevm::best::Best;
+use crate::pikevm::memory::Memory;
+use crate::pikevm::walk::Walk;
+use crate::search::steps::Steps;
+use std::alloc::{AllocError, Global};
+
+/// All that a search works in. Its memory is asked for before the first step.
+#[derive(Drop)]
+pub struct Cache<S: Beginning> {
+    pub walk: Walk<S>,
+    pub best: Best<S>,
+}
+
+/// All the memory of a search that keeps this number of slots, asked for before its first step.
+pub(crate) fn cache_for<S: Beginning>(
+    alloc: Global,
+    table: &Table,
+    slots: usize,
+) -> Result<Cache<S>, AllocError>
+    requires { 0 < length table.now.places }
+    ensures fresh { IfOk result (λ cache. IsFresh (places_of table.now) cache) }
+    ensures width { IfOk result (λ cache. length cache.best.row ≡ slots) }
+    ensures countable { IfOk result (λ _. IsCountable (places_of table.now)) }
+{
+    let places = table.places();
+    // A thread comes from a place that reads, or is the position's own start.
+    let room = table.reading() + 1;
+    Ok(Cache {
+        walk: Walk {
+            memory: Memory::blank(alloc, places, room, slots)?,
+            steps: Steps::none(),
+        },
+        best: Best::with_width(alloc, slots)?,
+    })
+}
+
+/// Makes ready for another search: what the last one left is forgotten.
+pub(crate) fn restart<S: Beginning>(cache: &mut Cache<S>)
+    ensures fresh { (table : List (Place ℕ)) → IsBetween table cache.old → IsFresh table cache.new }
+    ensures width { length cache.new.best.row ≡ length cache.old.best.row }
+{
+    cache.walk.memory.restart();
+    cache.walk.steps = Steps::none();
+    cache.best.clear();
+}

@@ -1,0 +1,90 @@
+//! Where a search stands in the haystack.
+ghost use Rattle.std.specs.Prelude.{◌≡◌, ◌+◌, ◌^◌, ◌<◌, ℕ, IsSome};
+ghost use Rattle.std.specs.Prelude.{IsCharBoundary, chars, drop, slice_get};
+ghost use Rattle.std.specs.Char.{len_utf8};
+ghost use Rattle.regex_lite_syntax.specs.Text.{before};
+ghost use Rattle.regex_lite_engine.specs.Search.Offsets.{position_at, IsOffset};
+
+/// An offset into the haystack, with the characters before and after it.
+#[derive(Clone, Copy)]
+pub struct Here {
+    pub before: Option<char>,
+    pub after: Option<char>,
+    pub at: usize,
+    /// The next offset fits too, since no haystack has that many bytes.
+    pub ghost small: { at + 1 < 2 ^ 64 },
+}
+
+impl Here {
+    ghost use Rattle.regex_lite_engine.specs.Search.Standing.{IsHere};
+
+    /// The place at this offset.
+    pub fn at(haystack: &str, at: usize) -> Here
+        requires { IsCharBoundary haystack.now at }
+        ensures here { IsHere (chars haystack.now) (position_at haystack.now at) result }
+        ensures at { result.at ≡ at }
+    {
+        let _bytes = haystack.len();
+        Here {
+            before: last_char(haystack, at),
+            after: first_char(haystack, at),
+            at,
+        }
+    }
+
+    /// The place after the next character.
+    #[inline(always)]
+    pub fn next(self, haystack: &str) -> Here
+        requires { (p : ℕ) × IsHere (chars haystack.now) p self × IsSome self.after }
+        ensures { (p : ℕ) → IsHere (chars haystack.now) p self
+            → IsHere (chars haystack.now) (p + 1) result }
+    {
+        let Some(c) = self.after else {
+            return self;
+        };
+        // The sum fits, since a haystack has no more bytes than can be counted.
+        let _bytes = haystack.len();
+        let at = self.at + byte_len(c);
+        Here {
+            before: Some(c),
+            after: first_char(haystack, at),
+            at,
+        }
+    }
+}
+
+/// How many bytes the character has.
+pub fn byte_len(c: char) -> usize
+    ensures { result ≡ len_utf8 c }
+{
+    if c.is_ascii() { 1 } else { wide_len(c) }
+}
+
+/// The same of a character that is not ASCII.
+// Not inlined, so that an ASCII one takes a single test.
+#[inline(never)]
+fn wide_len(c: char) -> usize
+    ensures { result ≡ len_utf8 c }
+{
+    c.len_utf8()
+}
+
+/// The character that begins there.
+pub fn first_char(haystack: &str, at: usize) -> Option<char>
+    requires { IsCharBoundary haystack.now at }
+    ensures { result ≡ slice_get (chars (drop at haystack.now)) 0 }
+{
+    haystack[at..].chars().next()
+}
+
+/// The character that ends there.
+fn last_char(haystack: &str, at: usize) -> Option<char>
+    requires { IsCharBoundary haystack.now at }
+    ensures { (p : ℕ) → IsOffset (chars haystack.now) p at
+        → result ≡ before (chars haystack.now) p }
+{
+    match haystack[..at].chars().next_back() {
+        None => None,
+        Some(c) => Some(c),
+    }
+}

@@ -1,0 +1,125 @@
+//! Several patterns, which are searched for at once.
+ghost use Rattle.std.specs.Prelude.{◌≡◌, ◌^◌, ◌≤◌, ◌<◌, ℕ, suc, All, IfOk};
+ghost use Rattle.std.specs.Prelude.{chars, filter, length, vec_capacity};
+ghost use Rattle.std.specs.List.{range_with_len};
+ghost use Rattle.std.proofs.Props.{props};
+ghost use Rattle.regex_lite_syntax.specs.Text.{after};
+ghost use Rattle.regex_lite_engine.specs.Graph.StoredList.{table_of_list};
+ghost use Rattle.regex_lite_engine.specs.Prefilter.ListHeads.{is_candidate_at};
+ghost use Rattle.regex_lite_engine.specs.Prefilter.Thirds.{may_go_on};
+ghost use Rattle.regex_lite_engine.specs.Search.Standing.{IsHere};
+ghost use Rattle.regex_lite_engine.specs.Search.Starts.{AreListHeadsOf};
+
+use crate::nfa::list::GraphList;
+use crate::nfa::table::Table;
+use crate::prefilter::list_heads::ListHeads;
+use crate::search::here::Here;
+use crate::search::list_skip::pass_over_all;
+use crate::search::patterns::{Patterns, Start};
+use std::alloc::{AllocError, Global};
+
+/// Patterns, and those of them that may start at the position that was come to last.
+#[derive(Drop)]
+pub struct ListPatterns<'g> {
+    list: &'g GraphList,
+    /// The numbers of those that may start there. There is room for all patterns.
+    numbers: Vec<u32>,
+    pub ghost room: { length list.now.entries ≤ vec_capacity numbers },
+    pub ghost inside: { All (λ number. number < length list.now.entries) numbers.items } by { Prim.hlevel props },
+}
+
+impl<'g> ListPatterns<'g> {
+    /// Those of this graph, none of which may start yet. All the memory that they need is asked for
+    /// here.
+    ///
+    /// # Errors
+    ///
+    /// Where memory runs out.
+    pub fn new(alloc: Global, list: &'g GraphList) -> Result<ListPatterns<'g>, AllocError>
+        ensures list { IfOk result (λ patterns. patterns.list.now ≡ list.now) }
+    {
+        Ok(ListPatterns {
+            list,
+            numbers: Vec::with_capacity(alloc, list.len())?,
+        })
+    }
+}
+
+impl<'g> Patterns for ListPatterns<'g> {
+    ghost use Rattle.std.specs.Prelude.{map};
+    ghost use Rattle.regex_lite_engine.specs.Graph.StoredList.{table_of_list};
+    ghost use Rattle.regex_lite_engine.specs.Search.Starts.{start_of};
+
+    ghost table = { λ patterns. table_of_list patterns.list.now };
+
+    ghost entries = { λ patterns. patterns.list.now.entries };
+
+    ghost starts = { λ patterns. map (start_of patterns.list.now.entries) patterns.numbers.items };
+
+    fn table(&self) -> &Table {
+        self.list.table()
+    }
+
+    fn pass_over(&self, haystack: &str, here: Here) -> Here {
+        pass_over_all(self.list, haystack, here)
+    }
+
+    fn come_to(&mut self, haystack: &str, here: Here) {
+        list_starts(self.list, haystack, here, &mut self.numbers);
+    }
+
+    fn len(&self) -> usize {
+        self.numbers.len()
+    }
+
+    fn start(&self, k: usize) -> Start {
+        let number = self.numbers[k];
+        Start {
+            number,
+            place: self.list.entries()[number as usize],
+        }
+    }
+}
+
+/// Lists the patterns that may start here, in the order of their numbers.
+fn list_starts(list: &GraphList, haystack: &str, here: Here, numbers: &mut Vec<u32>)
+    requires here { (p : ℕ) × IsHere (chars haystack.now) p here }
+    requires room { length list.now.entries ≤ vec_capacity numbers.old }
+    ensures listed { (p : ℕ) → IsHere (chars haystack.now) p here
+        → numbers.new.items ≡ filter (is_candidate_at list.now.heads (chars haystack.now) p)
+        (range_with_len 0 (length list.now.entries)) }
+    ensures capacity { vec_capacity numbers.old ≤ vec_capacity numbers.new }
+    ensures heads { AreListHeadsOf (table_of_list list.now) list.now.entries list.now.heads }
+    ensures inside { All (λ entry. entry < length (table_of_list list.now)) list.now.entries }
+    ensures few { length list.now.entries < 2 ^ 32 }
+{
+    let heads = list.heads();
+    // Each has a number of 32 bits, since there are no more.
+    let _entries = list.entries();
+    match here.after {
+        None => heads.list_all(numbers),
+        Some(first) => {
+            let second = here.next(haystack);
+            heads.list(here.before, first, second.after, numbers);
+            keep_by_third(heads, haystack, second, numbers);
+        }
+    }
+}
+
+/// Leaves those of these patterns that may start by their third character too, which comes after
+/// the second here, if there is one.
+fn keep_by_third(heads: &ListHeads, haystack: &str, second: Here, numbers: &mut Vec<u32>)
+    requires { (p : ℕ) × IsHere (chars haystack.now) p second }
+    ensures kept { (p : ℕ) → IsHere (chars haystack.now) p second
+        → numbers.new.items
+        ≡ filter (may_go_on heads.now.thirds (after (chars haystack.now) (suc p)))
+        numbers.old.items }
+    ensures capacity { vec_capacity numbers.old ≤ vec_capacity numbers.new }
+{
+    if numbers.is_empty() || second.after.is_none() {
+        return;
+    }
+    if let Some(third) = second.next(haystack).after {
+        heads.thirds.keep(third, numbers);
+    }
+}

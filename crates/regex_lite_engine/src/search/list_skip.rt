@@ -1,0 +1,72 @@
+//! The positions at which none of several patterns can start, which a search passes over.
+ghost use Rattle.std.specs.Prelude.{◌≡◌, ◌≤◌, ◌<◌, ◌+◌, ℕ, IsCharBoundary};
+ghost use Rattle.std.specs.Prelude.{IsTrue, chars, false, length, slice_index};
+ghost use Rattle.regex_lite_engine.specs.Graph.StoredList.{table_of_list};
+ghost use Rattle.regex_lite_engine.specs.Prefilter.ListHeads.{IsPassedByAll};
+ghost use Rattle.regex_lite_engine.specs.Prefilter.Starts.{stops_at};
+ghost use Rattle.regex_lite_engine.specs.Search.Standing.{IsHere};
+ghost use Rattle.regex_lite_engine.specs.Search.Starts.{PassesTo};
+ghost use Rattle.regex_lite_engine.specs.Pikevm.Turns.{AreDeadAt};
+
+use crate::nfa::list::GraphList;
+use crate::prefilter::list_heads::ListHeads;
+use crate::prefilter::starts::Starts;
+use crate::search::here::Here;
+
+/// The next position from here on at which a match of any pattern can begin, or the haystack's end.
+pub fn pass_over_all(list: &GraphList, haystack: &str, here: Here) -> Here
+    requires { (p : ℕ) × IsHere (chars haystack.now) p here }
+    ensures { (p : ℕ) → IsHere (chars haystack.now) p here
+        → PassesTo (AreDeadAt (table_of_list list.now) (chars haystack.now) list.now.entries)
+        (chars haystack.now) p result }
+{
+    let heads = list.heads();
+    // At the haystack's start the pairs don't cover all patterns.
+    if here.before.is_none() && heads.any.may_begin(here.before, here.after) {
+        return here;
+    }
+    let at = next_offset(heads, haystack.as_bytes(), here.at);
+    if at == here.at {
+        return here;
+    }
+    Here::at(haystack, at)
+}
+
+/// The first offset from this one on at which a match can begin, judging by two bytes, or the end.
+// Not inlined, since the loop of a search is so large that this one would lose its registers.
+#[inline(never)]
+fn next_offset(heads: &ListHeads, bytes: &[u8], from: usize) -> usize
+    requires pairs { length heads.now.pairs.items ≡ 128 }
+    requires from { from ≤ length bytes.now }
+    ensures low { from ≤ result }
+    ensures passed { (k : ℕ) → from ≤ k → k < result → IsPassedByAll heads.now bytes.now k }
+    ensures boundary { IsCharBoundary bytes.now result }
+{
+    let mut at = from;
+    'fours: while bytes.len() - at >= 4 {
+        if !passes_four(&heads.any, bytes, at) {
+            for k in 0..4 {
+                if heads.may_begin_at(bytes, at + k) {
+                    return at + k;
+                }
+            }
+        }
+        at += 4;
+    }
+    'ones: while at < bytes.len() {
+        if heads.may_begin_at(bytes, at) {
+            return at;
+        }
+        at += 1;
+    }
+    at
+}
+
+/// Whether no match can begin with any of the next four bytes.
+fn passes_four(starts: &Starts, bytes: &[u8], at: usize) -> bool
+    requires { at + 4 ≤ length bytes.now }
+    ensures { IsTrue result → (k : ℕ) → at ≤ k → k < at + 4
+        → stops_at starts.now (slice_index bytes.now k) ≡ false }
+{
+    starts.passes(bytes[at], bytes[at + 1], bytes[at + 2], bytes[at + 3])
+}

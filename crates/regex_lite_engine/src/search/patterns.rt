@@ -1,0 +1,65 @@
+//! What is searched, and where patterns may start.
+ghost use Rattle.std.specs.Prelude.{◌≡◌, ◌≤◌, ◌<◌, ◌^◌, ℕ, List, All};
+ghost use Rattle.std.specs.Prelude.{chars, length, slice_get, Some};
+ghost use Rattle.regex_lite_engine.specs.Graph.Places.{Place};
+ghost use Rattle.regex_lite_engine.specs.Graph.Stored.{places_of};
+ghost use Rattle.regex_lite_engine.specs.Search.Standing.{IsHere};
+ghost use Rattle.regex_lite_engine.specs.Search.Starts.{PassesTo};
+ghost use Rattle.regex_lite_engine.specs.Pikevm.Turns.{AreDeadAt, AreStartsAt};
+
+use crate::nfa::table::Table;
+use crate::search::here::Here;
+
+/// Where a pattern is entered, with its number.
+#[derive(Clone, Copy)]
+pub struct Start {
+    pub number: u32,
+    pub place: u32,
+}
+
+/// The patterns that are searched for, and those of them that may start at a position.
+pub trait Patterns {
+    ghost use Rattle.regex_lite_engine.specs.declared.search.patterns.Start.{Start};
+
+    /// Their places.
+    ghost table: { Self → List (Place ℕ) };
+
+    /// The places where they are entered, in the order of their numbers.
+    ghost entries: { Self → List ℕ };
+
+    /// Those that may start at the position that was come to last.
+    ghost starts: { Self → List Start };
+
+    /// Their places.
+    fn table(&self) -> &Table
+        ensures { places_of result.now ≡ table self.now };
+
+    /// The next position from here on at which a match can begin, or the haystack's end. Those
+    /// before it are passed over.
+    fn pass_over(&self, haystack: &str, here: Here) -> Here
+        requires { (p : ℕ) × IsHere (chars haystack.now) p here }
+        ensures { (p : ℕ) → IsHere (chars haystack.now) p here
+            → PassesTo (AreDeadAt (table self.now) (chars haystack.now) (entries self.now))
+            (chars haystack.now) p result };
+
+    /// Comes to a position: finds the patterns that may start there.
+    fn come_to(&mut self, haystack: &str, here: Here)
+        requires { (p : ℕ) × IsHere (chars haystack.now) p here }
+        ensures table { table self.new ≡ table self.old }
+        ensures entries { entries self.new ≡ entries self.old }
+        ensures starts { (p : ℕ) → IsHere (chars haystack.now) p here
+            → AreStartsAt (table self.new) (chars haystack.now) (entries self.new) p
+            (starts self.new) }
+        ensures inside { All (λ start. start.place < length (table self.new)) (starts self.new) }
+        ensures few { length (starts self.new) ≤ length (entries self.new) }
+        ensures countable { length (entries self.new) < 2 ^ 32 };
+
+    /// How many may start there.
+    fn len(&self) -> usize
+        ensures { result ≡ length (starts self.now) };
+
+    /// The one with this number among them, in the order of the patterns.
+    fn start(&self, k: usize) -> Start
+        requires { k < length (starts self.now) }
+        ensures { slice_get (starts self.now) k ≡ Some result };
+}

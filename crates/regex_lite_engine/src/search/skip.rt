@@ -1,0 +1,156 @@
+//! The positions at which no match can start, which a search passes over.
+ghost use Rattle.std.specs.Prelude.{◌≡◌, ◌≤◌, ◌<◌, ◌+◌, ◌⊎◌, ℕ, IfSome, IsTrue};
+ghost use Rattle.std.specs.Prelude.{false, true, chars, length, slice_index};
+ghost use Rattle.regex_lite_engine.specs.Prefilter.Heads.{IsCutOff, IsPassed, NeverBegins};
+ghost use Rattle.regex_lite_engine.specs.Prefilter.Bytes.{suits, IsPrefilterOf};
+ghost use Rattle.regex_lite_engine.specs.Prefilter.Starts.{may_begin, stops_at};
+ghost use Rattle.regex_lite_engine.specs.Search.Standing.{IsHere};
+ghost use Rattle.regex_lite_engine.specs.Search.Starts.{PassesTo};
+
+use crate::prefilter::Prefilter;
+use crate::prefilter::heads::Heads;
+use crate::prefilter::starts::Starts;
+use crate::search::here::Here;
+
+/// How many bytes a prefilter is asked about at a time.
+const BLOCK: usize = 32;
+
+/// How many bytes are looked at one by one before that. Where a match may begin so near, a block
+/// would be compared for nothing.
+const NEAR: usize = 16;
+
+/// The next position from here on at which a match can begin, or the haystack's end.
+pub fn pass_over(heads: &Heads, prefilter: &Option<Prefilter>, haystack: &str, here: Here) -> Here
+    requires here { (p : ℕ) × IsHere (chars haystack.now) p here }
+    requires prefilter { IfSome prefilter.now (IsPrefilterOf heads.now) }
+    ensures passes { (p : ℕ) → IsHere (chars haystack.now) p here
+        → PassesTo (NeverBegins heads.now (chars haystack.now)) (chars haystack.now) p result }
+    ensures stops { may_begin heads.now.first result.before result.after ≡ true }
+{
+    let bytes = haystack.as_bytes();
+    if can_begin(heads, bytes, here) {
+        return here;
+    }
+    let at = next_offset(heads, prefilter, bytes, here.at);
+    Here::at(haystack, at)
+}
+
+/// Whether a match can begin here, with the byte after the next character.
+fn can_begin(heads: &Heads, bytes: &[u8], here: Here) -> bool
+    requires { here.at ≤ length bytes.now }
+    ensures first { IsTrue result → may_begin heads.now.first here.before here.after ≡ true }
+    ensures never { result ≡ false
+        → (may_begin heads.now.first here.before here.after ≡ false)
+        ⊎ IsCutOff heads.now bytes.now here.at }
+{
+    heads.first.may_begin(here.before, here.after)
+        && (heads.second.is_none() || may_go_on(heads, bytes, here.at))
+}
+
+/// [`Heads::may_go_on`].
+// Not inlined, so that a search which knows no second character has no more than the test for it.
+#[inline(never)]
+fn may_go_on(heads: &Heads, bytes: &[u8], at: usize) -> bool
+    requires { at ≤ length bytes.now }
+    ensures { result ≡ false → IsCutOff heads.now bytes.now at }
+{
+    heads.may_go_on(bytes, at)
+}
+
+/// The first offset from this one on of a byte that may not be passed over, or the end.
+// Not inlined, since the loop of a search is so large that this one would lose its registers.
+#[inline(never)]
+fn next_offset(heads: &Heads, prefilter: &Option<Prefilter>, bytes: &[u8], from: usize) -> usize
+    requires inside { from ≤ length bytes.now }
+    requires prefilter { IfSome prefilter.now (IsPrefilterOf heads.now) }
+    ensures low { from ≤ result }
+    ensures high { result ≤ length bytes.now }
+    ensures passed { (k : ℕ) → from ≤ k → k < result → IsPassed heads.now bytes.now k }
+    ensures stops { result < length bytes.now
+        → stops_at heads.now.first (slice_index bytes.now result) ≡ true }
+{
+    let mut at = from;
+    'stops: loop {
+        at = next_first(heads, prefilter, bytes, at);
+        if at == bytes.len() || heads.may_go_on(bytes, at) {
+            return at;
+        }
+        at += 1;
+    }
+}
+
+/// The first offset from this one on, judging by the prefilter, of a byte with which a first
+/// character may begin, or the end.
+fn next_first(heads: &Heads, prefilter: &Option<Prefilter>, bytes: &[u8], from: usize) -> usize
+    requires inside { from ≤ length bytes.now }
+    requires prefilter { IfSome prefilter.now (IsPrefilterOf heads.now) }
+    ensures low { from ≤ result }
+    ensures high { result ≤ length bytes.now }
+    ensures passed { (k : ℕ) → from ≤ k → k < result → IsPassed heads.now bytes.now k }
+    ensures stops { result < length bytes.now
+        → stops_at heads.now.first (slice_index bytes.now result) ≡ true }
+{
+    let Some(prefilter) = prefilter else {
+        return next_stop(&heads.first, bytes, from, bytes.len());
+    };
+    let near = from + NEAR.min(bytes.len() - from);
+    let at = next_stop(&heads.first, bytes, from, near);
+    if at < near {
+        return at;
+    }
+    let block = next_block(*prefilter, bytes, near);
+    next_stop(&heads.first, bytes, block, bytes.len())
+}
+
+/// The first offset from this one on, block by block, of a block in which a match may begin, or of
+/// the bytes after the last.
+fn next_block(prefilter: Prefilter, bytes: &[u8], from: usize) -> usize
+    requires { from ≤ length bytes.now }
+    ensures low { from ≤ result }
+    ensures high { result ≤ length bytes.now }
+    ensures passed { (k : ℕ) → from ≤ k → k < result → (k + 1 < length bytes.now)
+        × (suits prefilter (slice_index bytes.now k) (slice_index bytes.now (k + 1)) ≡ false) }
+{
+    let mut at = from;
+    'all: while bytes.len() - at > BLOCK {
+        let end = at + BLOCK;
+        if prefilter.may_begin_in(&bytes[at..end], &bytes[at + 1..end + 1]) {
+            return at;
+        }
+        at = end;
+    }
+    at
+}
+
+/// The first offset from this one on of a byte with which such a character may begin, or this end.
+fn next_stop(starts: &Starts, bytes: &[u8], from: usize, end: usize) -> usize
+    requires from { from ≤ end }
+    requires end { end ≤ length bytes.now }
+    ensures low { from ≤ result }
+    ensures high { result ≤ end }
+    ensures passed { (k : ℕ) → from ≤ k → k < result
+        → stops_at starts.now (slice_index bytes.now k) ≡ false }
+    ensures stops { result < end → stops_at starts.now (slice_index bytes.now result) ≡ true }
+{
+    if !starts.any() {
+        return end;
+    }
+    let mut at = from;
+    'fours: while end - at >= 4 {
+        if !starts.passes(bytes[at], bytes[at + 1], bytes[at + 2], bytes[at + 3]) {
+            for k in 0..4 {
+                if starts.stops_at(bytes[at + k]) {
+                    return at + k;
+                }
+            }
+        }
+        at += 4;
+    }
+    'ones: while at < end {
+        if starts.stops_at(bytes[at]) {
+            return at;
+        }
+        at += 1;
+    }
+    at
+}
