@@ -1,6 +1,8 @@
 -- What the functions of the parser promise one another.
 pub mod RangeEnds
+pub mod RunStorage
 pub mod SetNames
+pub mod KnownSets
 pub mod KnownNames
 pub mod Readings
 pub mod ClassReadings

@@ -1,8 +1,9 @@
 //! Sets of characters.
-ghost use Rattle.std.specs.Prelude.{◌≡◌, IfOk};
+ghost use Rattle.std.specs.Prelude.{◌≡◌, IfOk, if◌then◌else◌};
 ghost use Rattle.regex_lite_syntax.specs.AsciiMaps.{AreMapOf};
 ghost use Rattle.regex_lite_syntax.specs.Sets.{complement};
 ghost use Rattle.regex_lite_syntax.specs.Ranges.{in_ranges, AreRuns, AreRunsOf};
+ghost use Rattle.regex_lite_syntax.specs.Parser.KnownSets.{known_members};
 ghost use Rattle.regex_lite_syntax.specs.Parser.Readings.{named_or_not};
 
 mod ascii;
@@ -11,8 +12,8 @@ pub(crate) mod named;
 mod neighbours;
 mod runs;
 
-use ascii::map_of_ranges;
-use named::NamedSet;
+use ascii::words_of_ranges;
+use named::{KnownSet, NamedSet};
 use neighbours::{next_char, previous_char};
 use runs::{append_between, join_all};
 use std::alloc::{AllocError, Global};
@@ -25,11 +26,19 @@ pub struct ClassRange {
     pub end: char,
 }
 
+/// Where the runs of a set are. If they are a part of the program, this says which: a borrow of them
+/// would be a part of the groups of a match too, and closures can't take such groups.
+#[derive(Debug, Drop)]
+enum RunStorage {
+    Known(KnownSet),
+    Made(Vec<ClassRange>),
+}
+
 /// A set of characters, as its maximal runs in order. U+D7FF and U+E000 are neighbours, so equal
 /// sets have equal ranges.
 #[derive(Debug, Drop)]
 pub struct Class {
-    ranges: Vec<ClassRange>,
+    ranges: RunStorage,
     // Two words, since a `u128` would be aligned to 16 bytes, in the places of a graph too.
     ascii: [u64; 2],
 }
@@ -38,12 +47,13 @@ impl Model for Class {
     ghost use Rattle.std.specs.Prelude.{List};
     ghost use Rattle.regex_lite_syntax.specs.declared.class.ClassRange.{ClassRange};
     ghost use Rattle.regex_lite_syntax.specs.AsciiMaps.{AreMappedRuns};
+    ghost use Rattle.regex_lite_syntax.specs.Parser.RunStorage.{runs_of};
 
     ghost Value = { List ClassRange };
 
-    ghost view = { λ class. class.ranges.items };
+    ghost view = { λ class. runs_of class.ranges };
 
-    ghost invariant = { λ class. AreMappedRuns class.ranges.items class.ascii };
+    ghost invariant = { λ class. AreMappedRuns (runs_of class.ranges) class.ascii };
 }
 
 impl Class {
@@ -52,8 +62,17 @@ impl Class {
         requires { AreRuns 0 ranges.items }
         ensures { result ≡ ranges.items }
     {
-        let map = map_of_ranges(&ranges);
-        let ascii = [(map % (1 << 64)) as u64, (map >> 64) as u64];
+        let ascii = words_of_ranges(&ranges);
+        let ranges = RunStorage::Made(ranges);
+        Class { ranges, ascii }
+    }
+
+    /// The set, whose runs are a part of the program.
+    pub(crate) fn of_known(set: KnownSet) -> Class
+        ensures { AreRunsOf result (known_members set) }
+    {
+        let ascii = words_of_ranges(set.ranges());
+        let ranges = RunStorage::Known(set);
         Class { ranges, ascii }
     }
 
@@ -71,12 +90,18 @@ impl Class {
     pub(crate) fn named(alloc: Global, set: NamedSet, negated: bool) -> Result<Class, AllocError>
         ensures { IfOk result (λ class. AreRunsOf class (named_or_not set negated)) }
     {
-        let ranges = set.ranges(alloc)?;
-        let class = Class::of_runs(ranges);
+        Class::of_known(KnownSet::Named(set)).into_negated(alloc, negated)
+    }
+
+    /// The characters that the set lacks where `negated` asks for them, or else the set itself.
+    pub(crate) fn into_negated(self, alloc: Global, negated: bool) -> Result<Class, AllocError>
+        ensures { IfOk result (λ class. AreRunsOf class (if negated then complement (in_ranges self)
+            else in_ranges self)) }
+    {
         if negated {
-            class.negate(alloc)
+            self.negate(alloc)
         } else {
-            Ok(class)
+            Ok(self)
         }
     }
 
@@ -86,7 +111,7 @@ impl Class {
     {
         let mut gaps = Vec::new(alloc);
         let mut start = Some('\0');
-        for range in &self.ranges {
+        for range in self.ranges() {
             append_between(&mut gaps, start, previous_char(range.start))?;
             start = next_char(range.end);
         }
@@ -98,8 +123,9 @@ impl Class {
     pub fn contains(&self, c: char) -> bool
         ensures { result ≡ in_ranges self.now c }
     {
-        let at = self.ranges.partition_point(|range| range.end < c);
-        at < self.ranges.len() && self.ranges[at].start <= c
+        let ranges = self.ranges();
+        let at = ranges.partition_point(|range| range.end < c);
+        at < ranges.len() && ranges[at].start <= c
     }
 
     /// The ASCII characters of the set: a bit for each, the lowest 64 in the first word.
@@ -114,6 +140,9 @@ impl Class {
         ensures same { result.now ≡ self.now }
         ensures runs { AreRuns 0 result.now }
     {
-        &self.ranges
+        match &self.ranges {
+            RunStorage::Known(set) => set.ranges(),
+            RunStorage::Made(ranges) => ranges,
+        }
     }
 }

@@ -44,6 +44,14 @@ pub gap_step : (n start end c : ℕ) (before old new : Bool) → n ≤ start →
 gap_step n start end c before old new l m b o e =
     grind (arith, nat_tests, next_above end, next_least end c)
 
+-- after the last range, the gap up to the last character
+pub last_gap : (start : Option ℕ) (c : ℕ) (before old new : Bool)
+    → (IsTrue before → c < start_of start)
+    → old ≡ (nat_lt c (start_of start) && (is_character c && not before))
+    → new ≡ (old || span_of start (Some 0x10FFFF) c) → new ≡ (is_character c && not before)
+last_gap None c before old new b o e = grind (arith, nat_tests)
+last_gap (Some start) c before old new b o e = grind (arith, nat_tests)
+
 pub runs_sooner : (n m : ℕ) (ranges : List ClassRange) → n ≤ m → AreRuns m ranges → AreRuns n ranges
 runs_sooner n m [] l a = tt
 runs_sooner n m (r ∷ ranges) l a = (omega (arith, a.0), a.1, a.2, a.3, a.4)

@@ -1,11 +1,6 @@
 -- Ranges of characters by their ends, of which there may be none.
 use Rattle.std.specs.Prelude.{ℕ, false, Option, Some, None, unwrap_or}
-use Rattle.regex_lite_syntax.specs.declared.class.ClassRange.{ClassRange}
 use Rattle.regex_lite_syntax.specs.Sets.{Set, span}
-
--- the range with these ends
-abbrev pub range_of : (ends : ℕ × ℕ) → ClassRange
-range_of ends = record { start = ends.0; end = ends.1 }
 
 -- the characters from the one to the other, where there are both
 abbrev pub span_of : (start end : Option ℕ) → Set

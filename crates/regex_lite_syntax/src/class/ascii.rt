@@ -1,6 +1,6 @@
 //! The ASCII characters of a set as a map: a bit for each.
 ghost use Rattle.std.specs.Prelude.{◌≡◌};
-ghost use Rattle.regex_lite_syntax.specs.AsciiMaps.{IsMapOf};
+ghost use Rattle.regex_lite_syntax.specs.AsciiMaps.{AreMapOf, IsMapOf};
 ghost use Rattle.regex_lite_syntax.specs.Sets.{span};
 ghost use Rattle.regex_lite_syntax.specs.Ranges.{in_ranges, AreRuns};
 
@@ -8,8 +8,17 @@ use super::ClassRange;
 
 const LAST_ASCII: char = '\x7F';
 
+/// The ASCII characters of the ranges, which are in order, as a map in two words, the lowest first.
+pub(crate) fn words_of_ranges(ranges: &[ClassRange]) -> [u64; 2]
+    requires { AreRuns 0 ranges.now }
+    ensures { AreMapOf result (in_ranges ranges.now) }
+{
+    let map = map_of_ranges(ranges);
+    [(map % (1 << 64)) as u64, (map >> 64) as u64]
+}
+
 /// The ASCII characters of the ranges, which are in order, as a map.
-pub(crate) fn map_of_ranges(ranges: &[ClassRange]) -> u128
+fn map_of_ranges(ranges: &[ClassRange]) -> u128
     requires { AreRuns 0 ranges.now }
     ensures { IsMapOf result (in_ranges ranges.now) }
 {

@@ -1,5 +1,5 @@
 //! Items that are no groups.
-ghost use Rattle.std.specs.Prelude.{◌≡◌, ◌<◌, ◌≤◌, drop, length, map, IsTrue, IfOk, IfErr};
+ghost use Rattle.std.specs.Prelude.{◌≡◌, ◌<◌, ◌≤◌, drop, length, IsTrue, IfOk, IfErr};
 ghost use Rattle.regex_lite_syntax.specs.Text.{Text};
 ghost use Rattle.regex_lite_syntax.specs.Characters.{is_letter};
 ghost use Rattle.regex_lite_syntax.specs.Sets.{just, case_closure};
@@ -10,11 +10,10 @@ ghost use Rattle.regex_lite_syntax.specs.Tree.{Tree};
 ghost use Rattle.regex_lite_syntax.specs.Grammar.Atoms.{dot, anchor, PrimitiveTree, Atom};
 ghost use Rattle.regex_lite_syntax.specs.Parser.Machine.{BeginsAtom};
 ghost use Rattle.regex_lite_syntax.specs.Refusals.{Denies};
-ghost use Rattle.regex_lite_syntax.specs.Parser.RangeEnds.{range_of};
 ghost use Rattle.regex_lite_syntax.specs.Parser.Readings.{primitive_of};
 ghost use Rattle.regex_lite_syntax.specs.Tree.Views.{tree_of};
 
-use crate::class::named::ranges_of;
+use crate::class::named::KnownSet;
 use crate::class::{Class, ClassRange};
 use crate::error::Error;
 use crate::flags::Flags;
@@ -42,7 +41,7 @@ pub(crate) fn read_atom(
 {
     let verbose = flags.ignore_whitespace;
     match chars[at] {
-        '.' => Ok((at + 1, Hir::class(alloc, dot_class(alloc, flags)?)?)),
+        '.' => Ok((at + 1, Hir::class(alloc, dot_class(flags))?)),
         '^' => {
             let look = anchor_look(flags, Look::Start, Look::StartLF, Look::StartCRLF);
             Ok((at + 1, Hir::Look(look)))
@@ -64,24 +63,13 @@ pub(crate) fn read_atom(
 }
 
 /// What `.` stands for.
-fn dot_class(alloc: Global, flags: Flags) -> Result<Class, AllocError>
-    ensures { IfOk result (λ class. AreRunsOf class (dot flags)) }
+fn dot_class(flags: Flags) -> Class
+    ensures { AreRunsOf result (dot flags) }
 {
-    let ranges = ranges_of(alloc, dot_ends(flags))?;
-    Ok(Class::of_runs(ranges))
-}
-
-/// The first and the last character of each of its maximal runs, in order.
-fn dot_ends(flags: Flags) -> &'static [(char, char)]
-    ensures { AreRunsOf (map range_of result.now) (dot flags) }
-{
-    if flags.dot_matches_new_line {
-        &[('\0', '\u{10FFFF}')]
-    } else if flags.crlf {
-        &[('\0', '\t'), ('\x0B', '\x0C'), ('\x0E', '\u{10FFFF}')]
-    } else {
-        &[('\0', '\t'), ('\x0B', '\u{10FFFF}')]
-    }
+    Class::of_known(KnownSet::Dot {
+        new_lines: flags.dot_matches_new_line,
+        crlf: flags.crlf,
+    })
 }
 
 /// The range of one character.

@@ -70,10 +70,5 @@ pub(crate) fn class_of(
     if insensitive {
         ascii_case_fold(alloc, &mut ranges)?;
     }
-    let class = Class::new(ranges);
-    if negated {
-        class.negate(alloc)
-    } else {
-        Ok(class)
-    }
+    Class::new(ranges).into_negated(alloc, negated)
 }

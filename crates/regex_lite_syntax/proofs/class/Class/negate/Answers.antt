@@ -1,16 +1,17 @@
-use Rattle.std.proofs.Common.{◌+◌, ◌<◌, ◌≤◌, length, drop, get_or, arith}
-use Rattle.std.proofs.lemmas.List.{drop_more}
+use Rattle.std.proofs.Common.{◌≡◌, ◌∙◌, ap, take, ◌+◌, ◌<◌, ◌≤◌, length, drop, get_or, arith}
+use Rattle.std.proofs.lemmas.List.{drop_more, take_all}
 use Rattle.regex_lite_syntax.specs.declared.class.ClassRange.{ClassRange}
-use Rattle.regex_lite_syntax.specs.Ranges.{next_character}
+use Rattle.regex_lite_syntax.specs.Ranges.{in_ranges, next_character}
 use Rattle.regex_lite_syntax.specs.Parser.RangeEnds.{start_of}
 use Rattle.regex_lite_syntax.proofs.RangeLemmas.{next_above, in_ranges_more}
 use Rattle.regex_lite_syntax.proofs.class.BetweenRangeLemmas.{span_before, start_next}
-use Rattle.regex_lite_syntax.proofs.class.BetweenRangeLemmas.{before_next, gap_step, runs_sooner}
+use Rattle.regex_lite_syntax.proofs.class.BetweenRangeLemmas.{before_next, gap_step, last_gap}
+use Rattle.regex_lite_syntax.proofs.class.BetweenRangeLemmas.{runs_sooner}
 use Rattle.regex_lite_syntax.proofs.class.Class.negate.Goals as goal
 
 pub loop-range-preserved : goal.loop-range-preserved
 loop-range-preserved c =
-    let items = c.deref-range-items.result.now in
+    let items = c.ranges-range-items.result.now in
     let i = c.loop-range.range-index in
     let inside : i < length items = c.loop-range-test.true in
     let none : ClassRange = record { start = 0; end = 0 } in
@@ -41,3 +42,19 @@ loop-range-preserved c =
           (known.members d) added in
           rw (next, more) step;
     }
+
+pub returns : goal.returns
+returns c = record {
+  runs = rw c.of_runs.ensures c.in_ok-append_between-2.ensures.runs;
+  members = λ d.
+      let items = c.ranges-range-items.result.now in
+      let past = c.loop-range-test.false in
+      let all : take c.loop-range.range-index items ≡ c.args.self.now =
+      take_all c.loop-range.range-index items (omega (arith, past))
+      ∙ c.ranges-range-items.ensures.same in
+      let known = c.loop-range.invariant in
+      ap (λ ranges. in_ranges ranges d) c.of_runs.ensures
+      ∙ last_gap c.loop-range.start d _ _ _
+      (rw all at (known.before d)) (rw all at (known.members d))
+      (c.in_ok-append_between-2.ensures.members d);
+}
