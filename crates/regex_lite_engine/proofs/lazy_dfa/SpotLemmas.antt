@@ -8,6 +8,8 @@ use Rattle.std.proofs.lemmas.Str.{len_utf8_bounds}
 use Rattle.regex_lite_syntax.specs.Text.{Text}
 use Rattle.regex_lite_engine.specs.declared.lazy_dfa.scan.Standing.{Standing}
 use Rattle.regex_lite_engine.specs.declared.lazy_dfa.spot.Spot.{Spot}
+use Rattle.regex_lite_engine.specs.declared.lazy_dfa.spot.Step.{Step}
+use Rattle.regex_lite_engine.specs.declared.lazy_dfa.spot.Step.TheVariants.{On, Over, Stuck}
 use Rattle.regex_lite_engine.specs.declared.lazy_dfa.spot.Turn.{Turn}
 use Rattle.regex_lite_engine.specs.declared.search.here.Here.{Here}
 use Rattle.regex_lite_engine.specs.Graph.Places.{Place}
@@ -15,12 +17,13 @@ use Rattle.regex_lite_engine.specs.LazyDfa.Automaton.{Automaton, State, best_lef
 use Rattle.regex_lite_engine.specs.LazyDfa.Intervals.{class_of, side_of}
 use Rattle.regex_lite_engine.specs.LazyDfa.Scanning.{best_told, IsIdleAt, IsScanning}
 use Rattle.regex_lite_engine.specs.LazyDfa.Scanning.{IsSince, LedTo}
-use Rattle.regex_lite_engine.specs.LazyDfa.Spots.{IsSpotAt, IsTaken, IsTurn}
+use Rattle.regex_lite_engine.specs.LazyDfa.Spots.{IsOver, IsSpotAt, IsTaken, IsTurn, Takes}
 use Rattle.regex_lite_engine.specs.Search.Offsets.{position_at, IsOffset}
 use Rattle.regex_lite_engine.specs.Search.Standing.{IsHere}
+use Rattle.regex_lite_engine.specs.Pikevm.Outcomes.{IsBestOutcomeOf}
 use Rattle.regex_lite_engine.specs.Pikevm.Turns.{IsComing}
 use Rattle.regex_lite_engine.proofs.PositionLemmas.{position_of}
-use Rattle.regex_lite_engine.proofs.lazy_dfa.ScanLemmas.{led_step, scanned_on}
+use Rattle.regex_lite_engine.proofs.lazy_dfa.ScanLemmas.{led_step, scan_over, scanned_on}
 use Rattle.regex_lite_engine.proofs.search.OptionLemmas.{same_some}
 use Rattle.regex_lite_engine.proofs.search.here.OffsetLemmas.{after_at, boundary_at, here_next}
 use Rattle.regex_lite_engine.proofs.search.here.OffsetLemmas.{moved}
@@ -66,6 +69,15 @@ module _ (table : List (Place ℕ)) (entries : List ℕ) (h : Text) (low : ℕ) 
           (threads_of at.first ways) (best_told best)) none led.coming);
     },
   )
+
+-- a turn changes nothing if it completes no match and the scan doesn't go on after it
+pub unmoved : (spot : Spot) (turn : Turn) (state : State) (before after : Standing) (step : Step)
+    → Takes spot turn state before after step → ((on : Spot) → step ≡ On on → ⊥)
+    → after.best ≡ before.best → after ≡ before
+unmoved spot turn state before after (On on) taken elsewhere same = absurd (elsewhere on refl)
+unmoved spot turn state before after Over over elsewhere same =
+    over.same ∙ ap (λ best. record before { best = best }) same
+unmoved spot turn state before after Stuck stuck elsewhere same = stuck
 
 -- a turn goes on in the haystack
 pub further : (table : List (Place ℕ)) (entries : List ℕ) (automaton : Automaton) (bs : List ℕ)
@@ -218,6 +230,24 @@ module _ (table : List (Place ℕ)) (entries : List ℕ) (bs : List ℕ) (u : Is
         spot_since =
             since_led table entries (chars bs) low p automaton from turn.to after.best led next
             after.first next_is free first_is
+
+      -- the turn leads from a match to nothing
+      pub spot_over : (after : Standing) → IsOver spot leads.to told after
+          → IsBestOutcomeOf table (chars bs) entries low (best_told after.best)
+      spot_over after over =
+          let led : LedTo table entries (chars bs) low p automaton from turn.to after.best =
+          led_step table entries (chars bs) low p automaton from is.scanning leads.class turn.to
+          leads.from leads.to leads.is_from leads.is_to leads.leads
+          (ap (class_of automaton.intervals.boundaries) after_is ∙ leads.ahead.class)
+          leads.to.hit refl after.best
+          (over.best
+          ∙ ap (λ z. best_left leads.to.hit told.first z (best_told told.best)) (sym is.at)) in
+          scan_over table entries (chars bs) low p automaton from is.scanning turn.to after.best led
+          (inr (
+            over.some,
+            ap (λ (s : State). s.ways)
+                (same_some (sym led.is_state ∙ leads.is_to)) ∙ over.none,
+          ))
 
   -- a search has gone by offsets
   pub ran : (p before : ℕ) (automaton : Automaton) (spot : Spot) (told at : Standing)

@@ -3,6 +3,8 @@ use Rattle.std.specs.Prelude.{◌≡◌, ◌⊎◌, ℕ, List, [], None, Some, s
 use Rattle.regex_lite_syntax.specs.Text.{Text}
 use Rattle.regex_lite_engine.specs.declared.lazy_dfa.scan.Standing.{Standing}
 use Rattle.regex_lite_engine.specs.declared.lazy_dfa.spot.Spot.{Spot}
+use Rattle.regex_lite_engine.specs.declared.lazy_dfa.spot.Step.{Step}
+use Rattle.regex_lite_engine.specs.declared.lazy_dfa.spot.Step.TheVariants.{On, Over, Stuck}
 use Rattle.regex_lite_engine.specs.declared.lazy_dfa.spot.Turn.{Turn}
 use Rattle.regex_lite_engine.specs.declared.search.here.Here.{Here}
 use Rattle.regex_lite_engine.specs.Graph.Places.{Place}
@@ -44,3 +46,25 @@ pub record IsTaken (spot : Spot) (turn : Turn) (state : State) (before after : S
       ≡ best_left state.hit before.first spot.at (best_told before.best)
   pub first : ((state.ways ≡ []) × (after.first ≡ on.at) × (after.best ≡ None))
       ⊎ ((state.ways ≡ [] → ⊥) × (after.first ≡ before.first))
+
+-- after the turn to this state nothing leads on, and the last match is the answer
+pub record IsOver (spot : Spot) (state : State) (before after : Standing) : Type 0 where
+  pub none : state.ways ≡ []
+  pub best : best_told after.best
+      ≡ best_left state.hit before.first spot.at (best_told before.best)
+  pub some : best_told after.best ≡ None → ⊥
+  pub same : after ≡ record before { best = after.best }
+
+-- what comes of the turn to this state
+abbrev pub Takes : Spot → Turn → State → (before after : Standing) → Step → Type 0
+Takes spot turn state before after (On on) = IsTaken spot turn state before after on
+Takes spot turn state before after Over = IsOver spot state before after
+Takes spot turn state before after Stuck = after ≡ before
+
+-- what comes of a turn after which there is nothing to go on from
+abbrev pub TakesToNothing : Turn → (before after : Standing) → Step → Type 0
+TakesToNothing turn before after (On on) =
+    (on.at ≡ turn.end) × (on.state ≡ turn.to) × (before.best ≡ None)
+    × (after ≡ record before { first = turn.end })
+TakesToNothing turn before after Over = (after ≡ before) × (before.best ≡ None → ⊥)
+TakesToNothing turn before after Stuck = (after ≡ before) × (before.best ≡ None)

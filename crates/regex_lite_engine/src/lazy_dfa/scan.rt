@@ -53,7 +53,9 @@ impl LazyDfa {
     {
         let mut at = from;
         'positions: loop {
-            self.run(graph, haystack, &mut at);
+            if self.run(graph, haystack, &mut at) {
+                return Scanned::Found(at.best);
+            }
             let Some(on) = self.skip(graph, haystack, at) else {
                 return Scanned::Stuck {
                     at,

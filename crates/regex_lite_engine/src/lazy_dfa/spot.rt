@@ -1,14 +1,15 @@
 //! Scans that go by offsets, without the characters beside them.
 ghost use Rattle.std.specs.Prelude.{◌≡◌, ◌+◌, ◌<◌, ◌≤◌, ◌∷◌, [], ℕ, IfSome, IsCharBoundary};
-ghost use Rattle.std.specs.Prelude.{MatchOption, None, Some, chars, false, length, slice_get};
+ghost use Rattle.std.specs.Prelude.{None, Some, chars, false, true, length, slice_get};
 ghost use Rattle.regex_lite_engine.specs.Graph.Stored.{table_of};
 ghost use Rattle.regex_lite_engine.specs.LazyDfa.Automaton.{Remembers, State};
 ghost use Rattle.regex_lite_engine.specs.LazyDfa.Intervals.{IsInterval};
-ghost use Rattle.regex_lite_engine.specs.LazyDfa.Scanning.{IsScanning, IsSince};
-ghost use Rattle.regex_lite_engine.specs.LazyDfa.Spots.{IsTaken, IsTurn};
+ghost use Rattle.regex_lite_engine.specs.LazyDfa.Scanning.{best_told, IsScanning, IsSince};
+ghost use Rattle.regex_lite_engine.specs.LazyDfa.Spots.{IsTurn, Takes, TakesToNothing};
 ghost use Rattle.regex_lite_engine.specs.LazyDfa.Stored.{hit_in};
 ghost use Rattle.regex_lite_engine.specs.Search.Offsets.{position_at};
 ghost use Rattle.regex_lite_engine.specs.Search.Standing.{IsHere};
+ghost use Rattle.regex_lite_engine.specs.Pikevm.Outcomes.{IsBestOutcomeOf};
 
 use crate::Graph;
 use crate::lazy_dfa::automaton::{LazyDfa, UNKNOWN};
@@ -35,19 +36,35 @@ pub(super) struct Turn {
     end: usize,
 }
 
+/// What comes of a turn.
+#[derive(Clone, Copy)]
+enum Step {
+    /// The scan stands there then.
+    On(Spot),
+    /// The search is over: nothing leads on from its match.
+    Over,
+    /// The turn isn't taken.
+    Stuck,
+}
+
 /// After this many of them it is faster to pass over the positions at which no match can begin.
 const MOST_IDLE: u32 = 8;
 
 impl LazyDfa {
-    /// Goes on while turns are remembered, up to the last of them that isn't the end of the search.
+    /// Goes on while turns are remembered, up to the last of them before the end of the search.
+    /// Returns whether nothing leads on from the last match, which is the answer then.
     // Not inlined, since what an inlined one needs is cleared each time.
     #[inline(never)]
-    pub(super) fn run(&self, graph: &Graph, haystack: &str, at: &mut Standing)
+    pub(super) fn run(&self, graph: &Graph, haystack: &str, at: &mut Standing) -> bool
         requires remembers { Remembers graph.now.places (graph.now.start ∷ []) self.now }
         requires scanning { (low p : ℕ) × IsScanning (table_of graph.now) (graph.now.start ∷ [])
             (chars haystack.now) low p self.now at.old }
-        ensures { (low p : ℕ) → IsScanning (table_of graph.now) (graph.now.start ∷ [])
-            (chars haystack.now) low p self.now at.old
+        ensures over { result ≡ true → (low p : ℕ) → IsScanning (table_of graph.now)
+            (graph.now.start ∷ []) (chars haystack.now) low p self.now at.old
+            → IsBestOutcomeOf (table_of graph.now) (chars haystack.now) (graph.now.start ∷ []) low
+            (best_told at.new.best) }
+        ensures on { result ≡ false → (low p : ℕ) → IsScanning (table_of graph.now)
+            (graph.now.start ∷ []) (chars haystack.now) low p self.now at.old
             → (q : ℕ) × (p ≤ q) × IsScanning (table_of graph.now) (graph.now.start ∷ [])
             (chars haystack.now) low q self.now at.new
             × IsSince (table_of graph.now) (graph.now.start ∷ []) (chars haystack.now) low p
@@ -56,12 +73,14 @@ impl LazyDfa {
         let mut near = Interval::none();
         let mut spot = Spot::of(at);
         'turns: while let Some(turn) = self.turn(graph, haystack, spot, &mut near) {
-            let Some(on) = self.take(spot, turn, at) else {
-                break;
-            };
-            spot = on;
+            match self.take(spot, turn, at) {
+                Step::On(on) => spot = on,
+                Step::Over => return true,
+                Step::Stuck => break,
+            }
         }
         at.settle(haystack, spot);
+        false
     }
 
     /// The same up to the first match that ends, where there is none yet.
@@ -85,7 +104,7 @@ impl LazyDfa {
             if self.is_hit(turn.to) {
                 break;
             }
-            let Some(on) = self.take(spot, turn, at) else {
+            let Step::On(on) = self.take(spot, turn, at) else {
                 break;
             };
             spot = on;
@@ -114,53 +133,51 @@ impl LazyDfa {
         Some(Turn { to, end })
     }
 
-    /// Takes the turn. None where that completes a match of which the start isn't known, or leaves
-    /// nothing to do.
+    /// Takes the turn, unless it completes a match of which the start isn't known, or leads from
+    /// nothing to go on from to nothing too often in a row.
     #[inline(always)]
-    fn take(&self, spot: Spot, turn: Turn, at: &mut Standing) -> Option<Spot>
+    fn take(&self, spot: Spot, turn: Turn, at: &mut Standing) -> Step
         requires from { spot.state < length self.now.states }
         requires to { turn.to < length self.now.states }
         ensures taken { (state : State) → slice_get self.now.states turn.to ≡ Some state
-            → MatchOption result (at.new ≡ at.old) (IsTaken spot turn state at.old at.new) }
+            → Takes spot turn state at.old at.new result }
         ensures same { (state : State) → slice_get self.now.states turn.to ≡ Some state
             → state.hit ≡ None → at.new.best ≡ at.old.best }
     {
         let Turn { to, end } = turn;
         let hit = self.hit(to);
         if let Hit::AtLater = hit {
-            return None;
-        }
-        if self.is_empty(to) {
-            return self.take_to_nothing(spot, turn, at);
+            return Step::Stuck;
         }
         if let Hit::AtFirst = hit {
             at.best = Some((at.first, spot.at));
         }
-        Some(Spot {
+        if self.is_empty(to) {
+            return self.take_to_nothing(spot, turn, at);
+        }
+        Step::On(Spot {
             at: end,
             state: to,
             idle: spot.idle,
         })
     }
 
-    /// The same where there is nothing to go on from after the turn.
+    /// The same where there is nothing to go on from after the turn, and the match that the turn
+    /// completes is known.
     #[inline(always)]
-    fn take_to_nothing(&self, spot: Spot, turn: Turn, at: &mut Standing) -> Option<Spot>
+    fn take_to_nothing(&self, spot: Spot, turn: Turn, at: &mut Standing) -> Step
         requires from { spot.state < length self.now.states }
-        requires to { turn.to < length self.now.states }
-        requires empty { (state : State) → slice_get self.now.states turn.to ≡ Some state
-            → state.ways ≡ [] }
-        ensures taken { (state : State) → slice_get self.now.states turn.to ≡ Some state
-            → MatchOption result (at.new ≡ at.old) (IsTaken spot turn state at.old at.new) }
-        ensures same { at.new.best ≡ at.old.best }
+        ensures { TakesToNothing turn at.old at.new result }
     {
         let Turn { to, end } = turn;
-        if at.best.is_some() || self.is_hit(to) {
-            return None;
+        if at.best.is_some() {
+            return Step::Over;
         }
-        let idle = self.idle_after(spot)?;
+        let Some(idle) = self.idle_after(spot) else {
+            return Step::Stuck;
+        };
         at.first = end;
-        Some(Spot {
+        Step::On(Spot {
             at: end,
             state: to,
             idle,

@@ -3,11 +3,11 @@ use Rattle.std.specs.Prelude.{chars}
 use Rattle.std.proofs.lemmas.Option.{slice_get_within}
 use Rattle.regex_lite_engine.specs.declared.lazy_dfa.scan.Standing.{Standing}
 use Rattle.regex_lite_engine.specs.Graph.Stored.{table_of}
-use Rattle.regex_lite_engine.proofs.lazy_dfa.SpotLemmas.{further, ran, since_on, spot_edge, spot_of}
-use Rattle.regex_lite_engine.proofs.lazy_dfa.SpotLemmas.{spot_on, spot_since}
+use Rattle.regex_lite_engine.proofs.lazy_dfa.SpotLemmas.{ran, since_on, spot_edge, spot_of}
+use Rattle.regex_lite_engine.proofs.lazy_dfa.SpotLemmas.{spot_on, spot_over, spot_since}
 use Rattle.regex_lite_engine.proofs.lazy_dfa.automaton.LazyDfa.run.Goals as goal
 use Rattle.regex_lite_engine.proofs.lazy_dfa.automaton.LazyDfa.run.Goals.{in_default}
-use Rattle.regex_lite_engine.proofs.lazy_dfa.automaton.LazyDfa.run.Goals.{in-Some+in_default-take}
+use Rattle.regex_lite_engine.proofs.lazy_dfa.automaton.LazyDfa.run.Goals.{in-Some+in-Stuck}
 
 pub turns-init : goal.turns-init
 turns-init c = record {
@@ -49,13 +49,6 @@ take-requires-clause-to c =
     let turn = c.in-Some.ensures.turn in
     slice_get_within c.args.self.now.states c.in-Some.turn.to turn.to turn.is_to
 
-pub turns-smaller : goal.turns-smaller
-turns-smaller c =
-    let turn = c.in-Some.ensures.turn in
-    further (table_of c.args.graph.now) (c.args.graph.now.start ∷ []) c.args.self.now
-    c.args.haystack.now c.turns.spot c.in-Some-take.on c.in-Some.turn c.turns.at c.take.new.at turn
-    (c.in-Some-take.ensures.taken turn.to turn.is_to)
-
 pub turns-preserved : goal.turns-preserved
 turns-preserved c = record {
   near = c.turn.ensures.near;
@@ -72,8 +65,8 @@ turns-preserved c = record {
       let le = v.1 in
       let turn = c.in-Some.ensures.turn in
       let after = c.take.new.at in
-      let on = c.in-Some-take.on in
-      let taken = c.in-Some-take.ensures.taken turn.to turn.is_to in (
+      let on = c.in-On.on in
+      let taken = c.in-On.ensures.taken turn.to turn.is_to in (
         v.0 + 1,
         omega (arith, le),
         spot_on table entries bs u fits low v.0 now spot told v.2 c.in-Some.turn turn after on
@@ -84,6 +77,16 @@ turns-preserved c = record {
             on taken),
       );
 }
+
+pub returns-in-Over-clause-over : goal.returns-in-Over-clause-over
+returns-in-Over-clause-over c = λ _ low p from.
+    let bs = c.args.haystack.now in
+    let fits : length bs + 1 < 2 ^ 64 = omega arith in
+    let turn = c.in-Some.ensures.turn in
+    let v = c.turns.invariant.on low p from in
+    spot_over (table_of c.args.graph.now) (c.args.graph.now.start ∷ []) bs c.utf8.haystack fits
+    low v.0 c.args.self.now c.turns.spot c.turns.at v.2 c.in-Some.turn turn c.take.new.at
+    (c.in-Over.ensures.taken turn.to turn.is_to)
 
 pub settle-requires : goal.settle-requires
 settle-requires c =
@@ -96,14 +99,14 @@ settle-requires c =
 
 stays : (c : goal.After-settle) → c.match-turn.at ≡ c.turns.at
 stays c = elim c.match-turn.branch [
-  | in-Some+in_default-take w ↦
+  | in-Some+in-Stuck w ↦
       let turn = w.in-Some.ensures.turn in
-      w.at-is ∙ w.in_default-take.ensures.taken turn.to turn.is_to
+      w.at-is ∙ w.in-Stuck.ensures.taken turn.to turn.is_to
   | in_default w ↦ w.at-is
 ]
 
-pub returns : goal.returns
-returns c = λ low p from.
+pub returns-clause-on : goal.returns-clause-on
+returns-clause-on c = λ _ low p from.
     let bs = c.args.haystack.now in
     let fits : length bs + 1 < 2 ^ 64 = omega arith in
     ran (table_of c.args.graph.now) (c.args.graph.now.start ∷ []) bs c.utf8.haystack fits low p

@@ -3,12 +3,12 @@ use Rattle.std.specs.Prelude.{chars}
 use Rattle.std.proofs.lemmas.Option.{slice_get_within}
 use Rattle.regex_lite_engine.specs.declared.lazy_dfa.scan.Standing.{Standing}
 use Rattle.regex_lite_engine.specs.Graph.Stored.{table_of}
-use Rattle.regex_lite_engine.proofs.lazy_dfa.SpotLemmas.{further, ran, since_on, spot_edge, spot_of}
+use Rattle.regex_lite_engine.proofs.lazy_dfa.SpotLemmas.{unmoved, ran, since_on, spot_edge, spot_of}
 use Rattle.regex_lite_engine.proofs.lazy_dfa.SpotLemmas.{spot_on, spot_since}
 use Rattle.regex_lite_engine.proofs.lazy_dfa.automaton.LazyDfa.run_to_match.Goals as goal
+use Rattle.regex_lite_engine.proofs.lazy_dfa.automaton.LazyDfa.run_to_match.Goals.{in_default}
 use Rattle.regex_lite_engine.proofs.lazy_dfa.automaton.LazyDfa.run_to_match.Goals.{in-Some+then-is_hit}
 use Rattle.regex_lite_engine.proofs.lazy_dfa.automaton.LazyDfa.run_to_match.Goals.{in-Some+else-is_hit+in_default-take}
-use Rattle.regex_lite_engine.proofs.lazy_dfa.automaton.LazyDfa.run_to_match.Goals.{in_default}
 
 pub turns-init : goal.turns-init
 turns-init c = record {
@@ -51,13 +51,6 @@ take-requires-clause-to c =
     let turn = c.in-Some.ensures.turn in
     slice_get_within c.args.self.now.states c.in-Some.turn.to turn.to turn.is_to
 
-pub turns-smaller : goal.turns-smaller
-turns-smaller c =
-    let turn = c.in-Some.ensures.turn in
-    further (table_of c.args.graph.now) (c.args.graph.now.start ∷ []) c.args.self.now
-    c.args.haystack.now c.turns.spot c.in-Some-take.on c.in-Some.turn c.turns.at c.take.new.at turn
-    (c.in-Some-take.ensures.taken turn.to turn.is_to)
-
 pub turns-preserved : goal.turns-preserved
 turns-preserved c = record {
   near = c.turn.ensures.near;
@@ -79,8 +72,8 @@ turns-preserved c = record {
       let le = v.1 in
       let turn = c.in-Some.ensures.turn in
       let after = c.take.new.at in
-      let on = c.in-Some-take.on in
-      let taken = c.in-Some-take.ensures.taken turn.to turn.is_to in (
+      let on = c.in-On.on in
+      let taken = c.in-On.ensures.taken turn.to turn.is_to in (
         v.0 + 1,
         omega (arith, le),
         spot_on table entries bs u fits low v.0 now spot told v.2 c.in-Some.turn turn after on
@@ -106,7 +99,11 @@ stays c = elim c.match-turn.branch [
   | in-Some+then-is_hit w ↦ w.at-is
   | in-Some+else-is_hit+in_default-take w ↦
       let turn = w.in-Some.ensures.turn in
-      w.at-is ∙ w.in_default-take.ensures.taken turn.to turn.is_to
+      w.at-is
+      ∙ unmoved c.turns.spot w.in-Some.turn turn.to c.turns.at w.take.new.at w.take.result
+      (w.take.ensures.taken turn.to turn.is_to) w.in_default-take.not-On
+      (w.take.ensures.same turn.to turn.is_to
+      (w.is_hit.ensures turn.to turn.is_to w.if-is_hit.false))
   | in_default w ↦ w.at-is
 ]
 
