@@ -115,7 +115,7 @@ impl LazyDfa {
         if self.classes.looks() {
             Side::of(c)
         } else {
-            Side::of(None)
+            Side::none()
         }
     }
 }

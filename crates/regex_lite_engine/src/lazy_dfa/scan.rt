@@ -137,7 +137,7 @@ impl LazyDfa {
     pub(crate) fn empty_state(&self, before: Option<char>) -> Option<u16>
         ensures { IfSome result (λ x. IsEmptyState self.now x before) }
     {
-        let side = Side::of(before);
+        let side = self.side(before);
         'states: for x in 0..self.states.len() {
             let state = &self.states[x];
             if state.len == 0 && state.searching && self.sees_alike(state.before, side) {

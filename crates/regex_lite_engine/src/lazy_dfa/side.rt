@@ -1,5 +1,5 @@
 //! What looks see of a neighbour.
-ghost use Rattle.std.specs.Prelude.{◌≡◌, ◌↔◌, IsTrue};
+ghost use Rattle.std.specs.Prelude.{◌≡◌, ◌↔◌, IsTrue, None};
 ghost use Rattle.regex_lite_engine.specs.LazyDfa.Intervals.{side_of};
 
 use regex_lite_syntax::Look;
@@ -19,20 +19,26 @@ impl Side {
     pub(crate) fn of(c: Option<char>) -> Side
         ensures { result ≡ side_of c }
     {
-        let is_word = !Look::WordEndHalf.holds(None, c);
-        match c {
-            None => Side {
-                is_none: true,
-                is_line_feed: false,
-                is_carriage_return: false,
-                is_word,
-            },
-            Some(c) => Side {
-                is_none: false,
-                is_line_feed: c == '\n',
-                is_carriage_return: c == '\r',
-                is_word,
-            },
+        let Some(c) = c else {
+            return Side::none();
+        };
+        Side {
+            is_none: false,
+            is_line_feed: c == '\n',
+            is_carriage_return: c == '\r',
+            is_word: !Look::WordEndHalf.holds(None, Some(c)),
+        }
+    }
+
+    /// What they see where there is no character.
+    pub(crate) fn none() -> Side
+        ensures { result ≡ side_of None }
+    {
+        Side {
+            is_none: true,
+            is_line_feed: false,
+            is_carriage_return: false,
+            is_word: false,
         }
     }
 

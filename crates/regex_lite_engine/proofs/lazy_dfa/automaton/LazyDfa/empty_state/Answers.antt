@@ -21,5 +21,5 @@ returns-then-sees_alike c =
       searching = sym (ap (λ (s : StoredState). s.searching) stored) ∙ c.if-state.true;
       sees = λ looks.
           sym (ap (λ (s : StoredState). s.before) stored) ∙ c.if-sees_alike.ensures refl looks
-          ∙ c.of-side.ensures;
+          ∙ c.side-side.ensures looks;
     }
