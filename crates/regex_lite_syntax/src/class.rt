@@ -26,8 +26,8 @@ pub struct ClassRange {
     pub end: char,
 }
 
-/// Where the runs of a set are. If they are a part of the program, this says which: a borrow of them
-/// would be a part of the groups of a match too, and closures can't take such groups.
+/// Where the runs of a set are. Of those that are a part of the program it says which: a borrow of
+/// them would be a part of the groups of a match too, and closures can't take such groups.
 #[derive(Debug, Drop)]
 enum RunStorage {
     Known(KnownSet),

@@ -1,10 +1,9 @@
 -- A search that goes by remembered turns, by offsets alone.
-use Rattle.std.proofs.Common.{◌≡◌, ℕ, ◌+◌, ◌-◌, ◌^◌, ◌<◌, ◌≤◌, ◌⊎◌, inl, inr, List, [], length}
+use Rattle.std.proofs.Common.{◌≡◌, ℕ, ◌+◌, ◌^◌, ◌<◌, ◌≤◌, ◌⊎◌, inl, inr, List, [], length}
 use Rattle.std.proofs.Common.{drop, suc, slice_get, Option, Some, None, IfSome, refl, sym, ap}
 use Rattle.std.proofs.Common.{subst, ◌∙◌, arith}
 use Rattle.std.specs.Prelude.{IsUtf8, IsCharBoundary, chars}
 use Rattle.std.specs.Char.{len_utf8}
-use Rattle.std.proofs.lemmas.Str.{len_utf8_bounds}
 use Rattle.regex_lite_syntax.specs.Text.{Text}
 use Rattle.regex_lite_engine.specs.declared.lazy_dfa.scan.Standing.{Standing}
 use Rattle.regex_lite_engine.specs.declared.lazy_dfa.spot.Spot.{Spot}
@@ -78,18 +77,6 @@ unmoved spot turn state before after (On on) taken elsewhere same = absurd (else
 unmoved spot turn state before after Over over elsewhere same =
     over.same ∙ ap (λ best. record before { best = best }) same
 unmoved spot turn state before after Stuck stuck elsewhere same = stuck
-
--- a turn goes on in the haystack
-pub further : (table : List (Place ℕ)) (entries : List ℕ) (automaton : Automaton) (bs : List ℕ)
-    (spot on : Spot) (turn : Turn) (told after : Standing)
-    (leads : IsTurn table entries automaton bs spot.at spot.state turn)
-    → IsTaken spot turn leads.to told after on → length bs - on.at < length bs - spot.at
-further table entries automaton bs spot on turn told after leads taken =
-    let inside = leads.ahead.inside in
-    let ends = leads.ahead.ends in
-    let at = taken.at in
-    let some = (len_utf8_bounds leads.ahead.character).0 in
-    omega (arith, inside, ends, at, some)
 
 module _ (table : List (Place ℕ)) (entries : List ℕ) (bs : List ℕ) (u : IsUtf8 bs)
     (fits : length bs + 1 < 2 ^ 64) (low : ℕ) where
