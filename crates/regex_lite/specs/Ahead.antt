@@ -8,8 +8,6 @@ use Rattle.regex_lite_syntax.specs.Text.{Text}
 use Rattle.regex_lite_engine.specs.Search.Answer.{Found}
 use Rattle.regex_lite_engine.specs.Search.Offsets.{position_at}
 use Rattle.regex_lite.specs.declared.string.matches.Match.{Match}
-use Rattle.regex_lite.specs.declared.string.iter.find_iter.Matches.{Matches}
-use Rattle.regex_lite.specs.declared.string.iter.captures_iter.CaptureMatches.{CaptureMatches}
 use Rattle.regex_lite.specs.Expression.{Expression, OfTree}
 use Rattle.regex_lite.specs.Groups.{Groups, whole_span}
 use Rattle.regex_lite.specs.MatchList.{AreSomeWithin, AreWithin, IsAnswerOf}
@@ -128,25 +126,19 @@ ahead scan = ahead_by (λ own. own.regex) scan
 abbrev pub most_ahead : {F : Type 0} → Scanning F → ℕ
 most_ahead scan = most_left scan.limit (length scan.haystack) scan.ended
 
-abbrev pub ahead_of : Matches → Ahead
-ahead_of it = ahead it.scan
+abbrev pub ahead_of : Scanning Expression → Ahead
+ahead_of it = ahead_by (λ own. own) it
 
-abbrev pub groups_ahead_of : CaptureMatches → Ahead
-groups_ahead_of it = ahead it.scan
-
-abbrev pub most_matches : Matches → Count
-most_matches it = at_most (most_ahead it.scan)
-
-abbrev pub most_groups : CaptureMatches → Count
-most_groups it = at_most (most_ahead it.scan)
+abbrev pub most_matches : {S : Type 0} → Scanning S → Count
+most_matches it = at_most (most_ahead it)
 
 -- the next match came; or there was none, and none comes from then on
-abbrev pub GivesMatch : Matches → Option Match → Matches → Type 0
+abbrev pub GivesMatch : (old : Scanning Expression) → Option Match → (new : Scanning Expression)
+    → Type 0
 GivesMatch old item new =
     MatchOption item (Ends (ahead_of old) (ahead_of new))
-    (λ m. (found : Found) × IsMatchOf old.scan.haystack found m
-    × IsOnward old.scan.ended (span_of_match m)
-    × (new.scan.ended ≡ Some (span_of_match m).1)
+    (λ m. (found : Found) × IsMatchOf old.haystack found m
+    × IsOnward old.ended (span_of_match m) × (new.ended ≡ Some (span_of_match m).1)
     × Passes (ahead_of old) found (ahead_of new))
 
 -- so whatever finds it: it came with the number of its pattern, and its slots are kept
@@ -194,14 +186,13 @@ AreGroupsFound re haystack found groups =
 
 -- the groups of the next match came; or there was one and a growth was refused, or there was none,
 -- and none comes from then on
-abbrev pub GivesGroups : CaptureMatches → Option (Result Groups Error) → CaptureMatches → Type 0
+abbrev pub GivesGroups : (old : Scanning Expression) → Option (Result Groups Error)
+    → (new : Scanning Expression) → Type 0
 GivesGroups old item new =
-    MatchOption item (Ends (groups_ahead_of old) (groups_ahead_of new))
+    MatchOption item (Ends (ahead_of old) (ahead_of new))
     (λ answer. MatchResult answer
-    (λ groups. (found : Found)
-    × AreGroupsFound old.scan.finder.regex old.scan.haystack found groups
-    × IsOnward old.scan.ended (whole_span groups)
-    × (new.scan.ended ≡ Some (whole_span groups).1)
-    × Passes (groups_ahead_of old) found (groups_ahead_of new))
-    (λ error. (error ≡ out_of_memory) × (IsOver (groups_ahead_of old) → ⊥)
-    × (groups_ahead_of new ≡ at_end (groups_ahead_of old))))
+    (λ groups. (found : Found) × AreGroupsFound old.finder old.haystack found groups
+    × IsOnward old.ended (whole_span groups) × (new.ended ≡ Some (whole_span groups).1)
+    × Passes (ahead_of old) found (ahead_of new))
+    (λ error. (error ≡ out_of_memory) × (IsOver (ahead_of old) → ⊥)
+    × (ahead_of new ≡ at_end (ahead_of old))))

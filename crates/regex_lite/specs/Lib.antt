@@ -14,7 +14,6 @@ pub mod RegexListSearches
 pub mod MatchList
 pub mod Ahead
 pub mod ListAhead
-pub mod Iterators
 pub mod Pieces
 pub mod Replacing
 pub mod Replacements
@@ -42,6 +41,7 @@ pub mod CompiledList
 pub mod Slots
 pub mod Answers
 pub mod Scanning
+pub mod PiecesLeft
 pub mod Keeping
 pub mod NextMatch
 pub mod Rewriting

@@ -1,22 +1,17 @@
 -- What an iterator over the matches of several patterns has ahead of it.
 use Rattle.std.specs.Prelude.{◌≡◌, ℕ, List, Option, Some, None, MatchOption}
 use Rattle.std.specs.Prelude.{Result, MatchResult, chars, slice_get}
-use Rattle.std.specs.Iterator.{Count, at_most}
 use Rattle.regex_lite_syntax.specs.declared.error.Error.{Error}
 use Rattle.regex_lite_syntax.specs.Errors.{out_of_memory}
 use Rattle.regex_lite_engine.specs.Search.Answer.{Found}
 use Rattle.regex_lite.specs.declared.string.matches.Match.{Match}
-use Rattle.regex_lite.specs.declared.string.list.find_iter.ListMatches.{ListMatches}
-use Rattle.regex_lite.specs.declared.string.list.captures_iter.ListCaptureMatches.{
-  ListCaptureMatches,
-}
 use Rattle.regex_lite.specs.Ahead.{AheadOf, AreGroupsFound, EndsAhead, IsOnward, NoneIsAhead}
-use Rattle.regex_lite.specs.Ahead.{PassesAnswer, after, ahead_by, at_end, most_ahead, whole}
+use Rattle.regex_lite.specs.Ahead.{PassesAnswer, after, ahead_by, at_end, whole}
 use Rattle.regex_lite.specs.Expression.{Expression}
 use Rattle.regex_lite.specs.Groups.{Groups, whole_span}
 use Rattle.regex_lite.specs.MatchList.{AreWithinOfList, IsAnswerOfPatterns, IsNextOfList}
 use Rattle.regex_lite.specs.MatchViews.{span_of_match}
-use Rattle.regex_lite.specs.Scanning.{ListSearching, Scanning}
+use Rattle.regex_lite.specs.Scanning.{Scanning}
 use Rattle.regex_lite.specs.Searches.{IsMatchOf}
 
 -- the matches ahead of a list of patterns, whose answers are the number of a pattern and what was
@@ -54,29 +49,17 @@ ListEnds old new = EndsAhead (λ (own : ℕ × Found). own.1) IsAnswerOfPatterns
 
 -- What iterators have ahead
 
-abbrev pub list_ahead : Scanning ListSearching → ListAhead
-list_ahead scan = ahead_by (λ own. own.list) scan
-
-abbrev pub list_ahead_of : ListMatches → ListAhead
-list_ahead_of it = list_ahead it.scan
-
-abbrev pub list_groups_ahead_of : ListCaptureMatches → ListAhead
-list_groups_ahead_of it = list_ahead it.scan
-
-abbrev pub most_list_matches : ListMatches → Count
-most_list_matches it = at_most (most_ahead it.scan)
-
-abbrev pub most_list_groups : ListCaptureMatches → Count
-most_list_groups it = at_most (most_ahead it.scan)
+abbrev pub list_ahead_of : Scanning (List Expression) → ListAhead
+list_ahead_of it = ahead_by (λ own. own) it
 
 -- the next match came with the number of its pattern; or there was none, and none comes from then
 -- on
-abbrev pub GivesListMatch : ListMatches → Option (ℕ × Match) → ListMatches → Type 0
+abbrev pub GivesListMatch : (old : Scanning (List Expression)) → Option (ℕ × Match)
+    → (new : Scanning (List Expression)) → Type 0
 GivesListMatch old item new =
     MatchOption item (ListEnds (list_ahead_of old) (list_ahead_of new))
-    (λ told. (found : Found) × IsMatchOf old.scan.haystack found told.1
-    × IsOnward old.scan.ended (span_of_match told.1)
-    × (new.scan.ended ≡ Some (span_of_match told.1).1)
+    (λ told. (found : Found) × IsMatchOf old.haystack found told.1
+    × IsOnward old.ended (span_of_match told.1) × (new.ended ≡ Some (span_of_match told.1).1)
     × ListPasses (list_ahead_of old) (told.0, found) (list_ahead_of new))
 
 -- the groups are those of what was found of the pattern with this number
@@ -88,15 +71,13 @@ AreGroupsFoundInList list haystack number found groups =
 
 -- the groups of the next match came with the number of its pattern; or there was one and a growth
 -- was refused, or there was none, and none comes from then on
-abbrev pub GivesListGroups : ListCaptureMatches → Option (Result (ℕ × Groups) Error)
-    → ListCaptureMatches → Type 0
+abbrev pub GivesListGroups : (old : Scanning (List Expression))
+    → Option (Result (ℕ × Groups) Error) → (new : Scanning (List Expression)) → Type 0
 GivesListGroups old item new =
-    MatchOption item (ListEnds (list_groups_ahead_of old) (list_groups_ahead_of new))
+    MatchOption item (ListEnds (list_ahead_of old) (list_ahead_of new))
     (λ answer. MatchResult answer
-    (λ told. (found : Found)
-    × AreGroupsFoundInList old.scan.finder.list old.scan.haystack told.0 found told.1
-    × IsOnward old.scan.ended (whole_span told.1)
-    × (new.scan.ended ≡ Some (whole_span told.1).1)
-    × ListPasses (list_groups_ahead_of old) (told.0, found) (list_groups_ahead_of new))
-    (λ error. (error ≡ out_of_memory) × (IsListOver (list_groups_ahead_of old) → ⊥)
-    × (list_groups_ahead_of new ≡ at_end (list_groups_ahead_of old))))
+    (λ told. (found : Found) × AreGroupsFoundInList old.finder old.haystack told.0 found told.1
+    × IsOnward old.ended (whole_span told.1) × (new.ended ≡ Some (whole_span told.1).1)
+    × ListPasses (list_ahead_of old) (told.0, found) (list_ahead_of new))
+    (λ error. (error ≡ out_of_memory) × (IsListOver (list_ahead_of old) → ⊥)
+    × (list_ahead_of new ≡ at_end (list_ahead_of old))))

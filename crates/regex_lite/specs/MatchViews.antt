@@ -1,10 +1,9 @@
 -- Matches as contracts see them.
-use Rattle.std.specs.Prelude.{ℕ, Bool, List, Option, map, drop, nat_eq, option_map}
+use Rattle.std.specs.Prelude.{ℕ, Bool, List, Option, map, nat_eq, option_map}
 use Rattle.std.specs.Ordering.{eq_of_both, on}
 use Rattle.std.specs.Str.{bytes_eq}
-use Rattle.regex_lite.specs.Groups.{text_at}
+use Rattle.regex_lite.specs.Groups.{Groups, text_at}
 use Rattle.regex_lite.specs.declared.string.matches.Match.{Match}
-use Rattle.regex_lite.specs.declared.string.sub_captures.SubCaptureMatches.{SubCaptureMatches}
 
 -- the haystack, as its bytes
 abbrev pub haystack_of_match : Match → List ℕ
@@ -22,17 +21,17 @@ text_of_match m = text_at (haystack_of_match m) (span_of_match m)
 abbrev pub is_same_match : Match → Match → Bool
 is_same_match =
     eq_of_both (on haystack_of_match bytes_eq)
-    (eq_of_both (on (λ m. m.start) nat_eq) (on (λ m. m.end) nat_eq))
+    (eq_of_both (on (λ m. (span_of_match m).0) nat_eq) (on (λ m. (span_of_match m).1) nat_eq))
 
 -- a match and the haystack that it lies in
 abbrev pub match_with_haystack : Match → List ℕ × (ℕ × ℕ)
 match_with_haystack m = (haystack_of_match m, span_of_match m)
 
--- the spans of the groups that are still to come
-abbrev pub spans_to_come : SubCaptureMatches → List (Option (ℕ × ℕ))
-spans_to_come it = drop it.next it.captures.now.spans
+-- groups that come one after another, and the spans of those that are still to come
+pub record Coming : Type 0 where
+  pub groups : Groups
+  pub spans : List (Option (ℕ × ℕ))
 
--- each with the haystack
-abbrev pub groups_to_come : SubCaptureMatches → List (Option (List ℕ × (ℕ × ℕ)))
-groups_to_come it =
-    map (option_map (λ span. (it.captures.now.haystack, span))) (spans_to_come it)
+-- these spans, each with the haystack
+abbrev pub groups_to_come : Coming → List (Option (List ℕ × (ℕ × ℕ)))
+groups_to_come it = map (option_map (λ span. (it.groups.haystack, span))) it.spans

@@ -1,18 +1,15 @@
 -- The pieces of a haystack between its matches.
 use Rattle.std.specs.Prelude.{◌≡◌, ◌+◌, ℕ, zero, suc, Bool, true, false, List, [], ◌∷◌}
 use Rattle.std.specs.Prelude.{Option, Some, None, MatchOption, MatchBool, is_none, map, drop}
-use Rattle.std.specs.Prelude.{length, slice_range, chars, unwrap_or, if◌then◌else◌}
+use Rattle.std.specs.Prelude.{slice_range, chars, unwrap_or, if◌then◌else◌}
 use Rattle.std.specs.Borrow.{Bor}
 use Rattle.std.specs.Iterator.{Count, at_most}
 use Rattle.regex_lite_syntax.specs.Text.{Text}
 use Rattle.regex_lite_engine.specs.Search.Answer.{Found}
-use Rattle.regex_lite.specs.declared.string.iter.split.Split.{Split}
-use Rattle.regex_lite.specs.declared.string.iter.split.Pieces.{Pieces}
-use Rattle.regex_lite.specs.declared.string.iter.split.Pieces.TheVariants.{Cut, Whole}
-use Rattle.regex_lite.specs.declared.string.iter.split.SplitN.{SplitN}
 use Rattle.regex_lite.specs.Expression.{Expression}
 use Rattle.regex_lite.specs.Searches.{offsets}
-use Rattle.regex_lite.specs.Ahead.{Ahead, AreAhead, ahead_of, most_left, whole}
+use Rattle.regex_lite.specs.Ahead.{Ahead, AreAhead, ahead_of, most_ahead, whole}
+use Rattle.regex_lite.specs.Scanning.{Scanning}
 
 -- where a match starts and ends, as offsets
 abbrev pub found_span : Text → Found → ℕ × ℕ
@@ -40,49 +37,50 @@ abbrev pub ArePiecesWithin : (limit : ℕ) → Expression → (haystack : List �
 ArePiecesWithin zero re haystack list = list ≡ []
 ArePiecesWithin (suc cuts) re haystack list = IsCut (whole re haystack (Some cuts)) 0 list
 
+-- the matches at which a haystack is still to be cut, and whether its last piece has come
+pub record Cutting : Type 0 where
+  pub matches : Scanning Expression
+  pub is_done : Bool
+
+-- a haystack that is cut at matches, or the text that is left as it is, if there is one
+pub data CuttingN : Type 0 where
+  at_matches : (it : Cutting) → CuttingN
+  as_it_is : (text : Option (List ℕ)) → CuttingN
+
 -- these pieces are still to come
-abbrev pub ArePiecesLeft : Split → List (List ℕ) → Type 0
+abbrev pub ArePiecesLeft : Cutting → List (List ℕ) → Type 0
 ArePiecesLeft it list =
     MatchBool it.is_done (list ≡ [])
-    (IsCut (ahead_of it.matches) (unwrap_or it.matches.scan.ended 0) list)
+    (IsCut (ahead_of it.matches) (unwrap_or it.matches.ended 0) list)
 
--- the same where the haystack is cut, where all of it is left as it is, and where nothing is left
-abbrev pub AreLeft : Pieces → List (List ℕ) → Type 0
-AreLeft (Cut split) list = ArePiecesLeft split list
-AreLeft (Whole None) list = list ≡ []
-AreLeft (Whole (Some rest)) list = list ≡ rest.now ∷ []
-
-abbrev pub ArePiecesLeftN : SplitN → List (List ℕ) → Type 0
-ArePiecesLeftN it list = AreLeft it.pieces list
+abbrev pub ArePiecesLeftN : CuttingN → List (List ℕ) → Type 0
+ArePiecesLeftN (at_matches it) list = ArePiecesLeft it list
+ArePiecesLeftN (as_it_is None) list = list ≡ []
+ArePiecesLeftN (as_it_is (Some text)) list = list ≡ text ∷ []
 
 -- the first of the pieces that were left came; or none was left, and none comes from then on
-abbrev pub GivesPiece : Split → Option (Bor (List ℕ)) → Split → Type 0
+abbrev pub GivesPiece : (old : Cutting) → Option (Bor (List ℕ)) → (new : Cutting) → Type 0
 GivesPiece old item new =
     MatchOption item ((old.is_done ≡ true) × (new.is_done ≡ true))
     (λ piece. (old.is_done ≡ false)
     × ((list : List (List ℕ)) → ArePiecesLeft new list → ArePiecesLeft old (piece.now ∷ list)))
 
 -- none is left
-abbrev pub is_over : Pieces → Bool
-is_over (Cut split) = split.is_done
-is_over (Whole rest) = is_none rest
+abbrev pub is_over : CuttingN → Bool
+is_over (at_matches it) = it.is_done
+is_over (as_it_is text) = is_none text
 
-abbrev pub GivesPieceN : SplitN → Option (Bor (List ℕ)) → SplitN → Type 0
+abbrev pub GivesPieceN : (old : CuttingN) → Option (Bor (List ℕ)) → (new : CuttingN) → Type 0
 GivesPieceN old item new =
-    MatchOption item ((is_over old.pieces ≡ true) × (is_over new.pieces ≡ true))
-    (λ piece. (is_over old.pieces ≡ false)
+    MatchOption item ((is_over old ≡ true) × (is_over new ≡ true))
+    (λ piece. (is_over old ≡ false)
     × ((list : List (List ℕ)) → ArePiecesLeftN new list → ArePiecesLeftN old (piece.now ∷ list)))
 
 -- at most this many are left
-abbrev pub most_pieces : Split → Count
-most_pieces it =
-    at_most (if it.is_done then 0 else most_left it.matches.scan.limit
-    (length it.matches.scan.haystack) it.matches.scan.ended + 1)
+abbrev pub most_pieces : Cutting → Count
+most_pieces it = at_most (if it.is_done then 0 else most_ahead it.matches + 1)
 
-abbrev pub most_of : Pieces → Count
-most_of (Cut split) = most_pieces split
-most_of (Whole None) = at_most 0
-most_of (Whole (Some rest)) = at_most 1
-
-abbrev pub most_pieces_n : SplitN → Count
-most_pieces_n it = most_of it.pieces
+abbrev pub most_pieces_n : CuttingN → Count
+most_pieces_n (at_matches it) = most_pieces it
+most_pieces_n (as_it_is None) = at_most 0
+most_pieces_n (as_it_is (Some text)) = at_most 1

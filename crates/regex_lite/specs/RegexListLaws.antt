@@ -1,7 +1,7 @@
 -- Laws of what searches for several patterns return.
 use Rattle.std.specs.Prelude.{◌≡◌, ◌↔◌, ℕ, List, [], ◌∷◌, Bool, IsTrue, Option, Some}
 use Rattle.std.specs.Prelude.{None, is_some, option_map, option_and_then, slice_get}
-use Rattle.regex_lite_engine.specs.declared.search.steps.Steps.{Steps}
+use Rattle.regex_lite_engine.specs.declared.steps.Steps.{Steps}
 use Rattle.regex_lite.specs.declared.string.matches.Match.{Match}
 use Rattle.regex_lite.specs.Expression.{Expression, IsAccepted}
 use Rattle.regex_lite.specs.Groups.{Groups, group_span}

@@ -4,7 +4,7 @@ use Rattle.std.specs.Prelude.{slice_get}
 use Rattle.regex_lite_syntax.specs.Text.{Text}
 use Rattle.regex_lite_syntax.specs.Tree.{Tree}
 use Rattle.regex_lite_syntax.specs.Tree.Properties.{captures_len}
-use Rattle.regex_lite_engine.specs.declared.search.steps.Steps.{Steps}
+use Rattle.regex_lite_engine.specs.declared.steps.Steps.{Steps}
 use Rattle.regex_lite_engine.specs.Search.Answer.{Found}
 use Rattle.regex_lite_engine.specs.Search.AnswerOfList.{AnyMatchesFrom, IsAnswerOfList}
 use Rattle.regex_lite_engine.specs.Search.AnswerOfList.{IsFoundInList, TellsWhich}

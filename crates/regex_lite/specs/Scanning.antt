@@ -35,6 +35,16 @@ pub record Scanning (F : Type 0) : Type 0 where
   pub limit : Option ℕ
   pub ended : Option ℕ
 
+-- the same with what is searched for, a regex or several patterns, in the place of what finds it:
+-- so contracts see an iterator over matches
+abbrev pub seen_by : {F S : Type 0} → (sought : F → S) → Scanning F → Scanning S
+seen_by sought scan = record {
+  finder = sought scan.finder;
+  haystack = scan.haystack;
+  limit = scan.limit;
+  ended = scan.ended;
+}
+
 -- what is searched is the graph of the patterns' trees
 abbrev pub SearchesForList : List Expression → engine.ListSearching → Type 0
 SearchesForList list searcher =

@@ -4,7 +4,7 @@ use Rattle.std.specs.Prelude.{None, IsSome, IsCharBoundary, chars, length, optio
 use Rattle.regex_lite_syntax.specs.Text.{Text}
 use Rattle.regex_lite_syntax.specs.Tree.{Tree}
 use Rattle.regex_lite_syntax.specs.Tree.Properties.{captures_len, static_captures_len}
-use Rattle.regex_lite_engine.specs.declared.search.steps.Steps.{Steps}
+use Rattle.regex_lite_engine.specs.declared.steps.Steps.{Steps}
 use Rattle.regex_lite_engine.specs.Search.Answer.{Found, HasMatchFrom, IsAnswer}
 use Rattle.regex_lite_engine.specs.Search.Marks.{Marks, span}
 use Rattle.regex_lite_engine.specs.Search.Offsets.{offset, search_start}

@@ -1,6 +1,6 @@
 -- What searches cost, in numbers of a caller.
 use Rattle.std.specs.Prelude.{◌≡◌, ◌-◌, ◌^◌, ℕ, List, min}
-use Rattle.regex_lite_engine.specs.declared.search.steps.Steps.{Steps}
+use Rattle.regex_lite_engine.specs.declared.steps.Steps.{Steps}
 use Rattle.regex_lite.specs.Expression.{Expression}
 use Rattle.regex_lite.specs.RegexListSearches.{IsWithinListCost}
 use Rattle.regex_lite.specs.Searches.{IsWithinCost}

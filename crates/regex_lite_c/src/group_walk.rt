@@ -1,6 +1,6 @@
 //! The groups of all matches of a text, some at a time.
 ghost use Rattle.std.specs.Prelude.{◌≡◌, ◌<◌, IfSome, None};
-ghost use Rattle.regex_lite.specs.Ahead.{groups_ahead_of};
+ghost use Rattle.regex_lite.specs.Ahead.{ahead_of};
 ghost use Rattle.regex_lite_c.specs.GroupWalks.{IsFilled, IsGroupWalkAnswer};
 
 use crate::answer::{NO, NO_ROOM, NOTHING_HELD, OUT_OF_MEMORY, YES};
@@ -71,9 +71,9 @@ fn fill_groups(
     spans: &mut [Span],
     count: &mut usize,
 ) -> u32
-    requires all { (groups_ahead_of items).limit ≡ None }
+    requires all { (ahead_of items).limit ≡ None }
     requires none { count.old ≡ 0 }
-    ensures { IsFilled (groups_ahead_of items.entry) walk.old walk.new spans.old spans.new count.new
+    ensures { IsFilled (ahead_of items.entry) walk.old walk.new spans.old spans.new count.new
         result }
 {
     let mut used = 0;

@@ -1,7 +1,7 @@
 -- How many arrows a tree has, by its places.
 use Rattle.std.proofs.Common.{◌≤◌, ◌<◌, ℕ, zero, suc, ◌+◌, ◌-◌, ◌*◌, Bool, true}
 use Rattle.std.proofs.Common.{false, Option, Some, None, List, [], ◌∷◌, arith}
-use Rattle.std.proofs.Math.Nat.{suc-mul}
+use Rattle.std.proofs.Math.Nat.{mul-le-mul_left}
 use Rattle.regex_lite_syntax.specs.declared.class.ClassRange.{ClassRange}
 use Rattle.regex_lite_syntax.specs.Tree.{Tree, Trees, empty, character, class, look}
 use Rattle.regex_lite_syntax.specs.Tree.{repetition, capture, concat, alternation, none, more}
@@ -11,15 +11,6 @@ use Rattle.regex_lite_engine.specs.Graph.PlaceCounts.{places, places_in, arrows,
 use Rattle.regex_lite_engine.specs.Graph.PlaceCounts.{copies, own_places, own_arrows}
 use Rattle.regex_lite_engine.specs.Graph.PlaceCounts.{bounded_places, bounded_arrows, class_arrows}
 
--- this many copies of a body
-copied : (n a p : ℕ) → a < 2 * p → n * a + n ≤ 2 * (n * p)
-copied zero a p few = omega arith
-copied (suc n) a p few = omega (arith, copied n a p few, suc-mul n a, suc-mul n p)
-
--- and the places beside them
-with_own : (n a p b q : ℕ) → a < 2 * p → b + 1 ≤ 2 * q + n → n * a + b < 2 * (n * p + q)
-with_own n a p b q few own = omega (arith, copied n a p few)
-
 own_few : (least above : ℕ)
     → bounded_arrows least above + 1 ≤ 2 * bounded_places least above + (least + above)
 own_few zero zero = omega arith
@@ -28,7 +19,8 @@ own_few zero (suc (suc d)) = omega arith
 own_few (suc n) zero = omega arith
 own_few (suc n) (suc d) = omega arith
 
-repeated_few : (least : ℕ) (most : Option ℕ) (nullable_body : Bool)
+-- a repetition's own places have fewer arrows than twice their number and the copies together
+pub repeated_few : (least : ℕ) (most : Option ℕ) (nullable_body : Bool)
     → own_arrows least most nullable_body + 1
     ≤ 2 * own_places least most nullable_body + copies least most
 repeated_few zero None true = omega arith
@@ -49,10 +41,8 @@ mutual
   arrows_few (class ranges) regular = set_few ranges
   arrows_few (look test) regular = omega arith
   arrows_few (repetition least most greedy body) regular =
-      with_own (copies least most) (arrows body) (places body)
-      (own_arrows least most (nullable body))
-      (own_places least most (nullable body)) (arrows_few body regular.1)
-      (repeated_few least most (nullable body))
+      let few = mul-le-mul_left (copies least most) (arrows_few body regular.1) in
+      omega (arith, few, repeated_few least most (nullable body))
   arrows_few (capture index name body) regular = omega (arith, arrows_few body regular.1)
   arrows_few (concat none) regular = absurd regular.0
   arrows_few (concat (more a rest)) regular =

@@ -1,4 +1,10 @@
 -- lemmas that several modules use
 pub mod ArrowBoundLemmas
+pub mod InLemmas
+pub mod LookupLemmas
 pub mod OffsetLemmas
+pub mod OptionLemmas
 pub mod PositionLemmas
+pub mod WordBitLemmas
+-- lemmas about the written-out pattern of a tree
+pub mod graph

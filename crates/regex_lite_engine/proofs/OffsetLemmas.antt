@@ -10,7 +10,7 @@ use Rattle.std.proofs.lemmas.List.Sums.{sum_by-cons}
 use Rattle.std.proofs.lemmas.Str.{encodes-chars, IsUtf8-past_char, length-encode}
 use Rattle.std.proofs.lemmas.Str.{len_utf8_bounds, IsCharBoundary-from_drop}
 use Rattle.regex_lite_engine.specs.Search.Offsets.{offset, IsOffset}
-use Rattle.regex_lite_engine.proofs.search.OptionLemmas.{not_there, same_some}
+use Rattle.regex_lite_engine.proofs.OptionLemmas.{not_there, same_some}
 
 pub length_encodes : (cs : List ℕ) → length (encodes cs) ≡ sum_by len_utf8 cs
 length_encodes [] = refl

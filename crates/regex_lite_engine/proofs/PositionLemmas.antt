@@ -4,7 +4,6 @@ use Rattle.std.proofs.Common.{slice_get, Some, sym, ap, ◌∙◌, chars, IsUtf8
 use Rattle.std.specs.Prelude.{IsCharBoundary}
 use Rattle.std.specs.Char.{len_utf8}
 use lib.Utf8.{encode}
-use Rattle.std.proofs.lemmas.List.{take_all}
 use Rattle.std.proofs.lemmas.Option.{slice_get_within}
 use Rattle.std.proofs.lemmas.Str.{IsUtf8-drop, chars-nil, chars_past_char}
 use Rattle.regex_lite_engine.specs.Search.Offsets.{position_at, search_start, IsOffset}
@@ -14,12 +13,6 @@ pub use Rattle.regex_lite_engine.proofs.search.here.OffsetLemmas.{position_is}
 
 pub first_position : (bytes : List ℕ) → position_at bytes 0 ≡ 0
 first_position bytes = ap length chars-nil
-
-pub last_position : (bytes : List ℕ) (at : ℕ) → at ≡ length bytes
-    → position_at bytes at ≡ length (chars bytes)
-last_position bytes at is =
-    ap (position_at bytes) is
-    ∙ ap (λ own. length (chars own)) (take_all (length bytes) bytes (omega arith))
 
 -- a search that starts inside the haystack starts from that position
 pub start_position : (bytes : List ℕ) (at : ℕ) → IsCharBoundary bytes at

@@ -2,7 +2,9 @@
 pub mod AheadLemmas
 pub mod BoundaryLemmas
 pub mod IntervalLemmas
+pub mod KnownEndLemmas
 pub mod LearnLemmas
+pub mod NoLookLemmas
 pub mod RememberedLemmas
 pub mod ResumeLemmas
 pub mod RunLemmas

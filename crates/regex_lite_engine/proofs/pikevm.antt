@@ -1,7 +1,6 @@
 -- lemmas that several proofs here share
 pub mod AgainLemmas
 pub mod BoundLemmas
-pub mod ComeLemmas
 pub mod CountLemmas
 pub mod EnterLemmas
 pub mod EndLemmas

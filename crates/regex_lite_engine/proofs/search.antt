@@ -3,7 +3,6 @@ pub mod BlockLemmas
 pub mod ListSkipLemmas
 pub mod MarkLemmas
 pub mod OfferLemmas
-pub mod OptionLemmas
 pub mod PositionLemmas
 pub mod RecordLemmas
 pub mod SkipLemmas

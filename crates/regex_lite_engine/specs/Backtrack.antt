@@ -6,3 +6,4 @@ pub mod Entering
 pub mod Walking
 pub mod Room
 pub mod Searching
+pub mod Short

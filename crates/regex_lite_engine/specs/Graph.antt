@@ -1,5 +1,6 @@
 -- The written-out pattern, its ways and its size, and the graph that stands for it.
 pub mod Places
+pub mod NoLooks
 pub mod Ways
 pub mod Addresses
 pub mod Repetitions

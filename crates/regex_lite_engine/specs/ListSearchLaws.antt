@@ -6,7 +6,8 @@ use Rattle.regex_lite_engine.specs.WayLaws.{IsPatternTree}
 use Rattle.regex_lite_engine.specs.Graph.WrittenOut.{IsWayThrough}
 use Rattle.regex_lite_engine.specs.Graph.SideBySide.{IsWayOfPattern}
 use Rattle.regex_lite_engine.specs.Search.Answer.{Found, IsMatchFrom, IsAnswer}
-use Rattle.regex_lite_engine.specs.Search.AnswerOfList.{HasTree, AnyMatchesFrom, IsAnswerOfList}
+use Rattle.regex_lite_engine.specs.Search.AnswerOfList.{AnyMatchesFrom, IsAnswerOfList}
+use Rattle.regex_lite_engine.specs.Graph.SideBySide.{HasTree}
 
 -- the grammar gives each of these trees to some pattern
 abbrev pub ArePatternTrees : List Tree → Type 0

@@ -1,8 +1,9 @@
 -- Laws of preference and of answers.
 use Rattle.std.specs.Prelude.{◌≡◌, ◌<◌, ◌≤◌, ◌⊎◌, ◌↔◌, ℕ, ◌+◌, ◌*◌, List, [], ◌∷◌}
-use Rattle.std.specs.Prelude.{◌++◌, Option, Some, IsSome, is_some, slice_get}
+use Rattle.std.specs.Prelude.{◌++◌, Option, Some, IsSome, is_some, slice_get, take}
 use Rattle.regex_lite_syntax.specs.Text.{Text}
-use Rattle.regex_lite_syntax.specs.Tree.{Tree}
+use Rattle.regex_lite_syntax.specs.Tree.{Tree, Trees, empty, character, class, look}
+use Rattle.regex_lite_syntax.specs.Tree.{repetition, capture, concat, alternation, none, more}
 use Rattle.regex_lite_syntax.specs.Tree.Properties.{captures_len, static_captures_len}
 use Rattle.regex_lite_engine.specs.WayLaws.{IsPatternTree}
 use Rattle.regex_lite_engine.specs.Graph.Addresses.{Address}
@@ -121,3 +122,26 @@ EnoughTakePart =
     (tree : Tree) → IsPatternTree tree → (haystack : Text) (s : ℕ) (found : Found) (n : ℕ)
     → IsFound tree haystack s found → static_captures_len tree ≡ Some n
     → n ≤ taking_part found.marks 0 (captures_len tree)
+
+abbrev mutual
+  -- no look stands in the tree
+  pub HasNoLook : Tree → Type 0
+  HasNoLook (look test) = ⊥
+  HasNoLook (repetition least most greedy body) = HasNoLook body
+  HasNoLook (capture index name body) = HasNoLook body
+  HasNoLook (concat parts) = HaveNoLook parts
+  HasNoLook (alternation branches) = HaveNoLook branches
+  HasNoLook empty = Unit {0}
+  HasNoLook (character c) = Unit {0}
+  HasNoLook (class ranges) = Unit {0}
+
+  pub HaveNoLook : Trees → Type 0
+  HaveNoLook none = Unit {0}
+  HaveNoLook (more a rest) = HasNoLook a × HaveNoLook rest
+
+-- what is found of such a tree is also found where the haystack is cut off at the match's end
+abbrev pub AnswersNeedNoLaterText : Type 0
+AnswersNeedNoLaterText =
+    (tree : Tree) → IsPatternTree tree → HasNoLook tree → (haystack : Text) (s : ℕ)
+    (found : Found) → IsFound tree haystack s found
+    → IsFound tree (take found.end haystack) s found

@@ -4,6 +4,11 @@ mod enter;
 mod frame;
 mod run;
 mod search;
+pub(crate) mod short;
 mod stack;
 mod visited;
 mod walk;
+
+/// A search of at most this number of pairs of a place and an offset goes depth first. It keeps a
+/// bit for each, and has room for a frame.
+pub(crate) const MOST_PAIRS: usize = 262_144;

@@ -8,6 +8,7 @@ ghost use Rattle.regex_lite_engine.specs.ListSearchLaws.{ListAnswersAreAnswers, 
 ghost use Rattle.regex_lite_engine.specs.ListSearchLaws.{OneAnswersByItself, PatternsStandApart};
 ghost use Rattle.regex_lite_engine.specs.WayLaws.{MatchesAreWays};
 ghost use Rattle.regex_lite_engine.specs.SearchLaws.{AnswerIsHead, AnswersAreMatches};
+ghost use Rattle.regex_lite_engine.specs.SearchLaws.{AnswersNeedNoLaterText};
 ghost use Rattle.regex_lite_engine.specs.SearchLaws.{AtMostOneAnswer, EnoughTakePart};
 ghost use Rattle.regex_lite_engine.specs.SearchLaws.{GroupsLieInside, HasAnswer, ListIsOfAllWays};
 ghost use Rattle.regex_lite_engine.specs.SearchLaws.{PreferenceIsTotal, PreferredWaysAreEarlier};
@@ -63,6 +64,12 @@ pub fn groups_lie_inside()
 /// At least as many groups take part in a match as the static number says.
 pub fn enough_groups_take_part()
     ensures { EnoughTakePart }
+{}
+
+/// What is found of a tree without looks is also found if the haystack is cut off at the end of the
+/// match.
+pub fn answers_need_no_later_text()
+    ensures { AnswersNeedNoLaterText }
 {}
 
 /// Whatever the texts of the groups, a template gives one text.

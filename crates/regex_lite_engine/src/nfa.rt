@@ -12,19 +12,17 @@ ghost use Rattle.regex_lite_engine.specs.Prefilter.Bytes.{IsPrefilterOf};
 ghost use Rattle.regex_lite_engine.specs.Search.Starts.{AreHeadsOf};
 
 pub(crate) mod class;
-mod count;
 pub(crate) mod groups;
 pub(crate) mod kept_back;
 pub(crate) mod list;
-pub(crate) mod measured;
 pub(crate) mod place;
 pub(crate) mod table;
 mod write;
 
+use crate::count::Counts;
 use crate::prefilter::Prefilter;
 use crate::prefilter::heads::Heads;
-use crate::search::steps::Steps;
-use count::Counts;
+use crate::steps::Steps;
 use groups::Groups;
 use place::Place;
 use regex_lite_syntax::{Error, Hir};
@@ -108,7 +106,7 @@ impl Graph {
         })
     }
 
-    /// What stands at a place. No other call hands that out, and this one is counted.
+    /// What stands at a place, for a search: each call is counted.
     pub(crate) fn look(&self, place: u32, steps: &mut Steps) -> &Place
         requires inside { place < length self.now.places }
         requires room { steps.old.looked + 1 < 2 ^ 128 }

@@ -1,81 +1,10 @@
-//! The search, by the walk that suits it.
-ghost use Rattle.std.specs.Prelude.{◌≡◌, ◌+◌, ◌-◌, ◌*◌, ◌≤◌, ◌<◌, ◌⊎◌, ◌↔◌};
-ghost use Rattle.std.specs.Prelude.{IfOk, IfSome, IsCharBoundary, IsTrue, length};
-ghost use Rattle.regex_lite_syntax.specs.Tree.{Tree};
-ghost use Rattle.regex_lite_syntax.specs.Tree.Regular.{IsRegular};
-ghost use Rattle.regex_lite_engine.specs.Graph.Renumbered.{IsGraphOf};
-ghost use Rattle.regex_lite_engine.specs.Search.Outcomes.{IsOutcome, HasCost};
-
+//! What all searches share: a position with the characters beside it, what is searched for, the
+//! positions that are passed over, and the outcome.
 pub(crate) mod here;
-mod list_matches;
 pub(crate) mod list_patterns;
-mod list_search;
-pub(crate) mod list_searcher;
 mod list_skip;
 pub(crate) mod one_of_list;
 pub(crate) mod one_pattern;
 pub(crate) mod outcome;
 pub(crate) mod patterns;
-pub(crate) mod searcher;
 pub(crate) mod skip;
-pub(crate) mod steps;
-
-use crate::Graph;
-use crate::lazy_dfa::remembering::pays_from;
-use crate::search::outcome::Outcome;
-use crate::search::steps::Steps;
-use std::alloc::{AllocError, Global};
-
-/// A search of at most this number of pairs of a place and an offset goes depth first. It keeps a
-/// bit for each, and has room for a frame.
-pub(crate) const MOST_PAIRS: usize = 262_144;
-
-impl Graph {
-    /// The most preferred match from the least start at or after this offset, with this number of
-    /// slots, and what the search did.
-    ///
-    /// Condition: the start is above the haystack's length or on a character boundary.
-    ///
-    /// # Errors
-    ///
-    /// If memory runs out, which can happen only before the first step.
-    pub fn search(
-        &self,
-        alloc: Global,
-        haystack: &str,
-        start: usize,
-        slots: usize,
-    ) -> Result<(Option<Outcome>, Steps), AllocError>
-        requires { (length haystack.now < start) ⊎ IsCharBoundary haystack.now start }
-        ensures found { IfOk result (λ told. (tree : Tree) → IsRegular tree
-            → IsGraphOf tree self.now → IsOutcome tree haystack.now start told.0) }
-        ensures slots { IfOk result (λ told. IfSome told.0
-            (λ outcome. length outcome.slots.items ≡ slots)) }
-        ensures cost { IfOk result (λ told. (tree : Tree) → IsGraphOf tree self.now
-            → HasCost tree haystack.now start told.1) }
-        ensures entered { IfOk result (λ told. IfSome told.0 (λ _. 0 < told.1.entered)) }
-    {
-        if start > haystack.len() {
-            return Ok((None, Steps::none()));
-        }
-        if slots == 0 && pays_from(self, start, haystack.len() - start) {
-            return self.search_remembering(alloc, haystack, start);
-        }
-        if self.has_few_pairs(haystack, start) {
-            return self.search_depth_first(alloc, haystack, start, slots);
-        }
-        self.search_in_step(alloc, haystack, start, slots)
-    }
-
-    /// Whether the pairs of a place and an offset from this one on are few enough to keep a bit for
-    /// each.
-    fn has_few_pairs(&self, haystack: &str, start: usize) -> bool
-        requires { IsCharBoundary haystack.now start }
-        ensures { IsTrue result
-            ↔ (length self.now.places * ((length haystack.now - start) + 1) ≤ 262144) }
-    {
-        let left = haystack.len() - start;
-        // Not by characters: each search in a loop over a long haystack would count them anew.
-        left < MOST_PAIRS / self.places()
-    }
-}

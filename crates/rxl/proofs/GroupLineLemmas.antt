@@ -3,9 +3,7 @@ use Rattle.std.proofs.Common.{◌≡◌, ◌++◌, ℕ, List, [], ◌∷◌, Opt
 use Rattle.std.proofs.Common.{map, option_map, codes, refl, sym, ap, ◌∙◌}
 use Rattle.std.proofs.lemmas.List.{append_assoc}
 use Rattle.regex_lite.specs.declared.string.matches.Match.{Match}
-use Rattle.regex_lite.specs.declared.string.sub_captures.SubCaptureMatches.{SubCaptureMatches}
-use Rattle.regex_lite.specs.MatchViews.{groups_to_come, match_with_haystack}
-use Rattle.regex_lite.specs.MatchViews.{span_of_match, spans_to_come}
+use Rattle.regex_lite.specs.MatchViews.{Coming, groups_to_come, match_with_haystack, span_of_match}
 use Rattle.rxl.specs.Printed.{group_text, groups_line, spaced}
 
 -- the spans of groups, this before the first and a space before each other, and a line feed
@@ -22,7 +20,7 @@ alone None = None
 alone (Some group) = Some (span_alone group)
 
 -- the spans of the groups that an iterator still gives
-abbrev pub spans_left : SubCaptureMatches → List (Option (ℕ × ℕ))
+abbrev pub spans_left : Coming → List (Option (ℕ × ℕ))
 spans_left it = map alone (groups_to_come it)
 
 alone_again : (haystack : List ℕ) (spans : List (Option (ℕ × ℕ)))
@@ -32,9 +30,9 @@ alone_again haystack (None ∷ spans) = ap (λ rest. None ∷ rest) (alone_again
 alone_again haystack (Some span ∷ spans) =
     ap (λ rest. Some span ∷ rest) (alone_again haystack spans)
 
-pub all_left : (it : SubCaptureMatches) (spans : List (Option (ℕ × ℕ)))
-    → spans_to_come it ≡ spans → spans_left it ≡ spans
-all_left it spans are = alone_again it.captures.now.haystack (spans_to_come it) ∙ are
+pub all_left : (it : Coming) (spans : List (Option (ℕ × ℕ))) → it.spans ≡ spans
+    → spans_left it ≡ spans
+all_left it spans are = alone_again it.groups.haystack it.spans ∙ are
 
 pub group_alone : (group : Option Match)
     → alone (option_map match_with_haystack group) ≡ option_map span_of_match group

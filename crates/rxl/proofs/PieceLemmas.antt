@@ -2,29 +2,28 @@
 use Rattle.std.proofs.Common.{◌≡◌, ℕ, Bool, true, false, MatchBool, List, []}
 use Rattle.std.proofs.Common.{◌∷◌, ◌++◌, Option, flat_map, codes, refl, sym, ◌∙◌}
 use Rattle.std.proofs.lemmas.List.{append_assoc, append-nil}
-use Rattle.regex_lite.specs.declared.string.iter.split.Split.{Split}
 use Rattle.regex_lite.specs.Expression.{Expression}
-use Rattle.regex_lite.specs.Pieces.{ArePieces, ArePiecesLeft}
+use Rattle.regex_lite.specs.Pieces.{ArePieces, ArePiecesLeft, Cutting}
 use Rattle.rxl.specs.declared.output.Output.{Output}
 use Rattle.rxl.specs.Output.{Puts}
 use Rattle.rxl.specs.Printed.{PrintsPieces, piece_line}
 use Rattle.rxl.proofs.OutputLemmas.{puts_more}
 
 -- This text and then the lines of the pieces that are left are the lines of all pieces
-pub record PiecesFollow (re : Expression) (haystack : List ℕ) (it : Split) (printed : List ℕ)
+pub record PiecesFollow (re : Expression) (haystack : List ℕ) (it : Cutting) (printed : List ℕ)
     : Type 0 where
   pub on : (list : List (List ℕ)) → ArePiecesLeft it list
       → (all : List (List ℕ)) × ArePieces re haystack all
       × (printed ++ flat_map piece_line list ≡ flat_map piece_line all)
 
 module _ (re : Expression) (haystack : List ℕ) where
-  pub pieces_start : (it : Split)
+  pub pieces_start : (it : Cutting)
       → ((list : List (List ℕ)) → ArePiecesLeft it list → ArePieces re haystack list)
       → PiecesFollow re haystack it []
   pieces_start it are = record { on = λ list left. (list, are list left, refl) }
 
   -- the line of a piece that came is after those before it
-  pub pieces_more : (old new : Split) (printed piece : List ℕ)
+  pub pieces_more : (old new : Cutting) (printed piece : List ℕ)
       → PiecesFollow re haystack old printed
       → ((list : List (List ℕ)) → ArePiecesLeft new list → ArePiecesLeft old (piece ∷ list))
       → PiecesFollow re haystack new (printed ++ piece_line piece)
@@ -38,7 +37,7 @@ module _ (re : Expression) (haystack : List ℕ) where
   }
 
   -- where none is left all lines are printed
-  pub pieces_end : (it : Split) (printed : List ℕ) → PiecesFollow re haystack it printed
+  pub pieces_end : (it : Cutting) (printed : List ℕ) → PiecesFollow re haystack it printed
       → it.is_done ≡ true → PrintsPieces re haystack printed
   pieces_end it printed follow over =
       let all = follow.on [] (at_end _ _ it.is_done over refl) in

@@ -6,11 +6,12 @@ use Rattle.std.proofs.lemmas.Bool.{false≢true}
 use Rattle.regex_lite_syntax.specs.Grammar.{IsTree}
 use Rattle.regex_lite_syntax.specs.Tree.{Tree}
 use Rattle.regex_lite_syntax.specs.Tree.Properties.{captures_len}
-use Rattle.regex_lite_engine.specs.declared.search.steps.Steps.{Steps}
+use Rattle.regex_lite_engine.specs.declared.steps.Steps.{Steps}
 use Rattle.regex_lite_engine.specs.Graph.SideBySide.{places_of_all, tries_of_all}
 use Rattle.regex_lite_engine.specs.Graph.PlaceCounts.{whole_arrows, whole_places}
 use Rattle.regex_lite_engine.specs.Search.Answer.{Found, HasMatchFrom}
-use Rattle.regex_lite_engine.specs.Search.AnswerOfList.{AnyMatchesFrom, HasTree}
+use Rattle.regex_lite_engine.specs.Search.AnswerOfList.{AnyMatchesFrom}
+use Rattle.regex_lite_engine.specs.Graph.SideBySide.{HasTree}
 use Rattle.regex_lite_engine.specs.Search.AnswerOfList.{IsAnswerOfList, IsFoundInList}
 use Rattle.regex_lite_engine.specs.Search.Bounds.{IsBoundedBy, characters_left}
 use Rattle.regex_lite_engine.specs.Search.Offsets.{search_start}

@@ -14,7 +14,7 @@ use Rattle.regex_lite_syntax.specs.Grammar.{IsTree}
 use Rattle.regex_lite_engine.specs.Graph.SideBySide.{AreRegular, arrows_of_all, places_of_all}
 use Rattle.regex_lite_engine.specs.Graph.PlaceCounts.{whole_arrows, whole_places}
 use Rattle.regex_lite_engine.specs.Graph.Size.{Fits}
-use Rattle.regex_lite_engine.specs.Search.AnswerOfList.{HasTree}
+use Rattle.regex_lite_engine.specs.Graph.SideBySide.{HasTree}
 use Rattle.regex_lite_engine.specs.WayLaws.{IsPatternTree}
 use Rattle.regex_lite_engine.proofs.ArrowBoundLemmas.{arrows_few}
 use Rattle.regex_lite_engine.proofs.laws.PatternTreeLemmas.{regular_tree}

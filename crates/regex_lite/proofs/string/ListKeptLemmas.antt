@@ -7,7 +7,8 @@ use Rattle.regex_lite_syntax.specs.Grammar.{IsTree}
 use Rattle.regex_lite_syntax.specs.Tree.{Tree}
 use Rattle.regex_lite_syntax.specs.Tree.Properties.{captures_len}
 use Rattle.regex_lite_engine.specs.Search.Answer.{Found}
-use Rattle.regex_lite_engine.specs.Search.AnswerOfList.{HasTree, IsFoundInList}
+use Rattle.regex_lite_engine.specs.Search.AnswerOfList.{IsFoundInList}
+use Rattle.regex_lite_engine.specs.Graph.SideBySide.{HasTree}
 use Rattle.regex_lite_engine.specs.Search.Offsets.{HasSlots, offset, search_start}
 use Rattle.regex_lite.specs.declared.string.matches.Match.{Match}
 use Rattle.regex_lite.specs.Answers.{TellsOfAnswer}

@@ -12,7 +12,8 @@ use Rattle.regex_lite_engine.specs.Graph.SideBySide.{AreRegular}
 use Rattle.regex_lite_engine.specs.Graph.StoredList.{HasGroupsOfList, IsGraphOfList, StoredGroups}
 use Rattle.regex_lite_engine.specs.Graph.StoredList.{StoredList, TellGroupsOf, TellsGroupsOf}
 use Rattle.regex_lite_engine.specs.Search.Answer.{Found, IsAnswer}
-use Rattle.regex_lite_engine.specs.Search.AnswerOfList.{AnyMatchesFrom, HasTree, IsFoundInList}
+use Rattle.regex_lite_engine.specs.Search.AnswerOfList.{AnyMatchesFrom, IsFoundInList}
+use Rattle.regex_lite_engine.specs.Graph.SideBySide.{HasTree}
 use Rattle.regex_lite_engine.specs.Search.Offsets.{HasSlots, search_start}
 use Rattle.regex_lite_engine.specs.Search.Outcomes.{IsOutcomeOfList, IsSpanOutcomeOfList}
 use Rattle.regex_lite_engine.specs.Search.Searching.{ListSearching}

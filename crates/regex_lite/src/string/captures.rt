@@ -3,7 +3,6 @@ ghost use Rattle.std.specs.Prelude.{◌≡◌, ◌≤◌, Some, IsSome, IfSome, 
 ghost use Rattle.regex_lite.specs.Groups.{AreGroups, group_span, group_text};
 ghost use Rattle.regex_lite.specs.Groups.{named_span, named_text};
 ghost use Rattle.regex_lite.specs.Compiled.{groups_of, names_of};
-ghost use Rattle.regex_lite.specs.Iterators.{iterated_groups};
 
 use crate::string::captures_in::CapturesIn;
 use crate::string::locations::CaptureLocations;
@@ -58,7 +57,7 @@ impl<'h> Deref for Captures<'h> {
 }
 
 impl<'h> Captures<'h> {
-    ghost use Rattle.regex_lite.specs.MatchViews.{spans_to_come, haystack_of_match, span_of_match};
+    ghost use Rattle.regex_lite.specs.MatchViews.{haystack_of_match, span_of_match};
 
     /// The groups in these slots, of the pattern that the source names.
     pub(super) fn new(haystack: &'h str, slots: Vec<Option<usize>>, source: Source) -> Captures<'h>
@@ -111,8 +110,8 @@ impl<'h> Captures<'h> {
     /// What each group matched last, from the whole match on: [`Captures::get`] of each index below
     /// [`Captures::len`].
     pub fn iter<'c>(&'c self) -> SubCaptureMatches<'c, 'h>
-        ensures haystack { iterated_groups result ≡ self.now }
-        ensures groups { spans_to_come result ≡ self.now.spans }
+        ensures haystack { result.groups ≡ self.now }
+        ensures groups { result.spans ≡ self.now.spans }
     {
         SubCaptureMatches::new(self)
     }

@@ -4,7 +4,7 @@ ghost use Rattle.std.specs.Prelude.{length, map, option_map, slice_get, ⊤};
 ghost use Rattle.regex_lite_syntax.specs.Tree.{Tree};
 ghost use Rattle.regex_lite_syntax.specs.Tree.Properties.{captures_len};
 ghost use Rattle.regex_lite_engine.specs.Graph.SideBySide.{arrows_of_all, places_of_all};
-ghost use Rattle.regex_lite_engine.specs.Search.AnswerOfList.{HasTree};
+ghost use Rattle.regex_lite_engine.specs.Graph.SideBySide.{HasTree};
 ghost use Rattle.regex_lite.specs.Scanning.{most_captures};
 ghost use Rattle.regex_lite.specs.RegexList.{BuildsList, OfTrees};
 ghost use Rattle.regex_lite.specs.Settings.{default_settings};

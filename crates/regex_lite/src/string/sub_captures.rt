@@ -8,6 +8,7 @@ use crate::string::matches::Match;
 use std::alloc::AllocError;
 use std::fmt;
 use std::iter::FusedIterator;
+use std::marker::Model;
 
 /// What each group of a match matched last, by index, from the whole match on: `None` for a group
 /// that took no part.
@@ -19,13 +20,23 @@ pub struct SubCaptureMatches<'c, 'h> {
     next: usize,
 }
 
-impl<'c, 'h> SubCaptureMatches<'c, 'h> {
-    ghost use Rattle.regex_lite.specs.MatchViews.{spans_to_come};
+impl<'c, 'h> Model for SubCaptureMatches<'c, 'h> {
+    ghost use Rattle.std.specs.Prelude.{drop};
+    ghost use Rattle.regex_lite.specs.MatchViews.{Coming};
 
+    ghost Value = { Coming };
+
+    ghost view = { λ it. record {
+      groups = it.captures.now;
+      spans = drop it.next it.captures.now.spans;
+    } };
+}
+
+impl<'c, 'h> SubCaptureMatches<'c, 'h> {
     /// All groups of these.
     pub(super) fn new(captures: &'c Captures<'h>) -> SubCaptureMatches<'c, 'h>
-        ensures captures { result.captures.now ≡ captures.now }
-        ensures groups { spans_to_come result ≡ captures.now.spans }
+        ensures haystack { result.groups ≡ captures.now }
+        ensures groups { result.spans ≡ captures.now.spans }
     {
         SubCaptureMatches { captures, next: 0 }
     }

@@ -1,6 +1,6 @@
 //! The groups of all matches of several patterns in a text, some at a time.
 ghost use Rattle.std.specs.Prelude.{◌≡◌, ◌<◌, IfSome, None};
-ghost use Rattle.regex_lite.specs.ListAhead.{list_groups_ahead_of};
+ghost use Rattle.regex_lite.specs.ListAhead.{list_ahead_of};
 ghost use Rattle.regex_lite_c.specs.ListGroupWalks.{IsListFilled, IsListGroupWalkAnswer};
 
 use crate::answer::{NO, NO_ROOM, NOTHING_HELD, OUT_OF_MEMORY, YES};
@@ -79,9 +79,9 @@ fn fill_groups(
     spans: &mut [Span],
     count: &mut usize,
 ) -> u32
-    requires all { (list_groups_ahead_of items).limit ≡ None }
+    requires all { (list_ahead_of items).limit ≡ None }
     requires none { count.old ≡ 0 }
-    ensures { IsListFilled (list_groups_ahead_of items.entry) walk.old walk.new told.old told.new
+    ensures { IsListFilled (list_ahead_of items.entry) walk.old walk.new told.old told.new
         spans.old spans.new count.new result }
 {
     let mut used = 0;

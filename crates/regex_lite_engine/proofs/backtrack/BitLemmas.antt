@@ -2,7 +2,7 @@
 use Rattle.std.proofs.Common.{◌≡◌, ◌==◌, ℕ, ◌++◌, refl, ◌*◌, ◌-◌, ◌/◌, ◌%◌, ◌^◌, ◌<◌, ◌↔◌}
 use Rattle.std.proofs.Common.{inl, inr, Bool, IsTrue, true, false, List, length, replicate}
 use Rattle.std.proofs.Common.{slice_index, slice_index_or, slice_set, set, bit_and, bit_or}
-use Rattle.std.proofs.Common.{ap, sym, subst, ◌∙◌, arith, length-set, w64}
+use Rattle.std.proofs.Common.{ap, sym, subst, ◌∙◌, arith, length-set}
 use Rattle.std.specs.Int.{bit_at}
 use Rattle.std.proofs.lemmas.Bool.{cases_lt, cases_eq}
 use Rattle.std.proofs.lemmas.Bool.Decides.{nat_tests}
@@ -11,11 +11,13 @@ use Rattle.std.proofs.lemmas.List.{get_or-append_right, get_or_past, get_or-set_
 use Rattle.std.proofs.lemmas.List.{get_or-set_other, set-get_or, length-replicate}
 use Rattle.std.proofs.lemmas.List.FromFn.{fill_by_all, get_or-map-range_with_len}
 use Rattle.std.proofs.lemmas.List.FromFn.{length-map-range_with_len}
-use Rattle.std.proofs.lemmas.Nat.Bits.{bit_at-zero, shr_and_one, bit_at_set_same, bit_at_set_other}
+use Rattle.std.proofs.lemmas.Nat.Bits.{shr_and_one}
 use Rattle.regex_lite_syntax.specs.AsciiMaps.{bit_of_words}
 use Rattle.regex_lite_engine.specs.declared.backtrack.visited.Visited.TheInside.{Inside}
 use Rattle.regex_lite_engine.specs.Backtrack.Bits.{bits_of, words_of}
 use Rattle.regex_lite_engine.specs.Backtrack.Machine.{Pairs, pair_number, was_entered}
+use Rattle.regex_lite_engine.proofs.WordBitLemmas.{zero_at, zero_bit, words_with, set_bit}
+use Rattle.regex_lite_engine.proofs.WordBitLemmas.{other_bit}
 
 -- whether bit k of the words is 1
 abbrev is_set : List ℕ → ℕ → Bool
@@ -29,12 +31,6 @@ bit_of_bits : (words : List ℕ) (count k : ℕ) → k < count
 bit_of_bits words count k lt =
     get_or-map-range_with_len (is_set words) 0 count k k false lt (omega arith)
 
-zero_at : (n i : ℕ) → slice_index (replicate n 0) i ≡ 0
-zero_at n i = elim (cases_lt i n) [
-  | inl lt ↦ get_or-replicate n i 0 0 lt
-  | inr le ↦ get_or_past (replicate n 0) i 0 (omega (arith, le, length-replicate {A = ℕ} n 0))
-]
-
 -- where each word is 0, no bit is set
 pub none_of_zeros : (n count : ℕ) → bits_of (replicate n 0) count ≡ replicate count false
 none_of_zeros n count =
@@ -45,8 +41,7 @@ none_of_zeros n count =
         → slice_index_or (replicate count false) k false ≡ is_set (replicate n 0) k
     at_each k lt =
         get_or-replicate count k false false lt
-        ∙ sym (ap (λ word. bit_at word (k % 64) == 1) (zero_at n (k / 64))
-        ∙ ap (λ bit. bit == 1) (bit_at-zero (k % 64)))
+        ∙ sym (zero_bit n k)
 
 -- words of zeros after them change no bit
 pub bits_before_zeros : (words : List ℕ) (n count : ℕ)
@@ -105,53 +100,24 @@ pub set_by_mask : (words : List ℕ) (count k : ℕ) → k < 64 * length words �
     (bit_or (slice_index words (k / 64)) (1 * 2 ^ (k % 64) % 2 ^ 64))) count
     ≡ slice_set (bits_of words count) k true
 set_by_mask words count k inside lt =
-    sym (fill_by_all (is_set words') (slice_set bits k true) count false
+    sym (fill_by_all (is_set (words_with words k inside)) (slice_set bits k true) count false
     (length-set bits k true ∙ length_of_bits words count) at_each)
   where
     bits : List Bool
     bits = bits_of words count
 
-    word : ℕ
-    word = slice_index words (k / 64)
-
-    word' : ℕ
-    word' = bit_or word (1 * 2 ^ (k % 64) % 2 ^ 64)
-
-    words' : List ℕ
-    words' = slice_set words (k / 64) word'
-
-    within : (l : ℕ) → l % 64 < 64
-    within l = omega arith
-
-    same_word : slice_index words' (k / 64) ≡ word'
-    same_word = get_or-set_same words (k / 64) word' 0 (omega (arith, inside))
-
-    -- the other bits
-    kept : (l : ℕ) → (l ≡ k → ⊥) → bit_of_words words' l ≡ bit_of_words words l
-    kept l other = elim (cases_eq (l / 64) (k / 64)) [
-      | inl same ↦
-          ap (λ i. bit_at (slice_index words' i) (l % 64)) same
-          ∙ ap (λ w. bit_at w (l % 64)) same_word
-          ∙ bit_at_set_other w64 word (k % 64) (within k) (l % 64)
-          (λ e. other (omega (arith, e, same)))
-          ∙ ap (λ i. bit_at (slice_index words i) (l % 64)) (sym same)
-      | inr apart ↦
-          ap (λ w. bit_at w (l % 64)) (get_or-set_other words (k / 64) (l / 64) word' 0 apart)
-    ]
-
     at_each : (l : ℕ) → l < count
-        → slice_index_or (slice_set bits k true) l false ≡ is_set words' l
+        → slice_index_or (slice_set bits k true) l false ≡ is_set (words_with words k inside) l
     at_each l below = elim (cases_eq l k) [
       | inl same ↦
           ap (λ i. slice_index_or (slice_set bits k true) i false) same
           ∙ get_or-set_same bits k true false (omega (arith, lt, length_of_bits words count))
-          ∙ sym (ap (is_set words') same
-          ∙ ap (λ w. bit_at w (k % 64) == 1) same_word
-          ∙ ap (λ bit. bit == 1) (bit_at_set_same w64 word (k % 64) (within k)))
+          ∙ sym (ap (is_set (words_with words k inside)) same
+          ∙ ap (λ bit. bit == 1) (set_bit words k inside))
       | inr other ↦
           get_or-set_other bits k l true false other
           ∙ bit_of_bits words count l below
-          ∙ sym (ap (λ bit. bit == 1) (kept l other))
+          ∙ sym (ap (λ bit. bit == 1) (other_bit words k inside l other))
     ]
 
 -- the pairs that the fields stand for, with the bits of these words

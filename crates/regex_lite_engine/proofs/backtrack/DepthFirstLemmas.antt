@@ -8,9 +8,9 @@ use Rattle.regex_lite_engine.specs.Search.Explored as explored
 use Rattle.regex_lite_engine.specs.Search.Explored.{NotAfter, StartsAt}
 use Rattle.regex_lite_engine.specs.Pikevm.InStep as offered
 use Rattle.regex_lite_engine.specs.Pikevm.InStep.{StartsBelow}
-use Rattle.regex_lite_engine.proofs.pikevm.InStepLemmas.{or_dead}
+use Rattle.regex_lite_engine.proofs.search.RecordLemmas.{or_dead}
 use Rattle.regex_lite_engine.proofs.search.OfferLemmas.{preferred_before, below_front, below_up}
-use Rattle.regex_lite_engine.proofs.search.OptionLemmas.{not_there}
+use Rattle.regex_lite_engine.proofs.OptionLemmas.{not_there}
 
 module _ (N : Type 0) (step : N → ℕ → Option N) (start : ℕ → N) (is_end : N → Bool)
     (first last : ℕ) where
@@ -123,13 +123,8 @@ module _ (N : Type 0) (step : N → ℕ → Option N) (start : ℕ → N) (is_en
       by_place i above below lt (inl e) place = inl (inr (inl (ap start e, ap (λ z. z ∷ []) e)))
       by_place i above below lt (inr apart) (inl before) =
           or_dead (settle (start i) (i ∷ [])) (u.starts i above below before)
-      by_place i above below lt (inr apart) (inr le) = inr (dead i le sooner)
-        where
-          sooner : i < p
-          sooner = elim (cases_lt i p) [
-            | inl less ↦ less
-            | inr more ↦ absurd (apart (omega (arith, lt, more)))
-          ]
+      by_place i above below lt (inr apart) (inr le) =
+          inr (dead i le (omega (arith, lt, apart)))
 
   -- where nothing is left, all is explored, and there is no match
   pub depth_first_over : (from : ℕ) (recorded : Recorded)

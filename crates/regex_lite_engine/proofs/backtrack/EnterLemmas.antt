@@ -9,12 +9,12 @@ use Rattle.std.proofs.lemmas.Option.{slice_get_within}
 use Rattle.regex_lite_syntax.specs.declared.class.ClassRange.{ClassRange}
 use Rattle.regex_lite_syntax.specs.Ranges.{in_ranges}
 use Rattle.regex_lite_syntax.specs.Sets.{Set, just}
-use Rattle.regex_lite_syntax.specs.Text.{Text, before, after}
+use Rattle.regex_lite_syntax.specs.Text.{before, after}
 use Rattle.regex_lite_syntax.specs.Tree.Looks.{holds_between}
 use Rattle.regex_lite_engine.specs.declared.nfa.place.Place as code
 use Rattle.regex_lite_engine.specs.declared.nfa.place.Place.TheVariants as stored
 use Rattle.regex_lite_engine.specs.Backtrack.Entering.{Enters, read_on}
-use Rattle.regex_lite_engine.specs.Backtrack.Machine.{Frame, explore, restore, Pairs}
+use Rattle.regex_lite_engine.specs.Backtrack.Machine.{Frame, explore, restore, Held, Pairs}
 use Rattle.regex_lite_engine.specs.Backtrack.Machine.{pair_number, was_entered}
 use Rattle.regex_lite_engine.specs.Backtrack.Walking as walk
 use Rattle.regex_lite_engine.specs.Graph.Places.{Arrow, Place, with_arrows, go, go_holding}
@@ -30,12 +30,12 @@ use Rattle.regex_lite_engine.specs.Search.NumberedAnswer.{place_with, is_complet
 use Rattle.regex_lite_engine.specs.Search.NumberedAnswer.{numbered_step, is_end}
 use Rattle.regex_lite_engine.specs.Pikevm.Outcomes.{IsNumberedOutcome}
 use Rattle.regex_lite_engine.specs.Pikevm.Walking.{Node}
-use Rattle.regex_lite_engine.specs.Backtrack.Walking.{WayHolds}
+use Rattle.regex_lite_engine.specs.Backtrack.Walking.{IsWalking, SearchFrom, WayHolds}
 use Rattle.regex_lite_engine.proofs.OffsetLemmas.{offset_next}
 use Rattle.regex_lite_engine.proofs.backtrack.WalkLemmas.{walk_entered, walk_complete}
 use Rattle.regex_lite_engine.proofs.pikevm.EnterLemmas.{got_map, free_marks}
 use Rattle.regex_lite_engine.proofs.search.MarkLemmas.{slots_set, slots_past}
-use Rattle.regex_lite_engine.proofs.search.OptionLemmas.{not_there}
+use Rattle.regex_lite_engine.proofs.OptionLemmas.{not_there}
 use Rattle.regex_lite_engine.proofs.pikevm.WalkLemmas.{one, wide, no_more, offered_by}
 use Rattle.regex_lite_engine.proofs.backtrack.NumberedLemmas.{holds_on}
 
@@ -45,26 +45,29 @@ read_none : (at to : ℕ) (o : Option ℕ) (frames : List Frame)
 read_none at to None frames = refl
 read_none at to (Some c) frames = refl
 
-module _ (table : List (Place ℕ)) (haystack : Text) (s first from i : ℕ) (pairs : Pairs)
-    (row : Row) (q p at : ℕ) (frames : List Frame) (inside : q < length table) (low : first ≤ p)
-    (is_offset : IsOffset haystack p at)
-    (u : walk.IsWalking table haystack s first from i pairs row (explore q at ∷ frames))
+module _ (table : List (Place ℕ)) (search : SearchFrom) (pairs : Pairs) (held : Held) (q p at : ℕ)
+    (inside : q < length table) (low : search.first ≤ p) (is_offset : IsOffset search.haystack p at)
+    (u : IsWalking table search pairs (record held { frames = explore q at ∷ held.frames }))
     (new : was_entered pairs q at ≡ false) (all : pairs.places ≡ length table)
-    (begins : pairs.first ≡ offset haystack first)
+    (begins : pairs.first ≡ offset search.haystack search.first)
     (short : pair_number pairs.places pairs.first q at < length pairs.entered) where
+  open search use {haystack}
+  open held use {row, frames}
+
   abbrev pairs_now : Pairs
   pairs_now = record pairs {
     entered = slice_set pairs.entered (pair_number pairs.places pairs.first q at) true;
   }
 
   abbrev Walks : Row → List Frame → Type 0
-  Walks = walk.IsWalking table haystack s first from i pairs_now
+  Walks row' frames' =
+      IsWalking table search pairs_now (record held { row = row'; frames = frames' })
 
   abbrev FramesHold : Row → List Frame → List (Offer Node) → Type 0
-  FramesHold = walk.FramesHold table haystack s i
+  FramesHold = walk.FramesHold table haystack search.entry search.i
 
   abbrev Holds : Row → Node → List ℕ → Type 0
-  Holds = WayHolds table haystack s i
+  Holds = WayHolds table haystack search.entry search.i
 
   abbrev listed : List ℕ → ℕ → ℕ → List (Offer Node)
   listed = offered_by table haystack (place_with table q) p
@@ -92,8 +95,8 @@ module _ (table : List (Place ℕ)) (haystack : Text) (s first from i : ℕ) (pa
       → FramesHold row' frames' (listed w (length arrows) 0 ++ rest))
       → Walks row' frames'
   goes_on arrows row' frames' e hold' =
-      walk_entered table haystack s first from i pairs row q p at frames inside low is_offset u new
-      all begins short row' frames' (not_end arrows e)
+      walk_entered table search pairs held q p at inside low is_offset u new all begins short
+      (record held { row = row'; frames = frames' }) (not_end arrows e)
       (λ w rest holds waits. subst (λ c. FramesHold row' frames' (listed w c 0 ++ rest))
       (sym (ap arrow_count e)) (hold' w rest holds waits))
 
@@ -147,7 +150,7 @@ module _ (table : List (Place ℕ)) (haystack : Text) (s first from i : ℕ) (pa
             listed w (length qs) (suc k) ++ rest,
             is_offset,
             refl,
-            holds_on table haystack s i row row (q, p) w k (l, p) holds here
+            holds_on table haystack search.entry search.i row row (q, p) w k (l, p) holds here
                 (unmarked k (ap (λ x. mark_of x k) e ∙ free_marks to k)),
             each qs (suc k) w rest
                 (λ t o got. subst (λ z. numbered_step table haystack (q, p) z ≡ Some (o, p))
@@ -180,7 +183,8 @@ module _ (table : List (Place ℕ)) (haystack : Text) (s first from i : ℕ) (pa
         rest,
         is_last,
         refl,
-        holds_on table haystack s i row row' (q, p) w 0 (to, j) holds here marking,
+        holds_on table haystack search.entry search.i row row' (q, p) w 0 (to, j) holds here
+            marking,
         waits' rest waits,
       ))
 
@@ -274,47 +278,46 @@ module _ (table : List (Place ℕ)) (haystack : Text) (s first from i : ℕ) (pa
       (λ rest waits. waits)
 
   -- what is true after a place is entered
-  abbrev pub Entered : Row → List Frame → Bool → Type 0
-  Entered row' frames' false = Walks row' frames'
-  Entered row' frames' true = IsNumberedOutcome table haystack s first (Some (i, at, row'))
+  abbrev pub Entered : Held → Bool → Type 0
+  Entered held' false = IsWalking table search pairs_now held'
+  Entered held' true =
+      IsNumberedOutcome table haystack search.entry search.first (Some (search.i, at, held'.row))
 
-  settle : (row' row'' : Row) (fs' fs'' : List Frame) (done : Bool) → Walks row' fs'
-      → row'' ≡ row' → fs'' ≡ fs' → done ≡ false → Entered row'' fs'' done
-  settle row' row'' fs' fs'' done w same_row same_frames open_still =
-      subst (Entered row'' fs'') (sym open_still)
-      (subst (λ z. Walks z fs'') (sym same_row) (subst (Walks row') (sym same_frames) w))
+  settle : (row' : Row) (frames' : List Frame) (held' : Held) (done : Bool) → Walks row' frames'
+      → held' ≡ record held { row = row'; frames = frames' } → done ≡ false → Entered held' done
+  settle row' frames' held' done w same open_still =
+      subst (Entered held') (sym open_still) (subst (λ h. Entered h false) (sym same) w)
 
   -- the walk goes on from what the place offers, or a match is complete
-  pub walk_enters : (x : code.Place) (row' : Row) (frames' : List Frame) (done : Bool)
+  pub walk_enters : (x : code.Place) (held' : Held) (done : Bool)
       → place_with table q ≡ place_of x
-      → Enters haystack p at x row frames row' frames' done → Entered row' frames' done
-  walk_enters (stored.Empty to) row' frames' done e (er, ef, ed) =
-      settle row row' (explore to at ∷ frames) frames' done (walk_choice (to ∷ []) e) er ef ed
-  walk_enters (stored.Char c to) row' frames' done e (er, ef, ed) =
-      settle row row' (read_on at (just c) (after haystack p) to frames) frames' done
-      (walk_reads (just c) to e) er ef ed
-  walk_enters (stored.Class to set) row' frames' done e (er, ef, ed) =
-      settle row row' (read_on at (in_ranges set) (after haystack p) to frames) frames' done
-      (walk_class set to e) er ef ed
-  walk_enters (stored.Look test to) row' frames' done e (er, ef, ed) =
+      → Enters haystack p at x held held' done → Entered held' done
+  walk_enters (stored.Empty to) held' done e (same, ed) =
+      settle row (explore to at ∷ frames) held' done (walk_choice (to ∷ []) e) same ed
+  walk_enters (stored.Char c to) held' done e (same, ed) =
+      settle row (read_on at (just c) (after haystack p) to frames) held' done
+      (walk_reads (just c) to e) same ed
+  walk_enters (stored.Class to set) held' done e (same, ed) =
+      settle row (read_on at (in_ranges set) (after haystack p) to frames) held' done
+      (walk_class set to e) same ed
+  walk_enters (stored.Look test to) held' done e (same, ed) =
       let b = holds_between test (before haystack p) (after haystack p) in
-      settle row row' (if b then explore to at ∷ frames else frames) frames' done
+      settle row (if b then explore to at ∷ frames else frames) held' done
       (walk_look b (go_holding test to) to e (ap (λ x. step_from haystack x p 0) e)
-      (ap (λ x. mark_of x 0) e)) er ef ed
-  walk_enters (stored.Slot slot to) row' frames' done e (inl (within, er, ef), ed) =
-      settle (slice_set row slot (Some at)) row'
-      (explore to at ∷ (restore slot (slice_index_or row slot None) ∷ frames)) frames' done
-      (walk_marks slot to e) er ef ed
-  walk_enters (stored.Slot slot to) row' frames' done e (inr (past, er, ef), ed) =
-      settle row row' (explore to at ∷ frames) frames' done (walk_past slot to past e) er ef ed
-  walk_enters (stored.Choice a b) row' frames' done e (er, ef, ed) =
-      settle row row' (explore a at ∷ (explore b at ∷ frames)) frames' done
-      (walk_choice (a ∷ (b ∷ [])) e) er ef ed
-  walk_enters (stored.Branches entries) row' frames' done e (er, ef, ed) =
-      settle row row' (map (λ l. explore l at) entries.items ++ frames) frames' done
-      (walk_choice entries.items e) er ef ed
-  walk_enters stored.Match row' frames' done e (er, ef, ed) =
-      subst (Entered row' frames') (sym ed)
-      (subst (λ z. IsNumberedOutcome table haystack s first (Some (i, at, z))) (sym er)
-      (walk_complete table haystack s first from i pairs row q p at frames inside low is_offset u
-      new (subst (λ x. IsTrue (is_complete x)) (sym e) refl)))
+      (ap (λ x. mark_of x 0) e)) same ed
+  walk_enters (stored.Slot slot to) held' done e (inl (within, same), ed) =
+      settle (slice_set row slot (Some at))
+      (explore to at ∷ (restore slot (slice_index_or row slot None) ∷ frames)) held' done
+      (walk_marks slot to e) same ed
+  walk_enters (stored.Slot slot to) held' done e (inr (past, same), ed) =
+      settle row (explore to at ∷ frames) held' done (walk_past slot to past e) same ed
+  walk_enters (stored.Choice a b) held' done e (same, ed) =
+      settle row (explore a at ∷ (explore b at ∷ frames)) held' done (walk_choice (a ∷ (b ∷ [])) e)
+      same ed
+  walk_enters (stored.Branches entries) held' done e (same, ed) =
+      settle row (map (λ l. explore l at) entries.items ++ frames) held' done
+      (walk_choice entries.items e) same ed
+  walk_enters stored.Match held' done e (same, ed) =
+      subst (Entered held') (sym ed) (subst (λ h. Entered h true) (sym same)
+      (walk_complete table search pairs held q p at inside low is_offset u new
+      (subst (λ x. IsTrue (is_complete x)) (sym e) refl)))

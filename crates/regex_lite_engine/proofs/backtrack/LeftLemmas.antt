@@ -17,7 +17,7 @@ use Rattle.regex_lite_engine.specs.Search.Bounds.{characters_left}
 use Rattle.regex_lite_engine.specs.Search.Offsets.{offset, position_at}
 use Rattle.regex_lite_engine.specs.Pikevm.Room.{lone}
 use Rattle.regex_lite_engine.proofs.OffsetLemmas.{offset_less}
-use Rattle.regex_lite_engine.proofs.search.OptionLemmas.{not_there, same_some}
+use Rattle.regex_lite_engine.proofs.OptionLemmas.{not_there, same_some}
 use Rattle.regex_lite_engine.proofs.pikevm.RoomLemmas.{test_most}
 use Rattle.regex_lite_engine.proofs.search.here.OffsetLemmas.{position_is}
 

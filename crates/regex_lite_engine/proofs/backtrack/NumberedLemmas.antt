@@ -9,7 +9,7 @@ use Rattle.regex_lite_engine.specs.Pikevm.InStep.{Offer}
 use Rattle.regex_lite_engine.specs.Pikevm.Machine.{Row}
 use Rattle.regex_lite_engine.specs.Search.NumberedAnswer.{place_with, numbered_step, is_end}
 use Rattle.regex_lite_engine.specs.Pikevm.Outcomes.{IsNumberedOutcome}
-use Rattle.regex_lite_engine.specs.Pikevm.Turns.{IsDeadAt}
+use Rattle.regex_lite_engine.specs.Search.Starts.{IsDeadAt}
 use Rattle.regex_lite_engine.specs.Pikevm.Walking.{Node}
 use Rattle.regex_lite_engine.specs.Backtrack.Walking.{WayHolds}
 use Rattle.regex_lite_engine.proofs.backtrack.DepthFirstEnterLemmas.{

@@ -15,14 +15,13 @@ use Rattle.regex_lite_syntax.specs.Tree.Looks.{holds_between}
 use Rattle.regex_lite_engine.specs.declared.nfa.place.Place as code
 use Rattle.regex_lite_engine.specs.declared.nfa.place.Place.TheVariants as stored
 use Rattle.regex_lite_engine.specs.Backtrack.Entering.{Enters, read_on}
-use Rattle.regex_lite_engine.specs.Backtrack.Machine.{Frame, explore, restore}
+use Rattle.regex_lite_engine.specs.Backtrack.Machine.{Frame, explore, restore, Held}
 use Rattle.regex_lite_engine.specs.Backtrack.Room.{explores, FramesBelow}
 use Rattle.regex_lite_engine.specs.Graph.Places.{Place, with_arrows, go, go_marking}
 use Rattle.regex_lite_engine.specs.Graph.Places.{one_of, kept_back_with}
 use Rattle.regex_lite_engine.specs.Graph.Renumbered.{arrow_count}
 use Rattle.regex_lite_engine.specs.Graph.Stored.{LeadBelow, LeadsBelow, place_of}
 use Rattle.regex_lite_engine.specs.Search.Offsets.{position_at}
-use Rattle.regex_lite_engine.specs.Pikevm.Machine.{Row}
 use Rattle.regex_lite_engine.proofs.OffsetLemmas.{boundary_at, offset_next}
 use Rattle.regex_lite_engine.proofs.search.here.OffsetLemmas.{position_is}
 
@@ -43,8 +42,17 @@ entries_left : (slots : ℕ) (qs : List ℕ)
 entries_left slots [] = omega arith
 entries_left slots (q ∷ qs) = let size = length-map qs (λ (q : ℕ). go q) in omega (arith, size)
 
-module _ (haystack : Text) (p at : ℕ) (row row' : Row) (frames frames' : List Frame)
-    (done : Bool) where
+-- what is left to do, and the slots
+to_do : {h h' : Held} → h' ≡ h → h'.frames ≡ h.frames
+to_do e = ap (λ (z : Held). z.frames) e
+
+slots : {h h' : Held} → h' ≡ h → h'.row ≡ h.row
+slots e = ap (λ (z : Held). z.row) e
+
+module _ (haystack : Text) (p at : ℕ) (held held' : Held) (done : Bool) where
+  open held use {row, frames}
+  open held' use {row as row', frames as frames'}
+
   -- this many arrows, and this much that is kept back
   abbrev pub IsFew : (arrows kept : ℕ) → Type 0
   IsFew arrows kept =
@@ -101,36 +109,41 @@ module _ (haystack : Text) (p at : ℕ) (row row' : Row) (frames frames' : List 
       )
 
   -- it adds no more frames than the place has arrows, or keeps back
-  pub enters_few : (x : code.Place) → Enters haystack p at x row frames row' frames' done
+  pub enters_few : (x : code.Place) → Enters haystack p at x held held' done
       → IsFew (arrow_count (place_of x)) (kept_back_with (length row) (place_of x))
-  enters_few (stored.Empty to) (same, is, going) =
-      few_pushed (to ∷ []) 1 0 is same (omega arith) (omega arith)
-  enters_few (stored.Char c to) (same, is, going) = few_read (just c) (after haystack p) to is same
-  enters_few (stored.Class to set) (same, is, going) = few_class set (after haystack p) to is same
-  enters_few (stored.Look test to) (same, is, going) =
-      by_test (holds_between test (before haystack p) (after haystack p)) is
+  enters_few (stored.Empty to) (e, going) =
+      few_pushed (to ∷ []) 1 0 (to_do e) (slots e) (omega arith) (omega arith)
+  enters_few (stored.Char c to) (e, going) =
+      few_read (just c) (after haystack p) to (to_do e) (slots e)
+  enters_few (stored.Class to set) (e, going) =
+      few_class set (after haystack p) to (to_do e) (slots e)
+  enters_few (stored.Look test to) (e, going) =
+      by_test (holds_between test (before haystack p) (after haystack p)) (to_do e)
     where
       by_test : (b : Bool) → frames' ≡ (if b then explore to at ∷ frames else frames) → IsFew 1 0
-      by_test true e = few_pushed (to ∷ []) 1 0 e same (omega arith) (omega arith)
-      by_test false e = few_pushed [] 1 0 e same (omega arith) (omega arith)
-  enters_few (stored.Slot slot to) (inl (within, marked, is), going) =
-      few_marked (length row) slot to within is marked
-  enters_few (stored.Slot slot to) (inr (past, same, is), going) =
-      few_pushed (to ∷ []) 1 (kept_back_with (length row) (place_of (stored.Slot slot to))) is same
-      (omega arith) (omega arith)
-  enters_few (stored.Choice first second) (same, is, going) =
-      few_pushed (first ∷ (second ∷ [])) 2 1 is same (omega arith) (omega arith)
-  enters_few (stored.Branches entries) (same, is, going) =
+      by_test true is = few_pushed (to ∷ []) 1 0 is (slots e) (omega arith) (omega arith)
+      by_test false is = few_pushed [] 1 0 is (slots e) (omega arith) (omega arith)
+  enters_few (stored.Slot slot to) (inl (within, e), going) =
+      few_marked (length row) slot to within (to_do e) (slots e)
+  enters_few (stored.Slot slot to) (inr (past, e), going) =
+      few_pushed (to ∷ []) 1 (kept_back_with (length row) (place_of (stored.Slot slot to)))
+      (to_do e) (slots e) (omega arith) (omega arith)
+  enters_few (stored.Choice first second) (e, going) =
+      few_pushed (first ∷ (second ∷ [])) 2 1 (to_do e) (slots e) (omega arith) (omega arith)
+  enters_few (stored.Branches entries) (e, going) =
       few_pushed entries.items (length (map (λ q. go q) entries.items))
-      (kept_back_with (length row) (place_of (stored.Branches entries))) is same
+      (kept_back_with (length row) (place_of (stored.Branches entries))) (to_do e) (slots e)
       (let size = length-map entries.items (λ (q : ℕ). go q) in omega (arith, size))
       (entries_left (length row) entries.items)
-  enters_few stored.Match (same, is, ends) = few_pushed [] 0 0 is same (omega arith) (omega arith)
+  enters_few stored.Match (e, ends) =
+      few_pushed [] 0 0 (to_do e) (slots e) (omega arith) (omega arith)
 
 module _ (table : List (Place ℕ)) (haystack : List ℕ) (utf8 : IsUtf8 haystack) (first at : ℕ)
-    (low : first ≤ at) (edge : IsCharBoundary haystack at) (row row' : Row)
-    (frames frames' : List Frame)
-    (done : Bool) (below : FramesBelow table haystack first (length row) frames) where
+    (low : first ≤ at) (edge : IsCharBoundary haystack at) (held held' : Held) (done : Bool)
+    (below : FramesBelow table haystack first (length held.row) held.frames) where
+  open held use {row, frames}
+  open held' use {row as row', frames as frames'}
+
   abbrev Within : Type 0
   Within = FramesBelow table haystack first (length row') frames'
 
@@ -181,29 +194,29 @@ module _ (table : List (Place ℕ)) (haystack : List ℕ) (utf8 : IsUtf8 haystac
 
   -- what it adds leads to pairs of the search
   pub enters_within : (x : code.Place) → LeadsBelow (length table) (place_of x)
-      → Enters (chars haystack) (position_at haystack at) at x row frames row' frames' done → Within
-  enters_within (stored.Empty to) inside (same, is, going) =
-      within_row _ is same (all_below (to ∷ []) inside)
-  enters_within (stored.Char c to) inside (same, is, going) =
-      within_read (just c) _ refl to inside.0 is same
-  enters_within (stored.Class to set) inside (same, is, going) =
-      within_class set _ refl to inside is same
-  enters_within (stored.Look test to) inside (same, is, going) =
+      → Enters (chars haystack) (position_at haystack at) at x held held' done → Within
+  enters_within (stored.Empty to) inside (e, going) =
+      within_row _ (to_do e) (slots e) (all_below (to ∷ []) inside)
+  enters_within (stored.Char c to) inside (e, going) =
+      within_read (just c) _ refl to inside.0 (to_do e) (slots e)
+  enters_within (stored.Class to set) inside (e, going) =
+      within_class set _ refl to inside (to_do e) (slots e)
+  enters_within (stored.Look test to) inside (e, going) =
       by_test (holds_between test (before (chars haystack) (position_at haystack at))
-      (after (chars haystack) (position_at haystack at))) is
+      (after (chars haystack) (position_at haystack at))) (to_do e)
     where
       by_test : (b : Bool) → frames' ≡ (if b then explore to at ∷ frames else frames) → Within
-      by_test true e = within_row _ e same (all_below (to ∷ []) (inside.0, tt))
-      by_test false e = within_row _ e same below
-  enters_within (stored.Slot slot to) inside (inl (lt, marked, is), going) =
+      by_test true is = within_row _ is (slots e) (all_below (to ∷ []) (inside.0, tt))
+      by_test false is = within_row _ is (slots e) below
+  enters_within (stored.Slot slot to) inside (inl (lt, e), going) =
       subst (λ z. FramesBelow table haystack first z frames')
-      (sym (ap length marked ∙ length-set row slot (Some at)))
-      (subst (λ z. FramesBelow table haystack first (length row) z) (sym is)
+      (sym (ap (λ (z : Held). length z.row) e ∙ length-set row slot (Some at)))
+      (subst (λ z. FramesBelow table haystack first (length row) z) (sym (to_do e))
       (inside.0, low, edge, (lt, below)))
-  enters_within (stored.Slot slot to) inside (inr (past, same, is), going) =
-      within_row _ is same (all_below (to ∷ []) (inside.0, tt))
-  enters_within (stored.Choice one other) inside (same, is, going) =
-      within_row _ is same (all_below (one ∷ (other ∷ [])) inside)
-  enters_within (stored.Branches entries) inside (same, is, going) =
-      within_row _ is same (all_below entries.items inside)
-  enters_within stored.Match inside (same, is, ends) = within_row frames is same below
+  enters_within (stored.Slot slot to) inside (inr (past, e), going) =
+      within_row _ (to_do e) (slots e) (all_below (to ∷ []) (inside.0, tt))
+  enters_within (stored.Choice one other) inside (e, going) =
+      within_row _ (to_do e) (slots e) (all_below (one ∷ (other ∷ [])) inside)
+  enters_within (stored.Branches entries) inside (e, going) =
+      within_row _ (to_do e) (slots e) (all_below entries.items inside)
+  enters_within stored.Match inside (e, ends) = within_row frames (to_do e) (slots e) below

@@ -10,7 +10,7 @@ use Rattle.regex_lite_syntax.specs.Text.{Text}
 use Rattle.regex_lite_engine.specs.declared.backtrack.walk.Walk.{Walk}
 use Rattle.regex_lite_engine.specs.declared.search.here.Here.{Here}
 use Rattle.regex_lite_engine.specs.Backtrack.Machine.{explore}
-use Rattle.regex_lite_engine.specs.Backtrack.Room.{HasRoom, left_of}
+use Rattle.regex_lite_engine.specs.Backtrack.Room.{explores, searching, HasRoom, left_of}
 use Rattle.regex_lite_engine.specs.Backtrack.Searching.{Explores, IsFresh, IsUnderWay}
 use Rattle.regex_lite_engine.specs.Backtrack.Walking.{IsWalking}
 use Rattle.regex_lite_engine.specs.Graph.Places.{Place, kept_back_with}
@@ -20,7 +20,7 @@ use Rattle.regex_lite_engine.specs.Search.Offsets.{position_at, IsOffset}
 use Rattle.regex_lite_engine.specs.Pikevm.Outcomes.{CanCount}
 use Rattle.regex_lite_engine.specs.Pikevm.Room.{lone}
 use Rattle.regex_lite_engine.specs.Search.Standing.{IsHere}
-use Rattle.regex_lite_engine.specs.Pikevm.Turns.{IsDeadAt}
+use Rattle.regex_lite_engine.specs.Search.Starts.{IsDeadAt}
 use Rattle.regex_lite_engine.proofs.OffsetLemmas.{boundary_at}
 use Rattle.regex_lite_engine.proofs.backtrack.LeadsLemmas.{start_left}
 use Rattle.regex_lite_engine.proofs.backtrack.LeftLemmas.{left_blank, left_most, lone_all}
@@ -110,10 +110,9 @@ module _ (table : List (Place ℕ)) (haystack : List ℕ) (utf8 : IsUtf8 haystac
         room = room;
         empty = fresh.frames;
         walking =
-            walk_begun table (chars haystack) s first
-            (length table * (bytes_left + 1)) 0 walk.visited
-            walk.stack.row fresh.none fresh.blank;
-        tries = omega (arith, tried, arrows, one_more, inside);
+            walk_begun table (searching table haystack s first first 0)
+            (length table * (bytes_left + 1)) walk.visited walk.stack fresh.none fresh.blank;
+        tries = omega (arith, tried, arrows, one_more, inside, ap explores fresh.frames);
         entries = omega (arith, entered, each);
       }
 
@@ -161,31 +160,32 @@ module _ (table : List (Place ℕ)) (haystack : List ℕ) (utf8 : IsUtf8 haystac
         → ((k : ℕ) → p ≤ k → k < q → IsDeadAt table (chars haystack) s k)
         → Explores table haystack s at walk walk' None
         → IsUnderWay table haystack start s (q + 1) walk'
-    went_on walk' dead explores =
+    went_on walk' dead explored =
         let from = low in
         let inside = is.0 in
         let room = on.room in
         let tries = on.tries in
-        let spent = explores.spent in
+        let spent = explored.on.spent in
+        let idle = ap explores (explored.empty refl) in
         let entries = on.entries in
-        let spent_entries = explores.spent_entries in
-        let same_room = explores.kept.room in
+        let spent_entries = explored.on.spent_entries in
+        let same_room = explored.on.kept.room in
         record {
           low = omega (arith, from);
-          first = explores.kept.first ∙ on.first;
-          fit = explores.fit refl;
+          first = explored.on.kept.first ∙ on.first;
+          fit = explored.fit refl;
           room =
               subst
               (λ width. sum_by (kept_back_with width) table * (bytes_left + 1) ≤ walk'.stack.room)
-              (sym explores.kept.row) (omega (arith, room, same_room));
-          empty = explores.empty refl;
+              (sym explored.on.kept.row) (omega (arith, room, same_room));
+          empty = explored.empty refl;
           walking =
               subst
-              (λ z. IsWalking table (chars haystack) s first z 0 walk'.visited walk'.stack.row [])
+              (λ z. IsWalking table (searching table haystack s first z 0) walk'.visited
+              (record walk'.stack { frames = [] }))
               (omega arith)
-              (start_left haystack utf8 table s start p q at walk.visited walk'.visited
-              walk.stack.row
-              walk'.stack.row on.first later low is dead on.walking 0 explores.walks);
-          tries = omega (arith, tries, spent, later, inside);
+              (start_left haystack utf8 table s start p q at walk walk' on.first later low is dead
+              on.walking explored.on.walks);
+          tries = omega (arith, tries, spent, later, inside, idle);
           entries = omega (arith, entries, spent_entries);
         }

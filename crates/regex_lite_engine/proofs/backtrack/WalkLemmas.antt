@@ -2,12 +2,11 @@
 use Rattle.std.proofs.Common.{◌≡◌, ℕ, suc, ◌<◌, ◌≤◌, ◌⊎◌, inl, inr, true, false, IsTrue, List}
 use Rattle.std.proofs.Common.{[], ◌∷◌, ◌++◌, length, replicate, slice_set, slice_index_or}
 use Rattle.std.proofs.Common.{Option, Some, None, refl, sym, ap, subst, ◌∙◌, arith}
-use Rattle.std.proofs.lemmas.Bool.{cases_eq}
+use Rattle.std.proofs.lemmas.Bool.{cases_eq, both_ways}
 use Rattle.std.proofs.lemmas.List.{get_or-set_same, get_or-set_other}
-use Rattle.regex_lite_syntax.specs.Text.{Text}
 use Rattle.regex_lite_syntax.specs.Tree.Matches.{IsPosition}
 use Rattle.regex_lite_engine.specs.Backtrack.DepthFirst as order
-use Rattle.regex_lite_engine.specs.Backtrack.Machine.{Frame, explore, restore, Pairs}
+use Rattle.regex_lite_engine.specs.Backtrack.Machine.{Frame, explore, restore, Held, Pairs}
 use Rattle.regex_lite_engine.specs.Backtrack.Machine.{pair_number, was_entered}
 use Rattle.regex_lite_engine.specs.Backtrack.Searching.{Unwinds, taken_up}
 use Rattle.regex_lite_engine.specs.Backtrack.Walking as walk
@@ -17,9 +16,10 @@ use Rattle.regex_lite_engine.specs.Pikevm.InStep.{Offer}
 use Rattle.regex_lite_engine.specs.Pikevm.Machine.{Row}
 use Rattle.regex_lite_engine.specs.Search.NumberedAnswer.{place_with, numbered_step, is_end}
 use Rattle.regex_lite_engine.specs.Pikevm.Outcomes.{IsNumberedOutcome}
-use Rattle.regex_lite_engine.specs.Pikevm.Turns.{IsBlank, IsDeadAt}
+use Rattle.regex_lite_engine.specs.Pikevm.Turns.{IsBlank}
+use Rattle.regex_lite_engine.specs.Search.Starts.{IsDeadAt}
 use Rattle.regex_lite_engine.specs.Pikevm.Walking.{Node}
-use Rattle.regex_lite_engine.specs.Backtrack.Walking.{WayHolds}
+use Rattle.regex_lite_engine.specs.Backtrack.Walking.{IsWalking, SearchFrom, WayHolds}
 use Rattle.regex_lite_engine.proofs.backtrack.DepthFirstLemmas.{
   depth_first_begun,
   depth_first_passed,
@@ -28,18 +28,17 @@ use Rattle.regex_lite_engine.proofs.backtrack.DepthFirstLemmas.{
 use Rattle.regex_lite_engine.proofs.backtrack.NumberedLemmas.{numbered_over, numbered_entered}
 use Rattle.regex_lite_engine.proofs.backtrack.NumberedLemmas.{numbered_complete}
 use Rattle.regex_lite_engine.proofs.backtrack.PairLemmas.{same_pair, offset_grows}
-use Rattle.regex_lite_engine.proofs.backtrack.PairLemmas.{none_entered, not_both}
-use Rattle.regex_lite_engine.proofs.search.OptionLemmas.{not_there}
+use Rattle.regex_lite_engine.proofs.backtrack.PairLemmas.{none_entered}
+use Rattle.regex_lite_engine.proofs.OptionLemmas.{not_there}
 use Rattle.regex_lite_engine.proofs.search.RecordLemmas as records
 use Rattle.regex_lite_engine.proofs.pikevm.WalkLemmas.{same_node, none_or, wide, offered_by}
 use Rattle.regex_lite_engine.proofs.search.here.OffsetLemmas.{same_position}
 
-module _ (table : List (Place ℕ)) (haystack : Text) (s first : ℕ) where
-  abbrev pub IsWalking : (from i : ℕ) → Pairs → Row → List Frame → Type 0
-  IsWalking = walk.IsWalking table haystack s first
+module _ (table : List (Place ℕ)) (search : SearchFrom) where
+  open search use {haystack, entry as s, first, from, i}
 
-  abbrev FramesHold : (i : ℕ) → Row → List Frame → List (Offer Node) → Type 0
-  FramesHold = walk.FramesHold table haystack s
+  abbrev FramesHold : Row → List Frame → List (Offer Node) → Type 0
+  FramesHold = walk.FramesHold table haystack s i
 
   abbrev IsDepthFirst : ℕ → (Node → Option (List ℕ)) → List (Offer Node) → Type 0
   IsDepthFirst =
@@ -47,24 +46,26 @@ module _ (table : List (Place ℕ)) (haystack : Text) (s first : ℕ) where
       first (length haystack)
 
   -- nothing is entered yet
-  pub walk_begun : (n i : ℕ) (pairs : Pairs) (row : Row) → pairs.entered ≡ replicate n false
-      → IsBlank row → IsWalking first i pairs row []
-  walk_begun n i pairs row none blank = record {
+  pub walk_begun : (n : ℕ) (pairs : Pairs) (held : Held) → pairs.entered ≡ replicate n false
+      → IsBlank held.row
+      → IsWalking table (record search { from = first }) pairs (record held { frames = [] })
+  walk_begun n pairs held none blank = record {
     recorded = λ m. None;
     offers = [];
     depth_first = depth_first_begun Node (numbered_step table haystack) (λ j. (s, j))
         (is_end table haystack) first (length haystack) (λ m. None) (λ m. refl);
     seen = λ q p way r. absurd (not_there r);
     met = λ q p inside low within was.
-        absurd (not_both (was_entered pairs q (offset haystack p))
+        absurd (both_ways (was_entered pairs q (offset haystack p))
         (none_entered pairs n none q (offset haystack p)) was);
     frames_hold = (refl, blank);
   }
 
   -- the start that was followed does not matter once nothing is left
-  pub walk_between : (from i j : ℕ) (pairs : Pairs) (row : Row) → IsWalking from i pairs row []
-      → IsWalking from j pairs row []
-  walk_between from i j pairs row u = record {
+  pub walk_between : (j : ℕ) (pairs : Pairs) (held : Held)
+      → IsWalking table search pairs (record held { frames = [] })
+      → IsWalking table (record search { i = j }) pairs (record held { frames = [] })
+  walk_between j pairs held u = record {
     recorded = u.recorded;
     offers = u.offers;
     depth_first = u.depth_first;
@@ -74,10 +75,12 @@ module _ (table : List (Place ℕ)) (haystack : Text) (s first : ℕ) where
   }
 
   -- the start at a position is offered
-  pub walk_started : (from j p at : ℕ) (pairs : Pairs) (row : Row) → from ≤ p → first ≤ p
+  pub walk_started : (p at : ℕ) (pairs : Pairs) (held : Held) → from ≤ p → first ≤ p
       → IsOffset haystack p at → ((k : ℕ) → from ≤ k → k < p → IsDeadAt table haystack s k)
-      → IsWalking from j pairs row [] → IsWalking (suc p) at pairs row (explore s at ∷ [])
-  walk_started from j p at pairs row later low (within, is_at) dead u = record {
+      → IsWalking table search pairs (record held { frames = [] })
+      → IsWalking table (record search { from = suc p; i = at }) pairs
+      (record held { frames = explore s at ∷ [] })
+  walk_started p at pairs held later low (within, is_at) dead u = record {
     recorded = u.recorded;
     offers = ((s, p), p ∷ []) ∷ [];
     depth_first = depth_first_started Node (numbered_step table haystack) (λ k. (s, k))
@@ -97,68 +100,72 @@ module _ (table : List (Place ℕ)) (haystack : Text) (s first : ℕ) where
   }
 
   -- no match has its start at or after the first position
-  pub walk_over : (from j : ℕ) (pairs : Pairs) (row : Row)
+  pub walk_over : (pairs : Pairs) (held : Held)
       → ((k : ℕ) → from ≤ k → k ≤ length haystack → IsDeadAt table haystack s k)
-      → IsWalking from j pairs row [] → IsNumberedOutcome table haystack s first None
-  walk_over from j pairs row dead u =
+      → IsWalking table search pairs (record held { frames = [] })
+      → IsNumberedOutcome table haystack s first None
+  walk_over pairs held dead u =
       numbered_over table haystack s first from u.recorded dead
       (subst (IsDepthFirst from u.recorded) u.frames_hold.0 u.depth_first)
 
-  frames_unwound : (i : ℕ) (row : Row) (frames : List Frame) (offers : List (Offer Node))
+  frames_unwound : (row : Row) (frames : List Frame) (offers : List (Offer Node))
       (next : Option (ℕ × ℕ)) (row' : Row) (frames' : List Frame)
-      → Unwinds row frames next row' frames' → FramesHold i row frames offers
-      → FramesHold i row' (taken_up next frames') offers
-  frames_unwound i row [] offers next row' frames' (none, same, empty) holds =
-      subst (λ z. FramesHold i row' (taken_up z frames') offers) (sym none)
-      (subst (λ z. FramesHold i z frames' offers) (sym same)
-      (subst (λ z. FramesHold i row z offers) (sym empty) holds))
-  frames_unwound i row (explore q at ∷ frames) offers next row' frames' (some, same, rest) holds =
-      subst (λ z. FramesHold i row' (taken_up z frames') offers) (sym some)
-      (subst (λ z. FramesHold i z (explore q at ∷ frames') offers) (sym same)
-      (subst (λ z. FramesHold i row (explore q at ∷ z) offers) (sym rest) holds))
-  frames_unwound i row (restore slot old ∷ frames) offers next row' frames' back holds =
-      frames_unwound i (slice_set row slot old) frames offers next row' frames' back holds
+      → Unwinds row frames next row' frames' → FramesHold row frames offers
+      → FramesHold row' (taken_up next frames') offers
+  frames_unwound row [] offers next row' frames' (none, same, empty) holds =
+      subst (λ z. FramesHold row' (taken_up z frames') offers) (sym none)
+      (subst (λ z. FramesHold z frames' offers) (sym same)
+      (subst (λ z. FramesHold row z offers) (sym empty) holds))
+  frames_unwound row (explore q at ∷ frames) offers next row' frames' (some, same, rest) holds =
+      subst (λ z. FramesHold row' (taken_up z frames') offers) (sym some)
+      (subst (λ z. FramesHold z (explore q at ∷ frames') offers) (sym same)
+      (subst (λ z. FramesHold row (explore q at ∷ z) offers) (sym rest) holds))
+  frames_unwound row (restore slot old ∷ frames) offers next row' frames' back holds =
+      frames_unwound (slice_set row slot old) frames offers next row' frames' back holds
 
   -- slots hold again what they held
-  pub walk_unwinds : (from i : ℕ) (pairs : Pairs) (row : Row) (frames : List Frame)
-      (next : Option (ℕ × ℕ)) (row' : Row) (frames' : List Frame)
-      → Unwinds row frames next row' frames' → IsWalking from i pairs row frames
-      → IsWalking from i pairs row' (taken_up next frames')
-  walk_unwinds from i pairs row frames next row' frames' back u = record {
+  pub walk_unwinds : (pairs : Pairs) (held held' : Held) (next : Option (ℕ × ℕ))
+      → Unwinds held.row held.frames next held'.row held'.frames
+      → IsWalking table search pairs held
+      → IsWalking table search pairs (record held' { frames = taken_up next held'.frames })
+  walk_unwinds pairs held held' next back u = record {
     recorded = u.recorded;
     offers = u.offers;
     depth_first = u.depth_first;
     seen = u.seen;
     met = u.met;
-    frames_hold = frames_unwound i row frames u.offers next row' frames' back u.frames_hold;
+    frames_hold =
+        frames_unwound held.row held.frames u.offers next held'.row held'.frames back u.frames_hold;
   }
 
-  module _ (from i : ℕ) (pairs : Pairs) (row : Row) (q p at : ℕ) (frames : List Frame)
-      (inside : q < length table) (low : first ≤ p) (is_offset : IsOffset haystack p at)
-      (u : IsWalking from i pairs row (explore q at ∷ frames)) where
+  module _ (pairs : Pairs) (held : Held) (q p at : ℕ) (inside : q < length table) (low : first ≤ p)
+      (is_offset : IsOffset haystack p at)
+      (u : IsWalking table search pairs (record held { frames = explore q at ∷ held.frames })) where
+    open held use {row, frames}
+
     -- what is offered first
     abbrev Top : ℕ → Type 0
     Top j =
         (w : List ℕ) × (rest : List (Offer Node))
         × IsDepthFirst from u.recorded (((q, j), w) ∷ rest)
-        × WayHolds table haystack s i row (q, j) w × FramesHold i row frames rest
+        × WayHolds table haystack s i row (q, j) w × FramesHold row frames rest
 
     top : Top p
     top = at_offset u.frames_hold
       where
-        at_offset : FramesHold i row (explore q at ∷ frames) u.offers → Top p
+        at_offset : FramesHold row (explore q at ∷ frames) u.offers → Top p
         at_offset (j, w, rest, (within, is_at), e, holds, waits) =
             subst Top (same_position haystack j p within is_offset.0 (sym is_at ∙ is_offset.1))
             (w, rest, subst (IsDepthFirst from u.recorded) e u.depth_first, holds, waits)
 
     -- what was entered before is passed over
-    pub walk_passed : was_entered pairs q at ≡ true → IsWalking from i pairs row frames
+    pub walk_passed : was_entered pairs q at ≡ true → IsWalking table search pairs held
     walk_passed was =
         pass top (u.met q p inside low is_offset.0
         (ap (was_entered pairs q) (sym is_offset.1) ∙ was))
       where
         pass : Top p → (v : List ℕ) × (u.recorded (q, p) ≡ Some v)
-            → IsWalking from i pairs row frames
+            → IsWalking table search pairs held
         pass (w, rest, offered, holds, waits) (v, r) = record {
           recorded = u.recorded;
           offers = rest;
@@ -172,7 +179,7 @@ module _ (table : List (Place ℕ)) (haystack : Text) (s first : ℕ) where
 
     module _ (new : was_entered pairs q at ≡ false) where
       fresh : u.recorded (q, p) ≡ None
-      fresh = none_or (u.recorded (q, p)) (λ v e. not_both (was_entered pairs q at) new
+      fresh = none_or (u.recorded (q, p)) (λ v e. both_ways (was_entered pairs q at) new
           (ap (was_entered pairs q) is_offset.1 ∙ u.seen q p v e))
 
       -- a match is complete there
@@ -271,17 +278,16 @@ module _ (table : List (Place ℕ)) (haystack : Text) (s first : ℕ) where
                 (old.0, records.kept Node same_node u.recorded (q, p) w fresh (r, j) old.0 old.1)
 
         -- what the place offers comes first of what is left
-        pub walk_entered : (row' : Row) (frames' : List Frame)
-            → (IsTrue (is_end table haystack (q, p)) → ⊥)
+        pub walk_entered : (held' : Held) → (IsTrue (is_end table haystack (q, p)) → ⊥)
             → ((w : List ℕ) (rest : List (Offer Node)) → WayHolds table haystack s i row (q, p) w
-            → FramesHold i row frames rest
-            → FramesHold i row' frames'
+            → FramesHold row frames rest
+            → FramesHold held'.row held'.frames
             (offered_by table haystack (place_with table q) p w (wide table haystack (q, p)) 0
             ++ rest))
-            → IsWalking from i pairs_now row' frames'
-        walk_entered row' frames' no_match hold' = enter top
+            → IsWalking table search pairs_now held'
+        walk_entered held' no_match hold' = enter top
           where
-            enter : Top p → IsWalking from i pairs_now row' frames'
+            enter : Top p → IsWalking table search pairs_now held'
             enter (w, rest, offered, holds, waits) = record {
               recorded = recorded_now w;
               offers = offered_by table haystack (place_with table q) p w

@@ -1,29 +1,24 @@
 -- A frame was taken off: the memory still suffices, and the counts stay within what is left.
-use Rattle.std.proofs.Common.{◌≡◌, ℕ, ◌+◌, ◌≤◌, Bool, true, false, List}
-use Rattle.std.proofs.Common.{◌∷◌, length, set, slice_get, slice_set, Some}
+use Rattle.std.proofs.Common.{◌≡◌, ℕ, ◌+◌, ◌≤◌, Bool, true, false, List, ◌∷◌, length, set}
+use Rattle.std.proofs.Common.{slice_get, Some, None, if◌then◌else◌}
 use Rattle.std.proofs.Common.{refl, sym, ap, subst, ◌∙◌, arith, length-set}
 use Rattle.std.specs.Prelude.{IsUtf8, chars}
 use Rattle.std.proofs.lemmas.List.{set-get_or}
 use Rattle.regex_lite_engine.specs.declared.backtrack.walk.Walk.{Walk}
 use Rattle.regex_lite_engine.specs.declared.nfa.place.Place as code
 use Rattle.regex_lite_engine.specs.Backtrack.Entering.{Enters}
-use Rattle.regex_lite_engine.specs.Backtrack.Machine.{Frame, explore, Pairs, Held}
+use Rattle.regex_lite_engine.specs.Backtrack.Machine.{explore, Pairs, Held}
 use Rattle.regex_lite_engine.specs.Backtrack.Machine.{pair_number, was_entered}
-use Rattle.regex_lite_engine.specs.Backtrack.Room.{Goes, HasRoom, WalksTo, left_of}
+use Rattle.regex_lite_engine.specs.Backtrack.Room.{with_frames, Went, HasRoom, WalksTo, left_of}
 use Rattle.regex_lite_engine.specs.Graph.Places.{Place, kept_back_with}
 use Rattle.regex_lite_engine.specs.Graph.Renumbered.{arrow_count}
 use Rattle.regex_lite_engine.specs.Graph.Stored.{LeadsBelow, place_of}
 use Rattle.regex_lite_engine.specs.Search.Bounds.{StepCounts}
 use Rattle.regex_lite_engine.specs.Search.Offsets.{position_at}
 use Rattle.regex_lite_engine.specs.Pikevm.Room.{lone, weight}
+use Rattle.regex_lite_engine.proofs.backtrack.LeadsLemmas.{entered_at}
 use Rattle.regex_lite_engine.proofs.backtrack.LeftLemmas.{left_enter, left_room}
 use Rattle.regex_lite_engine.proofs.backtrack.RoomLemmas.{enters_few, enters_within}
-
--- with the pair entered
-abbrev pub entered_at : Pairs → (q at : ℕ) → Pairs
-entered_at pairs q at = record pairs {
-  entered = slice_set pairs.entered (pair_number pairs.places pairs.first q at) true;
-}
 
 -- an old pair stays as it is
 pub entered_again : (pairs : Pairs) (q at : ℕ) → was_entered pairs q at ≡ true
@@ -33,24 +28,26 @@ entered_again pairs q at was =
     ap (λ cells. record pairs { entered = cells })
     (ap (set pairs.entered pair) (sym was) ∙ set-get_or pairs.entered pair false)
 
-module _ (table : List (Place ℕ)) (haystack : List ℕ) (walk : Walk) (q at : ℕ) (frames : List Frame)
-    (fit : HasRoom table haystack walk (explore q at ∷ frames)) where
+module _ (table : List (Place ℕ)) (haystack : List ℕ) (walk : Walk) (q at : ℕ)
+    (fit : HasRoom table haystack walk (explore q at ∷ walk.stack.frames)) where
+  abbrev before : Walk
+  before = with_frames walk (explore q at ∷ walk.stack.frames)
+
   -- the pair was entered before
-  pub goes_passed : WalksTo table haystack walk.visited walk.stack.row
-      (explore q at ∷ frames) walk.visited
-      walk.stack.row frames at false
-      → Goes table haystack walk (explore q at ∷ frames)
-      (record {
-        visited = walk.visited;
-        stack = walk.stack;
-        steps = record walk.steps { tried = walk.steps.tried + 1 };
-      })
-      frames at false
-  goes_passed walks =
+  pub went_passed : WalksTo table haystack before walk None
+      → Went table haystack before
+      (record walk { steps = record walk.steps { tried = walk.steps.tried + 1 } }) None
+  went_passed walks =
       let room = fit.stack_room in
       let few = fit.few_tries in
       let entered = fit.entered_tried in
       record {
+        on = record {
+          walks = walks;
+          kept = record { places = refl; first = refl; row = refl; room = refl };
+          spent = omega arith;
+          spent_entries = omega arith;
+        };
         fit = λ e. record {
           all = fit.all;
           below = fit.below.3;
@@ -60,11 +57,7 @@ module _ (table : List (Place ℕ)) (haystack : List ℕ) (walk : Walk) (q at : 
           entered_tried = omega (arith, entered);
           looked_entered = fit.looked_entered;
         };
-        walks = walks;
         less = λ e. omega arith;
-        kept = record { places = refl; first = refl; row = refl; room = refl };
-        spent = omega arith;
-        spent_entries = omega arith;
         entered_tried = omega (arith, entered);
         looked_entered = fit.looked_entered;
       }
@@ -80,7 +73,7 @@ module _ (table : List (Place ℕ)) (haystack : List ℕ) (walk : Walk) (q at : 
         (place_of x) got at fit.below.2 fit.below.1 new
 
     -- there is room for what entering the place keeps back
-    pub enter_room : length frames + kept_back_with (length walk.stack.row) (place_of x)
+    pub enter_room : length walk.stack.frames + kept_back_with (length walk.stack.row) (place_of x)
         ≤ walk.stack.room
     enter_room =
         let left =
@@ -90,30 +83,26 @@ module _ (table : List (Place ℕ)) (haystack : List ℕ) (walk : Walk) (q at : 
         omega (arith, left, room)
 
     -- the pair is new
-    pub goes_entered : (held' : Held) (frames' : List Frame) (done : Bool)
-        → LeadsBelow (length table) (place_of x)
-        → Enters (chars haystack)
-        (position_at haystack at) at x walk.stack.row frames held'.row frames' done
-        → held'.room ≡ walk.stack.room
-        → WalksTo table haystack walk.visited walk.stack.row (explore q at ∷ frames)
-        (entered_at walk.visited q at) held'.row frames' at done
-        → Goes table haystack walk (explore q at ∷ frames)
-        (record {
+    pub went_entered : (held : Held) (done : Bool) → LeadsBelow (length table) (place_of x)
+        → Enters (chars haystack) (position_at haystack at) at x walk.stack held done
+        → held.room ≡ walk.stack.room
+        → WalksTo table haystack before
+        (record walk { visited = entered_at walk.visited q at; stack = held })
+        (if done then Some at else None)
+        → Went table haystack before (record {
           visited = entered_at walk.visited q at;
-          stack = held';
+          stack = held;
           steps = record {
             tried = walk.steps.tried + 1;
             entered = walk.steps.entered + 1;
             looked = walk.steps.looked + 1;
           };
-        })
-        frames' at done
-    goes_entered held' frames' done inside enters same walks =
-        let few = enters_few (chars haystack)
-        (position_at haystack at) at walk.stack.row held'.row frames frames' done x enters in
+        }) (if done then Some at else None)
+    went_entered held done inside enters same walks =
+        let few = enters_few (chars haystack) (position_at haystack at) at walk.stack held done x
+        enters in
         let within = enters_within table haystack utf8 walk.visited.first at fit.below.1 fit.below.2
-        walk.stack.row
-        held'.row frames frames' done fit.below.3 x inside enters in
+        walk.stack held done fit.below.3 x inside enters in
         let arrows = few.0 in
         let longer = few.1 in
         let keeps = few.2 in
@@ -133,6 +122,12 @@ module _ (table : List (Place ℕ)) (haystack : List ℕ) (walk : Walk) (q at : 
         let looked_entered = fit.looked_entered in
         let pair = pair_number walk.visited.places walk.visited.first q at in
         record {
+          on = record {
+            walks = walks;
+            kept = record { places = refl; first = refl; row = few.3; room = same };
+            spent = omega (arith, arrows_left, arrows);
+            spent_entries = omega (arith, lone_left);
+          };
           fit = λ e. record {
             all = record {
               places = fit.all.places;
@@ -141,19 +136,15 @@ module _ (table : List (Place ℕ)) (haystack : List ℕ) (walk : Walk) (q at : 
             };
             below = within;
             stack_room =
-                subst (λ width. length frames' + left_of table haystack (kept_back_with width)
-                (entered_at walk.visited q at) ≤ held'.room + 1)
+                subst (λ width. length held.frames + left_of table haystack (kept_back_with width)
+                (entered_at walk.visited q at) ≤ held.room + 1)
                 (sym few.3) (omega (arith, kept_left, stack_room, keeps, same));
             few_tries = omega (arith, arrows_left, arrows, few_tries);
             few_entries = omega (arith, lone_left, few_entries);
             entered_tried = omega (arith, entered_tried);
             looked_entered = omega (arith, looked_entered);
           };
-          walks = walks;
           less = λ e. omega (arith, work_left, longer);
-          kept = record { places = refl; first = refl; row = few.3; room = same };
-          spent = omega (arith, arrows_left, arrows);
-          spent_entries = omega (arith, lone_left);
           entered_tried = omega (arith, entered_tried);
           looked_entered = omega (arith, looked_entered);
         }

@@ -1,9 +1,7 @@
 -- Where arrows lead: on from where others lead, and to one node.
-use Rattle.std.proofs.Common.{◌≡◌, refl, sym, subst, ◌∙◌, ℕ, List, [], ◌∷◌, ◌++◌, Option, Some}
+use Rattle.std.proofs.Common.{◌≡◌, refl, sym, subst, ◌∙◌, ℕ, List, [], ◌∷◌, ◌++◌, Option, Some, ap}
 use Rattle.regex_lite_engine.specs.Graph.Ways.{Leads}
-
-pub same_some : {A : Type 0} {x y : A} → ◌≡◌ {A = Option A} (Some x) (Some y) → x ≡ y
-same_some e = cc
+use Rattle.regex_lite_engine.proofs.OptionLemmas.{same_some}
 
 pub leads_append : {N : Type 0} (step : N → ℕ → Option N) (us vs : List ℕ) (a b c : N)
     → Leads N step a us b → Leads N step b vs c → Leads N step a (us ++ vs) c
@@ -24,3 +22,10 @@ leads_to_one step [] a b c e f = sym e ∙ f
 leads_to_one {N} step (k ∷ ks) a b c (via, s, first) (other, t, second) =
     let same : via ≡ other = same_some (sym s ∙ t) in
     leads_to_one step ks other b c (subst (λ n. Leads N step n ks b) same first) second
+
+-- arrow k leads to `via`, and what is after it leads on from there
+pub leads_behind : {N : Type 0} (step : N → ℕ → Option N) (us : List ℕ) (a via b : N) (k l : ℕ)
+    → step a k ≡ Some via → k ≡ l → Leads N step a (l ∷ us) b → Leads N step via us b
+leads_behind {N} step us a via b k l s e (next, t, along) =
+    let one : next ≡ via = same_some (sym t ∙ ap (step a) (sym e) ∙ s) in
+    subst (λ n. Leads N step n us b) one along

@@ -3,7 +3,7 @@ use Rattle.std.proofs.Common.{◌≡◌, ◌≢◌, ◌⊎◌, inl, inr, refl, s
 use Rattle.std.proofs.Common.{ℕ, List, [], ◌∷◌, ◌++◌, Option, Some, append_assoc}
 use Rattle.regex_lite_syntax.proofs.ListLemmas.{same_head, same_tail}
 use Rattle.regex_lite_engine.specs.Graph.Ways.{Leads, NoneTwice, IsWay}
-use Rattle.regex_lite_engine.proofs.laws.LeadsLemmas.{same_some, leads_append}
+use Rattle.regex_lite_engine.proofs.laws.LeadsLemmas.{leads_append, leads_behind}
 
 module _ {N : Type 0} (step : N → ℕ → Option N) where
   -- the arrows lead by the node on their way
@@ -16,13 +16,6 @@ module _ {N : Type 0} (step : N → ℕ → Option N) where
 
   abbrev NeverBy : (node start : N) → List ℕ → Type 0
   NeverBy node start ks = (us vs : List ℕ) → ks ≡ us ++ vs → Leads N step start us node → ⊥
-
-  -- arrow k leads to `via`, and what is after it leads on from there
-  from_next : (us : List ℕ) (a via b : N) (k l : ℕ) → step a k ≡ Some via → k ≡ l
-      → Leads N step a (l ∷ us) b → Leads N step via us b
-  from_next us a via b k l s e (next, t, along) =
-      let one : next ≡ via = same_some (sym t ∙ ap (step a) (sym e) ∙ s) in
-      subst (λ n. Leads N step n us b) one along
 
   by_node_at_start : (ks : List ℕ) (node start end : N) → start ≡ node → Leads N step start ks end
       → ComesBy node start end ks
@@ -52,7 +45,7 @@ module _ {N : Type 0} (step : N → ℕ → Option N) where
       → NeverBy node via ks → NeverBy node start (k ∷ ks)
   never_later k ks node start via s apart never [] vs e there = apart there
   never_later k ks node start via s apart never (u ∷ us) vs e there =
-      never us vs (same_tail e) (from_next us start via node k u s (same_head e) there)
+      never us vs (same_tail e) (leads_behind step us start via node k u s (same_head e) there)
 
   once_in_place : (a : N) → NoneTwice N step a []
   once_in_place a [] [] ws m e f g = refl
@@ -72,9 +65,9 @@ module _ {N : Type 0} (step : N → ℕ → Option N) where
   once_longer k ks a b s once never [] [] rest m e first loop = refl
   once_longer k ks a b s once never [] (v ∷ vs) rest m e first loop =
       let back = subst (λ n. Leads N step n (v ∷ vs) n) (sym first) loop in
-      absurd (never vs rest (same_tail e) (from_next vs a b a k v s (same_head e) back))
+      absurd (never vs rest (same_tail e) (leads_behind step vs a b a k v s (same_head e) back))
   once_longer k ks a b s once never (u ∷ us) loop rest m e first turn =
-      once us loop rest m (same_tail e) (from_next us a b m k u s (same_head e) first) turn
+      once us loop rest m (same_tail e) (leads_behind step us a b m k u s (same_head e) first) turn
 
   module _ (one_or_two : (a b : N) → (a ≡ b) ⊎ (a ≢ b)) where
     comes_by : (ks : List ℕ) (node start end : N) → Leads N step start ks end

@@ -1,6 +1,6 @@
 -- Matches of a pattern and ways through its written-out places.
-use Rattle.std.proofs.Common.{◌≡◌, ◌≢◌, ◌⊎◌, inl, inr, refl, ap, subst}
-use Rattle.std.proofs.Common.{ℕ, suc, List, [], ◌∷◌, None, length, arith}
+use Rattle.std.proofs.Common.{◌≡◌, ◌≢◌, ◌⊎◌, inl, inr, refl, ap}
+use Rattle.std.proofs.Common.{ℕ, List, [], ◌∷◌}
 use Rattle.std.proofs.lemmas.Bool.{cases_eq}
 use Rattle.regex_lite_syntax.proofs.ListLemmas.{same_head, same_tail}
 use Rattle.regex_lite_syntax.specs.Text.{Text}
@@ -12,11 +12,12 @@ use Rattle.regex_lite_engine.specs.Graph.Places.{step}
 use Rattle.regex_lite_engine.specs.Graph.Addresses.{Address}
 use Rattle.regex_lite_engine.specs.Graph.WrittenOut.{whole, start_address, end_address}
 use Rattle.regex_lite_engine.specs.Graph.WrittenOut.{place_of_pattern, IsWayThrough}
+use Rattle.regex_lite_engine.specs.Search.Marks.{marks_of_way}
 use Rattle.regex_lite_engine.proofs.laws.LoopLemmas.{without_loops}
 use Rattle.regex_lite_engine.proofs.laws.MatchWalkLemmas.{match_walk}
-use Rattle.regex_lite_engine.proofs.laws.RestLemmas.{Course, Rest}
-use Rattle.regex_lite_engine.proofs.laws.WalkMatchLemmas.{past_group, walk_matches}
 use Rattle.regex_lite_engine.proofs.laws.WrittenTreeLemmas.{whole_stands}
+use Rattle.regex_lite_engine.proofs.laws.groups.MarkedTreeLemmas.{marked_walk}
+use Rattle.regex_lite_engine.proofs.laws.groups.MarkingLemmas.{marking_matches}
 
 -- two addresses are one, or they differ
 pub one_or_two_addresses : (a b : Address) → (a ≡ b) ⊎ (a ≢ b)
@@ -31,14 +32,19 @@ one_or_two_addresses (x ∷ a) (y ∷ b) = elim (cases_eq x y) [
   ]
 ]
 
-pub one_or_two : (m n : Address × ℕ) → (m ≡ n) ⊎ (m ≢ n)
-one_or_two (a, i) (b, j) = elim (one_or_two_addresses a b) [
+-- and so are two pairs with a position
+pub one_or_two_pairs : {A : Type 0} → ((a b : A) → (a ≡ b) ⊎ (a ≢ b)) → (m n : A × ℕ)
+    → (m ≡ n) ⊎ (m ≢ n)
+one_or_two_pairs same (a, i) (b, j) = elim (same a b) [
   | inr apart ↦ inr (λ e. apart (ap (λ p. p.0) e))
   | inl e ↦ elim (cases_eq i j) [
     | inr apart ↦ inr (λ f. apart (ap (λ p. p.1) f))
     | inl f ↦ inl (cc (e, f))
   ]
 ]
+
+pub one_or_two : (m n : Address × ℕ) → (m ≡ n) ⊎ (m ≢ n)
+one_or_two = one_or_two_pairs one_or_two_addresses
 
 module _ (tree : Tree) (haystack : Text) where
   abbrev LeadsOn : Address × ℕ → List ℕ → Address × ℕ → Type 0
@@ -53,31 +59,9 @@ module _ (tree : Tree) (haystack : Text) where
       let shorten = without_loops (step haystack place) one_or_two walk.arrows in
       shorten (start_address, i) (end_address, j) walk.along
 
-  -- no arrow leads on from the end
-  stays_at_end : (arrows : List ℕ) (i j : ℕ) → LeadsOn (end_address, i) arrows (end_address, j)
-      → i ≡ j
-  stays_at_end [] i j e = ap (λ p. p.1) e
-  stays_at_end (k ∷ arrows) i j (next, s, along) = absurd cc
-
   -- even where a place comes twice at one position
   pub walk_match : (i j : ℕ) (arrows : List ℕ) → IsRegular tree
       → LeadsOn (start_address, i) arrows (end_address, j) → Matches haystack tree i j
   walk_match i j arrows regular along =
-      let course : Course Address = record {
-        haystack = haystack;
-        place = place_of_pattern tree;
-        end = end_address;
-        last = j;
-        final = refl;
-      } in
-      let n = suc (length arrows) in
-      let rest : Rest course start_address i n = record {
-        arrows = arrows;
-        along = along;
-        fewer = omega arith;
-      } in
-      let here = whole_stands tree regular in
-      let past = past_group course 0 None tree start_address end_address i n
-      (λ a b k m s r. walk_matches course tree a b k m regular s r) here rest in
-      let at_end = stays_at_end past.rest.arrows past.to j past.rest.along in
-      subst (λ k. Matches haystack tree i k) at_end past.pass
+      marking_matches haystack (whole tree) i j (marks_of_way tree haystack i arrows)
+      (marked_walk tree haystack i j arrows regular along)

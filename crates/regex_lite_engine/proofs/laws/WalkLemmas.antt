@@ -1,9 +1,13 @@
 -- Walks in a graph of places: arrows that lead from one place and position to another.
 use Rattle.std.proofs.Common.{◌≡◌, refl, ◌∙◌, ap, ℕ, Bool, true, false, List, [], ◌∷◌, ◌++◌, Some}
+use Rattle.std.proofs.Common.{Option, None, IsTrue, suc, sym, if◌then◌else◌}
 use Rattle.regex_lite_syntax.specs.Text.{Text}
+use Rattle.regex_lite_syntax.specs.Sets.{Set}
 use Rattle.regex_lite_engine.specs.Graph.Ways.{Leads}
 use Rattle.regex_lite_engine.specs.Graph.Places.{Place, with_arrows, go, choice, step, step_from}
+use Rattle.regex_lite_engine.specs.Graph.Places.{behind}
 use Rattle.regex_lite_engine.proofs.laws.LeadsLemmas.{leads_append}
+use Rattle.regex_lite_engine.proofs.OptionLemmas.{same_some}
 
 pub record Walk (haystack : Text) {A : Type 0} (place : A → Place A) (a : A) (i : ℕ) (b : A) (j : ℕ)
     : Type 0 where
@@ -44,3 +48,16 @@ module _ {haystack : Text} {A : Type 0} {place : A → Place A} where
       → place a ≡ choice greedy body other → Walk haystack place a i other i
   past_body true body other e = one_arrow 1 (choice true body other) e refl
   past_body false body other e = one_arrow 0 (choice false body other) e refl
+
+-- a position is there if the test holds
+pub if_test : (test : Bool) (i j : ℕ) → (if test then Some i else None) ≡ Some j
+    → IsTrue test × (i ≡ j)
+if_test true i j e = (refl, same_some e)
+if_test false i j e = absurd cc
+
+pub was_read : (set : Set) (i j : ℕ) (next : Option ℕ) → behind set i next ≡ Some j
+    → (c : ℕ) × (next ≡ Some c) × IsTrue (set c) × (j ≡ suc i)
+was_read set i j None e = absurd cc
+was_read set i j (Some c) e =
+    let test = if_test (set c) (suc i) j e in
+    (c, refl, test.0, sym test.1)

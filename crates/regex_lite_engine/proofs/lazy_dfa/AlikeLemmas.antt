@@ -25,7 +25,7 @@ use Rattle.regex_lite_engine.specs.Pikevm.Again.{AreAlike, FitAlike, FitsAlike}
 use Rattle.regex_lite_engine.specs.Pikevm.Entering.{reads}
 use Rattle.regex_lite_engine.proofs.lazy_dfa.IntervalLemmas.{interval_within, same_between}
 use Rattle.regex_lite_engine.proofs.lazy_dfa.IntervalLemmas.{same_char, same_set}
-use Rattle.regex_lite_engine.proofs.search.OptionLemmas.{not_there, same_some}
+use Rattle.regex_lite_engine.proofs.OptionLemmas.{not_there, same_some}
 
 -- the look, by what it sees of both neighbours
 abbrev holds_by : Look → Side → Side → Bool

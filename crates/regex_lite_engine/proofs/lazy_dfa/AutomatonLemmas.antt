@@ -1,11 +1,12 @@
 -- The states of a lazy automaton, as they are stored.
 use Rattle.std.proofs.Common.{◌≡◌, ℕ, zero, suc, ◌+◌, ◌-◌, ◌<◌, ◌≤◌, List, [], ◌∷◌, ◌++◌, length}
 use Rattle.std.proofs.Common.{map, take, drop, slice_get, slice_index, slice_index_or, slice_set}
-use Rattle.std.proofs.Common.{replicate, true, false, Some, None, refl, sym, ap, ◌∙◌, arith}
+use Rattle.std.proofs.Common.{replicate, true, None, Some, refl, sym, ap, ◌∙◌, arith}
 use Rattle.std.proofs.lemmas.List.{length-take-le, take-append-drop, take-append-le}
 use Rattle.std.proofs.lemmas.List.{drop-append-le, length-map, map-append, map-set}
-use Rattle.std.proofs.lemmas.List.{nil_from_length, get_or-replicate, take_rest}
+use Rattle.std.proofs.lemmas.List.{nil_from_length, get_or-replicate, take_rest, length-drop}
 use Rattle.std.proofs.lemmas.Option.{slice_get_within}
+use Rattle.std.proofs.Math.Seq.{drop-length}
 use Rattle.regex_lite_engine.specs.declared.nfa.place.Place as code
 use Rattle.regex_lite_engine.specs.Graph.Stored.{place_of}
 use Rattle.regex_lite_engine.specs.declared.lazy_dfa.state.StoredState.{StoredState}
@@ -14,20 +15,16 @@ use Rattle.regex_lite_engine.specs.LazyDfa.Automaton.{Automaton, LeadsOn, Rememb
 use Rattle.regex_lite_engine.specs.LazyDfa.Automaton.{State, most_classes, unknown}
 use Rattle.regex_lite_engine.specs.LazyDfa.Extending.{Extends, IsState}
 use Rattle.regex_lite_engine.specs.LazyDfa.Intervals.{Intervals}
-use Rattle.regex_lite_engine.specs.LazyDfa.Stored.{LieWithin, state_in, way_in}
-use Rattle.regex_lite_engine.proofs.search.OptionLemmas.{not_there, same_some}
+use Rattle.regex_lite_engine.specs.LazyDfa.Stored.{ArePlain, LieWithin, state_in, way_in}
+use Rattle.regex_lite_engine.proofs.OptionLemmas.{not_there, same_some}
+use Rattle.regex_lite_engine.proofs.LookupLemmas.{still_there, get_last}
 
 -- what lies in a list lies there when more is added
 pub part_same : {A : Type 0} (from len : ℕ) (xs ys : List A) → from + len ≤ length xs
     → take len (drop from (xs ++ ys)) ≡ take len (drop from xs)
 part_same from len xs ys fits =
     ap (λ zs. take len zs) (drop-append-le from xs ys (omega (arith, fits)))
-    ∙ take-append-le len (drop from xs) ys (let n = length_drop from xs in omega (arith, n, fits))
-  where
-    length_drop : {A : Type 0} (n : ℕ) (xs : List A) → length xs ≤ length (drop n xs) + n
-    length_drop zero xs = omega arith
-    length_drop (suc n) [] = omega arith
-    length_drop (suc n) (x ∷ xs) = let rest = length_drop n xs in omega (arith, rest)
+    ∙ take-append-le len (drop from xs) ys (let n = length-drop from xs in omega (arith, n, fits))
 
 -- states stay what they are when ways are added
 pub states_same : (states : List StoredState) (used : ℕ) (ways more : List StoredWay)
@@ -53,13 +50,8 @@ pub states_cut : (states : List StoredState) (used : ℕ) (ways : List StoredWay
     → map (state_in (take used ways)) states ≡ map (state_in ways) states
 states_cut states used ways within fits =
     sym (states_same states used (take used ways) (drop used ways) within
-    (let n = length_take used ways fits in omega (arith, n)))
+    (let n = length-take-le used ways fits in omega (arith, n)))
     ∙ ap (λ all. map (state_in all) states) (take-append-drop used ways)
-  where
-    length_take : {A : Type 0} (n : ℕ) (xs : List A) → n ≤ length xs → length (take n xs) ≡ n
-    length_take zero xs le = refl
-    length_take (suc n) [] le = absurd (omega (arith, le))
-    length_take (suc n) (x ∷ xs) le = ap suc (length_take n xs (omega (arith, le)))
 
 -- what is pending has one way more
 pub pending_more : (used : ℕ) (ways : List StoredWay) (way : StoredWay) → used ≤ length ways
@@ -75,20 +67,6 @@ pub state_at : (states : List StoredState) (ways : List StoredWay) (y : ℕ) (d 
 state_at [] ways y d lt = absurd (omega (arith, lt))
 state_at (s ∷ states) ways zero d lt = refl
 state_at (s ∷ states) ways (suc y) d lt = state_at states ways y d (omega (arith, lt))
-
--- one state more
-pub still_there : {A : Type 0} (xs ys : List A) (k : ℕ) (x : A) → slice_get xs k ≡ Some x
-    → slice_get (xs ++ ys) k ≡ Some x
-still_there [] ys k x at = absurd (no at)
-  where
-    no : {A : Type 0} {x : A} → None ≡ Some x → ⊥
-    no e = cc
-still_there (y ∷ xs) ys zero x at = at
-still_there (y ∷ xs) ys (suc k) x at = still_there xs ys k x at
-
-pub last_there : {A : Type 0} (xs : List A) (x : A) → slice_get (xs ++ x ∷ []) (length xs) ≡ Some x
-last_there [] x = refl
-last_there (y ∷ xs) x = last_there xs x
 
 -- what the automaton stands for that stores these
 abbrev pub seen : Intervals → List StoredState → (used : ℕ) → List StoredWay → Automaton
@@ -169,19 +147,12 @@ module _ (intervals : Intervals) (states : List StoredState) (used : ℕ) (ways 
             map (state_in ways) states
             ++ record (state_in ways s) { ways = map way_in (drop used ways) } ∷ [];
         pending = map way_in none;
-      }) (past ways)
+      }) (drop-length ways)
     where
       all : take s.len (drop s.from ways) ≡ drop used ways
       all =
           ap (λ n. take n (drop s.from ways)) len
           ∙ ap (λ n. take (length ways - used) (drop n ways)) from ∙ take_rest ways used
-
-      past : {A : Type 0} (xs : List A) → drop (length xs) xs ≡ []
-      past [] = refl
-      past (x ∷ xs) = past xs
-
-pub not_so : true ≡ false → ⊥
-not_so e = cc
 
 -- the added state, beside those that there were
 pub added_is : (old new : Automaton) (state : State)
@@ -191,7 +162,7 @@ added_is old new state e = record {
   state = state;
   is =
       ap (λ (z : Automaton). slice_get z.states (length old.states)) e
-      ∙ last_there old.states state;
+      ∙ get_last old.states state;
   ways = refl;
   searching = refl;
   before = refl;
@@ -264,12 +235,7 @@ ways_len states used ways x d state within fits at =
     let own = within x d inside in
     ap (λ (z : State). length z.ways) (sym same) ∙ length-map (take s.len (drop s.from ways)) way_in
     ∙ length-take-le s.len (drop s.from ways)
-    (let n = length_rest s.from ways in omega (arith, n, own, fits))
-  where
-    length_rest : {A : Type 0} (n : ℕ) (xs : List A) → length xs ≤ length (drop n xs) + n
-    length_rest zero xs = omega arith
-    length_rest (suc n) [] = omega arith
-    length_rest (suc n) (x ∷ xs) = let rest = length_rest n xs in omega (arith, rest)
+    (let n = length-drop s.from ways in omega (arith, n, own, fits))
 
 -- there are none where none are stored, and only there
 pub empty_by_len : (states : List StoredState) (used : ℕ) (ways : List StoredWay) (x : ℕ)
@@ -287,6 +253,22 @@ pub len_by_empty : (states : List StoredState) (used : ℕ) (ways : List StoredW
     state.ways ≡ [] → (slice_index_or states x d).len ≡ 0
 len_by_empty states used ways x d state within fits at none =
     sym (ways_len states used ways x d state within fits at) ∙ ap length none
+
+-- where a state is marked as plain, it has ways, and no match is complete in it
+pub plain_is : (states : List StoredState) (used : ℕ) (ways : List StoredWay) (x : ℕ)
+    (d : StoredState) (state : State)
+    → LieWithin used states → used ≤ length ways → ArePlain states
+    → slice_get (map (state_in ways) states) x ≡ Some state →
+    (slice_index_or states x d).is_plain ≡ true → (state.ways ≡ [] → ⊥) × (state.hit ≡ None)
+plain_is states used ways x d state within fits plain at told =
+    let inside = slice_get_within_map states ways x state at in
+    let own = plain x d inside told in
+    let n = ways_len states used ways x d state within fits at in
+    let same : state_in ways (slice_index_or states x d) ≡ state =
+    same_some (sym (state_at states ways x d inside) ∙ at) in (
+      λ none. let zero = sym n ∙ ap length none in omega (arith, own.0, zero),
+      ap (λ (z : State). z.hit) (sym same) ∙ own.1,
+    )
 
 module _ (intervals : Intervals) (states : List StoredState) (used : ℕ) (ways : List StoredWay)
     (automaton : Automaton) (view : seen intervals states used ways ≡ automaton) where

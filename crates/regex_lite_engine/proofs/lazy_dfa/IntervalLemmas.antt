@@ -5,6 +5,7 @@ use Rattle.std.proofs.Common.{List, [], ◌∷◌, nat_le, refl, sym, ap, ◌∙
 use Rattle.std.proofs.Math.Seq.{drop-cons}
 use Rattle.std.proofs.lemmas.List.{length-drop}
 use Rattle.std.proofs.lemmas.Bool.Decides.{nat_tests}
+use Rattle.std.proofs.lemmas.Bool.{cases_lt}
 use Rattle.regex_lite_syntax.specs.declared.class.ClassRange.{ClassRange}
 use Rattle.regex_lite_syntax.specs.Ranges.{in_ranges}
 use Rattle.regex_lite_syntax.specs.Characters.{is_character, is_between}
@@ -52,41 +53,17 @@ interval_less (x ∷ bs) b c d (inr among) lt le =
 -- no boundary lies between them
 pub same_side : (bs : List ℕ) (c d : ℕ) → interval_of bs c ≡ interval_of bs d → (b : ℕ)
     → IsBoundary bs b → b ≤ c → b ≤ d
-same_side bs c d e b among le = go (nat_le b d) refl
-  where
-    below : (x y : ℕ) → nat_le x y ≡ true → x ≤ y
-    below x y t = grind (arith, nat_tests)
-
-    above : (x y : ℕ) → nat_le x y ≡ false → y < x
-    above x y t = grind (arith, nat_tests)
-
-    go : (x : Bool) → nat_le b d ≡ x → b ≤ d
-    go true t = below b d t
-    go false t =
-        absurd (let less = interval_less bs b d c among (above b d t) le in omega (arith, less, e))
+same_side bs c d e b among le = elim (cases_lt d b) [
+  | inl lt ↦ absurd (let less = interval_less bs b d c among lt le in omega (arith, less, e))
+  | inr within ↦ within
+]
 
 pub same_test : (bs : List ℕ) (c d : ℕ) → interval_of bs c ≡ interval_of bs d → (b : ℕ)
     → IsBoundary bs b → nat_le b c ≡ nat_le b d
 same_test bs c d e b among =
-    let f = same_side bs c d e b among in let g = same_side bs d c (sym e) b among in
-    by_tests b c d f g
-  where
-    by_tests : (b c d : ℕ) → (b ≤ c → b ≤ d) → (b ≤ d → b ≤ c) → nat_le b c ≡ nat_le b d
-    by_tests b c d f g = go (nat_le b c) (nat_le b d) refl refl
-      where
-        below : (x y : ℕ) → nat_le x y ≡ true → x ≤ y
-        below x y t = grind (arith, nat_tests)
-
-        above : (x y : ℕ) → nat_le x y ≡ false → y < x
-        above x y t = grind (arith, nat_tests)
-
-        go : (x y : Bool) → nat_le b c ≡ x → nat_le b d ≡ y → x ≡ y
-        go true true s t = refl
-        go false false s t = refl
-        go true false s t =
-            absurd (let le = f (below b c s) in let gt = above b d t in omega (arith, le, gt))
-        go false true s t =
-            absurd (let le = g (below b d t) in let gt = above b c s in omega (arith, le, gt))
+    let on = same_side bs c d e b among in
+    let back = same_side bs d c (sym e) b among in
+    grind (arith, nat_tests, on, back)
 
 -- no more than there are
 pub interval_within : (bs : List ℕ) (c : ℕ) → interval_of bs c ≤ length bs

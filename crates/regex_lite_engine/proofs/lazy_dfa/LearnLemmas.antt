@@ -22,7 +22,7 @@ use Rattle.regex_lite_engine.specs.Pikevm.Turns.{best_of}
 use Rattle.regex_lite_engine.specs.Pikevm.Walking.{Best}
 use Rattle.regex_lite_engine.proofs.lazy_dfa.AlikeLemmas.{alike_at, same_side_of}
 use Rattle.regex_lite_engine.proofs.lazy_dfa.RememberedLemmas.{remembered, set_other, set_there}
-use Rattle.regex_lite_engine.proofs.search.OptionLemmas.{not_there, same_some}
+use Rattle.regex_lite_engine.proofs.OptionLemmas.{not_there, same_some}
 
 -- what is pending is none of it
 pub remembers_pending : (places : List code.Place) (entries : List ℕ) (automaton : Automaton)

@@ -17,16 +17,17 @@ use Rattle.regex_lite_engine.specs.LazyDfa.Automaton.{best_left, hit_of, origin_
 use Rattle.regex_lite_engine.specs.LazyDfa.Automaton.{searching_after, threads_of, told_by}
 use Rattle.regex_lite_engine.specs.LazyDfa.Automaton.{most_classes, told_if, unknown, ways_of}
 use Rattle.regex_lite_engine.specs.LazyDfa.Extending.{Extends}
-use Rattle.regex_lite_engine.specs.LazyDfa.Learning.{IsFirst}
+use Rattle.regex_lite_engine.specs.LazyDfa.Learning.{IsFirstStart}
 use Rattle.regex_lite_engine.specs.LazyDfa.Intervals.{Intervals, AreIntervalsOf, class_of, side_of}
 use Rattle.regex_lite_engine.specs.Pikevm.Again.{AreAlike, retold, all_retold, best_again}
-use Rattle.regex_lite_engine.specs.Pikevm.Beginnings.{Told, Tells, IsTold}
+use Rattle.regex_lite_engine.specs.Pikevm.Beginnings.{Told, TellsStart, IsTold}
 use Rattle.regex_lite_engine.specs.Pikevm.Machine.{Thread}
 use Rattle.regex_lite_engine.specs.Pikevm.Searching.{TurnsAgain}
 use Rattle.regex_lite_engine.specs.Search.Standing.{IsHere}
-use Rattle.regex_lite_engine.specs.Pikevm.Turns.{best_of, AreStartsAt, IsComing}
+use Rattle.regex_lite_engine.specs.Pikevm.Turns.{best_of, IsComing}
+use Rattle.regex_lite_engine.specs.Search.Starts.{AreStartsAt}
 use Rattle.regex_lite_engine.specs.Pikevm.Walking.{Best}
-use Rattle.regex_lite_engine.proofs.search.OptionLemmas.{not_there, same_some}
+use Rattle.regex_lite_engine.proofs.OptionLemmas.{not_there, same_some}
 
 eq_same : (a b : ℕ) → a ≡ b → (a == b) ≡ true
 eq_same a b e = grind (arith, nat_tests)
@@ -48,7 +49,7 @@ module _ (first i : ℕ) where
   best_anew at true None before = refl
   best_anew at true (Some found) before = refl
 
-own_start : (first i at at' : ℕ) (ts : List Thread) (told : Option ℕ) → IsFirst first at ts
+own_start : (first i at at' : ℕ) (ts : List Thread) (told : Option ℕ) → IsFirstStart first at ts
     → (ways_of first ts ≡ [] → i ≡ at') → IsTold told at → IsTold (told_if (began first told) i) at'
 own_start first i at at' ts None is_first own is = tt
 own_start first i at at' [] (Some s) is_first own is =
@@ -56,9 +57,10 @@ own_start first i at at' [] (Some s) is_first own is =
 own_start first i at at' (t ∷ ts) (Some s) is_first own is =
     subst (λ b. IsTold (told_if b i) at') (sym (eq_other s first (λ e. is_first (sym e ∙ is)))) tt
 
-own_told : (first i at at' : ℕ) (ts : List Thread) (told : Told) (number : ℕ) → IsFirst first at ts
-    → (ways_of first ts ≡ [] → i ≡ at') → Tells told at number
-    → Tells (tell first i told) at' number
+own_told : (first i at at' : ℕ) (ts : List Thread) (told : Told) (number : ℕ)
+    → IsFirstStart first at ts
+    → (ways_of first ts ≡ [] → i ≡ at') → TellsStart told at number
+    → TellsStart (tell first i told) at' number
 own_told first i at at' ts told number is_first own tells = record {
   start_told = own_start first i at at' ts told.at is_first own tells.start_told;
   number_told = tells.number_told;
@@ -76,8 +78,8 @@ module _ (table : List (Place ℕ)) (entries : List ℕ) (intervals : Intervals)
     (alike : (there : Here) → Sees intervals x.before class there → AreAlike table here there)
     (suffice : (there : Here) → Sees intervals x.before class there → (h : Text) (p : ℕ)
     → IsHere h p there → AreStartsAt table h entries p starts)
-    (tells : (number : ℕ) → Tells (told number) here.at number)
-    (is_first : IsFirst first here.at cache.walk.memory.threads)
+    (tells : (number : ℕ) → TellsStart (told number) here.at number)
+    (is_first : IsFirstStart first here.at cache.walk.memory.threads)
     (ways : ways_of first cache.walk.memory.threads ≡ x.ways)
     (suits : Suits x.searching (best_of cache.best))
     (next_ways : y.ways ≡ ways_of first cache'.walk.memory.threads)

@@ -2,6 +2,7 @@
 use Rattle.std.proofs.Common.{◌≡◌, ◌==◌, ℕ, zero, suc, ◌<◌, ◌≤◌, ◌⊎◌, inl, inr, All, Bool}
 use Rattle.std.proofs.Common.{true, false, List, [], ◌∷◌, length, map, slice_get, Option, Some}
 use Rattle.std.proofs.Common.{None, is_some, IsSome, not, refl, sym, ap, subst, ◌∙◌, arith}
+use Rattle.std.proofs.Common.{true≢false}
 use Rattle.std.proofs.lemmas.Bool.Decides.{nat_tests}
 use Rattle.std.proofs.lemmas.List.{length-map}
 use Rattle.std.proofs.lemmas.List.Sums.{sum_by-cons}
@@ -17,7 +18,7 @@ use Rattle.regex_lite_engine.specs.Graph.Renumbered.{arrow_count, arrows_of}
 use Rattle.regex_lite_engine.specs.LazyDfa.Automaton.{Automaton, FitsTable, Suits, Way}
 use Rattle.regex_lite_engine.specs.LazyDfa.Automaton.{began, origin_of, threads_of}
 use Rattle.regex_lite_engine.specs.LazyDfa.Automaton.{told_by, told_if, ways_of}
-use Rattle.regex_lite_engine.specs.LazyDfa.Learning.{IsFirst, IsIn}
+use Rattle.regex_lite_engine.specs.LazyDfa.Learning.{IsFirstStart, IsIn}
 use Rattle.regex_lite_engine.specs.LazyDfa.Running.{GoesOnWith, IsOnItsWay, started_at}
 use Rattle.regex_lite_engine.specs.LazyDfa.Scanning.{best_told, IsIdleAt, IsScanning}
 use Rattle.regex_lite_engine.specs.LazyDfa.Stored.{way_in}
@@ -32,22 +33,13 @@ use Rattle.regex_lite_engine.specs.Search.Standing.{IsHere}
 use Rattle.regex_lite_engine.specs.Pikevm.Turns.{best_of, IsComing}
 use Rattle.regex_lite_engine.specs.Pikevm.Walking.{Best, Node, ThreadsHold, WayTold}
 use Rattle.regex_lite_engine.proofs.lazy_dfa.RunLemmas.{moved_on}
-use Rattle.regex_lite_engine.proofs.search.OptionLemmas.{not_there}
+use Rattle.regex_lite_engine.proofs.OptionLemmas.{not_there}
 
 eq_there : (a b : ℕ) → (a == b) ≡ true → a ≡ b
 eq_there a b e = grind (arith, nat_tests)
 
 -- less is known of a thread, and no slots are kept
 module _ (first : ℕ) where
-  abbrev less : Thread → Thread
-  less thread = (thread.0, told_by first (origin_of first thread.1), [])
-
-  thread_less : (ts : List Thread) (m : ℕ)
-      → thread_at (threads_of first (ways_of first ts)) m ≡ less (thread_at ts m)
-  thread_less [] m = refl
-  thread_less (t ∷ ts) zero = refl
-  thread_less (t ∷ ts) (suc m) = thread_less ts m
-
   start_less : (told : Option ℕ) (j : ℕ) → IsTold told j
       → IsTold (told_if (began first told) first) j
   start_less None j is = tt
@@ -75,16 +67,14 @@ module _ (first : ℕ) where
       λ k slot at. absurd (not_there at),
     )
 
-    hold_less : (p : ℕ) (ts : List Thread) (k : ℕ) (os : List (Offer Node))
-        → ThreadsHold table h entries p (thread_at ts) k os
-        → ThreadsHold table h entries p (thread_at (threads_of first (ways_of first ts))) k os
-    hold_less p ts k [] held = tt
-    hold_less p ts k (o ∷ os) (there, way, rest) = (
-      there ∙ ap (λ (t : Thread). (t.0, p)) (sym (thread_less ts k)),
-      subst (λ (t : Thread). WayTold table h entries t.1 t.2 o.0 o.1) (sym (thread_less ts k))
-          (way_less (thread_at ts k).1 (thread_at ts k).2 o.0 o.1 way),
-      hold_less p ts (suc k) os rest,
-    )
+    hold_less : (p : ℕ) (ts : List Thread) (os : List (Offer Node))
+        → ThreadsHold table h entries p ts os
+        → ThreadsHold table h entries p (threads_of first (ways_of first ts)) os
+    hold_less p [] [] held = tt
+    hold_less p [] (o ∷ os) held = absurd held
+    hold_less p (t ∷ ts) [] held = absurd held
+    hold_less p (t ∷ ts) (o ∷ os) (there, way, rest) =
+        (there, way_less t.1 t.2 o.0 o.1 way, hold_less p ts os rest)
 
     pub coming_less : (low last p : ℕ) (ts : List Thread) (best : Best)
         → IsComing table h entries low last p ts best
@@ -96,22 +86,17 @@ module _ (first : ℕ) where
       from = u.from;
       in_step = u.in_step;
       before = u.before;
-      hold = hold_less p ts 0 u.coming u.hold;
-      all = u.all ∙ sym (length_less ts);
+      hold = hold_less p ts u.coming u.hold;
       best_holds = u.best_holds;
       from_is = u.from_is;
     }
-      where
-        length_less : (ts : List Thread) → length (threads_of first (ways_of first ts)) ≡ length ts
-        length_less [] = refl
-        length_less (t ∷ ts) = ap suc (length_less ts)
 
 -- a search whose state is known may go by remembered turns
 pub scanning_from : (table : List (Place ℕ)) (h : Text) (entries : List ℕ) (s p : ℕ) {S : Type 0}
     (automaton : Automaton) (x first : ℕ) (here : Here) (cache : Cache S) (best : Option (ℕ × ℕ))
     → IsHere h p here →
     IsOnItsWay table h entries s p cache → IsIn automaton x first here.before cache
-    → IsFirst first here.at cache.walk.memory.threads → best_of cache.best ≡ best_told best →
+    → IsFirstStart first here.at cache.walk.memory.threads → best_of cache.best ≡ best_told best →
     IsScanning table entries h s p automaton
     (record { here = here; state = x; first = first; best = best })
 scanning_from table h entries s p automaton x first here cache best is on is_in own same = record {
@@ -130,13 +115,10 @@ scanning_from table h entries s p automaton x first here cache best is on is_in 
       on.coming));
 }
   where
-    first_of : (ts : List Thread) → IsFirst first here.at ts → ways_of first ts ≡ []
+    first_of : (ts : List Thread) → IsFirstStart first here.at ts → ways_of first ts ≡ []
         → first ≡ here.at
     first_of [] own none = own
-    first_of (t ∷ ts) own none = absurd (no none)
-      where
-        no : {w : Way} {ws : List Way} → w ∷ ws ≡ [] → ⊥
-        no e = cc
+    first_of (t ∷ ts) own none = absurd cc
 
 -- the threads of ways that all began at the first start
 module _ (first : ℕ) where
@@ -276,20 +258,21 @@ module _ (table : List (Place ℕ)) (h : Text) (entries : List ℕ) (s p : ℕ) 
     }
 
     pub first_stuck : (ws ≡ []) ⊎ (stuck.first < stuck.here.at)
-        → (stuck.first ≤ stuck.here.at) × IsFirst stuck.first stuck.here.at new.walk.memory.threads
+        → (stuck.first ≤ stuck.here.at)
+        × IsFirstStart stuck.first stuck.here.at new.walk.memory.threads
     first_stuck (inl empty) =
         let own = scanning.own (sym ways ∙ ap (map way_in) empty) in (
           omega (arith, own),
-          subst (IsFirst stuck.first stuck.here.at)
+          subst (IsFirstStart stuck.first stuck.here.at)
               (sym (threads ∙ ap (map (started_at stuck.first)) empty)) own,
         )
     first_stuck (inr below) = (
       omega (arith, below),
-      subst (IsFirst stuck.first stuck.here.at) (sym threads) (by_ways ws ways),
+      subst (IsFirstStart stuck.first stuck.here.at) (sym threads) (by_ways ws ways),
     )
       where
         by_ways : (vs : List StoredWay) → map way_in vs ≡ scanning.state.ways
-            → IsFirst stuck.first stuck.here.at (map (started_at stuck.first) vs)
+            → IsFirstStart stuck.first stuck.here.at (map (started_at stuck.first) vs)
         by_ways [] e = scanning.own (sym e)
         by_ways (v ∷ vs) e = λ f. omega (arith, f, below)
 
@@ -309,10 +292,7 @@ module _ (table : List (Place ℕ)) (h : Text) (entries : List ℕ) (s p : ℕ) 
 pub none_by : {A : Type 0} (o : Option A) (told : Bool) → is_some o ≡ not told → told ≡ true
     → o ≡ None
 none_by None told e f = refl
-none_by (Some a) told e f = absurd (no (e ∙ ap (λ b. not b) f))
-  where
-    no : true ≡ false → ⊥
-    no e = cc
+none_by (Some a) told e f = absurd (true≢false (e ∙ ap (λ b. not b) f))
 
 pub some_by : {A : Type 0} (o : Option A) (told : Bool) → is_some o ≡ not told → told ≡ false
     → IsSome o

@@ -11,7 +11,7 @@ use Rattle.regex_lite_engine.specs.Graph.Places.{Place}
 use Rattle.regex_lite_engine.specs.Graph.Renumbered.{arrows_of}
 use Rattle.regex_lite_engine.specs.LazyDfa.Automaton.{Automaton, IsEmptyState, Suits, ways_of}
 use Rattle.regex_lite_engine.specs.LazyDfa.Intervals.{side_of}
-use Rattle.regex_lite_engine.specs.LazyDfa.Learning.{HasTurned, IsFirst, IsIn}
+use Rattle.regex_lite_engine.specs.LazyDfa.Learning.{HasTurned, IsFirstStart, IsIn}
 use Rattle.regex_lite_engine.specs.LazyDfa.Running.{IsOnItsWay}
 use Rattle.regex_lite_engine.specs.Search.Offsets.{offset}
 use Rattle.regex_lite_engine.specs.Search.Bounds.{IsBoundedBy, StepCounts}
@@ -21,11 +21,11 @@ use Rattle.regex_lite_engine.specs.Pikevm.Outcomes.{IsFresh, with_start_kept}
 use Rattle.regex_lite_engine.specs.Pikevm.Searching.{IsBetween, IsHit, TurnsAgain}
 use Rattle.regex_lite_engine.specs.Search.Standing.{IsHere}
 use Rattle.regex_lite_engine.specs.Search.Starts.{PassesTo}
-use Rattle.regex_lite_engine.specs.Pikevm.Turns.{AreDeadAt, AreStartsAt, IsAmong}
+use Rattle.regex_lite_engine.specs.Search.Starts.{AreDeadAt, AreStartsAt, IsAmong}
 use Rattle.regex_lite_engine.specs.Pikevm.Turns.{best_at, best_of, IsComing}
 use Rattle.regex_lite_engine.specs.Pikevm.Walking.{Best}
 use Rattle.regex_lite_engine.proofs.search.here.OffsetLemmas.{offset_less}
-use Rattle.regex_lite_engine.proofs.search.OptionLemmas.{not_there, same_some}
+use Rattle.regex_lite_engine.proofs.OptionLemmas.{not_there, same_some}
 use Rattle.regex_lite_engine.proofs.pikevm.PassLemmas.{begun}
 use Rattle.regex_lite_engine.proofs.pikevm.TurnLemmas.{jumped}
 
@@ -128,12 +128,12 @@ bounded_on table h entries s p cache inside most on =
 
 -- another start than this offset is the first where there are threads
 pub other_first : (first at : ℕ) (threads : List Thread) → (length threads ≡ 0 → ⊥)
-    → (first ≡ at → ⊥) → IsFirst first at threads
+    → (first ≡ at → ⊥) → IsFirstStart first at threads
 other_first first at [] some other = absurd (some refl)
 other_first first at (t ∷ ts) some other = other
 
-pub own_first : (at : ℕ) (threads : List Thread) → threads ≡ [] → IsFirst at at threads
-own_first at threads none = subst (IsFirst at at) (sym none) refl
+pub own_first : (at : ℕ) (threads : List Thread) → threads ≡ [] → IsFirstStart at at threads
+own_first at threads none = subst (IsFirstStart at at) (sym none) refl
 
 -- a search without threads is in its state whatever the first start
 pub in_from : {S : Type 0} (automaton : Automaton) (y first first' : ℕ) (before before' : Option ℕ)
@@ -227,7 +227,7 @@ pub turned_from : (table : List (Place ℕ)) (start : ℕ) (automaton : Automato
     TurnsAgain table (record { number = 0; place = start } ∷ []) here
     (λ _. record { at = Some here.at; number = None }) before now hit
     → IsHit hit (best_of before.best) (best_of now.best) →
-    IsFirst first here.at before.walk.memory.threads
+    IsFirstStart first here.at before.walk.memory.threads
     → MatchOption state (Unit {0})
     (λ x. HasTurned table (start ∷ []) automaton x first here hit now)
 turned_from table start automaton None first here hit before now known again is_hit own = tt

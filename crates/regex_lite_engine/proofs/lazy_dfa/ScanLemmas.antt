@@ -1,7 +1,7 @@
 -- A search that goes on by remembered turns.
-use Rattle.std.proofs.Common.{◌≡◌, ℕ, suc, ◌+◌, ◌≤◌, ◌⊎◌, inl, inr, Bool, true, false}
+use Rattle.std.proofs.Common.{◌≡◌, ℕ, suc, ◌+◌, ◌⊎◌, inl, inr, Bool, true, false}
 use Rattle.std.proofs.Common.{List, [], length, slice_get, Option, Some, None, is_some}
-use Rattle.std.proofs.Common.{option_map, IfSome, refl, sym, ap, subst, ◌∙◌, arith}
+use Rattle.std.proofs.Common.{option_map, refl, sym, ap, subst, ◌∙◌, arith}
 use Rattle.regex_lite_syntax.specs.Text.{Text, before}
 use Rattle.regex_lite_engine.specs.declared.lazy_dfa.scan.Standing.{Standing}
 use Rattle.regex_lite_engine.specs.declared.search.here.Here.{Here}
@@ -15,10 +15,11 @@ use Rattle.regex_lite_engine.specs.LazyDfa.Scanning.{IsIdleAt, IsScanning, LedTo
 use Rattle.regex_lite_engine.specs.Pikevm.Outcomes.{IsBestOutcomeOf, IsNumberedEndOf}
 use Rattle.regex_lite_engine.specs.Search.Standing.{IsHere}
 use Rattle.regex_lite_engine.specs.Search.Starts.{PassesTo}
-use Rattle.regex_lite_engine.specs.Pikevm.Turns.{AreDeadAt, EndsAt, IsComing}
+use Rattle.regex_lite_engine.specs.Pikevm.Turns.{EndsAt, IsComing}
+use Rattle.regex_lite_engine.specs.Search.Starts.{AreDeadAt}
 use Rattle.regex_lite_engine.specs.Pikevm.Walking.{Best}
 use Rattle.regex_lite_engine.proofs.pikevm.EndLemmas.{ended_all, over_at}
-use Rattle.regex_lite_engine.proofs.search.OptionLemmas.{not_there, same_some}
+use Rattle.regex_lite_engine.proofs.OptionLemmas.{not_there, same_some}
 use Rattle.regex_lite_engine.proofs.pikevm.ShortestLemmas.{shortest_known}
 use Rattle.regex_lite_engine.proofs.pikevm.TurnLemmas.{jumped}
 
@@ -220,19 +221,4 @@ end_back (Some end) = refl
 pub best_none : (best : Option (ℕ × ℕ)) (told : Bool) → told ≡ is_some best → told ≡ false
     → best_told best ≡ None
 best_none None told e f = refl
-best_none (Some b) told e f = absurd (no (sym e ∙ f))
-  where
-    no : true ≡ false → ⊥
-    no e = cc
-
--- where there was nothing to go on from stays so
-pub still_idle : (table : List (Place ℕ)) (entries : List ℕ) (h : Text) (low p q : ℕ) → p ≤ q
-    → (old new : Option Here) → IfSome old (IsIdleAt table entries h low p) →
-    (new ≡ old) ⊎ IfSome new (IsIdleAt table entries h low q)
-    → IfSome new (IsIdleAt table entries h low p)
-still_idle table entries h low p q le old new idle (inl e) =
-    subst (λ o. IfSome o (IsIdleAt table entries h low p)) (sym e) idle
-still_idle table entries h low p q le old None idle (inr there) = tt
-still_idle table entries h low p q le old (Some here) idle (inr there) =
-    let later = there.later in
-    record { r = there.r; later = omega (arith, le, later); is = there.is; coming = there.coming }
+best_none (Some b) told e f = absurd cc

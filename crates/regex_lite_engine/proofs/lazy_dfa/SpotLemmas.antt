@@ -16,14 +16,14 @@ use Rattle.regex_lite_engine.specs.LazyDfa.Automaton.{Automaton, State, best_lef
 use Rattle.regex_lite_engine.specs.LazyDfa.Intervals.{class_of, side_of}
 use Rattle.regex_lite_engine.specs.LazyDfa.Scanning.{best_told, IsIdleAt, IsScanning}
 use Rattle.regex_lite_engine.specs.LazyDfa.Scanning.{IsSince, LedTo}
-use Rattle.regex_lite_engine.specs.LazyDfa.Spots.{IsOver, IsSpotAt, IsTaken, IsTurn, Takes}
+use Rattle.regex_lite_engine.specs.LazyDfa.Spots.{EndsScan, IsSpotAt, IsTaken, IsTurn, Takes}
 use Rattle.regex_lite_engine.specs.Search.Offsets.{position_at, IsOffset}
 use Rattle.regex_lite_engine.specs.Search.Standing.{IsHere}
 use Rattle.regex_lite_engine.specs.Pikevm.Outcomes.{IsBestOutcomeOf}
 use Rattle.regex_lite_engine.specs.Pikevm.Turns.{IsComing}
 use Rattle.regex_lite_engine.proofs.PositionLemmas.{position_of}
 use Rattle.regex_lite_engine.proofs.lazy_dfa.ScanLemmas.{led_step, scan_over, scanned_on}
-use Rattle.regex_lite_engine.proofs.search.OptionLemmas.{same_some}
+use Rattle.regex_lite_engine.proofs.OptionLemmas.{same_some}
 use Rattle.regex_lite_engine.proofs.search.here.OffsetLemmas.{after_at, boundary_at, here_next}
 use Rattle.regex_lite_engine.proofs.search.here.OffsetLemmas.{moved}
 
@@ -219,7 +219,7 @@ module _ (table : List (Place ℕ)) (entries : List ℕ) (bs : List ℕ) (u : Is
             after.first next_is free first_is
 
       -- the turn leads from a match to nothing
-      pub spot_over : (after : Standing) → IsOver spot leads.to told after
+      pub spot_over : (after : Standing) → EndsScan spot leads.to told after
           → IsBestOutcomeOf table (chars bs) entries low (best_told after.best)
       spot_over after over =
           let led : LedTo table entries (chars bs) low p automaton from turn.to after.best =

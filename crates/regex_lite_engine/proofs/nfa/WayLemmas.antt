@@ -1,5 +1,5 @@
 -- Where the tree of a graph does not match, no arrows of the graph lead to a complete match.
-use Rattle.std.proofs.Common.{◌≡◌, ◌≢◌, ◌<◌, length, ◌⊎◌, inl, inr, sym, ap, subst}
+use Rattle.std.proofs.Common.{◌≡◌, ◌<◌, length, inl, inr, sym, subst}
 use Rattle.std.proofs.Common.{◌∙◌, arith, ℕ, suc, List, Option, Some, None, slice_get}
 use Rattle.std.specs.Prelude.{IfSome, MatchOption}
 use Rattle.std.proofs.lemmas.Bool.{cases_eq}
@@ -14,7 +14,7 @@ use Rattle.regex_lite_engine.specs.Graph.WrittenOut.{start_address, written_out}
 use Rattle.regex_lite_engine.specs.Graph.Renumbered.{IsRenumbered, IsNumberOf}
 use Rattle.regex_lite_engine.specs.Graph.SideBySide.{side_by_side, start_of, AreEntries, AreRegular}
 use Rattle.regex_lite_engine.specs.Search.NumberedAnswer.{numbered_step}
-use Rattle.regex_lite_engine.specs.Pikevm.Turns.{IsDeadAt}
+use Rattle.regex_lite_engine.specs.Search.Starts.{IsDeadAt}
 use Rattle.regex_lite_engine.specs.Search.NumberedList.{IsEntry}
 use Rattle.regex_lite_engine.specs.Search.Starts.{AreHeadsOf, AreListHeadsOf}
 use Rattle.regex_lite_engine.specs.Nfa.Layout.{whole_layout, whole_table}
@@ -27,24 +27,16 @@ use Rattle.regex_lite_engine.specs.declared.prefilter.starts.Starts.{Starts}
 use Rattle.regex_lite_engine.proofs.prefilter.list_heads.IndexLemmas.{walkable}
 use Rattle.regex_lite_engine.proofs.prefilter.list_heads.ThirdLemmas.{stuck_matches}
 use Rattle.regex_lite_engine.proofs.prefilter.list_heads.TreeLemmas.{left_out_matches}
-use Rattle.regex_lite_engine.proofs.prefilter.list_heads.TreeLemmas.{none_matches, there_is}
+use Rattle.regex_lite_engine.proofs.prefilter.list_heads.TreeLemmas.{none_matches}
 use Rattle.regex_lite_engine.proofs.laws.several.PartLemmas.{name_in_pattern, InPattern}
 use Rattle.regex_lite_engine.proofs.laws.several.PartLemmas.{part_of_list, entry_of_part}
 use Rattle.regex_lite_engine.proofs.nfa.write.RenumberingLemmas.{whole_names, renumbered}
 use Rattle.regex_lite_engine.proofs.nfa.write.RenumberingLemmas.{starts as starts_there}
 use Rattle.regex_lite_engine.proofs.laws.LoopLemmas.{without_loops}
-use Rattle.regex_lite_engine.proofs.laws.PatternWayLemmas.{walk_match}
+use Rattle.regex_lite_engine.proofs.laws.PatternWayLemmas.{walk_match, one_or_two_pairs}
 use Rattle.regex_lite_engine.proofs.laws.search.NumberedWayLemmas.{IsPart, IsPartNumber, whole_part}
 use Rattle.regex_lite_engine.proofs.laws.search.NumberedWayLemmas.{whole_number, in_addresses}
-
-one_or_two : (m n : ℕ × ℕ) → (m ≡ n) ⊎ (m ≢ n)
-one_or_two (q, i) (p, j) = elim (cases_eq q p) [
-  | inr apart ↦ inr (λ e. apart (ap (λ z. z.0) e))
-  | inl e ↦ elim (cases_eq i j) [
-    | inr apart ↦ inr (λ f. apart (ap (λ z. z.1) f))
-    | inl f ↦ inl (cc (e, f))
-  ]
-]
+use Rattle.regex_lite_engine.proofs.LookupLemmas.{there_is}
 
 pub dead_without_match : (tree : Tree) (haystack : Text) (table : List (Place ℕ)) (start : ℕ)
     (name : ℕ → Address) (Part : ℕ → Type 0) → IsPart (written_out tree) name table Part
@@ -52,7 +44,8 @@ pub dead_without_match : (tree : Tree) (haystack : Text) (table : List (Place �
     → ((j : ℕ) → Matches haystack tree i j → ⊥) → IsDeadAt table haystack start i
 dead_without_match tree haystack table start name Part r first regular i none arrows end
     ends leads =
-    let way = without_loops (numbered_step table haystack) one_or_two arrows (start, i) end leads in
+    let shorten = without_loops (numbered_step table haystack) (one_or_two_pairs cases_eq) in
+    let way = shorten arrows (start, i) end leads in
     let through = in_addresses tree haystack table start name Part r first i end.0 end.1 way.0
     (record { is_way = way.1; ends = ends }) in
     none end.1 (walk_match tree haystack i end.1 way.0 regular through.0)

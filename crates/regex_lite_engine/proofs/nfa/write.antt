@@ -1,11 +1,6 @@
 -- lemmas that several proofs here share
-pub mod AddressLemmas
-pub mod AmongLemmas
 pub mod ApartAddressLemmas
 pub mod ApartLemmas
-pub mod CopyRowLemmas
-pub mod ListedAddressLemmas
-pub mod ListedRowLemmas
 pub mod NumberedPlaceLemmas
 pub mod NumberedRowLemmas
 pub mod NumberedTreeLemmas

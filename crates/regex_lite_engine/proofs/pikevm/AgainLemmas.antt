@@ -1,27 +1,30 @@
 -- A turn that holds again at a position that looks the same.
-use Rattle.std.proofs.Common.{◌≡◌, ℕ, zero, suc, ◌<◌, ◌⊎◌, inl, inr, Bool, true, false}
-use Rattle.std.proofs.Common.{List, [], ◌∷◌, ◌++◌, length, replicate, slice_get, slice_set}
+use Rattle.std.proofs.Common.{◌≡◌, ℕ, ◌<◌, ◌⊎◌, inl, inr, Bool, true, false}
+use Rattle.std.proofs.Common.{List, [], ◌∷◌, ◌++◌, length, replicate, slice_get}
 use Rattle.std.proofs.Common.{slice_index, slice_index_or, if◌then◌else◌, Option, Some}
 use Rattle.std.proofs.Common.{None, unwrap_or, refl, sym, ap, subst, ◌∙◌, arith}
-use Rattle.std.proofs.lemmas.List.{length-map, map-append}
+use Rattle.std.proofs.lemmas.List.{map-append}
 use Rattle.regex_lite_syntax.specs.declared.class.ClassRange.{ClassRange}
-use Rattle.regex_lite_syntax.specs.Text.{Text}
 use Rattle.regex_lite_syntax.specs.Ranges.{in_ranges}
 use Rattle.regex_lite_syntax.specs.Sets.{just}
+use Rattle.regex_lite_syntax.specs.Tree.Looks.{holds_between}
 use Rattle.regex_lite_engine.specs.declared.nfa.place.Place as code
 use Rattle.regex_lite_engine.specs.declared.nfa.place.Place.TheVariants as stored
 use Rattle.regex_lite_engine.specs.declared.search.here.Here.{Here}
 use Rattle.regex_lite_engine.specs.Graph.Places.{Place, with_arrows}
 use Rattle.regex_lite_engine.specs.Graph.Stored.{place_of}
 use Rattle.regex_lite_engine.specs.Pikevm.Again.{FitsAlike, retold, all_retold, best_again}
+use Rattle.regex_lite_engine.specs.Pikevm.Again.{state_retold}
 use Rattle.regex_lite_engine.specs.declared.search.patterns.Start.{Start}
 use Rattle.regex_lite_engine.specs.Pikevm.Beginnings.{Told}
-use Rattle.regex_lite_engine.specs.Pikevm.Entering.{Enters, reads, ReadsOn}
-use Rattle.regex_lite_engine.specs.Pikevm.Machine.{Row, Frame, explore, restore, Thread, thread_at}
+use Rattle.regex_lite_engine.specs.Pikevm.Entering.{Enters, pushing, reading_on, reads}
+use Rattle.regex_lite_engine.specs.Pikevm.Machine.{Row, Frame, explore, restore, Thread}
+use Rattle.regex_lite_engine.specs.Pikevm.Machine.{State}
 use Rattle.regex_lite_engine.specs.Pikevm.Room.{WalksTo}
 use Rattle.regex_lite_engine.specs.Pikevm.Turns.{begun, with_starts}
-use Rattle.regex_lite_engine.specs.Pikevm.Walking.{Best, IsWalking}
+use Rattle.regex_lite_engine.specs.Pikevm.Walking.{Best, SearchAt, IsWalking}
 use Rattle.regex_lite_engine.proofs.pikevm.EnterLemmas.{reads_none, walk_enters}
+use Rattle.regex_lite_engine.proofs.pikevm.WalkLemmas.{marked_in, walk_framed}
 
 -- the frames are the same but for slots that hold again what they held
 abbrev Loosens : (frames frames' : List Frame) → Type 0
@@ -30,26 +33,20 @@ Loosens frames frames' =
     ⊎ ((to : ℕ) × (slot : ℕ) × (old : Option ℕ) × (rest : List Frame) × (frames ≡ explore to ∷ rest)
     × (frames' ≡ explore to ∷ (restore slot old ∷ rest)))
 
-module _ (here there : Here) (i : Told) (tell : Told → Told) where
-  reads_again : (b : Bool) (t t' : List Thread) (to : ℕ) (row : Row) → ReadsOn b t t' (to, i, row)
-      → ReadsOn b (all_retold tell t) (all_retold tell t') (to, tell i, [])
-  reads_again true t t' to row e =
-      ap (all_retold tell) e ∙ map-append (retold tell) t ((to, i, row) ∷ [])
-  reads_again false t t' to row e = ap (all_retold tell) e
-
-  abbrev EntersAgain : code.Place → List Frame → List Thread → List Frame → List Thread
-      → Bool → Type 0
-  EntersAgain x frames t frames' t' done =
-      (other : List Frame)
-      × Enters there (tell i) x [] frames (all_retold tell t) [] other (all_retold tell t') done
-      × Loosens other frames'
-
-  reads_alike : (b b' : Bool) → b ≡ b' → (t t' : List Thread) (to : ℕ) (row : Row)
-      → ReadsOn b t t' (to, i, row)
-      → ReadsOn b' (all_retold tell t) (all_retold tell t') (to, tell i, [])
-  reads_alike b b' e t t' to row r =
-      subst (λ z. ReadsOn z (all_retold tell t) (all_retold tell t') (to, tell i, [])) e
-      (reads_again b t t' to row r)
+module _ (here there : Here) (i : Told) (tell : Told → Told) (m : State) where
+  -- the thread is followed at the next position in both
+  reads_alike : (b b' : Bool) → b ≡ b' → (to : ℕ)
+      → state_retold tell (reading_on b m (to, i, m.row))
+      ≡ reading_on b' (state_retold tell m) (to, tell i, [])
+  reads_alike b b' e to =
+      again b ∙ ap (λ z. reading_on z (state_retold tell m) (to, tell i, [])) e
+    where
+      again : (b : Bool) → state_retold tell (reading_on b m (to, i, m.row))
+          ≡ reading_on b (state_retold tell m) (to, tell i, [])
+      again true =
+          ap (λ ts. record (state_retold tell m) { next = ts })
+          (map-append (retold tell) m.next ((to, i, m.row) ∷ []))
+      again false = refl
 
   class_alike : (set : List ClassRange) (to : ℕ)
       → FitsAlike (place_of (stored.Class to set)) here there
@@ -57,148 +54,128 @@ module _ (here there : Here) (i : Told) (tell : Told → Told) where
   class_alike [] to alike = reads_none here.after ∙ sym (reads_none there.after)
   class_alike (r ∷ rs) to alike = alike.0
 
-  pub enters_again : (x : code.Place) (row row' : Row) (frames frames' : List Frame)
-      (t t' : List Thread) (done : Bool)
-      → FitsAlike (place_of x) here there →
-      Enters here i x row frames t row' frames' t' done → EntersAgain x frames t frames' t' done
-  enters_again (stored.Empty to) row row' frames frames' t t' done alike (er, ef, same, ed) =
-      (frames', (refl, ef, ap (all_retold tell) same, ed), inl refl)
-  enters_again (stored.Char c to) row row' frames frames' t t' done alike (er, ef, read, ed) = (
-    frames',
-    (
-      refl,
-      ef,
-      reads_alike (reads (just c) here.after) (reads (just c) there.after) alike.0 t t' to row read,
-      ed,
-    ),
-    inl refl,
-  )
-  enters_again (stored.Class to set) row row' frames frames' t t' done alike (er, ef, read, ed) = (
-    frames',
-    (
-      refl,
-      ef,
-      reads_alike (reads (in_ranges set) here.after) (reads (in_ranges set) there.after)
-          (class_alike set to alike) t t' to row read,
-      ed,
-    ),
-    inl refl,
-  )
-  enters_again (stored.Look l to) row row' frames frames' t t' done alike (er, ef, same, ed) = (
-    frames',
-    (
-      refl,
-      ef ∙ ap (λ b. if b then explore to ∷ frames else frames) alike.0,
-      ap (all_retold tell) same,
-      ed,
-    ),
-    inl refl,
-  )
-  enters_again (stored.Slot slot to) row row' frames frames' t t' done alike
-      (inl (within, er, inl ef), same, ed) = (
-        explore to ∷ frames,
-        (inr (omega arith, refl, refl), ap (all_retold tell) same, ed),
-        inr (to, slot, slice_index_or row slot None, frames, refl, ef),
-      )
-  enters_again (stored.Slot slot to) row row' frames frames' t t' done alike
-      (inl (within, er, inr (none, ef)), same, ed) =
-      (frames', (inr (omega arith, refl, ef), ap (all_retold tell) same, ed), inl refl)
-  enters_again (stored.Slot slot to) row row' frames frames' t t' done alike
-      (inr (past, er, ef), same, ed) =
-      (frames', (inr (omega arith, refl, ef), ap (all_retold tell) same, ed), inl refl)
-  enters_again (stored.Choice a b) row row' frames frames' t t' done alike (er, ef, same, ed) =
-      (frames', (refl, ef, ap (all_retold tell) same, ed), inl refl)
-  enters_again (stored.Branches all) row row' frames frames' t t' done alike (er, ef, same, ed) =
-      (frames', (refl, ef, ap (all_retold tell) same, ed), inl refl)
-  enters_again stored.Match row row' frames frames' t t' done alike (er, ef, same, ed) =
-      (frames', (refl, ef, ap (all_retold tell) same, ed), inl refl)
-
-module _ (table : List (Place ℕ)) (h : Text) (s : List ℕ) (first last p from : ℕ) (rounds : List ℕ)
-    (now : ℕ) (i : Told) (f : ℕ → Thread) (k n : ℕ) (g : ℕ → Thread) (m : ℕ) (best : Best) where
-  abbrev State : List Frame → Type 0
-  State frames = IsWalking table h s first last p from rounds now i [] frames f k n g m best
-
-  loosened : (frames frames' : List Frame) → Loosens frames frames' → State frames → State frames'
-  loosened frames frames' (inl e) u = subst State (sym e) u
-  loosened frames frames' (inr (to, slot, old, rest, e, e')) u =
-      subst State (sym e') (restored (subst State e u))
+  look_alike : (b b' : Bool) → b ≡ b' → (to : ℕ)
+      → state_retold tell (if b then pushing m (explore to ∷ []) else m)
+      ≡ (if b' then pushing (state_retold tell m) (explore to ∷ []) else state_retold tell m)
+  look_alike b b' e to =
+      again b
+      ∙ ap (λ z. if z then pushing (state_retold tell m) (explore to ∷ [])
+      else state_retold tell m) e
     where
-      restored : State (explore to ∷ rest) → State (explore to ∷ (restore slot old ∷ rest))
-      restored u = record {
-        recorded = u.recorded;
-        under = u.under;
-        later = u.later;
-        coming = u.coming;
-        way = u.way;
-        in_step = u.in_step;
-        seen = u.seen;
-        met = u.met;
-        frames_hold = u.frames_hold;
-        later_hold = u.later_hold;
-        later_all = u.later_all;
-        coming_hold = u.coming_hold;
-        coming_all = u.coming_all;
-        best_holds = u.best_holds;
-      }
+      again : (b : Bool) → state_retold tell (if b then pushing m (explore to ∷ []) else m)
+          ≡ (if b then pushing (state_retold tell m) (explore to ∷ []) else state_retold tell m)
+      again true = refl
+      again false = refl
+
+  module _ (e : State) (done : Bool) where
+    abbrev EntersAgain : code.Place → Type 0
+    EntersAgain x =
+        (other : List Frame)
+        × Enters there (tell i) x (state_retold tell m)
+        (record (state_retold tell e) { frames = other }) done
+        × Loosens other e.frames
+
+    pub enters_again : (x : code.Place) → FitsAlike (place_of x) here there
+        → Enters here i x m e done → EntersAgain x
+    enters_again (stored.Empty to) alike (same, ed) =
+        (e.frames, (ap (state_retold tell) same, ed), inl refl)
+    enters_again (stored.Char c to) alike (same, ed) = (
+      e.frames,
+      (
+        ap (state_retold tell) same
+            ∙ reads_alike (reads (just c) here.after) (reads (just c) there.after) alike.0 to,
+        ed,
+      ),
+      inl refl,
+    )
+    enters_again (stored.Class to set) alike (same, ed) = (
+      e.frames,
+      (
+        ap (state_retold tell) same
+            ∙ reads_alike (reads (in_ranges set) here.after) (reads (in_ranges set) there.after)
+            (class_alike set to alike) to,
+        ed,
+      ),
+      inl refl,
+    )
+    enters_again (stored.Look l to) alike (same, ed) = (
+      e.frames,
+      (
+        ap (state_retold tell) same
+            ∙ look_alike (holds_between l here.before here.after)
+            (holds_between l there.before there.after) alike.0 to,
+        ed,
+      ),
+      inl refl,
+    )
+    enters_again (stored.Slot slot to) alike (inl (within, inl same), ed) = (
+      explore to ∷ m.frames,
+      (
+        inr (
+          omega arith,
+          ap (λ (z : State). record (state_retold tell z) {
+            frames = explore to ∷ m.frames;
+          }) same,
+        ),
+        ed,
+      ),
+      inr (
+        to,
+        slot,
+        slice_index_or m.row slot None,
+        m.frames,
+        refl,
+        ap (λ (z : State). z.frames) same,
+      ),
+    )
+    enters_again (stored.Slot slot to) alike (inl (within, inr (none, same)), ed) =
+        (e.frames, (inr (omega arith, ap (state_retold tell) same), ed), inl refl)
+    enters_again (stored.Slot slot to) alike (inr (past, same), ed) =
+        (e.frames, (inr (omega arith, ap (state_retold tell) same), ed), inl refl)
+    enters_again (stored.Choice a b) alike (same, ed) =
+        (e.frames, (ap (state_retold tell) same, ed), inl refl)
+    enters_again (stored.Branches all) alike (same, ed) =
+        (e.frames, (ap (state_retold tell) same, ed), inl refl)
+    enters_again stored.Match alike (same, ed) =
+        (e.frames, (ap (state_retold tell) same, ed), inl refl)
+
+module _ (table : List (Place ℕ)) (at : SearchAt) (m : State) (i : Told) (ways : List Thread)
+    (best : Best) where
+  abbrev Walks : List Frame → Type 0
+  Walks frames = IsWalking table at (record m { row = []; frames = frames }) i ways best
+
+  loosened : (frames frames' : List Frame) → Loosens frames frames' → Walks frames → Walks frames'
+  loosened frames frames' (inl e) u = subst Walks (sym e) u
+  loosened frames frames' (inr (to, slot, old, rest, e, e')) u =
+      let u' = subst Walks e u in
+      subst Walks (sym e')
+      (walk_framed table at (record m { row = []; frames = explore to ∷ rest }) i ways best u' i []
+      (explore to ∷ (restore slot old ∷ rest)) u'.frames_hold)
+
+-- so they are where nothing is left to do
+loose_if : (done : Bool) (frames frames' : List Frame) → Loosens frames frames'
+    → Loosens (if done then [] else frames) (if done then [] else frames')
+loose_if true frames frames' loose = inl refl
+loose_if false frames frames' loose = loose
 
 -- a new place was entered, and so it would be there
 pub entered_again : (table : List (Place ℕ)) (here there : Here) (i : Told) (tell : Told → Told)
-    (now : ℕ) (rounds rounds' : List ℕ) (row row' : Row) (q : ℕ) (x : code.Place)
-    (fs fs' fs'' : List Frame)
-    (t t' : List Thread) (done : Bool) →
-    q < length rounds → (slice_index rounds q ≡ now → ⊥) → rounds' ≡ slice_set rounds q now
-    → slice_get table q ≡ Some (place_of x) → FitsAlike (place_of x) here there →
-    Enters here i x row fs t row' fs' t' done → fs'' ≡ (if done then [] else fs') →
-    WalksTo table there (tell i) now rounds [] (explore q ∷ fs) (all_retold tell t) rounds' [] fs''
-    (all_retold tell t') done
-entered_again table here there i tell now rounds rounds' row row' q x fs fs' fs'' t t' done short
-    new er at alike enters ef =
-    go (enters_again here there i tell x row row' fs fs' t t' done alike enters) done refl
-  where
-    go : EntersAgain here there i tell x fs t fs' t' done → (b : Bool) → done ≡ b
-        → WalksTo table there (tell i) now rounds [] (explore q ∷ fs)
-        (all_retold tell t) rounds' [] fs'' (all_retold tell t') done
-    go (other, again, loose) true d = λ h p is s first last from f k n best w.
-        subst (λ b. IsWalking table h s first last p from rounds' now (tell i) [] fs'' f
-        (if b then n else k) n (thread_at (all_retold tell t')) (length (all_retold tell t'))
-        (if b then Some (tell i, there.at, []) else best)) (sym d)
-        (subst (λ z. IsWalking table h s first last p from z now (tell i) [] fs'' f n n (thread_at
-        (all_retold tell t')) (length (all_retold tell t')) (Some (tell i, there.at, []))) (sym er)
-        (subst (λ z. IsWalking table h s first last p from (slice_set rounds q now) now
-        (tell i) [] z f n n (thread_at (all_retold tell t')) (length (all_retold tell t'))
-        (Some (tell i, there.at, []))) (sym (ef ∙ ap (λ b. if b then [] else fs') d))
-        (walk_enters table h s first last p from now
-        (tell i) f k n best rounds [] q fs short new there is (all_retold tell t) w x [] other
-        (all_retold tell t') true (ap (λ o. unwrap_or o (with_arrows [])) at)
-        (subst (λ b. Enters there (tell i) x [] fs (all_retold tell t) [] other
-        (all_retold tell t') b) d again))))
-    go (other, again, loose) false d = λ h p is s first last from f k n best w.
-        subst (λ b. IsWalking table h s first last p from rounds' now (tell i) [] fs'' f
-        (if b then n else k) n (thread_at (all_retold tell t')) (length (all_retold tell t'))
-        (if b then Some (tell i, there.at, []) else best)) (sym d)
-        (subst (λ z. IsWalking table h s first last p from z now (tell i) [] fs'' f k n
-        (thread_at (all_retold tell t')) (length (all_retold tell t')) best) (sym er)
-        (subst (λ z. IsWalking table h s first last p from (slice_set rounds q now) now
-        (tell i) [] z f k n (thread_at (all_retold tell t')) (length (all_retold tell t')) best)
-        (sym (ef ∙ ap (λ b. if b then [] else fs') d))
-        (loosened table h s first last p from (slice_set rounds q now) now (tell i) f k n
-        (thread_at (all_retold tell t')) (length (all_retold tell t')) best other fs' loose
-        (walk_enters table h s first last p from now
-        (tell i) f k n best rounds [] q fs short new there is (all_retold tell t) w x [] other
-        (all_retold tell t') false (ap (λ o. unwrap_or o (with_arrows [])) at)
-        (subst (λ b. Enters there (tell i) x [] fs (all_retold tell t) [] other
-        (all_retold tell t') b) d again)))))
-
--- a thread of the list, with another start
-pub thread_retold : (tell : Told → Told) (ts : List Thread) (k : ℕ) → k < length ts
-    → thread_at (all_retold tell ts) k ≡ retold tell (thread_at ts k)
-thread_retold tell [] k lt = absurd (omega (arith, lt))
-thread_retold tell (t ∷ ts) zero lt = refl
-thread_retold tell (t ∷ ts) (suc k) lt = thread_retold tell ts k (omega (arith, lt))
-
-pub all_retold_len : (tell : Told → Told) (ts : List Thread)
-    → length (all_retold tell ts) ≡ length ts
-all_retold_len tell ts = length-map ts (retold tell)
+    (m : State) (q : ℕ) (x : code.Place) (e : State) (done : Bool)
+    → q < length m.rounds → (slice_index m.rounds q ≡ m.now → ⊥)
+    → slice_get table q ≡ Some (place_of x) → FitsAlike (place_of x) here there
+    → Enters here i x (marked_in m q) e done
+    → WalksTo table there (tell i) (state_retold tell (record m { frames = explore q ∷ m.frames }))
+    (state_retold tell (record e { frames = if done then [] else e.frames })) done
+entered_again table here there i tell m q x e done short new here_at alike enters =
+    λ at is ways best u.
+    let (other, again, loose) =
+    enters_again here there i tell (marked_in m q) e done x alike enters in
+    let e' = record (state_retold tell e) { frames = other } in
+    loosened table at e' (tell i) (if done then [] else ways)
+    (if done then Some (tell i, there.at, []) else best) (if done then [] else other)
+    (if done then [] else e.frames) (loose_if done other e.frames loose)
+    (walk_enters table at (state_retold tell m) (tell i) ways best q short u new there is x e' done
+    (ap (λ o. unwrap_or o (with_arrows [])) here_at) again)
 
 -- the threads that begin there, with other starts
 begun_retold : (tell : Told → Told) (told : ℕ → Told) (row : Row) (starts : List Start)

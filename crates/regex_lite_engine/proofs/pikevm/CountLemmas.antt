@@ -1,5 +1,5 @@
 -- What was counted stays counted, from one step to the next.
-use Rattle.std.proofs.Common.{arith}
+use Rattle.std.proofs.Common.{◌≡◌, ◌+◌, ap, ◌∙◌, arith}
 use Rattle.regex_lite_engine.specs.Search.Bounds.{StepCounts, StaysCounted}
 
 pub counted_at_first : (steps : StepCounts) → StaysCounted steps steps
@@ -20,3 +20,17 @@ still_counted first second third before after =
       entered = omega (arith, entered, more_entered);
       looked = omega (arith, looked, more_looked);
     }
+
+-- a place was entered and looked up
+pub counted_all : (w tried entered looked : StepCounts) → tried ≡ record w { tried = w.tried + 1 }
+    → entered ≡ record tried { entered = tried.entered + 1 }
+    → looked ≡ record entered { looked = entered.looked + 1 }
+    → looked ≡ record {
+      tried = w.tried + 1;
+      entered = w.entered + 1;
+      looked = w.looked + 1;
+    }
+counted_all w tried entered looked one two three =
+    three
+    ∙ ap (λ (c : StepCounts). record c { looked = c.looked + 1 })
+    (two ∙ ap (λ (c : StepCounts). record c { entered = c.entered + 1 }) one)

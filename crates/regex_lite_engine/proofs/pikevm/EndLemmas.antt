@@ -4,9 +4,9 @@ use Rattle.std.proofs.Common.{true, false, List, [], ◌∷◌, length, slice_ge
 use Rattle.std.proofs.Common.{None, if◌then◌else◌, IsTrue, refl, sym, ap, subst, ◌∙◌, arith}
 use Rattle.std.specs.Option.{IsSome}
 use Rattle.std.proofs.lemmas.List.{nil_from_length}
-use Rattle.std.proofs.lemmas.Bool.{cases_lt, cases_eq}
+use Rattle.std.proofs.lemmas.Bool.{cases_lt}
 use Rattle.std.proofs.lemmas.Option.{slice_get_within}
-use Rattle.std.proofs.Math.Nat.{mul-le-mul_left, mul-suc}
+use Rattle.std.proofs.Math.Nat.{mul-suc}
 use Rattle.regex_lite_syntax.specs.Text.{Text, before, after}
 use Rattle.regex_lite_syntax.specs.Tree.Looks.{holds_between}
 use Rattle.regex_lite_engine.specs.declared.search.here.Here.{Here}
@@ -24,10 +24,11 @@ use Rattle.regex_lite_engine.specs.Search.Standing.{IsHere}
 use Rattle.regex_lite_engine.specs.Pikevm.Outcomes.{IsBestOutcome, IsBestOutcomeOf}
 use Rattle.regex_lite_engine.specs.Pikevm.Turns.{IsComing, FromIs}
 use Rattle.regex_lite_engine.specs.Pikevm.Machine.{Thread}
-use Rattle.regex_lite_engine.specs.Pikevm.Walking.{Node, Best, BestHolds, InStep}
+use Rattle.regex_lite_engine.specs.Pikevm.Walking.{Node, Best, BestHolds, InStep, ThreadsHold}
 use Rattle.regex_lite_engine.proofs.laws.several.OverListLemmas.{list_answer_when_over}
-use Rattle.regex_lite_engine.proofs.pikevm.TurnLemmas.{only_entry}
-use Rattle.regex_lite_engine.proofs.search.OptionLemmas.{not_there, same_some}
+use Rattle.regex_lite_engine.proofs.search.OneStartLemmas.{only_entry}
+use Rattle.regex_lite_engine.proofs.pikevm.WalkLemmas.{none_held}
+use Rattle.regex_lite_engine.proofs.OptionLemmas.{not_there, same_some}
 use Rattle.regex_lite_engine.proofs.search.PositionLemmas as deep
 
 taken_in_text : (h : Text) (a : Condition) (i j : ℕ) → i ≤ length h → taken h a i ≡ Some j
@@ -157,7 +158,10 @@ module _ (table : List (Place ℕ)) (h : Text) (s : List ℕ) (first : ℕ) wher
           with_none (nothing_beyond (p + 1) u.from u.recorded u.coming u.way (omega (arith, same))
           u.in_step u.before (omega (arith, same))) (at_end best u.best_holds u.from_is same)
       go (inr (some, empty)) =
-          let all = u.all in with_none (nil_from_length u.coming (omega (arith, all, empty)))
+          with_none
+          (none_held table h s (p + 1) u.coming
+          (subst (λ ts. ThreadsHold table h s (p + 1) ts u.coming) (nil_from_length cur empty)
+          u.hold))
           (inr (way_of best u.best_holds some))
 
 -- of one pattern
@@ -180,19 +184,6 @@ bound_more a b p s m low so_far more =
     let next : p + 1 - s ≡ suc (p - s) = omega arith in
     let e : m * (p + 1 - s) ≡ m * (p - s) + m = ap (λ z. m * z) next ∙ mul-suc m (p - s) in
     omega (arith, e, so_far, more)
-
-pub bound_all : (a p s l m : ℕ) → s ≤ p → p ≤ l → a ≤ m * (p - s) → a + m ≤ m * (l - s + 1)
-bound_all a p s l m low high so_far =
-    let e : m * suc (p - s) ≡ m * (p - s) + m = mul-suc m (p - s) in
-    let le : m * suc (p - s) ≤ m * (l - s + 1) = mul-le-mul_left m (omega arith) in
-    omega (arith, e, le, so_far)
-
-pub step_below : (p l : ℕ) (r : Bool) → r ≡ false → (p ≡ l → IsTrue r) → p ≤ l → p + 1 ≤ l
-step_below p l r e f le = go (cases_eq p l)
-  where
-    go : (p ≡ l) ⊎ (p ≡ l → ⊥) → p + 1 ≤ l
-    go (inl d) = let t : IsTrue r = f d in cc
-    go (inr d) = omega (arith, le, d)
 
 -- at the end of the text
 pub over_at : {Q : Type 0} (h : Text) (p : ℕ) (x : Here) → IsHere h p x → (x.after ≡ None) ⊎ Q

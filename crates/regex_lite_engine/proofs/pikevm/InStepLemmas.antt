@@ -6,15 +6,12 @@ use Rattle.regex_lite_engine.specs.Search.Preference.{IsPreferred}
 use Rattle.regex_lite_engine.specs.Search.Explored.{NotAfter, IsAnswered, IsGrown}
 use Rattle.regex_lite_engine.specs.Pikevm.InStep as walk
 use Rattle.regex_lite_engine.specs.Pikevm.InStep.{StartsBelow}
+use Rattle.regex_lite_engine.proofs.search.RecordLemmas.{or_dead}
 use Rattle.regex_lite_engine.proofs.search.OfferLemmas as order
 use Rattle.regex_lite_engine.proofs.search.OfferLemmas.{preferred_before, preferred_append}
 use Rattle.regex_lite_engine.proofs.search.OfferLemmas.{preferred_longer, below_append}
 use Rattle.regex_lite_engine.proofs.search.RecordLemmas as records
 use Rattle.regex_lite_engine.proofs.laws.search.WayOrderLemmas.{NotAfter-trans, NotAfter-append}
-
-pub or_dead : {A B D : Type 0} → (A → B) → A ⊎ D → B ⊎ D
-or_dead f (inl a) = inl (f a)
-or_dead f (inr d) = inr d
 
 module _ (N : Type 0) (step : N → ℕ → Option N) (same : (x y : N) → (x ≡ y) ⊎ (x ≡ y → ⊥))
     (width : N → ℕ) (no_more : (n : N) (k : ℕ) → width n ≤ k → step n k ≡ None)

@@ -5,28 +5,27 @@ use Rattle.std.proofs.Common.{if◌then◌else◌, Option, Some, sym, ap, subst,
 use Rattle.std.proofs.lemmas.Bool.{ne_eqb}
 use Rattle.std.proofs.lemmas.List.{length-take}
 use Rattle.std.proofs.lemmas.List.Sums.{sum_by-cons}
-use Rattle.regex_lite_syntax.specs.Text.{Text}
 use Rattle.regex_lite_engine.specs.Graph.Parts.{IsOwnPart, IsWithin, row_of}
 use Rattle.regex_lite_engine.specs.Graph.Places.{Place}
 use Rattle.regex_lite_engine.specs.Pikevm.InStep.{Offer}
 use Rattle.regex_lite_engine.specs.Search.NumberedAnswer.{numbered_step, is_end}
 use Rattle.regex_lite_engine.specs.Search.NumberedList.{StartsOf}
 use Rattle.regex_lite_engine.specs.Pikevm.Room.{left_of}
-use Rattle.regex_lite_engine.specs.Pikevm.Walking.{Node, InStep}
+use Rattle.regex_lite_engine.specs.Pikevm.Walking.{Node, InStep, SearchAt}
 use Rattle.regex_lite_engine.proofs.laws.search.NumberedWayLemmas.{leads_within}
 use Rattle.regex_lite_engine.proofs.laws.search.RecordedWayLemmas.{traced}
 
 -- what is recorded is a place of the part
-pub recorded_within : (table : List (Place ℕ)) (h : Text) (s : List ℕ) (first last low len : ℕ)
-    → IsOwnPart table s low len → (p from : ℕ) (recorded : Node → Option (List ℕ))
+pub recorded_within : (table : List (Place ℕ)) (at : SearchAt) (low len : ℕ)
+    → IsOwnPart table at.entries low len → (recorded : Node → Option (List ℕ))
     (now next : List (Offer Node)) (way : Option (List ℕ))
-    → InStep table h s first last p from recorded now next way
+    → InStep table at.haystack at.entries at.first at.last at.p at.from recorded now next way
     → (n : Node) (v : List ℕ) → recorded n ≡ Some v → IsWithin low len n.0
-recorded_within table h s first last low len part p from recorded now next way in_step n v known =
-    let t = traced Node (numbered_step table h) (is_end table h)
-    (StartsOf s first last) recorded way in_step.grown n v known in
+recorded_within table at low len part recorded now next way in_step n v known =
+    let t = traced Node (numbered_step table at.haystack) (is_end table at.haystack)
+    (StartsOf at.entries at.first at.last) recorded way in_step.grown n v known in
     let (i, number, entry, above, below, is_entry, front, start) = t.is_start in
-    leads_within h table (IsWithin low len) within part.closed t.arrows t.start n
+    leads_within at.haystack table (IsWithin low len) within part.closed t.arrows t.start n
     (subst (λ (z : Node). IsWithin low len z.0) (sym start) (part.entered number entry is_entry))
     t.along
   where

@@ -1,5 +1,6 @@
 -- What holds of a search between two positions, from its start to its end.
 use Rattle.std.proofs.Common.{ℕ, ◌+◌, ◌-◌, ◌*◌, ◌≤◌, List, length, ap, sym, subst, arith}
+use Rattle.std.proofs.Common.{inl, inr}
 use Rattle.std.proofs.Math.Nat.{mul-le-mul_left}
 use Rattle.regex_lite_syntax.specs.Text.{Text}
 use Rattle.regex_lite_engine.specs.declared.pikevm.cache.Cache.{Cache}
@@ -8,11 +9,15 @@ use Rattle.regex_lite_engine.specs.Graph.Places.{Place}
 use Rattle.regex_lite_engine.specs.Graph.Renumbered.{arrows_of}
 use Rattle.regex_lite_engine.specs.Search.Bounds.{IsBoundedBy}
 use Rattle.regex_lite_engine.specs.Pikevm.Outcomes.{IsFresh}
-use Rattle.regex_lite_engine.specs.Pikevm.Passing.{IsUnderWay}
+use Rattle.regex_lite_engine.specs.Pikevm.Machine.{Thread}
+use Rattle.regex_lite_engine.specs.Pikevm.Passing.{GoesOnAt, IsUnderWay}
 use Rattle.regex_lite_engine.specs.Pikevm.Turns.{IsComing}
+use Rattle.regex_lite_engine.specs.Pikevm.Walking.{Best}
+use Rattle.regex_lite_engine.specs.declared.search.here.Here.{Here}
+use Rattle.regex_lite_engine.specs.Search.Standing.{IsHere}
 use Rattle.regex_lite_engine.proofs.pikevm.EndLemmas.{bound_more}
 use Rattle.regex_lite_engine.proofs.search.SkipLemmas.{bound_later}
-use Rattle.regex_lite_engine.proofs.pikevm.TurnLemmas.{none_coming}
+use Rattle.regex_lite_engine.proofs.pikevm.TurnLemmas.{jumped, none_coming}
 
 module _ (table : List (Place ℕ)) (haystack : Text) (entries : List ℕ) (s : ℕ) where
   -- a search that has not begun
@@ -96,3 +101,26 @@ module _ (table : List (Place ℕ)) (haystack : Text) (entries : List ℕ) (s : 
     where
       within : (q : ℕ) → s ≤ q → q ≤ length haystack → q + 1 - s ≤ length haystack - s + 1
       within q low high = omega (arith, low, high)
+
+-- where a search stands after the positions that it passes over
+pub record Onward (table : List (Place ℕ)) (h : Text) (s : List ℕ) (first last p : ℕ)
+    (threads : List Thread) (best : Best) (x : Here) : Type 0 where
+  pub q : ℕ
+  pub later : p ≤ q
+  pub is : IsHere h q x
+  pub coming : IsComing table h s first last q threads best
+
+pub onward : (table : List (Place ℕ)) (h : Text) (s : List ℕ) (first last p : ℕ)
+    (threads : List Thread)
+    (best : Best) (x : Here) → GoesOnAt table h s threads best p x
+    → IsComing table h s first last p threads best → Onward table h s first last p threads best x
+onward table h s first last p threads best x (inl is) u =
+    record { q = p; later = omega arith; is = is; coming = u }
+onward table h s first last p threads best x (inr (empty, none, w)) u = record {
+  q = w.q;
+  later = w.later;
+  is = w.is;
+  coming = subst (λ z. IsComing table h s first last w.q threads z) (sym none)
+      (jumped table h s first last p w.q threads empty w.later w.passed
+      (subst (λ z. IsComing table h s first last p threads z) none u));
+}

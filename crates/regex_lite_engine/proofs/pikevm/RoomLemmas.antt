@@ -1,7 +1,8 @@
 -- What entering a place takes of what is left, and what it adds to frames and threads.
 use Rattle.std.proofs.Common.{rules, ◌≡◌, ℕ, zero, suc, ◌+◌, ◌<◌, ◌≤◌, ◌⊎◌, inl, inr}
 use Rattle.std.proofs.Common.{Bool, true, false, List, [], ◌∷◌, ◌++◌, length, set, map}
-use Rattle.std.proofs.Common.{slice_get, slice_index, sum_by, if◌then◌else◌, ◌==◌, Some}
+use Rattle.std.proofs.Common.{slice_get, slice_index, slice_index_or, slice_set, sum_by}
+use Rattle.std.proofs.Common.{if◌then◌else◌, ◌==◌, Some, None}
 use Rattle.std.proofs.Common.{refl, sym, ap, subst, ◌∙◌, arith, length-append, length-set}
 use Rattle.std.proofs.lemmas.List.{length-map}
 use Rattle.std.proofs.lemmas.List.Sums.{sum_by-cons}
@@ -9,23 +10,24 @@ use Rattle.std.proofs.lemmas.Bool.{cases_lt}
 use Rattle.std.proofs.lemmas.Bool.Decides.{nat_tests}
 use Rattle.regex_lite_syntax.specs.declared.class.ClassRange.{ClassRange}
 use Rattle.regex_lite_syntax.specs.Ranges.{in_ranges}
-use Rattle.regex_lite_syntax.specs.Sets.{just}
+use Rattle.regex_lite_syntax.specs.Sets.{Set, just}
 use Rattle.regex_lite_syntax.specs.Tree.Looks.{holds_between}
 use Rattle.regex_lite_engine.specs.Pikevm.Beginnings.{Told}
 use Rattle.regex_lite_engine.specs.declared.nfa.place.Place as code
 use Rattle.regex_lite_engine.specs.declared.nfa.place.Place.TheVariants as stored
 use Rattle.regex_lite_engine.specs.declared.search.here.Here.{Here}
-use Rattle.regex_lite_engine.specs.Graph.Places.{Place, with_arrows, go, one_of}
+use Rattle.regex_lite_engine.specs.Graph.Places.{Place, with_arrows, go, go_marking}
+use Rattle.regex_lite_engine.specs.Graph.Places.{go_reading, one_of}
 use Rattle.regex_lite_engine.specs.Graph.Places.{kept_back, reading_count}
 use Rattle.regex_lite_engine.specs.Graph.Renumbered.{arrow_count}
 use Rattle.regex_lite_engine.specs.Graph.Stored.{LeadBelow, LeadsBelow, place_of}
-use Rattle.regex_lite_engine.specs.Pikevm.Entering.{Enters, reads, ReadsOn, Pushed, Same}
-use Rattle.regex_lite_engine.specs.Pikevm.Machine.{Row, Frame, explore, Thread, thread_at}
+use Rattle.regex_lite_engine.specs.Pikevm.Entering.{Enters, pushing, reading_on, reads}
+use Rattle.regex_lite_engine.specs.Pikevm.Machine.{Frame, explore, restore, State, Thread}
+use Rattle.regex_lite_engine.specs.Pikevm.Machine.{thread_at}
 use Rattle.regex_lite_engine.specs.Pikevm.Room.{left_of, explores, FramesBelow, ThreadsBelow}
 use Rattle.regex_lite_engine.proofs.pikevm.EnterLemmas.{reads_none}
-use Rattle.regex_lite_engine.proofs.search.OptionLemmas.{not_there, same_some}
-use Rattle.regex_lite_engine.proofs.pikevm.ThreadLemmas.{same_len, same_at, pushed_len}
-use Rattle.regex_lite_engine.proofs.pikevm.ThreadLemmas.{pushed_last, pushed_kept}
+use Rattle.regex_lite_engine.proofs.OptionLemmas.{not_there, same_some}
+use Rattle.regex_lite_engine.proofs.pikevm.ThreadLemmas.{at_end, at_front}
 
 test_same : (n x : ℕ) → (if n == n then 0 else x) ≡ 0
 test_same n x = go (n == n) (search (rules, nat_tests))
@@ -85,250 +87,134 @@ pub entries_kept : (qs : List ℕ) → length qs ≤ kept_back (with_arrows (map
 entries_kept [] = omega arith
 entries_kept (q ∷ qs) = omega (arith, length-map qs (λ (q : ℕ). go q))
 
-module _ (here : Here) (i : Told) (row row' : Row) (fs fs' : List Frame) (t t' : List Thread)
-    (done : Bool) where
-  abbrev Few : (added : ℕ) → Type 0
-  Few added =
-      (explores fs' + (length t') ≤ explores fs + (length t) + added)
-      × (length fs' ≤ length fs + (added + 1)) × (length row' ≡ length row)
-      × ((length t) ≤ (length t'))
-
-  few_stay : (more added : ℕ) → explores fs' ≡ explores fs + more → length fs' ≡ length fs + more
-      → more ≤ added → length row' ≡ length row → Same t t' → Few added
-  few_stay more added ee el le er same = let c : length t' ≡ length t = same_len same in
-      (omega (arith, ee, c, le), omega (arith, el, le), er, omega (arith, c))
-
-  few_read : (b : Bool) (thread : Thread) → fs' ≡ fs → row' ≡ row → ReadsOn b t t' thread → Few 1
-  few_read true thread ef er pushed =
-      let a : explores fs' ≡ explores fs = ap explores ef in
-      let b : length fs' ≡ length fs = ap length ef in
-      let d : length t' ≡ length t + 1 = pushed_len t t' _ pushed in
-      (omega (arith, a, d), omega (arith, b), ap length er, omega (arith, d))
-  few_read false thread ef er same =
-      let a : explores fs' ≡ explores fs = ap explores ef in
-      let b : length fs' ≡ length fs = ap length ef in
-      few_stay 0 1 (omega (arith, a)) (omega (arith, b)) (omega arith) (ap length er) same
-
-  few_class : (ranges : List ClassRange) (to : ℕ) (thread : Thread) → fs' ≡ fs → row' ≡ row
-      → ReadsOn (reads (in_ranges ranges) here.after) t t' thread →
-      Few (arrow_count (one_of ranges to))
-  few_class [] to thread ef er read =
-      let a : explores fs' ≡ explores fs = ap explores ef in
-      let b : length fs' ≡ length fs = ap length ef in
-      few_stay 0 0 (omega (arith, a)) (omega (arith, b)) (omega arith) (ap length er)
-      (subst (λ b. ReadsOn b t t' thread) (reads_none here.after) read)
-  few_class (r ∷ rs) to thread ef er read =
-      few_read (reads (in_ranges (r ∷ rs)) here.after) thread ef er read
-
-  few_pushed : (qs : List ℕ) → fs' ≡ map (λ q. explore q) qs ++ fs → row' ≡ row → Same t t'
-      → Few (length qs)
-  few_pushed qs ef er same =
-      few_stay (length qs) (length qs) (ap explores ef ∙ explores-map qs fs)
-      (let b : length fs' ≡ length qs + length fs =
-      ap length ef ∙ length-append (map (λ q. explore q) qs) fs
-      ∙ ap (λ n. n + length fs) (length-map qs (λ q. explore q)) in
-      omega (arith, b))
-      (omega arith) (ap length er) same
-
-  -- the frames and threads that are added
-  pub enters_few : (x : code.Place) → Enters here i x row fs t row' fs' t' done
-      → Few (arrow_count (place_of x))
-  enters_few (stored.Empty to) (er, ef, same, ed) = few_pushed (to ∷ []) ef er same
-  enters_few (stored.Char c to) (er, ef, read, ed) =
-      few_read (reads (just c) here.after) (to, i, row) ef er read
-  enters_few (stored.Class to set) (er, ef, read, ed) = few_class set to (to, i, row) ef er read
-  enters_few (stored.Look l to) (er, ef, same, ed) =
-      by_test (holds_between l here.before here.after) ef
-    where
-      by_test : (b : Bool) → fs' ≡ (if b then explore to ∷ fs else fs) → Few 1
-      by_test true e = few_pushed (to ∷ []) e er same
-      by_test false e =
-          let a : explores fs' ≡ explores fs = ap explores e in
-          let b : length fs' ≡ length fs = ap length e in
-          few_stay 0 1 (omega (arith, a)) (omega (arith, b)) (omega arith) (ap length er) same
-  enters_few (stored.Slot slot to) (inl (within, er, inr (none, ef)), same, ed) =
-      let a : explores fs' ≡ explores fs + 1 = ap explores ef in
-      let b : length fs' ≡ suc (length fs) = ap length ef in
-      let c : length t' ≡ length t = same_len same in (
-        omega (arith, a, c),
-        omega (arith, b),
-        ap length er ∙ length-set row slot (Some here.at),
-        omega (arith, c),
-      )
-  enters_few (stored.Slot slot to) (inl (within, er, inl ef), same, ed) =
-      let a : explores fs' ≡ explores fs + 1 = ap explores ef in
-      let b : length fs' ≡ suc (suc (length fs)) = ap length ef in
-      let c : length t' ≡ length t = same_len same in (
-        omega (arith, a, c),
-        omega (arith, b),
-        ap length er ∙ length-set row slot (Some here.at),
-        omega (arith, c),
-      )
-  enters_few (stored.Slot slot to) (inr (past, er, ef), same, ed) = few_pushed (to ∷ []) ef er same
-  enters_few (stored.Choice a b) (er, ef, same, ed) = few_pushed (a ∷ (b ∷ [])) ef er same
-  enters_few (stored.Branches all) (er, ef, same, ed) =
-      subst Few (sym (length-map all.items (λ q. go q))) (few_pushed all.items ef er same)
-  enters_few stored.Match (er, ef, same, ed) =
-      let a : explores fs' ≡ explores fs = ap explores ef in
-      let b : length fs' ≡ length fs = ap length ef in
-      few_stay 0 0 (omega (arith, a)) (omega (arith, b)) (omega arith) (ap length er) same
-
-  -- what it leaves on the stack, its own frame among it
-  keeps_pushed : (qs : List ℕ) → fs' ≡ map (λ q. explore q) qs ++ fs
-      → length fs' ≤ length fs + length qs
-  keeps_pushed qs ef =
-      let b : length fs' ≡ length qs + length fs =
-      ap length ef ∙ length-append (map (λ q. explore q) qs) fs
-      ∙ ap (λ n. n + length fs) (length-map qs (λ q. explore q)) in
-      omega (arith, b)
-
-  pub enters_keeps : (x : code.Place) → Enters here i x row fs t row' fs' t' done
-      → length fs' ≤ length fs + (kept_back (place_of x) + 1)
-  enters_keeps (stored.Empty to) (er, ef, same, ed) =
-      let e = keeps_pushed (to ∷ []) ef in omega (arith, e)
-  enters_keeps (stored.Char c to) (er, ef, read, ed) =
-      let e = keeps_pushed [] ef in omega (arith, e)
-  enters_keeps (stored.Class to set) (er, ef, read, ed) =
-      let e = keeps_pushed [] ef in omega (arith, e)
-  enters_keeps (stored.Look l to) (er, ef, same, ed) =
-      by_test (holds_between l here.before here.after) ef
-    where
-      by_test : (b : Bool) → fs' ≡ (if b then explore to ∷ fs else fs) → length fs' ≤ length fs + 1
-      by_test true e = let le = keeps_pushed (to ∷ []) e in omega (arith, le)
-      by_test false e = let le = keeps_pushed [] e in omega (arith, le)
-  enters_keeps (stored.Slot slot to) (inl (within, er, inr (none, ef)), same, ed) =
-      let e = keeps_pushed (to ∷ []) ef in omega (arith, e)
-  enters_keeps (stored.Slot slot to) (inl (within, er, inl ef), same, ed) =
-      let b : length fs' ≡ suc (suc (length fs)) = ap length ef in omega (arith, b)
-  enters_keeps (stored.Slot slot to) (inr (past, er, ef), same, ed) =
-      let e = keeps_pushed (to ∷ []) ef in omega (arith, e)
-  enters_keeps (stored.Choice a b) (er, ef, same, ed) =
-      let e = keeps_pushed (a ∷ (b ∷ [])) ef in omega (arith, e)
-  enters_keeps (stored.Branches all) (er, ef, same, ed) =
-      let e = keeps_pushed all.items ef in let n = entries_kept all.items in omega (arith, e, n)
-  enters_keeps stored.Match (er, ef, same, ed) = let e = keeps_pushed [] ef in omega (arith, e)
-
-  -- there is one more thread at most, and only where the place reads
-  more_read : (b : Bool) (thread : Thread) → ReadsOn b t t' thread → length t' ≤ length t + 1
-  more_read true thread pushed =
-      let e : length t' ≡ length t + 1 = pushed_len t t' _ pushed in omega (arith, e)
-  more_read false thread same = let e : length t' ≡ length t = same_len same in omega (arith, e)
-
-  class_reads : (ranges : List ClassRange) (to : ℕ) (thread : Thread)
-      → ReadsOn (reads (in_ranges ranges) here.after) t t' thread
-      → length t' ≤ length t + reading_count (one_of ranges to)
-  class_reads [] to thread read =
-      not_more 0 (subst (λ b. ReadsOn b t t' thread) (reads_none here.after) read)
-    where
-      not_more : (n : ℕ) → Same t t' → length t' ≤ length t + n
-      not_more n same = let e : length t' ≡ length t = same_len same in omega (arith, e)
-  class_reads (r ∷ rs) to thread read =
-      more_read (reads (in_ranges (r ∷ rs)) here.after) thread read
-
-  pub enters_reads : (x : code.Place) → Enters here i x row fs t row' fs' t' done
-      → length t' ≤ length t + reading_count (place_of x)
-  enters_reads (stored.Empty to) (er, ef, same, ed) =
-      let e : length t' ≡ length t = same_len same in omega (arith, e)
-  enters_reads (stored.Char c to) (er, ef, read, ed) =
-      more_read (reads (just c) here.after) (to, i, row) read
-  enters_reads (stored.Class to set) (er, ef, read, ed) = class_reads set to (to, i, row) read
-  enters_reads (stored.Look l to) (er, ef, same, ed) =
-      let e : length t' ≡ length t = same_len same in omega (arith, e)
-  enters_reads (stored.Slot slot to) (marked, same, ed) =
-      let e : length t' ≡ length t = same_len same in omega (arith, e)
-  enters_reads (stored.Choice a b) (er, ef, same, ed) =
-      let e : length t' ≡ length t = same_len same in omega (arith, e)
-  enters_reads (stored.Branches all) (er, ef, same, ed) =
-      let e : length t' ≡ length t = same_len same in omega (arith, e)
-  enters_reads stored.Match (er, ef, same, ed) =
-      let e : length t' ≡ length t = same_len same in omega (arith, e)
-
-threads_same : (c : ℕ) (t t' : List Thread) → Same t t' → ThreadsBelow c t → ThreadsBelow c t'
-threads_same c t t' same within k lt =
-    subst (λ (z : Thread). z.0 < c) (sym (same_at same k))
-    (within k (let e : length t' ≡ length t = same_len same in omega (arith, lt, e)))
-
-pub threads_pushed : (c to : ℕ) (i : Told) (row : Row) (t t' : List Thread) → to < c
-    → Pushed t t' (to, i, row) → ThreadsBelow c t → ThreadsBelow c t'
-threads_pushed c to i row t t' fits pushed within k lt = go (cases_lt k (length t))
-  where
-    go : (k < (length t)) ⊎ ((length t) ≤ k) → (thread_at t' k).0 < c
-    go (inl lt') =
-        subst (λ (z : Thread). z.0 < c) (sym (pushed_kept t t' _ pushed k lt')) (within k lt')
-    go (inr le) =
-        let last : k ≡ length t =
-        (let e : length t' ≡ length t + 1 = pushed_len t t' _ pushed in omega (arith, lt, le, e)) in
-        subst (λ j. (thread_at t' j).0 < c) (sym last)
-        (subst (λ (z : Thread). z.0 < c) (sym (pushed_last t t' _ pushed)) fits)
-
 frames_all : (c width : ℕ) (qs : List ℕ) (fs : List Frame) → LeadBelow c (map (λ q. go q) qs)
     → FramesBelow c width fs → FramesBelow c width (map (λ q. explore q) qs ++ fs)
 frames_all c width [] fs f within = within
 frames_all c width (q ∷ qs) fs f within = (f.0, frames_all c width qs fs f.1 within)
 
-module _ (here : Here) (i : Told) (c : ℕ) (row row' : Row) (fs fs' : List Frame)
-    (t t' : List Thread) (done : Bool) (within : FramesBelow c (length row) fs)
-    (all : ThreadsBelow c t) where
-  abbrev Inside : Type 0
-  Inside = FramesBelow c (length row') fs' × ThreadsBelow c t'
+pub threads_pushed : (c : ℕ) (ts : List Thread) (thread : Thread) → thread.0 < c
+    → ThreadsBelow c ts → ThreadsBelow c (ts ++ thread ∷ [])
+threads_pushed c ts thread fits within k lt = go (cases_lt k (length ts))
+  where
+    go : (k < length ts) ⊎ (length ts ≤ k) → (thread_at (ts ++ thread ∷ []) k).0 < c
+    go (inl less) =
+        subst (λ (z : Thread). z.0 < c) (sym (at_front ts (thread ∷ []) k less)) (within k less)
+    go (inr le) =
+        let last : k ≡ length ts = omega (arith, lt, le, length-append ts (thread ∷ [])) in
+        subst (λ (z : Thread). z.0 < c)
+        (sym (ap (thread_at (ts ++ thread ∷ [])) last ∙ at_end ts thread)) fits
 
-  frames_pushed : (qs : List ℕ) → LeadBelow c (map (λ q. go q) qs)
-      → fs' ≡ map (λ q. explore q) qs ++ fs → row' ≡ row → Same t t' → Inside
-  frames_pushed qs inside ef er same = (
-    subst (λ z. FramesBelow c (length z) fs') (sym er) (subst (λ z. FramesBelow c (length row) z)
-        (sym ef) (frames_all c (length row) qs fs inside within)),
-    threads_same c t t' same all,
-  )
+-- what entering a place adds to the frames and the threads, in a table of c places
+pub record Adds (c : ℕ) (x : Place ℕ) (m e : State) : Type 0 where
+  pub few : explores e.frames + length e.next
+      ≤ explores m.frames + length m.next + arrow_count x
+  pub long : length e.frames ≤ length m.frames + (arrow_count x + 1)
+  pub keeps : length e.frames ≤ length m.frames + (kept_back x + 1)
+  pub reads : length e.next ≤ length m.next + reading_count x
+  pub frames_below : FramesBelow c (length e.row) e.frames
+  pub threads_below : ThreadsBelow c e.next
 
-  threads_read : (b : Bool) (to : ℕ) → to < c → fs' ≡ fs → row' ≡ row
-      → ReadsOn b t t' (to, i, row) → Inside
-  threads_read b to inside ef er read = (
-    subst (λ z. FramesBelow c (length z) fs') (sym er)
-        (subst (λ z. FramesBelow c (length row) z) (sym ef) within),
-    by_test b read,
-  )
-    where
-      by_test : (b : Bool) → ReadsOn b t t' (to, i, row) → ThreadsBelow c t'
-      by_test true pushed = threads_pushed c to i row t t' inside pushed all
-      by_test false same = threads_same c t t' same all
+module _ (here : Here) (i : Told) (c : ℕ) (m : State)
+    (within : FramesBelow c (length m.row) m.frames) (all : ThreadsBelow c m.next) where
+  adds_pushed : (x : Place ℕ) (qs : List ℕ) → LeadBelow c (map (λ q. go q) qs)
+      → length qs ≤ arrow_count x → length qs ≤ kept_back x + 1
+      → Adds c x m (pushing m (map (λ q. explore q) qs))
+  adds_pushed x qs inside few kept =
+      let long : length (map (λ q. explore q) qs ++ m.frames) ≡ length qs + length m.frames =
+      length-append (map (λ q. explore q) qs) m.frames
+      ∙ ap (λ n. n + length m.frames) (length-map qs (λ q. explore q)) in
+      let more = explores-map qs m.frames in
+      record {
+        few = omega (arith, more, few);
+        long = omega (arith, long, few);
+        keeps = omega (arith, long, kept);
+        reads = omega arith;
+        frames_below = frames_all c (length m.row) qs m.frames inside within;
+        threads_below = all;
+      }
 
-  class_read : (ranges : List ClassRange) (to : ℕ) → LeadsBelow c (one_of ranges to) → fs' ≡ fs
-      → row' ≡ row → ReadsOn (reads (in_ranges ranges) here.after) t t' (to, i, row) → Inside
-  class_read [] to inside ef er read =
-      frames_pushed [] tt ef er
-      (subst (λ b. ReadsOn b t t' (to, i, row)) (reads_none here.after) read)
-  class_read (r ∷ rs) to inside ef er read =
-      threads_read (reads (in_ranges (r ∷ rs)) here.after) to inside.0 ef er read
+  adds_nothing : (x : Place ℕ) → Adds c x m m
+  adds_nothing x = adds_pushed x [] tt (omega arith) (omega arith)
 
-  -- what is added stays within the table
-  pub enters_within : (x : code.Place) → LeadsBelow c (place_of x)
-      → Enters here i x row fs t row' fs' t' done → Inside
-  enters_within (stored.Empty to) inside (er, ef, same, ed) =
-      frames_pushed (to ∷ []) inside ef er same
-  enters_within (stored.Char ch to) inside (er, ef, read, ed) =
-      threads_read (reads (just ch) here.after) to inside.0 ef er read
-  enters_within (stored.Class to set) inside (er, ef, read, ed) =
-      class_read set to inside ef er read
-  enters_within (stored.Look l to) inside (er, ef, same, ed) =
-      by_test (holds_between l here.before here.after) ef
-    where
-      by_test : (b : Bool) → fs' ≡ (if b then explore to ∷ fs else fs) → Inside
-      by_test true e = frames_pushed (to ∷ []) (inside.0, tt) e er same
-      by_test false e = frames_pushed [] tt e er same
-  enters_within (stored.Slot slot to) inside (inl (lt, er, inr (none, ef)), same, ed) = (
-    subst (λ z. FramesBelow c z fs') (sym (ap length er ∙ length-set row slot (Some here.at)))
-        (subst (λ z. FramesBelow c (length row) z) (sym ef) (inside.0, within)),
-    threads_same c t t' same all,
-  )
-  enters_within (stored.Slot slot to) inside (inl (lt, er, inl ef), same, ed) = (
-    subst (λ z. FramesBelow c z fs') (sym (ap length er ∙ length-set row slot (Some here.at)))
-        (subst (λ z. FramesBelow c (length row) z) (sym ef) (inside.0, (lt, within))),
-    threads_same c t t' same all,
-  )
-  enters_within (stored.Slot slot to) inside (inr (past, er, ef), same, ed) =
-      frames_pushed (to ∷ []) (inside.0, tt) ef er same
-  enters_within (stored.Choice a b) inside (er, ef, same, ed) =
-      frames_pushed (a ∷ (b ∷ [])) inside ef er same
-  enters_within (stored.Branches entries) inside (er, ef, same, ed) =
-      frames_pushed entries.items inside ef er same
-  enters_within stored.Match inside (er, ef, same, ed) = frames_pushed [] tt ef er same
+  adds_read : (set : Set) (to : ℕ) (b : Bool) → to < c
+      → Adds c (with_arrows (go_reading set to ∷ [])) m (reading_on b m (to, i, m.row))
+  adds_read set to true inside =
+      let long = length-append m.next ((to, i, m.row) ∷ []) in
+      record {
+        few = omega (arith, long);
+        long = omega arith;
+        keeps = omega arith;
+        reads = omega (arith, long);
+        frames_below = within;
+        threads_below = threads_pushed c m.next (to, i, m.row) inside all;
+      }
+  adds_read set to false inside = adds_nothing (with_arrows (go_reading set to ∷ []))
+
+  adds_class : (ranges : List ClassRange) (to : ℕ) → LeadsBelow c (one_of ranges to)
+      → Adds c (one_of ranges to) m
+      (reading_on (reads (in_ranges ranges) here.after) m (to, i, m.row))
+  adds_class [] to inside =
+      subst (λ b. Adds c (one_of [] to) m (reading_on b m (to, i, m.row)))
+      (sym (reads_none here.after)) (adds_nothing (one_of [] to))
+  adds_class (r ∷ rs) to inside =
+      adds_read (in_ranges (r ∷ rs)) to (reads (in_ranges (r ∷ rs)) here.after) inside.0
+
+  adds_look : (x : Place ℕ) (to : ℕ) (b : Bool) → to < c → 1 ≤ arrow_count x
+      → Adds c x m (if b then pushing m (explore to ∷ []) else m)
+  adds_look x to true inside few = adds_pushed x (to ∷ []) (inside, tt) few (omega arith)
+  adds_look x to false inside few = adds_nothing x
+
+  adds_marked : (slot to : ℕ) (frames : List Frame) → to < c
+      → explores frames ≡ explores m.frames → length frames ≤ length m.frames + 1
+      → FramesBelow c (length m.row) frames
+      → Adds c (with_arrows (go_marking slot to ∷ [])) m (record m {
+        row = slice_set m.row slot (Some here.at);
+        frames = explore to ∷ frames;
+      })
+  adds_marked slot to frames inside same long below = record {
+    few = omega (arith, same);
+    long = omega (arith, long);
+    keeps = omega (arith, long);
+    reads = omega arith;
+    frames_below =
+        subst (λ z. FramesBelow c z (explore to ∷ frames))
+        (sym (length-set m.row slot (Some here.at))) (inside, below);
+    threads_below = all;
+  }
+
+  module _ (e : State) (done : Bool) where
+    pub enters_adds : (x : code.Place) → LeadsBelow c (place_of x) → Enters here i x m e done
+        → Adds c (place_of x) m e
+    enters_adds (stored.Empty to) inside (same, ed) =
+        subst (Adds c (place_of (stored.Empty to)) m) (sym same)
+        (adds_pushed (place_of (stored.Empty to)) (to ∷ []) inside (omega arith) (omega arith))
+    enters_adds (stored.Char ch to) inside (same, ed) =
+        subst (Adds c (place_of (stored.Char ch to)) m) (sym same)
+        (adds_read (just ch) to (reads (just ch) here.after) inside.0)
+    enters_adds (stored.Class to set) inside (same, ed) =
+        subst (Adds c (one_of set to) m) (sym same)
+        (adds_class set to inside)
+    enters_adds (stored.Look l to) inside (same, ed) =
+        let b = holds_between l here.before here.after in
+        subst (Adds c (place_of (stored.Look l to)) m) (sym same)
+        (adds_look (place_of (stored.Look l to)) to b inside.0 (omega arith))
+    enters_adds (stored.Slot slot to) inside (inl (lt, inl same), ed) =
+        subst (Adds c (place_of (stored.Slot slot to)) m) (sym same)
+        (adds_marked slot to (restore slot (slice_index_or m.row slot None) ∷ m.frames) inside.0
+        refl (omega arith) (lt, within))
+    enters_adds (stored.Slot slot to) inside (inl (lt, inr (none, same)), ed) =
+        subst (Adds c (place_of (stored.Slot slot to)) m) (sym same)
+        (adds_marked slot to m.frames inside.0 refl (omega arith) within)
+    enters_adds (stored.Slot slot to) inside (inr (past, same), ed) =
+        subst (Adds c (place_of (stored.Slot slot to)) m) (sym same)
+        (adds_pushed (place_of (stored.Slot slot to)) (to ∷ []) inside (omega arith) (omega arith))
+    enters_adds (stored.Choice a b) inside (same, ed) =
+        subst (Adds c (place_of (stored.Choice a b)) m) (sym same)
+        (adds_pushed (place_of (stored.Choice a b)) (a ∷ (b ∷ [])) inside (omega arith)
+        (omega arith))
+    enters_adds (stored.Branches all) inside (same, ed) =
+        subst (Adds c (place_of (stored.Branches all)) m) (sym same)
+        (adds_pushed (place_of (stored.Branches all)) all.items inside
+        (omega (arith, length-map all.items (λ (q : ℕ). go q))) (entries_kept all.items))
+    enters_adds stored.Match inside (same, ed) =
+        subst (Adds c (place_of stored.Match) m) (sym same) (adds_nothing (place_of stored.Match))

@@ -24,8 +24,8 @@ use Rattle.regex_lite_engine.specs.Pikevm.Walking.{Node, Best, BestHolds, InStep
 use Rattle.regex_lite_engine.proofs.laws.several.OverListLemmas.{differ}
 use Rattle.regex_lite_engine.proofs.laws.search.RecordedWayLemmas.{traced, recorded_once}
 use Rattle.regex_lite_engine.proofs.pikevm.EndLemmas.{step_in_text}
-use Rattle.regex_lite_engine.proofs.pikevm.TurnLemmas.{only_entry}
-use Rattle.regex_lite_engine.proofs.search.OptionLemmas.{not_there, same_some}
+use Rattle.regex_lite_engine.proofs.search.OneStartLemmas.{only_entry}
+use Rattle.regex_lite_engine.proofs.OptionLemmas.{not_there, same_some}
 use Rattle.regex_lite_engine.proofs.search.here.OffsetLemmas.{same_position}
 
 -- no arrow leads back to an earlier position

@@ -1,6 +1,6 @@
 -- What a step of a search keeps of the working memory.
-use Rattle.std.proofs.Common.{◌≡◌, ℕ, ◌+◌, List, [], sym, ap, subst, ◌∙◌}
-use Rattle.regex_lite_engine.specs.Pikevm.Machine.{Frame, Row, State, Thread}
+use Rattle.std.proofs.Common.{◌≡◌, ◌≤◌, ℕ, ◌+◌, [], length, slice_set, ap, ◌∙◌, arith, length-set}
+use Rattle.regex_lite_engine.specs.Pikevm.Machine.{State}
 
 -- a round begins
 pub record BeginsRound (old new : State) : Type 0 where
@@ -35,30 +35,41 @@ pub record KeepsThreads (old new : State) : Type 0 where
   pub room : new.room ≡ old.room
   pub ready : new.ready ≡ old.ready
 
-module _ (old new : State) (is : new ≡ record old { row = new.row; frames = new.frames }) where
-  pub keeps_threads : KeepsThreads old new
-  keeps_threads = record {
-    now = ap (λ (z : State). z.now) is;
-    threads = ap (λ (z : State). z.threads) is;
-    next = ap (λ (z : State). z.next) is;
-    room = ap (λ (z : State). z.room) is;
-    ready = ap (λ (z : State). z.ready) is;
-  }
-
-  -- what holds of the other parts still holds
-  pub still_holds : (Holds : List ℕ → ℕ → ℕ → List Thread → Type 0)
-      → Holds old.rounds old.now old.room old.next → Holds new.rounds new.now new.room new.next
-  still_holds Holds x = subst (λ (z : State). Holds z.rounds z.now z.room z.next) (sym is) x
+pub keeps_threads : (old new : State) → new ≡ record old { row = new.row; frames = new.frames }
+    → KeepsThreads old new
+keeps_threads old new is = record {
+  now = ap (λ (z : State). z.now) is;
+  threads = ap (λ (z : State). z.threads) is;
+  next = ap (λ (z : State). z.next) is;
+  room = ap (λ (z : State). z.room) is;
+  ready = ap (λ (z : State). z.ready) is;
+}
 
 -- the row changes where nothing is left to do
 pub takes_up : (old new : State) → new ≡ record old { row = new.row } → old.frames ≡ []
     → new ≡ record old { row = new.row; frames = [] }
 takes_up old new is none = is ∙ ap (λ fs. record old { row = new.row; frames = fs }) none
 
--- what is left to do is dropped
-pub drops_frames : (old new : State) → new ≡ record old { frames = [] }
-    → (Holds : List ℕ → Row → List Frame → ℕ → List Thread → Type 0)
-    → Holds old.rounds old.row [] old.room old.next →
-    Holds new.rounds new.row new.frames new.room new.next
-drops_frames old new is Holds x =
-    subst (λ (z : State). Holds z.rounds z.row z.frames z.room z.next) (sym is) x
+-- where a place is marked as entered, what fits before it fits after it
+pub still_fits : (q : ℕ) (old new : State)
+    → new ≡ record old { rounds = slice_set old.rounds q old.now } → (more : ℕ)
+    → length old.frames + more ≤ length old.rounds → length new.frames + more ≤ length new.rounds
+still_fits q old new added more le =
+    let long = ap (λ (z : State). length z.rounds) added ∙ length-set old.rounds q old.now in
+    let high = ap (λ (z : State). length z.frames) added in
+    omega (arith, le, long, high)
+
+-- with the row, the frames and the threads of the next position that it has later
+pub later_same : (q : ℕ) (old new later : State)
+    → new ≡ record old { rounds = slice_set old.rounds q old.now }
+    → later ≡ record new { row = later.row; frames = later.frames; next = later.next }
+    → later ≡ record old {
+      rounds = slice_set old.rounds q old.now;
+      row = later.row;
+      frames = later.frames;
+      next = later.next;
+    }
+later_same q old new later added same =
+    same
+    ∙ ap (λ (z : State). record z { row = later.row; frames = later.frames; next = later.next })
+    added

@@ -1,15 +1,15 @@
--- Lists of threads that are the same, or have one more.
-use Rattle.std.proofs.Common.{◌≡◌, ℕ, zero, suc, ◌+◌, ◌-◌, ◌<◌, ◌≤◌, slice_get, Some, List}
+-- The threads of a list, and those of the starts after them.
+use Rattle.std.proofs.Common.{◌≡◌, ℕ, zero, suc, ◌-◌, ◌<◌, ◌≤◌, slice_get, Some, List}
 use Rattle.std.proofs.Common.{None, [], ◌∷◌, ◌++◌, length, replicate, refl, sym, ap, ◌∙◌}
-use Rattle.std.proofs.Common.{arith, length-append}
+use Rattle.std.proofs.Common.{arith}
 use Rattle.regex_lite_engine.specs.declared.search.patterns.Start.{Start}
 use Rattle.regex_lite_engine.specs.Pikevm.Beginnings.{Told}
-use Rattle.regex_lite_engine.specs.Pikevm.Entering.{Pushed, Same}
 use Rattle.regex_lite_engine.specs.Pikevm.Machine.{Row, State, Thread, thread_at}
 use Rattle.regex_lite_engine.specs.Pikevm.Turns.{begun}
-use Rattle.regex_lite_engine.proofs.search.OptionLemmas.{not_there, same_some}
+use Rattle.regex_lite_engine.proofs.OptionLemmas.{not_there, same_some}
 
-at_end : (ts : List Thread) (thread : Thread) → thread_at (ts ++ thread ∷ []) (length ts) ≡ thread
+pub at_end : (ts : List Thread) (thread : Thread)
+    → thread_at (ts ++ thread ∷ []) (length ts) ≡ thread
 at_end [] thread = refl
 at_end (t ∷ ts) thread = at_end ts thread
 
@@ -54,21 +54,3 @@ begun_taken m n told starts k start kept le there is cleared =
     ∙ begun_at told blank starts (k - length m.threads) start there
     ∙ ap (λ t. (start.place, t, blank)) (sym is)
     ∙ ap (λ r. (start.place, kept, r)) (sym (ap (λ (z : State). z.row) cleared))
-
-pub same_len : {before after : List Thread} → Same before after → length after ≡ length before
-same_len same = ap length same
-
-pub same_at : {before after : List Thread} → Same before after → (k : ℕ)
-    → thread_at after k ≡ thread_at before k
-same_at same k = ap (λ ts. thread_at ts k) same
-
-module _ (before after : List Thread) (thread : Thread) (pushed : Pushed before after thread) where
-  pub pushed_len : length after ≡ length before + 1
-  pushed_len =
-      let long = length-append before (thread ∷ []) in omega (arith, ap length pushed, long)
-
-  pub pushed_last : thread_at after (length before) ≡ thread
-  pushed_last = ap (λ ts. thread_at ts (length before)) pushed ∙ at_end before thread
-
-  pub pushed_kept : (k : ℕ) → k < length before → thread_at after k ≡ thread_at before k
-  pushed_kept k lt = ap (λ ts. thread_at ts k) pushed ∙ at_front before (thread ∷ []) k lt

@@ -1,15 +1,15 @@
 -- From one position to the next.
-use Rattle.std.proofs.Common.{◌≡◌, ℕ, zero, suc, ◌+◌, ◌-◌, ◌^◌, ◌<◌, ◌≤◌, ◌⊎◌, inl, inr, Bool}
-use Rattle.std.proofs.Common.{true, false, List, [], ◌∷◌, ◌++◌, if◌then◌else◌, length}
-use Rattle.std.proofs.Common.{replicate, slice_get, slice_index, slice_index_or, sum_by, Option}
+use Rattle.std.proofs.Common.{◌≡◌, ℕ, zero, suc, ◌+◌, ◌-◌, ◌^◌, ◌<◌, ◌≤◌, ◌⊎◌, inl, inr}
+use Rattle.std.proofs.Common.{List, [], ◌∷◌, ◌++◌, length}
+use Rattle.std.proofs.Common.{replicate, slice_index, slice_index_or, sum_by, Option}
 use Rattle.std.proofs.Common.{Some, None, refl, sym, ap, subst, ◌∙◌, arith, length-append}
 use Rattle.std.specs.List.{All}
 use Rattle.std.proofs.lemmas.Bool.{cases_lt}
 use Rattle.std.proofs.lemmas.List.Sums.{sum_by-cons}
-use Rattle.std.proofs.lemmas.List.{nil_from_length}
 use Rattle.std.proofs.lemmas.Option.{slice_get-get_or}
 use Rattle.regex_lite_syntax.specs.Text.{Text}
 use Rattle.regex_lite_engine.specs.declared.search.here.Here.{Here}
+use Rattle.regex_lite_engine.specs.declared.pikevm.walk.Walk.{Walk}
 use Rattle.regex_lite_engine.specs.Graph.Places.{Place, kept_back, reading_count}
 use Rattle.regex_lite_engine.specs.Graph.Parts.{IsOwnPart, IsWithin}
 use Rattle.regex_lite_engine.specs.Graph.Renumbered.{arrow_count, arrows_of}
@@ -20,78 +20,61 @@ use Rattle.regex_lite_engine.specs.Pikevm.InStep.{Offer, StartsBelow}
 use Rattle.regex_lite_engine.specs.Search.NumberedList.{IsEntry, StartsOf}
 use Rattle.regex_lite_engine.specs.Pikevm.Machine.{BestState, Row, Thread, thread_at, State}
 use Rattle.regex_lite_engine.specs.Search.NumberedAnswer.{numbered_step, is_end}
-use Rattle.regex_lite_engine.specs.Search.Offsets.{offset}
 use Rattle.regex_lite_engine.specs.declared.search.patterns.Start.{Start}
-use Rattle.regex_lite_engine.specs.Pikevm.Beginnings.{Told, Tells}
+use Rattle.regex_lite_engine.specs.Pikevm.Beginnings.{Told, TellsStart}
 use Rattle.regex_lite_engine.specs.Search.Standing.{IsHere}
-use Rattle.regex_lite_engine.specs.Pikevm.Room.{IsFit, ThreadsBelow, lone}
-use Rattle.regex_lite_engine.specs.Pikevm.Turns.{begun, with_starts, IsAmong, AreFrom, AreDeadAt}
-use Rattle.regex_lite_engine.specs.Pikevm.Turns.{AreStartsAt, Between, StepsTo, IsComing}
-use Rattle.regex_lite_engine.specs.Pikevm.Turns.{IsDeadAt, Begun, FromIs, IsBlank, IsReady}
-use Rattle.regex_lite_engine.specs.Pikevm.Walking.{Node, Best, WayTold, ThreadsHold, InStep}
-use Rattle.regex_lite_engine.proofs.search.OptionLemmas.{not_there, same_some}
+use Rattle.regex_lite_engine.specs.Pikevm.Room.{HasRoom, ThreadsBelow, lone}
+use Rattle.regex_lite_engine.specs.Pikevm.Turns.{begun, with_starts}
+use Rattle.regex_lite_engine.specs.Search.Starts.{IsAmong, AreFrom}
+use Rattle.regex_lite_engine.specs.Pikevm.Turns.{Between, StepsTo, IsComing}
+use Rattle.regex_lite_engine.specs.Search.Starts.{AreStartsAt}
+use Rattle.regex_lite_engine.specs.Pikevm.Turns.{Begun, FromIs, IsBlank, IsReady}
+use Rattle.regex_lite_engine.specs.Search.Starts.{IsDeadAt}
+use Rattle.regex_lite_engine.specs.Pikevm.Walking.{Node, Best, SearchAt}
+use Rattle.regex_lite_engine.specs.Pikevm.Walking.{ThreadsHold, InStep}
+use Rattle.regex_lite_engine.proofs.OptionLemmas.{not_there, same_some}
 use Rattle.regex_lite_engine.proofs.pikevm.OwnPartLemmas.{recorded_within}
 use Rattle.regex_lite_engine.proofs.search.PositionLemmas as deep
 use Rattle.regex_lite_engine.proofs.pikevm.RoomLemmas.{left_most}
+use Rattle.regex_lite_engine.proofs.pikevm.StateLemmas.{BeginsRound}
 use Rattle.regex_lite_engine.proofs.pikevm.ThreadLemmas.{at_front, at_back, begun_at, begun_length}
-use Rattle.regex_lite_engine.proofs.pikevm.WalkLemmas.{held_same}
+use Rattle.regex_lite_engine.proofs.pikevm.WalkLemmas.{held_append, none_held}
 
 pub sum_lone : (table : List (Place ℕ)) → sum_by lone table ≡ length table
 sum_lone [] = refl
 sum_lone (x ∷ table) = let more = sum_lone table in omega (arith, more, sum_by-cons lone x table)
 
-pub fit_first : (table : List (Place ℕ)) (memory memory' : State) (best : BestState)
-    (tried entered looked : ℕ) →
-    IsReady table memory best tried entered looked
-    → memory' ≡ record memory { now = memory.now + 1; ready = memory'.ready } →
-    tried + arrows_of table < 2 ^ 127 → entered + length table < 2 ^ 127
-    → IsFit table memory'.rounds memory'.now memory'.row [] memory'.room memory'.next tried
-    entered looked
-fit_first table memory memory' best tried entered looked ready em few fewe =
-    let rounds = memory'.rounds in let now = memory'.now in
-    let a = left_most kept_back now rounds table in let b = left_most lone now rounds table in
-    let c = left_most arrow_count now rounds table in let d = sum_lone table in
-    let g = left_most reading_count now rounds table in
-    let e = ready.stack_room in
-    let z : length memory'.next ≡ 0 =
-    ap (λ (m : State). length m.next) em ∙ ap length ready.none_next in
-    let er : rounds ≡ memory.rounds = ap (λ (m : State). m.rounds) em in
-    let en : now ≡ memory.now + 1 = ap (λ (m : State). m.now) em in
-    let cap = ready.cap in
-    record {
-      all_seen = ap length er ∙ ready.all_seen;
-      old_rounds = λ r.
-          (let le = ready.old_rounds r in
-          let same : slice_index rounds r ≡ slice_index memory.rounds r =
-          ap (λ x. slice_index x r) er in
-          omega (arith, le, same, en));
+pub fit_first : (table : List (Place ℕ)) {S : Type 0} (walk : Walk S) (memory : State)
+    (best : BestState) → IsReady table walk.memory best walk.steps
+    → memory ≡ record walk.memory { now = walk.memory.now + 1; ready = memory.ready }
+    → walk.steps.tried + arrows_of table < 2 ^ 127 → walk.steps.entered + length table < 2 ^ 127
+    → HasRoom table (record walk { memory = memory }) []
+fit_first table walk memory best ready em few fewe =
+    let m = walk.memory in let now = m.now + 1 in
+    let a = left_most kept_back now m.rounds table in let b = left_most lone now m.rounds table in
+    let c = left_most arrow_count now m.rounds table in let d = sum_lone table in
+    let g = left_most reading_count now m.rounds table in
+    let e = ready.stack_room in let cap = ready.cap in
+    let z : length m.next ≡ 0 = ap length ready.none_next in
+    subst (λ (n : State). HasRoom table (record walk { memory = n }) []) (sym em) (record {
+      all_seen = ready.all_seen;
+      old_rounds = λ r. (let le = ready.old_rounds r in omega (arith, le));
       frames_below = tt;
       threads_below = λ k lt. absurd (omega (arith, lt, z));
       stack_room = omega (arith, a, e);
       next_room = omega (arith, g, z);
-      next_cap = omega (arith, cap, ap (λ (m : State). m.room) em);
+      next_cap = cap;
       few_tries = omega (arith, c, few, z);
       few_entries = omega (arith, b, d, fewe);
       entered_tried = ready.entered_tried;
       looked_entered = ready.looked_entered;
-    }
-
-pub only_entry : (s number entry : ℕ) → IsEntry (s ∷ []) number entry → (number ≡ 0) × (s ≡ entry)
-only_entry s zero entry e = (refl, same_some e)
-only_entry s (suc number) entry e = absurd (none_there number e)
-  where
-    none_there : (k : ℕ) → slice_get {X = ℕ} [] k ≡ Some entry → ⊥
-    none_there k e = cc
+    })
 
 -- what the starts of a position offer
 abbrev begun_offers : (p : ℕ) → List Start → List (Offer Node)
 begun_offers p [] = []
 begun_offers p (start ∷ starts) =
     ((start.place, p), p ∷ (start.number ∷ [])) ∷ begun_offers p starts
-
-begun_offers_length : (p : ℕ) (starts : List Start) → length (begun_offers p starts) ≡ length starts
-begun_offers_length p [] = refl
-begun_offers_length p (start ∷ starts) = ap suc (begun_offers_length p starts)
 
 module _ (table : List (Place ℕ)) (h : Text) (s : List ℕ) (first last : ℕ) where
   abbrev In_step : ℕ → ℕ → (Node → Option (List ℕ)) → List (Offer Node) → List (Offer Node)
@@ -110,8 +93,7 @@ module _ (table : List (Place ℕ)) (h : Text) (s : List ℕ) (first last : ℕ)
         (λ x. x.1) first first (λ n. None) (λ n. refl)
         (λ front n is below. none_below front n is below);
     before = λ n v r. absurd (not_there r);
-    hold = tt;
-    all = sym (ap length empty);
+    hold = subst (λ ts. ThreadsHold table h s first ts []) (sym empty) tt;
     best_holds = refl;
     from_is = refl;
   }
@@ -153,314 +135,243 @@ module _ (table : List (Place ℕ)) (h : Text) (s : List ℕ) (first last : ℕ)
         (subst (λ z. In_step p z u.recorded [] [] u.way) u.from_is
         (subst (λ z. In_step p u.from u.recorded z [] u.way) nothing u.in_step)));
     before = λ n v r. (let lt = u.before n v r in omega (arith, lt, more));
-    hold = tt;
-    all = sym (ap length empty);
+    hold = subst (λ ts. ThreadsHold table h s p' ts []) (sym empty) tt;
     best_holds = u.best_holds;
     from_is = refl;
   }
     where
       nothing : u.coming ≡ []
-      nothing = let all = u.all in nil_from_length u.coming (omega (arith, all, ap length empty))
+      nothing =
+          none_held table h s p u.coming
+          (subst (λ ts. ThreadsHold table h s p ts u.coming) empty u.hold)
+
+module _ (table : List (Place ℕ)) (at : SearchAt) where
+  open at use {haystack as h, entries as s, first, last, p}
 
   -- the offers of a position's starts
-  begun_own_way : (p from : ℕ) (starts : List Start) → AreFrom s from starts → first ≤ p → p ≤ last
+  begun_own_way : (from : ℕ) (starts : List Start) → AreFrom s from starts → first ≤ p → p ≤ last
       → (m : Node) (v : List ℕ) → walk.In Node m v (begun_offers p starts) →
       StartsOf s first last v m × (m.1 ≡ p) × ((rest : List ℕ) × (v ≡ p ∷ rest))
       × ((number : ℕ) × (from ≤ number) × (v ≡ p ∷ (number ∷ [])))
-  begun_own_way p from [] are low high m v i = absurd i
-  begun_own_way p from (start ∷ starts) are low high m v (inl e) = (
+  begun_own_way from [] are low high m v i = absurd i
+  begun_own_way from (start ∷ starts) are low high m v (inl e) = (
     (p, start.number, start.place, low, high, are.1, e.1, e.0),
     ap (λ (z : Node). z.1) e.0,
     (start.number ∷ [], e.1),
     (start.number, are.0, e.1),
   )
-  begun_own_way p from (start ∷ starts) are low high m v (inr i) =
-      let r = begun_own_way p (suc start.number) starts are.2 low high m v i in
+  begun_own_way from (start ∷ starts) are low high m v (inr i) =
+      let r = begun_own_way (suc start.number) starts are.2 low high m v i in
       let le = are.0 in
       (r.0, r.1, r.2, (r.3.0, omega (arith, le, r.3.1), r.3.2))
 
-  begun_ordered : (p from : ℕ) (starts : List Start) → AreFrom s from starts → first ≤ p → p ≤ last
+  begun_ordered : (from : ℕ) (starts : List Start) → AreFrom s from starts → first ≤ p → p ≤ last
       → walk.Ordered Node (begun_offers p starts)
-  begun_ordered p from [] are low high = tt
-  begun_ordered p from (start ∷ starts) are low high = (
-    λ m v i. (let r = begun_own_way p (suc start.number) starts are.2 low high m v i in
+  begun_ordered from [] are low high = tt
+  begun_ordered from (start ∷ starts) are low high = (
+    λ m v i. (let r = begun_own_way (suc start.number) starts are.2 low high m v i in
         subst (λ z. IsPreferred (p ∷ (start.number ∷ [])) z) (sym r.3.2)
         (inr (refl, inl (omega (arith, r.3.1))))),
-    begun_ordered p (suc start.number) starts are.2 low high,
+    begun_ordered (suc start.number) starts are.2 low high,
   )
 
-  among_offers : (p number entry : ℕ) (starts : List Start) → IsAmong number entry starts
+  among_offers : (number entry : ℕ) (starts : List Start) → IsAmong number entry starts
       → walk.In Node (entry, p) (p ∷ (number ∷ [])) (begun_offers p starts)
-  among_offers p number entry [] is = absurd is
-  among_offers p number entry (start ∷ starts) (inl e) =
+  among_offers number entry [] is = absurd is
+  among_offers number entry (start ∷ starts) (inl e) =
       inl ((λ t. (e.1 t, p)), (λ t. p ∷ (e.0 t ∷ [])))
-  among_offers p number entry (start ∷ starts) (inr is) =
-      inr (among_offers p number entry starts is)
+  among_offers number entry (start ∷ starts) (inr is) =
+      inr (among_offers number entry starts is)
 
-  module _ (rounds rounds' : List ℕ) (now now' : ℕ) (old : (r : ℕ) → slice_index rounds r ≤ now)
-      (er : rounds' ≡ rounds) (en : now' ≡ now + 1)
-      (cur cur' next : List Thread) (empty : next ≡ []) where
-    not_met : (q : ℕ) → slice_index rounds' q ≡ now' → ⊥
-    not_met q e =
-        let le = old q in
-        let same : slice_index rounds' q ≡ slice_index rounds q = ap (λ x. slice_index x q) er in
-        omega (arith, le, same, en, e)
+-- The position's threads are followed, and after them these starts, where they are not left out. In
+-- the round that begins no place was entered, and no thread goes on yet
+pub record IsTurn (table : List (Place ℕ)) (at : SearchAt) (here : Here) (cur : List Thread)
+    (best : Best) (after : State) (best' : Best) : Type 0 where
+  pub is : IsHere at.haystack at.p here
+  pub low : at.first ≤ at.p
+  pub high : at.p ≤ at.last
+  pub round : State
+  pub new : (q : ℕ) → slice_index round.rounds q ≡ round.now → ⊥
+  pub empty : round.next ≡ []
+  pub starts : List Start
+  pub are : AreStartsAt table at.haystack at.entries at.p starts
+  pub told : ℕ → Told
+  pub tells : (number : ℕ) → TellsStart (told number) here.at number
+  pub ways : List Thread
+  pub begins : Begun starts told best cur ways
+  pub steps : StepsTo table here round ways best after [] best'
+  pub kept : best' ≡ None → best ≡ None
 
-    start_held : (i number entry : ℕ) (at : Told) (blank : Row) → IsEntry s number entry
-        → IsBlank blank → Tells at (offset h i) number
-        → WayTold table h s at blank (entry, i) (i ∷ (number ∷ []))
-    start_held i number entry at blank is blanks e =
-        (i, number, entry, [], e, is, refl, refl, blanks)
+module _ (table : List (Place ℕ)) (at : SearchAt) (here : Here) (cur : List Thread) (best : Best)
+    (after : State) (best' : Best) (turn : IsTurn table at here cur best after best') where
+  open at use {haystack as h, entries as s, first, last, p}
 
-    -- without an own start
-    begun_alone : (p from : ℕ) (best : Best) (u : IsComing table h s first last p cur best)
-        → In_step p from u.recorded u.coming [] u.way → cur' ≡ cur →
-        Between table h s first last p from rounds' now' (thread_at cur') 0 (length cur') next best
-    begun_alone p from best u state same =
-        subst (λ (z : List Thread). Between table h s first last p from rounds' now' (thread_at z) 0
-        (length z) next best) (sym same) (record {
-          recorded = u.recorded;
-          under = [];
-          later = u.coming;
-          coming = [];
-          way = u.way;
-          in_step = state;
-          seen = λ r v e. absurd (let lt = u.before (r, p) v e in omega (arith, lt));
-          met = λ r lt e. absurd (not_met r e);
-          frames_hold = refl;
-          later_hold = u.hold;
-          later_all = (let all = u.all in omega (arith, all));
-          coming_hold = tt;
-          coming_all = sym (ap length empty);
-          best_holds = u.best_holds;
-        })
+  abbrev Coming : Best → Type 0
+  Coming b = IsComing table h s first last p cur b
 
-    begun_held : (p from : ℕ) (at : ℕ → Told) (blank : Row) → IsBlank blank
-        → ((number : ℕ) → Tells (at number) (offset h p) number) → (starts : List Start)
-        → AreFrom s from starts → (f : ℕ → Thread) (k : ℕ) →
-        ((t : ℕ) → t < length starts → f (k + t) ≡ thread_at (begun at blank starts) t) →
-        ThreadsHold table h s p f k (begun_offers p starts)
-    begun_held p from at blank blanks is_at [] are f k alike = tt
-    begun_held p from at blank blanks is_at (start ∷ starts) are f k alike =
-        let here : f k ≡ (start.place, at start.number, blank) =
-        ap f (omega arith) ∙ alike 0 (omega arith) in (
-          ap (λ (t : Thread). (t.0, p)) (sym here),
-          subst
-              (λ (t : Thread). WayTold table h s t.1 t.2 (start.place, p) (p ∷ (start.number ∷ [])))
-              (sym here) (start_held p start.number start.place (at start.number) blank are.1 blanks
-              (is_at start.number)),
-          begun_held p (suc start.number) at blank blanks is_at starts are.2 f (suc k)
-              (λ t lt. ap f (omega arith) ∙ alike (suc t) (omega (arith, lt))),
-        )
+  abbrev Holds : ℕ → List Thread → List (Offer Node) → Type 0
+  Holds = ThreadsHold table h s
 
-    held_both : (p : ℕ) (f : ℕ → Thread) (k : ℕ) (os ps : List (Offer Node))
-        → ThreadsHold table h s p f k os → ThreadsHold table h s p f (k + length os) ps
-        → ThreadsHold table h s p f k (os ++ ps)
-    held_both p f k [] ps a b =
-        let same : k + 0 ≡ k = omega arith in subst (λ z. ThreadsHold table h s p f z ps) same b
-    held_both p f k (o ∷ os) ps (at, holds, rest) b =
-        let same : k + suc (length os) ≡ suc k + length os = omega arith in (
-          at,
-          holds,
-          held_both p f (suc k) os ps rest (subst (λ z. ThreadsHold table h s p f z ps) same b),
-        )
+  abbrev Steps : ℕ → (Node → Option (List ℕ)) → List (Offer Node) → List (Offer Node)
+      → Option (List ℕ) → Type 0
+  Steps from recorded now next way = In_step table h s first last p from recorded now next way
 
-    -- with its own starts
-    begun_own : (p : ℕ) (at : ℕ → Told) (blank : Row) → IsBlank blank
-        → ((number : ℕ) → Tells (at number) (offset h p) number) → first ≤ p → p ≤ last
-        → (starts : List Start) → AreStartsAt table h s p starts →
-        cur' ≡ cur ++ begun at blank starts → IsComing table h s first last p cur None →
-        Between table h s first last p (suc p) rounds' now' (thread_at cur') 0
-        (length cur') next None
-    begun_own p at blank blanks is_at low high starts are pushed u =
-        let all = u.all in
-        let more : length cur' ≡ length cur + length (begun at blank starts) =
-        ap length pushed ∙ length-append cur (begun at blank starts) in
-        let begins = begun_length at blank starts in
-        let lists = begun_offers_length p starts in
-        record {
-          recorded = u.recorded;
-          under = [];
-          later = u.coming ++ begun_offers p starts;
-          coming = [];
-          way = None;
-          in_step =
-              deep.in_step_begin Node (numbered_step table h) (StartsOf s first last)
-              (is_end table h) (λ x. x.1) p u.recorded u.coming (begun_offers p starts)
-              (λ m v i.
-              (let r = begun_own_way p 0 starts are.in_order low high m v i in (r.0, r.1, r.2)))
-              (begun_ordered p 0 starts are.in_order low high) offered u.before
-              (subst (λ z. In_step p z u.recorded u.coming [] None) u.from_is
-              (subst (λ z. In_step p u.from u.recorded u.coming [] z) u.best_holds u.in_step));
-          seen = λ r v e. absurd (let lt = u.before (r, p) v e in omega (arith, lt));
-          met = λ r lt e. absurd (not_met r e);
-          frames_hold = refl;
-          later_hold = held_both p (thread_at cur') 0 u.coming (begun_offers p starts)
-              (held_same table h s p (thread_at cur) (thread_at cur') 0 u.coming
-              (λ j lt. ap (λ z. thread_at z j) pushed
-              ∙ at_front cur (begun at blank starts) j (omega (arith, lt, all))) u.hold)
-              (begun_held p 0 at blank blanks is_at starts are.in_order (thread_at cur')
-              (0 + length u.coming)
-              (λ t lt. ap (thread_at cur') (omega (arith, all))
-              ∙ ap (λ z. thread_at z (length cur + t)) pushed
-              ∙ at_back cur (begun at blank starts) (length cur + t) (omega arith)
-              ∙ ap (thread_at (begun at blank starts)) (omega arith)));
-          later_all =
-              omega
-              (arith, all, more, length-append u.coming (begun_offers p starts), begins, lists);
-          coming_hold = tt;
-          coming_all = sym (ap length empty);
-          best_holds = refl;
-        }
-      where
-        offered : (front : List ℕ) (n : Node) → StartsOf s first last front n
-            → StartsBelow (suc p) front →
-            StartsBelow p front
-            ⊎ (walk.In Node n front (begun_offers p starts)
-            ⊎ IsDead Node (numbered_step table h) (is_end table h) n)
-        offered front n (i, number, entry, low, high, is, e, f) below = elim (cases_lt i p) [
-          | inl less ↦ inl (subst (StartsBelow p) (sym e) less)
-          | inr le ↦
-              let own : i < suc p = subst (StartsBelow (suc p)) e below in
-              let same : i ≡ p = omega (arith, own, le) in
-              inr (by_each same (are.each number entry is))
-        ]
-          where
-            by_each : i ≡ p → IsAmong number entry starts ⊎ IsDeadAt table h entry p
-                → walk.In Node n front (begun_offers p starts)
-                ⊎ IsDead Node (numbered_step table h) (is_end table h) n
-            by_each same (inl among) =
-                inl (subst (λ z. walk.In Node z front (begun_offers p starts))
-                (sym (f ∙ ap (λ z. (entry, z)) same))
-                (subst (λ z. walk.In Node (entry, p) z (begun_offers p starts)) (sym
-                (e ∙ ap (λ z. z ∷ (number ∷ [])) same)) (among_offers p number entry starts among)))
-            by_each same (inr gone) =
-                inr (subst (IsDead Node (numbered_step table h) (is_end table h))
-                (sym (f ∙ ap (λ z. (entry, z)) same)) gone)
+  abbrev Dead : Node → Type 0
+  Dead n = IsDead Node (numbered_step table h) (is_end table h) n
 
-    -- the position is done
-    left_over : (p from n : ℕ) (f : ℕ → Thread) (rounds2 : List ℕ) (now2 : ℕ) (next2 : List Thread)
-        (best : Best)
-        → FromIs (p + 1) from best →
-        Between table h s first last p from rounds2 now2 f n n next2 best
-        → IsComing table h s first last (p + 1) next2 best
-    left_over p from n f rounds2 now2 next2 best is u =
-        subst (λ z. IsComing table h s first last z next2 best) one_more (record {
-          recorded = u.recorded;
-          coming = u.coming;
-          way = u.way;
-          from = from;
-          in_step =
-              deep.in_step_next_alone Node (numbered_step table h) (StartsOf s first last)
-              (is_end table h) (λ x. x.1) p from u.recorded u.coming u.way
-              (subst (λ z. In_step p from u.recorded ([] ++ z) u.coming u.way) none_later
-              (subst (λ z. In_step p from u.recorded (z ++ u.later) u.coming u.way) u.frames_hold
-              u.in_step));
-          before = λ m v r. (let le = u.in_step.past m v r in omega (arith, le));
-          hold = u.coming_hold;
-          all = u.coming_all;
-          best_holds = u.best_holds;
-          from_is = subst (λ z. FromIs z from best) (sym one_more) is;
-        })
-      where
-        one_more : suc p ≡ p + 1
-        one_more = omega arith
+  none_next : Holds (suc p) turn.round.next []
+  none_next = subst (λ ts. Holds (suc p) ts []) (sym turn.empty) tt
 
-        none_later : u.later ≡ []
-        none_later = let all = u.later_all in nil_from_length u.later (omega (arith, all))
+  -- without an own start
+  begun_alone : (from : ℕ) (b : Best) (u : Coming b) → Steps from u.recorded u.coming [] u.way
+      → turn.ways ≡ cur → Between table (record at { from = from }) turn.round turn.ways b
+  begun_alone from b u state same = record {
+    recorded = u.recorded;
+    under = [];
+    later = u.coming;
+    coming = [];
+    way = u.way;
+    in_step = state;
+    seen = λ r v e. absurd (let lt = u.before (r, p) v e in omega (arith, lt));
+    met = λ r lt e. absurd (turn.new r e);
+    frames_hold = refl;
+    ways_hold = subst (λ ts. Holds p ts u.coming) (sym same) u.hold;
+    coming_hold = none_next;
+    best_holds = u.best_holds;
+  }
 
-    from_kept : (p from : ℕ) (best best' : Best) → FromIs p from best → (best' ≡ None → best ≡ None)
-        → FromIs p from best'
-    from_kept p from best (Some b) f kept = tt
-    from_kept p from None None f kept = f
-    from_kept p from (Some b) None f kept =
-        let e : ◌≡◌ {A = Best} (Some b) None = kept refl in absurd (not_there (sym e))
+  begun_held : (from : ℕ) (blank : Row) → IsBlank blank → (starts : List Start)
+      → AreFrom s from starts → Holds p (begun turn.told blank starts) (begun_offers p starts)
+  begun_held from blank blanks [] are = tt
+  begun_held from blank blanks (start ∷ starts) are = (
+    refl,
+    (
+      p,
+      start.number,
+      start.place,
+      [],
+      subst (λ z. TellsStart (turn.told start.number) z start.number) turn.is.bytes
+          (turn.tells start.number),
+      are.1,
+      refl,
+      refl,
+      blanks,
+    ),
+    begun_held (suc start.number) blank blanks starts are.2,
+  )
 
-    -- the position's threads are followed
-    abbrev Turned : (p : ℕ) → (rounds2 : List ℕ) → List Thread → Best → Type 0
-    Turned p rounds2 next2 best =
-        (from : ℕ) × FromIs (p + 1) from best
-        × Between table h s first last p from rounds2 now' (thread_at cur') (length cur')
-        (length cur') next2 best
+  -- with its own starts
+  begun_own : (blank : Row) → IsBlank blank → turn.ways ≡ cur ++ begun turn.told blank turn.starts
+      → Coming None → Between table (record at { from = suc p }) turn.round turn.ways None
+  begun_own blank blanks pushed u = record {
+    recorded = u.recorded;
+    under = [];
+    later = u.coming ++ begun_offers p turn.starts;
+    coming = [];
+    way = None;
+    in_step =
+        deep.in_step_begin Node (numbered_step table h) (StartsOf s first last) (is_end table h)
+        (λ x. x.1) p u.recorded u.coming (begun_offers p turn.starts)
+        (λ m v i. (let r = begun_own_way table at 0 turn.starts turn.are.in_order turn.low turn.high
+        m v i in (r.0, r.1, r.2)))
+        (begun_ordered table at 0 turn.starts turn.are.in_order turn.low turn.high) offered u.before
+        (subst (λ z. Steps z u.recorded u.coming [] None) u.from_is
+        (subst (λ z. Steps u.from u.recorded u.coming [] z) u.best_holds u.in_step));
+    seen = λ r v e. absurd (let lt = u.before (r, p) v e in omega (arith, lt));
+    met = λ r lt e. absurd (turn.new r e);
+    frames_hold = refl;
+    ways_hold =
+        subst (λ ts. Holds p ts (u.coming ++ begun_offers p turn.starts)) (sym pushed)
+        (held_append table h s p cur (begun turn.told blank turn.starts) u.coming
+        (begun_offers p turn.starts) u.hold
+        (begun_held 0 blank blanks turn.starts turn.are.in_order));
+    coming_hold = none_next;
+    best_holds = refl;
+  }
+    where
+      offered : (front : List ℕ) (n : Node) → StartsOf s first last front n
+          → StartsBelow (suc p) front → StartsBelow p front
+          ⊎ (walk.In Node n front (begun_offers p turn.starts) ⊎ Dead n)
+      offered front n (i, number, entry, low, high, is, e, f) below = elim (cases_lt i p) [
+        | inl less ↦ inl (subst (StartsBelow p) (sym e) less)
+        | inr le ↦
+            let own : i < suc p = subst (StartsBelow (suc p)) e below in
+            let same : i ≡ p = omega (arith, own, le) in
+            inr (by_each same (turn.are.each number entry is))
+      ]
+        where
+          by_each : i ≡ p → IsAmong number entry turn.starts ⊎ IsDeadAt table h entry p
+              → walk.In Node n front (begun_offers p turn.starts) ⊎ Dead n
+          by_each same (inl among) =
+              inl (subst (λ z. walk.In Node z front (begun_offers p turn.starts))
+              (sym (f ∙ ap (λ z. (entry, z)) same))
+              (subst (λ z. walk.In Node (entry, p) z (begun_offers p turn.starts))
+              (sym (e ∙ ap (λ z. z ∷ (number ∷ [])) same))
+              (among_offers table at number entry turn.starts among)))
+          by_each same (inr gone) = inr (subst Dead (sym (f ∙ ap (λ z. (entry, z)) same)) gone)
 
-    turned : (here : Here) (at : ℕ → Told) → ((number : ℕ) → Tells (at number) here.at number)
-        → (p : ℕ) → IsHere h p here → (starts : List Start) → AreStartsAt table h s p starts
-        → (best best' : Best) (rounds2 : List ℕ) (next2 : List Thread) → first ≤ p → p ≤ last →
-        ((best ≡ None) × ((blank : Row) × IsBlank blank × (cur' ≡ cur ++ begun at blank starts)))
-        ⊎ ((best ≡ None → ⊥) × (cur' ≡ cur)) →
-        StepsTo table here now' (thread_at cur') (length cur') rounds' next best
-        (length cur') rounds2 next2 best'
-        → (best' ≡ None → best ≡ None) →
-        IsComing table h s first last p cur best → Turned p rounds2 next2 best'
-    turned here at told p is starts are best best' rounds2 next2 low high begins steps kept u =
-        go best begins refl u
-      where
-        Goal : Type 0
-        Goal = Turned p rounds2 next2 best'
+  abbrev Turned : Type 0
+  Turned =
+      (from : ℕ) × FromIs (p + 1) from best'
+      × Between table (record at { from = from }) after [] best'
 
-        on : (from : ℕ) → FromIs (p + 1) from best
-            → Between table h s first last p from rounds' now' (thread_at cur') 0
-            (length cur') next best → Goal
-        on from fis w =
-            (from, from_kept (p + 1) from best best' fis kept, steps h p is s first last from w)
+  turned : Coming best → Turned
+  turned u = go best turn.begins refl u
+    where
+      from_kept : (b b' : Best) (from : ℕ) → FromIs (p + 1) from b → (b' ≡ None → b ≡ None)
+          → FromIs (p + 1) from b'
+      from_kept b (Some x) from f kept = tt
+      from_kept None None from f kept = f
+      from_kept (Some x) None from f kept =
+          let e : ◌≡◌ {A = Best} (Some x) None = kept refl in absurd (not_there (sym e))
 
-        on_none : (from : ℕ) → from ≡ suc p → best ≡ None
-            → Between table h s first last p from rounds' now' (thread_at cur') 0
-            (length cur') next None → Goal
-        on_none from e none w =
-            on from (subst (λ z. FromIs (p + 1) from z) (sym none) (omega (arith, e)))
-            (subst (λ z. Between table h s first last p from rounds' now' (thread_at cur') 0
-            (length cur') next z) (sym none) w)
+      on : (from : ℕ) (b : Best) → best ≡ b → FromIs (p + 1) from b
+          → Between table (record at { from = from }) turn.round turn.ways b → Turned
+      on from b e from_is w = (
+        from,
+        from_kept best best' from (subst (FromIs (p + 1) from) (sym e) from_is) turn.kept,
+        turn.steps (record at { from = from }) turn.is
+            (subst (Between table (record at { from = from }) turn.round turn.ways) (sym e) w),
+      )
 
-        go : (b : Best)
-            → ((b ≡ None) × ((blank : Row) × IsBlank blank × (cur' ≡ cur ++ begun at blank starts)))
-            ⊎ ((b ≡ None → ⊥) × (cur' ≡ cur))
-            → best ≡ b → IsComing table h s first last p cur b → Goal
-        go None (inl (none, (blank, blanks, pushed))) e u =
-            on_none (suc p) refl e
-            (begun_own p at blank blanks (λ number. subst (λ z. Tells (at number) z number) is.bytes
-            (told number)) low high starts are pushed u)
-        go None (inr (some, same)) e u = absurd (some refl)
-        go (Some b) (inl (none, pushed)) e u = absurd (not_there (sym none))
-        go (Some b) (inr (why, same)) e u =
-            on u.from (subst (λ z. FromIs (p + 1) u.from z) (sym e) tt)
-            (subst (λ z. Between table h s first last p u.from rounds' now' (thread_at cur') 0
-            (length cur') next z) (sym e) (begun_alone p u.from (Some b) u u.in_step same))
+      go : (b : Best) → Begun turn.starts turn.told b cur turn.ways → best ≡ b → Coming b → Turned
+      go None (inl (none, (blank, blanks, pushed))) e u =
+          on (suc p) None e (omega arith) (begun_own blank blanks pushed u)
+      go None (inr (some, same)) e u = absurd (some refl)
+      go (Some b) (inl (none, pushed)) e u = absurd (not_there (sym none))
+      go (Some b) (inr (why, same)) e u =
+          on u.from (Some b) e tt (begun_alone u.from (Some b) u u.in_step same)
 
-    pub turned_all : (here : Here) (at : ℕ → Told)
-        → ((number : ℕ) → Tells (at number) here.at number) → (p : ℕ) → IsHere h p here
-        → (starts : List Start) → AreStartsAt table h s p starts
-        → (best best' : Best) (rounds2 : List ℕ) (next2 : List Thread) → first ≤ p → p ≤ last →
-        ((best ≡ None) × ((blank : Row) × IsBlank blank × (cur' ≡ cur ++ begun at blank starts)))
-        ⊎ ((best ≡ None → ⊥) × (cur' ≡ cur)) →
-        StepsTo table here now' (thread_at cur') (length cur') rounds' next best
-        (length cur') rounds2 next2 best'
-        → (best' ≡ None → best ≡ None) →
-        IsComing table h s first last p cur best → IsComing table h s first last (p + 1) next2 best'
-    turned_all here at told p is starts are best best' rounds2 next2 low high begins steps kept u =
-        let (from, is_from, done) =
-        turned here at told p is starts are best best' rounds2 next2 low high begins steps kept u in
-        left_over p from (length cur') (thread_at cur') rounds2 now' next2 best' is_from done
+  pub turned_all : Coming best → IsComing table h s first last (p + 1) after.next best'
+  turned_all u =
+      let (from, is, w) = turned u in
+      let one_more : suc p ≡ p + 1 = omega arith in
+      subst (λ z. IsComing table h s first last z after.next best') one_more (record {
+        recorded = w.recorded;
+        coming = w.coming;
+        way = w.way;
+        from = from;
+        in_step =
+            deep.in_step_next_alone Node (numbered_step table h) (StartsOf s first last)
+            (is_end table h) (λ x. x.1) p from w.recorded w.coming w.way
+            (subst (λ z. Steps from w.recorded ([] ++ z) w.coming w.way)
+            (none_held table h s p w.later w.ways_hold)
+            (subst (λ z. Steps from w.recorded (z ++ w.later) w.coming w.way) w.frames_hold
+            w.in_step));
+        before = λ m v r. (let le = w.in_step.past m v r in omega (arith, le));
+        hold = w.coming_hold;
+        best_holds = w.best_holds;
+        from_is = subst (λ z. FromIs z from best') (sym one_more) is;
+      })
 
-    -- just places of the part were entered
-    pub turned_within : (here : Here) (at : ℕ → Told)
-        → ((number : ℕ) → Tells (at number) here.at number) → (p : ℕ) → IsHere h p here
-        → (starts : List Start) → AreStartsAt table h s p starts
-        → (best best' : Best) (rounds2 : List ℕ) (next2 : List Thread) → first ≤ p → p ≤ last →
-        ((best ≡ None) × ((blank : Row) × IsBlank blank × (cur' ≡ cur ++ begun at blank starts)))
-        ⊎ ((best ≡ None → ⊥) × (cur' ≡ cur)) →
-        StepsTo table here now' (thread_at cur') (length cur') rounds' next best
-        (length cur') rounds2 next2 best'
-        → (best' ≡ None → best ≡ None) →
-        IsComing table h s first last p cur best → (begin len : ℕ) → IsOwnPart table s begin len →
-        (q : ℕ) → q < length rounds2 → slice_index rounds2 q ≡ now' → IsWithin begin len q
-    turned_within here at told p is starts are best best' rounds2 next2 low high begins steps kept u
-        begin len part q lt e =
-        let (from, is_from, done) =
-        turned here at told p is starts are best best' rounds2 next2 low high begins steps kept u in
-        let (v, known) = done.met q lt e in
-        recorded_within table h s first last begin len part p from done.recorded
-        (done.under ++ done.later) done.coming done.way done.in_step (q, p) v known
+  -- just places of the part were entered
+  pub turned_within : Coming best → (begin len : ℕ) → IsOwnPart table s begin len → (q : ℕ)
+      → q < length after.rounds → slice_index after.rounds q ≡ after.now → IsWithin begin len q
+  turned_within u begin len part q lt e =
+      let (from, is, w) = turned u in
+      let (v, known) = w.met q lt e in
+      recorded_within table (record at { from = from }) begin len part w.recorded
+      (w.under ++ w.later) w.coming w.way w.in_step (q, p) v known
 
 pub begun_len : (best : Best) (starts : List Start) (at : ℕ → Told) (cur cur' : List Thread)
     → Begun starts at best cur cur' → (length cur') ≤ length cur + length starts
@@ -497,7 +408,7 @@ begun_below c best starts at cur cur' inside below (inl (none, (blank, blanks, p
 begun_below c best starts at cur cur' inside below (inr (some, same)) =
     subst (λ (t : List Thread). ThreadsBelow c t) (sym same) below
 
-blank_row : (w : ℕ) → IsBlank (replicate w None)
+pub blank_row : (w : ℕ) → IsBlank (replicate w None)
 blank_row zero k slot e = absurd (not_there e)
 blank_row (suc w) zero slot e = sym (same_some e)
 blank_row (suc w) (suc k) slot e = blank_row w k slot e
@@ -507,15 +418,21 @@ pub start_begun : (starts : List Start) (at : ℕ → Told) (w : ℕ) (best : Be
 start_begun starts at w None ts = inl (refl, (replicate w None, blank_row w, refl))
 start_begun starts at w (Some b) ts = inr ((λ e. not_there (sym e)), refl)
 
-pub no_starts : (starts : List Start) (at : ℕ → Told) (w : ℕ) (best : Best) (ts : List Thread)
-    → length starts ≡ 0 → length (with_starts starts at best w ts) ≡ length ts
-no_starts starts at w None ts e = omega (
-  arith,
-  e,
-  length-append ts (begun at (replicate w None) starts),
-  begun_length at (replicate w None) starts,
-)
-no_starts starts at w (Some b) ts e = refl
+-- the ways of a round that begins
+pub begins_with : (m n : State) (starts : List Start) (told : ℕ → Told) (best : Best)
+    → BeginsRound m n
+    → Begun starts told best m.threads (with_starts starts told best (length n.row) n.threads)
+begins_with m n starts told best round =
+    subst (λ ts. Begun starts told best ts (with_starts starts told best (length n.row) n.threads))
+    round.threads (start_begun starts told (length n.row) best n.threads)
+
+-- no place was entered in it
+pub none_entered : (m n : State) → ((q : ℕ) → slice_index m.rounds q ≤ m.now) → BeginsRound m n
+    → (q : ℕ) → slice_index n.rounds q ≡ n.now → ⊥
+none_entered m n old round q e =
+    let le = old q in let now = round.now in
+    let same = ap (λ x. slice_index x q) round.rounds in
+    omega (arith, le, same, now, e)
 
 -- a thread, or a start after them
 abbrev IsTakenUp : (starts : List Start) (at : ℕ → Told) (w : ℕ) (ts ways : List Thread) (k : ℕ)
@@ -539,23 +456,3 @@ start_taken starts at w None ts k lt = (
 )
 start_taken starts at w (Some b) ts k lt =
     (omega (arith, lt), sym (at_front ts (begun at (replicate w None) starts) k lt))
-
--- of one pattern
-pub one_starts : (table : List (Place ℕ)) (h : Text) (s p : ℕ) (may : Bool)
-    → (may ≡ false → IsDeadAt table h s p)
-    → AreStartsAt table h (s ∷ []) p (if may then record { number = 0; place = s } ∷ [] else [])
-one_starts table h s p true dead = record {
-  in_order = (omega arith, refl, tt);
-  each = λ number entry is. (let e = only_entry s number entry is in inl (inl (e.0, sym e.1)));
-}
-one_starts table h s p false dead = record {
-  in_order = tt;
-  each = λ number entry is.
-      inr (subst (λ z. IsDeadAt table h z p) (only_entry s number entry is).1 (dead refl));
-}
-
--- with one pattern, all are dead where it is
-pub one_dead : (table : List (Place ℕ)) (h : Text) (s p : ℕ) → IsDeadAt table h s p
-    → AreDeadAt table h (s ∷ []) p
-one_dead table h s p dead number entry is =
-    subst (λ z. IsDeadAt table h z p) (only_entry s number entry is).1 dead

@@ -14,7 +14,8 @@ use Rattle.regex_lite_engine.specs.Graph.SideBySide.{places_of_all, tries_of_all
 use Rattle.regex_lite_engine.specs.Graph.Stored.{place_of}
 use Rattle.regex_lite_engine.specs.Graph.StoredList.{IsGraphOfList, StoredList, table_of_list}
 use Rattle.regex_lite_engine.specs.Search.Answer.{Found, HasMatchFrom, IsMatchFrom}
-use Rattle.regex_lite_engine.specs.Search.AnswerOfList.{AnyMatchesFrom, HasTree, IsAnswerOfList}
+use Rattle.regex_lite_engine.specs.Search.AnswerOfList.{AnyMatchesFrom, IsAnswerOfList}
+use Rattle.regex_lite_engine.specs.Graph.SideBySide.{HasTree}
 use Rattle.regex_lite_engine.specs.Search.Bounds.{IsBoundedBy, StepCounts}
 use Rattle.regex_lite_engine.specs.Search.Offsets.{position_at, search_start}
 use Rattle.regex_lite_engine.specs.Search.Outcomes.{HasCostOfList, IsOutcomeOfList}
@@ -25,8 +26,8 @@ use Rattle.regex_lite_engine.specs.Pikevm.Outcomes.{numbered_at, numbered_told, 
 use Rattle.regex_lite_engine.specs.Pikevm.Walking.{Best}
 use Rattle.regex_lite_engine.proofs.laws.several.NumberedListLemmas.{any_numbered, any_of_numbers}
 use Rattle.regex_lite_engine.proofs.laws.several.NumberedListLemmas.{list_answer_of_numbers}
-use Rattle.regex_lite_engine.proofs.search.OptionLemmas.{same_some}
-use Rattle.regex_lite_engine.proofs.pikevm.TurnLemmas.{only_entry}
+use Rattle.regex_lite_engine.proofs.OptionLemmas.{same_some}
+use Rattle.regex_lite_engine.proofs.search.OneStartLemmas.{only_entry}
 
 -- a start inside the haystack is that of a position
 start_inside : (bytes : List ℕ) (start : ℕ) → start ≤ length bytes

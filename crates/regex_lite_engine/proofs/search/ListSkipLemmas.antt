@@ -13,7 +13,7 @@ use Rattle.regex_lite_engine.specs.Prefilter.Starts.{MayBegin}
 use Rattle.regex_lite_engine.specs.Search.Offsets.{offset}
 use Rattle.regex_lite_engine.specs.Search.Standing.{IsHere}
 use Rattle.regex_lite_engine.specs.Search.Starts.{AreListHeadsOf, PassesTo}
-use Rattle.regex_lite_engine.specs.Pikevm.Turns.{AreDeadAt}
+use Rattle.regex_lite_engine.specs.Search.Starts.{AreDeadAt}
 use Rattle.regex_lite_engine.proofs.search.SkipLemmas.{ascii_there, begins_later}
 use Rattle.regex_lite_engine.proofs.search.SkipLemmas.{first_byte, inside, next_at, there}
 use Rattle.regex_lite_engine.proofs.search.here.OffsetLemmas.{offset_less}

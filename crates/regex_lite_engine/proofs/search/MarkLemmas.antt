@@ -11,7 +11,7 @@ use Rattle.regex_lite_engine.specs.Graph.Ways.{Leads}
 use Rattle.regex_lite_engine.specs.Search.Marks.{Marks, marked, over, mark_of, marks_along}
 use Rattle.regex_lite_engine.specs.Pikevm.Machine.{Row}
 use Rattle.regex_lite_engine.specs.Search.Offsets.{offset, HasSlots}
-use Rattle.regex_lite_engine.proofs.search.OptionLemmas.{not_there, same_some}
+use Rattle.regex_lite_engine.proofs.OptionLemmas.{not_there, same_some}
 
 -- an element of a list in which one was set
 got_after_set : {X : Type 0} (row : List X) (s k : ℕ) (y o : X) → slice_get (set row s y) k ≡ Some o

@@ -6,7 +6,7 @@ use Rattle.regex_lite_engine.specs.Search.Preference.{IsPreferred}
 use Rattle.regex_lite_engine.specs.Search.Explored.{Before}
 use Rattle.regex_lite_engine.specs.Pikevm.InStep as walk
 use Rattle.regex_lite_engine.specs.Pikevm.InStep.{StartsBelow}
-use Rattle.regex_lite_engine.proofs.search.OptionLemmas.{not_there}
+use Rattle.regex_lite_engine.proofs.OptionLemmas.{not_there}
 
 pub preferred_before : (a b : List ℕ) → IsPreferred a b → Before a b
 preferred_before [] b p = absurd p

@@ -6,10 +6,10 @@ use Rattle.regex_lite_engine.specs.Search.Preference.{IsPreferred}
 use Rattle.regex_lite_engine.specs.Search.Explored.{IsAnswered, IsGrown, IsExplored, IsDead}
 use Rattle.regex_lite_engine.specs.Pikevm.InStep as walk
 use Rattle.regex_lite_engine.specs.Pikevm.InStep.{StartsBelow}
-use Rattle.regex_lite_engine.proofs.search.OptionLemmas.{not_there}
+use Rattle.regex_lite_engine.proofs.OptionLemmas.{not_there}
 use Rattle.regex_lite_engine.proofs.search.OfferLemmas as order
 use Rattle.regex_lite_engine.proofs.search.OfferLemmas.{preferred_before, below_front, below_up}
-use Rattle.regex_lite_engine.proofs.pikevm.InStepLemmas.{or_dead}
+use Rattle.regex_lite_engine.proofs.search.RecordLemmas.{or_dead}
 
 module _ (N : Type 0) (step : N → ℕ → Option N) (IsStart : List ℕ → N → Type 0)
     (is_end : N → Bool) (position : N → ℕ) where

@@ -2,7 +2,12 @@
 use Rattle.std.proofs.Common.{◌≡◌, ℕ, ◌⊎◌, inl, inr, Bool, List, Option}
 use Rattle.std.proofs.Common.{Some, None, refl, sym, ap, subst, ◌∙◌}
 use Rattle.regex_lite_engine.specs.Search.Explored.{IsGrown}
-use Rattle.regex_lite_engine.proofs.search.OptionLemmas.{not_there, same_some}
+use Rattle.regex_lite_engine.proofs.OptionLemmas.{not_there, same_some}
+
+-- what is answered otherwise, or dead
+pub or_dead : {A B D : Type 0} → (A → B) → A ⊎ D → B ⊎ D
+or_dead f (inl a) = inl (f a)
+or_dead f (inr d) = inr d
 
 module _ (N : Type 0) (same : (x y : N) → (x ≡ y) ⊎ (x ≡ y → ⊥)) where
   abbrev Recorded : Type 0

@@ -16,18 +16,13 @@ use Rattle.std.proofs.lemmas.Str.{encodes-chars, char_from_byte, byte_from_char}
 use Rattle.regex_lite_syntax.specs.Text.{Text, after}
 use Rattle.regex_lite_engine.specs.declared.prefilter.starts.Starts.{Starts}
 use Rattle.regex_lite_engine.specs.declared.search.here.Here.{Here}
-use Rattle.regex_lite_engine.specs.Graph.Places.{Place}
 use Rattle.regex_lite_engine.specs.declared.prefilter.heads.Heads.{Heads}
 use Rattle.regex_lite_engine.specs.Prefilter.Heads.{IsCutOff, IsPassed, NeverBegins}
 use Rattle.regex_lite_engine.specs.Prefilter.Starts.{begins_with, stops_at, may_begin, MayBegin}
 use Rattle.regex_lite_engine.specs.Search.Offsets.{offset}
-use Rattle.regex_lite_engine.specs.Pikevm.Machine.{Thread}
 use Rattle.regex_lite_engine.specs.Search.Standing.{IsHere}
-use Rattle.regex_lite_engine.specs.Search.Starts.{GoesOnAt, PassesTo}
-use Rattle.regex_lite_engine.specs.Pikevm.Turns.{IsComing}
-use Rattle.regex_lite_engine.specs.Pikevm.Walking.{Best}
-use Rattle.regex_lite_engine.proofs.search.OptionLemmas.{not_there, same_some}
-use Rattle.regex_lite_engine.proofs.pikevm.TurnLemmas.{jumped}
+use Rattle.regex_lite_engine.specs.Search.Starts.{PassesTo}
+use Rattle.regex_lite_engine.proofs.OptionLemmas.{not_there, same_some}
 use Rattle.regex_lite_engine.proofs.search.here.OffsetLemmas.{length_encodes, offset_next}
 use Rattle.regex_lite_engine.proofs.search.here.OffsetLemmas.{offset_less, offset_most}
 use Rattle.regex_lite_engine.proofs.search.here.OffsetLemmas.{rest_at, boundary_at}
@@ -45,17 +40,6 @@ stops_outside s byte below above e =
     else (if nat_lt byte 192 then false else s.others))) ascii in
     let by_inside = ap (λ z. s.any && (if z then false else s.others)) inside in
     never_both s.any (sym (by_ascii ∙ by_inside) ∙ e)
-
--- the scan stops at a boundary
-pub stops_between : (s : Starts) (bs : List ℕ) (at : ℕ) → at ≤ length bs
-    → (at < length bs → stops_at s (slice_index bs at) ≡ true) → IsCharBoundary bs at
-stops_between s bs at le stops =
-    (le, λ lt high. go (cases_lt (slice_index bs at) 192) high (stops lt))
-  where
-    go : (slice_index bs at < 192) ⊎ (192 ≤ slice_index bs at) → 128 ≤ slice_index bs at
-        → stops_at s (slice_index bs at) ≡ true → 192 ≤ slice_index bs at
-    go (inr le) high e = le
-    go (inl lt) high e = absurd (stops_outside s (slice_index bs at) lt high e)
 
 first_of : (i : ℕ) (cs : List ℕ) (c : ℕ) → slice_get cs i ≡ Some c
     → drop i cs ≡ c ∷ drop (suc i) cs
@@ -337,15 +321,6 @@ module _ (heads : Heads) (bs : List ℕ) (p q : ℕ) (x y : Here) (u : IsUtf8 bs
             | inr le' ↦ absurd (apart (omega (arith, low, le')))
           ]
 
-pub passes_none : (Passed : ℕ → Type 0) (h : Text) (p : ℕ) (x : Here) → IsHere h p x
-    → PassesTo Passed h p x
-passes_none Passed h p x is = record {
-  q = p;
-  later = omega arith;
-  is = is;
-  passed = λ i low high. absurd (omega (arith, low, high));
-}
-
 pub passes_as : (Passed Other : ℕ → Type 0) (h : Text) (p : ℕ) (x : Here)
     → ((i : ℕ) → Passed i → Other i) → PassesTo Passed h p x → PassesTo Other h p x
 passes_as Passed Other h p x each w = record {
@@ -353,29 +328,6 @@ passes_as Passed Other h p x each w = record {
   later = w.later;
   is = w.is;
   passed = λ i low high. each i (w.passed i low high);
-}
-
--- where a search stands after the positions that it passes over
-pub record Onward (table : List (Place ℕ)) (h : Text) (s : List ℕ) (first last p : ℕ)
-    (threads : List Thread) (best : Best) (x : Here) : Type 0 where
-  pub q : ℕ
-  pub later : p ≤ q
-  pub is : IsHere h q x
-  pub coming : IsComing table h s first last q threads best
-
-pub onward : (table : List (Place ℕ)) (h : Text) (s : List ℕ) (first last p : ℕ)
-    (threads : List Thread)
-    (best : Best) (x : Here) → GoesOnAt table h s threads best p x
-    → IsComing table h s first last p threads best → Onward table h s first last p threads best x
-onward table h s first last p threads best x (inl is) u =
-    record { q = p; later = omega arith; is = is; coming = u }
-onward table h s first last p threads best x (inr (empty, none, w)) u = record {
-  q = w.q;
-  later = w.later;
-  is = w.is;
-  coming = subst (λ z. IsComing table h s first last w.q threads z) (sym none)
-      (jumped table h s first last p w.q threads empty w.later w.passed
-      (subst (λ z. IsComing table h s first last p threads z) none u));
 }
 
 -- a bound up to a position holds up to a later one

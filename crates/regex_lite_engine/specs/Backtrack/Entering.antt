@@ -1,4 +1,4 @@
--- What entering a place does to the row of slots and to what is left to do.
+-- What entering a place does to what is held: the row of slots, and what is left to do.
 use Rattle.std.specs.Prelude.{◌≡◌, ◌+◌, ◌≤◌, ◌<◌, ◌⊎◌, ℕ, Bool, true, false}
 use Rattle.std.specs.Prelude.{List, ◌∷◌, ◌++◌, length, map, Option, Some}
 use Rattle.std.specs.Prelude.{None, slice_set, slice_index_or, if◌then◌else◌}
@@ -10,8 +10,8 @@ use Rattle.regex_lite_syntax.specs.Tree.Looks.{holds_between}
 use Rattle.regex_lite_engine.specs.declared.nfa.place.Place.{Place}
 use Rattle.regex_lite_engine.specs.declared.nfa.place.Place.TheVariants as stored
 use Rattle.regex_lite_engine.specs.declared.backtrack.enter.Onward.{Onward}
-use Rattle.regex_lite_engine.specs.Backtrack.Machine.{Frame, explore, restore, onto, completes}
-use Rattle.regex_lite_engine.specs.Pikevm.Machine.{Row}
+use Rattle.regex_lite_engine.specs.Backtrack.Machine.{Frame, explore, restore, Held, onto}
+use Rattle.regex_lite_engine.specs.Backtrack.Machine.{completes}
 
 module _ (at : ℕ) where
   -- where a character of the set comes next, the walk goes on after it
@@ -27,35 +27,40 @@ module _ (at : ℕ) where
       × (completes told ≡ false)
 
   -- the slot holds the offset, until the way is left. A slot after the row is not kept
-  abbrev pub Marks : (slot to : ℕ) → Row → List Frame → Row → List Frame → Type 0
-  Marks slot to row frames row' frames' =
-      ((slot < length row) × (row' ≡ slice_set row slot (Some at))
-      × (frames' ≡ explore to at ∷ (restore slot (slice_index_or row slot None) ∷ frames)))
-      ⊎ ((length row ≤ slot) × (row' ≡ row) × (frames' ≡ explore to at ∷ frames))
+  abbrev pub SlotMarked : (slot to : ℕ) → (held held' : Held) → Type 0
+  SlotMarked slot to held held' =
+      ((slot < length held.row)
+      × (held' ≡ record held {
+        row = slice_set held.row slot (Some at);
+        frames = explore to at ∷ (restore slot (slice_index_or held.row slot None) ∷ held.frames);
+      }))
+      ⊎ ((length held.row ≤ slot)
+      × (held' ≡ record held { frames = explore to at ∷ held.frames }))
 
 module _ (haystack : Text) (p at : ℕ) where
-  -- at this position, which has the offset. `done` says that a match is complete there
-  abbrev pub Enters : Place → Row → List Frame → Row → List Frame → (done : Bool) → Type 0
-  Enters (stored.Empty to) row frames row' frames' done =
-      (row' ≡ row) × (frames' ≡ explore to at ∷ frames) × (done ≡ false)
-  Enters (stored.Char c to) row frames row' frames' done =
-      (row' ≡ row) × (frames' ≡ read_on at (just c) (after haystack p) to frames)
+  -- what is held after the place is entered at this position, which has the offset. `done` says
+  -- that a match is complete there
+  abbrev pub Enters : Place → (held held' : Held) → (done : Bool) → Type 0
+  Enters (stored.Empty to) held held' done =
+      (held' ≡ record held { frames = explore to at ∷ held.frames }) × (done ≡ false)
+  Enters (stored.Char c to) held held' done =
+      (held' ≡ record held { frames = read_on at (just c) (after haystack p) to held.frames })
       × (done ≡ false)
-  Enters (stored.Class to set) row frames row' frames' done =
-      (row' ≡ row) × (frames' ≡ read_on at (in_ranges set) (after haystack p) to frames)
+  Enters (stored.Class to set) held held' done =
+      (held'
+      ≡ record held { frames = read_on at (in_ranges set) (after haystack p) to held.frames })
       × (done ≡ false)
-  Enters (stored.Look test to) row frames row' frames' done =
-      (row' ≡ row)
-      × (frames' ≡ (if holds_between test (before haystack p) (after haystack p)
-      then explore to at ∷ frames else frames))
+  Enters (stored.Look test to) held held' done =
+      (held' ≡ record held {
+        frames = if holds_between test (before haystack p) (after haystack p)
+            then explore to at ∷ held.frames else held.frames;
+      })
       × (done ≡ false)
-  Enters (stored.Slot slot to) row frames row' frames' done =
-      Marks at slot to row frames row' frames' × (done ≡ false)
-  Enters (stored.Choice first second) row frames row' frames' done =
-      (row' ≡ row) × (frames' ≡ explore first at ∷ (explore second at ∷ frames))
+  Enters (stored.Slot slot to) held held' done = SlotMarked at slot to held held' × (done ≡ false)
+  Enters (stored.Choice first second) held held' done =
+      (held' ≡ record held { frames = explore first at ∷ (explore second at ∷ held.frames) })
       × (done ≡ false)
-  Enters (stored.Branches entries) row frames row' frames' done =
-      (row' ≡ row) × (frames' ≡ map (λ q. explore q at) entries.items ++ frames)
+  Enters (stored.Branches entries) held held' done =
+      (held' ≡ record held { frames = map (λ q. explore q at) entries.items ++ held.frames })
       × (done ≡ false)
-  Enters stored.Match row frames row' frames' done =
-      (row' ≡ row) × (frames' ≡ frames) × (done ≡ true)
+  Enters stored.Match held held' done = (held' ≡ held) × (done ≡ true)

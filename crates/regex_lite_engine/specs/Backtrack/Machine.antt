@@ -1,6 +1,6 @@
 -- What a search that goes depth first keeps.
 use Rattle.std.specs.Prelude.{◌+◌, ◌-◌, ◌*◌, ℕ, Bool, true, false, List}
-use Rattle.std.specs.Prelude.{◌∷◌, Option, Some, None, slice_index_or}
+use Rattle.std.specs.Prelude.{◌∷◌, Option, Some, None, slice_index_or, if◌then◌else◌}
 use Rattle.regex_lite_engine.specs.declared.backtrack.frame.Frame as code
 use Rattle.regex_lite_engine.specs.declared.backtrack.frame.Frame.TheVariants as stored
 use Rattle.regex_lite_engine.specs.declared.backtrack.enter.Onward.{Onward}
@@ -28,6 +28,10 @@ abbrev pub completes : Onward → Bool
 completes (To place at) = false
 completes Back = false
 completes Complete = true
+
+-- where a match ends that is complete at the offset
+abbrev pub end_at : (at : ℕ) → Onward → Option ℕ
+end_at at told = if completes told then Some at else None
 
 -- the pairs of a place and an offset, of this many places, from the first offset on
 pub record Pairs : Type 0 where

@@ -1,16 +1,15 @@
 -- The working memory suffices for what is left to do, and what is left bounds the counts.
 use Rattle.std.specs.Prelude.{◌≡◌, ◌+◌, ◌-◌, ◌*◌, ◌^◌, ◌≤◌, ◌<◌, ℕ, zero, suc}
-use Rattle.std.specs.Prelude.{Bool, true, false, List, [], ◌∷◌, length, chars}
-use Rattle.std.specs.Prelude.{Some, IsCharBoundary, slice_index_or, if◌then◌else◌}
+use Rattle.std.specs.Prelude.{Bool, false, List, [], ◌∷◌, length, chars, Option, Some, None}
+use Rattle.std.specs.Prelude.{IsCharBoundary, slice_index_or, if◌then◌else◌}
 use Rattle.regex_lite_engine.specs.declared.backtrack.walk.Walk.{Walk}
 use Rattle.regex_lite_engine.specs.Backtrack.Machine.{Frame, explore, restore}
-use Rattle.regex_lite_engine.specs.Backtrack.Machine.{Pairs, Held, pair_number}
-use Rattle.regex_lite_engine.specs.Backtrack.Walking.{IsWalking}
+use Rattle.regex_lite_engine.specs.Backtrack.Machine.{Pairs, pair_number}
+use Rattle.regex_lite_engine.specs.Backtrack.Walking.{IsWalking, SearchFrom}
 use Rattle.regex_lite_engine.specs.Graph.Places.{Place, kept_back_with}
 use Rattle.regex_lite_engine.specs.Graph.Renumbered.{arrow_count}
 use Rattle.regex_lite_engine.specs.Search.Bounds.{characters_left}
 use Rattle.regex_lite_engine.specs.Search.Offsets.{offset, position_at}
-use Rattle.regex_lite_engine.specs.Pikevm.Machine.{Row}
 use Rattle.regex_lite_engine.specs.Pikevm.Outcomes.{IsNumberedOutcome}
 use Rattle.regex_lite_engine.specs.Pikevm.Room.{lone, weight}
 
@@ -25,6 +24,10 @@ abbrev pub explores : List Frame → ℕ
 explores [] = 0
 explores (explore q at ∷ frames) = explores frames + 1
 explores (restore slot old ∷ frames) = explores frames
+
+-- the same walk with these frames to come
+abbrev pub with_frames : Walk → List Frame → Walk
+with_frames walk frames = record walk { stack = record walk.stack { frames = frames } }
 
 module _ (table : List (Place ℕ)) (haystack : List ℕ) where
   -- the same over n positions from p on
@@ -51,15 +54,16 @@ module _ (table : List (Place ℕ)) (haystack : List ℕ) where
       (slot < width) × FramesBelow first width frames
 
   -- how often the search has come to a place, or may still come to one from what is left
-  abbrev pub due_tries : Pairs → List Frame → (tried : ℕ) → ℕ
-  due_tries pairs frames tried = tried + (explores frames + left_of arrow_count pairs)
+  abbrev pub due_tries : Walk → ℕ
+  due_tries walk =
+      walk.steps.tried + (explores walk.stack.frames + left_of arrow_count walk.visited)
 
-  abbrev pub due_entries : Pairs → (entered : ℕ) → ℕ
-  due_entries pairs entered = entered + left_of lone pairs
+  abbrev pub due_entries : Walk → ℕ
+  due_entries walk = walk.steps.entered + left_of lone walk.visited
 
   -- how much is left to do from this start
-  abbrev pub work : Pairs → List Frame → ℕ
-  work pairs frames = length frames + left_of weight pairs
+  abbrev pub work : Walk → ℕ
+  work walk = length walk.stack.frames + left_of weight walk.visited
 
   -- each pair of the search has a bit
   pub record AreAll (pairs : Pairs) : Type 0 where
@@ -67,59 +71,66 @@ module _ (table : List (Place ℕ)) (haystack : List ℕ) where
     pub boundary : IsCharBoundary haystack pairs.first
     pub all : length pairs.entered ≡ length table * (length haystack - pairs.first + 1)
 
-  -- with these frames to come, of which the first needs no room on the stack
-  pub record IsFit (pairs : Pairs) (held : Held) (frames : List Frame)
-      (tried entered looked : ℕ) : Type 0 where
-    pub all : AreAll pairs
-    pub below : FramesBelow pairs.first (length held.row) frames
+  -- of what is left to do the first needs no room on the stack
+  pub record IsFit (walk : Walk) : Type 0 where
+    pub all : AreAll walk.visited
+    pub below : FramesBelow walk.visited.first (length walk.stack.row) walk.stack.frames
     pub stack_room :
-        length frames + left_of (kept_back_with (length held.row)) pairs ≤ held.room + 1
-    pub few_tries : due_tries pairs frames tried < 2 ^ 127
-    pub few_entries : due_entries pairs entered < 2 ^ 127
-    pub entered_tried : entered ≤ tried
-    pub looked_entered : looked ≤ entered
+        length walk.stack.frames + left_of (kept_back_with (length walk.stack.row)) walk.visited
+        ≤ walk.stack.room + 1
+    pub few_tries : due_tries walk < 2 ^ 127
+    pub few_entries : due_entries walk < 2 ^ 127
+    pub entered_tried : walk.steps.entered ≤ walk.steps.tried
+    pub looked_entered : walk.steps.looked ≤ walk.steps.entered
 
   abbrev pub HasRoom : Walk → List Frame → Type 0
-  HasRoom walk frames =
-      IsFit walk.visited walk.stack frames walk.steps.tried walk.steps.entered walk.steps.looked
+  HasRoom walk frames = IsFit (with_frames walk frames)
 
   -- what a walk leaves as it is
-  pub record Keeps (pairs pairs' : Pairs) (held held' : Held) : Type 0 where
-    pub places : pairs'.places ≡ pairs.places
-    pub first : pairs'.first ≡ pairs.first
-    pub row : length held'.row ≡ length held.row
-    pub room : held'.room ≡ held.room
+  pub record Keeps (walk walk' : Walk) : Type 0 where
+    pub places : walk'.visited.places ≡ walk.visited.places
+    pub first : walk'.visited.first ≡ walk.visited.first
+    pub row : length walk'.stack.row ≡ length walk.stack.row
+    pub room : walk'.stack.room ≡ walk.stack.room
 
-  -- what is known of a walk stays known, or a match is complete at the offset, which is the answer
-  abbrev pub Leads : (s first from i : ℕ) → Pairs → Row → List Frame → (at : ℕ) → (done : Bool)
-      → Type 0
-  Leads s first from i pairs row frames at false =
-      IsWalking table (chars haystack) s first from i pairs row frames
-  Leads s first from i pairs row frames at true =
-      IsNumberedOutcome table (chars haystack) s first (Some (i, at, row))
+  abbrev pub searching : (s first from i : ℕ) → SearchFrom
+  searching s first from i = record {
+    haystack = chars haystack;
+    entry = s;
+    first = first;
+    from = from;
+    i = i;
+  }
 
-  -- from one state of a walk to a later one, or to a match that ends at the offset
-  abbrev pub WalksTo : Pairs → Row → List Frame → Pairs → Row → List Frame → (at : ℕ)
-      → (done : Bool) → Type 0
-  WalksTo pairs row frames pairs' row' frames' at done =
-      (s from i : ℕ)
-      → IsWalking table (chars haystack) s (position_at haystack pairs.first) from i pairs row
-      frames
-      → Leads s (position_at haystack pairs.first) from i pairs' row' frames' at done
+  -- what is known of a walk stays known, or a match that ends there is complete: it is the answer
+  abbrev pub IsWalkingOrDone : (s first from i : ℕ) → Walk → (end : Option ℕ) → Type 0
+  IsWalkingOrDone s first from i walk None =
+      IsWalking table (searching s first from i) walk.visited walk.stack
+  IsWalkingOrDone s first from i walk (Some end) =
+      IsNumberedOutcome table (chars haystack) s first (Some (i, end, walk.stack.row))
 
-  -- a frame was taken off, or a match is complete at the offset
-  pub record Goes (walk : Walk) (frames : List Frame) (walk' : Walk) (frames' : List Frame)
-      (at : ℕ) (done : Bool) : Type 0 where
-    pub fit : done ≡ false → HasRoom walk' frames'
-    pub walks : WalksTo walk.visited walk.stack.row frames walk'.visited walk'.stack.row frames'
-        at done
-    pub less : done ≡ false → work walk'.visited frames' < work walk.visited frames
-    pub kept : Keeps walk.visited walk'.visited walk.stack walk'.stack
-    pub spent :
-        due_tries walk'.visited frames' walk'.steps.tried
-        ≤ due_tries walk.visited frames walk.steps.tried
-    pub spent_entries :
-        due_entries walk'.visited walk'.steps.entered
-        ≤ due_entries walk.visited walk.steps.entered
+  -- from one state of a walk to a later one, or to a match that ends there
+  abbrev pub WalksTo : (walk walk' : Walk) → (end : Option ℕ) → Type 0
+  WalksTo walk walk' end =
+      (s from i : ℕ) → IsWalkingOrDone s (position_at haystack walk.visited.first) from i walk None
+      → IsWalkingOrDone s (position_at haystack walk.visited.first) from i walk' end
+
+  -- a walk went on, or up to a match that ends there
+  pub record GoesOn (walk walk' : Walk) (end : Option ℕ) : Type 0 where
+    pub walks : WalksTo walk walk' end
+    pub kept : Keeps walk walk'
+    pub spent : due_tries walk' ≤ due_tries walk
+    pub spent_entries : due_entries walk' ≤ due_entries walk
+
+  -- a frame was taken off, or a match is complete that ends there
+  pub record Went (walk walk' : Walk) (end : Option ℕ) : Type 0 where
+    pub on : GoesOn walk walk' end
+    pub fit : end ≡ None → IsFit walk'
+    pub less : end ≡ None → work walk' < work walk
     pub entered_tried : walk'.steps.entered ≤ walk'.steps.tried
     pub looked_entered : walk'.steps.looked ≤ walk'.steps.entered
+
+  -- the same with these frames to come
+  abbrev pub TakesFrame : Walk → List Frame → Walk → List Frame → (end : Option ℕ) → Type 0
+  TakesFrame walk frames walk' frames' end =
+      Went (with_frames walk frames) (with_frames walk' frames') end

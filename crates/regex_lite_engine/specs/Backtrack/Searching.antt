@@ -1,9 +1,9 @@
 -- A search that goes depth first, start by start.
 use Rattle.std.specs.Prelude.{◌≡◌, ◌+◌, ◌-◌, ◌*◌, ◌≤◌, ◌<◌, ℕ, false, List, [], ◌∷◌, length, chars}
-use Rattle.std.specs.Prelude.{replicate, slice_set, Option, Some, None, is_some, sum_by, unwrap_or}
+use Rattle.std.specs.Prelude.{replicate, slice_set, Option, Some, None, sum_by}
 use Rattle.regex_lite_engine.specs.declared.backtrack.walk.Walk.{Walk}
 use Rattle.regex_lite_engine.specs.Backtrack.Machine.{Frame, explore, restore}
-use Rattle.regex_lite_engine.specs.Backtrack.Room.{AreAll, HasRoom, Keeps, WalksTo}
+use Rattle.regex_lite_engine.specs.Backtrack.Room.{searching, with_frames, AreAll, GoesOn, HasRoom}
 use Rattle.regex_lite_engine.specs.Backtrack.Room.{due_entries, due_tries}
 use Rattle.regex_lite_engine.specs.Backtrack.Walking.{IsWalking}
 use Rattle.regex_lite_engine.specs.Graph.Places.{Place, kept_back_with}
@@ -35,17 +35,10 @@ taken_up (Some next) frames = explore next.0 next.1 ∷ frames
 module _ (table : List (Place ℕ)) (haystack : List ℕ) where
   -- all ways from the start at this offset were followed, or a match ends at `end`
   pub record Explores (s start : ℕ) (walk walk' : Walk) (end : Option ℕ) : Type 0 where
-    pub walks : WalksTo table haystack walk.visited walk.stack.row (explore s start ∷ [])
-        walk'.visited walk'.stack.row [] (unwrap_or end 0) (is_some end)
+    pub on : GoesOn table haystack (with_frames walk (explore s start ∷ []))
+        (with_frames walk' []) end
     pub fit : end ≡ None → HasRoom table haystack walk' []
     pub empty : end ≡ None → walk'.stack.frames ≡ []
-    pub kept : Keeps table haystack walk.visited walk'.visited walk.stack walk'.stack
-    pub spent :
-        due_tries table haystack walk'.visited [] walk'.steps.tried
-        ≤ due_tries table haystack walk.visited (explore s start ∷ []) walk.steps.tried
-    pub spent_entries :
-        due_entries table haystack walk'.visited walk'.steps.entered
-        ≤ due_entries table haystack walk.visited walk.steps.entered
     pub entered_tried : walk'.steps.entered ≤ walk'.steps.tried
     pub looked_entered : walk'.steps.looked ≤ walk'.steps.entered
 
@@ -77,13 +70,12 @@ module _ (table : List (Place ℕ)) (haystack : List ℕ) where
       pub fit : HasRoom table haystack walk []
       pub room : HasRoomForAll walk
       pub empty : walk.stack.frames ≡ []
-      pub walking : IsWalking table (chars haystack) s (position_at haystack start) p 0
-          walk.visited walk.stack.row []
+      pub walking : IsWalking table (searching table haystack s (position_at haystack start) p 0)
+          walk.visited (record walk.stack { frames = [] })
       pub tries :
-          due_tries table haystack walk.visited [] walk.steps.tried
-          + (length (chars haystack) + 1 - p)
+          due_tries table haystack walk + (length (chars haystack) + 1 - p)
           ≤ (arrows_of table + 1) * (characters_left (chars haystack) (position_at haystack start)
           + 1)
       pub entries :
-          due_entries table haystack walk.visited walk.steps.entered
+          due_entries table haystack walk
           ≤ length table * (characters_left (chars haystack) (position_at haystack start) + 1)

@@ -4,7 +4,8 @@ use Rattle.std.specs.Prelude.{◌∷◌, length, slice_set, Option, Some}
 use Rattle.regex_lite_syntax.specs.Text.{Text}
 use Rattle.regex_lite_syntax.specs.Tree.Matches.{IsPosition}
 use Rattle.regex_lite_engine.specs.Backtrack.DepthFirst.{IsDepthFirst}
-use Rattle.regex_lite_engine.specs.Backtrack.Machine.{Frame, explore, restore, Pairs, was_entered}
+use Rattle.regex_lite_engine.specs.Backtrack.Machine.{Frame, explore, restore, Held, Pairs}
+use Rattle.regex_lite_engine.specs.Backtrack.Machine.{was_entered}
 use Rattle.regex_lite_engine.specs.Graph.Places.{Place}
 use Rattle.regex_lite_engine.specs.Search.Offsets.{offset, IsOffset, HasSlots}
 use Rattle.regex_lite_engine.specs.Search.Marks.{marks_along}
@@ -34,18 +35,28 @@ module _ (table : List (Place ℕ)) (haystack : Text) (s : ℕ) where
   FramesHold i row (restore slot old ∷ frames) offers =
       FramesHold i (slice_set row slot old) frames offers
 
-  -- In a search from position `first` on. The frames are those of the start at the offset i, and
-  -- the starts below position `from` were offered
-  pub record IsWalking (first from i : ℕ) (pairs : Pairs) (row : Row) (frames : List Frame)
-      : Type 0 where
-    pub recorded : Node → Option (List ℕ)
-    pub offers : List (Offer Node)
-    pub depth_first : IsDepthFirst Node (numbered_step table haystack) (λ p. (s, p))
-        (is_end table haystack) first (length haystack) from recorded offers
-    -- just the pairs with a record were entered
-    pub seen : (q p : ℕ) (way : List ℕ) → recorded (q, p) ≡ Some way
-        → was_entered pairs q (offset haystack p) ≡ true
-    pub met : (q p : ℕ) → q < length table → first ≤ p → IsPosition haystack p
-        → was_entered pairs q (offset haystack p) ≡ true
-        → (way : List ℕ) × (recorded (q, p) ≡ Some way)
-    pub frames_hold : FramesHold i row frames offers
+-- A search from position `first` on, for the pattern that is entered at this place. The starts
+-- below position `from` were offered, and the ways of the start at the offset i are followed
+pub record SearchFrom : Type 0 where
+  pub haystack : Text
+  pub entry : ℕ
+  pub first : ℕ
+  pub from : ℕ
+  pub i : ℕ
+
+-- what is left to do leads to the offers of that start
+pub record IsWalking (table : List (Place ℕ)) (search : SearchFrom) (pairs : Pairs) (held : Held)
+    : Type 0 where
+  pub recorded : Node → Option (List ℕ)
+  pub offers : List (Offer Node)
+  pub depth_first : IsDepthFirst Node (numbered_step table search.haystack)
+      (λ p. (search.entry, p)) (is_end table search.haystack) search.first
+      (length search.haystack) search.from recorded offers
+  -- just the pairs with a record were entered
+  pub seen : (q p : ℕ) (way : List ℕ) → recorded (q, p) ≡ Some way
+      → was_entered pairs q (offset search.haystack p) ≡ true
+  pub met : (q p : ℕ) → q < length table → search.first ≤ p → IsPosition search.haystack p
+      → was_entered pairs q (offset search.haystack p) ≡ true
+      → (way : List ℕ) × (recorded (q, p) ≡ Some way)
+  pub frames_hold : FramesHold table search.haystack search.entry search.i held.row held.frames
+      offers

@@ -26,6 +26,10 @@ side_by_side trees (number ∷ a) = in_pattern number (slice_get trees number) a
 abbrev pub place_of_patterns : List Tree → Address → Place Address
 place_of_patterns trees a = unwrap_or (side_by_side trees a) (with_arrows [])
 
+-- the pattern with this number has this tree
+abbrev pub HasTree : List Tree → (number : ℕ) → Tree → Type 0
+HasTree trees number tree = slice_get trees number ≡ Some tree
+
 -- where the pattern with this number is entered, and where its match is complete
 abbrev pub start_of : (number : ℕ) → Address
 start_of number = number ∷ start_address

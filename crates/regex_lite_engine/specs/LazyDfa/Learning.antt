@@ -7,16 +7,17 @@ use Rattle.regex_lite_engine.specs.declared.pikevm.cache.Cache.{Cache}
 use Rattle.regex_lite_engine.specs.Graph.Places.{Place}
 use Rattle.regex_lite_engine.specs.LazyDfa.Automaton.{Automaton, State, Suits, ways_of}
 use Rattle.regex_lite_engine.specs.LazyDfa.Intervals.{side_of}
-use Rattle.regex_lite_engine.specs.Pikevm.Beginnings.{Told, Tells}
+use Rattle.regex_lite_engine.specs.Pikevm.Beginnings.{Told, TellsStart}
 use Rattle.regex_lite_engine.specs.Pikevm.Machine.{Thread}
 use Rattle.regex_lite_engine.specs.Pikevm.Searching.{IsHit, TurnsAgain}
 use Rattle.regex_lite_engine.specs.Search.Standing.{IsHere}
-use Rattle.regex_lite_engine.specs.Pikevm.Turns.{best_of, AreStartsAt}
+use Rattle.regex_lite_engine.specs.Pikevm.Turns.{best_of}
+use Rattle.regex_lite_engine.specs.Search.Starts.{AreStartsAt}
 
 -- the position's own start is the first where there is no thread, and else another
-abbrev pub IsFirst : (first at : ℕ) → List Thread → Type 0
-IsFirst first at [] = first ≡ at
-IsFirst first at (thread ∷ threads) = first ≡ at → ⊥
+abbrev pub IsFirstStart : (first at : ℕ) → List Thread → Type 0
+IsFirstStart first at [] = first ≡ at
+IsFirstStart first at (thread ∷ threads) = first ≡ at → ⊥
 
 -- the search is in this state, after this character
 pub record IsIn {S : Type 0} (automaton : Automaton) (x : ℕ) (first : ℕ) (before : Option ℕ)
@@ -36,8 +37,8 @@ pub record HasTurned {S : Type 0} (table : List (Place ℕ)) (entries : List ℕ
   pub is_in : IsIn automaton x first here.before before
   pub again : TurnsAgain table starts here told before now hit
   pub is_hit : IsHit hit (best_of before.best) (best_of now.best)
-  pub tells : (number : ℕ) → Tells (told number) here.at number
-  pub is_first : IsFirst first here.at before.walk.memory.threads
+  pub tells : (number : ℕ) → TellsStart (told number) here.at number
+  pub is_first : IsFirstStart first here.at before.walk.memory.threads
   -- these starts suffice wherever they do
   pub suffice : (haystack : Text) (p : ℕ) (there : Here) → IsHere haystack p there
       → AreStartsAt table haystack entries p starts

@@ -1,12 +1,16 @@
 -- What a searcher remembers, and what it passes over.
-use Rattle.std.specs.Prelude.{◌≡◌, ◌≤◌, ℕ, List, [], ◌∷◌, Option, IfSome, length}
+use Rattle.std.specs.Prelude.{◌≡◌, ◌≤◌, ℕ, List, [], ◌∷◌, Option, IfSome, Some, length}
 use Rattle.regex_lite_syntax.specs.Text.{Text}
+use Rattle.regex_lite_engine.specs.declared.lazy_dfa.spans.Passed.{Passed}
 use Rattle.regex_lite_engine.specs.declared.lazy_dfa.spans.SpanSearcher.{SpanSearcher}
+use Rattle.regex_lite_engine.specs.Backtrack.Short.{SearchesShort}
+use Rattle.regex_lite_engine.specs.Graph.NoLooks.{HasNoLooks}
 use Rattle.regex_lite_engine.specs.Graph.Places.{Place}
 use Rattle.regex_lite_engine.specs.Graph.Stored.{StoredGraph, table_of}
 use Rattle.regex_lite_engine.specs.LazyDfa.Automaton.{Automaton, Remembers}
+use Rattle.regex_lite_engine.specs.LazyDfa.Scanning.{best_told}
 use Rattle.regex_lite_engine.specs.Search.NumberedAnswer.{IsNumberedMatch}
-use Rattle.regex_lite_engine.specs.Pikevm.Outcomes.{IsCountable}
+use Rattle.regex_lite_engine.specs.Pikevm.Outcomes.{IsBestOutcomeOf, IsCountable}
 use Rattle.regex_lite_engine.specs.Pikevm.Searching.{IsBetween}
 
 -- all turns are those of searches in this graph
@@ -19,12 +23,15 @@ abbrev pub IsRemembering : StoredGraph → (slots : ℕ) → Option Automaton �
 IsRemembering graph slots automaton =
     IfSome automaton (λ automaton. RemembersAll graph automaton × (slots ≡ 0))
 
--- searches for matches of the graph go on in its memory, which has no slots
-pub record FindsSpansIn (graph : StoredGraph) (spans : SpanSearcher) : Type 0 where
+-- searches for matches of the graph go on in its memory, which has no slots, and those for this
+-- many slots of a short match in that beside it
+pub record FindsSpansIn (graph : StoredGraph) (slots : ℕ) (spans : SpanSearcher) : Type 0 where
   pub remembers : RemembersAll graph spans.dfa
   pub between : IsBetween (table_of graph) spans.cache
   pub width : length spans.cache.walk.memory.row ≡ 0
   pub countable : IsCountable (table_of graph)
+  pub short : IfSome spans.short (λ short. SearchesShort graph short
+      × (length short.walk.stack.row ≡ slots) × HasNoLooks (table_of graph))
 
 -- position m is s or a later one, and no match from s on starts before it
 pub record NoneStartsBefore (table : List (Place ℕ)) (haystack : Text) (start s m : ℕ) : Type 0
@@ -32,3 +39,10 @@ pub record NoneStartsBefore (table : List (Place ℕ)) (haystack : Text) (start 
     pub from : s ≤ m
     pub least : (i q j : ℕ) (way : List ℕ) → IsNumberedMatch table haystack start s i way q j
         → m ≤ i
+
+-- the most preferred match from the least start at s or later starts at `from` and ends there, if
+-- its end is known
+abbrev pub IsKnown : (table : List (Place ℕ)) → Text → (start s : ℕ) → Passed → Type 0
+IsKnown table haystack start s passed =
+    IfSome passed.end (λ end.
+    IsBestOutcomeOf table haystack (start ∷ []) s (best_told (Some (passed.from, end))))

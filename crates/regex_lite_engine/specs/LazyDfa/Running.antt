@@ -9,7 +9,7 @@ use Rattle.regex_lite_engine.specs.declared.pikevm.cache.Cache.{Cache}
 use Rattle.regex_lite_engine.specs.Graph.Places.{Place}
 use Rattle.regex_lite_engine.specs.Graph.Renumbered.{arrows_of}
 use Rattle.regex_lite_engine.specs.LazyDfa.Automaton.{Automaton, IsEmptyState}
-use Rattle.regex_lite_engine.specs.LazyDfa.Learning.{IsFirst, IsIn}
+use Rattle.regex_lite_engine.specs.LazyDfa.Learning.{IsFirstStart, IsIn}
 use Rattle.regex_lite_engine.specs.Pikevm.Machine.{Thread}
 use Rattle.regex_lite_engine.specs.Pikevm.Searching.{IsBetween}
 use Rattle.regex_lite_engine.specs.Search.Standing.{IsHere}
@@ -36,7 +36,7 @@ module _ (table : List (Place ℕ)) (haystack : Text) (entries : List ℕ) (s : 
     pub is : IsHere haystack p at.here
     pub on : IsOnItsWay p cache
     pub first : at.first ≤ at.here.at
-    pub own : IsFirst at.first at.here.at cache.walk.memory.threads
+    pub own : IsFirstStart at.first at.here.at cache.walk.memory.threads
     pub state : MatchOption at.state (Unit {0})
         (λ x. IsIn automaton x at.first at.here.before cache)
 

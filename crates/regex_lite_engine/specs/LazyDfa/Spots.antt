@@ -48,7 +48,7 @@ pub record IsTaken (spot : Spot) (turn : Turn) (state : State) (before after : S
       ⊎ ((state.ways ≡ [] → ⊥) × (after.first ≡ before.first))
 
 -- after the turn to this state nothing leads on, and the last match is the answer
-pub record IsOver (spot : Spot) (state : State) (before after : Standing) : Type 0 where
+pub record EndsScan (spot : Spot) (state : State) (before after : Standing) : Type 0 where
   pub none : state.ways ≡ []
   pub best : best_told after.best
       ≡ best_left state.hit before.first spot.at (best_told before.best)
@@ -58,7 +58,7 @@ pub record IsOver (spot : Spot) (state : State) (before after : Standing) : Type
 -- what comes of the turn to this state
 abbrev pub Takes : Spot → Turn → State → (before after : Standing) → Step → Type 0
 Takes spot turn state before after (On on) = IsTaken spot turn state before after on
-Takes spot turn state before after Over = IsOver spot state before after
+Takes spot turn state before after Over = EndsScan spot state before after
 Takes spot turn state before after Stuck = after ≡ before
 
 -- what comes of a turn after which there is nothing to go on from

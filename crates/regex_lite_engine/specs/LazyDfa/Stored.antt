@@ -1,5 +1,5 @@
 -- How the states of the lazy automaton are stored.
-use Rattle.std.specs.Prelude.{◌+◌, ◌≤◌, ℕ, true, false, All, List}
+use Rattle.std.specs.Prelude.{◌≡◌, ◌+◌, ◌<◌, ◌≤◌, ℕ, true, false, All, List}
 use Rattle.std.specs.Prelude.{take, drop, map, Option, Some, None}
 use Rattle.regex_lite_engine.specs.declared.lazy_dfa.state.Hit as code
 use Rattle.regex_lite_engine.specs.declared.lazy_dfa.state.Hit.TheVariants as stored
@@ -31,3 +31,8 @@ state_in ways state = record {
 -- each state has its ways among the first of these
 abbrev pub LieWithin : (used : ℕ) → List StoredState → Type 0
 LieWithin used states = All (λ state. state.from + state.len ≤ used) states
+
+-- each state that is marked as plain has ways, and no match is complete in it
+abbrev pub ArePlain : List StoredState → Type 0
+ArePlain states =
+    All (λ state. state.is_plain ≡ true → (0 < state.len) × (hit_in state.hit ≡ None)) states

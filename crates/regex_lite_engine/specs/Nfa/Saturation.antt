@@ -4,7 +4,7 @@ use Rattle.regex_lite_syntax.specs.Tree.{Tree}
 use Rattle.regex_lite_syntax.specs.Tree.Properties.{ArePropertiesOf}
 use Rattle.regex_lite_engine.specs.Graph.PlaceCounts as count
 use Rattle.regex_lite_engine.specs.Graph.Size as size
-use Rattle.regex_lite_engine.specs.declared.nfa.count.Counts.{Counts}
+use Rattle.regex_lite_engine.specs.declared.count.Counts.{Counts}
 
 -- the number, or the greatest one that can be stored where it passes that
 abbrev pub saturated : ℕ → ℕ

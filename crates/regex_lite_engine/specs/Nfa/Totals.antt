@@ -1,7 +1,7 @@
 -- What several patterns take together when they are written out.
 use Rattle.std.specs.Prelude.{◌≡◌, ◌≤◌, ◌+◌, ◌*◌, ℕ, List, sum_by}
 use Rattle.regex_lite_syntax.specs.Tree.{Tree}
-use Rattle.regex_lite_engine.specs.declared.nfa.count.totals.Totals.{Totals}
+use Rattle.regex_lite_engine.specs.declared.count.totals.Totals.{Totals}
 use Rattle.regex_lite_engine.specs.Graph.PlaceCounts.{reading_places, whole_arrows, whole_places}
 use Rattle.regex_lite_engine.specs.Graph.SideBySide.{places_of_all, arrows_of_all}
 

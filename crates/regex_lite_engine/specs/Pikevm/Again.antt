@@ -8,7 +8,7 @@ use Rattle.regex_lite_engine.specs.Graph.Places.{Arrow, Condition, free, holding
 use Rattle.regex_lite_engine.specs.Graph.Places.{reading, Place, complete, with_arrows}
 use Rattle.regex_lite_engine.specs.Pikevm.Beginnings.{Told}
 use Rattle.regex_lite_engine.specs.Pikevm.Entering.{reads}
-use Rattle.regex_lite_engine.specs.Pikevm.Machine.{Thread}
+use Rattle.regex_lite_engine.specs.Pikevm.Machine.{State, Thread}
 use Rattle.regex_lite_engine.specs.Pikevm.Walking.{Best}
 
 -- the condition is met between these neighbours
@@ -40,6 +40,9 @@ retold tell thread = (thread.0, tell thread.1, [])
 
 abbrev pub all_retold : (Told → Told) → List Thread → List Thread
 all_retold tell threads = map (retold tell) threads
+
+abbrev pub state_retold : (Told → Told) → State → State
+state_retold tell state = record state { row = []; next = all_retold tell state.next }
 
 -- the best match after the turn: that of before, or one that ends at this offset
 abbrev pub best_again : (Told → Told) → (at : ℕ) → (hit : Bool) → (found before : Best) → Best

@@ -14,7 +14,7 @@ abbrev pub IsTold : Option ℕ → ℕ → Type 0
 IsTold None n = Unit {0}
 IsTold (Some told) n = told ≡ n
 
-pub record Tells (told : Told) (start number : ℕ) : Type 0 where
+pub record TellsStart (told : Told) (start number : ℕ) : Type 0 where
   pub start_told : IsTold told.at start
   pub number_told : IsTold told.number number
 

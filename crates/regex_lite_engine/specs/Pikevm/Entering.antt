@@ -1,5 +1,5 @@
--- What entering a place does: to the row of slots, to the frames, and to the threads of the next
--- position.
+-- What entering a place does to the memory: to the row of slots, to the frames, and to the threads
+-- of the next position.
 use Rattle.std.specs.Prelude.{◌≡◌, ◌≤◌, ◌<◌, ◌⊎◌, ℕ, Bool, true, false, List, [], ◌∷◌, ◌++◌, length}
 use Rattle.std.specs.Prelude.{map, Option, Some, None, slice_set, slice_index_or, if◌then◌else◌}
 use Rattle.regex_lite_syntax.specs.Ranges.{in_ranges}
@@ -11,7 +11,7 @@ use Rattle.regex_lite_engine.specs.declared.nfa.place.Place.TheVariants as store
 use Rattle.regex_lite_engine.specs.declared.pikevm.enter.Onward as code
 use Rattle.regex_lite_engine.specs.declared.pikevm.enter.Onward.TheVariants as onward
 use Rattle.regex_lite_engine.specs.declared.search.here.Here.{Here}
-use Rattle.regex_lite_engine.specs.Pikevm.Machine.{Row, Frame, explore, restore, Thread}
+use Rattle.regex_lite_engine.specs.Pikevm.Machine.{Frame, explore, restore, State, Thread}
 
 -- what is left to do, the place that comes next as the first
 abbrev pub onto : code.Onward → List Frame → List Frame
@@ -25,56 +25,54 @@ completes (onward.To place) = false
 completes onward.Back = false
 completes onward.Complete = true
 
--- there is one more thread
-abbrev pub Pushed : (before after : List Thread) → Thread → Type 0
-Pushed before after thread = after ≡ before ++ thread ∷ []
-
-abbrev pub Same : (before after : List Thread) → Type 0
-Same before after = after ≡ before
-
 -- the next character is one of the set
 abbrev pub reads : Set → Option ℕ → Bool
 reads set None = false
 reads set (Some c) = set c
 
--- where it is read, the search goes on with this thread at the next position
-abbrev pub ReadsOn : Bool → (before after : List Thread) → Thread → Type 0
-ReadsOn true before after thread = Pushed before after thread
-ReadsOn false before after thread = Same before after
+-- these frames are to come first
+abbrev pub pushing : State → List Frame → State
+pushing state more = record state { frames = more ++ state.frames }
+
+-- where the next character is read, the search goes on with this thread at the next position
+abbrev pub reading_on : Bool → State → Thread → State
+reading_on true state thread = record state { next = state.next ++ thread ∷ [] }
+reading_on false state thread = state
 
 -- the slot holds the offset until the branch is left, or for good where nothing else is left to do.
 -- A slot after the row is not kept
-abbrev pub SlotMarked : (at slot to : ℕ) → Row → List Frame → Row → List Frame → Type 0
-SlotMarked at slot to row frames row' frames' =
-    ((slot < length row) × (row' ≡ slice_set row slot (Some at))
-    × ((frames' ≡ explore to ∷ (restore slot (slice_index_or row slot None) ∷ frames))
-    ⊎ ((frames ≡ []) × (frames' ≡ explore to ∷ frames))))
-    ⊎ ((length row ≤ slot) × (row' ≡ row) × (frames' ≡ explore to ∷ frames))
+abbrev pub SlotMarked : (at slot to : ℕ) → (before after : State) → Type 0
+SlotMarked at slot to before after =
+    ((slot < length before.row)
+    × ((after ≡ record before {
+      row = slice_set before.row slot (Some at);
+      frames = explore to ∷ (restore slot (slice_index_or before.row slot None) ∷ before.frames);
+    })
+    ⊎ ((before.frames ≡ [])
+    × (after ≡ record before {
+      row = slice_set before.row slot (Some at);
+      frames = explore to ∷ before.frames;
+    }))))
+    ⊎ ((length before.row ≤ slot) × (after ≡ pushing before (explore to ∷ [])))
 
 module _ (here : Here) (i : Told) where
   -- i is kept of where the way to the place began; `done` says that a match is complete there
-  abbrev pub Enters : Place → Row → List Frame → List Thread → Row → List Frame → List Thread
-      → (done : Bool) → Type 0
-  Enters (stored.Empty to) row frames next row' frames' next' done =
-      (row' ≡ row) × (frames' ≡ explore to ∷ frames) × Same next next' × (done ≡ false)
-  Enters (stored.Char c to) row frames next row' frames' next' done =
-      (row' ≡ row) × (frames' ≡ frames)
-      × ReadsOn (reads (just c) here.after) next next' (to, i, row) × (done ≡ false)
-  Enters (stored.Class to set) row frames next row' frames' next' done =
-      (row' ≡ row) × (frames' ≡ frames)
-      × ReadsOn (reads (in_ranges set) here.after) next next' (to, i, row) × (done ≡ false)
-  Enters (stored.Look test to) row frames next row' frames' next' done =
-      (row' ≡ row)
-      × (frames' ≡ (if holds_between test here.before here.after then explore to ∷ frames
-      else frames))
-      × Same next next' × (done ≡ false)
-  Enters (stored.Slot slot to) row frames next row' frames' next' done =
-      SlotMarked here.at slot to row frames row' frames' × Same next next' × (done ≡ false)
-  Enters (stored.Choice first second) row frames next row' frames' next' done =
-      (row' ≡ row) × (frames' ≡ explore first ∷ (explore second ∷ frames)) × Same next next'
+  abbrev pub Enters : Place → (before after : State) → (done : Bool) → Type 0
+  Enters (stored.Empty to) before after done =
+      (after ≡ pushing before (explore to ∷ [])) × (done ≡ false)
+  Enters (stored.Char c to) before after done =
+      (after ≡ reading_on (reads (just c) here.after) before (to, i, before.row)) × (done ≡ false)
+  Enters (stored.Class to set) before after done =
+      (after ≡ reading_on (reads (in_ranges set) here.after) before (to, i, before.row))
       × (done ≡ false)
-  Enters (stored.Branches entries) row frames next row' frames' next' done =
-      (row' ≡ row) × (frames' ≡ map explore entries.items ++ frames) × Same next next'
+  Enters (stored.Look test to) before after done =
+      (after ≡ (if holds_between test here.before here.after then pushing before (explore to ∷ [])
+      else before))
       × (done ≡ false)
-  Enters stored.Match row frames next row' frames' next' done =
-      (row' ≡ row) × (frames' ≡ frames) × Same next next' × (done ≡ true)
+  Enters (stored.Slot slot to) before after done =
+      SlotMarked here.at slot to before after × (done ≡ false)
+  Enters (stored.Choice first second) before after done =
+      (after ≡ pushing before (explore first ∷ (explore second ∷ []))) × (done ≡ false)
+  Enters (stored.Branches entries) before after done =
+      (after ≡ pushing before (map explore entries.items)) × (done ≡ false)
+  Enters stored.Match before after done = (after ≡ before) × (done ≡ true)

@@ -7,7 +7,7 @@ use Rattle.regex_lite_engine.specs.Graph.Places.{Place}
 use Rattle.regex_lite_engine.specs.Graph.Renumbered.{arrows_of}
 use Rattle.regex_lite_engine.specs.Graph.StoredList.{StoredList, table_of_list}
 use Rattle.regex_lite_engine.specs.Search.Answer.{Found}
-use Rattle.regex_lite_engine.specs.Pikevm.Beginnings.{IsTold, Tells}
+use Rattle.regex_lite_engine.specs.Pikevm.Beginnings.{IsTold, TellsStart}
 use Rattle.regex_lite_engine.specs.Pikevm.Machine.{Row}
 use Rattle.regex_lite_engine.specs.Search.NumberedAnswer.{IsNumberedAnswer, IsNumberedShortest}
 use Rattle.regex_lite_engine.specs.Search.NumberedList.{IsNumberedAnswerOf, IsNumberedShortestOf}
@@ -57,7 +57,7 @@ IsBestOutcomeOf table haystack entries s None = IsNumberedAnswerOf table haystac
 IsBestOutcomeOf table haystack entries s (Some best) =
     (number : ℕ) × (found : Found)
     × IsNumberedAnswerOf table haystack entries s (Some (number, found))
-    × Tells best.0 (offset haystack found.start) number × (best.1 ≡ offset haystack found.end)
+    × TellsStart best.0 (offset haystack found.start) number × (best.1 ≡ offset haystack found.end)
     × HasSlots haystack best.2 found.marks
 
 -- the match has all of them

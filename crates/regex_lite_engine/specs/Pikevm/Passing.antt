@@ -1,5 +1,5 @@
 -- From one position of a search to a later one.
-use Rattle.std.specs.Prelude.{◌+◌, ◌-◌, ◌*◌, ◌^◌, ◌≤◌, ◌<◌, ℕ, List, length}
+use Rattle.std.specs.Prelude.{◌≡◌, ◌⊎◌, ◌+◌, ◌-◌, ◌*◌, ◌^◌, ◌≤◌, ◌<◌, ℕ, List, [], length, None}
 use Rattle.regex_lite_syntax.specs.Text.{Text}
 use Rattle.regex_lite_engine.specs.declared.search.here.Here.{Here}
 use Rattle.regex_lite_engine.specs.declared.pikevm.cache.Cache.{Cache}
@@ -8,7 +8,19 @@ use Rattle.regex_lite_engine.specs.Graph.Places.{Place}
 use Rattle.regex_lite_engine.specs.Graph.Renumbered.{arrows_of}
 use Rattle.regex_lite_engine.specs.Pikevm.Searching.{IsBetween}
 use Rattle.regex_lite_engine.specs.Search.Standing.{IsHere}
+use Rattle.regex_lite_engine.specs.Search.Starts.{AreDeadAt, PassesTo}
+use Rattle.regex_lite_engine.specs.Pikevm.Machine.{Thread}
 use Rattle.regex_lite_engine.specs.Pikevm.Turns.{best_of, IsComing, EndsAt}
+use Rattle.regex_lite_engine.specs.Pikevm.Walking.{Best}
+
+-- A search goes on here from position p. Where there is neither a thread nor a match it passes over
+-- positions at which no match can start
+abbrev pub GoesOnAt : List (Place ℕ) → Text → (entries : List ℕ) → List Thread → Best → (p : ℕ)
+    → Here → Type 0
+GoesOnAt table haystack entries threads best p here =
+    IsHere haystack p here
+    ⊎ ((threads ≡ []) × (best ≡ None)
+    × PassesTo (AreDeadAt table haystack entries) haystack p here)
 
 module _ (table : List (Place ℕ)) (haystack : Text) (starts : List ℕ) (s : ℕ) where
   -- a search up to position p has cost no more than what is in this part of the table

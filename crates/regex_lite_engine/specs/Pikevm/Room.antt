@@ -2,17 +2,16 @@
 -- counts.
 use Rattle.std.specs.Prelude.{◌≡◌, ◌+◌, ◌^◌, ◌≤◌, ◌<◌, ◌==◌, ℕ, Bool, true, false}
 use Rattle.std.specs.Prelude.{List, [], ◌∷◌, length, Some, slice_index, if◌then◌else◌}
-use Rattle.regex_lite_syntax.specs.Text.{Text}
 use Rattle.regex_lite_engine.specs.Pikevm.Beginnings.{Told}
 use Rattle.regex_lite_engine.specs.declared.search.here.Here.{Here}
 use Rattle.regex_lite_engine.specs.declared.pikevm.walk.Walk.{Walk}
 use Rattle.regex_lite_engine.specs.Graph.Places.{Place, kept_back, reading_count, reading_of}
 use Rattle.regex_lite_engine.specs.Graph.Renumbered.{arrow_count}
-use Rattle.regex_lite_engine.specs.Pikevm.Again.{AreAlike, all_retold}
-use Rattle.regex_lite_engine.specs.Pikevm.Machine.{Row, Frame, explore, restore}
+use Rattle.regex_lite_engine.specs.Pikevm.Again.{AreAlike, state_retold}
+use Rattle.regex_lite_engine.specs.Pikevm.Machine.{Frame, explore, restore}
 use Rattle.regex_lite_engine.specs.Pikevm.Machine.{Thread, thread_at, State}
 use Rattle.regex_lite_engine.specs.Search.Standing.{IsHere}
-use Rattle.regex_lite_engine.specs.Pikevm.Walking.{Best, IsWalking}
+use Rattle.regex_lite_engine.specs.Pikevm.Walking.{Best, SearchAt, IsWalking}
 
 -- the sum over the places that were not entered in this round
 abbrev pub left_of : (Place ℕ → ℕ) → (now : ℕ) → (rounds : List ℕ) → List (Place ℕ) → ℕ
@@ -42,96 +41,89 @@ FramesBelow places width (restore slot old ∷ frames) =
 abbrev pub ThreadsBelow : (places : ℕ) → List Thread → Type 0
 ThreadsBelow places threads = (k : ℕ) → k < length threads → (thread_at threads k).0 < places
 
+-- the same walk with these frames to come
+abbrev pub with_frames : {S : Type 0} → Walk S → List Frame → Walk S
+with_frames walk frames = record walk { memory = record walk.memory { frames = frames } }
+
 module _ (table : List (Place ℕ)) where
   -- how often the search has come to a place, or may still come to one from what is left
-  abbrev pub due_tries : (rounds : List ℕ) → (now : ℕ) → List Frame → List Thread → (tried : ℕ) → ℕ
-  due_tries rounds now frames next tried =
-      tried + (explores frames + (length next + left_of arrow_count now rounds table))
+  abbrev pub due_tries : {S : Type 0} → Walk S → ℕ
+  due_tries walk =
+      walk.steps.tried
+      + (explores walk.memory.frames
+      + (length walk.memory.next
+      + left_of arrow_count walk.memory.now walk.memory.rounds table))
 
-  abbrev pub due_entries : (rounds : List ℕ) → (now entered : ℕ) → ℕ
-  due_entries rounds now entered = entered + left_of lone now rounds table
+  abbrev pub due_entries : {S : Type 0} → Walk S → ℕ
+  due_entries walk =
+      walk.steps.entered + left_of lone walk.memory.now walk.memory.rounds table
 
   -- how much is left to do at this position
-  abbrev pub work : (rounds : List ℕ) → (now : ℕ) → List Frame → ℕ
-  work rounds now frames = length frames + left_of weight now rounds table
+  abbrev pub work : State → ℕ
+  work state = length state.frames + left_of weight state.now state.rounds table
 
-  pub record IsFit (rounds : List ℕ) (now : ℕ) (row : Row) (frames : List Frame) (room : ℕ)
-      (next : List Thread) (tried entered looked : ℕ) : Type 0 where
-    pub all_seen : length rounds ≡ length table
-    pub old_rounds : (q : ℕ) → slice_index rounds q ≤ now
-    pub frames_below : FramesBelow (length table) (length row) frames
-    pub threads_below : ThreadsBelow (length table) next
-    pub stack_room : length frames + left_of kept_back now rounds table ≤ length table
-    pub next_room : length next + left_of reading_count now rounds table ≤ reading_of table
-    pub next_cap : reading_of table < room
-    pub few_tries : due_tries rounds now frames next tried < 2 ^ 127
-    pub few_entries : due_entries rounds now entered < 2 ^ 127
-    pub entered_tried : entered ≤ tried
-    pub looked_entered : looked ≤ entered
+  pub record IsFit {S : Type 0} (walk : Walk S) : Type 0 where
+    pub all_seen : length walk.memory.rounds ≡ length table
+    pub old_rounds : (q : ℕ) → slice_index walk.memory.rounds q ≤ walk.memory.now
+    pub frames_below : FramesBelow (length table) (length walk.memory.row) walk.memory.frames
+    pub threads_below : ThreadsBelow (length table) walk.memory.next
+    pub stack_room :
+        length walk.memory.frames + left_of kept_back walk.memory.now walk.memory.rounds table
+        ≤ length table
+    pub next_room :
+        length walk.memory.next + left_of reading_count walk.memory.now walk.memory.rounds table
+        ≤ reading_of table
+    pub next_cap : reading_of table < walk.memory.room
+    pub few_tries : due_tries walk < 2 ^ 127
+    pub few_entries : due_entries walk < 2 ^ 127
+    pub entered_tried : walk.steps.entered ≤ walk.steps.tried
+    pub looked_entered : walk.steps.looked ≤ walk.steps.entered
 
-  -- from one state of a walk to a later one, in whatever haystack it stands there
-  abbrev pub WalksTo : Here → (i : Told) → (now : ℕ) → (rounds : List ℕ) → Row → List Frame
-      → List Thread → (rounds' : List ℕ) → Row → List Frame → List Thread → (done : Bool) → Type 0
-  WalksTo here i now rounds row frames next rounds' row' frames' next' done =
-      (haystack : Text) (p : ℕ) → IsHere haystack p here
-      → (s : List ℕ) (first last from : ℕ) (threads : ℕ → Thread) (k n : ℕ) (best : Best)
-      → IsWalking table haystack s first last p from rounds now i row frames threads k n
-      (thread_at next) (length next) best
-      → IsWalking table haystack s first last p from rounds' now i row' frames' threads
-      (if done then n else k) n (thread_at next') (length next')
-      (if done then Some (i, here.at, row') else best)
+  -- from one state to a later one, in whatever haystack it stands there
+  abbrev pub WalksTo : Here → (i : Told) → (before after : State) → (done : Bool) → Type 0
+  WalksTo here i before after done =
+      (at : SearchAt) → IsHere at.haystack at.p here → (ways : List Thread) (best : Best)
+      → IsWalking table at before i ways best
+      → IsWalking table at after i (if done then [] else ways)
+      (if done then Some (i, here.at, after.row) else best)
 
   -- the same from wherever it looks the same, with something else kept
-  abbrev pub WalksAgain : Here → (i : Told) → (now : ℕ) → (rounds : List ℕ) → List Frame
-      → List Thread → (rounds' : List ℕ) → List Frame → List Thread → (done : Bool) → Type 0
-  WalksAgain here i now rounds frames next rounds' frames' next' done =
+  abbrev pub WalksAgain : Here → (i : Told) → (before after : State) → (done : Bool) → Type 0
+  WalksAgain here i before after done =
       (tell : Told → Told) (there : Here) → AreAlike table here there
-      → WalksTo there (tell i) now rounds [] frames (all_retold tell next) rounds' [] frames'
-      (all_retold tell next') done
+      → WalksTo there (tell i) (state_retold tell before) (state_retold tell after) done
+
+  -- a walk went on, up to a complete match where it is done
+  pub record GoesOn {S : Type 0} (here : Here) (i : Told) (walk walk' : Walk S) (done : Bool)
+      : Type 0 where
+    pub walks : WalksTo here i walk.memory walk'.memory done
+    pub again : WalksAgain here i walk.memory walk'.memory done
+    pub spent : due_tries walk' ≤ due_tries walk
+    pub spent_entries : due_entries walk' ≤ due_entries walk
 
   -- a frame was taken off, or all of them where a match is complete
-  pub record Went (here : Here) (i : Told) (now : ℕ) (rounds : List ℕ) (row : Row)
-      (frames : List Frame)
-      (next : List Thread) (tried entered : ℕ) (rounds' : List ℕ) (row' : Row)
-      (frames' : List Frame) (room : ℕ) (next' : List Thread) (tried' entered' looked' : ℕ)
-      (done : Bool) : Type 0 where
-    pub fit : IsFit rounds' now row' frames' room next' tried' entered' looked'
-    pub walks : WalksTo here i now rounds row frames next rounds' row' frames' next' done
-    pub again : WalksAgain here i now rounds frames next rounds' frames' next' done
-    pub less : done ≡ false → work rounds' now frames' < work rounds now frames
-    pub cleared : done ≡ true → frames' ≡ []
-    pub spent :
-        due_tries rounds' now frames' next' tried' ≤ due_tries rounds now frames next tried
-    pub spent_entries : due_entries rounds' now entered' ≤ due_entries rounds now entered
+  pub record Went {S : Type 0} (here : Here) (i : Told) (walk walk' : Walk S) (done : Bool)
+      : Type 0 where
+    pub fit : IsFit walk'
+    pub on : GoesOn here i walk walk' done
+    pub less : done ≡ false → work walk'.memory < work walk.memory
+    pub cleared : done ≡ true → walk'.memory.frames ≡ []
 
-  -- The same of the value that holds a walk, with these frames to come
+  -- The same with these frames to come
 
   abbrev pub HasRoom : {S : Type 0} → Walk S → List Frame → Type 0
-  HasRoom walk frames =
-      IsFit walk.memory.rounds walk.memory.now walk.memory.row frames walk.memory.room
-      walk.memory.next walk.steps.tried walk.steps.entered walk.steps.looked
+  HasRoom walk frames = IsFit (with_frames walk frames)
 
   abbrev pub TakesFrame : {S : Type 0} → Here → (i : Told) → Walk S → List Frame → Walk S
       → List Frame → (done : Bool) → Type 0
   TakesFrame here i walk frames walk' frames' done =
-      Went here i walk.memory.now walk.memory.rounds walk.memory.row frames walk.memory.next
-      walk.steps.tried walk.steps.entered walk'.memory.rounds walk'.memory.row frames'
-      walk'.memory.room walk'.memory.next walk'.steps.tried walk'.steps.entered
-      walk'.steps.looked done
+      Went here i (with_frames walk frames) (with_frames walk' frames') done
 
   -- all frames were taken off
-  pub record Explores {S : Type 0} (here : Here) (i : Told) (walk walk' : Walk S)
-      (frames : List Frame) (done : Bool) : Type 0 where
-    pub walks : WalksTo here i walk.memory.now walk.memory.rounds walk.memory.row frames
-        walk.memory.next walk'.memory.rounds walk'.memory.row [] walk'.memory.next done
-    pub again : WalksAgain here i walk.memory.now walk.memory.rounds frames walk.memory.next
-        walk'.memory.rounds [] walk'.memory.next done
-    pub spent :
-        due_tries walk'.memory.rounds walk.memory.now [] walk'.memory.next walk'.steps.tried
-        ≤ due_tries walk.memory.rounds walk.memory.now frames walk.memory.next walk.steps.tried
-    pub spent_entries :
-        due_entries walk'.memory.rounds walk.memory.now walk'.steps.entered
-        ≤ due_entries walk.memory.rounds walk.memory.now walk.steps.entered
+  abbrev pub Explores : {S : Type 0} → Here → (i : Told) → (walk walk' : Walk S) → List Frame
+      → (done : Bool) → Type 0
+  Explores here i walk walk' frames done =
+      GoesOn here i (with_frames walk frames) (with_frames walk' []) done
 
 -- what a walk over the position leaves as it is
 pub record KeepsPosition (memory memory' : State) : Type 0 where

@@ -7,12 +7,13 @@ use Rattle.regex_lite_engine.specs.declared.pikevm.cache.Cache.{Cache}
 use Rattle.regex_lite_engine.specs.Graph.Parts.{row_of}
 use Rattle.regex_lite_engine.specs.Graph.Places.{Place, kept_back_of}
 use Rattle.regex_lite_engine.specs.Graph.Renumbered.{arrows_of}
-use Rattle.regex_lite_engine.specs.Pikevm.Again.{AreAlike, all_retold, best_again}
-use Rattle.regex_lite_engine.specs.Pikevm.Beginnings.{Told, Tells}
-use Rattle.regex_lite_engine.specs.Pikevm.Machine.{Thread, thread_at}
+use Rattle.regex_lite_engine.specs.Pikevm.Again.{AreAlike, all_retold, state_retold, best_again}
+use Rattle.regex_lite_engine.specs.Pikevm.Beginnings.{Told, TellsStart}
+use Rattle.regex_lite_engine.specs.Pikevm.Machine.{Thread}
 use Rattle.regex_lite_engine.specs.Pikevm.Room.{KeepsPosition, ThreadsBelow, due_tries, due_entries}
 use Rattle.regex_lite_engine.specs.Search.Standing.{IsHere}
-use Rattle.regex_lite_engine.specs.Pikevm.Turns.{best_of, with_starts, AreStartsAt}
+use Rattle.regex_lite_engine.specs.Pikevm.Turns.{best_of, with_starts}
+use Rattle.regex_lite_engine.specs.Search.Starts.{AreStartsAt}
 use Rattle.regex_lite_engine.specs.Pikevm.Turns.{IsComing, StepsTo, IsReady}
 use Rattle.regex_lite_engine.specs.Pikevm.Walking.{Best}
 
@@ -30,9 +31,7 @@ IsHit false before after = after ≡ before
 module _ (table : List (Place ℕ)) where
   -- between two positions
   abbrev pub IsBetween : {S : Type 0} → Cache S → Type 0
-  IsBetween cache =
-      IsReady table cache.walk.memory cache.best cache.walk.steps.tried cache.walk.steps.entered
-      cache.walk.steps.looked
+  IsBetween cache = IsReady table cache.walk.memory cache.best cache.walk.steps
 
   -- before these ways are followed
   pub record IsPlaced {S : Type 0} (ways : List Thread) (cache : Cache S) : Type 0 where
@@ -40,26 +39,15 @@ module _ (table : List (Place ℕ)) where
     pub stack_room : kept_back_of table < length table
     pub below : ThreadsBelow (length table) cache.walk.memory.threads
     pub best_width : length cache.best.row ≡ length cache.walk.memory.row
-    pub budget :
-        due_tries table cache.walk.memory.rounds cache.walk.memory.now [] cache.walk.memory.next
-        cache.walk.steps.tried + length ways < 2 ^ 127
+    pub budget : due_tries table cache.walk + length ways < 2 ^ 127
 
   -- these ways were followed
   pub record Follows {S : Type 0} (here : Here) (ways : List Thread) (cache cache' : Cache S)
       : Type 0 where
-    pub steps : StepsTo table here cache.walk.memory.now (thread_at ways) (length ways)
-        cache.walk.memory.rounds cache.walk.memory.next (best_of cache.best) (length ways)
-        cache'.walk.memory.rounds cache'.walk.memory.next (best_of cache'.best)
-    pub spent :
-        due_tries table cache'.walk.memory.rounds cache.walk.memory.now [] cache'.walk.memory.next
-        cache'.walk.steps.tried
-        ≤ due_tries table cache.walk.memory.rounds cache.walk.memory.now [] cache.walk.memory.next
-        cache.walk.steps.tried + length ways
-    pub spent_entries :
-        due_entries table cache'.walk.memory.rounds cache.walk.memory.now
-        cache'.walk.steps.entered
-        ≤ due_entries table cache.walk.memory.rounds cache.walk.memory.now
-        cache.walk.steps.entered
+    pub steps : StepsTo table here cache.walk.memory ways (best_of cache.best) cache'.walk.memory
+        [] (best_of cache'.best)
+    pub spent : due_tries table cache'.walk ≤ due_tries table cache.walk + length ways
+    pub spent_entries : due_entries table cache'.walk ≤ due_entries table cache.walk
     pub stack_empty : cache'.walk.memory.frames ≡ []
     pub kept : KeepsPosition cache.walk.memory cache'.walk.memory
     pub best_width : length cache'.best.row ≡ length cache.best.row
@@ -69,9 +57,8 @@ module _ (table : List (Place ℕ)) where
       → (hit : Bool) → Type 0
   FollowsAgain here ways cache cache' hit =
       (tell : Told → Told) (there : Here) (best : Best) → AreAlike table here there
-      → StepsTo table there cache.walk.memory.now (thread_at (all_retold tell ways)) (length ways)
-      cache.walk.memory.rounds (all_retold tell cache.walk.memory.next) best (length ways)
-      cache'.walk.memory.rounds (all_retold tell cache'.walk.memory.next)
+      → StepsTo table there (state_retold tell cache.walk.memory) (all_retold tell ways) best
+      (state_retold tell cache'.walk.memory) []
       (best_again tell there.at hit (best_of cache'.best) best)
 
   -- a turn holds again wherever it looks the same and the same starts suffice, as long as there is
@@ -80,7 +67,7 @@ module _ (table : List (Place ℕ)) where
       → (hit : Bool) → Type 0
   TurnsAgain starts here told cache cache' hit =
       (tell : Told → Told) (there : Here) (best : Best) → AreAlike table here there
-      → ((number : ℕ) → Tells (tell (told number)) there.at number)
+      → ((number : ℕ) → TellsStart (tell (told number)) there.at number)
       → (best ≡ None → best_of cache.best ≡ None) → (best_of cache.best ≡ None → best ≡ None)
       → (haystack : Text) (entries : List ℕ) (p first last : ℕ) → IsHere haystack p there
       → first ≤ p → p ≤ last → AreStartsAt table haystack entries p starts

@@ -1,19 +1,17 @@
 -- The threads of one position, and from one position to the next.
-use Rattle.std.specs.Prelude.{◌≡◌, ◌≤◌, ◌<◌, ◌⊎◌, ℕ, suc, List, [], ◌∷◌, ◌++◌, length}
+use Rattle.std.specs.Prelude.{◌≡◌, ◌≤◌, ◌<◌, ◌⊎◌, ℕ, List, [], ◌∷◌, ◌++◌, length}
 use Rattle.std.specs.Prelude.{replicate, slice_get, slice_index, Option, Some, None}
 use Rattle.regex_lite_syntax.specs.Text.{Text}
 use Rattle.regex_lite_engine.specs.declared.search.here.Here.{Here}
 use Rattle.regex_lite_engine.specs.declared.search.patterns.Start.{Start}
 use Rattle.regex_lite_engine.specs.Pikevm.Beginnings.{Told, untold}
 use Rattle.regex_lite_engine.specs.Graph.Places.{Place, kept_back_of, reading_of}
-use Rattle.regex_lite_engine.specs.Search.Explored.{IsDead}
-use Rattle.regex_lite_engine.specs.Search.NumberedAnswer.{numbered_step, is_end}
+use Rattle.regex_lite_engine.specs.Search.Bounds.{StepCounts}
 use Rattle.regex_lite_engine.specs.Pikevm.InStep.{Offer}
-use Rattle.regex_lite_engine.specs.Pikevm.Machine.{Row, Thread, thread_at, State, BestState}
+use Rattle.regex_lite_engine.specs.Pikevm.Machine.{Row, Thread, State, BestState}
 use Rattle.regex_lite_engine.specs.Search.Standing.{IsHere}
-use Rattle.regex_lite_engine.specs.Pikevm.Walking.{Node, Best, ThreadsHold}
+use Rattle.regex_lite_engine.specs.Pikevm.Walking.{Node, Best, SearchAt, ThreadsHold}
 use Rattle.regex_lite_engine.specs.Pikevm.Walking.{BestHolds, InStep, IsWalking}
-use Rattle.regex_lite_engine.specs.Search.NumberedList.{IsEntry}
 use Rattle.regex_lite_engine.specs.Pikevm.Room.{ThreadsBelow}
 
 abbrev pub best_at : {X : Type 0} → Option (X × ℕ) → Row → Option (X × ℕ × Row)
@@ -39,30 +37,17 @@ EndsAt at before after =
     (after ≡ before) ⊎ ((i : Told) × (row : Row) × (after ≡ Some (i, at, row)))
 
 module _ (table : List (Place ℕ)) where
-  -- no match of the pattern that is entered at place s can start at the position
-  abbrev pub IsDeadAt : Text → (s p : ℕ) → Type 0
-  IsDeadAt haystack s p =
-      IsDead Node (numbered_step table haystack) (is_end table haystack) (s, p)
+  -- nothing is on the stack
+  abbrev pub Between : SearchAt → State → (ways : List Thread) → Best → Type 0
+  Between at state ways best =
+      IsWalking table at (record state { row = []; frames = [] }) untold ways best
 
-  -- none of any pattern can
-  abbrev pub AreDeadAt : Text → (entries : List ℕ) → (p : ℕ) → Type 0
-  AreDeadAt haystack entries p =
-      (number entry : ℕ) → IsEntry entries number entry → IsDeadAt haystack entry p
-
-  -- nothing is on the stack; the threads from the k-th to the n-th are left
-  abbrev pub Between : Text → (s : List ℕ) → (first last p from : ℕ) → (rounds : List ℕ) → (now : ℕ)
-      → (ℕ → Thread) → (k n : ℕ) → List Thread → Best → Type 0
-  Between haystack s first last p from rounds now threads k n next best =
-      IsWalking table haystack s first last p from rounds now untold [] [] threads k n
-      (thread_at next) (length next) best
-
-  -- from the first of n threads to before the k-th
-  abbrev pub StepsTo : Here → (now : ℕ) → (ℕ → Thread) → (n : ℕ) → (rounds : List ℕ) → List Thread
-      → Best → (k : ℕ) → (rounds' : List ℕ) → List Thread → Best → Type 0
-  StepsTo here now threads n rounds next best k rounds' next' best' =
-      (haystack : Text) (p : ℕ) → IsHere haystack p here → (s : List ℕ) (first last from : ℕ)
-      → Between haystack s first last p from rounds now threads 0 n next best
-      → Between haystack s first last p from rounds' now threads k n next' best'
+  -- some of the ways are followed
+  abbrev pub StepsTo : Here → (before : State) → (ways : List Thread) → Best → (after : State)
+      → (left : List Thread) → Best → Type 0
+  StepsTo here before ways best after left best' =
+      (at : SearchAt) → IsHere at.haystack at.p here → Between at before ways best
+      → Between at after left best'
 
   -- all below position p is done; what is offered at p are the threads, without its own start
   pub record IsComing (haystack : Text) (s : List ℕ) (first last p : ℕ)
@@ -73,13 +58,12 @@ module _ (table : List (Place ℕ)) where
     pub from : ℕ
     pub in_step : InStep table haystack s first last p from recorded coming [] way
     pub before : (n : Node) (v : List ℕ) → recorded n ≡ Some v → n.1 < p
-    pub hold : ThreadsHold table haystack s p (thread_at threads) 0 coming
-    pub all : length coming ≡ length threads
+    pub hold : ThreadsHold table haystack s p threads coming
     pub best_holds : BestHolds table haystack s best way
     pub from_is : FromIs p from best
 
   -- the memory of a search between two positions
-  pub record IsReady (memory : State) (best : BestState) (tried entered looked : ℕ) : Type 0 where
+  pub record IsReady (memory : State) (best : BestState) (counts : StepCounts) : Type 0 where
     pub all_seen : length memory.rounds ≡ length table
     pub old_rounds : (q : ℕ) → slice_index memory.rounds q ≤ memory.now
     pub cap : reading_of table < memory.room
@@ -89,28 +73,9 @@ module _ (table : List (Place ℕ)) where
     pub stack_room : kept_back_of table < length table
     pub stack_empty : memory.frames ≡ []
     pub best_width : length best.row ≡ length memory.row
-    pub entered_tried : entered ≤ tried
-    pub looked_entered : looked ≤ entered
-    pub match_entered : (best_of best ≡ None → ⊥) → 0 < entered
-
-abbrev pub IsAmong : (number entry : ℕ) → List Start → Type 0
-IsAmong number entry [] = ⊥
-IsAmong number entry (start ∷ starts) =
-    ((number ≡ start.number) × (entry ≡ start.place)) ⊎ IsAmong number entry starts
-
--- patterns are entered there, in the order of their numbers, from this one on
-abbrev pub AreFrom : (entries : List ℕ) → (from : ℕ) → List Start → Type 0
-AreFrom entries from [] = Unit {0}
-AreFrom entries from (start ∷ starts) =
-    (from ≤ start.number) × IsEntry entries start.number start.place
-    × AreFrom entries (suc start.number) starts
-
--- at position p no match can start but by these
-pub record AreStartsAt (table : List (Place ℕ)) (haystack : Text) (entries : List ℕ) (p : ℕ)
-    (starts : List Start) : Type 0 where
-  pub in_order : AreFrom entries 0 starts
-  pub each : (number entry : ℕ) → IsEntry entries number entry
-      → IsAmong number entry starts ⊎ IsDeadAt table haystack entry p
+    pub entered_tried : counts.entered ≤ counts.tried
+    pub looked_entered : counts.looked ≤ counts.entered
+    pub match_entered : (best_of best ≡ None → ⊥) → 0 < counts.entered
 
 -- the threads that begin at a position, of which this is kept by the number of the pattern
 abbrev pub begun : (told : ℕ → Told) → Row → List Start → List Thread

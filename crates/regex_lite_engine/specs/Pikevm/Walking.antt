@@ -1,5 +1,5 @@
 -- What a search over a table of numbered places keeps true while it goes over one position.
-use Rattle.std.specs.Prelude.{◌≡◌, ◌+◌, ◌<◌, ℕ, suc, IsTrue, List, [], ◌∷◌, ◌++◌}
+use Rattle.std.specs.Prelude.{◌≡◌, ◌<◌, ℕ, suc, IsTrue, List, [], ◌∷◌, ◌++◌}
 use Rattle.std.specs.Prelude.{length, Option, Some, None, slice_set, slice_index}
 use Rattle.regex_lite_syntax.specs.Text.{Text}
 use Rattle.regex_lite_engine.specs.Graph.Places.{Place}
@@ -8,8 +8,8 @@ use Rattle.regex_lite_engine.specs.Search.Marks.{marks_along}
 use Rattle.regex_lite_engine.specs.Search.NumberedAnswer.{place_with, numbered_step, is_end}
 use Rattle.regex_lite_engine.specs.Search.NumberedList.{IsEntry, StartsOf}
 use Rattle.regex_lite_engine.specs.Search.Offsets.{offset, HasSlots}
-use Rattle.regex_lite_engine.specs.Pikevm.Beginnings.{Told, Tells}
-use Rattle.regex_lite_engine.specs.Pikevm.Machine.{Row, Frame, explore, restore, Thread}
+use Rattle.regex_lite_engine.specs.Pikevm.Beginnings.{Told, TellsStart}
+use Rattle.regex_lite_engine.specs.Pikevm.Machine.{Row, Frame, explore, restore, Thread, State}
 use Rattle.regex_lite_engine.specs.Pikevm.InStep.{Offer, IsInStep}
 
 -- a place at a position
@@ -26,8 +26,8 @@ module _ (table : List (Place ℕ)) (haystack : Text) where
     -- what it marks. It begins with the position there, and then the pattern's number
     abbrev pub WayTold : (i : Told) → Row → Node → (w : List ℕ) → Type 0
     WayTold i row n w =
-        (j : ℕ) × (number : ℕ) × (entry : ℕ) × (ks : List ℕ) × Tells i (offset haystack j) number
-        × IsEntry s number entry × (w ≡ j ∷ (number ∷ ks))
+        (j : ℕ) × (number : ℕ) × (entry : ℕ) × (ks : List ℕ)
+        × TellsStart i (offset haystack j) number × IsEntry s number entry × (w ≡ j ∷ (number ∷ ks))
         × Leads Node (numbered_step table haystack) (entry, j) ks n
         × HasSlots haystack row (marks_along haystack (place_with table) (Some (entry, j)) ks)
 
@@ -41,12 +41,13 @@ module _ (table : List (Place ℕ)) (haystack : Text) where
     FramesHold p i row (restore slot old ∷ frames) os =
         FramesHold p i (slice_set row slot old) frames os
 
-    -- the threads from the k-th on hold the offers at position p
-    abbrev pub ThreadsHold : (p : ℕ) → (ℕ → Thread) → (k : ℕ) → List (Offer Node) → Type 0
-    ThreadsHold p threads k [] = Unit {0}
-    ThreadsHold p threads k (o ∷ os) =
-        (o.0 ≡ ((threads k).0, p)) × WayTold (threads k).1 (threads k).2 o.0 o.1
-        × ThreadsHold p threads (suc k) os
+    -- the threads hold the offers at position p, one each
+    abbrev pub ThreadsHold : (p : ℕ) → List Thread → List (Offer Node) → Type 0
+    ThreadsHold p [] [] = Unit {0}
+    ThreadsHold p (thread ∷ threads) (o ∷ os) =
+        (o.0 ≡ (thread.0, p)) × WayTold thread.1 thread.2 o.0 o.1 × ThreadsHold p threads os
+    ThreadsHold p [] (o ∷ os) = ⊥
+    ThreadsHold p (thread ∷ threads) [] = ⊥
 
     -- the best match is that of the way
     abbrev pub BestHolds : Best → Option (List ℕ) → Type 0
@@ -63,25 +64,33 @@ module _ (table : List (Place ℕ)) (haystack : Text) where
           IsInStep Node (numbered_step table haystack) (StartsOf s first last)
           (is_end table haystack) (λ n. n.1)
 
-      -- At position p. The frames belong to a thread of whose start i is kept. Left are the
-      -- frames, then the threads from the k-th to the n-th; at the next position there are so far
-      -- the m threads of `next`. Starts below `from` were offered
-      pub record IsWalking (p from : ℕ) (rounds : List ℕ) (now : ℕ) (i : Told) (row : Row)
-          (frames : List Frame) (threads : ℕ → Thread) (k n : ℕ) (next : ℕ → Thread) (m : ℕ)
-          (best : Best) : Type 0 where
-        pub recorded : Node → Option (List ℕ)
-        pub under : List (Offer Node)
-        pub later : List (Offer Node)
-        pub coming : List (Offer Node)
-        pub way : Option (List ℕ)
-        pub in_step : InStep p from recorded (under ++ later) coming way
-        -- just the places with a record at the position are in the set of those entered
-        pub seen : (q : ℕ) (v : List ℕ) → recorded (q, p) ≡ Some v → slice_index rounds q ≡ now
-        pub met : (q : ℕ) → q < length rounds → slice_index rounds q ≡ now
-            → (v : List ℕ) × (recorded (q, p) ≡ Some v)
-        pub frames_hold : FramesHold p i row frames under
-        pub later_hold : ThreadsHold p threads k later
-        pub later_all : k + length later ≡ n
-        pub coming_hold : ThreadsHold (suc p) next 0 coming
-        pub coming_all : length coming ≡ m
-        pub best_holds : BestHolds best way
+-- a search at position p: for the patterns that are entered at these places, by ways that start
+-- from `first` to `last`. Starts below `from` were offered
+pub record SearchAt : Type 0 where
+  pub haystack : Text
+  pub entries : List ℕ
+  pub first : ℕ
+  pub last : ℕ
+  pub p : ℕ
+  pub from : ℕ
+
+-- The frames belong to a thread of whose start i is kept. Left are the frames, then these ways; at
+-- the next position there are so far the threads of `next`
+pub record IsWalking (table : List (Place ℕ)) (at : SearchAt) (state : State) (i : Told)
+    (ways : List Thread) (best : Best) : Type 0 where
+  pub recorded : Node → Option (List ℕ)
+  pub under : List (Offer Node)
+  pub later : List (Offer Node)
+  pub coming : List (Offer Node)
+  pub way : Option (List ℕ)
+  pub in_step : InStep table at.haystack at.entries at.first at.last at.p at.from recorded
+      (under ++ later) coming way
+  -- just the places with a record at the position are in the set of those entered
+  pub seen : (q : ℕ) (v : List ℕ) → recorded (q, at.p) ≡ Some v
+      → slice_index state.rounds q ≡ state.now
+  pub met : (q : ℕ) → q < length state.rounds → slice_index state.rounds q ≡ state.now
+      → (v : List ℕ) × (recorded (q, at.p) ≡ Some v)
+  pub frames_hold : FramesHold table at.haystack at.entries at.p i state.row state.frames under
+  pub ways_hold : ThreadsHold table at.haystack at.entries at.p ways later
+  pub coming_hold : ThreadsHold table at.haystack at.entries (suc at.p) state.next coming
+  pub best_holds : BestHolds table at.haystack at.entries best way

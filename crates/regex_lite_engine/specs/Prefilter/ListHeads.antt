@@ -12,7 +12,7 @@ use Rattle.regex_lite_engine.specs.declared.prefilter.list_heads.ListHeads.{List
 use Rattle.regex_lite_engine.specs.declared.prefilter.list_heads.ascii_set.AsciiSet.{AsciiSet}
 use Rattle.regex_lite_engine.specs.declared.prefilter.list_heads.rows.Rows.{Rows}
 use Rattle.regex_lite_engine.specs.declared.prefilter.starts.Starts.{Starts}
-use Rattle.regex_lite_engine.specs.Search.AnswerOfList.{HasTree}
+use Rattle.regex_lite_engine.specs.Graph.SideBySide.{HasTree}
 use Rattle.regex_lite_engine.specs.Prefilter.Heads.{AreHeadsOfTree}
 use Rattle.regex_lite_engine.specs.Prefilter.Starts.{begins_with, stops_at, IsUnionOf}
 use Rattle.regex_lite_engine.specs.Prefilter.Thirds.{may_go_on, AreMasksOf}

@@ -36,7 +36,7 @@ AreStartsOfTree tree starts =
     (haystack : Text) (i j : ℕ) → Matches haystack tree i j → MayBegin starts haystack i
 
 -- a match can begin wherever one could before
-pub record IsGrown (before after : Starts) : Type 0 where
+pub record IsWider (before after : Starts) : Type 0 where
   pub with : (c : ℕ) → begins_with before c ≡ true → begins_with after c ≡ true
   pub at_start : before.at_start ≡ true → after.at_start ≡ true
 

@@ -6,7 +6,7 @@ use Rattle.regex_lite_syntax.specs.Text.{Text, after}
 use Rattle.regex_lite_syntax.specs.Tree.{Tree}
 use Rattle.regex_lite_syntax.specs.Tree.Matches.{Matches}
 use Rattle.regex_lite_engine.specs.declared.prefilter.list_heads.thirds.Thirds.{Thirds}
-use Rattle.regex_lite_engine.specs.Search.AnswerOfList.{HasTree}
+use Rattle.regex_lite_engine.specs.Graph.SideBySide.{HasTree}
 
 -- a bit of a mask stands for all characters whose codes leave the same remainder by 32
 abbrev pub in_mask : (mask c : ℕ) → Bool

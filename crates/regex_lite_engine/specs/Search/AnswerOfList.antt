@@ -1,14 +1,11 @@
 -- The answer of a search for several patterns, which have numbers from 0 on.
 use Rattle.std.specs.Prelude.{◌≡◌, ◌≤◌, ◌↔◌, ℕ, Bool, false, IsTrue, List, length}
-use Rattle.std.specs.Prelude.{Option, Some, None, slice_get, slice_index_or}
+use Rattle.std.specs.Prelude.{Option, Some, None, slice_index_or}
 use Rattle.regex_lite_syntax.specs.Text.{Text}
 use Rattle.regex_lite_syntax.specs.Tree.{Tree}
 use Rattle.regex_lite_syntax.specs.Tree.Matches.{Matches}
+use Rattle.regex_lite_engine.specs.Graph.SideBySide.{HasTree}
 use Rattle.regex_lite_engine.specs.Search.Answer.{IsMatchFrom, HasMatchFrom, Found, IsAnswer}
-
--- the pattern with this number has this tree
-abbrev pub HasTree : List Tree → (number : ℕ) → Tree → Type 0
-HasTree trees number tree = slice_get trees number ≡ Some tree
 
 -- some pattern matches from a position at or after s
 abbrev pub AnyMatchesFrom : List Tree → Text → (s : ℕ) → Type 0

@@ -66,9 +66,9 @@ module _ (table : List (Place ℕ)) (haystack : Text) where
         × ((i q j : ℕ) (way : List ℕ) → IsNumberedMatch s i way q j → end ≤ j)
 
     -- a search from position s on is over
-    abbrev pub IsOver : (s : ℕ) → (recorded : ℕ × ℕ → Option (List ℕ)) → (best : Option (List ℕ))
-        → Type 0
-    IsOver s recorded best =
+    abbrev pub SearchIsOver : (s : ℕ) → (recorded : ℕ × ℕ → Option (List ℕ))
+        → (best : Option (List ℕ)) → Type 0
+    SearchIsOver s recorded best =
         IsExplored (ℕ × ℕ) numbered_step is_end (StartsAt (λ i. (start, i)) s (length haystack))
         recorded best
 

@@ -11,7 +11,7 @@ use Rattle.regex_lite_engine.specs.Search.Bounds.{StepCounts, IsBounded, IsBound
 use Rattle.regex_lite_engine.specs.Search.Offsets.{offset, search_start, HasSlots}
 
 -- the span and the slots have the offsets of what was found
-pub record Tells (haystack : Text) (found : Found) (span : ℕ × ℕ) (held : List (Option ℕ))
+pub record TellsFound (haystack : Text) (found : Found) (span : ℕ × ℕ) (held : List (Option ℕ))
     : Type 0 where
   pub start : span.0 ≡ offset haystack found.start
   pub end : span.1 ≡ offset haystack found.end
@@ -24,7 +24,7 @@ IsSpanOutcome tree haystack start slots None =
     IsAnswer tree (chars haystack) (search_start haystack start) None
 IsSpanOutcome tree haystack start slots (Some span) =
     (found : Found) × IsAnswer tree (chars haystack) (search_start haystack start) (Some found)
-    × Tells (chars haystack) found span slots
+    × TellsFound (chars haystack) found span slots
 
 -- so does its outcome
 abbrev pub IsOutcome : Tree → (haystack : List ℕ) → (start : ℕ) → Option Outcome → Type 0
@@ -55,7 +55,7 @@ IsSpanOutcomeOfList trees haystack start slots None =
 IsSpanOutcomeOfList trees haystack start slots (Some told) =
     (found : Found)
     × IsAnswerOfList trees (chars haystack) (search_start haystack start) (Some (told.0, found))
-    × Tells (chars haystack) found told.1 slots
+    × TellsFound (chars haystack) found told.1 slots
 
 -- so does its outcome
 abbrev pub IsOutcomeOfList : List Tree → (haystack : List ℕ) → (start : ℕ) → Option (ℕ × Outcome)

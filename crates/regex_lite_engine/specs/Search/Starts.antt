@@ -1,6 +1,6 @@
 -- Where a match can begin in a graph, and the positions that a search passes over.
 use Rattle.std.specs.Prelude.{◌≡◌, ◌≤◌, ◌<◌, ◌⊎◌, ℕ, suc, false}
-use Rattle.std.specs.Prelude.{List, [], None, length, slice_index}
+use Rattle.std.specs.Prelude.{List, [], ◌∷◌, length, slice_index}
 use Rattle.regex_lite_syntax.specs.Text.{Text, after}
 use Rattle.regex_lite_engine.specs.declared.prefilter.heads.Heads.{Heads}
 use Rattle.regex_lite_engine.specs.declared.prefilter.list_heads.ListHeads.{ListHeads}
@@ -11,11 +11,41 @@ use Rattle.regex_lite_engine.specs.Prefilter.Heads.{NeverBegins}
 use Rattle.regex_lite_engine.specs.Prefilter.ListHeads.{may_start_at, IsWalkable}
 use Rattle.regex_lite_engine.specs.Prefilter.Starts.{MayBegin}
 use Rattle.regex_lite_engine.specs.Prefilter.Thirds.{may_go_on}
-use Rattle.regex_lite_engine.specs.Pikevm.Machine.{Thread}
+use Rattle.regex_lite_engine.specs.Search.Explored.{IsDead}
+use Rattle.regex_lite_engine.specs.Search.NumberedAnswer.{numbered_step, is_end}
 use Rattle.regex_lite_engine.specs.Search.NumberedList.{IsEntry}
 use Rattle.regex_lite_engine.specs.Search.Standing.{IsHere}
-use Rattle.regex_lite_engine.specs.Pikevm.Turns.{AreDeadAt, IsDeadAt}
-use Rattle.regex_lite_engine.specs.Pikevm.Walking.{Best}
+
+module _ (table : List (Place ℕ)) where
+  -- no match of the pattern that is entered at place s can start at the position
+  abbrev pub IsDeadAt : Text → (s p : ℕ) → Type 0
+  IsDeadAt haystack s p =
+      IsDead (ℕ × ℕ) (numbered_step table haystack) (is_end table haystack) (s, p)
+
+  -- none of any pattern can
+  abbrev pub AreDeadAt : Text → (entries : List ℕ) → (p : ℕ) → Type 0
+  AreDeadAt haystack entries p =
+      (number entry : ℕ) → IsEntry entries number entry → IsDeadAt haystack entry p
+
+-- a pattern that is entered there is one of these
+abbrev pub IsAmong : (number entry : ℕ) → List Start → Type 0
+IsAmong number entry [] = ⊥
+IsAmong number entry (start ∷ starts) =
+    ((number ≡ start.number) × (entry ≡ start.place)) ⊎ IsAmong number entry starts
+
+-- patterns are entered there, in the order of their numbers, from this one on
+abbrev pub AreFrom : (entries : List ℕ) → (from : ℕ) → List Start → Type 0
+AreFrom entries from [] = Unit {0}
+AreFrom entries from (start ∷ starts) =
+    (from ≤ start.number) × IsEntry entries start.number start.place
+    × AreFrom entries (suc start.number) starts
+
+-- at position p no match can start but by these
+pub record AreStartsAt (table : List (Place ℕ)) (haystack : Text) (entries : List ℕ) (p : ℕ)
+    (starts : List Start) : Type 0 where
+  pub in_order : AreFrom entries 0 starts
+  pub each : (number entry : ℕ) → IsEntry entries number entry
+      → IsAmong number entry starts ⊎ IsDeadAt table haystack entry p
 
 -- no way from the start leads to a complete match where none can begin
 abbrev pub AreHeadsOf : List (Place ℕ) → (start : ℕ) → Heads → Type 0
@@ -28,15 +58,6 @@ pub record PassesTo (Passed : ℕ → Type 0) (haystack : Text) (p : ℕ) (here 
   pub later : p ≤ q
   pub is : IsHere haystack q here
   pub passed : (i : ℕ) → p ≤ i → i < q → Passed i
-
--- A search goes on here from position p. Where there is neither a thread nor a match it passes over
--- positions at which no match can start
-abbrev pub GoesOnAt : List (Place ℕ) → Text → (entries : List ℕ) → List Thread → Best → (p : ℕ)
-    → Here → Type 0
-GoesOnAt table haystack entries threads best p here =
-    IsHere haystack p here
-    ⊎ ((threads ≡ []) × (best ≡ None)
-    × PassesTo (AreDeadAt table haystack entries) haystack p here)
 
 -- where the index of several patterns says so, no way from an entry leads to a complete match
 pub record AreListHeadsOf (table : List (Place ℕ)) (entries : List ℕ) (heads : ListHeads)
@@ -55,5 +76,5 @@ pub record AreListHeadsOf (table : List (Place ℕ)) (entries : List ℕ) (heads
       → IsDeadAt table haystack entry p
 
 -- the pattern with this number, and the place where it is entered
-abbrev pub start_of : (entries : List ℕ) → (number : ℕ) → Start
-start_of entries number = record { number = number; place = slice_index entries number }
+abbrev pub start_numbered : (entries : List ℕ) → (number : ℕ) → Start
+start_numbered entries number = record { number = number; place = slice_index entries number }

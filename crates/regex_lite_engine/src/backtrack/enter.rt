@@ -35,7 +35,7 @@ pub fn enter(place: &Place, haystack: &str, at: usize, stack: &mut Stack) -> Onw
     requires room { length stack.old.frames
         + kept_back_with (length stack.old.row) (place_of place.now) ≤ stack.old.room }
     ensures entered { Enters (chars haystack.now) (position_at haystack.now at) at place.now
-        stack.old.row stack.old.frames stack.new.row (onto result stack.new.frames)
+        stack.old (record stack.new { frames = onto result stack.new.frames })
         (completes result) }
     ensures room { stack.new.room ≡ stack.old.room }
 {

@@ -28,6 +28,7 @@ pub fn run(walk: &mut Walk, graph: &Graph, haystack: &str, start: usize) -> Opti
     ensures counts { StaysCounted walk.old.steps walk.new.steps }
     ensures entry { IfSome result (λ _. 0 < walk.new.steps.entered) }
     ensures width { length walk.new.stack.row ≡ length walk.old.stack.row }
+    ensures room { walk.new.stack.room ≡ walk.old.stack.room }
 {
     let mut here = Here::at(haystack, start);
     'starts: loop {

@@ -15,7 +15,7 @@ use crate::backtrack::stack::Stack;
 use crate::backtrack::visited::Visited;
 use crate::backtrack::walk::Walk;
 use crate::search::outcome::Outcome;
-use crate::search::steps::Steps;
+use crate::steps::Steps;
 use std::alloc::{AllocError, Global};
 
 impl Graph {

@@ -104,6 +104,24 @@ impl Stack {
         self.row[slot as usize] = held;
     }
 
+    /// Takes all frames off, and lets none of the slots be marked. It keeps its memory.
+    pub fn clear(&mut self)
+        ensures { self.new ≡ record self.old {
+          frames = [];
+          row = replicate (length self.old.row) None;
+        } }
+    {
+        self.frames.clear();
+        self.row.fill(None);
+    }
+
+    /// What the slots hold.
+    pub fn row(&self) -> &[Option<usize>]
+        ensures { result.now ≡ self.now.row }
+    {
+        &self.row
+    }
+
     /// The row by itself.
     pub fn into_row(self) -> Vec<Option<usize>>
         ensures { result.items ≡ self.row }

@@ -90,6 +90,25 @@ impl Visited {
         })
     }
 
+    /// As `none`, for so few pairs that no memory is needed for them.
+    // Inlined, since the words would be copied else.
+    #[inline(always)]
+    pub fn few(places: usize, first: usize, last: usize) -> Visited
+        requires from { first ≤ last }
+        requires some { 0 < places }
+        requires few { places * (last - first + 1) ≤ 4096 }
+        ensures none { result.entered ≡ replicate (places * (last - first + 1)) false }
+        ensures places { result.places ≡ places }
+        ensures first { result.first ≡ first }
+    {
+        Visited {
+            words: Words::Few([0; FEW]),
+            count: places * (last - first + 1),
+            places,
+            first,
+        }
+    }
+
     /// Adds the pair, and returns whether it is new.
     pub fn insert(&mut self, place: u32, at: usize) -> bool
         requires first { self.old.first ≤ at }

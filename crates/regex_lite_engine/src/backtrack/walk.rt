@@ -1,7 +1,7 @@
 //! The walk from one start: a way as far as it leads, and then the last that was left for later.
 ghost use Rattle.std.specs.Prelude.{◌≡◌, ◌<◌, ◌+◌, [], ◌∷◌, IfSome, length, true};
-ghost use Rattle.regex_lite_engine.specs.Backtrack.Machine.{completes, explore, onto};
-ghost use Rattle.regex_lite_engine.specs.Backtrack.Room.{Goes, HasRoom};
+ghost use Rattle.regex_lite_engine.specs.Backtrack.Machine.{completes, end_at, explore, onto};
+ghost use Rattle.regex_lite_engine.specs.Backtrack.Room.{HasRoom, TakesFrame};
 ghost use Rattle.regex_lite_engine.specs.Graph.Stored.{table_of};
 ghost use Rattle.regex_lite_engine.specs.Search.Bounds.{StaysCounted};
 
@@ -10,7 +10,7 @@ use crate::backtrack::enter::{Onward, enter};
 use crate::backtrack::frame::Frame;
 use crate::backtrack::stack::Stack;
 use crate::backtrack::visited::Visited;
-use crate::search::steps::Steps;
+use crate::steps::Steps;
 
 /// What a search works in, and what it has counted.
 #[derive(Drop)]
@@ -51,9 +51,9 @@ impl Walk {
     fn come_to(&mut self, graph: &Graph, haystack: &str, place: u32, at: usize) -> Onward
         requires { HasRoom (table_of graph.now) haystack.now self.old
             (explore place at ∷ self.old.stack.frames) }
-        ensures goes { Goes (table_of graph.now) haystack.now self.old
+        ensures taken { TakesFrame (table_of graph.now) haystack.now self.old
             (explore place at ∷ self.old.stack.frames) self.new
-            (onto result self.new.stack.frames) at (completes result) }
+            (onto result self.new.stack.frames) (end_at at result) }
         ensures tries { self.new.steps.tried ≡ self.old.steps.tried + 1 }
         ensures counts { StaysCounted self.old.steps self.new.steps }
         ensures entry { completes result ≡ true → 0 < self.new.steps.entered }

@@ -35,7 +35,8 @@ pub(crate) struct LazyDfa {
 impl Model for LazyDfa {
     ghost use Rattle.std.specs.Prelude.{◌≤◌, length, map, drop, vec_capacity};
     ghost use Rattle.regex_lite_engine.specs.LazyDfa.Automaton.{Automaton};
-    ghost use Rattle.regex_lite_engine.specs.LazyDfa.Stored.{LieWithin, state_in, way_in};
+    ghost use Rattle.regex_lite_engine.specs.LazyDfa.Stored.{ArePlain, LieWithin};
+    ghost use Rattle.regex_lite_engine.specs.LazyDfa.Stored.{state_in, way_in};
 
     ghost Value = { Automaton };
 
@@ -46,7 +47,8 @@ impl Model for LazyDfa {
     } };
 
     ghost invariant = { λ dfa. LieWithin dfa.used dfa.states.items
-        × (dfa.used ≤ length dfa.ways.items) × (length dfa.states.items ≤ 128) };
+        × (dfa.used ≤ length dfa.ways.items) × (length dfa.states.items ≤ 128)
+        × ArePlain dfa.states.items };
 }
 
 impl LazyDfa {
@@ -64,6 +66,13 @@ impl LazyDfa {
             ways,
             used: 0,
         })
+    }
+
+    /// Whether the graph has looks. Then so does every search for its turns.
+    pub(super) fn has_looks(&self) -> bool
+        ensures { result ≡ self.now.intervals.looks }
+    {
+        self.classes.looks()
     }
 
     /// Adds a way to those of the state that is to come. Returns whether there was room.
@@ -137,12 +146,14 @@ impl LazyDfa {
         ensures extends { Extends self.old self.new }
         ensures none_pending { result ≡ true → self.new.pending ≡ [] }
     {
+        let len = self.ways.len() - self.used;
         let state = StoredState {
             from: self.used,
-            len: self.ways.len() - self.used,
+            len,
             searching,
             before,
             hit,
+            is_plain: len > 0 && hit.is(Hit::Nowhere),
             next: [UNKNOWN; 128],
         };
         match self.states.push(state) {

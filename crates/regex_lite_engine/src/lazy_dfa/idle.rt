@@ -5,7 +5,7 @@ ghost use Rattle.regex_lite_engine.specs.Graph.Stored.{table_of};
 ghost use Rattle.regex_lite_engine.specs.LazyDfa.Running.{StandsIdle};
 ghost use Rattle.regex_lite_engine.specs.Search.Standing.{IsHere};
 ghost use Rattle.regex_lite_engine.specs.Search.Starts.{PassesTo};
-ghost use Rattle.regex_lite_engine.specs.Pikevm.Turns.{AreDeadAt};
+ghost use Rattle.regex_lite_engine.specs.Search.Starts.{AreDeadAt};
 
 use crate::Graph;
 use crate::lazy_dfa::automaton::{LazyDfa, MOST_STATES, UNKNOWN};

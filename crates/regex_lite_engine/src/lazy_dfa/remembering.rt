@@ -4,9 +4,10 @@ ghost use Rattle.regex_lite_engine.specs.LazyDfa.Automaton.{Remembers};
 ghost use Rattle.regex_lite_engine.specs.LazyDfa.Remembering.{RemembersAll};
 
 use crate::Graph;
+use crate::backtrack::MOST_PAIRS;
 use crate::lazy_dfa::automaton::LazyDfa;
+use crate::lazy_dfa::classes::Classes;
 use crate::prefilter::Prefilter;
-use crate::search::MOST_PAIRS;
 use std::alloc::{AllocError, Global};
 
 /// From this number of bytes on it pays to remember turns.
@@ -51,15 +52,21 @@ pub(crate) fn pays_from(graph: &Graph, start: usize, bytes: usize) -> bool {
     start == 0 || (is_large && graph.prefilter().is_none())
 }
 
-/// Whether it pays if slots are kept. The automaton then finds where matches start, and a search
-/// from there their slots. By measurement it doesn't pay if one of a few bytes begins each match.
-/// In a graph of few places the memory for both stays small.
+/// Whether it pays if slots are kept. The automaton then finds where matches start and end, and
+/// another search their slots. In a graph of few places the memory for both stays small.
 pub(crate) fn pays_with_slots(graph: &Graph, bytes: usize) -> bool {
-    let many_begin = match graph.prefilter() {
-        None | Some(Prefilter::Range(_, _)) => true,
-        Some(_) => false,
-    };
-    many_begin && bytes >= LONG_BETWEEN_MATCHES && graph.places() <= MOST_PLACES
+    bytes >= LONG_BETWEEN_MATCHES && graph.places() <= MOST_PLACES
+}
+
+/// Whether one of a few bytes begins each match. If slots are then searched for by ordered sets, an
+/// automaton doesn't pay: `\b(t\w+)\b` on sentences took 51 instructions a byte in place of 42. If
+/// they are searched for up to the match's end, it does: a URL with three groups took 50 in place
+/// of 113.
+pub(super) fn begins_rarely(graph: &Graph) -> bool {
+    match graph.prefilter() {
+        None | Some(Prefilter::Range(_, _)) => false,
+        Some(_) => true,
+    }
 }
 
 impl LazyDfa {
@@ -78,7 +85,7 @@ impl LazyDfa {
     fn of(alloc: Global, graph: &Graph) -> Result<Option<LazyDfa>, AllocError>
         ensures { IfOk result (λ made. IfSome made (RemembersAll graph.now)) }
     {
-        let Some(classes) = graph.table().classes(alloc)? else {
+        let Some(classes) = Classes::of(alloc, graph.table().all())? else {
             return Ok(None);
         };
         Ok(Some(LazyDfa::new(alloc, classes)?))

@@ -18,7 +18,7 @@ use crate::lazy_dfa::automaton::LazyDfa;
 use crate::lazy_dfa::run::Progress;
 use crate::pikevm::cache::{Cache, cache_for};
 use crate::search::outcome::Outcome;
-use crate::search::steps::Steps;
+use crate::steps::Steps;
 use std::alloc::{AllocError, Global};
 
 /// A search takes this number of turns before it gets an automaton. A match near the start is found

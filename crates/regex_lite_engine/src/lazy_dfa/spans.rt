@@ -1,16 +1,24 @@
 //! Searches that keep no slots, one after another, for one that keeps them: they find where matches
 //! start, by remembered turns.
-ghost use Rattle.std.specs.Prelude.{◌≡◌, ◌∷◌, [], IfSome, IsCharBoundary, None, chars};
+ghost use Rattle.std.specs.Prelude.{◌≡◌, ◌∷◌, [], ℕ, IfSome, IsCharBoundary, None, Some, chars};
+ghost use Rattle.std.specs.Prelude.{length};
 ghost use Rattle.regex_lite_engine.specs.Graph.Stored.{StoredGraph, table_of};
-ghost use Rattle.regex_lite_engine.specs.LazyDfa.Remembering.{FindsSpansIn, NoneStartsBefore};
+ghost use Rattle.regex_lite_engine.specs.Graph.NoLooks.{HasNoLooks};
+ghost use Rattle.regex_lite_engine.specs.LazyDfa.Remembering.{FindsSpansIn, IsKnown};
+ghost use Rattle.regex_lite_engine.specs.LazyDfa.Remembering.{NoneStartsBefore, RemembersAll};
 ghost use Rattle.regex_lite_engine.specs.LazyDfa.Scanning.{best_told};
 ghost use Rattle.regex_lite_engine.specs.Search.Offsets.{position_at};
 ghost use Rattle.regex_lite_engine.specs.Search.NumberedAnswer.{IsNumberedAnswer};
-ghost use Rattle.regex_lite_engine.specs.Pikevm.Outcomes.{IsBestOutcomeOf};
+ghost use Rattle.regex_lite_engine.specs.Pikevm.Outcomes.{IsBestOutcomeOf, IsNumberedOutcome};
+ghost use Rattle.regex_lite_engine.specs.Pikevm.Turns.{best_at, best_of};
+ghost use Rattle.regex_lite_engine.specs.Backtrack.Short.{SearchesShort};
 
 use crate::Graph;
+use crate::backtrack::short::ShortSearcher;
 use crate::lazy_dfa::automaton::LazyDfa;
+use crate::lazy_dfa::remembering::begins_rarely;
 use crate::lazy_dfa::trial::Trial;
+use crate::pikevm::best::Best;
 use crate::pikevm::cache::{Cache, cache_for, restart};
 use std::alloc::Global;
 
@@ -20,22 +28,38 @@ pub(crate) struct SpanSearcher {
     dfa: LazyDfa,
     cache: Cache<usize>,
     trial: Trial,
+    /// Finds the slots of short matches, if the graph has no looks.
+    short: Option<ShortSearcher>,
+}
+
+/// What is known of the next match: no match starts before `from`, and where the end is known, it
+/// starts there.
+#[derive(Clone, Copy)]
+pub(crate) struct Passed {
+    pub from: usize,
+    pub end: Option<usize>,
 }
 
 impl SpanSearcher {
-    /// One for this graph, which remembers nothing yet. None where there are too many classes, or
-    /// where a growth is refused. In a box it costs nothing to move.
-    pub(crate) fn for_graph(alloc: Global, graph: &Graph) -> Option<Box<SpanSearcher>>
-        ensures { IfSome result (λ boxed. FindsSpansIn graph.now boxed.value) }
+    /// One for this graph, whose matches have this number of slots, and which remembers nothing
+    /// yet. None where there are too many classes, where memory runs out, or where it doesn't pay.
+    /// In a box it costs nothing to move.
+    pub(crate) fn for_graph(alloc: Global, graph: &Graph, slots: usize) -> Option<Box<SpanSearcher>>
+        ensures { IfSome result (λ boxed. FindsSpansIn graph.now slots boxed.value) }
     {
         let dfa = LazyDfa::for_graph(alloc, graph)?;
         let Ok(cache) = cache_for(alloc, graph.table(), 0) else {
             return None;
         };
+        let short = short_for(alloc, graph, slots, &dfa);
+        if short.is_none() && begins_rarely(graph) {
+            return None;
+        }
         let searcher = SpanSearcher {
             dfa,
             cache,
             trial: Trial::new(),
+            short,
         };
         Box::new(alloc, searcher).ok()
     }
@@ -44,42 +68,159 @@ impl SpanSearcher {
     /// ends.
     fn find(&mut self, graph: &Graph, haystack: &str, start: usize) -> Option<(usize, usize)>
         requires boundary { IsCharBoundary haystack.now start }
-        requires finds { FindsSpansIn graph.now self.old }
+        requires finds { (slots : ℕ) × FindsSpansIn graph.now slots self.old }
         ensures found { IsBestOutcomeOf (table_of graph.now) (chars haystack.now)
             (graph.now.start ∷ []) (position_at haystack.now start) (best_told result) }
-        ensures finds { FindsSpansIn graph.now self.new }
+        ensures finds { (slots : ℕ) → FindsSpansIn graph.now slots self.old
+            → FindsSpansIn graph.now slots self.new }
     {
         restart(&mut self.cache);
         self.dfa.find(graph, &mut self.cache, haystack, start, 0)
     }
+
+    /// Lets the row have the slots of the match from and to these offsets, if they can be found
+    /// depth first. Returns where it starts and ends, and how many tries that took.
+    fn find_known(
+        &mut self,
+        graph: &Graph,
+        haystack: &str,
+        span: (usize, usize),
+        best: &mut Best<usize>,
+    ) -> Option<((usize, usize), u128)>
+        requires finds { FindsSpansIn graph.now (length best.old.row) self.old }
+        requires known { (s : ℕ) × IsBestOutcomeOf (table_of graph.now) (chars haystack.now)
+            (graph.now.start ∷ []) s (best_told (Some span)) }
+        ensures finds { FindsSpansIn graph.now (length best.new.row) self.new }
+        ensures found { (s : ℕ) → IsBestOutcomeOf (table_of graph.now) (chars haystack.now)
+            (graph.now.start ∷ []) s (best_told (Some span))
+            → IfSome result (λ told. IsNumberedOutcome (table_of graph.now)
+            (chars haystack.now) graph.now.start s (best_at (Some told.0) best.new.row)) }
+        ensures same { best.new ≡ record best.old { row = best.new.row } }
+        ensures width { length best.new.row ≡ length best.old.row }
+    {
+        match &mut self.short {
+            Some(short) => find_short(short, graph, haystack, span, best),
+            None => None,
+        }
+    }
 }
 
-/// Where the first match at or after this offset starts, if it is found by remembered turns, or
-/// else this offset. None where there is no match.
+/// What finds the slots of short matches, if the graph has no looks and there is memory.
+fn short_for(alloc: Global, graph: &Graph, slots: usize, dfa: &LazyDfa) -> Option<ShortSearcher>
+    requires { RemembersAll graph.now dfa.now }
+    ensures searches { IfSome result (SearchesShort graph.now) }
+    ensures width { IfSome result (λ short. length short.walk.stack.row ≡ slots) }
+    ensures no_looks { IfSome result (λ _. HasNoLooks (table_of graph.now)) }
+{
+    if dfa.has_looks() {
+        return None;
+    }
+    match ShortSearcher::new(alloc, graph, slots) {
+        Ok(made) => made,
+        Err(_) => None,
+    }
+}
+
+/// What remembered turns say of the first match at or after this offset. None where there is no
+/// match.
 pub(crate) fn pass_to_match(
     spans: &mut Option<Box<SpanSearcher>>,
     graph: &Graph,
     haystack: &str,
     start: usize,
-) -> Option<usize>
+) -> Option<Passed>
     requires boundary { IsCharBoundary haystack.now start }
-    requires finds { IfSome spans.old (λ boxed. FindsSpansIn graph.now boxed.value) }
-    ensures finds { IfSome spans.new (λ boxed. FindsSpansIn graph.now boxed.value) }
+    requires finds { (slots : ℕ) × IfSome spans.old
+        (λ boxed. FindsSpansIn graph.now slots boxed.value) }
+    ensures finds { (slots : ℕ) → IfSome spans.old
+        (λ boxed. FindsSpansIn graph.now slots boxed.value)
+        → IfSome spans.new (λ boxed. FindsSpansIn graph.now slots boxed.value) }
     ensures none { result ≡ None → IsNumberedAnswer (table_of graph.now) (chars haystack.now)
         graph.now.start (position_at haystack.now start) None }
-    ensures boundary { IfSome result (λ from. IsCharBoundary haystack.now from) }
-    ensures first { IfSome result (λ from. NoneStartsBefore (table_of graph.now)
+    ensures boundary { IfSome result (λ passed. IsCharBoundary haystack.now passed.from) }
+    ensures first { IfSome result (λ passed. NoneStartsBefore (table_of graph.now)
         (chars haystack.now) graph.now.start (position_at haystack.now start)
-        (position_at haystack.now from)) }
+        (position_at haystack.now passed.from)) }
+    ensures known { IfSome result (IsKnown (table_of graph.now) (chars haystack.now)
+        graph.now.start (position_at haystack.now start)) }
 {
+    let not_passed = Passed {
+        from: start,
+        end: None,
+    };
     let Some(searcher) = spans else {
-        return Some(start);
+        return Some(not_passed);
     };
     if searcher.trial.is_without() {
-        return Some(start);
+        return Some(not_passed);
     }
-    let (from, _) = searcher.find(graph, haystack, start)?;
-    Some(from)
+    let (from, end) = searcher.find(graph, haystack, start)?;
+    Some(Passed {
+        from,
+        end: Some(end),
+    })
+}
+
+/// Lets the row have the slots of the match, if its end is known and they can be found depth first.
+/// Returns where it starts and ends, and how many tries that took.
+pub(crate) fn find_slots(
+    spans: &mut Option<Box<SpanSearcher>>,
+    graph: &Graph,
+    haystack: &str,
+    passed: Passed,
+    best: &mut Best<usize>,
+) -> Option<((usize, usize), u128)>
+    requires finds { IfSome spans.old
+        (λ boxed. FindsSpansIn graph.now (length best.old.row) boxed.value) }
+    requires known { (s : ℕ) × IsKnown (table_of graph.now) (chars haystack.now) graph.now.start s
+        passed }
+    ensures finds { IfSome spans.new
+        (λ boxed. FindsSpansIn graph.now (length best.new.row) boxed.value) }
+    ensures found { (s : ℕ) → IsKnown (table_of graph.now) (chars haystack.now) graph.now.start s
+        passed → IfSome result (λ told. IsNumberedOutcome (table_of graph.now)
+        (chars haystack.now) graph.now.start s (best_at (Some told.0) best.new.row)) }
+    ensures same { best.new ≡ record best.old { row = best.new.row } }
+    ensures width { length best.new.row ≡ length best.old.row }
+{
+    let Some(end) = passed.end else {
+        return None;
+    };
+    match spans {
+        Some(searcher) => searcher.find_known(graph, haystack, (passed.from, end), best),
+        None => None,
+    }
+}
+
+/// The same of a match from and to these offsets.
+fn find_short(
+    short: &mut ShortSearcher,
+    graph: &Graph,
+    haystack: &str,
+    span: (usize, usize),
+    best: &mut Best<usize>,
+) -> Option<((usize, usize), u128)>
+    requires searches { SearchesShort graph.now short.old }
+    requires width { length short.old.walk.stack.row ≡ length best.old.row }
+    requires no_looks { HasNoLooks (table_of graph.now) }
+    requires known { (s : ℕ) × IsBestOutcomeOf (table_of graph.now) (chars haystack.now)
+        (graph.now.start ∷ []) s (best_told (Some span)) }
+    ensures searches { SearchesShort graph.now short.new }
+    ensures row { length short.new.walk.stack.row ≡ length short.old.walk.stack.row }
+    ensures found { (s : ℕ) → IsBestOutcomeOf (table_of graph.now) (chars haystack.now)
+        (graph.now.start ∷ []) s (best_told (Some span))
+        → IfSome result (λ told. IsNumberedOutcome (table_of graph.now)
+        (chars haystack.now) graph.now.start s (best_at (Some told.0) best.new.row)) }
+    ensures same { best.new ≡ record best.old { row = best.new.row } }
+    ensures width { length best.new.row ≡ length best.old.row }
+{
+    let (from, end) = span;
+    if !short.suits(end.saturating_sub(from)) {
+        return None;
+    }
+    let part = &haystack[..end];
+    let found = short.search(graph, part, from)?;
+    best.set_row(short.row());
+    Some((found, short.steps().tried()))
 }
 
 /// Counts the match, if one was found, and the tries of the search for its slots, until enough were
@@ -89,8 +230,9 @@ pub(crate) fn weigh(
     found: Option<(usize, usize)>,
     tried: u128,
 )
-    ensures { (graph : StoredGraph) → IfSome spans.old (λ boxed. FindsSpansIn graph boxed.value)
-        → IfSome spans.new (λ boxed. FindsSpansIn graph boxed.value) }
+    ensures { (graph : StoredGraph) (slots : ℕ)
+        → IfSome spans.old (λ boxed. FindsSpansIn graph slots boxed.value)
+        → IfSome spans.new (λ boxed. FindsSpansIn graph slots boxed.value) }
 {
     let Some((start, end)) = found else {
         return;

@@ -1,5 +1,5 @@
 //! Scans that go by offsets, without the characters beside them.
-ghost use Rattle.std.specs.Prelude.{◌≡◌, ◌+◌, ◌<◌, ◌≤◌, ◌∷◌, [], ℕ, IfSome, IsCharBoundary};
+ghost use Rattle.std.specs.Prelude.{◌≡◌, ◌+◌, ◌<◌, ◌≤◌, ◌∷◌, [], ℕ, IfSome, IsCharBoundary, IsTrue};
 ghost use Rattle.std.specs.Prelude.{None, Some, chars, false, true, length, slice_get};
 ghost use Rattle.regex_lite_engine.specs.Graph.Stored.{table_of};
 ghost use Rattle.regex_lite_engine.specs.LazyDfa.Automaton.{Remembers, State};
@@ -145,6 +145,14 @@ impl LazyDfa {
             → state.hit ≡ None → at.new.best ≡ at.old.best }
     {
         let Turn { to, end } = turn;
+        // Most turns: the rest needs no test.
+        if self.is_plain(to) {
+            return Step::On(Spot {
+                at: end,
+                state: to,
+                idle: spot.idle,
+            });
+        }
         let hit = self.hit(to);
         if let Hit::AtLater = hit {
             return Step::Stuck;
@@ -207,6 +215,16 @@ impl LazyDfa {
             → hit_in result ≡ state.hit }
     {
         self.states[x as usize].hit
+    }
+
+    /// Whether the state has ways, and no match is complete in it. Not every such state is known.
+    #[inline(always)]
+    fn is_plain(&self, x: u16) -> bool
+        requires { x < length self.now.states }
+        ensures { (state : State) → slice_get self.now.states x ≡ Some state → IsTrue result
+            → ¬ (state.ways ≡ []) × (state.hit ≡ None) }
+    {
+        self.states[x as usize].is_plain
     }
 
     /// Whether a match is complete in this state.

@@ -32,6 +32,8 @@ pub(crate) struct StoredState {
     pub before: Side,
     /// Whether a match was complete at the last position.
     pub hit: Hit,
+    /// Whether there are ways, and no match was complete: a turn to it changes nothing else.
+    pub is_plain: bool,
     /// Where turns lead, by the class of the next character.
     pub next: [u16; 128],
 }

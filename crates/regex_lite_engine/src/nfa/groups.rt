@@ -7,7 +7,7 @@ ghost use Rattle.regex_lite_engine.specs.Graph.PlaceCounts.{whole_places};
 ghost use Rattle.regex_lite_engine.specs.Graph.StoredList.{TellsGroupsOf};
 ghost use Rattle.regex_lite_engine.specs.Nfa.Saturation.{AreCountsOf};
 
-use crate::nfa::count::Counts;
+use crate::count::Counts;
 use regex_lite_syntax::Hir;
 use std::alloc::{AllocError, Global};
 use std::marker::Model;

@@ -13,10 +13,10 @@ ghost use Rattle.regex_lite_engine.specs.Graph.StoredList.{TellGroupsOf, table_o
 ghost use Rattle.regex_lite_engine.specs.Nfa.Totals.{AreTotalsOf};
 ghost use Rattle.regex_lite_engine.specs.Search.Starts.{AreListHeadsOf};
 
-use crate::nfa::count::Counts;
-use crate::nfa::count::totals::Totals;
+use crate::count::Counts;
+use crate::count::measured::Measured;
+use crate::count::totals::Totals;
 use crate::nfa::groups::Groups;
-use crate::nfa::measured::Measured;
 use crate::nfa::table::Table;
 use crate::nfa::write::write_all;
 use crate::prefilter::list_heads::ListHeads;

@@ -1,16 +1,13 @@
 //! Numbered places in a table: what the graph of one pattern and that of several have in common.
 ghost use Rattle.std.specs.Prelude.{◌≡◌, ◌+◌, ◌^◌, ◌<◌, length, map};
-ghost use Rattle.std.specs.Prelude.{slice_get, sum_by, IfOk, IfSome, Some};
+ghost use Rattle.std.specs.Prelude.{slice_get, sum_by, Some};
 ghost use Rattle.regex_lite_engine.specs.Graph.Places.{kept_back_of, kept_back_with, reading_of};
 ghost use Rattle.regex_lite_engine.specs.Graph.Renumbered.{arrows_of};
-ghost use Rattle.regex_lite_engine.specs.LazyDfa.Intervals.{AreIntervalsOf};
 ghost use Rattle.regex_lite_engine.specs.Graph.Stored.{IsClosed, LeadsBelow, place_of, places_of};
 
-use crate::lazy_dfa::classes::Classes;
 use crate::nfa::kept_back::KeptBack;
 use crate::nfa::place::Place;
-use crate::search::steps::Steps;
-use std::alloc::{AllocError, Global};
+use crate::steps::Steps;
 use std::marker::Model;
 
 /// The places of a graph by number. Their arrows lead to places of the table.
@@ -65,7 +62,7 @@ impl Table {
         }
     }
 
-    /// What stands at a place. No other call hands that out, and this one is counted.
+    /// What stands at a place, for a search: each call is counted.
     pub(crate) fn look(&self, place: u32, steps: &mut Steps) -> &Place
         requires inside { place < length self.now.places }
         requires room { steps.old.looked + 1 < 2 ^ 128 }
@@ -77,11 +74,11 @@ impl Table {
         &self.places[place as usize]
     }
 
-    /// The classes of characters that its places don't distinguish; none if there are too many.
-    pub(crate) fn classes(&self, alloc: Global) -> Result<Option<Classes>, AllocError>
-        ensures { IfOk result (λ made. IfSome made (AreIntervalsOf self.now.places)) }
+    /// All places, for what is found out before a search begins: no such reading is counted.
+    pub(crate) fn all(&self) -> &[Place]
+        ensures { result.now ≡ self.now.places }
     {
-        Classes::of(alloc, &self.places)
+        &self.places
     }
 
     /// How many places there are.

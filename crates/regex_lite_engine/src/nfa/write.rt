@@ -16,8 +16,8 @@ ghost use Rattle.regex_lite_engine.specs.Nfa.Layout.{patterns_entries};
 
 mod repetition;
 
+use crate::count::measured::Measured;
 use crate::nfa::class::MappedClass;
-use crate::nfa::measured::Measured;
 use crate::nfa::place::Place;
 use regex_lite_syntax::Hir;
 use std::alloc::{AllocError, Global};

@@ -1,6 +1,6 @@
 //! What a search keeps of where a way began.
 ghost use Rattle.std.specs.Prelude.{◌≡◌, ℕ, Some, None};
-ghost use Rattle.regex_lite_engine.specs.Pikevm.Beginnings.{Told, Tells, untold};
+ghost use Rattle.regex_lite_engine.specs.Pikevm.Beginnings.{Told, TellsStart, untold};
 
 /// What stands beside a thread for where its way began: the offset with or without the number of
 /// the pattern, or nothing in a search that is asked only for an end.
@@ -16,7 +16,7 @@ pub trait Beginning: Copy {
         ensures { told result ≡ told_of at number };
 
     /// It says nothing else.
-    ghost tells: { (at number : ℕ) → Tells (told_of at number) at number };
+    ghost tells: { (at number : ℕ) → TellsStart (told_of at number) at number };
 }
 
 // The offset itself is kept: there is one pattern.

@@ -72,6 +72,14 @@ impl<S: Beginning> Best<S> {
         &self.row
     }
 
+    /// Lets the slots hold this, which another search has found.
+    pub fn set_row(&mut self, row: &[Option<usize>])
+        requires { length row.now ≡ length self.old.row }
+        ensures { self.new ≡ record self.old { row = row.now } }
+    {
+        self.row.copy_from_slice(row);
+    }
+
     /// Forgets the match. Its row stays as it is.
     pub fn clear(&mut self)
         ensures none { best_of self.new ≡ None }

@@ -10,7 +10,7 @@ use crate::pikevm::beginning::Beginning;
 use crate::pikevm::best::Best;
 use crate::pikevm::memory::Memory;
 use crate::pikevm::walk::Walk;
-use crate::search::steps::Steps;
+use crate::steps::Steps;
 use std::alloc::{AllocError, Global};
 
 /// All that a search works in. Its memory is asked for before the first step.

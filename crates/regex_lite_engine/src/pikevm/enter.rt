@@ -5,7 +5,7 @@ ghost use Rattle.regex_lite_syntax.specs.Sets.{just};
 ghost use Rattle.regex_lite_engine.specs.Graph.Places.{kept_back};
 ghost use Rattle.regex_lite_engine.specs.Graph.Stored.{place_of};
 ghost use Rattle.regex_lite_engine.specs.Pikevm.Entering.{completes, onto, reads};
-ghost use Rattle.regex_lite_engine.specs.Pikevm.Entering.{Enters, ReadsOn, SlotMarked};
+ghost use Rattle.regex_lite_engine.specs.Pikevm.Entering.{Enters, reading_on, SlotMarked};
 ghost use Rattle.regex_lite_engine.specs.Pikevm.Machine.{explore};
 
 use crate::nfa::class::MappedClass;
@@ -40,9 +40,8 @@ pub fn enter<S: Beginning, const READY: bool>(
         ≤ length memory.old.rounds }
     requires next_room { length memory.old.next < memory.old.room }
     requires ready { READY ≡ true → memory.old.ready ≡ true }
-    ensures entered { Enters here (S.told start) place.now memory.old.row memory.old.frames
-        memory.old.next memory.new.row (onto result memory.new.frames) memory.new.next
-        (completes result) }
+    ensures entered { Enters here (S.told start) place.now memory.old
+        (record memory.new { frames = onto result memory.new.frames }) (completes result) }
     ensures same { memory.new ≡ record memory.old {
       row = memory.new.row;
       frames = memory.new.frames;
@@ -100,9 +99,7 @@ fn is_in_set(set: &MappedClass, after: Option<char>) -> bool
 fn read_on<S: Beginning, const READY: bool>(reads: bool, to: u32, start: S, memory: &mut Memory<S>)
     requires room { length memory.old.next < memory.old.room }
     requires ready { READY ≡ true → memory.old.ready ≡ true }
-    ensures reads { ReadsOn reads memory.old.next memory.new.next
-        (to, S.told start, memory.old.row) }
-    ensures same { memory.new ≡ record memory.old { next = memory.new.next } }
+    ensures { memory.new ≡ reading_on reads memory.old (to, S.told start, memory.old.row) }
 {
     if reads {
         memory.push_next::<READY>(to, start);
@@ -114,8 +111,8 @@ fn mark<S: Beginning, const READY: bool>(slot: u32, at: usize, memory: &mut Memo
     requires room { length memory.old.frames < length memory.old.rounds }
     requires small { at + 1 < 2 ^ 64 }
     requires ready { READY ≡ true → memory.old.ready ≡ true }
-    ensures marked { (to : ℕ) → SlotMarked at slot to memory.old.row memory.old.frames
-        memory.new.row (explore to ∷ memory.new.frames) }
+    ensures marked { (to : ℕ) → SlotMarked at slot to memory.old
+        (record memory.new { frames = explore to ∷ memory.new.frames }) }
     ensures same { memory.new
         ≡ record memory.old { row = memory.new.row; frames = memory.new.frames } }
 {

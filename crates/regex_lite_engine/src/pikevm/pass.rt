@@ -4,7 +4,7 @@ ghost use Rattle.regex_lite_engine.specs.Search.Bounds.{StaysCounted, characters
 ghost use Rattle.regex_lite_engine.specs.Pikevm.Outcomes.{CanCount};
 ghost use Rattle.regex_lite_engine.specs.Pikevm.Passing.{IsUnderWay, Passes};
 ghost use Rattle.regex_lite_engine.specs.Search.Standing.{IsHere};
-ghost use Rattle.regex_lite_engine.specs.Search.Starts.{GoesOnAt};
+ghost use Rattle.regex_lite_engine.specs.Pikevm.Passing.{GoesOnAt};
 ghost use Rattle.regex_lite_engine.specs.Pikevm.Turns.{best_of};
 
 use crate::pikevm::beginning::Beginning;

@@ -16,7 +16,8 @@ impl<S: Beginning> Cache<S> {
     ghost use Rattle.regex_lite_syntax.specs.Text.{Text};
     ghost use Rattle.regex_lite_engine.specs.Search.Standing.{IsHere};
     ghost use Rattle.regex_lite_engine.specs.Pikevm.Room.{HasRoom};
-    ghost use Rattle.regex_lite_engine.specs.Pikevm.Turns.{AreStartsAt, EndsAt, IsComing};
+    ghost use Rattle.regex_lite_engine.specs.Pikevm.Turns.{EndsAt, IsComing};
+    ghost use Rattle.regex_lite_engine.specs.Search.Starts.{AreStartsAt};
     ghost use Rattle.regex_lite_engine.specs.Graph.Parts.{IsOwnPart};
     ghost use Rattle.regex_lite_engine.specs.Pikevm.Searching.{ways_at, IsPlaced, Follows};
     ghost use Rattle.regex_lite_engine.specs.Pikevm.Searching.{FollowsAgain, IsHit, TurnsAgain};

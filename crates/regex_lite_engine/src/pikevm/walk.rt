@@ -14,7 +14,7 @@ use crate::pikevm::enter::{Onward, enter};
 use crate::pikevm::memory::Memory;
 use crate::search::here::Here;
 use crate::search::patterns::Patterns;
-use crate::search::steps::Steps;
+use crate::steps::Steps;
 
 /// What a walk works in, and what it has counted.
 #[derive(Drop)]

@@ -7,7 +7,7 @@ ghost use Rattle.regex_lite_syntax.specs.Tree.Views.{tree_of};
 ghost use Rattle.regex_lite_engine.specs.declared.prefilter.heads.Head.TheVariants.{One};
 ghost use Rattle.regex_lite_engine.specs.Prefilter.Heads.{AreHeadsOfTree, AreSecondOfTree};
 ghost use Rattle.regex_lite_engine.specs.Prefilter.Heads.{IsCutOff, Reads, ReadsEach};
-ghost use Rattle.regex_lite_engine.specs.Prefilter.Starts.{IsGrown};
+ghost use Rattle.regex_lite_engine.specs.Prefilter.Starts.{IsWider};
 
 use crate::prefilter::starts::Starts;
 use regex_lite_syntax::Hir;
@@ -85,7 +85,7 @@ impl Starts {
     /// beginning; `None` if the matches differ too much for that.
     #[cycle(add_second)]
     fn add_second(&mut self, hir: &Hir) -> Option<Head>
-        ensures grown { IsGrown self.old self.new }
+        ensures grown { IsWider self.old self.new }
         ensures reads { IfSome result (ReadsEach (tree_of hir.now) self.new) }
     {
         match hir {
@@ -107,7 +107,7 @@ impl Starts {
     /// Adds the characters with which a pass over this body after the first one begins, and returns
     /// what all passes read together.
     fn add_passes(&mut self, head: Head, body: &Hir) -> Option<Head>
-        ensures grown { IsGrown self.old self.new }
+        ensures grown { IsWider self.old self.new }
         ensures reads { (least : ℕ) (most : Option ℕ) (greedy : Bool) → 0 < least
             → ReadsEach (tree_of body.now) self.old head
             → IfSome result (ReadsEach (repetition least most greedy (tree_of body.now)) self.new) }
@@ -130,7 +130,7 @@ impl Starts {
     /// Adds the second characters of these parts in a row, up to the first part that reads one.
     #[cycle(add_second)]
     fn add_second_of_parts(&mut self, parts: &[Hir]) -> Option<Head>
-        ensures grown { IsGrown self.old self.new }
+        ensures grown { IsWider self.old self.new }
         ensures reads { IfSome result
             (ReadsEach (concat (trees (map tree_of parts.now))) self.new) }
     {
@@ -147,7 +147,7 @@ impl Starts {
 
     /// Adds those of a part that follows one character, and returns what both read together.
     fn add_behind_one(&mut self, part: &Hir) -> Head
-        ensures grown { IsGrown self.old self.new }
+        ensures grown { IsWider self.old self.new }
         ensures reads { (haystack : Text) (i k j : ℕ) → Reads self.old haystack i k One
             → Matches haystack (tree_of part.now) k j → Reads self.new haystack i j result }
     {
@@ -161,7 +161,7 @@ impl Starts {
     /// Adds the second characters of these branches.
     #[cycle(add_second)]
     fn add_second_of_branches(&mut self, branches: &[Hir]) -> Option<Head>
-        ensures grown { IsGrown self.old self.new }
+        ensures grown { IsWider self.old self.new }
         ensures reads { IfSome result
             (ReadsEach (alternation (trees (map tree_of branches.now))) self.new) }
     {

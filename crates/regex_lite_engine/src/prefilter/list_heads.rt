@@ -19,7 +19,7 @@ mod rows;
 mod thirds;
 mod walk;
 
-use crate::nfa::measured::Measured;
+use crate::count::measured::Measured;
 use crate::prefilter::heads::Heads;
 use crate::prefilter::starts::Starts;
 use ascii_set::AsciiSet;

@@ -6,7 +6,7 @@ ghost use Rattle.regex_lite_syntax.specs.Sets.{just, span};
 ghost use Rattle.regex_lite_syntax.specs.Tree.{look, class, repetition, concat, alternation, trees};
 ghost use Rattle.regex_lite_syntax.specs.Tree.Views.{tree_of};
 ghost use Rattle.regex_lite_engine.specs.Prefilter.Starts.{begins_with, may_begin, stops_at};
-ghost use Rattle.regex_lite_engine.specs.Prefilter.Starts.{IsGrown, IsUnion, IsUnionOf, HasAll};
+ghost use Rattle.regex_lite_engine.specs.Prefilter.Starts.{IsWider, IsUnion, IsUnionOf, HasAll};
 ghost use Rattle.regex_lite_engine.specs.Prefilter.Starts.{BeginsOrPasses, AreStartsOfTree};
 
 use regex_lite_syntax::{Class, ClassRange, Hir, Look};
@@ -65,7 +65,7 @@ impl Starts {
     /// read nothing, so that the next part can begin there too.
     #[cycle(add)]
     pub(crate) fn add(&mut self, hir: &Hir) -> bool
-        ensures grown { IsGrown self.old self.new }
+        ensures grown { IsWider self.old self.new }
         ensures begins { BeginsOrPasses (tree_of hir.now) self.new result }
     {
         match hir {
@@ -89,7 +89,7 @@ impl Starts {
     /// Adds those of these parts in a row, up to the first that reads.
     #[cycle(add)]
     fn add_parts(&mut self, parts: &[Hir]) -> bool
-        ensures grown { IsGrown self.old self.new }
+        ensures grown { IsWider self.old self.new }
         ensures begins { BeginsOrPasses (concat (trees (map tree_of parts.now))) self.new result }
     {
         for part in parts {
@@ -103,7 +103,7 @@ impl Starts {
     /// Adds those of these branches.
     #[cycle(add)]
     fn add_branches(&mut self, branches: &[Hir]) -> bool
-        ensures grown { IsGrown self.old self.new }
+        ensures grown { IsWider self.old self.new }
         ensures begins { BeginsOrPasses (alternation (trees (map tree_of branches.now))) self.new
             result }
     {
@@ -118,7 +118,7 @@ impl Starts {
 
     /// Adds the haystack's start, if the look holds only there.
     fn add_look(&mut self, test: Look) -> bool
-        ensures grown { IsGrown self.old self.new }
+        ensures grown { IsWider self.old self.new }
         ensures begins { BeginsOrPasses (look test) self.new result }
     {
         match test {
@@ -132,7 +132,7 @@ impl Starts {
 
     /// Adds the characters of the set.
     fn add_class(&mut self, set: &Class)
-        ensures grown { IsGrown self.old self.new }
+        ensures grown { IsWider self.old self.new }
         ensures added { HasAll self.new (in_ranges set.now) }
     {
         for range in set.ranges() {
@@ -147,7 +147,7 @@ impl Starts {
 
     /// Adds the characters of the range.
     fn add_range(&mut self, range: ClassRange)
-        ensures grown { IsGrown self.old self.new }
+        ensures grown { IsWider self.old self.new }
         ensures added { HasAll self.new (span range.start range.end) }
     {
         self.any = true;
@@ -162,7 +162,7 @@ impl Starts {
 
     /// Adds the character.
     fn add_char(&mut self, c: char)
-        ensures grown { IsGrown self.old self.new }
+        ensures grown { IsWider self.old self.new }
         ensures added { HasAll self.new (just c) }
     {
         self.any = true;

@@ -48,13 +48,14 @@ impl<'g> ListPatterns<'g> {
 impl<'g> Patterns for ListPatterns<'g> {
     ghost use Rattle.std.specs.Prelude.{map};
     ghost use Rattle.regex_lite_engine.specs.Graph.StoredList.{table_of_list};
-    ghost use Rattle.regex_lite_engine.specs.Search.Starts.{start_of};
+    ghost use Rattle.regex_lite_engine.specs.Search.Starts.{start_numbered};
 
     ghost table = { λ patterns. table_of_list patterns.list.now };
 
     ghost entries = { λ patterns. patterns.list.now.entries };
 
-    ghost starts = { λ patterns. map (start_of patterns.list.now.entries) patterns.numbers.items };
+    ghost starts = { λ patterns.
+        map (start_numbered patterns.list.now.entries) patterns.numbers.items };
 
     fn table(&self) -> &Table {
         self.list.table()

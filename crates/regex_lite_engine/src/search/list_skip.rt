@@ -6,7 +6,7 @@ ghost use Rattle.regex_lite_engine.specs.Prefilter.ListHeads.{IsPassedByAll};
 ghost use Rattle.regex_lite_engine.specs.Prefilter.Starts.{stops_at};
 ghost use Rattle.regex_lite_engine.specs.Search.Standing.{IsHere};
 ghost use Rattle.regex_lite_engine.specs.Search.Starts.{PassesTo};
-ghost use Rattle.regex_lite_engine.specs.Pikevm.Turns.{AreDeadAt};
+ghost use Rattle.regex_lite_engine.specs.Search.Starts.{AreDeadAt};
 
 use crate::nfa::list::GraphList;
 use crate::prefilter::list_heads::ListHeads;

@@ -3,7 +3,7 @@ ghost use Rattle.std.specs.Prelude.{◌≡◌, ◌<◌, ℕ, IsSome, false, char
 ghost use Rattle.regex_lite_engine.specs.Graph.StoredList.{table_of_list};
 ghost use Rattle.regex_lite_engine.specs.Search.Standing.{IsHere};
 ghost use Rattle.regex_lite_engine.specs.Search.Starts.{PassesTo};
-ghost use Rattle.regex_lite_engine.specs.Pikevm.Turns.{IsDeadAt};
+ghost use Rattle.regex_lite_engine.specs.Search.Starts.{IsDeadAt};
 
 use crate::nfa::list::GraphList;
 use crate::nfa::table::Table;

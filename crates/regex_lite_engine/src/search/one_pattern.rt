@@ -4,7 +4,7 @@ ghost use Rattle.regex_lite_syntax.specs.Text.{Text};
 ghost use Rattle.regex_lite_engine.specs.Graph.Stored.{table_of};
 ghost use Rattle.regex_lite_engine.specs.Prefilter.Starts.{may_begin};
 ghost use Rattle.regex_lite_engine.specs.Search.Standing.{IsHere};
-ghost use Rattle.regex_lite_engine.specs.Pikevm.Turns.{IsDeadAt};
+ghost use Rattle.regex_lite_engine.specs.Search.Starts.{IsDeadAt};
 
 use crate::Graph;
 use crate::nfa::table::Table;

@@ -5,7 +5,7 @@ ghost use Rattle.regex_lite_engine.specs.Graph.Places.{Place};
 ghost use Rattle.regex_lite_engine.specs.Graph.Stored.{places_of};
 ghost use Rattle.regex_lite_engine.specs.Search.Standing.{IsHere};
 ghost use Rattle.regex_lite_engine.specs.Search.Starts.{PassesTo};
-ghost use Rattle.regex_lite_engine.specs.Pikevm.Turns.{AreDeadAt, AreStartsAt};
+ghost use Rattle.regex_lite_engine.specs.Search.Starts.{AreDeadAt, AreStartsAt};
 
 use crate::nfa::table::Table;
 use crate::search::here::Here;

@@ -1,8 +1,7 @@
 //! The groups of all matches of a haystack, match after match.
 ghost use Rattle.std.specs.Prelude.{◌≡◌, None, IfOk, IfErr, IsCharBoundary, unwrap_or};
 ghost use Rattle.regex_lite_syntax.specs.Errors.{out_of_memory};
-ghost use Rattle.regex_lite.specs.Ahead.{after, groups_ahead_of, whole};
-ghost use Rattle.regex_lite.specs.Iterators.{groups_ended_of};
+ghost use Rattle.regex_lite.specs.Ahead.{after, ahead_of, whole};
 
 use crate::string::captures::Captures;
 use crate::string::iter::group_scan::GroupScan;
@@ -11,6 +10,7 @@ use crate::string::searcher::Searcher;
 use regex_lite_syntax::Error;
 use std::fmt;
 use std::iter::FusedIterator;
+use std::marker::Model;
 
 impl Regex {
     /// The groups of all matches that [`Regex::find_iter`] gives.
@@ -35,8 +35,8 @@ impl Regex {
         &'r self,
         haystack: &'h str,
     ) -> Result<CaptureMatches<'r, 'h>, Error>
-        ensures ahead { IfOk result (λ it. groups_ahead_of it ≡ whole self.now haystack.now None) }
-        ensures begins { IfOk result (λ it. groups_ended_of it ≡ None) }
+        ensures ahead { IfOk result (λ it. ahead_of it ≡ whole self.now haystack.now None) }
+        ensures begins { IfOk result (λ it. it.ended ≡ None) }
         ensures refused { IfErr result (λ error. error ≡ out_of_memory) }
     {
         CaptureMatches::new(self, haystack, None)
@@ -56,8 +56,8 @@ impl Regex {
     ) -> Result<CaptureMatches<'r, 'h>, Error>
         requires { IsCharBoundary haystack.now (unwrap_or ended 0) }
         ensures ahead { IfOk result
-            (λ it. groups_ahead_of it ≡ after self.now haystack.now ended) }
-        ensures begins { IfOk result (λ it. groups_ended_of it ≡ ended) }
+            (λ it. ahead_of it ≡ after self.now haystack.now ended) }
+        ensures begins { IfOk result (λ it. it.ended ≡ ended) }
         ensures refused { IfErr result (λ error. error ≡ out_of_memory) }
     {
         let searcher = Searcher::with_groups(self, haystack.len())?;
@@ -74,7 +74,16 @@ impl Regex {
 /// borrow the haystack alone, and outlive the iterator and the regex.
 #[derive(Drop)]
 pub struct CaptureMatches<'r, 'h> {
-    pub(crate) scan: GroupScan<'h, Searcher<'r>>,
+    scan: GroupScan<'h, Searcher<'r>>,
+}
+
+impl<'r, 'h> Model for CaptureMatches<'r, 'h> {
+    ghost use Rattle.regex_lite.specs.Expression.{Expression};
+    ghost use Rattle.regex_lite.specs.Scanning.{Scanning, seen_by};
+
+    ghost Value = { Scanning Expression };
+
+    ghost view = { λ it. seen_by (λ own. own.regex) it.scan };
 }
 
 impl<'r, 'h> CaptureMatches<'r, 'h> {
@@ -85,8 +94,8 @@ impl<'r, 'h> CaptureMatches<'r, 'h> {
         limit: Option<usize>,
     ) -> Result<CaptureMatches<'r, 'h>, Error>
         ensures ahead { IfOk result
-            (λ it. groups_ahead_of it ≡ whole regex.now haystack.now limit) }
-        ensures begins { IfOk result (λ it. groups_ended_of it ≡ None) }
+            (λ it. ahead_of it ≡ whole regex.now haystack.now limit) }
+        ensures begins { IfOk result (λ it. it.ended ≡ None) }
         ensures refused { IfErr result (λ error. error ≡ out_of_memory) }
     {
         let searcher = Searcher::with_groups(regex, haystack.len())?;
@@ -97,13 +106,13 @@ impl<'r, 'h> CaptureMatches<'r, 'h> {
 }
 
 impl<'r, 'h> Iterator for CaptureMatches<'r, 'h> {
-    ghost use Rattle.regex_lite.specs.Ahead.{GivesGroups, most_groups};
+    ghost use Rattle.regex_lite.specs.Ahead.{GivesGroups, most_matches};
 
     type Item = Result<Captures<'h>, Error>;
 
     ghost next_gives = { GivesGroups };
 
-    ghost remaining = { most_groups };
+    ghost remaining = { most_matches };
 
     fn next(&mut self) -> Option<Result<Captures<'h>, Error>> {
         match self.scan.next()? {

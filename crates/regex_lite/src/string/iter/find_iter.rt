@@ -2,8 +2,8 @@
 ghost use Rattle.std.specs.Prelude.{◌≡◌, None, IfOk, IfErr, IsCharBoundary, unwrap_or};
 ghost use Rattle.regex_lite_syntax.specs.Errors.{out_of_memory};
 ghost use Rattle.regex_lite.specs.Ahead.{after, ahead_of, whole};
-ghost use Rattle.regex_lite.specs.Iterators.{ended_of};
 
+use crate::string::iter::cursor::Cursor;
 use crate::string::iter::scan::Scan;
 use crate::string::matches::Match;
 use crate::string::regex::Regex;
@@ -11,6 +11,7 @@ use crate::string::searcher::Searcher;
 use regex_lite_syntax::Error;
 use std::fmt;
 use std::iter::FusedIterator;
+use std::marker::Model;
 
 impl Regex {
     /// All matches, from left to right.
@@ -33,7 +34,7 @@ impl Regex {
     /// `Memory` if memory runs out. The items need no memory, so they never fail.
     pub fn find_iter<'r, 'h>(&'r self, haystack: &'h str) -> Result<Matches<'r, 'h>, Error>
         ensures ahead { IfOk result (λ it. ahead_of it ≡ whole self.now haystack.now None) }
-        ensures begins { IfOk result (λ it. ended_of it ≡ None) }
+        ensures begins { IfOk result (λ it. it.ended ≡ None) }
         ensures refused { IfErr result (λ error. error ≡ out_of_memory) }
     {
         Matches::new(self, haystack, None)
@@ -63,7 +64,7 @@ impl Regex {
     ) -> Result<Matches<'r, 'h>, Error>
         requires { IsCharBoundary haystack.now (unwrap_or ended 0) }
         ensures ahead { IfOk result (λ it. ahead_of it ≡ after self.now haystack.now ended) }
-        ensures begins { IfOk result (λ it. ended_of it ≡ ended) }
+        ensures begins { IfOk result (λ it. it.ended ≡ ended) }
         ensures refused { IfErr result (λ error. error ≡ out_of_memory) }
     {
         let searcher = Searcher::new(self, 0, haystack.len())?;
@@ -79,7 +80,16 @@ impl Regex {
 /// alone, and outlive the iterator and the regex.
 #[derive(Drop)]
 pub struct Matches<'r, 'h> {
-    pub(crate) scan: Scan<'h, Searcher<'r>>,
+    scan: Scan<'h, Searcher<'r>>,
+}
+
+impl<'r, 'h> Model for Matches<'r, 'h> {
+    ghost use Rattle.regex_lite.specs.Expression.{Expression};
+    ghost use Rattle.regex_lite.specs.Scanning.{Scanning, seen_by};
+
+    ghost Value = { Scanning Expression };
+
+    ghost view = { λ it. seen_by (λ own. own.regex) it.scan };
 }
 
 impl<'r, 'h> Matches<'r, 'h> {
@@ -90,13 +100,21 @@ impl<'r, 'h> Matches<'r, 'h> {
         limit: Option<usize>,
     ) -> Result<Matches<'r, 'h>, Error>
         ensures ahead { IfOk result (λ it. ahead_of it ≡ whole regex.now haystack.now limit) }
-        ensures begins { IfOk result (λ it. ended_of it ≡ None) }
+        ensures begins { IfOk result (λ it. it.ended ≡ None) }
         ensures refused { IfErr result (λ error. error ≡ out_of_memory) }
     {
         let searcher = Searcher::new(regex, 0, haystack.len())?;
         Ok(Matches {
             scan: Scan::new(searcher, haystack, limit),
         })
+    }
+
+    /// Where it stands.
+    pub(super) fn cursor(&self) -> Cursor<'h>
+        ensures haystack { result.haystack.now ≡ self.now.haystack }
+        ensures ended { result.ended ≡ self.now.ended }
+    {
+        self.scan.cursor()
     }
 }
 

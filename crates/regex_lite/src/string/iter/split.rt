@@ -8,6 +8,7 @@ use crate::string::iter::find_iter::Matches;
 use crate::string::regex::Regex;
 use regex_lite_syntax::Error;
 use std::iter::FusedIterator;
+use std::marker::Model;
 
 impl Regex {
     /// What stands between the matches of [`Regex::find_iter`], from left to right.
@@ -87,6 +88,17 @@ pub struct Split<'r, 'h> {
     is_done: bool,
 }
 
+impl<'r, 'h> Model for Split<'r, 'h> {
+    ghost use Rattle.regex_lite.specs.Pieces.{Cutting};
+
+    ghost Value = { Cutting };
+
+    ghost view = { λ it. record {
+      matches = it.matches;
+      is_done = it.is_done;
+    } };
+}
+
 impl<'r, 'h> Iterator for Split<'r, 'h> {
     ghost use Rattle.regex_lite.specs.Pieces.{GivesPiece, most_pieces};
 
@@ -100,7 +112,7 @@ impl<'r, 'h> Iterator for Split<'r, 'h> {
         if self.is_done {
             return None;
         }
-        let cursor = self.matches.scan.cursor();
+        let cursor = self.matches.cursor();
         let from = cursor.ended.unwrap_or(0);
         match self.matches.next() {
             Some(found) => Some(&cursor.haystack[from..found.start()]),
@@ -121,6 +133,16 @@ impl<'r, 'h> FusedIterator for Split<'r, 'h> {}
 #[derive(Debug, Drop)]
 pub struct SplitN<'r, 'h> {
     pieces: Pieces<'r, 'h>,
+}
+
+impl<'r, 'h> Model for SplitN<'r, 'h> {
+    ghost use Rattle.regex_lite.specs.Pieces.{CuttingN};
+
+    ghost Value = { CuttingN };
+
+    ghost use Rattle.regex_lite.specs.PiecesLeft.{cutting_of};
+
+    ghost view = { λ it. cutting_of it.pieces };
 }
 
 /// What is left of at most a given number of pieces.

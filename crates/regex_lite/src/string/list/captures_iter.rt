@@ -1,8 +1,7 @@
 //! The groups of all matches of several patterns in a haystack, match after match.
 ghost use Rattle.std.specs.Prelude.{◌≡◌, None, IfOk, IfErr, IsCharBoundary, unwrap_or};
 ghost use Rattle.regex_lite_syntax.specs.Errors.{out_of_memory};
-ghost use Rattle.regex_lite.specs.ListAhead.{list_after, list_groups_ahead_of, whole_list};
-ghost use Rattle.regex_lite.specs.Iterators.{list_groups_ended_of};
+ghost use Rattle.regex_lite.specs.ListAhead.{list_after, list_ahead_of, whole_list};
 
 use crate::string::captures::Captures;
 use crate::string::iter::group_scan::GroupScan;
@@ -11,6 +10,7 @@ use crate::string::list::searcher::ListSearcher;
 use regex_lite_syntax::Error;
 use std::fmt;
 use std::iter::FusedIterator;
+use std::marker::Model;
 
 impl RegexList {
     /// The groups of all matches that [`RegexList::find_iter`] gives, each with the number of its
@@ -36,8 +36,8 @@ impl RegexList {
         haystack: &'h str,
     ) -> Result<ListCaptureMatches<'r, 'h>, Error>
         ensures ahead { IfOk result
-            (λ it. list_groups_ahead_of it ≡ whole_list self.now haystack.now) }
-        ensures begins { IfOk result (λ it. list_groups_ended_of it ≡ None) }
+            (λ it. list_ahead_of it ≡ whole_list self.now haystack.now) }
+        ensures begins { IfOk result (λ it. it.ended ≡ None) }
         ensures refused { IfErr result (λ error. error ≡ out_of_memory) }
     {
         let searcher = ListSearcher::with_groups(self)?;
@@ -60,8 +60,8 @@ impl RegexList {
     ) -> Result<ListCaptureMatches<'r, 'h>, Error>
         requires { IsCharBoundary haystack.now (unwrap_or ended 0) }
         ensures ahead { IfOk result
-            (λ it. list_groups_ahead_of it ≡ list_after self.now haystack.now ended) }
-        ensures begins { IfOk result (λ it. list_groups_ended_of it ≡ ended) }
+            (λ it. list_ahead_of it ≡ list_after self.now haystack.now ended) }
+        ensures begins { IfOk result (λ it. it.ended ≡ ended) }
         ensures refused { IfErr result (λ error. error ≡ out_of_memory) }
     {
         let searcher = ListSearcher::with_groups(self)?;
@@ -81,14 +81,25 @@ pub struct ListCaptureMatches<'r, 'h> {
     scan: GroupScan<'h, ListSearcher<'r>>,
 }
 
+impl<'r, 'h> Model for ListCaptureMatches<'r, 'h> {
+    ghost use Rattle.std.specs.Prelude.{List};
+    ghost use Rattle.regex_lite.specs.Expression.{Expression};
+    ghost use Rattle.regex_lite.specs.Scanning.{Scanning, seen_by};
+
+    ghost Value = { Scanning (List Expression) };
+
+    ghost view = { λ it. seen_by (λ own. own.list) it.scan };
+}
+
 impl<'r, 'h> Iterator for ListCaptureMatches<'r, 'h> {
-    ghost use Rattle.regex_lite.specs.ListAhead.{GivesListGroups, most_list_groups};
+    ghost use Rattle.regex_lite.specs.Ahead.{most_matches};
+    ghost use Rattle.regex_lite.specs.ListAhead.{GivesListGroups};
 
     type Item = Result<(usize, Captures<'h>), Error>;
 
     ghost next_gives = { GivesListGroups };
 
-    ghost remaining = { most_list_groups };
+    ghost remaining = { most_matches };
 
     fn next(&mut self) -> Option<Result<(usize, Captures<'h>), Error>> {
         self.scan.next()

@@ -2,7 +2,6 @@
 ghost use Rattle.std.specs.Prelude.{◌≡◌, None, IfOk, IfErr, IsCharBoundary, unwrap_or};
 ghost use Rattle.regex_lite_syntax.specs.Errors.{out_of_memory};
 ghost use Rattle.regex_lite.specs.ListAhead.{list_after, list_ahead_of, whole_list};
-ghost use Rattle.regex_lite.specs.Iterators.{list_ended_of};
 
 use crate::string::iter::scan::Scan;
 use crate::string::list::RegexList;
@@ -11,6 +10,7 @@ use crate::string::matches::Match;
 use regex_lite_syntax::Error;
 use std::fmt;
 use std::iter::FusedIterator;
+use std::marker::Model;
 
 impl RegexList {
     /// All matches, from left to right, each with the number of its pattern.
@@ -35,7 +35,7 @@ impl RegexList {
     pub fn find_iter<'r, 'h>(&'r self, haystack: &'h str) -> Result<ListMatches<'r, 'h>, Error>
         ensures ahead { IfOk result
             (λ it. list_ahead_of it ≡ whole_list self.now haystack.now) }
-        ensures begins { IfOk result (λ it. list_ended_of it ≡ None) }
+        ensures begins { IfOk result (λ it. it.ended ≡ None) }
         ensures refused { IfErr result (λ error. error ≡ out_of_memory) }
     {
         let searcher = ListSearcher::new(self, 0)?;
@@ -70,7 +70,7 @@ impl RegexList {
         requires { IsCharBoundary haystack.now (unwrap_or ended 0) }
         ensures ahead { IfOk result
             (λ it. list_ahead_of it ≡ list_after self.now haystack.now ended) }
-        ensures begins { IfOk result (λ it. list_ended_of it ≡ ended) }
+        ensures begins { IfOk result (λ it. it.ended ≡ ended) }
         ensures refused { IfErr result (λ error. error ≡ out_of_memory) }
     {
         let searcher = ListSearcher::new(self, 0)?;
@@ -90,14 +90,25 @@ pub struct ListMatches<'r, 'h> {
     scan: Scan<'h, ListSearcher<'r>>,
 }
 
+impl<'r, 'h> Model for ListMatches<'r, 'h> {
+    ghost use Rattle.std.specs.Prelude.{List};
+    ghost use Rattle.regex_lite.specs.Expression.{Expression};
+    ghost use Rattle.regex_lite.specs.Scanning.{Scanning, seen_by};
+
+    ghost Value = { Scanning (List Expression) };
+
+    ghost view = { λ it. seen_by (λ own. own.list) it.scan };
+}
+
 impl<'r, 'h> Iterator for ListMatches<'r, 'h> {
-    ghost use Rattle.regex_lite.specs.ListAhead.{GivesListMatch, most_list_matches};
+    ghost use Rattle.regex_lite.specs.Ahead.{most_matches};
+    ghost use Rattle.regex_lite.specs.ListAhead.{GivesListMatch};
 
     type Item = (usize, Match<'h>);
 
     ghost next_gives = { GivesListMatch };
 
-    ghost remaining = { most_list_matches };
+    ghost remaining = { most_matches };
 
     fn next(&mut self) -> Option<(usize, Match<'h>)> {
         self.scan.next()

@@ -1,5 +1,5 @@
 use Rattle.std.proofs.Common.{◌∙◌, ◌+◌, Some, ap, arith, inl, inr, refl, subst, sym}
-use Rattle.regex_lite.specs.Ahead.{groups_ahead_of}
+use Rattle.regex_lite.specs.Ahead.{ahead_of}
 use Rattle.regex_lite.specs.Groups.{group_span}
 use Rattle.regex_lite.specs.MatchList.{IsAnswerOf}
 use Rattle.regex_lite_c.proofs.walk.WalkLemmas.{comes_none}
@@ -9,23 +9,23 @@ use Rattle.regex_lite_c.proofs.group_walk.fill_groups.Goals as goal
 
 pub loop-item-init : goal.loop-item-init
 loop-item-init c =
-    let start = groups_ahead_of c.args.items in
+    let start = ahead_of c.args.items in
     let walk = c.args.walk.now in
     let spans = c.args.spans.now in
     record {
       can = tt;
       finite = tt;
       so_far =
-          subst (λ n. IsSoFar start (groups_ahead_of c.into_iter-item-iterator.result) walk walk
+          subst (λ n. IsSoFar start (ahead_of c.into_iter-item-iterator.result) walk walk
           spans spans 0 n) (sym c.requires.none)
-          (subst (λ it. IsSoFar start (groups_ahead_of it) walk walk spans spans 0 0)
+          (subst (λ it. IsSoFar start (ahead_of it) walk walk spans spans 0 0)
           (sym c.into_iter-item-iterator.ensures.into_iter_gives)
           (nothing_yet start walk spans c.requires.all));
     }
 
 pub returns-in_default : goal.returns-in_default
 returns-in_default c =
-    filled (groups_ahead_of c.args.items) (groups_ahead_of c.loop-item.item-iterator)
+    filled (ahead_of c.args.items) (ahead_of c.loop-item.item-iterator)
     c.args.walk.now c.loop-item.walk c.args.spans.now c.loop-item.spans
     c.loop-item.used c.loop-item.count c.or_yes.result 6 c.loop-item.invariant.so_far
     c.or_yes.ensures.some c.or_yes.ensures.none
@@ -34,9 +34,9 @@ returns-in_default c =
 
 pub returns-then-spans-used : goal.returns-then-spans-used
 returns-then-spans-used c =
-    let now = groups_ahead_of c.loop-item.item-iterator in
+    let now = ahead_of c.loop-item.item-iterator in
     let step = rw c.in-Ok.is at c.in-Some.ensures.steps in
-    filled (groups_ahead_of c.args.items) now c.args.walk.now c.loop-item.walk c.args.spans.now
+    filled (ahead_of c.args.items) now c.args.walk.now c.loop-item.walk c.args.spans.now
     c.loop-item.spans
     c.loop-item.used c.loop-item.count c.or_yes-then-spans-used.result 5
     c.loop-item.invariant.so_far
@@ -54,9 +54,9 @@ returns-then-spans-used c =
 pub loop-item-preserved : goal.loop-item-preserved
 loop-item-preserved c =
     let so = c.loop-item.invariant.so_far in
-    let start = groups_ahead_of c.args.items in
-    let now = groups_ahead_of c.loop-item.item-iterator in
-    let next = groups_ahead_of c.next.new.self in
+    let start = ahead_of c.args.items in
+    let now = ahead_of c.loop-item.item-iterator in
+    let next = ahead_of c.next.new.self in
     let own = c.in-Ok.caps in
     let step = rw c.in-Ok.is at c.in-Some.ensures.steps in
     let some = some_groups now.sought now.haystack step.0 own step.1 in
@@ -77,9 +77,9 @@ loop-item-preserved c =
 
 pub returns : goal.returns
 returns c =
-    let now = groups_ahead_of c.loop-item.item-iterator in
+    let now = ahead_of c.loop-item.item-iterator in
     let so = c.loop-item.invariant.so_far in
-    filled (groups_ahead_of c.args.items) now c.args.walk.now c.loop-item.walk c.args.spans.now
+    filled (ahead_of c.args.items) now c.args.walk.now c.loop-item.walk c.args.spans.now
     c.loop-item.spans
     c.loop-item.used c.loop-item.count c.or_yes-2.result 0 so c.or_yes-2.ensures.some
     c.or_yes-2.ensures.none

@@ -11,12 +11,13 @@ use Rattle.regex_lite_engine.specs.Graph.WrittenOut.{start_address, end_address,
 use Rattle.regex_lite_engine.specs.Search.Marks.{marks_of_way}
 use Rattle.regex_lite_engine.specs.Search.Answer.{IsMatchFrom, HasMatchFrom}
 use Rattle.regex_lite_engine.specs.Search.Answer.{Found, IsFound, IsAnswer}
-use Rattle.regex_lite_engine.proofs.laws.LeadsLemmas.{same_some, leads_to_one}
+use Rattle.regex_lite_engine.proofs.laws.LeadsLemmas.{leads_to_one}
 use Rattle.regex_lite_engine.proofs.laws.PatternWayLemmas.{match_way, walk_match}
 use Rattle.regex_lite_engine.proofs.laws.answer.OrderLemmas.{one_best}
 use Rattle.regex_lite_engine.proofs.laws.answer.LeastLemmas.{Least}
 use Rattle.regex_lite_engine.proofs.laws.answer.ReachLemmas.{walks, Way}
 use Rattle.regex_lite_engine.proofs.laws.answer.BestWayLemmas.{best_way}
+use Rattle.regex_lite_engine.proofs.OptionLemmas.{same_some}
 
 module _ (tree : Tree) (haystack : Text) where
   abbrev Answered : ℕ → Type 0

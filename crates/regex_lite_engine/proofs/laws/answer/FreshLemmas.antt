@@ -2,9 +2,10 @@
 use Rattle.std.proofs.Common.{◌≡◌, ◌≢◌, ◌<◌, ◌≤◌, refl, sym, ap, subst, ◌∙◌, ◌⊎◌, inl, inr}
 use Rattle.std.proofs.Common.{ℕ, suc, List, [], ◌∷◌, ◌++◌, Option, Some, None, length, arith}
 use Rattle.regex_lite_syntax.proofs.ListLemmas.{same_head, same_tail}
-use Rattle.regex_lite_engine.proofs.laws.InLemmas.{In}
+use Rattle.regex_lite_engine.proofs.InLemmas.{In}
+use Rattle.regex_lite_engine.proofs.laws.LeadsLemmas.{leads_behind}
+use Rattle.regex_lite_engine.proofs.OptionLemmas.{same_some}
 use Rattle.regex_lite_engine.specs.Graph.Ways.{Leads, NoneTwice}
-use Rattle.regex_lite_engine.proofs.laws.LeadsLemmas.{same_some}
 
 -- with the item in front unless the test says no
 abbrev unless : {N P : Type 0} → P ⊎ (P → ⊥) → N → List N → List N
@@ -103,20 +104,13 @@ module _ {N : Type 0} (one_or_two : (a b : N) → (a ≡ b) ⊎ (a ≢ b)) where
         let rest = fresh_short (without n left) m ks fresh in
         omega (arith, less, rest)
 
-    -- arrow k leads to m, and what is after it leads on from there
-    on_from : (us : List ℕ) (n m b : N) (k l : ℕ) → step n k ≡ Some m → k ≡ l
-        → Leads N step n (l ∷ us) b → Leads N step m us b
-    on_from us n m b k l s e (next, t, along) =
-        let one : next ≡ m = same_some (sym t ∙ ap (step n) (sym e) ∙ s) in
-        subst (λ z. Leads N step z us b) one along
-
     fresh_in : (left : List N) (n m : N) (ks us vs : List ℕ) → Fresh left n ks → ks ≡ us ++ vs
         → Leads N step n us m → In m left
     fresh_in left n m ks [] vs fresh e there = subst (λ z. In z left) there (here left n ks fresh)
     fresh_in left n m [] (u ∷ us) vs fresh e there = absurd cc
     fresh_in left n m (k ∷ ks) (u ∷ us) vs (is, next, s, fresh) e there =
         let later = fresh_in (without n left) next m ks us vs fresh (same_tail e)
-        (on_from us n next m k u s (same_head e) there) in
+        (leads_behind step us n next m k u s (same_head e) there) in
         of_without n m left later
 
     pub fresh_once : (left : List N) (n : N) (ks : List ℕ) → Fresh left n ks → NoneTwice N step n ks
@@ -126,12 +120,12 @@ module _ {N : Type 0} (one_or_two : (a b : N) → (a ≡ b) ⊎ (a ≢ b)) where
     fresh_once left n (k ∷ ks) (is, next, s, fresh) [] [] ws m e f g = refl
     fresh_once left n (k ∷ ks) (is, next, s, fresh) [] (v ∷ vs) ws m e f g =
         let from_n = subst (λ z. Leads N step z (v ∷ vs) m) (sym f) g in
-        let back = on_from vs n next m k v s (same_head e) from_n in
+        let back = leads_behind step vs n next m k v s (same_head e) from_n in
         let again = fresh_in (without n left) next m ks vs ws fresh (same_tail e) back in
         absurd (not_without n left (subst (λ z. In z (without n left)) (sym f) again))
     fresh_once left n (k ∷ ks) (is, next, s, fresh) (u ∷ us) vs ws m e f g =
         fresh_once (without n left) next ks fresh us vs ws m (same_tail e)
-        (on_from us n next m k u s (same_head e) f) g
+        (leads_behind step us n next m k u s (same_head e) f) g
 
     pub once_fresh : (left : List N) (n b : N) (ks : List ℕ) → Leads N step n ks b
         → NoneTwice N step n ks

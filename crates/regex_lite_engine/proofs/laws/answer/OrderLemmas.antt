@@ -7,9 +7,9 @@ use Rattle.regex_lite_syntax.specs.Tree.{Tree}
 use Rattle.regex_lite_engine.specs.Graph.Ways.{Leads}
 use Rattle.regex_lite_engine.specs.Graph.Places.{Place, complete, step, step_from}
 use Rattle.regex_lite_engine.specs.Graph.WrittenOut.{place_of_pattern, start_address, IsWayThrough}
-use Rattle.regex_lite_engine.proofs.laws.LeadsLemmas.{same_some}
 use Rattle.regex_lite_engine.specs.Search.Preference.{IsPreferred}
 use Rattle.regex_lite_engine.specs.SearchLaws.{IsEarlier}
+use Rattle.regex_lite_engine.proofs.OptionLemmas.{same_some}
 
 -- not each before the other
 pub not_both : (a b : List ℕ) → IsPreferred a b → IsPreferred b a → ⊥

@@ -1,8 +1,9 @@
 -- A walk through a pattern to its end goes by finitely many places and positions.
 use Rattle.std.proofs.Common.{◌≡◌, ◌<◌, ◌≤◌, refl, sym, ap, subst, inl, inr, ℕ, zero, suc}
-use Rattle.std.proofs.Common.{Bool, true, false, List, [], ◌∷◌, ◌++◌, map, Option, Some}
+use Rattle.std.proofs.Common.{Bool, true, false, List, [], ◌∷◌, ◌++◌, Option, Some}
 use Rattle.std.proofs.Common.{None, slice_get, length, unwrap_or, if◌then◌else◌, arith}
 use Rattle.std.proofs.lemmas.Bool.{cases_eq}
+use Rattle.std.proofs.lemmas.Option.{slice_get_within}
 use Rattle.regex_lite_syntax.specs.Text.{Text, before, after}
 use Rattle.regex_lite_syntax.specs.Sets.{Set}
 use Rattle.regex_lite_syntax.specs.Tree.Looks.{holds_between}
@@ -12,14 +13,13 @@ use Rattle.regex_lite_engine.specs.Graph.Places.{Arrow, Place, Condition, comple
 use Rattle.regex_lite_engine.specs.Graph.Places.{with_arrows, free, holding, reading, behind}
 use Rattle.regex_lite_engine.specs.Graph.Places.{taken, arrived, arrow_taken, step, step_from}
 use Rattle.regex_lite_engine.specs.Graph.Addresses.{Address}
-use Rattle.regex_lite_engine.specs.Graph.WrittenOut.{whole, start_address, end_address}
+use Rattle.regex_lite_engine.specs.Graph.WrittenOut.{start_address, end_address}
 use Rattle.regex_lite_engine.specs.Graph.WrittenOut.{written_out, place_of_pattern, IsWayThrough}
-use Rattle.regex_lite_engine.proofs.nfa.AddressLemmas.{addresses}
-use Rattle.regex_lite_engine.proofs.nfa.AmongLemmas.{Among}
-use Rattle.regex_lite_engine.proofs.nfa.ListedAddressLemmas.{listed_tree}
-use Rattle.regex_lite_engine.proofs.laws.InLemmas.{In, in_left, in_right}
-use Rattle.regex_lite_engine.proofs.laws.LeadsLemmas.{same_some, leads_split, leads_to_one}
+use Rattle.regex_lite_engine.proofs.InLemmas.{In, in_left, in_right}
+use Rattle.regex_lite_engine.proofs.laws.LeadsLemmas.{leads_split, leads_to_one}
 use Rattle.regex_lite_engine.proofs.laws.list.ReadingLemmas.{is_inside}
+use Rattle.regex_lite_engine.proofs.graph.ListedAddressLemmas.{whole_addresses, listed_whole}
+use Rattle.regex_lite_engine.proofs.OptionLemmas.{same_some}
 
 -- the pairs of an address and a position up to n
 abbrev pub at_positions : Address → ℕ → List (Address × ℕ)
@@ -38,7 +38,7 @@ in_positions a (suc n) j low = elim (cases_eq (suc n) j) [
   | inr apart ↦ inr (in_positions a n j (omega (arith, low, apart)))
 ]
 
-in_pairs : (a : Address) (list : List Address) (n j : ℕ) → Among a list → j ≤ n
+in_pairs : (a : Address) (list : List Address) (n j : ℕ) → In a list → j ≤ n
     → In (a, j) (pairs list n)
 in_pairs a [] n j is low = absurd is
 in_pairs a (b ∷ list) n j (inl e) low =
@@ -86,18 +86,12 @@ abbrev pub arrows_at : {A : Type 0} → Place A → ℕ
 arrows_at complete = 0
 arrows_at (with_arrows arrows) = length arrows
 
-get_inside : {X : Type 0} (list : List X) (k : ℕ) (x : X) → slice_get list k ≡ Some x
-    → k < length list
-get_inside [] k x e = absurd cc
-get_inside (y ∷ list) zero x e = omega arith
-get_inside (y ∷ list) (suc k) x e = let less = get_inside list k x e in omega (arith, less)
-
 -- an arrow that is taken is one of the place's
 taken_of : {A : Type 0} (haystack : Text) (i k : ℕ) (list : List (Arrow A)) (o : Option (Arrow A))
     → slice_get list k ≡ o → (next : A × ℕ) → arrow_taken haystack i o ≡ Some next
     → k < length list
 taken_of haystack i k list None e next s = absurd cc
-taken_of haystack i k list (Some arrow) e next s = get_inside list k arrow e
+taken_of haystack i k list (Some arrow) e next s = slice_get_within list k arrow e
 
 pub few_arrows : {A : Type 0} (haystack : Text) (place : Place A) (i k : ℕ) (next : A × ℕ)
     → step_from haystack place i k ≡ Some next → k < arrows_at place
@@ -127,38 +121,21 @@ walk_inside haystack place (k ∷ ks) n m (next, s, along) low =
     (step_inside haystack (place n.0) n.1 k next s low)
 
 module _ (tree : Tree) where
-  abbrev pub all_addresses : List Address
-  all_addresses = end_address ∷ map (λ a. 1 ∷ a) (addresses (whole tree))
-
-  among_behind : (a : Address) (list : List Address) → Among a list
-      → Among (1 ∷ a) (map (λ b. 1 ∷ b) list)
-  among_behind a [] is = absurd is
-  among_behind a (b ∷ list) (inl e) = inl (ap (λ z. 1 ∷ z) e)
-  among_behind a (b ∷ list) (inr is) = inr (among_behind a list is)
-
-  written_listed : (a : Address) (place : Place Address) → written_out tree a ≡ Some place
-      → Among a all_addresses
-  written_listed (zero ∷ []) place e = inl refl
-  written_listed (suc zero ∷ a) place e =
-      inr (among_behind a (addresses (whole tree))
-      (listed_tree (whole tree) (1 ∷ []) end_address a place e))
-  written_listed a place e = absurd (cc)
-
   -- a place with an arrow is written out
   with_arrow : (haystack : Text) (a : Address) (i k : ℕ) (next : Address × ℕ)
-      → step haystack (place_of_pattern tree) (a, i) k ≡ Some next → Among a all_addresses
+      → step haystack (place_of_pattern tree) (a, i) k ≡ Some next → In a (whole_addresses tree)
   with_arrow haystack a i k next s = by_content (written_out tree a) refl s
     where
       by_content : (o : Option (Place Address)) → written_out tree a ≡ o
           → step_from haystack (unwrap_or o (with_arrows [])) i k ≡ Some next
-          → Among a all_addresses
+          → In a (whole_addresses tree)
       by_content None e s = absurd (
           let less = few_arrows haystack (with_arrows []) i k next s in
           none_less k less)
         where
           none_less : (k : ℕ) → k < arrows_at {A = Address} (with_arrows []) → ⊥
           none_less k less = omega (arith, less)
-      by_content (Some place) e s = written_listed a place e
+      by_content (Some place) e s = listed_whole tree a place e
 
   module _ (haystack : Text) where
     abbrev pub walks : Address × ℕ → ℕ → Option (Address × ℕ)
@@ -168,7 +145,7 @@ module _ (tree : Tree) where
     Way i ks = (j : ℕ) × IsWayThrough tree haystack i ks j
 
     abbrev pub all_pairs : List (Address × ℕ)
-    all_pairs = pairs all_addresses (length haystack)
+    all_pairs = pairs (whole_addresses tree) (length haystack)
 
     -- each place and position on a walk to the end is one of finitely many
     pub on_walk : (i j : ℕ) (ks us vs : List ℕ) (m : Address × ℕ) → i ≤ length haystack
@@ -182,9 +159,9 @@ module _ (tree : Tree) where
         let parts = leads_split walks us vs (start_address, i) (end_address, j) all in
         let same = leads_to_one walks us (start_address, i) parts.0 m parts.1 first in
         let rest = subst (λ z. Leads (Address × ℕ) walks z vs (end_address, j)) same parts.2 in
-        in_pairs m.0 all_addresses (length haystack) m.1 (is_written vs rest) low
+        in_pairs m.0 (whole_addresses tree) (length haystack) m.1 (is_written vs rest) low
       where
         is_written : (vs : List ℕ) → Leads (Address × ℕ) walks m vs (end_address, j)
-            → Among m.0 all_addresses
+            → In m.0 (whole_addresses tree)
         is_written [] at = inl (ap (λ (p : Address × ℕ). p.0) (sym at))
         is_written (k ∷ vs) (next, s, on) = with_arrow haystack m.0 m.1 k next s

@@ -16,19 +16,20 @@ use Rattle.regex_lite_engine.specs.Graph.Places.{Place, complete, go_holding}
 use Rattle.regex_lite_engine.specs.Graph.Places.{go_reading, one_of, step}
 use Rattle.regex_lite_engine.specs.Graph.Addresses.{Address}
 use Rattle.regex_lite_engine.specs.Graph.WrittenOut.{whole, start_address, end_address}
-use Rattle.regex_lite_engine.specs.Graph.WrittenOut.{place_of_pattern, IsWayThrough}
-use Rattle.regex_lite_engine.proofs.laws.LeadsLemmas.{same_some}
+use Rattle.regex_lite_engine.specs.Graph.WrittenOut.{place_of_pattern}
 use Rattle.regex_lite_engine.proofs.laws.StandingLemmas.{Stands, StandInChain, StandAsBranches}
 use Rattle.regex_lite_engine.proofs.laws.WrittenTreeLemmas.{whole_stands}
 use Rattle.regex_lite_engine.specs.Search.Marks.{Marks, no_marks, marked, over}
 use Rattle.regex_lite_engine.specs.Search.Marks.{marks_along, marks_of_way}
+use Rattle.regex_lite_engine.specs.Search.Answer.{Found, IsFound}
 use Rattle.regex_lite_engine.proofs.laws.list.EntryLemmas.{over_assoc}
 use Rattle.regex_lite_engine.proofs.laws.groups.MarkingLemmas.{Marking, MarkingChain, MarkingBranch}
-use Rattle.regex_lite_engine.proofs.laws.WalkMatchLemmas.{if_test, was_read}
 use Rattle.regex_lite_engine.proofs.laws.groups.MarkedWalkLemmas.{Each, fewer, by_go, by_test}
 use Rattle.regex_lite_engine.proofs.laws.groups.MarkedWalkLemmas.{by_mark, by_arrows, by_branches}
 use Rattle.regex_lite_engine.proofs.laws.groups.MarkedPassLemmas.{Behind, plain, together}
 use Rattle.regex_lite_engine.proofs.laws.groups.MarkedPassLemmas.{in_repetition}
+use Rattle.regex_lite_engine.proofs.laws.WalkLemmas.{if_test, was_read}
+use Rattle.regex_lite_engine.proofs.OptionLemmas.{same_some}
 
 module _ {A : Type 0} {haystack : Text} {place : A → Place A} {end : A}
     (final : place end ≡ complete) where
@@ -141,12 +142,13 @@ module _ {A : Type 0} {haystack : Text} {place : A → Place A} {end : A}
         marked_branches rest firsts join c first i n P regular.1 stand.1 e
         (λ k marks m. follows k marks (inr m))
 
--- a way marks what a match of the whole may mark
-pub marked_way : (tree : Tree) (haystack : Text) (i j : ℕ) (way : List ℕ) → IsRegular tree
-    → IsWayThrough tree haystack i way j
-    → Marking haystack (whole tree) i j (marks_of_way tree haystack i way)
-marked_way tree haystack i j way regular is =
-    each.of way j (omega arith) is.0
+-- a walk marks what a match of the whole may mark
+pub marked_walk : (tree : Tree) (haystack : Text) (i j : ℕ) (arrows : List ℕ) → IsRegular tree
+    → Leads (Address × ℕ) (step haystack (place_of_pattern tree)) (start_address, i) arrows
+    (end_address, j)
+    → Marking haystack (whole tree) i j (marks_of_way tree haystack i arrows)
+marked_walk tree haystack i j arrows regular along =
+    each.of arrows j (omega arith) along
   where
     P : Marks → ℕ → Type 0
     P marks k = Marking haystack (whole tree) i k marks
@@ -155,10 +157,10 @@ marked_way tree haystack i j way regular is =
     place = place_of_pattern tree
 
     over_at_end : (k : ℕ) (marks : Marks) → Marking haystack (whole tree) i k marks
-        → Each haystack place end_address (suc (length way)) end_address k (Behind P marks)
+        → Each haystack place end_address (suc (length arrows)) end_address k (Behind P marks)
     over_at_end k marks m = record { of = at_end }
       where
-        at_end : (ks : List ℕ) (l : ℕ) → length ks < suc (length way)
+        at_end : (ks : List ℕ) (l : ℕ) → length ks < suc (length arrows)
             → Leads (Address × ℕ) (step haystack place) (end_address, k) ks (end_address, l)
             → P (over (marks_along haystack place (Some (end_address, k)) ks) marks) l
         at_end [] l few same =
@@ -166,8 +168,16 @@ marked_way tree haystack i j way regular is =
             subst (λ z. Marking haystack (whole tree) i z marks) here m
         at_end (c ∷ ks) l few (next, s, along) = absurd cc
 
-    each : Each haystack place end_address (suc (length way)) start_address i P
+    each : Each haystack place end_address (suc (length arrows)) start_address i P
     each =
-        marked_group refl 0 None tree start_address end_address i (suc (length way)) P
+        marked_group refl 0 None tree start_address end_address i (suc (length arrows)) P
         (λ a b k m Q s f. marked_tree refl tree a b k m Q regular s f)
         (whole_stands tree regular) over_at_end
+
+-- so does what is found
+pub marked_found : (tree : Tree) (haystack : Text) (s : ℕ) (found : Found) → IsRegular tree
+    → IsFound tree haystack s found
+    → Marking haystack (whole tree) found.start found.end found.marks
+marked_found tree haystack s found regular is =
+    subst (λ m. Marking haystack (whole tree) found.start found.end m) (sym is.marks)
+    (marked_walk tree haystack found.start found.end is.way regular is.most_preferred.is_way.0)

@@ -8,10 +8,10 @@ use Rattle.regex_lite_engine.specs.Graph.Ways.{Leads}
 use Rattle.regex_lite_engine.specs.Graph.Places.{Arrow, Place, complete, with_arrows}
 use Rattle.regex_lite_engine.specs.Graph.Places.{go, go_marking, choice, taken}
 use Rattle.regex_lite_engine.specs.Graph.Places.{arrived, arrow_taken, step, step_from}
-use Rattle.regex_lite_engine.proofs.laws.LeadsLemmas.{same_some}
 use Rattle.regex_lite_engine.specs.Search.Marks.{Marks, marked, over, mark_of}
 use Rattle.regex_lite_engine.specs.Search.Marks.{mark_of_arrow, marks_along}
 use Rattle.regex_lite_engine.proofs.laws.list.EntryLemmas.{over_unmarked}
+use Rattle.regex_lite_engine.proofs.OptionLemmas.{same_some}
 
 -- each walk of fewer than n arrows from the place to the end has these marks and this end
 pub record Each {A : Type 0} (haystack : Text) (place : A → Place A) (end : A) (n : ℕ) (a : A)

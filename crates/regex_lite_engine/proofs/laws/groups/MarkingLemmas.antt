@@ -1,11 +1,11 @@
 -- What a match of a tree may mark, by cases on the tree.
-use Rattle.std.proofs.Common.{◌≡◌, ◌⊎◌, ◌≤◌, ℕ, zero, suc, ◌+◌, ◌*◌, IsTrue, Some}
+use Rattle.std.proofs.Common.{◌≡◌, ◌⊎◌, ◌≤◌, ℕ, zero, suc, ◌+◌, ◌*◌, IsTrue, Some, inl, inr}
 use Rattle.regex_lite_syntax.specs.Text.{Text, after}
 use Rattle.regex_lite_syntax.specs.Ranges.{in_ranges}
 use Rattle.regex_lite_syntax.specs.Tree.Looks.{Holds}
 use Rattle.regex_lite_syntax.specs.Tree.{Tree, empty, character, class, look, capture}
 use Rattle.regex_lite_syntax.specs.Tree.{repetition, concat, alternation, Trees, none, more}
-use Rattle.regex_lite_syntax.specs.Tree.Matches.{AtMost}
+use Rattle.regex_lite_syntax.specs.Tree.Matches.{AtMost, Passes, Matches, Chain, SomeBranch}
 use Rattle.regex_lite_engine.specs.Search.Marks.{Marks, no_marks, marked, over}
 
 -- this many passes, one after another, the marks of the later ones over those of the earlier
@@ -14,6 +14,14 @@ MarkedPasses pass zero i j marks = (i ≡ j) × (marks ≡ no_marks)
 MarkedPasses pass (suc n) i j marks =
     (k : ℕ) × (first : Marks) × (later : Marks) × pass i k first
     × MarkedPasses pass n k j later × (marks ≡ over later first)
+
+-- passes with marks are passes
+passes_match : (Pass : ℕ → ℕ → Marks → Type 0) (Plain : ℕ → ℕ → Type 0)
+    → ((i j : ℕ) (marks : Marks) → Pass i j marks → Plain i j)
+    → (n i j : ℕ) (marks : Marks) → MarkedPasses Pass n i j marks → Passes Plain n i j
+passes_match Pass Plain plain zero i j marks made = made.0
+passes_match Pass Plain plain (suc n) i j marks (k, first, later, pass, made, e) =
+    (k, plain i k first pass, passes_match Pass Plain plain n k j later made)
 
 -- what the group marks, over what its body marks
 abbrev pub around : (index i j : ℕ) → Marks → Marks
@@ -46,3 +54,32 @@ module _ (haystack : Text) where
     pub MarkingBranch : Trees → ℕ → ℕ → Marks → Type 0
     MarkingBranch none i j marks = ⊥
     MarkingBranch (more a rest) i j marks = Marking a i j marks ⊎ MarkingBranch rest i j marks
+
+  -- without the marks it is a match
+  mutual
+    pub marking_matches : (tree : Tree) (i j : ℕ) (marks : Marks) → Marking tree i j marks
+        → Matches haystack tree i j
+    marking_matches empty i j marks m = m.0
+    marking_matches (character c) i j marks m = (m.0, m.1)
+    marking_matches (class ranges) i j marks m = (m.0, m.1, m.2, m.3)
+    marking_matches (look test) i j marks m = (m.0, m.1)
+    marking_matches (repetition least most greedy body) i j marks (n, low, high, made) =
+        let passes = passes_match (Marking body) (Matches haystack body)
+        (λ k l a m. marking_matches body k l a m) n i j marks made in
+        (n, low, high, passes)
+    marking_matches (capture index name body) i j marks (inner, m, e) =
+        marking_matches body i j inner m
+    marking_matches (concat parts) i j marks m = chain_matches parts i j marks m
+    marking_matches (alternation branches) i j marks m = branch_matches branches i j marks m
+
+    chain_matches : (parts : Trees) (i j : ℕ) (marks : Marks) → MarkingChain parts i j marks
+        → Chain haystack parts i j
+    chain_matches none i j marks m = m.0
+    chain_matches (more a rest) i j marks (k, first, later, m, chain, e) =
+        (k, marking_matches a i k first m, chain_matches rest k j later chain)
+
+    branch_matches : (branches : Trees) (i j : ℕ) (marks : Marks) → MarkingBranch branches i j marks
+        → SomeBranch haystack branches i j
+    branch_matches none i j marks m = m
+    branch_matches (more a rest) i j marks (inl m) = inl (marking_matches a i j marks m)
+    branch_matches (more a rest) i j marks (inr m) = inr (branch_matches rest i j marks m)

@@ -8,14 +8,15 @@ use Rattle.regex_lite_syntax.specs.Tree.{Tree, Trees, empty, character, class, l
 use Rattle.regex_lite_syntax.specs.Tree.{repetition, capture, concat, alternation, none, more}
 use Rattle.std.specs.Option.{option_or, option_zip}
 use Rattle.regex_lite_syntax.specs.Tree.Regular.{IsRegular, AreRegular}
-use Rattle.regex_lite_engine.proofs.laws.LeadsLemmas.{same_some}
 use Rattle.regex_lite_engine.specs.Graph.WrittenOut.{whole}
 use Rattle.regex_lite_engine.specs.Search.Marks.{Marks, no_marks, over, span}
 use Rattle.regex_lite_engine.specs.Search.Answer.{Found, IsFound}
 use Rattle.regex_lite_engine.specs.SearchLaws.{HasGroupsInside}
 use Rattle.regex_lite_engine.proofs.laws.groups.MarkingLemmas.{Marking, MarkingChain}
 use Rattle.regex_lite_engine.proofs.laws.groups.MarkingLemmas.{MarkingBranch, MarkedPasses, around}
-use Rattle.regex_lite_engine.proofs.laws.groups.MarkedTreeLemmas.{marked_way}
+use Rattle.regex_lite_engine.proofs.laws.groups.MarkedTreeLemmas.{marked_found}
+use Rattle.regex_lite_engine.proofs.laws.list.EntryLemmas.{either_none}
+use Rattle.regex_lite_engine.proofs.OptionLemmas.{same_some}
 
 -- two slots hold nothing, or positions in order between i and j
 abbrev Ordered : (i j : ℕ) → Option ℕ → Option ℕ → Type 0
@@ -60,10 +61,6 @@ over_ordered i k j first later marks e p q = record {
       (wider i k j j _ _ p.forward (omega arith) (q.each index)));
 }
 
-or_none : (a : Option ℕ) → option_or a None ≡ a
-or_none None = refl
-or_none (Some a) = refl
-
 -- the slots of the group itself
 own_slots : (i j : ℕ) (a b : Option ℕ) → i ≤ j → Ordered i j a b
     → Ordered i j (option_or a (Some i)) (Some j)
@@ -86,7 +83,7 @@ around_slots g k i j inner (inr apart) forward is =
     let b : (2 * g == 2 * k) ≡ false = grind (arith, nat_tests, apart) in
     let c : (2 * g + 1 == 2 * k + 1) ≡ false = grind (arith, nat_tests, apart) in
     let d : (2 * g == 2 * k + 1) ≡ false = grind (arith, nat_tests) in
-    rw (a, b, c, d, or_none (inner (2 * k)), or_none (inner (2 * k + 1))) is
+    rw (a, b, c, d, either_none (inner (2 * k)), either_none (inner (2 * k + 1))) is
 
 around_ordered : (g i j : ℕ) (inner marks : Marks) → marks ≡ around g i j inner
     → AreOrdered i j inner → AreOrdered i j marks
@@ -191,25 +188,23 @@ both_some i j (Some a) (Some b) from to is e =
     let same : (a, b) ≡ (from, to) = same_some e in
     subst (λ (p : ℕ × ℕ). (i ≤ p.0) × (p.0 ≤ p.1) × (p.1 ≤ j)) same is
 
-both_or_none : (i j : ℕ) (a b : Option ℕ) → Ordered i j a b → is_some a ≡ is_some b
-both_or_none i j None None is = refl
-both_or_none i j None (Some b) is = absurd is
-both_or_none i j (Some a) None is = absurd is
-both_or_none i j (Some a) (Some b) is = refl
+both_either_none : (i j : ℕ) (a b : Option ℕ) → Ordered i j a b → is_some a ≡ is_some b
+both_either_none i j None None is = refl
+both_either_none i j None (Some b) is = absurd is
+both_either_none i j (Some a) None is = absurd is
+both_either_none i j (Some a) (Some b) is = refl
 
 pub groups_inside : (tree : Tree) (haystack : Text) (s : ℕ) (found : Found) → IsRegular tree
     → IsFound tree haystack s found → HasGroupsInside found
 groups_inside tree haystack s found regular is = record {
   whole = span_0;
-  paired = λ index. both_or_none found.start found.end _ _ (all.each index);
+  paired = λ index. both_either_none found.start found.end _ _ (all.each index);
   inside = λ index from to e.
       both_some found.start found.end _ _ from to (all.each index) e;
 }
   where
     marking : Marking haystack (whole tree) found.start found.end found.marks
-    marking =
-        subst (λ m. Marking haystack (whole tree) found.start found.end m) (sym is.marks)
-        (marked_way tree haystack found.start found.end is.way regular is.most_preferred.is_way)
+    marking = marked_found tree haystack s found regular is
 
     all : AreOrdered found.start found.end found.marks
     all = ordered haystack (whole tree) found.start found.end found.marks marking

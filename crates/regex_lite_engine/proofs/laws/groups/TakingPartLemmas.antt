@@ -1,7 +1,7 @@
 -- At least the static number of groups take part in a match.
-use Rattle.std.proofs.Common.{◌≡◌, ◌≤◌, ◌<◌, inl, inr, refl, sym, ap, subst, ◌∙◌, ℕ}
-use Rattle.std.proofs.Common.{zero, suc, ◌+◌, ◌-◌, ◌*◌, ◌==◌, max, Bool, true, false}
-use Rattle.std.proofs.Common.{Option, Some, None, is_some, if◌then◌else◌, arith}
+use Rattle.std.proofs.Common.{◌≡◌, ◌≤◌, ◌<◌, inl, inr, refl, sym, ap, ◌∙◌, ℕ}
+use Rattle.std.proofs.Common.{zero, suc, ◌+◌, ◌-◌, ◌*◌, ◌==◌, max, true}
+use Rattle.std.proofs.Common.{Option, Some, None, is_some, arith}
 use Rattle.std.proofs.lemmas.Bool.Decides.{nat_tests}
 use Rattle.regex_lite_syntax.specs.Text.{Text}
 use Rattle.regex_lite_syntax.specs.Tree.{Tree, Trees, empty, character, class, look}
@@ -11,26 +11,22 @@ use Rattle.regex_lite_syntax.specs.Tree.Properties.{sum, common, in_passes, stat
 use Rattle.regex_lite_syntax.specs.Tree.Properties.{static_sum, static_common, static_captures_len}
 use Rattle.regex_lite_syntax.specs.Tree.Regular.{IsRegular}
 use Rattle.regex_lite_engine.specs.Graph.WrittenOut.{whole}
-use Rattle.regex_lite_engine.proofs.laws.LeadsLemmas.{same_some}
 use Rattle.regex_lite_engine.specs.Search.Marks.{Marks, marked, over, span, taking_part}
 use Rattle.regex_lite_syntax.proofs.grammar.NumberedTreeLemmas.{IsNumbered, AreNumbered}
 use Rattle.regex_lite_engine.specs.Search.Answer.{Found, IsFound}
 use Rattle.regex_lite_engine.proofs.laws.groups.MarkingLemmas.{Marking, MarkingChain}
 use Rattle.regex_lite_engine.proofs.laws.groups.MarkingLemmas.{MarkingBranch, MarkedPasses, around}
-use Rattle.regex_lite_engine.proofs.laws.groups.MarkedTreeLemmas.{marked_way}
 use Rattle.regex_lite_engine.proofs.laws.groups.TakingCountLemmas.{one_if, earlier_stay, later_stay}
 use Rattle.regex_lite_engine.proofs.laws.groups.TakingCountLemmas.{two_rows, of_more, own_part}
+use Rattle.regex_lite_engine.proofs.laws.groups.MarkedTreeLemmas.{marked_found}
+use Rattle.regex_lite_engine.proofs.laws.WalkLemmas.{if_test}
+use Rattle.regex_lite_engine.proofs.OptionLemmas.{same_some}
 
 sum_is : (a b : Option ℕ) (n : ℕ) → sum a b ≡ Some n
     → (k : ℕ) × (l : ℕ) × (a ≡ Some k) × (b ≡ Some l) × (n ≡ k + l)
 sum_is None b n e = absurd cc
 sum_is (Some a) None n e = absurd cc
 sum_is (Some a) (Some b) n e = (a, b, refl, refl, sym (same_some e))
-
-if_same : (test : Bool) (a n : ℕ) → (if test then Some a else None) ≡ Some n
-    → (test ≡ true) × (a ≡ n)
-if_same true a n e = (refl, same_some e)
-if_same false a n e = absurd cc
 
 same_number : (a b : ℕ) → (a == b) ≡ true → a ≡ b
 same_number a b e = grind (arith, nat_tests, e)
@@ -39,7 +35,7 @@ common_is : (a b : Option ℕ) (n : ℕ) → common a b ≡ Some n → (a ≡ So
 common_is None b n e = absurd cc
 common_is (Some a) None n e = absurd cc
 common_is (Some a) (Some b) n e =
-    let same = if_same (a == b) a n e in
+    let same = if_test (a == b) a n e in
     (ap Some same.1, ap Some (sym (same_number a b same.0) ∙ same.1))
 
 none_needed : (groups : Option ℕ) (n : ℕ) → in_passes zero groups ≡ Some n → n ≡ 0
@@ -185,6 +181,4 @@ enough_take_part tree haystack s found n regular numbered is known =
     omega (arith, total, one_is, inside, first, second, own_one, moved, all)
   where
     marking : Marking haystack (whole tree) found.start found.end found.marks
-    marking =
-        subst (λ m. Marking haystack (whole tree) found.start found.end m) (sym is.marks)
-        (marked_way tree haystack found.start found.end is.way regular is.most_preferred.is_way)
+    marking = marked_found tree haystack s found regular is

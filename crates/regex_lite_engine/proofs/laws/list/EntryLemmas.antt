@@ -10,7 +10,7 @@ either_assoc : (a b c : Option ℕ) → option_or (option_or a b) c ≡ option_o
 either_assoc None b c = refl
 either_assoc (Some a) b c = refl
 
-either_none : (a : Option ℕ) → option_or a None ≡ a
+pub either_none : (a : Option ℕ) → option_or a None ≡ a
 either_none None = refl
 either_none (Some a) = refl
 
@@ -78,9 +78,6 @@ onward_nothing (e ∷ list) = onward_nothing list
 pub onward_stop : (i : ℕ) (next : ℕ → List Entry) → onward (stop i) next ≡ next i
 onward_stop i next =
     append-nil (map (behind_marks no_marks) (next i)) ∙ behind_none no_marks over_none (next i)
-
-none_over : (a : Marks) → over no_marks a ≡ a
-none_over a = refl
 
 -- where it stops, nothing changes
 pub onward_stops : (list : List Entry) → onward list stop ≡ list

@@ -8,7 +8,7 @@ use Rattle.regex_lite_engine.specs.Graph.Places.{step}
 use Rattle.regex_lite_engine.specs.Graph.Addresses.{Address}
 use Rattle.regex_lite_engine.specs.Graph.WrittenOut.{whole, start_address, end_address}
 use Rattle.regex_lite_engine.specs.Graph.WrittenOut.{place_of_pattern, IsWayThrough}
-use Rattle.regex_lite_engine.proofs.laws.LeadsLemmas.{same_some, leads_to_one}
+use Rattle.regex_lite_engine.proofs.laws.LeadsLemmas.{leads_to_one}
 use Rattle.regex_lite_engine.specs.Search.Marks.{Marks, marks_of_way}
 use Rattle.regex_lite_engine.specs.Search.Preference.{IsPreferred}
 use Rattle.regex_lite_engine.specs.Search.Answer.{Found, IsFound}
@@ -16,6 +16,7 @@ use Rattle.regex_lite_engine.specs.Search.PreferenceList.{Entry, preference_list
 use Rattle.regex_lite_engine.specs.SearchLaws.{IsBefore, AreRanked}
 use Rattle.regex_lite_engine.proofs.laws.answer.OrderLemmas.{one_best}
 use Rattle.regex_lite_engine.proofs.laws.list.RankedWalkLemmas.{all_ranked}
+use Rattle.regex_lite_engine.proofs.OptionLemmas.{same_some}
 
 same_entry : (e : Entry) (j : ℕ) (marks : Marks) (rest : List Entry) → e.0 ≡ j → e.1 ≡ marks
     → e ∷ rest ≡ (j, marks) ∷ rest

@@ -6,7 +6,6 @@ use Rattle.regex_lite_syntax.specs.Text.{Text}
 use Rattle.regex_lite_syntax.specs.Tree.Matches.{Passes, AtMost}
 use Rattle.regex_lite_syntax.specs.Tree.Regular.{InOrder}
 use Rattle.regex_lite_engine.specs.Graph.Places.{Place, choice}
-use Rattle.regex_lite_engine.proofs.laws.WalkPassLemmas.{both_passes}
 use Rattle.regex_lite_engine.proofs.laws.StandingLemmas.{InRow, InChoices, IsBetween}
 use Rattle.regex_lite_engine.proofs.laws.StandingLemmas.{IsBounded, IsRepetition}
 use Rattle.regex_lite_engine.specs.Search.PreferenceList.{Entry, stop, onward}
@@ -15,6 +14,16 @@ use Rattle.regex_lite_engine.proofs.laws.list.EntryLemmas.{onward_append, onward
 use Rattle.regex_lite_engine.proofs.laws.list.EntryLemmas.{onward_stop, onward_nothing}
 use Rattle.regex_lite_engine.proofs.laws.list.ReadingLemmas.{Reads}
 use Rattle.regex_lite_engine.proofs.laws.list.ListedLemmas.{Listed, as_listed, by_go, by_choice}
+
+both_passes : (Pass : ℕ → ℕ → Type 0) (m n i k j : ℕ) → Passes Pass m i k → Passes Pass n k j
+    → Passes Pass (m + n) i j
+both_passes Pass zero n i k j e passes =
+    let all : n ≡ zero + n = omega arith in
+    subst (λ z. Passes Pass z i j) all (subst (λ z. Passes Pass n z j) (sym e) passes)
+both_passes Pass (suc m) n i k j (via, pass, first) passes =
+    let all : suc (m + n) ≡ suc m + n = omega arith in
+    let others = both_passes Pass m n via k j first passes in
+    subst (λ z. Passes Pass z i j) all (via, pass, others)
 
 module _ (body : ℕ → List Entry) where
   -- what follows the passes goes on

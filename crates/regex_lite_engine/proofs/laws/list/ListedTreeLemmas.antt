@@ -13,7 +13,6 @@ use Rattle.regex_lite_syntax.specs.Tree.Properties.{nullable}
 use Rattle.regex_lite_syntax.specs.Tree.Regular.{IsRegular, AreRegular}
 use Rattle.regex_lite_syntax.specs.Tree.Matches.{Matches, Chain, SomeBranch}
 use Rattle.regex_lite_engine.specs.Graph.Places.{Place, go, one_of}
-use Rattle.regex_lite_engine.proofs.laws.WalkMatchLemmas.{if_test, was_read}
 use Rattle.regex_lite_engine.proofs.laws.StandingLemmas.{Stands, StandInChain, StandAsBranches}
 use Rattle.regex_lite_engine.specs.Search.Marks.{marked}
 use Rattle.regex_lite_engine.specs.Search.PreferenceList.{Entry, behind_marks, read, onward}
@@ -26,6 +25,7 @@ use Rattle.regex_lite_engine.proofs.laws.list.ListedLemmas.{Listed, branching, L
 use Rattle.regex_lite_engine.proofs.laws.list.ListedLemmas.{fitting, as_listed, by_go, by_mark}
 use Rattle.regex_lite_engine.proofs.laws.list.ListedLemmas.{by_reading, by_look, unmarked}
 use Rattle.regex_lite_engine.proofs.laws.list.ListedPassLemmas.{LoopReads, in_repetition}
+use Rattle.regex_lite_engine.proofs.laws.WalkLemmas.{if_test, was_read}
 
 none_read : (i : ℕ) (next : Option ℕ) → read (in_ranges []) i next ≡ []
 none_read i None = refl

@@ -6,10 +6,11 @@ use Rattle.regex_lite_syntax.proofs.ListLemmas.{no_last}
 use Rattle.regex_lite_engine.specs.Graph.Ways.{Leads, NoneTwice}
 use Rattle.regex_lite_engine.specs.Graph.Places.{Arrow, Place, complete, with_arrows}
 use Rattle.regex_lite_engine.specs.Graph.Places.{arrived, arrow_taken, step, step_from}
-use Rattle.regex_lite_engine.proofs.laws.LeadsLemmas.{same_some, leads_append}
+use Rattle.regex_lite_engine.proofs.laws.LeadsLemmas.{leads_append}
 use Rattle.regex_lite_engine.specs.Search.PreferenceList.{Entry}
 use Rattle.regex_lite_engine.proofs.laws.list.ListedLemmas.{Listed, ListedBy, completed}
 use Rattle.regex_lite_engine.proofs.laws.list.ListedLemmas.{branching, over_all, blocked, fitting}
+use Rattle.regex_lite_engine.proofs.OptionLemmas.{same_some}
 
 module _ {A : Type 0} (haystack : Text) (place : A → Place A) (end : A)
   where

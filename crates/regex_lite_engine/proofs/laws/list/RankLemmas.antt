@@ -5,7 +5,7 @@ use Rattle.regex_lite_engine.specs.Search.Preference.{IsPreferred}
 use Rattle.regex_lite_engine.specs.Search.Marks.{Marks}
 use Rattle.regex_lite_engine.specs.Search.PreferenceList.{Entry}
 use Rattle.regex_lite_engine.specs.SearchLaws.{IsBefore}
-use Rattle.regex_lite_engine.proofs.laws.InLemmas.{In}
+use Rattle.regex_lite_engine.proofs.InLemmas.{In}
 
 -- the walks have these ends and marks, each preferred to those after it
 abbrev pub Rank : (Walk : List ℕ → ℕ → Type 0) → (List ℕ → Marks) → List (List ℕ)

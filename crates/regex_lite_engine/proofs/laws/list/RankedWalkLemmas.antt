@@ -9,7 +9,6 @@ use Rattle.regex_lite_engine.specs.Graph.Places.{Arrow, Place, complete, with_ar
 use Rattle.regex_lite_engine.specs.Graph.Places.{arrived, arrow_taken, step, step_from}
 use Rattle.regex_lite_engine.specs.Graph.WrittenOut.{whole, start_address, end_address}
 use Rattle.regex_lite_engine.specs.Graph.WrittenOut.{place_of_pattern, IsWayThrough}
-use Rattle.regex_lite_engine.proofs.laws.LeadsLemmas.{same_some}
 use Rattle.regex_lite_engine.specs.Search.Marks.{Marks, no_marks, marked, over}
 use Rattle.regex_lite_engine.specs.Search.Marks.{mark_of, mark_of_arrow, marks_along}
 use Rattle.regex_lite_engine.specs.Search.PreferenceList.{Entry, behind_marks, stop}
@@ -19,10 +18,11 @@ use Rattle.regex_lite_engine.proofs.laws.list.ListedLemmas.{Listed, ListedBy, co
 use Rattle.regex_lite_engine.proofs.laws.list.ListedLemmas.{branching, over_all, blocked, fitting}
 use Rattle.regex_lite_engine.proofs.laws.list.NoLoopLemmas.{complete_stays}
 use Rattle.regex_lite_engine.proofs.laws.list.WholeListLemmas.{listed_whole, walk_is_way}
-use Rattle.regex_lite_engine.proofs.laws.InLemmas.{In, in_left, in_right, in_map}
+use Rattle.regex_lite_engine.proofs.InLemmas.{In, in_left, in_right, in_map, number_of}
 use Rattle.regex_lite_engine.proofs.laws.list.RankLemmas.{Rank, Ranking, AllBefore}
 use Rattle.regex_lite_engine.proofs.laws.list.RankLemmas.{rank_both, rank_map, same_list}
 use Rattle.regex_lite_engine.proofs.laws.list.RankLemmas.{greater, greater_keeps}
+use Rattle.regex_lite_engine.proofs.OptionLemmas.{same_some}
 
 module _ {A : Type 0} (haystack : Text) (place : A → Place A) (end : A) where
   -- the arrows lead to where a match is complete, at position j
@@ -233,12 +233,6 @@ module _ {A : Type 0} (haystack : Text) (place : A → Place A) (end : A) where
         subst (λ list. IsRankingBy (arrow ∷ arrows) i list) (sym all)
         (with_first arrow arrows i j here there fits (ranking final listed)
         (ranking_by final others))
-
-number_of : (way : List ℕ) (ways : List (List ℕ)) → In way ways
-    → (k : ℕ) × (slice_get ways k ≡ Some way)
-number_of way [] is = absurd is
-number_of way (x ∷ ways) (inl e) = (0, ap Some e)
-number_of way (x ∷ ways) (inr is) = let later = number_of way ways is in (suc later.0, later.1)
 
 pub all_ranked : (tree : Tree) (haystack : Text) (i : ℕ) → IsRegular tree → HasReadingLoops tree
     → (ways : List (List ℕ))

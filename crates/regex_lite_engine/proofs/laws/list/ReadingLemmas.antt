@@ -1,15 +1,12 @@
 -- A match never goes back, and that of a tree that is not nullable reads a character.
 use Rattle.std.proofs.Common.{◌≡◌, ◌<◌, ◌≤◌, inl, inr, refl, ℕ, zero, suc, Bool}
-use Rattle.std.proofs.Common.{true, false, ◌&&◌, ◌||◌, Some, length, [], ◌∷◌, arith}
+use Rattle.std.proofs.Common.{true, false, ◌&&◌, Some, length, [], ◌∷◌, arith}
+use Rattle.std.proofs.lemmas.Bool.{or_parts}
 use Rattle.regex_lite_syntax.specs.Text.{Text, after}
 use Rattle.regex_lite_syntax.specs.Tree.{Tree, Trees, empty, character, class, look}
 use Rattle.regex_lite_syntax.specs.Tree.{repetition, capture, concat, alternation, none, more}
 use Rattle.regex_lite_syntax.specs.Tree.Properties.{is_zero, nullable, all_nullable, any_nullable}
 use Rattle.regex_lite_syntax.specs.Tree.Matches.{Matches, Chain, SomeBranch, Passes}
-
-or_false : (a b : Bool) → (a || b) ≡ false → (a ≡ false) × (b ≡ false)
-or_false true b e = absurd cc
-or_false false b e = (refl, e)
 
 some_needed : (least : ℕ) → least ≤ zero → is_zero least ≡ false → ⊥
 some_needed zero low e = cc
@@ -92,9 +89,9 @@ module _ (haystack : Text) where
     reads (class ranges) i j e (c, there, is, f) = reads_one i j c there f
     reads (look test) i j e m = absurd cc
     reads (repetition least most greedy body) i j e (zero, low, high, passes) =
-        absurd (some_needed least low (or_false (is_zero least) (nullable body) e).0)
+        absurd (some_needed least low (or_parts (is_zero least) (nullable body) e).0)
     reads (repetition least most greedy body) i j e (suc n, low, high, (k, pass, passes)) =
-        let first = reads body i k (or_false (is_zero least) (nullable body) e).1 pass in
+        let first = reads body i k (or_parts (is_zero least) (nullable body) e).1 pass in
         let later = passes_forward (Matches haystack body) (λ a b m. is_forward body a b m) in
         reads_first i k j first (later n k j passes)
     reads (capture index name body) i j e m = reads body i j e m
@@ -112,6 +109,6 @@ module _ (haystack : Text) where
         → SomeBranch haystack branches i j → Reads i j
     branch_reads none i j e some = absurd some
     branch_reads (more a rest) i j e (inl m) =
-        reads a i j (or_false (nullable a) (any_nullable rest) e).0 m
+        reads a i j (or_parts (nullable a) (any_nullable rest) e).0 m
     branch_reads (more a rest) i j e (inr some) =
-        branch_reads rest i j (or_false (nullable a) (any_nullable rest) e).1 some
+        branch_reads rest i j (or_parts (nullable a) (any_nullable rest) e).1 some

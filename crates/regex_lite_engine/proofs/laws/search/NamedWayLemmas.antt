@@ -2,7 +2,7 @@
 use Rattle.std.proofs.Common.{◌≡◌, refl, sym, ap, subst, ◌∙◌, ℕ, List}
 use Rattle.std.proofs.Common.{[], ◌∷◌, Option, Some, None, option_map}
 use Rattle.regex_lite_engine.specs.Graph.Ways.{Leads, NoneTwice, IsWay}
-use Rattle.regex_lite_engine.proofs.laws.LeadsLemmas.{same_some}
+use Rattle.regex_lite_engine.proofs.OptionLemmas.{same_some}
 
 pub mapped_back : {A B : Type 0} (f : A → B) (o : Option A) (y : B) → option_map f o ≡ Some y
     → (x : A) × (o ≡ Some x) × (f x ≡ y)

@@ -19,10 +19,10 @@ use Rattle.regex_lite_engine.specs.Graph.Renumbered.{IsRenumbered, IsNumberOf}
 use Rattle.regex_lite_engine.specs.Search.Marks.{over, marked, mark_of, mark_of_arrow, marks_along}
 use Rattle.regex_lite_engine.specs.Search.NumberedAnswer.{place_with, is_complete}
 use Rattle.regex_lite_engine.specs.Search.NumberedAnswer.{numbered_step, IsNumberedWay}
-use Rattle.regex_lite_engine.proofs.laws.LeadsLemmas.{same_some}
 use Rattle.regex_lite_engine.proofs.laws.search.NamedWayLemmas.{known_on, unnamed_walk}
 use Rattle.regex_lite_engine.proofs.laws.search.NamedWayLemmas.{named_way, unnamed_way}
 use Rattle.regex_lite_engine.proofs.laws.search.OneEndLemmas.{one_end}
+use Rattle.regex_lite_engine.proofs.OptionLemmas.{same_some}
 
 place_within : {X : Type 0} (list : List X) (q : ℕ) (other : X) → q < length list
     → slice_get list q ≡ Some (unwrap_or (slice_get list q) other)
@@ -195,11 +195,8 @@ module _ (tree : Tree) (haystack : Text) (table : List (Place ℕ)) (start : ℕ
 
   apart : (x y : ℕ × ℕ) → Known x → Known y → named x ≡ named y → x ≡ y
   apart x y p q e =
-      pairs (r.apart x.0 y.0 p q (ap (λ (z : Address × ℕ). z.0) e))
-      (ap (λ (z : Address × ℕ). z.1) e)
-    where
-      pairs : x.0 ≡ y.0 → x.1 ≡ y.1 → x ≡ y
-      pairs f g = λ t. (f t, g t)
+      let there = r.apart x.0 y.0 p q (ap (λ (z : Address × ℕ). z.0) e) in
+      λ t. (there t, (e t).1)
 
   pub marks_named : (ks : List ℕ) (x : ℕ × ℕ) → Known x
       → marks_along haystack (place_of_pattern tree) (Some (named x)) ks

@@ -12,9 +12,10 @@ use Rattle.regex_lite_engine.specs.Search.Explored.{Before, NotAfter, StartsAt}
 use Rattle.regex_lite_engine.specs.Search.Explored.{StartsDiffer, IsWhole, IsFirst}
 use Rattle.regex_lite_engine.specs.Search.NumberedAnswer.{place_with, is_complete, numbered_step}
 use Rattle.regex_lite_engine.specs.Search.NumberedAnswer.{is_end, IsNumberedWay, IsNumberedMatch}
-use Rattle.regex_lite_engine.specs.Search.NumberedAnswer.{IsNumberedAnswer, IsOver, IsOfWay}
-use Rattle.regex_lite_engine.proofs.laws.LeadsLemmas.{same_some, leads_to_one}
+use Rattle.regex_lite_engine.specs.Search.NumberedAnswer.{IsNumberedAnswer, SearchIsOver, IsOfWay}
+use Rattle.regex_lite_engine.proofs.laws.LeadsLemmas.{leads_to_one}
 use Rattle.regex_lite_engine.proofs.laws.search.SearchLawLemmas.{search_law}
+use Rattle.regex_lite_engine.proofs.OptionLemmas.{same_some}
 
 -- starts at different positions differ in them
 pub starts_differ : {N : Type 0} (step : N → ℕ → Option N) (is_end : N → Bool) (start : ℕ → N)
@@ -169,7 +170,7 @@ module _ (table : List (Place ℕ)) (haystack : Text) (start s : ℕ) where
           (q, found.end) (p, j) before along is_way.ends m.is_way.0)
 
   pub answer_when_over : (recorded : ℕ × ℕ → Option (List ℕ)) (best : Option (List ℕ))
-      (answer : Option Found) → IsOver table haystack start s recorded best
+      (answer : Option Found) → SearchIsOver table haystack start s recorded best
       → IsOfWay table haystack start best answer → IsNumberedAnswer table haystack start s answer
   answer_when_over recorded None answer x e =
       let none = search_law None

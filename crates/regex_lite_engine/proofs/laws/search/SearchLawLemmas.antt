@@ -4,12 +4,13 @@ use Rattle.std.proofs.Common.{List, [], ◌∷◌, ◌++◌, Option, Some, None,
 use Rattle.regex_lite_engine.specs.Graph.Ways.{Leads, NoneTwice}
 use Rattle.regex_lite_engine.specs.Search.Explored.{NotAfter, StartsDiffer, IsWhole}
 use Rattle.regex_lite_engine.specs.Search.Explored.{IsFirst, IsDead, IsAnswered, IsExplored}
-use Rattle.regex_lite_engine.proofs.laws.LeadsLemmas.{same_some, leads_append}
+use Rattle.regex_lite_engine.proofs.laws.LeadsLemmas.{leads_append}
 use Rattle.regex_lite_engine.proofs.laws.LeadsLemmas.{leads_split, leads_to_one}
 use Rattle.regex_lite_engine.proofs.laws.search.CutLemmas.{rest_of}
 use Rattle.regex_lite_engine.proofs.laws.search.RecordedWayLemmas.{Traced, traced, recorded_once}
 use Rattle.regex_lite_engine.proofs.laws.search.WayOrderLemmas.{NotAfter-trans, NotAfter-append}
 use Rattle.regex_lite_engine.proofs.laws.search.WayOrderLemmas.{GoesOn, NotAfter-snoc}
+use Rattle.regex_lite_engine.proofs.OptionLemmas.{same_some}
 
 module _ {N : Type 0} {step : N → ℕ → Option N} {is_end : N → Bool}
     {IsStart : (front : List ℕ) → N → Type 0} {recorded : N → Option (List ℕ)}

@@ -11,7 +11,7 @@ use Rattle.regex_lite_engine.specs.Graph.WrittenOut.{written_out, start_address,
 use Rattle.regex_lite_engine.specs.Graph.WrittenOut.{place_of_pattern, IsWayThrough}
 use Rattle.regex_lite_engine.specs.Graph.SideBySide.{in_pattern, place_of_patterns}
 use Rattle.regex_lite_engine.specs.Graph.SideBySide.{end_of, IsWayOfPattern}
-use Rattle.regex_lite_engine.specs.Search.AnswerOfList.{HasTree}
+use Rattle.regex_lite_engine.specs.Graph.SideBySide.{HasTree}
 use Rattle.regex_lite_engine.proofs.laws.search.NamedWayLemmas.{unnamed_walk}
 use Rattle.regex_lite_engine.proofs.laws.search.NamedWayLemmas.{named_way, unnamed_way}
 use Rattle.regex_lite_engine.proofs.laws.search.NumberedWayLemmas.{name_pair, step_renamed}
@@ -50,10 +50,8 @@ module _ (trees : List Tree) (number : ℕ) (tree : Tree) (there : HasTree trees
 
   apart : (x y : Address × ℕ) → Known x → Known y → named x ≡ named y → x ≡ y
   apart x y p q e =
-      pairs (same_tail (ap (λ (z : Address × ℕ). z.0) e)) (ap (λ (z : Address × ℕ). z.1) e)
-    where
-      pairs : x.0 ≡ y.0 → x.1 ≡ y.1 → x ≡ y
-      pairs f g = λ t. (f t, g t)
+      let there = same_tail (ap (λ (z : Address × ℕ). z.0) e) in
+      λ t. (there t, (e t).1)
 
   pub way_by_itself : (i : ℕ) (arrows : List ℕ) (j : ℕ)
       → IsWayOfPattern trees number haystack i arrows j → IsWayThrough tree haystack i arrows j

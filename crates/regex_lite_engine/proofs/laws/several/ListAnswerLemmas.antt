@@ -9,11 +9,12 @@ use Rattle.regex_lite_syntax.specs.Tree.Regular.{IsRegular}
 use Rattle.regex_lite_syntax.specs.Tree.Matches.{Matches}
 use Rattle.regex_lite_engine.specs.Search.Answer.{IsMatchFrom, HasMatchFrom}
 use Rattle.regex_lite_engine.specs.Search.Answer.{Found, IsFound, IsAnswer}
-use Rattle.regex_lite_engine.specs.Search.AnswerOfList.{HasTree, AnyMatchesFrom}
+use Rattle.regex_lite_engine.specs.Search.AnswerOfList.{AnyMatchesFrom}
+use Rattle.regex_lite_engine.specs.Graph.SideBySide.{HasTree}
 use Rattle.regex_lite_engine.specs.Search.AnswerOfList.{IsFoundInList, IsAnswerOfList}
 use Rattle.regex_lite_engine.specs.ListSearchLaws.{by_itself}
-use Rattle.regex_lite_engine.proofs.laws.LeadsLemmas.{same_some}
 use Rattle.regex_lite_engine.proofs.laws.answer.AnswerLemmas.{has_answer, found_match, one_answer}
+use Rattle.regex_lite_engine.proofs.OptionLemmas.{not_there, same_some}
 
 -- an answer is one from where it starts
 pub from_its_start : (tree : Tree) (haystack : Text) (s : ℕ) (found : Found)
@@ -39,9 +40,6 @@ from_before tree haystack s found low least is = record {
   most_preferred = is.most_preferred;
   marks = is.marks;
 }
-
-none_there : (k : ℕ) (tree : Tree) → HasTree [] k tree → ⊥
-none_there k tree e = cc
 
 module _ (tree : Tree) (rest : List Tree) (haystack : Text) (s : ℕ) where
   -- the first pattern's answer is that of the list where the others match no earlier
@@ -133,7 +131,7 @@ pub has_list_answer : (trees : List Tree) (haystack : Text) (s : ℕ)
     → ((k : ℕ) (tree : Tree) → HasTree trees k tree → IsRegular tree)
     → (answer : Option (ℕ × Found)) × IsAnswerOfList trees haystack s answer
 has_list_answer [] haystack s regular =
-    (None, λ (k, tree, there, m). none_there k tree there)
+    (None, λ (k, tree, there, m). not_there there)
 has_list_answer (tree ∷ rest) haystack s regular =
     let own = has_answer tree haystack (regular 0 tree refl) s in
     let others = has_list_answer rest haystack s (λ k other there. regular (suc k) other there) in
@@ -225,9 +223,9 @@ module _ (tree : Tree) (haystack : Text) (s : ℕ) where
           → HasMatchFrom other haystack s → ⊥
       by_number zero other there m =
           none (subst (λ t. HasMatchFrom t haystack s) (sym (same_some there)) m)
-      by_number (suc k) other there m = none_there k other there
+      by_number (suc k) other there m = not_there there
   alone_in_list (Some f) is =
-      own_first tree [] haystack s f is (λ k i j other there m. absurd (none_there k other there))
+      own_first tree [] haystack s f is (λ k i j other there m. absurd (not_there there))
 
   pub alone_by_itself : (answer : Option Found)
       → IsAnswerOfList (tree ∷ []) haystack s (by_itself answer) → IsAnswer tree haystack s answer
@@ -237,4 +235,4 @@ module _ (tree : Tree) (haystack : Text) (s : ℕ) where
       (subst (λ (t : Tree). IsFound t haystack f.start f) (sym (same_some is.numbered)) is.answer)
 
 pub none_match : (haystack : Text) (s : ℕ) → IsAnswerOfList [] haystack s None
-none_match haystack s = λ (k, tree, there, m). none_there k tree there
+none_match haystack s = λ (k, tree, there, m). not_there there

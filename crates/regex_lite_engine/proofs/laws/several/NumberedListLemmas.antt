@@ -8,7 +8,8 @@ use Rattle.regex_lite_engine.specs.Graph.Addresses.{Address}
 use Rattle.regex_lite_engine.specs.Graph.Renumbered.{IsRenumbered, IsNumberOf}
 use Rattle.regex_lite_engine.specs.Graph.SideBySide.{AreEntries, AreRegular, side_by_side, start_of}
 use Rattle.regex_lite_engine.specs.Search.Answer.{IsMatchFrom, Found}
-use Rattle.regex_lite_engine.specs.Search.AnswerOfList.{HasTree, IsAnswerOfList}
+use Rattle.regex_lite_engine.specs.Search.AnswerOfList.{IsAnswerOfList}
+use Rattle.regex_lite_engine.specs.Graph.SideBySide.{HasTree}
 use Rattle.regex_lite_engine.specs.Search.NumberedList.{IsMatchOfAny, IsNumberedAnswerOf}
 use Rattle.regex_lite_engine.proofs.laws.search.NumberedAnswerLemmas.{
   numbered_match,

@@ -14,9 +14,10 @@ use Rattle.regex_lite_engine.specs.Search.NumberedAnswer.{is_end, IsNumberedWay}
 use Rattle.regex_lite_engine.specs.Search.NumberedAnswer.{IsNumberedMatch, IsNumberedFound}
 use Rattle.regex_lite_engine.specs.Search.NumberedList.{IsEntry, StartsOf, IsMatchOfAny}
 use Rattle.regex_lite_engine.specs.Search.NumberedList.{IsNumberedAnswerOf, IsOverOf, IsOfWayOf}
-use Rattle.regex_lite_engine.proofs.laws.LeadsLemmas.{same_some, leads_to_one}
+use Rattle.regex_lite_engine.proofs.laws.LeadsLemmas.{leads_to_one}
 use Rattle.regex_lite_engine.proofs.laws.search.OverLemmas.{before_preferred}
 use Rattle.regex_lite_engine.proofs.laws.search.SearchLawLemmas.{search_law}
+use Rattle.regex_lite_engine.proofs.OptionLemmas.{same_some}
 
 -- a way after two starts that look alike
 abbrev Later : (i k j l : ℕ) → (a b : List ℕ) → Type 0

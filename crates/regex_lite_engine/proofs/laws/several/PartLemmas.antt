@@ -10,7 +10,7 @@ use Rattle.regex_lite_engine.specs.Graph.WrittenOut.{written_out, start_address}
 use Rattle.regex_lite_engine.specs.Graph.Stored.{LeadBelow, LeadsBelow, LeadInto, LeadsInto}
 use Rattle.regex_lite_engine.specs.Graph.Renumbered.{IsRenumbered, IsNumberOf}
 use Rattle.regex_lite_engine.specs.Graph.SideBySide.{in_pattern, side_by_side, start_of}
-use Rattle.regex_lite_engine.specs.Search.AnswerOfList.{HasTree}
+use Rattle.regex_lite_engine.specs.Graph.SideBySide.{HasTree}
 use Rattle.regex_lite_engine.proofs.laws.search.NamedWayLemmas.{mapped_back}
 use Rattle.regex_lite_engine.proofs.laws.search.NumberedWayLemmas.{IsPart, IsPartNumber}
 

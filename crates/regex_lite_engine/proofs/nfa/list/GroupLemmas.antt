@@ -7,7 +7,7 @@ use Rattle.std.proofs.lemmas.Bool.{cases_lt}
 use Rattle.std.proofs.lemmas.Option.{slice_get-get_or, slice_get_within, get_or_from_slice_get}
 use Rattle.regex_lite_syntax.specs.Tree.{Tree}
 use Rattle.regex_lite_engine.specs.Graph.StoredList.{StoredGroups, TellGroupsOf, TellsGroupsOf}
-use Rattle.regex_lite_engine.proofs.laws.LeadsLemmas.{same_some}
+use Rattle.regex_lite_engine.proofs.OptionLemmas.{same_some}
 
 -- those of the next pattern too
 pub told_more : (trees : List Tree) (list : List StoredGroups) (tree : Tree) (groups : StoredGroups)

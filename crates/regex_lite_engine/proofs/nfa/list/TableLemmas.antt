@@ -17,9 +17,9 @@ use Rattle.regex_lite_engine.specs.Graph.Stored.{IsClosed, LeadsBelow, place_of}
 use Rattle.regex_lite_engine.specs.declared.nfa.place.Place as code
 use Rattle.regex_lite_engine.specs.Nfa.Layout.{pattern_table, patterns_table, patterns_entries}
 use Rattle.regex_lite_engine.specs.Nfa.Totals.{reading_of_all}
-use Rattle.regex_lite_engine.proofs.nfa.count.KeptBackLemmas.{kept_back_pattern}
-use Rattle.regex_lite_engine.proofs.nfa.count.ReadingCountLemmas.{reading_pattern}
-use Rattle.regex_lite_engine.proofs.nfa.count.TotalLemmas.{arrows_all_few, reading_all_few}
+use Rattle.regex_lite_engine.proofs.count.KeptBackLemmas.{kept_back_pattern}
+use Rattle.regex_lite_engine.proofs.count.ReadingCountLemmas.{reading_pattern}
+use Rattle.regex_lite_engine.proofs.count.TotalLemmas.{arrows_all_few, reading_all_few}
 use Rattle.regex_lite_engine.proofs.nfa.write.SeveralLemmas.{places_add_up, name_of_patterns}
 use Rattle.regex_lite_engine.proofs.nfa.write.SeveralLemmas.{side_by_side_renumbered}
 use Rattle.regex_lite_engine.proofs.nfa.write.SeveralLemmas.{are_entries, own_parts}
@@ -30,13 +30,9 @@ reading_adds_up : (trees : List Tree) (base : ℕ)
 reading_adds_up [] base = refl
 reading_adds_up (tree ∷ trees) base =
     let later = base + whole_places tree in
-    omega (
-      arith,
-      sum_by-append reading_count (pattern_table tree base) (patterns_table trees later),
-      reading_pattern tree base,
-      reading_adds_up trees later,
-      sum_by-cons reading_places tree trees,
-    )
+    let both = sum_by-append reading_count (pattern_table tree base) (patterns_table trees later) in
+    let sum = sum_by-cons reading_places tree trees in
+    omega (arith, both, sum, reading_pattern tree base, reading_adds_up trees later)
 
 -- in each pattern less is kept back than there are places
 kept_back_few : (trees : List Tree) → AreRegular trees → (base : ℕ)
@@ -44,13 +40,10 @@ kept_back_few : (trees : List Tree) → AreRegular trees → (base : ℕ)
 kept_back_few [] regular base = omega arith
 kept_back_few (tree ∷ trees) regular base =
     let later = base + whole_places tree in
-    omega (
-      arith,
-      sum_by-append kept_back (pattern_table tree base) (patterns_table trees later),
-      kept_back_pattern tree (regular 0 tree refl) base,
-      kept_back_few trees (λ k t there. regular (suc k) t there) later,
-      sum_by-cons whole_places tree trees,
-    )
+    let both = sum_by-append kept_back (pattern_table tree base) (patterns_table trees later) in
+    let sum = sum_by-cons whole_places tree trees in
+    let here = kept_back_pattern tree (regular 0 tree refl) base in
+    omega (arith, both, sum, here, kept_back_few trees (λ k. regular (suc k)) later)
 
 -- no pattern, no place
 some_tree : (trees : List Tree) → 0 < places_of_all trees → 0 < length trees
@@ -96,13 +89,8 @@ module _ (trees : List Tree) (regular : AreRegular trees) (places : List code.Pl
         omega (arith, all, reading_are, reading_all_few trees, trees_there some);
     each_reading = ap reading_of table_is ∙ reading_adds_up trees 0 ∙ sym reading_are;
     few_kept_back = λ some.
-        omega (
-          arith,
-          all,
-          ap kept_back_of table_is,
-          kept_back_few trees regular 0,
-          trees_there some,
-        );
+        let few = kept_back_few trees regular 0 in
+        omega (arith, all, few, ap kept_back_of table_is, trees_there some);
   }
     where
       trees_there : 0 < length places → 0 < length trees

@@ -5,11 +5,11 @@ use Rattle.regex_lite_syntax.specs.Tree.{Tree, Trees, empty, character, class, l
 use Rattle.regex_lite_syntax.specs.Tree.{repetition, capture, concat, alternation, none, more}
 use Rattle.regex_lite_syntax.specs.Tree.Properties.{nullable}
 use Rattle.regex_lite_engine.specs.Graph.Addresses.{Address}
-use Rattle.regex_lite_engine.proofs.nfa.write.AddressLemmas.{own_place, in_part, framed}
-use Rattle.regex_lite_engine.proofs.nfa.write.AddressLemmas.{copies_addresses, choices_addresses}
-use Rattle.regex_lite_engine.proofs.nfa.write.AddressLemmas.{bounded_addresses}
-use Rattle.regex_lite_engine.proofs.nfa.write.AddressLemmas.{repetition_addresses, addresses}
-use Rattle.regex_lite_engine.proofs.nfa.write.AddressLemmas.{chain_addresses, branches_addresses}
+use Rattle.regex_lite_engine.proofs.graph.AddressLemmas.{own_place, in_part, framed}
+use Rattle.regex_lite_engine.proofs.graph.AddressLemmas.{copies_addresses, choices_addresses}
+use Rattle.regex_lite_engine.proofs.graph.AddressLemmas.{bounded_addresses}
+use Rattle.regex_lite_engine.proofs.graph.AddressLemmas.{repetition_addresses, addresses}
+use Rattle.regex_lite_engine.proofs.graph.AddressLemmas.{chain_addresses, branches_addresses}
 use Rattle.regex_lite_engine.proofs.nfa.write.ApartLemmas.{Each, Apart, each_weaker}
 use Rattle.regex_lite_engine.proofs.nfa.write.ApartLemmas.{each_both, apart_both, apart_first}
 use Rattle.regex_lite_engine.proofs.nfa.write.ApartLemmas.{apart_last, apart_part}

@@ -2,7 +2,7 @@
 use Rattle.std.proofs.Common.{◌≡◌, ◌<◌, refl, sym, ap, subst, arith, ℕ, zero}
 use Rattle.std.proofs.Common.{suc, List, [], ◌∷◌, ◌++◌, length, get_or}
 use Rattle.regex_lite_engine.specs.Graph.Addresses.{Address}
-use Rattle.regex_lite_engine.proofs.nfa.write.AddressLemmas.{in_part}
+use Rattle.regex_lite_engine.proofs.graph.AddressLemmas.{in_part}
 
 abbrev pub Each : (Address → Type 0) → List Address → Type 0
 Each P [] = Unit {0}

@@ -8,12 +8,12 @@ use Rattle.regex_lite_engine.specs.Graph.Repetitions.{choice_at, next_choice, in
 use Rattle.regex_lite_engine.specs.Graph.Repetitions.{exactly_row, bounded_row, repetition_row}
 use Rattle.regex_lite_engine.specs.Nfa.Layout.{copies_layout, choices_layout, star_layout}
 use Rattle.regex_lite_engine.specs.Nfa.Layout.{bounded_layout, repetition_layout}
-use Rattle.regex_lite_engine.proofs.nfa.write.AddressLemmas.{own_place, in_part, copies_addresses}
-use Rattle.regex_lite_engine.proofs.nfa.write.AddressLemmas.{choices_addresses, bounded_addresses}
-use Rattle.regex_lite_engine.proofs.nfa.write.AddressLemmas.{repetition_addresses}
-use Rattle.regex_lite_engine.proofs.nfa.write.CopyRowLemmas.{PartsAre, parts_from_0, first_part}
-use Rattle.regex_lite_engine.proofs.nfa.write.CopyRowLemmas.{later_parts, copy_last, next_before}
-use Rattle.regex_lite_engine.proofs.nfa.write.CopyRowLemmas.{copies_before, behind_copies}
+use Rattle.regex_lite_engine.proofs.graph.AddressLemmas.{own_place, in_part, copies_addresses}
+use Rattle.regex_lite_engine.proofs.graph.AddressLemmas.{choices_addresses, bounded_addresses}
+use Rattle.regex_lite_engine.proofs.graph.AddressLemmas.{repetition_addresses}
+use Rattle.regex_lite_engine.proofs.graph.CopyRowLemmas.{PartsAre, parts_from_0, first_part}
+use Rattle.regex_lite_engine.proofs.graph.CopyRowLemmas.{later_parts, copy_last, next_before}
+use Rattle.regex_lite_engine.proofs.graph.CopyRowLemmas.{copies_before, behind_copies}
 use Rattle.regex_lite_engine.proofs.nfa.write.NumberingLemmas.{Numbering, Body, Stands, InRow}
 use Rattle.regex_lite_engine.proofs.nfa.write.NumberingLemmas.{AreAt, Fits, both_at, row_first}
 use Rattle.regex_lite_engine.proofs.nfa.write.NumberingLemmas.{row_behind, fits_part}

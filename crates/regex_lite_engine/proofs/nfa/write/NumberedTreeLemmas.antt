@@ -12,10 +12,10 @@ use Rattle.regex_lite_engine.specs.Graph.Addresses.{chain_entry, branch_entries}
 use Rattle.regex_lite_engine.specs.Graph.Repetitions.{Content}
 use Rattle.regex_lite_engine.specs.Graph.WrittenOut.{place_at, place_in_chain, place_in_branch}
 use Rattle.regex_lite_engine.specs.Nfa.Layout.{layout, chain_layout, branches_layout}
-use Rattle.regex_lite_engine.proofs.nfa.write.AddressLemmas.{own_place, in_part, addresses}
-use Rattle.regex_lite_engine.proofs.nfa.write.AddressLemmas.{chain_addresses, branches_addresses}
-use Rattle.regex_lite_engine.proofs.nfa.write.CopyRowLemmas.{PartsAre, parts_from_0}
-use Rattle.regex_lite_engine.proofs.nfa.write.CopyRowLemmas.{first_part, later_parts}
+use Rattle.regex_lite_engine.proofs.graph.AddressLemmas.{own_place, in_part, addresses}
+use Rattle.regex_lite_engine.proofs.graph.AddressLemmas.{chain_addresses, branches_addresses}
+use Rattle.regex_lite_engine.proofs.graph.CopyRowLemmas.{PartsAre, parts_from_0}
+use Rattle.regex_lite_engine.proofs.graph.CopyRowLemmas.{first_part, later_parts}
 use Rattle.regex_lite_engine.proofs.nfa.write.NumberingLemmas.{Numbering, Body, Stands, InRow}
 use Rattle.regex_lite_engine.proofs.nfa.write.NumberingLemmas.{AreAt, Fits, both_at, row_first}
 use Rattle.regex_lite_engine.proofs.nfa.write.NumberingLemmas.{row_behind, fits_part}

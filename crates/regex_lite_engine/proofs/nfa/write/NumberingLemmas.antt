@@ -6,7 +6,7 @@ use Rattle.regex_lite_engine.specs.Graph.Addresses.{Address, part}
 use Rattle.regex_lite_engine.specs.Graph.Repetitions.{Content}
 use Rattle.regex_lite_engine.specs.Graph.Stored.{LeadsInto}
 use Rattle.regex_lite_engine.specs.Nfa.Layout.{Fragment, before}
-use Rattle.regex_lite_engine.proofs.nfa.write.AddressLemmas.{in_part}
+use Rattle.regex_lite_engine.proofs.graph.AddressLemmas.{in_part}
 
 -- what the numbers from the first on to below the end stand for
 pub record Numbering : Type 0 where

@@ -1,6 +1,6 @@
 -- The layout of the whole pattern is the written-out one, with numbers in the place of addresses.
 use Rattle.std.proofs.Common.{◌≡◌, ◌<◌, ◌≤◌, ◌-◌, refl, sym, ap, subst, ◌∙◌, arith, ℕ, zero, suc}
-use Rattle.std.proofs.Common.{◌+◌, inl, inr, List, [], ◌∷◌, ◌++◌, length, get_or, slice_get}
+use Rattle.std.proofs.Common.{◌+◌, List, [], ◌∷◌, ◌++◌, length, get_or, slice_get}
 use Rattle.std.proofs.Common.{append_assoc, length-append, Some, None, ◌^◌, map, option_map}
 use Rattle.std.proofs.lemmas.List.{length-map}
 use Rattle.std.proofs.lemmas.Option.{slice_get-map}
@@ -19,7 +19,7 @@ use Rattle.regex_lite_engine.specs.Graph.Stored.{LeadInto, LeadsInto, place_of}
 use Rattle.regex_lite_engine.specs.declared.nfa.place.Place as code
 use Rattle.regex_lite_engine.specs.Nfa.Layout.{pattern_layout, pattern_table}
 use Rattle.regex_lite_engine.specs.Nfa.Layout.{whole_layout, whole_table}
-use Rattle.regex_lite_engine.proofs.nfa.write.AddressLemmas.{in_part, addresses}
+use Rattle.regex_lite_engine.proofs.graph.AddressLemmas.{in_part, addresses}
 use Rattle.regex_lite_engine.proofs.nfa.write.NumberingLemmas.{Numbering, Stands, InRow, IsAt}
 use Rattle.regex_lite_engine.proofs.nfa.write.NumberingLemmas.{AreAt, Fits, as_many, part_at}
 use Rattle.regex_lite_engine.proofs.nfa.write.NumberedTreeLemmas.{fits_capture, fits_tree}
@@ -27,12 +27,9 @@ use Rattle.regex_lite_engine.proofs.nfa.write.ApartLemmas.{Apart, apart_first}
 use Rattle.regex_lite_engine.proofs.nfa.write.ApartLemmas.{apart_part, apart_get}
 use Rattle.regex_lite_engine.proofs.nfa.write.ApartAddressLemmas.{InPart, each_in_part}
 use Rattle.regex_lite_engine.proofs.nfa.write.ApartAddressLemmas.{apart_addresses}
-use Rattle.regex_lite_engine.proofs.nfa.write.AmongLemmas.{Among, among_part, number_of}
-use Rattle.regex_lite_engine.proofs.nfa.write.ListedAddressLemmas.{listed_tree}
-
--- the addresses of the whole pattern, the place where the match is complete first
-abbrev pub whole_addresses : Tree → List Address
-whole_addresses tree = end_address ∷ in_part 0 (addresses (whole tree))
+use Rattle.regex_lite_engine.proofs.graph.ListedAddressLemmas.{whole_addresses, listed_whole}
+use Rattle.regex_lite_engine.proofs.graph.AmongLemmas.{address_number}
+use Rattle.regex_lite_engine.proofs.OptionLemmas.{not_there}
 
 -- numbers from the base on stand for the addresses of a list in its order
 abbrev pub numbering_of : (base : ℕ) → List Address → Numbering
@@ -60,14 +57,10 @@ row_of base all before (a ∷ list) e =
       subst (λ n. InRow (numbering_of base all) (1 ∷ []) n list) same later,
     )
 
-none_here : (q : ℕ) (place : Place ℕ) → slice_get {X = Place ℕ} [] q ≡ Some place → ⊥
-none_here zero place e = cc
-none_here (suc q) place e = cc
-
 pub is_at_number : (by : Numbering) (content : Address → Content) (list : List Address)
     (ps : List (Place ℕ)) → AreAt by content list ps → (q : ℕ) (place : Place ℕ)
     → slice_get ps q ≡ Some place → IsAt by content (get_or list q []) place
-is_at_number by content [] [] r q place e = absurd (none_here q place e)
+is_at_number by content [] [] r q place e = absurd (not_there e)
 is_at_number by content [] (p ∷ ps) r q place e = absurd r
 is_at_number by content (a ∷ list) [] r q place e = absurd r
 is_at_number by content (a ∷ list) (p ∷ ps) r zero place e =
@@ -91,14 +84,6 @@ apart_whole tree =
     let inner = apart_part 0 list (apart_addresses (whole tree)) in
     let in_tree = each_in_part 0 list in
     apart_first end_address (InPart 0) (λ r. omega arith) (in_part 0 list) in_tree inner
-
-pub listed_whole : (tree : Tree) (a : Address) (place : Place Address)
-    → written_out tree a ≡ Some place → Among a (whole_addresses tree)
-listed_whole tree (zero ∷ []) place e = inl refl
-listed_whole tree (suc zero ∷ a) place e =
-    let inner = listed_tree (whole tree) (1 ∷ []) end_address a place e in
-    inr (among_part 0 a (addresses (whole tree)) inner)
-listed_whole tree a place e = absurd (cc)
 
 module _ (tree : Tree) (regular : IsRegular tree) where
   abbrev all : List Address
@@ -151,7 +136,7 @@ module _ (tree : Tree) (regular : IsRegular tree) where
   each_numbered : (a : Address) (place : Place Address) → written_out tree a ≡ Some place
       → (q : ℕ) × (q < length (whole_table tree)) × ((by 0).address q ≡ a)
   each_numbered a place e =
-      let number = number_of a all (listed_whole tree a place e) in
+      let number = address_number a all (listed_whole tree a place e) in
       (number.0, omega (arith, as_long, number.1), at_zero number.0 ∙ number.2)
 
   arrows_inside : (q : ℕ) (place : Place ℕ) → slice_get (whole_table tree) q ≡ Some place

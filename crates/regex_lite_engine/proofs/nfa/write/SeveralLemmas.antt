@@ -7,7 +7,7 @@ use Rattle.std.proofs.Common.{map, option_map, nat_lt, true, false, if◌then◌
 use Rattle.std.proofs.Math.Seq.{take-append_seam, drop-append-add}
 use Rattle.std.proofs.lemmas.Bool.{cases_lt}
 use Rattle.std.proofs.lemmas.Bool.Decides.{nat_tests}
-use Rattle.std.proofs.lemmas.List.Sums.{sum_by-cons}
+use Rattle.std.proofs.lemmas.List.Sums.{sum_by-cons, sum_by-append}
 use Rattle.std.proofs.lemmas.Option.{slice_get_within}
 use Rattle.regex_lite_syntax.specs.Tree.{Tree}
 use Rattle.regex_lite_syntax.specs.Tree.Regular.{IsRegular}
@@ -23,21 +23,23 @@ use Rattle.regex_lite_engine.specs.Graph.Renumbered.{arrow_count, arrows_of}
 use Rattle.regex_lite_engine.specs.Graph.Renumbered.{IsRenumbered, IsNumberOf}
 use Rattle.regex_lite_engine.specs.Graph.SideBySide.{in_pattern, side_by_side, start_of}
 use Rattle.regex_lite_engine.specs.Graph.SideBySide.{places_of_all, arrows_of_all, AreEntries}
-use Rattle.regex_lite_engine.specs.Search.AnswerOfList.{HasTree}
+use Rattle.regex_lite_engine.specs.Graph.SideBySide.{HasTree}
 use Rattle.regex_lite_engine.specs.Nfa.Layout.{pattern_layout, pattern_table}
 use Rattle.regex_lite_engine.specs.Nfa.Layout.{patterns_table, patterns_entries}
-use Rattle.regex_lite_engine.proofs.laws.LeadsLemmas.{same_some}
 use Rattle.regex_lite_engine.proofs.laws.search.NamedWayLemmas.{mapped_back}
 use Rattle.regex_lite_engine.proofs.laws.several.PartLemmas.{renamed_twice}
-use Rattle.regex_lite_engine.proofs.nfa.count.ArrowCountLemmas.{arrows_pattern}
-use Rattle.regex_lite_engine.proofs.nfa.count.PlaceCountLemmas.{length_pattern}
-use Rattle.regex_lite_engine.proofs.nfa.write.AmongLemmas.{number_of}
+use Rattle.regex_lite_engine.proofs.count.ArrowCountLemmas.{arrows_pattern}
+use Rattle.regex_lite_engine.proofs.count.PlaceCountLemmas.{length_pattern}
 use Rattle.regex_lite_engine.proofs.nfa.write.ApartLemmas.{apart_get}
 use Rattle.regex_lite_engine.proofs.nfa.write.NumberingLemmas.{IsAt, Stands, as_many}
-use Rattle.regex_lite_engine.proofs.nfa.write.RenumberingLemmas.{whole_addresses, numbering_of}
+use Rattle.regex_lite_engine.proofs.nfa.write.RenumberingLemmas.{numbering_of}
 use Rattle.regex_lite_engine.proofs.nfa.write.RenumberingLemmas.{is_at_number, apart_whole}
-use Rattle.regex_lite_engine.proofs.nfa.write.RenumberingLemmas.{listed_whole, pattern_start}
+use Rattle.regex_lite_engine.proofs.nfa.write.RenumberingLemmas.{pattern_start}
 use Rattle.regex_lite_engine.proofs.nfa.write.RenumberingLemmas.{pattern_is, leads_below}
+use Rattle.regex_lite_engine.proofs.graph.ListedAddressLemmas.{whole_addresses, listed_whole}
+use Rattle.regex_lite_engine.proofs.graph.AmongLemmas.{address_number}
+use Rattle.regex_lite_engine.proofs.LookupLemmas.{get_left, get_right}
+use Rattle.regex_lite_engine.proofs.OptionLemmas.{not_there, same_some}
 
 -- names that agree on the numbers to which a place leads
 renamed_arrows_alike : {A : Type 0} (Part : ℕ → Type 0) (f g : ℕ → A)
@@ -69,27 +71,11 @@ leads_up : (first end last : ℕ) → end ≤ last → (place : Place ℕ)
 leads_up first end last le complete into = tt
 leads_up first end last le (with_arrows arrows) into = lead_up first end last le arrows into
 
-get_left : {X : Type 0} (xs ys : List X) (q : ℕ) → q < length xs
-    → slice_get (xs ++ ys) q ≡ slice_get xs q
-get_left [] ys q less = absurd (omega (arith, less))
-get_left (x ∷ xs) ys zero less = refl
-get_left (x ∷ xs) ys (suc q) less = get_left xs ys q (omega (arith, less))
-
-get_right : {X : Type 0} (xs ys : List X) (q : ℕ)
-    → slice_get (xs ++ ys) (length xs + q) ≡ slice_get ys q
-get_right [] ys q = let same : 0 + q ≡ q = omega arith in ap (slice_get ys) same
-get_right (x ∷ xs) ys q =
-    let same : suc (length xs) + q ≡ suc (length xs + q) = omega arith in
-    ap (slice_get (x ∷ (xs ++ ys))) same ∙ get_right xs ys q
-
 -- how many places lie before the pattern with this number
 abbrev before : List Tree → ℕ → ℕ
 before [] number = 0
 before (tree ∷ trees) zero = 0
 before (tree ∷ trees) (suc number) = whole_places tree + before trees number
-
-none_there : (k : ℕ) (tree : Tree) → HasTree [] k tree → ⊥
-none_there k tree e = cc
 
 -- all their places
 abbrev total : List Tree → ℕ
@@ -104,40 +90,23 @@ total_is (tree ∷ trees) =
 length_table : (trees : List Tree) (base : ℕ) → length (patterns_table trees base) ≡ total trees
 length_table [] base = refl
 length_table (tree ∷ trees) base =
-    omega (
-      arith,
-      length-append (pattern_table tree base) (patterns_table trees (base + whole_places tree)),
-      length_pattern tree base,
-      length_table trees (base + whole_places tree),
-    )
+    let later = base + whole_places tree in
+    let both = length-append (pattern_table tree base) (patterns_table trees later) in
+    omega (arith, both, length_pattern tree base, length_table trees later)
 
 -- there are as many places as all patterns have, and as many arrows
 pub places_add_up : (trees : List Tree) (base : ℕ)
     → length (patterns_table trees base) ≡ places_of_all trees
 places_add_up trees base = length_table trees base ∙ sym (total_is trees)
 
-arrows_both : (ps qs : List (Place ℕ)) → arrows_of (ps ++ qs) ≡ arrows_of ps + arrows_of qs
-arrows_both [] qs = omega arith
-arrows_both (p ∷ ps) qs =
-    omega (
-      arith,
-      sum_by-cons arrow_count p (ps ++ qs),
-      sum_by-cons arrow_count p ps,
-      arrows_both ps qs,
-    )
-
 pub arrows_add_up : (trees : List Tree) (base : ℕ)
     → arrows_of (patterns_table trees base) ≡ arrows_of_all trees
 arrows_add_up [] base = refl
 arrows_add_up (tree ∷ trees) base =
     let later = base + whole_places tree in
-    omega (
-      arith,
-      arrows_both (pattern_table tree base) (patterns_table trees later),
-      arrows_pattern tree base,
-      arrows_add_up trees later,
-      sum_by-cons whole_arrows tree trees,
-    )
+    let both = sum_by-append arrow_count (pattern_table tree base) (patterns_table trees later) in
+    let sum = sum_by-cons whole_arrows tree trees in
+    omega (arith, both, sum, arrows_pattern tree base, arrows_add_up trees later)
 
 -- what a number stands for, where the first pattern has number k and its places begin at the base
 abbrev name_from : List Tree → (k base : ℕ) → ℕ → Address
@@ -160,7 +129,7 @@ named : (trees : List Tree) (k base number : ℕ) (tree : Tree) → HasTree tree
     → q < whole_places tree
     → name_from trees k base (base + before trees number + q)
     ≡ (k + number) ∷ get_or (whole_addresses tree) q []
-named [] k base number tree there q less = absurd (none_there number tree there)
+named [] k base number tree there q less = absurd (not_there there)
 named (own ∷ trees) k base zero tree there q less =
     let same : own ≡ tree = same_some there in
     let few : q < whole_places own = subst (λ t. q < whole_places t) (sym same) less in
@@ -186,7 +155,7 @@ placed : (trees : List Tree) (base number : ℕ) (tree : Tree) → HasTree trees
     → q < whole_places tree
     → slice_get (patterns_table trees base) (before trees number + q)
     ≡ slice_get (pattern_table tree (base + before trees number)) q
-placed [] base number tree there q less = absurd (none_there number tree there)
+placed [] base number tree there q less = absurd (not_there there)
 placed (own ∷ trees) base zero tree there q less =
     let same : own ≡ tree = same_some there in
     let few : q < whole_places own = subst (λ t. q < whole_places t) (sym same) less in
@@ -212,7 +181,7 @@ placed (own ∷ trees) base (suc number) tree there q less =
 entered : (trees : List Tree) (base number : ℕ) (tree : Tree) → HasTree trees number tree
     → slice_get (patterns_entries trees base) number
     ≡ Some (pattern_layout tree (base + before trees number)).1
-entered [] base number tree there = absurd (none_there number tree there)
+entered [] base number tree there = absurd (not_there there)
 entered (own ∷ trees) base zero tree there =
     let same : own ≡ tree = same_some there in
     let at : base ≡ base + 0 = omega arith in
@@ -225,7 +194,7 @@ entered (own ∷ trees) base (suc number) tree there =
 
 fits_in : (trees : List Tree) (number : ℕ) (tree : Tree) → HasTree trees number tree
     → before trees number + whole_places tree ≤ total trees
-fits_in [] number tree there = absurd (none_there number tree there)
+fits_in [] number tree there = absurd (not_there there)
 fits_in (own ∷ trees) zero tree there =
     let same = ap whole_places (same_some there) in omega (arith, same)
 fits_in (own ∷ trees) (suc number) tree there =
@@ -268,7 +237,7 @@ located (tree ∷ trees) q less = elim (cases_lt q (whole_places tree)) [
 row_is : (trees : List Tree) (base number : ℕ) (tree : Tree) → HasTree trees number tree
     → row_of (patterns_table trees base) (before trees number) (whole_places tree)
     ≡ pattern_table tree (base + before trees number)
-row_is [] base number tree there = absurd (none_there number tree there)
+row_is [] base number tree there = absurd (not_there there)
 row_is (own ∷ trees) base zero tree there =
     let first = pattern_table own base in
     let rest = patterns_table trees (base + whole_places own) in
@@ -443,7 +412,7 @@ module _ (trees : List Tree)
         in_tree number tree there a place e =
             let back = mapped_back (renamed (λ b. number ∷ b)) (written_out tree a) place e in
             let (q, less, at) =
-            number_of a (whole_addresses tree) (listed_whole tree a back.0 back.1) in
+            address_number a (whole_addresses tree) (listed_whole tree a back.0 back.1) in
             let few : q < whole_places tree =
             omega (arith, less, many_addresses number tree there) in (
               before trees number + q,
@@ -558,10 +527,7 @@ module _ (trees : List Tree)
         only_entry zero e is =
             let same = first_is ∙ same_some is in
             (omega (arith, begins.1.0, same), omega (arith, begins.1.1, same, addresses))
-        only_entry (suc k) e is = absurd (not_there k is)
-          where
-            not_there : (k : ℕ) → slice_get {X = ℕ} [] k ≡ Some e → ⊥
-            not_there k is = cc
+        only_entry (suc k) e is = absurd (not_there is)
 
         closed : (q : ℕ) (place : Place ℕ) → IsWithin base (whole_places tree) q
             → slice_get table q ≡ Some place → LeadsInto (IsWithin base (whole_places tree)) place

@@ -1,7 +1,7 @@
 -- What stays where more cells are made ready.
 use Rattle.std.proofs.Common.{◌≡◌, ℕ, Bool, zero, suc, ◌+◌, ◌-◌, ◌≤◌, ◌<◌, List, [], ◌∷◌, ◌++◌}
 use Rattle.std.proofs.Common.{length, map, take, reverse, replicate, set, slice_index}
-use Rattle.std.proofs.Common.{slice_index_or, refl, sym, ap, ◌∙◌, arith, length-append, length-set}
+use Rattle.std.proofs.Common.{slice_index_or, refl, sym, ap, ◌∙◌, arith, length-append}
 use Rattle.std.proofs.lemmas.List.{get_or-append_right, get_or-take, length-map, length-replicate}
 use Rattle.std.proofs.lemmas.List.{length-take, map-set, set-append_right, take-take}
 use Rattle.regex_lite_engine.specs.declared.pikevm.cell.Cell.{Cell}
@@ -195,11 +195,6 @@ rounds_long low cells = omega (
   length-map cells round_in,
 )
 
-pub no_cells : {S : Type 0} (cells : List (Cell S)) → cells ≡ [] → (q : ℕ)
-    → slice_index (map round_in cells) q ≤ 0
-no_cells [] e q = omega arith
-no_cells (x ∷ cells) e q = cc
-
 -- where no cell has a round, no place does
 pub none_entered : {S : Type 0} (low : ℕ) (cells : List (Cell S))
     → ((q : ℕ) → slice_index (map round_in cells) q ≤ 0) → (q : ℕ)
@@ -207,25 +202,6 @@ pub none_entered : {S : Type 0} (low : ℕ) (cells : List (Cell S))
 none_entered zero cells none q = none q
 none_entered (suc low) cells none zero = omega arith
 none_entered (suc low) cells none (suc q) = none_entered low cells none q
-
--- a cell is written over
-pub together_still : {S : Type 0} (cells : List (Cell S)) (k : ℕ) (y : Cell S) (capacity low : ℕ)
-    (ready : Bool) (rows : List Row) (room depth len next_len : ℕ) →
-    HoldTogether cells capacity low ready rows room depth len next_len
-    → HoldTogether (set cells k y) capacity low ready rows room depth len next_len
-together_still cells k y capacity low ready rows room depth len next_len fit =
-    let same = length-set cells k y in
-    record {
-      all_ready = fit.all_ready;
-      cells_fit = omega (arith, same, fit.cells_fit);
-      frames_fit = omega (arith, same, fit.frames_fit);
-      threads_fit = omega (arith, same, fit.threads_fit);
-      next_fit = omega (arith, same, fit.next_fit);
-      threads_few = fit.threads_few;
-      next_few = fit.next_few;
-      room_few = omega (arith, same, fit.room_few);
-      rows_fit = fit.rows_fit;
-    }
 
 -- nothing is left
 pub none_left : {S : Type 0} (cells cells' : List (Cell S)) (capacity capacity' low : ℕ)

@@ -8,10 +8,10 @@ use Rattle.regex_lite_engine.specs.declared.prefilter.heads.Head.{Head}
 use Rattle.regex_lite_engine.specs.declared.prefilter.heads.Head.TheVariants.{Nothing, One, More}
 use Rattle.regex_lite_engine.specs.declared.prefilter.starts.Starts.{Starts}
 use Rattle.regex_lite_engine.specs.Prefilter.Heads.{Reads, ReadsEach}
-use Rattle.regex_lite_engine.specs.Prefilter.Starts.{MayBegin, IsGrown, BeginsOrPasses}
+use Rattle.regex_lite_engine.specs.Prefilter.Starts.{MayBegin, IsWider, BeginsOrPasses}
 use Rattle.regex_lite_engine.proofs.prefilter.starts.StartLemmas.{may_grown, passes_begin}
 
-pub reads_grown : (s t : Starts) (h : Text) (i j : ℕ) (head : Head) → IsGrown s t
+pub reads_grown : (s t : Starts) (h : Text) (i j : ℕ) (head : Head) → IsWider s t
     → Reads s h i j head → Reads t h i j head
 reads_grown s t h i j Nothing grown same = same
 reads_grown s t h i j One grown (inl one) = inl one
@@ -20,7 +20,7 @@ reads_grown s t h i j More grown second = may_grown s t h (suc i) grown second
 
 -- the passes after the first begin where it ends, or read nothing
 pub passes_read : (least : ℕ) (most : Option ℕ) (greedy : Bool) (body : Tree) (s t : Starts)
-    (passable : Bool) → 0 < least → IsGrown s t → ReadsEach body s One
+    (passable : Bool) → 0 < least → IsWider s t → ReadsEach body s One
     → BeginsOrPasses body t passable → ReadsEach (repetition least most greedy body) t One
 passes_read least most greedy body s t passable some grown first each h i j (n, low, high, passes) =
     by_passes n (omega (arith, some, low)) passes
@@ -35,15 +35,6 @@ passes_read least most greedy body s t passable some grown first each h i j (n, 
         | inr same ↦ inl (sym same ∙ next)
       ]
     ]
-
-pub passes_more : (least : ℕ) (most : Option ℕ) (greedy : Bool) (body : Tree) (s : Starts)
-    → 0 < least → ReadsEach body s More → ReadsEach (repetition least most greedy body) s More
-passes_more least most greedy body s some first h i j (n, low, high, passes) =
-    by_passes n (omega (arith, some, low)) passes
-  where
-    by_passes : (n : ℕ) → 0 < n → Passes (Matches h body) n i j → MayBegin s h (suc i)
-    by_passes zero lt none = absurd (omega (arith, lt))
-    by_passes (suc n) lt (k, one, rest) = first h i k one
 
 -- one that isn't nothing
 pub as_one : (s : Starts) (h : Text) (i j : ℕ) (head : Head) → (head ≡ One) ⊎ (head ≡ More)

@@ -5,10 +5,11 @@ use Rattle.std.proofs.Common.{if◌then◌else◌, List, [], ◌∷◌, ◌++◌
 use Rattle.std.proofs.Common.{Option, Some, None, ap, sym, subst, ◌∙◌, arith}
 use Rattle.std.specs.Prelude.{MatchOption}
 use Rattle.std.specs.List.{list_any}
-use Rattle.std.proofs.lemmas.Bool.{cases_lt, cases_eq}
+use Rattle.std.proofs.lemmas.Bool.{cases_lt, cases_eq, or_parts}
 use Rattle.std.proofs.lemmas.Bool.Decides.{nat_tests}
 use Rattle.std.proofs.lemmas.List.{length-append}
 use Rattle.std.proofs.lemmas.Option.{slice_get_past, slice_get_within}
+use Rattle.std.proofs.Math.Bool.{or-false}
 use Rattle.regex_lite_syntax.specs.Tree.{Tree}
 use Rattle.regex_lite_engine.specs.declared.prefilter.heads.Heads.{Heads}
 use Rattle.regex_lite_engine.specs.declared.prefilter.list_heads.ListHeads.{ListHeads}
@@ -18,27 +19,14 @@ use Rattle.regex_lite_engine.specs.Prefilter.ListHeads.{column, first_row, goes_
 use Rattle.regex_lite_engine.specs.Prefilter.ListHeads.{IsIndexOf, IsWalkable, one_belongs}
 use Rattle.regex_lite_engine.specs.Prefilter.ListHeads.{second_row}
 use Rattle.regex_lite_engine.specs.Prefilter.Starts.{begins_with}
-use Rattle.regex_lite_engine.proofs.search.OptionLemmas.{same_some}
-
-pub get_before : {X : Type 0} (xs : List X) (x : X) (k : ℕ) → k < length xs
-    → slice_get (xs ++ x ∷ []) k ≡ slice_get xs k
-get_before [] x k lt = absurd (omega (arith, lt))
-get_before (y ∷ xs) x zero lt = refl
-get_before (y ∷ xs) x (suc k) lt = get_before xs x k (omega (arith, lt))
-
-pub get_last : {X : Type 0} (xs : List X) (x : X) → slice_get (xs ++ x ∷ []) (length xs) ≡ Some x
-get_last [] x = refl
-get_last (y ∷ xs) x = get_last xs x
+use Rattle.regex_lite_engine.proofs.OptionLemmas.{same_some}
+use Rattle.regex_lite_engine.proofs.LookupLemmas.{get_left, get_last}
 
 pub get_behind : {X : Type 0} (xs : List X) (x : X) (k : ℕ) → length xs < k
     → slice_get (xs ++ x ∷ []) k ≡ None
 get_behind xs x k lt =
     let more = length-append xs (x ∷ []) in
     slice_get_past (xs ++ x ∷ []) k (omega (arith, more, lt))
-
-or_false : (b : Bool) → (b || false) ≡ b
-or_false true = refl
-or_false false = refl
 
 -- whether the last of the parts belongs, and whether one of the others does
 pub belongs_with : (parts : List Heads) (part : Heads) (n row : ℕ)
@@ -55,21 +43,15 @@ belongs_with parts part n row = elim (cases_eq n (length parts)) [
   | inr apart ↦
       let off : (n == length parts) ≡ false = grind (arith, nat_tests) in
       ap (λ b. one_belongs (slice_get parts n) row || (b && belongs part row)) off
-      ∙ or_false (one_belongs (slice_get parts n) row)
+      ∙ or-false (one_belongs (slice_get parts n) row)
       ∙ ap (λ o. one_belongs o row) (sym (same_get (cases_lt n (length parts)) apart))
 ]
   where
     same_get : (n < length parts) ⊎ (length parts ≤ n) → (n ≡ length parts → ⊥)
         → slice_get (parts ++ part ∷ []) n ≡ slice_get parts n
-    same_get (inl lt) apart = get_before parts part n lt
+    same_get (inl lt) apart = get_left parts (part ∷ []) n lt
     same_get (inr le) apart =
-        get_behind parts part n (above le apart) ∙ sym (slice_get_past parts n le)
-      where
-        above : length parts ≤ n → (n ≡ length parts → ⊥) → length parts < n
-        above le apart = elim (cases_lt (length parts) n) [
-          | inl lt ↦ lt
-          | inr ge ↦ absurd (apart (omega (arith, le, ge)))
-        ]
+        get_behind parts part n (omega (arith, le, apart)) ∙ sym (slice_get_past parts n le)
 
 -- with the heads of one tree more
 pub heads_of_more : (trees : List Tree) (parts : List Heads) (tree : Tree) (part : Heads)
@@ -93,26 +75,16 @@ heads_of_more trees parts tree part w of_tree = record {
     by_place k t p has_tree has_part (inr apart) =
         let within = slice_get_within (trees ++ tree ∷ []) k t has_tree in
         let more = length-append trees (tree ∷ []) in
-        let below = less k apart (omega (arith, within, more)) in
-        w.each k t p (sym (get_before trees tree k below) ∙ has_tree)
-        (sym (get_before parts part k (omega (arith, below, w.all))) ∙ has_part)
-      where
-        less : (k : ℕ) → (k ≡ length trees → ⊥) → k < length trees + 1 → k < length trees
-        less k apart lt = elim (cases_lt k (length trees)) [
-          | inl below ↦ below
-          | inr ge ↦ absurd (apart (omega (arith, lt, ge)))
-        ]
-
-neither : (a b : Bool) → (a || b) ≡ false → (a ≡ false) × (b ≡ false)
-neither true b e = cc
-neither false b e = (refl, e)
+        let below : k < length trees = omega (arith, within, more, apart) in
+        w.each k t p (sym (get_left trees (tree ∷ []) k below) ∙ has_tree)
+        (sym (get_left parts (part ∷ []) k (omega (arith, below, w.all))) ∙ has_part)
 
 -- what none of them does, this one doesn't
 none_does : {X : Type 0} (p : X → Bool) (xs : List X) (k : ℕ) → list_any p xs ≡ false
     → MatchOption (slice_get xs k) (Unit {0}) (λ x. p x ≡ false)
 none_does p [] k none = tt
-none_does p (x ∷ xs) zero none = (neither (p x) (list_any p xs) none).0
-none_does p (x ∷ xs) (suc k) none = none_does p xs k (neither (p x) (list_any p xs) none).1
+none_does p (x ∷ xs) zero none = (or_parts (p x) (list_any p xs) none).0
+none_does p (x ∷ xs) (suc k) none = none_does p xs k (or_parts (p x) (list_any p xs) none).1
 
 -- an index can be walked over
 pub walkable : (parts : List Heads) (heads : ListHeads) → IsIndexOf parts heads

@@ -4,7 +4,7 @@ use Rattle.std.proofs.Common.{◌^◌, ◌<◌, ◌≤◌, inl, inr, Bool, true,
 use Rattle.std.proofs.Common.{[], ◌∷◌, ◌++◌, bit_and, ap, sym, ◌∙◌, arith, w64}
 use Rattle.std.specs.Int.{bit_at, bit_not, trailing_zeros}
 use Rattle.std.specs.List.{filter, range_with_len}
-use Rattle.std.proofs.lemmas.Bool.{cases_eq, cases_lt}
+use Rattle.std.proofs.lemmas.Bool.{cases_eq}
 use Rattle.std.proofs.lemmas.Nat.{and_le_l}
 use Rattle.std.proofs.lemmas.Nat.Bits.{bit_at-trailing_zeros, bit_at-zero}
 use Rattle.std.proofs.lemmas.Nat.Bits.{bit_at_clear_same, bit_at_clear_other}
@@ -57,7 +57,7 @@ filter_first p q a (suc n) z low high set clear before others = elim (cases_eq a
       (filter q (range_with_len (a + 1) n))) gone
       ∙ ap (λ x. z ∷ x) rest)
   | inr apart ↦
-      let above : a + 1 ≤ z = next a z low apart in
+      let above : a + 1 ≤ z = omega (arith, low, apart) in
       let off : p a ≡ false = before a (omega arith) (omega (arith, above)) in
       let off_too : q a ≡ false = others a (omega arith) (omega arith) apart ∙ off in
       ap (λ b. cond b (a ∷ filter p (range_with_len (a + 1) n))
@@ -69,12 +69,6 @@ filter_first p q a (suc n) z low high set clear before others = elim (cases_eq a
       ∙ sym (ap (λ b. z ∷ cond b (a ∷ filter q (range_with_len (a + 1) n))
       (filter q (range_with_len (a + 1) n))) off_too)
 ]
-  where
-    next : (a z : ℕ) → a ≤ z → (a ≡ z → ⊥) → a + 1 ≤ z
-    next a z le apart = elim (cases_lt a z) [
-      | inl lt ↦ omega (arith, lt)
-      | inr ge ↦ absurd (apart (omega (arith, le, ge)))
-    ]
 
 pub range_parts : (a m n : ℕ) → range_with_len a (m + n)
     ≡ range_with_len a m ++ range_with_len (a + m) n
@@ -106,9 +100,6 @@ module _ (word : ℕ) (some : 0 < word) (small : word < 2 ^ 64) where
       × ((i : ℕ) → i < lowest_bit → bit_at word i ≡ 0)
   is_lowest = bit_at-trailing_zeros w64 word some small
 
-  pub lowest_within : lowest_bit < 64
-  lowest_within = is_lowest.0
-
   gone : bit_at without_lowest lowest_bit ≡ 0
   gone = bit_at_clear_same w64 word lowest_bit is_lowest.0
 
@@ -121,15 +112,10 @@ module _ (word : ℕ) (some : 0 < word) (small : word < 2 ^ 64) where
         let both : bit_at without_lowest lowest_bit ≡ bit_at word lowest_bit =
         ap (λ x. bit_at x lowest_bit) same in
         absurd (omega (arith, both, gone, is_lowest.1))
-    | inr apart ↦ below without_lowest
-        (and_le_l word (bit_not w64 (1 * 2 ^ lowest_bit % 2 ^ 64))) apart
+    | inr apart ↦
+        let le = and_le_l word (bit_not w64 (1 * 2 ^ lowest_bit % 2 ^ 64)) in
+        omega (arith, le, apart)
   ]
-    where
-      below : (a : ℕ) → a ≤ word → (a ≡ word → ⊥) → a < word
-      below a le apart = elim (cases_lt a word) [
-        | inl lt ↦ lt
-        | inr ge ↦ absurd (apart (omega (arith, le, ge)))
-      ]
 
   pub lowest_comes_first : (lowest : ℕ)
       → set_from lowest word ≡ (lowest + lowest_bit) ∷ set_from lowest without_lowest

@@ -7,50 +7,13 @@ use Rattle.std.specs.Int.{bit_at}
 use Rattle.std.specs.Prelude.{replicate}
 use Rattle.std.proofs.lemmas.Bool.{cases_lt, cases_eq}
 use Rattle.std.proofs.lemmas.Bool.Decides.{nat_tests}
-use Rattle.std.proofs.lemmas.Nat.Bits.{bit_at-zero}
+use Rattle.std.proofs.Math.Bool.{or-false}
 use Rattle.regex_lite_syntax.specs.AsciiMaps.{bit_of_words}
 use Rattle.regex_lite_engine.specs.declared.prefilter.heads.Heads.{Heads}
 use Rattle.regex_lite_engine.specs.declared.prefilter.list_heads.ascii_set.AsciiSet.{AsciiSet}
 use Rattle.regex_lite_engine.specs.Prefilter.ListHeads.{begins_with_pair, in_set, in_some_set}
-use Rattle.regex_lite_engine.proofs.prefilter.list_heads.RowBitLemmas.{bit_is_set}
 use Rattle.regex_lite_engine.proofs.prefilter.list_heads.WalkLemmas.{bit_of_either}
-
-one_inserted : (words : List ℕ) → length words ≡ 2 → (code : ℕ) → code < 128
-    → (other : ℕ) → other < 128
-    → (bit_of_words (slice_set words (code / 64) (bit_or (slice_index words (code / 64))
-    (1 * 2 ^ (code % 64) % 18446744073709551616))) other == 1)
-    ≡ ((bit_of_words words other == 1) || other == code)
-one_inserted words all code code_in other other_in =
-    let at : 0 * 2 + code / 64 ≡ code / 64 = omega arith in
-    let from : 64 * (0 * 2) + other ≡ other = omega arith in
-    let inside : 0 * 2 + code / 64 < length words = omega (arith, all, code_in) in
-    let told = bit_is_set words 2 0 code inside (omega (arith, code_in)) 0 other
-    (omega (arith, other_in)) in
-    sym (ap (λ k. bit_of_words (slice_set words k (bit_or (slice_index words k)
-    (1 * 2 ^ (code % 64) % 18446744073709551616))) other == 1) at)
-    ∙ sym (ap (λ n. bit_of_words (slice_set words (0 * 2 + code / 64)
-    (bit_or (slice_index words (0 * 2 + code / 64))
-    (1 * 2 ^ (code % 64) % 18446744073709551616))) n == 1) from)
-    ∙ told
-    ∙ ap (λ n. (bit_of_words words n == 1) || (other == code && 0 == 0)) from
-    ∙ ap (λ b. (bit_of_words words other == 1) || b) (with_true (other == code))
-  where
-    with_true : (b : Bool) → (b && true) ≡ b
-    with_true true = refl
-    with_true false = refl
-
-zeros : (other : ℕ) → other < 128 → (bit_of_words (0 ∷ (0 ∷ [])) other == 1) ≡ false
-zeros other other_in = elim (cases_lt other 64) [
-  | inl lt ↦ at 0 refl (omega (arith, lt))
-  | inr le ↦ at 1 refl (omega (arith, le, other_in))
-]
-  where
-    at : (k : ℕ) → slice_index (0 ∷ (0 ∷ [])) k ≡ 0 → other / 64 ≡ k
-        → (bit_of_words (0 ∷ (0 ∷ [])) other == 1) ≡ false
-    at k word e =
-        ap (λ k. bit_at (slice_index (0 ∷ (0 ∷ [])) k) (other % 64) == 1) e
-        ∙ ap (λ z. bit_at z (other % 64) == 1) word
-        ∙ ap (λ b. b == 1) (bit_at-zero (other % 64))
+use Rattle.regex_lite_engine.proofs.WordBitLemmas.{bit_told, zero_bit}
 
 -- two words with one bit
 pub just_one : (code : ℕ) → code < 128 → (other : ℕ) → other < 128
@@ -58,8 +21,7 @@ pub just_one : (code : ℕ) → code < 128 → (other : ℕ) → other < 128
     (bit_or (slice_index (0 ∷ (0 ∷ [])) (code / 64))
     (1 * 2 ^ (code % 64) % 18446744073709551616))) other == 1) ≡ (other == code)
 just_one code code_in other other_in =
-    one_inserted (0 ∷ (0 ∷ [])) refl code code_in other other_in
-    ∙ ap (λ b. b || other == code) (zeros other other_in)
+    bit_told (0 ∷ (0 ∷ [])) code code_in other ∙ ap (λ b. b || other == code) (zero_bit 2 other)
 
 -- each word of two has the bits of both
 pub both_added : (xs ys : List ℕ) (code : ℕ) → code < 128
@@ -106,10 +68,6 @@ set_beside (y ∷ xs) zero (suc i) x apart = refl
 set_beside (y ∷ xs) (suc k) zero x apart = refl
 set_beside (y ∷ xs) (suc k) (suc i) x apart = set_beside xs k i x (λ e. apart (ap suc e))
 
-or_off : (b : Bool) → (b || false) ≡ b
-or_off true = refl
-or_off false = refl
-
 -- The pairs with one first character more. Those of the first characters below it were added before
 module _ (before : ℕ → ℕ → Bool) (part : Heads) (first : ℕ) where
   abbrev pub AddedBelow : (end : ℕ) → List AsciiSet → Type 0
@@ -128,25 +86,19 @@ module _ (before : ℕ → ℕ → Bool) (part : Heads) (first : ℕ) where
             let two : nat_lt a (first + 1) ≡ true = grind (arith, nat_tests) in
             one ∙ sym two
         | inr le ↦
-            let above : first < a = more a le apart in
+            let above : first < a = omega (arith, le, apart) in
             let one : nat_lt a first ≡ false = grind (arith, nat_tests) in
             let two : nat_lt a (first + 1) ≡ false = grind (arith, nat_tests) in
             one ∙ sym two
       ] in
       ap (λ t. before a b || (t && begins_with_pair a b part)) same
-    where
-      more : (a : ℕ) → first ≤ a → (a ≡ first → ⊥) → first < a
-      more a le apart = elim (cases_lt first a) [
-        | inl lt ↦ lt
-        | inr ge ↦ absurd (apart (omega (arith, le, ge)))
-      ]
 
   here_before : (b : ℕ) → (before first b || (nat_lt first first && begins_with_pair first b part))
       ≡ before first b
   here_before b =
       let off : nat_lt first first ≡ false = grind (arith, nat_tests) in
       ap (λ t. before first b || (t && begins_with_pair first b part)) off
-      ∙ or_off (before first b)
+      ∙ or-false (before first b)
 
   here_after : (b : ℕ) → (before first b || begins_with_pair first b part)
       ≡ (before first b || (nat_lt first (first + 1) && begins_with_pair first b part))
@@ -163,7 +115,7 @@ module _ (before : ℕ → ℕ → Bool) (part : Heads) (first : ℕ) where
         ap (λ k. in_some_set (slice_get pairs k) b) same
         ∙ so_far first b (omega (arith, same, a_in)) b_in
         ∙ here_before b
-        ∙ sym (or_off (before first b))
+        ∙ sym (or-false (before first b))
         ∙ sym (ap (λ t. before first b || t) (off b))
         ∙ here_after b
         ∙ sym (ap (λ k. before k b || (nat_lt k (first + 1) && begins_with_pair k b part)) same)

@@ -10,7 +10,7 @@ use Rattle.std.proofs.Math.Seq.{get_or-append_seam}
 use Rattle.std.proofs.lemmas.Bool.{cases_eq, cases_lt}
 use Rattle.std.proofs.lemmas.Nat.Bits.{bit_at_ones, bit_at_set_same, bit_at_set_other}
 use Rattle.std.proofs.lemmas.Option.{slice_get-get_or, slice_get_cases, slice_get_past}
-use Rattle.std.proofs.lemmas.Option.{slice_get_within, get_or_from_slice_get}
+use Rattle.std.proofs.lemmas.Option.{slice_get_within, get_or_from_slice_get, none-some}
 use Rattle.regex_lite_syntax.specs.Text.{Text, after}
 use Rattle.regex_lite_syntax.specs.Tree.{Tree}
 use Rattle.regex_lite_syntax.specs.Tree.Matches.{Matches}
@@ -19,7 +19,7 @@ use Rattle.regex_lite_engine.specs.declared.prefilter.starts.Starts.{Starts}
 use Rattle.regex_lite_engine.specs.Prefilter.Starts.{begins_with, may_begin}
 use Rattle.regex_lite_engine.specs.Prefilter.Thirds.{in_mask, in_some_mask, may_go_on}
 use Rattle.regex_lite_engine.specs.Prefilter.Thirds.{AreMasksOf, IsThirdOfTree}
-use Rattle.regex_lite_engine.proofs.search.OptionLemmas.{same_some}
+use Rattle.regex_lite_engine.proofs.OptionLemmas.{same_some}
 
 pub all_in_mask : (c : ℕ) → in_mask (2 ^ 32 - 1) c ≡ true
 all_in_mask c = ap (λ bit. bit == 1) (bit_at_ones 32 (c % 32) (omega arith))
@@ -51,27 +51,21 @@ pub stuck_matches : (thirds : Thirds) (k : ℕ) (tree : Tree)
     → (j : ℕ) → Matches haystack tree i j → ⊥
 stuck_matches thirds k tree told h i off j m = by_third (after h (suc (suc i))) refl off
   where
-    never : true ≡ false → ⊥
-    never e = cc
-
     by_mask : (o : Option ℕ) → slice_get thirds.masks.items k ≡ o → (c : ℕ)
         → after h (suc (suc i)) ≡ Some c → in_some_mask o c ≡ false → ⊥
-    by_mask None is c third e = never e
-    by_mask (Some mask) is c third e = never (sym (told mask is h i j c m third) ∙ e)
+    by_mask None is c third e = cc
+    by_mask (Some mask) is c third e = cc (told mask is h i j c m third)
 
     by_third : (o : Option ℕ) → after h (suc (suc i)) ≡ o → may_go_on thirds o k ≡ false → ⊥
-    by_third None third e = never e
+    by_third None third e = cc
     by_third (Some c) third e = by_mask (slice_get thirds.masks.items k) refl c third e
 
 -- after the end there is none
 pub none_later : (h : Text) (p : ℕ) → after h p ≡ None → after h (suc p) ≡ None
 none_later h p end = elim (slice_get_cases h p).1 [
-  | inl (c, inside, there, same) ↦ absurd (apart c (sym there ∙ end))
+  | inl (c, inside, there, same) ↦ absurd (none-some c (sym end ∙ there))
   | inr (beyond, none) ↦ slice_get_past h (suc p) (omega (arith, beyond))
 ]
-  where
-    apart : (c : ℕ) → Some c ≡ None → ⊥
-    apart c e = cc
 
 -- those that pass one test and then another
 pub filter_twice : (f g : ℕ → Bool) (numbers : List ℕ)

@@ -1,12 +1,13 @@
 -- Where the index leaves a pattern out, its tree does not match.
-use Rattle.std.proofs.Common.{◌≡◌, ℕ, zero, suc, refl, ◌+◌, ◌-◌, ◌<◌, inl, inr, ◌&&◌, ◌||◌}
-use Rattle.std.proofs.Common.{Bool, true, false, IsTrue, List, [], ◌∷◌, length, map, nat_lt}
+use Rattle.std.proofs.Common.{◌≡◌, ℕ, suc, refl, ◌+◌, ◌-◌, ◌<◌, inl, inr, ◌&&◌, ◌||◌}
+use Rattle.std.proofs.Common.{Bool, true, false, IsTrue, List, map, nat_lt}
 use Rattle.std.proofs.Common.{if◌then◌else◌, slice_get, Option, Some, None, ap, sym, ◌∙◌, arith}
+use Rattle.std.proofs.Common.{true≢false}
 use Rattle.std.specs.Prelude.{IfSome, is_none, option_map}
-use Rattle.std.specs.List.{list_any}
 use Rattle.std.proofs.lemmas.Bool.{cases_lt}
 use Rattle.std.proofs.lemmas.Bool.Decides.{nat_tests}
 use Rattle.std.proofs.lemmas.Option.{slice_get-map}
+use Rattle.std.proofs.lemmas.Map.Keys.{any_passes_from_place}
 use Rattle.regex_lite_syntax.specs.Text.{Text, before, after}
 use Rattle.regex_lite_syntax.specs.Tree.{Tree}
 use Rattle.regex_lite_syntax.specs.Tree.Matches.{Matches}
@@ -17,36 +18,18 @@ use Rattle.regex_lite_engine.specs.Prefilter.Heads.{AreHeadsOfTree, AreSecondOfT
 use Rattle.regex_lite_engine.specs.Prefilter.ListHeads.{belongs, column, first_row, goes_on_with}
 use Rattle.regex_lite_engine.specs.Prefilter.ListHeads.{has, may_start, may_start_at, one_belongs}
 use Rattle.regex_lite_engine.specs.Prefilter.ListHeads.{second_row, start_row, IsIndexOf}
-use Rattle.regex_lite_engine.specs.Prefilter.Starts.{begins_with, may_begin, IsGrown, IsUnionOf}
+use Rattle.regex_lite_engine.specs.Prefilter.Starts.{begins_with, may_begin, IsWider, IsUnionOf}
 use Rattle.regex_lite_engine.specs.Prefilter.Starts.{MayBegin}
 use Rattle.regex_lite_engine.proofs.prefilter.starts.StartLemmas.{begins_as_one, may_grown}
-use Rattle.regex_lite_engine.proofs.search.OptionLemmas.{not_there, same_some}
-
-any_member : {X : Type 0} (p : X → Bool) (xs : List X) (k : ℕ) (x : X) → slice_get xs k ≡ Some x
-    → p x ≡ true → list_any p xs ≡ true
-any_member p [] k x there is = absurd (not_there there)
-any_member p (y ∷ xs) zero x there is =
-    ap (λ b. b || list_any p xs) (ap p (same_some there) ∙ is)
-any_member p (y ∷ xs) (suc k) x there is =
-    ap (λ b. p y || b) (any_member p xs k x there is) ∙ either (p y)
-  where
-    either : (b : Bool) → (b || true) ≡ true
-    either true = refl
-    either false = refl
-
-pub there_is : {X : Type 0} (xs : List X) (k : ℕ) → k < length xs
-    → (x : X) × (slice_get xs k ≡ Some x)
-there_is [] k lt = absurd (omega (arith, lt))
-there_is (x ∷ xs) zero lt = (x, refl)
-there_is (x ∷ xs) (suc k) lt = there_is xs k (omega (arith, lt))
+use Rattle.regex_lite_engine.proofs.prefilter.list_heads.WalkLemmas.{column_in}
 
 member_grown : (many : List Starts) (all one : Starts) (k : ℕ) → IsUnionOf many all
-    → slice_get many k ≡ Some one → IsGrown one all
+    → slice_get many k ≡ Some one → IsWider one all
 member_grown many all one k w there = record {
   with = λ c is. (
-      w.with c ∙ any_member (λ part. begins_with part c) many k one there is);
+      w.with c ∙ any_passes_from_place (λ part. begins_with part c) many k one there is);
   at_start = λ is. (
-      w.at_start ∙ any_member (λ (part : Starts). part.at_start) many k one there is);
+      w.at_start ∙ any_passes_from_place (λ (part : Starts). part.at_start) many k one there is);
 }
 
 -- none of the patterns matches where none can begin
@@ -71,9 +54,6 @@ begins_in_column s c = elim (cases_lt c 128) [
       let wide : nat_lt c 128 ≡ false = grind (arith, nat_tests) in
       ap (λ b. begins_with s (if b then c else 128)) wide ∙ sym (begins_as_one s c le)
 ]
-
-column_in : (c : ℕ) → column c < 129
-column_in c = grind (arith, nat_tests)
 
 first_belongs : (part : Heads) (c : ℕ) → belongs part (first_row c) ≡ begins_with part.first c
 first_belongs part c =
@@ -169,11 +149,8 @@ module _ (parts : List Heads) (heads : ListHeads) (index : IsIndexOf parts heads
   left_out_matches tree of_tree h i off j m =
       let listed = is_listed (before h i) (after h i) (after h (suc i)) (of_tree.first h i j m)
       (by_second part.second of_tree.second) in
-      never (sym listed ∙ off)
+      true≢false (sym listed ∙ off)
     where
-      never : true ≡ false → ⊥
-      never e = cc
-
       by_second : (o : Option Starts) → IfSome o (AreSecondOfTree tree)
           → IfSome o (λ s. IsTrue (may_begin s (after h i) (after h (suc i))))
       by_second None told = tt

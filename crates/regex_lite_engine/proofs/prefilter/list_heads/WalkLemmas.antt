@@ -1,13 +1,15 @@
 -- The words of the rows, and the numbers of the patterns that may start.
-use Rattle.std.proofs.Common.{◌≡◌, ◌==◌, ℕ, zero, suc, refl, ◌+◌, ◌*◌, ◌-◌, ◌%◌, ◌<◌, ◌≤◌, ◌&&◌}
-use Rattle.std.proofs.Common.{◌||◌, Bool, true, false, cond, List, [], ◌∷◌, ◌++◌, length, min, max}
+use Rattle.std.proofs.Common.{◌≡◌, ◌==◌, ℕ, zero, suc, ◌+◌, ◌*◌, ◌-◌, ◌%◌, ◌<◌, ◌≤◌, ◌&&◌}
+use Rattle.std.proofs.Common.{◌||◌, Bool, true, false, cond, List, [], ◌∷◌, ◌++◌, length}
 use Rattle.std.proofs.Common.{bit_and, bit_or, slice_index, Option, Some, None, ap, sym, ◌∙◌, arith}
 use Rattle.std.specs.Int.{bit_at}
 use Rattle.std.specs.List.{filter, range_with_len}
 use Rattle.std.specs.Prelude.{is_none, option_map, unwrap_or}
 use Rattle.std.proofs.lemmas.Bool.Decides.{nat_tests}
+use Rattle.std.proofs.lemmas.Bool.{and_right}
 use Rattle.std.proofs.lemmas.List.{append-nil, length-append}
 use Rattle.std.proofs.lemmas.Nat.Bits.{bit_at-lt, bit_at_and, bit_at_or}
+use Rattle.std.proofs.Math.Bool.{and_self}
 use Rattle.regex_lite_engine.specs.declared.prefilter.list_heads.ListHeads.{ListHeads}
 use Rattle.regex_lite_engine.specs.declared.prefilter.list_heads.rows.Rows.{Rows}
 use Rattle.regex_lite_engine.specs.Prefilter.ListHeads.{column, first_row, has, may_start}
@@ -18,35 +20,19 @@ use Rattle.regex_lite_engine.proofs.prefilter.list_heads.NumberLemmas.{filter_no
 use Rattle.regex_lite_engine.proofs.prefilter.list_heads.NumberLemmas.{filter_parts, set_passes}
 use Rattle.regex_lite_engine.proofs.prefilter.list_heads.RowBitLemmas.{word_of_bit}
 
-both_bits : (a b : ℕ) → a < 2 → b < 2 → (min a b == 1) ≡ ((a == 1) && (b == 1))
-both_bits zero zero a_in b_in = refl
-both_bits zero (suc zero) a_in b_in = refl
-both_bits zero (suc (suc b)) a_in b_in = absurd (omega (arith, b_in))
-both_bits (suc zero) zero a_in b_in = refl
-both_bits (suc zero) (suc zero) a_in b_in = refl
-both_bits (suc zero) (suc (suc b)) a_in b_in = absurd (omega (arith, b_in))
-both_bits (suc (suc a)) b a_in b_in = absurd (omega (arith, a_in))
-
-one_bit : (a b : ℕ) → a < 2 → b < 2 → (max a b == 1) ≡ ((a == 1) || (b == 1))
-one_bit zero zero a_in b_in = refl
-one_bit zero (suc zero) a_in b_in = refl
-one_bit zero (suc (suc b)) a_in b_in = absurd (omega (arith, b_in))
-one_bit (suc zero) zero a_in b_in = refl
-one_bit (suc zero) (suc zero) a_in b_in = refl
-one_bit (suc zero) (suc (suc b)) a_in b_in = absurd (omega (arith, b_in))
-one_bit (suc (suc a)) b a_in b_in = absurd (omega (arith, a_in))
-
 pub bit_of_both : (a b i : ℕ)
     → (bit_at (bit_and a b) i == 1) ≡ ((bit_at a i == 1) && (bit_at b i == 1))
 bit_of_both a b i =
-    ap (λ z. z == 1) (bit_at_and a b i)
-    ∙ both_bits (bit_at a i) (bit_at b i) (bit_at-lt a i) (bit_at-lt b i)
+    let bit_of_a : bit_at a i < 2 = bit_at-lt a i in
+    let bit_of_b : bit_at b i < 2 = bit_at-lt b i in
+    rw bit_at_and (grind (arith, nat_tests))
 
 pub bit_of_either : (a b i : ℕ)
     → (bit_at (bit_or a b) i == 1) ≡ ((bit_at a i == 1) || (bit_at b i == 1))
 bit_of_either a b i =
-    ap (λ z. z == 1) (bit_at_or a b i)
-    ∙ one_bit (bit_at a i) (bit_at b i) (bit_at-lt a i) (bit_at-lt b i)
+    let bit_of_a : bit_at a i < 2 = bit_at-lt a i in
+    let bit_of_b : bit_at b i < 2 = bit_at-lt b i in
+    rw bit_at_or (grind (arith, nat_tests))
 
 -- a bit of a word of the row
 pub bit_in_row : (rows : Rows) (row k n word : ℕ)
@@ -60,10 +46,6 @@ bit_in_row rows row k n word is low high =
     place.0
     ∙ ap (λ i. bit_at (slice_index rows.words.items (row * rows.width + k)) i == 1) place.1)
 
-and_same : (a : Bool) → (a && a) ≡ a
-and_same true = refl
-and_same false = refl
-
 -- what the rows of both characters say
 pub by_rows : (heads : ListHeads) (b : Option ℕ) (c : ℕ) (second : Option ℕ) (row : ℕ)
     → row ≡ unwrap_or (option_map second_row second) (first_row c) → (n : ℕ)
@@ -73,7 +55,7 @@ by_rows heads b c None row is n =
     ap (λ r. (has heads.rows (first_row c) n && has heads.rows r n)
     || (is_none b && has heads.rows start_row n)) is
     ∙ ap (λ z. z || (is_none b && has heads.rows start_row n))
-    (and_same (has heads.rows (first_row c) n))
+    (and_self (has heads.rows (first_row c) n))
 by_rows heads b c (Some d) row is n =
     ap (λ r. (has heads.rows (first_row c) n && has heads.rows r n)
     || (is_none b && has heads.rows start_row n)) is
@@ -95,11 +77,7 @@ word_tells heads b c second k word first row first_is row_is bits =
     ∙ by_rows heads b c second row
     (row_is ∙ ap (unwrap_or (option_map second_row second)) first_is) n)
 
-and_off : (b x : Bool) → x ≡ false → (b && x) ≡ false
-and_off true x e = e
-and_off false x e = refl
-
-column_in : (c : ℕ) → column c < 129
+pub column_in : (c : ℕ) → column c < 129
 column_in c = grind (arith, nat_tests)
 
 -- no pattern is after the last
@@ -114,7 +92,7 @@ none_starts_behind heads w b c second n low high = by_second second
         w.none_behind (first_row c) n (omega (arith, inside)) low high
 
     start_off : (is_none b && has heads.rows start_row n) ≡ false
-    start_off = and_off (is_none b) (has heads.rows start_row n)
+    start_off = and_right (is_none b) (has heads.rows start_row n)
         (w.none_behind start_row n (omega arith) low high)
 
     by_second : (second : Option ℕ) → may_start heads b (Some c) second n ≡ false

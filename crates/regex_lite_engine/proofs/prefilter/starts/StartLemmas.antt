@@ -5,7 +5,7 @@ use Rattle.std.proofs.Common.{Option, Some, None, refl, sym, ap, subst, ◌∙�
 use Rattle.std.proofs.Common.{nat_lt, slice_index_or, if◌then◌else◌, ◌&&◌, ◌||◌}
 use Rattle.std.specs.Prelude.{replicate, is_none, slice_set, min}
 use Rattle.std.specs.Char.{is_ascii}
-use Rattle.std.proofs.lemmas.Bool.{cases_lt}
+use Rattle.std.proofs.lemmas.Bool.{cases_lt, or_right}
 use Rattle.std.proofs.lemmas.Bool.Decides.{nat_tests}
 use Rattle.regex_lite_syntax.specs.Sets.{span}
 use Rattle.regex_lite_syntax.specs.Ranges.{in_ranges, AreRuns}
@@ -17,7 +17,7 @@ use Rattle.regex_lite_syntax.specs.Tree.{Tree, Trees, repetition, more}
 use Rattle.regex_lite_syntax.specs.Tree.Matches.{Matches, Passes, Chain, SomeBranch}
 use Rattle.regex_lite_engine.specs.declared.prefilter.starts.Starts.{Starts}
 use Rattle.regex_lite_engine.specs.Prefilter.Starts.{begins_with, may_begin, MayBegin}
-use Rattle.regex_lite_engine.specs.Prefilter.Starts.{IsGrown, BeginsOrPasses}
+use Rattle.regex_lite_engine.specs.Prefilter.Starts.{IsWider, BeginsOrPasses}
 
 pub one_is_true : (a b : Bool) → (a || b) ≡ true → (a ≡ true) ⊎ (b ≡ true)
 one_is_true true b e = inl refl
@@ -40,10 +40,7 @@ everywhere_begins s any ascii others c =
     by_test true = ap (λ z. slice_index_or z c true) ascii ∙ all_true 128 c
     by_test false = others
 
-pub grown_same : (s : Starts) → IsGrown s s
-grown_same s = record { with = λ c e. e; at_start = λ e. e }
-
-pub grown_on : (s t u : Starts) → IsGrown s t → IsGrown t u → IsGrown s u
+pub grown_on : (s t u : Starts) → IsWider s t → IsWider t u → IsWider s u
 grown_on s t u first second = record {
   with = λ c e. second.with c (first.with c e);
   at_start = λ e. second.at_start (first.at_start e);
@@ -56,7 +53,7 @@ either false b true d f g t = refl
 either false true false d f g t = subst IsTrue (sym (g refl)) refl
 either false false false d f g t = absurd cc
 
-pub may_grown : (s t : Starts) (h : Text) (i : ℕ) → IsGrown s t → MayBegin s h i → MayBegin t h i
+pub may_grown : (s t : Starts) (h : Text) (i : ℕ) → IsWider s t → MayBegin s h i → MayBegin t h i
 may_grown s t h i grown = by_next (after h i)
   where
     both : (a b c : Bool) → (a ≡ true → b ≡ true) → (a && c) ≡ true → (b && c) ≡ true
@@ -71,44 +68,10 @@ may_grown s t h i grown = by_next (after h i)
         (t.at_start && is_none (before h i)) (grown.with c)
         (both s.at_start t.at_start (is_none (before h i)) grown.at_start) m
 
-set_kept : (xs : List Bool) (k c : ℕ) → slice_index_or xs c true ≡ true
-    → slice_index_or (slice_set xs k true) c true ≡ true
-set_kept [] k c e = e
-set_kept (x ∷ xs) zero zero e = refl
-set_kept (x ∷ xs) zero (suc c) e = e
-set_kept (x ∷ xs) (suc k) zero e = e
-set_kept (x ∷ xs) (suc k) (suc c) e = set_kept xs k c e
-
 pub set_there : (xs : List Bool) (k : ℕ) → slice_index_or (slice_set xs k true) k true ≡ true
 set_there [] k = refl
 set_there (x ∷ xs) zero = refl
 set_there (x ∷ xs) (suc k) = set_there xs k
-
--- with one more ASCII character
-pub set_grown : (s t : Starts) (k : ℕ) → t.any ≡ s.any → t.ascii ≡ slice_set s.ascii k true
-    → t.others ≡ s.others → t.at_start ≡ s.at_start → IsGrown s t
-set_grown s t k any ascii others at_start = record {
-  with = λ c e. by_any s.any refl c e;
-  at_start = λ e. at_start ∙ e;
-}
-  where
-    by_ascii : (c : ℕ) (b : Bool)
-        → (if b then slice_index_or s.ascii c true else s.others) ≡ true
-        → (if b then slice_index_or t.ascii c true else t.others) ≡ true
-    by_ascii c true e = ap (λ z. slice_index_or z c true) ascii ∙ set_kept s.ascii k c e
-    by_ascii c false e = others ∙ e
-
-    by_any : (a : Bool) → s.any ≡ a → (c : ℕ) → begins_with s c ≡ true → begins_with t c ≡ true
-    by_any true e c b =
-        ap (λ z. z && (if nat_lt c 128 then slice_index_or t.ascii c true else t.others)) (any ∙ e)
-        ∙ by_ascii c (nat_lt c 128)
-        (sym (ap (λ z. z && (if nat_lt c 128 then slice_index_or s.ascii c true else s.others)) e)
-        ∙ b)
-    by_any false e c b =
-        absurd (let none =
-        sym (ap (λ z. z && (if nat_lt c 128 then slice_index_or s.ascii c true else s.others)) e)
-        ∙ b in
-        cc)
 
 -- a character of the range was added
 pub in_span : (s : Starts) (start end c : ℕ) → s.any ≡ true
@@ -160,14 +123,10 @@ held_before n (r ∷ ranges) (suc k) c none runs within behind e =
     elim (one_is_true (span r.start r.end c) (in_ranges ranges c) e) [
       | inl first ↦ ap (λ z. z || in_ranges (take k ranges) c) first
       | inr rest ↦
-          true_last (span r.start r.end c)
+          or_right (span r.start r.end c) _
           (held_before (next_character r.end + 1) ranges k c none runs.4 (omega (arith, within))
           behind rest)
     ]
-  where
-    true_last : {b : Bool} (a : Bool) → b ≡ true → (a || b) ≡ true
-    true_last true e = refl
-    true_last false e = e
 
 -- the ranges after one that is not ASCII aren't either
 pub past_ascii_begin : (s : Starts) (ranges : List ClassRange) (k c : ℕ) (none : ClassRange)
@@ -186,13 +145,6 @@ past_ascii_begin s ranges k c none runs within past begins before inside = by_as
         let far : 128 ≤ (get_or ranges k none).start = grind (arith, nat_tests) in
         others_begin s (get_or ranges k none).start c far le begins
 
--- the next character is one with which a match can begin
-pub may_with : (s : Starts) (h : Text) (i c : ℕ) → after h i ≡ Some c → begins_with s c ≡ true
-    → MayBegin s h i
-may_with s h i c next begins =
-    subst (λ o. IsTrue (may_begin s (before h i) o)) (sym next)
-    (subst (λ z. IsTrue (z || (s.at_start && is_none (before h i)))) (sym begins) refl)
-
 -- the haystack's start
 pub may_at_start : (s : Starts) (h : Text) (i : ℕ) → s.at_start ≡ true
     → IsTrue (is_none (before h i))
@@ -207,15 +159,6 @@ may_at_start s h i at_start none = by_next (after h i)
     by_next None = refl
     by_next (Some c) = subst (λ z. IsTrue (begins_with s c || (z && is_none (before h i))))
         (sym at_start) (last (begins_with s c) (is_none (before h i)) none)
-
--- it can begin everywhere
-pub may_everywhere : (s : Starts) (h : Text) (i : ℕ) → ((c : ℕ) → begins_with s c ≡ true)
-    → MayBegin s h i
-may_everywhere s h i all = by_next (after h i) refl
-  where
-    by_next : (o : Option ℕ) → after h i ≡ o → MayBegin s h i
-    by_next None e = subst (λ z. IsTrue (may_begin s (before h i) z)) (sym e) refl
-    by_next (Some c) e = may_with s h i c e (all c)
 
 -- each pass begins where one can, or reads nothing
 pub passes_begin : (body : Tree) (s : Starts) (passable : Bool) → BeginsOrPasses body s passable
@@ -255,7 +198,7 @@ repetition_begins least most greedy body s passable result by_body by_least each
         is_true true t = refl
         is_true false t = absurd cc
 
-module _ (a : Tree) (rest : Trees) (s t : Starts) (passable : Bool) (grown : IsGrown s t)
+module _ (a : Tree) (rest : Trees) (s t : Starts) (passable : Bool) (grown : IsWider s t)
     (first : BeginsOrPasses a t passable) (h : Text) (i j : ℕ) where
   -- after one part more
   pub part_more : MayBegin s h i ⊎ Chain h (more a rest) i j

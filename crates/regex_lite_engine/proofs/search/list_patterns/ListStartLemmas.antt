@@ -14,8 +14,8 @@ use Rattle.regex_lite_engine.specs.Graph.Places.{Place}
 use Rattle.regex_lite_engine.specs.Prefilter.ListHeads.{is_candidate_at, may_start_at}
 use Rattle.regex_lite_engine.specs.Prefilter.Thirds.{may_go_on}
 use Rattle.regex_lite_engine.specs.Search.NumberedList.{IsEntry}
-use Rattle.regex_lite_engine.specs.Search.Starts.{start_of, AreListHeadsOf}
-use Rattle.regex_lite_engine.specs.Pikevm.Turns.{AreFrom, AreStartsAt, IsAmong, IsDeadAt}
+use Rattle.regex_lite_engine.specs.Search.Starts.{start_numbered, AreListHeadsOf}
+use Rattle.regex_lite_engine.specs.Search.Starts.{AreFrom, AreStartsAt, IsAmong, IsDeadAt}
 
 from_lower : (entries : List ℕ) (a : ℕ) (starts : List Start) → AreFrom entries (a + 1) starts
     → AreFrom entries a starts
@@ -23,25 +23,26 @@ from_lower entries a [] w = tt
 from_lower entries a (start ∷ starts) (le, is, rest) = (omega (arith, le), is, rest)
 
 in_order : (entries : List ℕ) (test : ℕ → Bool) (a n : ℕ) → a + n ≤ length entries
-    → AreFrom entries a (map (start_of entries) (filter test (range_with_len a n)))
+    → AreFrom entries a (map (start_numbered entries) (filter test (range_with_len a n)))
 in_order entries test a zero le = tt
 in_order entries test a (suc n) le =
     by_test (test a) (filter test (range_with_len (a + 1) n))
     (in_order entries test (a + 1) n (omega (arith, le)))
   where
-    by_test : (b : Bool) (rest : List ℕ) → AreFrom entries (a + 1) (map (start_of entries) rest)
-        → AreFrom entries a (map (start_of entries) (cond b (a ∷ rest) rest))
+    by_test : (b : Bool) (rest : List ℕ)
+        → AreFrom entries (a + 1) (map (start_numbered entries) rest)
+        → AreFrom entries a (map (start_numbered entries) (cond b (a ∷ rest) rest))
     by_test true rest later =
         let next : a + 1 ≡ suc a = omega arith in (
           omega arith,
           slice_get-get_or entries a 0 (omega (arith, le)),
-          subst (λ k. AreFrom entries k (map (start_of entries) rest)) next later,
+          subst (λ k. AreFrom entries k (map (start_numbered entries) rest)) next later,
         )
-    by_test false rest later = from_lower entries a (map (start_of entries) rest) later
+    by_test false rest later = from_lower entries a (map (start_numbered entries) rest) later
 
 among : (entries : List ℕ) (test : ℕ → Bool) (a n number entry : ℕ) → a ≤ number → number < a + n
     → test number ≡ true → slice_index entries number ≡ entry
-    → IsAmong number entry (map (start_of entries) (filter test (range_with_len a n)))
+    → IsAmong number entry (map (start_numbered entries) (filter test (range_with_len a n)))
 among entries test a zero number entry low high passes is = absurd (omega (arith, low, high))
 among entries test a (suc n) number entry low high passes is = by_place (cases_eq number a)
     (λ above. among entries test (a + 1) n number entry above (omega (arith, high)) passes is)
@@ -49,16 +50,16 @@ among entries test a (suc n) number entry low high passes is = by_place (cases_e
     rest : List ℕ
     rest = filter test (range_with_len (a + 1) n)
 
-    later : (b : Bool) → IsAmong number entry (map (start_of entries) rest)
-        → IsAmong number entry (map (start_of entries) (cond b (a ∷ rest) rest))
+    later : (b : Bool) → IsAmong number entry (map (start_numbered entries) rest)
+        → IsAmong number entry (map (start_numbered entries) (cond b (a ∷ rest) rest))
     later true w = inr w
     later false w = w
 
     by_place : (number ≡ a) ⊎ (number ≡ a → ⊥)
-        → (a + 1 ≤ number → IsAmong number entry (map (start_of entries) rest))
-        → IsAmong number entry (map (start_of entries) (cond (test a) (a ∷ rest) rest))
+        → (a + 1 ≤ number → IsAmong number entry (map (start_numbered entries) rest))
+        → IsAmong number entry (map (start_numbered entries) (cond (test a) (a ∷ rest) rest))
     by_place (inl same) others =
-        subst (λ b. IsAmong number entry (map (start_of entries) (cond b (a ∷ rest) rest)))
+        subst (λ b. IsAmong number entry (map (start_numbered entries) (cond b (a ∷ rest) rest)))
         (sym (ap test (sym same) ∙ passes))
         (inl (same, sym is ∙ ap (slice_index entries) same))
     by_place (inr apart) others = later (test a) (others (above (cases_lt a number)))
@@ -83,23 +84,24 @@ all_below test a (suc n) m le k d lt =
 
 pub places_inside : (entries numbers : List ℕ) (end : ℕ) → All (λ entry. entry < end) entries
     → All (λ number. number < length entries) numbers
-    → All (λ (start : Start). start.place < end) (map (start_of entries) numbers)
+    → All (λ (start : Start). start.place < end) (map (start_numbered entries) numbers)
 places_inside entries numbers end all inside k d lt =
-    let mapped = length-map numbers (start_of entries) in
+    let mapped = length-map numbers (start_numbered entries) in
     let within : k < length numbers = omega (arith, lt, mapped) in
-    let is : get_or (map (start_of entries) numbers) k d ≡ start_of entries (get_or numbers k 0)
-    = get_or_default (map (start_of entries) numbers) k d (start_of entries 0) lt
-    ∙ get_or-map (start_of entries) numbers k 0 in
+    let is : get_or (map (start_numbered entries) numbers) k d
+    ≡ start_numbered entries (get_or numbers k 0)
+    = get_or_default (map (start_numbered entries) numbers) k d (start_numbered entries 0) lt
+    ∙ get_or-map (start_numbered entries) numbers k 0 in
     subst (λ (start : Start). start.place < end) (sym is)
     (all (get_or numbers k 0) 0 (inside k 0 within))
 
 pub listed_start : (table : List (Place ℕ)) (haystack : Text) (entries : List ℕ) (heads : ListHeads)
     → AreListHeadsOf table entries heads → (p : ℕ) (numbers : List ℕ)
     → numbers ≡ filter (is_candidate_at heads haystack p) (range_with_len 0 (length entries))
-    → AreStartsAt table haystack entries p (map (start_of entries) numbers)
+    → AreStartsAt table haystack entries p (map (start_numbered entries) numbers)
 listed_start table haystack entries heads w p numbers listed =
     subst (λ z. AreStartsAt table haystack entries p
-    (map (start_of entries) z)) (sym listed) (record {
+    (map (start_numbered entries) z)) (sym listed) (record {
       in_order = in_order entries test 0 (length entries) (omega arith);
       each = λ number entry is. by_test number entry is (test number) refl;
     })
@@ -118,7 +120,7 @@ listed_start table haystack entries heads w p numbers listed =
 
     by_test : (number entry : ℕ) → IsEntry entries number entry → (b : Bool) → test number ≡ b
         → IsAmong number entry
-        (map (start_of entries)
+        (map (start_numbered entries)
         (filter (is_candidate_at heads haystack p) (range_with_len 0 (length entries))))
         ⊎ IsDeadAt table haystack entry p
     by_test number entry is true may =

@@ -10,7 +10,7 @@ ghost use Rattle.regex_lite_engine.specs.Prefilter.Starts.{may_begin};
 ghost use Rattle.regex_lite_engine.specs.Prefilter.Thirds.{in_mask, may_go_on, AreMasksOf};
 ghost use Rattle.regex_lite_engine.specs.Prefilter.Thirds.{BeginsInMask, IsThirdOfTree, ReadsOne};
 
-use crate::nfa::measured::Measured;
+use crate::count::measured::Measured;
 use crate::prefilter::starts::Starts;
 use regex_lite_syntax::Hir;
 use std::alloc::{AllocError, Global};

@@ -1,5 +1,5 @@
 use Rattle.std.proofs.Common.{◌++◌, [], None, false, ap, sym, subst, ◌∙◌}
-use Rattle.regex_lite.specs.Ahead.{groups_ahead_of, whole}
+use Rattle.regex_lite.specs.Ahead.{ahead_of, whole}
 use Rattle.rxl.specs.Printed.{groups_line}
 use Rattle.rxl.proofs.ListLemmas.{GroupsLeadOn, groups_end, groups_more}
 use Rattle.rxl.proofs.ListLemmas.{groups_start, same_haystack, same_regex}
@@ -9,7 +9,7 @@ use Rattle.rxl.proofs.commands.print_captures.Goals as goal
 pub loop-item-init : goal.loop-item-init
 loop-item-init g c =
     let start = whole c.args.regex.now c.args.haystack.now None in
-    let is = ap (λ it. groups_ahead_of it) c.into_iter-item-iterator.ensures.into_iter_gives
+    let is = ap (λ it. ahead_of it) c.into_iter-item-iterator.ensures.into_iter_gives
     ∙ c.in_ok-item-items.ensures.ahead in
     record {
       can = tt;
@@ -26,8 +26,8 @@ loop-item-preserved g c =
     let inv = c.loop-item.invariant in
     let step = rw c.in_ok-caps.was at c.in-Some.ensures.steps in
     let caps = c.in_ok-caps.caps in
-    let old = groups_ahead_of c.loop-item.item-iterator in
-    let new = groups_ahead_of c.next.new.self in
+    let old = ahead_of c.loop-item.item-iterator in
+    let new = ahead_of c.next.new.self in
     record {
       can = tt;
       finite = tt;
@@ -53,7 +53,7 @@ pub returns-clause-ok : goal.returns-clause-ok
 returns-clause-ok g c =
     let inv = c.loop-item.invariant in (
       inv.printed,
-      groups_end c.args.regex.now c.args.haystack.now (groups_ahead_of c.loop-item.item-iterator)
+      groups_end c.args.regex.now c.args.haystack.now (ahead_of c.loop-item.item-iterator)
           c.loop-item.has_match inv.printed inv.so_far c.in-None.ensures.steps.over,
       inv.puts,
     )

@@ -1,5 +1,5 @@
 use Rattle.std.proofs.Common.{◌≡◌, ℕ, List, None}
-use Rattle.regex_lite.specs.Ahead.{groups_ahead_of, whole}
+use Rattle.regex_lite.specs.Ahead.{ahead_of, whole}
 use Rattle.rxl.specs.Output.{Puts}
 use Rattle.rxl.proofs.ListLemmas.{GroupsLeadOn}
 use Rattle.rxl.proofs.commands.print_captures.Given as goal
@@ -11,7 +11,7 @@ invariant-loop-item g l = record {
   printed : List ℕ;
   puts : Puts l.fn.output (g.W.Write.contents l.fn.out) l.output (g.W.Write.contents l.out) printed;
   so_far : GroupsLeadOn (whole l.regex l.haystack None)
-      (groups_ahead_of l.item-iterator) l.has_match printed;
-  regex : (groups_ahead_of l.item-iterator).sought ≡ l.regex;
-  haystack : l.item-iterator.scan.haystack ≡ l.haystack;
+      (ahead_of l.item-iterator) l.has_match printed;
+  regex : (ahead_of l.item-iterator).sought ≡ l.regex;
+  haystack : l.item-iterator.haystack ≡ l.haystack;
 }

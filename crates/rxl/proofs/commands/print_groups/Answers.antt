@@ -1,5 +1,5 @@
 use Rattle.std.proofs.Common.{◌++◌, ◌∷◌, [], codes, map, option_map, ap, rules, subst, ◌∙◌}
-use Rattle.regex_lite.specs.MatchViews.{span_of_match, spans_to_come}
+use Rattle.regex_lite.specs.MatchViews.{span_of_match}
 use Rattle.rxl.specs.Output.{Puts}
 use Rattle.rxl.specs.Printed.{group_text, groups_line}
 use Rattle.rxl.proofs.GroupLineLemmas.{all_left, alone, group_alone, line_begins}
@@ -10,7 +10,7 @@ use Rattle.rxl.proofs.commands.print_groups.Goals as goal
 pub loop-group-init : goal.loop-group-init
 loop-group-init g c =
     let spans = c.args.caps.now.spans in
-    let are = ap (λ it. spans_to_come it) c.into_iter-group-iterator.ensures.into_iter_gives
+    let are = ap (λ it. it.spans) c.into_iter-group-iterator.ensures.into_iter_gives
     ∙ c.iter-group-items.ensures.groups in
     record {
       can = tt;

@@ -11,5 +11,5 @@ invariant-loop-found g l = record {
   printed : List ℕ;
   puts : Puts l.fn.output (g.W.Write.contents l.fn.out) l.output (g.W.Write.contents l.out) printed;
   so_far : LeadsOn (whole l.regex l.haystack None) (ahead_of l.found-iterator) l.has_match printed;
-  haystack : l.found-iterator.scan.haystack ≡ l.haystack;
+  haystack : l.found-iterator.haystack ≡ l.haystack;
 }

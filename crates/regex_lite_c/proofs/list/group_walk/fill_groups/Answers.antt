@@ -1,5 +1,5 @@
 use Rattle.std.proofs.Common.{◌∙◌, ◌+◌, Some, ap, arith, inl, inr, refl, slice_set, subst, sym}
-use Rattle.regex_lite.specs.ListAhead.{list_groups_ahead_of}
+use Rattle.regex_lite.specs.ListAhead.{list_ahead_of}
 use Rattle.regex_lite.specs.Groups.{group_span}
 use Rattle.regex_lite.specs.MatchList.{IsAnswerOfPatterns}
 use Rattle.regex_lite_c.specs.declared.list.types.ListGroups.{ListGroups}
@@ -16,7 +16,7 @@ use Rattle.regex_lite_c.proofs.list.group_walk.fill_groups.Goals.{
 
 pub loop-item-init : goal.loop-item-init
 loop-item-init c =
-    let start = list_groups_ahead_of c.args.items in
+    let start = list_ahead_of c.args.items in
     let walk = c.args.walk.now in
     let told = c.args.told.now in
     let spans = c.args.spans.now in
@@ -24,9 +24,9 @@ loop-item-init c =
       can = tt;
       finite = tt;
       so_far =
-          subst (λ n. IsListSoFar start (list_groups_ahead_of c.into_iter-item-iterator.result) walk
+          subst (λ n. IsListSoFar start (list_ahead_of c.into_iter-item-iterator.result) walk
           walk told told spans spans 0 n) (sym c.requires.none)
-          (subst (λ it. IsListSoFar start (list_groups_ahead_of it) walk walk told told spans spans
+          (subst (λ it. IsListSoFar start (list_ahead_of it) walk walk told told spans spans
           0 0)
           (sym c.into_iter-item-iterator.ensures.into_iter_gives)
           (nothing_yet start walk told spans c.requires.all));
@@ -34,18 +34,18 @@ loop-item-init c =
 
 pub returns-in_default : goal.returns-in_default
 returns-in_default c =
-    over (list_groups_ahead_of c.args.items) (list_groups_ahead_of c.loop-item.item-iterator)
+    over (list_ahead_of c.args.items) (list_ahead_of c.loop-item.item-iterator)
     c.args.walk.now c.loop-item.walk c.args.told.now c.loop-item.told c.args.spans.now
     c.loop-item.spans c.loop-item.used c.loop-item.count c.or_yes.result 6
     c.loop-item.invariant.so_far c.or_yes.ensures.some c.or_yes.ensures.none (inr refl)
 
 pub returns-then-count-told : goal.returns-then-count-told
 returns-then-count-told c =
-    let now = list_groups_ahead_of c.loop-item.item-iterator in
+    let now = list_ahead_of c.loop-item.item-iterator in
     let step = rw c.in-Ok.is at c.in-Some.ensures.steps in
     let told = c.loop-item.told in
     let spans = c.loop-item.spans in
-    full (list_groups_ahead_of c.args.items) now c.args.walk.now c.loop-item.walk c.args.told.now
+    full (list_ahead_of c.args.items) now c.args.walk.now c.loop-item.walk c.args.told.now
     told c.args.spans.now spans c.loop-item.used c.loop-item.count c.or_need.new.count
     c.len-then-count-told.result c.or_need.result c.loop-item.invariant.so_far
     c.or_need.ensures.some c.or_need.ensures.none
@@ -70,9 +70,9 @@ returns-then-count-told c =
 pub loop-item-preserved : goal.loop-item-preserved
 loop-item-preserved c =
     let so = c.loop-item.invariant.so_far in
-    let start = list_groups_ahead_of c.args.items in
-    let now = list_groups_ahead_of c.loop-item.item-iterator in
-    let next = list_groups_ahead_of c.next.new.self in
+    let start = list_ahead_of c.args.items in
+    let now = list_ahead_of c.loop-item.item-iterator in
+    let next = list_ahead_of c.next.new.self in
     let own = c.in-Ok.caps in
     let step = rw c.in-Ok.is at c.in-Some.ensures.steps in
     let some = some_list_groups now.sought now.haystack c.in-Ok.number step.0 own step.1 in
@@ -100,9 +100,9 @@ loop-item-preserved c =
 
 pub returns : goal.returns
 returns c =
-    let now = list_groups_ahead_of c.loop-item.item-iterator in
+    let now = list_ahead_of c.loop-item.item-iterator in
     let so = c.loop-item.invariant.so_far in
-    over (list_groups_ahead_of c.args.items) now c.args.walk.now c.loop-item.walk c.args.told.now
+    over (list_ahead_of c.args.items) now c.args.walk.now c.loop-item.walk c.args.told.now
     c.loop-item.told c.args.spans.now c.loop-item.spans c.loop-item.used c.loop-item.count
     c.or_yes-2.result 0 so c.or_yes-2.ensures.some c.or_yes-2.ensures.none
     (inl (

@@ -1,5 +1,6 @@
 use Rattle.std.proofs.Common.{◌+◌, ℕ, chars, Option, refl, subst, ◌∙◌, arith}
 use Rattle.std.proofs.lemmas.List.{length-map}
+use Rattle.regex_lite_engine.specs.Backtrack.Room.{searching}
 use Rattle.regex_lite_engine.specs.Backtrack.Searching.{Explores}
 use Rattle.regex_lite_engine.specs.Graph.Stored.{place_of, table_of}
 use Rattle.regex_lite_engine.specs.Search.Offsets.{position_at}
@@ -19,6 +20,7 @@ starts-init c =
       under_way = begun (table_of a.graph.now) a.haystack.now c.utf8.haystack a.start
           c.requires.boundary a.graph.now.start a.walk.now c.requires.counts c.requires.fresh;
       width = refl;
+      room = refl;
       counts = counted_at_first a.walk.now.steps;
     }
 
@@ -47,10 +49,10 @@ returns-in-Some-clause-found c =
     let explored = subst (λ (end : Option ℕ). Explores table a.haystack.now a.graph.now.start
     c.pass_over-here.result.at old new end) c.in-Some.is c.explore.ensures.explored in
     start_matches a.haystack.now c.utf8.haystack table a.graph.now.start a.start v.p w.q
-    c.pass_over-here.result.at old.visited new.visited old.stack.row new.stack.row v.under_way.first
-    later (omega (arith, low, later)) (w.is.inside, w.is.bytes)
+    c.pass_over-here.result.at old new v.under_way.first later (omega (arith, low, later))
+    (w.is.inside, w.is.bytes)
     (λ k le lt. c.heads.ensures.all text k (w.passed k le lt)) v.under_way.walking
-    c.in-Some.end explored.walks
+    c.in-Some.end explored.on.walks
 
 pub returns-then-is_none-clause-found : goal.returns-then-is_none-clause-found
 returns-then-is_none-clause-found c =
@@ -67,8 +69,9 @@ returns-then-is_none-clause-found c =
     (w.is.inside, w.is.bytes) new
     (λ k le lt. c.heads.ensures.all text k (w.passed k le lt)) explored in
     let last = over_here text w.q c.pass_over-here.result w.is c.if-is_none.ensures in
-    walk_over table text a.graph.now.start (position_at a.haystack.now a.start) (w.q + 1) 0
-    new.visited new.stack.row (λ k low high. absurd (omega (arith, low, high, last))) on.walking
+    walk_over table
+    (searching table a.haystack.now a.graph.now.start (position_at a.haystack.now a.start) (w.q + 1)
+    0) new.visited new.stack (λ k low high. absurd (omega (arith, low, high, last))) on.walking
 
 pub starts-smaller : goal.starts-smaller
 starts-smaller c =
@@ -94,7 +97,8 @@ starts-preserved c =
           a.graph.now.start v.p c.starts.walk v.under_way w.q c.pass_over-here.result.at w.later
           (w.is.inside, w.is.bytes) c.explore.new.self
           (λ k le lt. c.heads.ensures.all text k (w.passed k le lt)) explored;
-      width = explored.kept.row ∙ v.width;
+      width = explored.on.kept.row ∙ v.width;
+      room = explored.on.kept.room ∙ v.room;
       counts = still_counted a.walk.now.steps c.starts.walk.steps c.explore.new.self.steps v.counts
           c.explore.ensures.counts;
     }

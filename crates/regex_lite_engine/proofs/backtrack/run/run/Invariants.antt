@@ -12,6 +12,7 @@ invariant-starts l = record {
   is : IsHere (chars l.haystack) p l.here;
   under_way : IsUnderWay (table_of l.graph) l.haystack l.start l.graph.start p l.walk;
   width : length l.walk.stack.row ≡ length l.fn.walk.stack.row;
+  room : l.walk.stack.room ≡ l.fn.walk.stack.room;
   counts : StaysCounted l.fn.walk.steps l.walk.steps;
 }
 

@@ -44,11 +44,11 @@ returns-in_err-from-clause-none c = λ none.
 pub returns-clause-boundary : goal.returns-clause-boundary
 returns-clause-boundary c =
     boundary c.args.graph.now c.args.haystack.now c.utf8.haystack
-    (position_at c.args.haystack.now c.args.start) (c.in_ok-from.from, c.in_ok-from.field-0-1)
+    (position_at c.args.haystack.now c.args.start) (c.in_ok-from.from, c.in_ok-from.end)
     c.in_ok-from.ensures.found
 
 pub returns-clause-first : goal.returns-clause-first
 returns-clause-first c =
     none_before c.args.graph.now c.args.haystack.now c.utf8.haystack
-    (position_at c.args.haystack.now c.args.start) (c.in_ok-from.from, c.in_ok-from.field-0-1)
+    (position_at c.args.haystack.now c.args.start) (c.in_ok-from.from, c.in_ok-from.end)
     c.in_ok-from.ensures.found

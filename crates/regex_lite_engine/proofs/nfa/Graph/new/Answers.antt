@@ -8,9 +8,9 @@ use Rattle.regex_lite_engine.specs.Graph.WrittenOut.{written_out, start_address}
 use Rattle.regex_lite_engine.specs.Nfa.Layout.{whole_layout, whole_table}
 use Rattle.regex_lite_engine.proofs.nfa.write.RenumberingLemmas.{whole_names, renumbered}
 use Rattle.regex_lite_engine.proofs.nfa.write.RenumberingLemmas.{starts, closed, start_inside}
-use Rattle.regex_lite_engine.proofs.nfa.count.ArrowCountLemmas.{arrows_whole}
-use Rattle.regex_lite_engine.proofs.nfa.count.ReadingCountLemmas.{reading_whole, reading_few}
-use Rattle.regex_lite_engine.proofs.nfa.count.KeptBackLemmas.{kept_back_whole}
+use Rattle.regex_lite_engine.proofs.count.ArrowCountLemmas.{arrows_whole}
+use Rattle.regex_lite_engine.proofs.count.ReadingCountLemmas.{reading_whole, reading_few}
+use Rattle.regex_lite_engine.proofs.count.KeptBackLemmas.{kept_back_whole}
 use Rattle.regex_lite_engine.proofs.nfa.WayLemmas.{written_heads}
 use Rattle.regex_lite_engine.proofs.ArrowBoundLemmas.{arrows_few}
 use Rattle.regex_lite_engine.proofs.nfa.Graph.new.Goals as goal

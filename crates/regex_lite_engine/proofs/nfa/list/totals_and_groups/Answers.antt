@@ -6,7 +6,7 @@ use Rattle.regex_lite_engine.specs.Graph.PlaceCounts.{whole_places, whole_arrows
 use Rattle.regex_lite_engine.specs.Graph.SideBySide.{places_of_all, arrows_of_all}
 use Rattle.regex_lite_engine.specs.Graph.StoredList.{StoredGroups, TellGroupsOf}
 use Rattle.regex_lite_engine.specs.Nfa.Totals.{reading_of_all}
-use Rattle.regex_lite_engine.proofs.nfa.count.TotalLemmas.{tree_there, trees_left}
+use Rattle.regex_lite_engine.proofs.count.TotalLemmas.{tree_there, trees_left}
 use Rattle.regex_lite_engine.proofs.nfa.list.GroupLemmas.{told_more}
 use Rattle.regex_lite_engine.proofs.nfa.list.totals_and_groups.Goals as goal
 

@@ -2,12 +2,11 @@ use Rattle.std.proofs.Common.{◌∷◌, false, refl, sym, subst}
 use Rattle.regex_lite_engine.specs.declared.nfa.place.Place as code
 use Rattle.regex_lite_engine.specs.Pikevm.Entering.{Enters}
 use Rattle.regex_lite_engine.specs.Pikevm.Machine.{explore}
-use Rattle.regex_lite_engine.proofs.pikevm.StateLemmas.{keeps_threads}
 use Rattle.regex_lite_engine.proofs.pikevm.enter.enter.Goals as goal
 
 pub returns-in-Slot-clause-entered : goal.returns-in-Slot-clause-entered
 returns-in-Slot-clause-entered g c =
-    let a = c.args in let m = a.memory.now in let n = c.mark.new.memory in
-    subst (λ (x : code.Place). Enters a.here (g.S.Beginning.told a.start) x m.row m.frames m.next
-    n.row (explore c.in-Slot.to ∷ n.frames) n.next false) (sym c.in-Slot.is)
-    (c.mark.ensures.marked c.in-Slot.to, (keeps_threads m n c.mark.ensures.same).next, refl)
+    let a = c.args in let n = c.mark.new.memory in
+    subst (λ (x : code.Place). Enters a.here (g.S.Beginning.told a.start) x a.memory.now
+    (record n { frames = explore c.in-Slot.to ∷ n.frames }) false) (sym c.in-Slot.is)
+    (c.mark.ensures.marked c.in-Slot.to, refl)

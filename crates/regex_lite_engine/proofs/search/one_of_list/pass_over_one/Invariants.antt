@@ -3,7 +3,7 @@ use Rattle.std.specs.Prelude.{chars}
 use Rattle.regex_lite_engine.specs.Graph.StoredList.{table_of_list}
 use Rattle.regex_lite_engine.specs.Search.Standing.{IsHere}
 use Rattle.regex_lite_engine.specs.Search.Starts.{PassesTo}
-use Rattle.regex_lite_engine.specs.Pikevm.Turns.{IsDeadAt}
+use Rattle.regex_lite_engine.specs.Search.Starts.{IsDeadAt}
 use Rattle.regex_lite_engine.proofs.search.one_of_list.pass_over_one.Given as goal
 
 abbrev pub invariant-passed : goal.invariant-passed

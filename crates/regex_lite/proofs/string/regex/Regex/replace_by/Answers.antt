@@ -4,7 +4,8 @@ use Rattle.regex_lite.specs.Ahead.{ahead_of, whole}
 use Rattle.regex_lite.specs.MatchViews.{span_of_match}
 use Rattle.regex_lite.specs.Pieces.{found_span}
 use Rattle.regex_lite.specs.Replacements.{IsReplacedBy}
-use Rattle.regex_lite.proofs.string.AnsweredLemmas.{begun_on, owned_where_some, so_finished}
+use Rattle.regex_lite.proofs.string.AnsweredLemmas.{begun_on, borrowed_where_over, owned_where_some}
+use Rattle.regex_lite.proofs.string.AnsweredLemmas.{so_finished}
 use Rattle.regex_lite.proofs.string.ReplacementLemmas.{passed_on, replaced_at_end}
 use Rattle.regex_lite.proofs.string.regex.Regex.replace_by.Goals as goal
 
@@ -48,6 +49,15 @@ returns-clause-replaced c =
     (IsReplacedBy c.args.text.now start) c.finish.ensures.ok same inv.begun
     (replaced_at_end c.args.text.now start now (unwrap_or rewrite.ended 0)
     (string_bytes rewrite.text) inv.so_far c.in-None.ensures.steps.over)
+
+pub returns-clause-borrowed : goal.returns-clause-borrowed
+returns-clause-borrowed c =
+    let inv = c.loop-found.invariant in
+    let start = whole c.args.self.now c.args.haystack.now c.args.limit in
+    let rewrite = c.loop-found.rewrite in
+    borrowed_where_over start (ahead_of c.loop-found.found-iterator) (Borrowed rewrite.haystack)
+    (string_bytes rewrite.text) rewrite.ended c.finish.result (Borrowed c.args.haystack)
+    c.finish.ensures.ok (ap Borrowed (inv.same ∙ c.start-rewrite.ensures.haystack)) inv.begun
 
 pub returns-clause-owned : goal.returns-clause-owned
 returns-clause-owned c =

@@ -12,7 +12,7 @@ invariant-loop-found l = record {
       (unwrap_or l.rewrite.ended 0) (string_bytes l.rewrite.text);
   begun : IsBegun (whole l.self l.haystack l.fn.limit) (ahead_of l.found-iterator)
       (string_bytes l.rewrite.text) l.rewrite.ended;
-  haystack : l.found-iterator.scan.haystack ≡ l.haystack;
-  ended : l.rewrite.ended ≡ l.found-iterator.scan.ended;
+  haystack : l.found-iterator.haystack ≡ l.haystack;
+  ended : l.rewrite.ended ≡ l.found-iterator.ended;
   same : l.rewrite.haystack ≡ l.initial.rewrite.haystack;
 }

@@ -4,9 +4,10 @@ use Rattle.regex_lite.proofs.string.sub_captures.SubCaptureMatchesIterator.next.
 
 pub returns-clause-steps : goal.returns-clause-steps
 returns-clause-steps c =
-    let groups = c.args.self.now.captures.now in
+    let groups = c.self.inside.captures.now in
     let len = c.len.ensures in
     let inside = c.if-self-len.false in
-    groups_on groups.haystack groups.spans c.args.self.now.next c.get-group.result
-    (subst (λ n. c.args.self.now.next < n) len inside)
-    c.get-group.ensures.span c.get-group.ensures.haystack
+    rw (← c.self.view_is)
+    (groups_on groups.haystack groups.spans c.self.inside.next c.get-group.result
+    (subst (λ n. c.self.inside.next < n) len inside)
+    c.get-group.ensures.span c.get-group.ensures.haystack)

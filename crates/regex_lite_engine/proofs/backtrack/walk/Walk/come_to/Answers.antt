@@ -1,80 +1,72 @@
-use Rattle.std.proofs.Common.{◌+◌, [], ◌∷◌, false, refl, unwrap_or, sym, ap, subst, ◌∙◌}
+use Rattle.std.proofs.Common.{◌+◌, [], ◌∷◌, None, unwrap_or, sym, ap, subst, ◌∙◌}
 use Rattle.std.proofs.lemmas.List.{length-map}
 use Rattle.regex_lite_engine.specs.declared.backtrack.walk.Walk.{Walk}
-use Rattle.regex_lite_engine.specs.Backtrack.Machine.{completes, explore, onto, was_entered}
-use Rattle.regex_lite_engine.specs.Backtrack.Room.{Goes}
+use Rattle.regex_lite_engine.specs.Backtrack.Machine.{completes, end_at, explore, onto}
+use Rattle.regex_lite_engine.specs.Backtrack.Machine.{was_entered}
+use Rattle.regex_lite_engine.specs.Backtrack.Room.{with_frames, Went}
 use Rattle.regex_lite_engine.specs.Graph.Stored.{LeadsBelow, place_of, table_of}
-use Rattle.regex_lite_engine.specs.Search.Bounds.{StepCounts}
 use Rattle.regex_lite_engine.specs.Graph.Places.{with_arrows}
-use Rattle.regex_lite_engine.proofs.backtrack.LeadsLemmas.{leads_entered, leads_passed}
+use Rattle.regex_lite_engine.proofs.backtrack.LeadsLemmas.{entered_at, leads_entered, leads_passed}
 use Rattle.regex_lite_engine.proofs.backtrack.LeftLemmas.{pair_inside}
 use Rattle.regex_lite_engine.proofs.backtrack.WentLemmas.{enter_room, entered_again}
-use Rattle.regex_lite_engine.proofs.backtrack.WentLemmas.{entered_at, goes_entered}
-use Rattle.regex_lite_engine.proofs.backtrack.WentLemmas.{goes_passed, same_walk, was_old}
+use Rattle.regex_lite_engine.proofs.backtrack.WentLemmas.{same_walk, was_old}
+use Rattle.regex_lite_engine.proofs.backtrack.WentLemmas.{went_entered, went_passed}
+use Rattle.regex_lite_engine.proofs.pikevm.CountLemmas.{counted_all}
 use Rattle.regex_lite_engine.proofs.pikevm.WentLemmas.{got_place}
 use Rattle.regex_lite_engine.proofs.backtrack.walk.Walk.come_to.Goals as goal
 
-pub returns-then-not-insert-clause-goes : goal.returns-then-not-insert-clause-goes
-returns-then-not-insert-clause-goes c =
-    let a = c.args in
-    let w = a.self.now in
-    let fit = c.requires in
-    let table = table_of a.graph.now in
-    let bytes = a.haystack.now in
+pub returns-then-not-insert-clause-taken : goal.returns-then-not-insert-clause-taken
+returns-then-not-insert-clause-taken c =
+    let a = c.args in let w = a.self.now in let fit = c.requires in
+    let table = table_of a.graph.now in let bytes = a.haystack.now in
     let was = was_old (was_entered w.visited a.place a.at) c.insert.result c.if-not-insert.true
     c.insert.ensures.fresh.1 in
-    subst (λ (z : Walk). Goes table bytes w (explore a.place a.at ∷ w.stack.frames) z w.stack.frames
-    a.at false)
+    subst
+    (λ (z : Walk). Went table bytes (with_frames w (explore a.place a.at ∷ w.stack.frames)) z
+    None)
     (sym (same_walk c.insert.new.self w.visited w.stack c.count_try.new.self
     (record w.steps { tried = w.steps.tried + 1 })
     (c.insert.ensures.added ∙ entered_again w.visited a.place a.at was) c.count_try.ensures))
-    (goes_passed table bytes w a.place a.at w.stack.frames fit
-    (leads_passed bytes c.utf8.haystack table w.visited fit.all w.stack.row a.place a.at
-    w.stack.frames
-    fit.below.0 fit.below.1 fit.below.2 a.at was))
+    (went_passed table bytes w a.place a.at fit
+    (leads_passed bytes c.utf8.haystack table w fit.all a.place a.at fit.below.0 fit.below.1
+    fit.below.2 was))
 
 pub enter-requires-clause-room : goal.enter-requires-clause-room
 enter-requires-clause-room c =
     let a = c.args in
-    let w = a.self.now in
     let place = c.look-found.result.now in
-    enter_room (table_of a.graph.now) a.haystack.now w a.place a.at w.stack.frames c.requires
+    enter_room (table_of a.graph.now) a.haystack.now a.self.now a.place a.at c.requires
     c.utf8.haystack (c.insert.ensures.fresh.0 c.if-not-insert.false) place
     (got_place a.graph.now.places a.place place c.look-found.ensures.found)
 
-pub returns-clause-goes : goal.returns-clause-goes
-returns-clause-goes c =
-    let a = c.args in
-    let w = a.self.now in
-    let fit = c.requires in
-    let table = table_of a.graph.now in
-    let bytes = a.haystack.now in
-    let place = c.look-found.result.now in
-    let held = c.enter.new.stack in
-    let frames = onto c.enter.result held.frames in
-    let done = completes c.enter.result in
+pub returns-clause-taken : goal.returns-clause-taken
+returns-clause-taken c =
+    let a = c.args in let w = a.self.now in let fit = c.requires in
+    let table = table_of a.graph.now in let bytes = a.haystack.now in
+    let place = c.look-found.result.now in let done = completes c.enter.result in
+    let held =
+    record c.enter.new.stack { frames = onto c.enter.result c.enter.new.stack.frames } in
     let new = c.insert.ensures.fresh.0 c.if-not-insert.false in
     let got = got_place a.graph.now.places a.place place c.look-found.ensures.found in
     let inside =
     subst (λ z. LeadsBelow z (place_of place)) (sym (length-map a.graph.now.places place_of))
     c.look-found.ensures.inside in
-    let steps = c.look-found.ensures.counted
-    ∙ ap (λ (s : StepCounts). record s { looked = s.looked + 1 }) (c.count_entry.ensures
-    ∙ ap (λ (s : StepCounts). record s { entered = s.entered + 1 }) c.count_try.ensures) in
     subst
-    (λ (z : Walk). Goes table bytes w (explore a.place a.at ∷ w.stack.frames) z frames a.at done)
+    (λ (z : Walk). Went table bytes (with_frames w (explore a.place a.at ∷ w.stack.frames)) z
+    (end_at a.at c.enter.result))
     (sym
     (same_walk c.insert.new.self (entered_at w.visited a.place a.at) held c.look-found.new.steps
     (record {
       tried = w.steps.tried + 1;
       entered = w.steps.entered + 1;
       looked = w.steps.looked + 1;
-    }) c.insert.ensures.added steps))
-    (goes_entered table bytes w a.place a.at w.stack.frames fit c.utf8.haystack new place got held
-    frames done inside c.enter.ensures.entered c.enter.ensures.room
-    (leads_entered bytes c.utf8.haystack table w.visited fit.all w.stack.row a.place a.at
-    w.stack.frames fit.below.0 fit.below.1 fit.below.2 place (entered_at w.visited a.place a.at)
-    held.row frames done new
+    }) c.insert.ensures.added
+    (counted_all w.steps c.count_try.new.self c.count_entry.new.self c.look-found.new.steps
+    c.count_try.ensures c.count_entry.ensures c.look-found.ensures.counted)))
+    (went_entered table bytes w a.place a.at fit c.utf8.haystack new place got held done inside
+    c.enter.ensures.entered c.enter.ensures.room
+    (leads_entered bytes c.utf8.haystack table w fit.all a.place a.at fit.below.0 fit.below.1
+    fit.below.2 place held done new
     (pair_inside table bytes c.utf8.haystack w.visited fit.all a.place a.at fit.below.0 fit.below.1
     fit.below.2.0)
-    (ap (λ o. unwrap_or o (with_arrows [])) got) c.enter.ensures.entered refl))
+    (ap (λ o. unwrap_or o (with_arrows [])) got) c.enter.ensures.entered))

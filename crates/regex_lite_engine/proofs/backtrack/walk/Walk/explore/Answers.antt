@@ -1,12 +1,11 @@
-use Rattle.std.proofs.Common.{[], ◌∷◌, length, Some, refl, ap, subst, sym, arith}
+use Rattle.std.proofs.Common.{[], ◌∷◌, length, None, Some, refl, ap, subst, sym, arith}
 use Rattle.regex_lite_engine.specs.declared.backtrack.walk.Walk.{Walk}
-use Rattle.regex_lite_engine.specs.Backtrack.Machine.{completes, explore, onto}
-use Rattle.regex_lite_engine.specs.Backtrack.Room.{Goes}
+use Rattle.regex_lite_engine.specs.Backtrack.Machine.{end_at, explore, onto}
+use Rattle.regex_lite_engine.specs.Backtrack.Room.{with_frames, TakesFrame}
 use Rattle.regex_lite_engine.specs.Backtrack.Searching.{Explores, Unwinds}
 use Rattle.regex_lite_engine.specs.Graph.Stored.{table_of}
 use Rattle.regex_lite_engine.specs.Search.Bounds.{StaysCounted}
-use Rattle.regex_lite_engine.proofs.backtrack.ExploreLemmas.{ended_back, found, gone_back}
-use Rattle.regex_lite_engine.proofs.backtrack.ExploreLemmas.{gone_on, less_back, room_back}
+use Rattle.regex_lite_engine.proofs.backtrack.ExploreLemmas.{ended, found, goes_further, went_back}
 use Rattle.regex_lite_engine.proofs.backtrack.UnwindLemmas.{slots_below}
 use Rattle.regex_lite_engine.proofs.pikevm.CountLemmas.{still_counted}
 use Rattle.regex_lite_engine.proofs.backtrack.walk.Walk.explore.Goals as goal
@@ -16,76 +15,71 @@ returns-in-Complete-clause-explored c =
     let a = c.args in let t = table_of a.graph.now in let w = c.ways.self in
     let v = c.come_to.new.self in
     let next = explore c.ways.place c.ways.at ∷ w.stack.frames in
-    found t a.haystack.now a.self.now (explore a.graph.now.start a.start ∷ []) w next
-    c.ways.invariant.gone v v.stack.frames a.graph.now.start a.start c.ways.at refl
-    (subst (λ n. Goes t a.haystack.now w next v (onto n v.stack.frames) c.ways.at (completes n))
-    c.in-Complete.is c.come_to.ensures.goes)
+    found t a.haystack.now a.self.now (with_frames w next) v a.graph.now.start a.start c.ways.at
+    c.ways.invariant.on
+    (subst (λ n. TakesFrame t a.haystack.now w next v (onto n v.stack.frames)
+    (end_at c.ways.at n)) c.in-Complete.is c.come_to.ensures.taken)
 
 pub go_back-requires : goal.go_back-requires
 go_back-requires c =
     let a = c.args in let t = table_of a.graph.now in let w = c.ways.self in
     let v = c.come_to.new.self in
     let next = explore c.ways.place c.ways.at ∷ w.stack.frames in
-    let goes =
-    subst (λ n. Goes t a.haystack.now w next v (onto n v.stack.frames) c.ways.at (completes n))
-    c.in-Back.is c.come_to.ensures.goes in
+    let went = subst (λ n. TakesFrame t a.haystack.now w next v (onto n v.stack.frames)
+    (end_at c.ways.at n)) c.in-Back.is c.come_to.ensures.taken in
     slots_below t a.haystack.now v.visited.first (length v.stack.row) v.stack.frames
-    (goes.fit refl).below
+    (went.fit refl).below
 
 pub returns-in_err-place-in-Back-clause-explored : goal.returns-in_err-place-in-Back-clause-explored
 returns-in_err-place-in-Back-clause-explored c =
     let a = c.args in let t = table_of a.graph.now in let h = a.haystack.now in
     let w = c.ways.self in let v = c.come_to.new.self in
     let next = explore c.ways.place c.ways.at ∷ w.stack.frames in
-    let first = explore a.graph.now.start a.start ∷ [] in
-    let goes = subst (λ n. Goes t h w next v (onto n v.stack.frames) c.ways.at (completes n))
-    c.in-Back.is c.come_to.ensures.goes in
-    let gone =
-    gone_on t h a.self.now first w next c.ways.invariant.gone v v.stack.frames c.ways.at goes in
+    let first = with_frames a.self.now (explore a.graph.now.start a.start ∷ []) in
+    let went = subst (λ n. TakesFrame t h w next v (onto n v.stack.frames) (end_at c.ways.at n))
+    c.in-Back.is c.come_to.ensures.taken in
     let u = c.go_back.new.self in let e = c.go_back.ensures in
+    let back = subst (λ n. Unwinds v.stack.row v.stack.frames n u.stack.row u.stack.frames)
+    c.in_err-place-in-Back.was e.back in
     subst (λ r. Explores t h a.graph.now.start a.start a.self.now u r) (sym c.from_residual.ensures)
-    (ended_back t h a.self.now v u a.graph.now.start a.start gone (goes.fit refl)
-    (subst (λ n. Unwinds v.stack.row v.stack.frames n u.stack.row u.stack.frames)
-    c.in_err-place-in-Back.was e.back) e.same e.row e.room)
+    (ended t h a.self.now v u a.graph.now.start a.start
+    (goes_further t h first (with_frames w next) v None c.ways.invariant.on went.on) back
+    (went_back t h v u None back e.same e.row e.room (went.fit refl)))
 
 pub ways-smaller : goal.ways-smaller
 ways-smaller c =
     let a = c.args in let t = table_of a.graph.now in let h = a.haystack.now in
     let w = c.ways.self in let v = c.come_to.new.self in
     let next = explore c.ways.place c.ways.at ∷ w.stack.frames in
-    let first = explore a.graph.now.start a.start ∷ [] in
-    let goes = subst (λ n. Goes t h w next v (onto n v.stack.frames) c.ways.at (completes n))
-    c.in-Back.is c.come_to.ensures.goes in
-    let gone =
-    gone_on t h a.self.now first w next c.ways.invariant.gone v v.stack.frames c.ways.at goes in
+    let went = subst (λ n. TakesFrame t h w next v (onto n v.stack.frames) (end_at c.ways.at n))
+    c.in-Back.is c.come_to.ensures.taken in
     let u = c.go_back.new.self in let e = c.go_back.ensures in let left = c.in_ok-place-in-Back in
-    let less = goes.less refl in
-    let back = less_back t h a.self.now first v v.stack.frames gone u
-    (Some (left.field-0-0, left.field-0-1)) refl
+    let less = went.less refl in
+    let back = went_back t h v u (Some (left.field-0-0, left.field-0-1))
     (subst (λ n. Unwinds v.stack.row v.stack.frames n u.stack.row u.stack.frames) left.was e.back)
-    e.same e.row e.room in
-    omega (arith, less, back)
+    e.same e.row e.room (went.fit refl) in
+    let more = back.less in
+    omega (arith, less, more)
 
 pub ways-preserved : goal.ways-preserved
 ways-preserved c =
     let a = c.args in let t = table_of a.graph.now in let h = a.haystack.now in
     let w = c.ways.self in let v = c.come_to.new.self in
     let next = explore c.ways.place c.ways.at ∷ w.stack.frames in
-    let first = explore a.graph.now.start a.start ∷ [] in
-    let goes = subst (λ n. Goes t h w next v (onto n v.stack.frames) c.ways.at (completes n))
-    c.in-Back.is c.come_to.ensures.goes in
-    let gone =
-    gone_on t h a.self.now first w next c.ways.invariant.gone v v.stack.frames c.ways.at goes in
+    let first = with_frames a.self.now (explore a.graph.now.start a.start ∷ []) in
+    let went = subst (λ n. TakesFrame t h w next v (onto n v.stack.frames) (end_at c.ways.at n))
+    c.in-Back.is c.come_to.ensures.taken in
     let u = c.go_back.new.self in let e = c.go_back.ensures in let left = c.in_ok-place-in-Back in
-    let back =
-    subst (λ n. Unwinds v.stack.row v.stack.frames n u.stack.row u.stack.frames) left.was e.back in
+    let back = went_back t h v u (Some (left.field-0-0, left.field-0-1))
+    (subst (λ n. Unwinds v.stack.row v.stack.frames n u.stack.row u.stack.frames) left.was e.back)
+    e.same e.row e.room (went.fit refl) in
     record {
-      room =
-          room_back t h a.self.now first v v.stack.frames gone u
-          (Some (left.field-0-0, left.field-0-1)) refl back e.same e.row e.room (goes.fit refl);
-      gone =
-          gone_back t h a.self.now first v v.stack.frames gone u
-          (Some (left.field-0-0, left.field-0-1)) refl back e.same e.row e.room;
+      room = back.fit;
+      on =
+          goes_further t h first v
+          (with_frames u (explore left.field-0-0 left.field-0-1 ∷ u.stack.frames)) None
+          (goes_further t h first (with_frames w next) v None c.ways.invariant.on went.on)
+          back.on;
       counts = subst (StaysCounted a.self.now.steps) (sym (ap (λ (z : Walk). z.steps) e.same))
           (still_counted a.self.now.steps w.steps v.steps c.ways.invariant.counts
           c.come_to.ensures.counts);

@@ -1,19 +1,20 @@
-use Rattle.std.proofs.Common.{[], ◌∷◌}
+use Rattle.std.proofs.Common.{[], ◌∷◌, None}
 use Rattle.regex_lite_engine.specs.Backtrack.Machine.{explore}
-use Rattle.regex_lite_engine.specs.Backtrack.Room.{HasRoom, work}
+use Rattle.regex_lite_engine.specs.Backtrack.Room.{with_frames, GoesOn, HasRoom, work}
 use Rattle.regex_lite_engine.specs.Graph.Stored.{table_of}
 use Rattle.regex_lite_engine.specs.Search.Bounds.{StaysCounted}
-use Rattle.regex_lite_engine.proofs.backtrack.ExploreLemmas.{HasGone}
 use Rattle.regex_lite_engine.proofs.backtrack.walk.Walk.explore.Given as goal
 
 abbrev pub invariant-ways : goal.invariant-ways
 invariant-ways l = record {
   room : HasRoom (table_of l.graph) l.haystack l.self (explore l.place l.at ∷ l.self.stack.frames);
-  gone : HasGone (table_of l.graph) l.haystack l.fn.self (explore l.graph.start l.start ∷ []) l.self
-      (explore l.place l.at ∷ l.self.stack.frames);
+  on : GoesOn (table_of l.graph) l.haystack
+      (with_frames l.fn.self (explore l.graph.start l.start ∷ []))
+      (with_frames l.self (explore l.place l.at ∷ l.self.stack.frames)) None;
   counts : StaysCounted l.fn.self.steps l.self.steps;
 }
 
 abbrev pub decreases-ways : goal.decreases-ways
 decreases-ways l =
-    work (table_of l.graph) l.haystack l.self.visited (explore l.place l.at ∷ l.self.stack.frames)
+    work (table_of l.graph) l.haystack
+    (with_frames l.self (explore l.place l.at ∷ l.self.stack.frames))

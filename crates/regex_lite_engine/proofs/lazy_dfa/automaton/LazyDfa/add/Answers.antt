@@ -1,6 +1,5 @@
 use Rattle.std.proofs.Common.{rules, ◌≡◌, ◌-◌, ◌∷◌, [], ◌++◌, length, refl, replicate, ap, ◌∙◌}
 use Rattle.std.specs.Vec.{vec_len}
-use Rattle.regex_lite_engine.specs.declared.lazy_dfa.state.StoredState.{StoredState}
 use Rattle.regex_lite_engine.specs.LazyDfa.Automaton.{Automaton, State, unknown}
 use Rattle.regex_lite_engine.specs.LazyDfa.Stored.{hit_in}
 use Rattle.regex_lite_engine.proofs.lazy_dfa.AutomatonLemmas.{added_extends, added_is}
@@ -13,14 +12,6 @@ returns-in-Ok-clause-state c = λ told.
     let v = c.self.invariant in
     let old = c.args.self.now in
     let count : vec_len i.ways ≡ length i.ways.items = search rules in
-    let s : StoredState = record {
-      from = i.used;
-      len = c.len.result - i.used;
-      searching = c.args.searching;
-      before = c.args.before;
-      hit = c.args.hit;
-      next = replicate 128 unknown;
-    } in
     let state : State = record {
       ways = old.pending;
       searching = c.args.searching;
@@ -30,7 +21,7 @@ returns-in-Ok-clause-state c = λ told.
     } in
     let added = ap (λ n. seen i.classes c.push.new.self.items n i.ways.items)
     (c.len-self-inside.ensures ∙ count)
-    ∙ seen_added i.classes i.states.items i.used i.ways.items v.0 v.1 s refl
+    ∙ seen_added i.classes i.states.items i.used i.ways.items v.0 v.1 _ refl
     (ap (λ n. n - i.used) (c.len.ensures ∙ count)) c.push.new.self.items c.in-Ok.ensures.items
     ∙ ap (λ (z : Automaton). record {
       intervals = z.intervals;
@@ -46,14 +37,6 @@ returns-in-Ok-clause-extends c =
     let v = c.self.invariant in
     let old = c.args.self.now in
     let count : vec_len i.ways ≡ length i.ways.items = search rules in
-    let s : StoredState = record {
-      from = i.used;
-      len = c.len.result - i.used;
-      searching = c.args.searching;
-      before = c.args.before;
-      hit = c.args.hit;
-      next = replicate 128 unknown;
-    } in
     let state : State = record {
       ways = old.pending;
       searching = c.args.searching;
@@ -63,7 +46,7 @@ returns-in-Ok-clause-extends c =
     } in
     let added = ap (λ n. seen i.classes c.push.new.self.items n i.ways.items)
     (c.len-self-inside.ensures ∙ count)
-    ∙ seen_added i.classes i.states.items i.used i.ways.items v.0 v.1 s refl
+    ∙ seen_added i.classes i.states.items i.used i.ways.items v.0 v.1 _ refl
     (ap (λ n. n - i.used) (c.len.ensures ∙ count)) c.push.new.self.items c.in-Ok.ensures.items
     ∙ ap (λ (z : Automaton). record {
       intervals = z.intervals;

@@ -2,7 +2,7 @@ use Rattle.std.proofs.Common.{rules, ◌≡◌, ◌∷◌, [], None, sym, subst,
 use Rattle.std.specs.Prelude.{chars}
 use Rattle.std.proofs.lemmas.List.{nil_from_length}
 use Rattle.regex_lite_engine.specs.Graph.Stored.{table_of}
-use Rattle.regex_lite_engine.specs.LazyDfa.Learning.{IsFirst}
+use Rattle.regex_lite_engine.specs.LazyDfa.Learning.{IsFirstStart}
 use Rattle.regex_lite_engine.specs.Search.Standing.{IsHere}
 use Rattle.regex_lite_engine.specs.Pikevm.Turns.{best_of}
 use Rattle.regex_lite_engine.proofs.lazy_dfa.RunLemmas.{at_later, maybe_in_empty}
@@ -29,7 +29,7 @@ returns-in-Some-clause-stands c = λ s stands.
       is = subst (IsHere (chars a.haystack.now) stands.p) (sym own.here_is) stands.is;
       on = stands.on;
       first = omega (arith, first);
-      own = subst (λ z. IsFirst z idle.here.at a.cache.now.walk.memory.threads) (sym own.first)
+      own = subst (λ z. IsFirstStart z idle.here.at a.cache.now.walk.memory.threads) (sym own.first)
           (own_first idle.here.at a.cache.now.walk.memory.threads none);
       state =
           maybe_in_empty a.self.now idle.state idle.first idle.here.before a.cache.now own.state

@@ -1,8 +1,8 @@
-use Rattle.std.proofs.Common.{◌∷◌, [], ◌++◌, drop, map, ap, sym, ◌∙◌}
+use Rattle.std.proofs.Common.{◌∷◌, [], ◌++◌, drop, map, ap, sym, ◌∙◌, true≢false}
 use Rattle.regex_lite_engine.specs.declared.lazy_dfa.state.StoredWay.{StoredWay}
 use Rattle.regex_lite_engine.specs.LazyDfa.Automaton.{Automaton}
 use Rattle.regex_lite_engine.specs.LazyDfa.Stored.{way_in}
-use Rattle.regex_lite_engine.proofs.lazy_dfa.AutomatonLemmas.{not_so, seen, seen_pushed}
+use Rattle.regex_lite_engine.proofs.lazy_dfa.AutomatonLemmas.{seen, seen_pushed}
 use Rattle.regex_lite_engine.proofs.lazy_dfa.automaton.LazyDfa.push_way.Goals as goal
 use Rattle.regex_lite_engine.proofs.lazy_dfa.automaton.LazyDfa.push_way.Goals.{in-Ok, in-Err}
 
@@ -17,7 +17,7 @@ returns-clause-pushed c = λ told.
           w.in-Ok.ensures.items
           ∙ ap (λ (z : Automaton). record z { pending = z.pending ++ way_in way ∷ [] })
           c.self.view_is
-      | in-Err w ↦ absurd (not_so (sym told ∙ w.result-is))
+      | in-Err w ↦ absurd (true≢false (sym told ∙ w.result-is))
     ]
 
 pub returns-clause-same : goal.returns-clause-same

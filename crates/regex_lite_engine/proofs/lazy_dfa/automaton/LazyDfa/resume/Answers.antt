@@ -1,11 +1,23 @@
-use Rattle.std.proofs.Common.{◌∷◌, [], IfSome, refl, subst, arith}
+use Rattle.std.proofs.Common.{◌∷◌, [], IfSome, length, refl, ap, subst, arith}
+use Rattle.std.proofs.lemmas.List.{length-map}
 use Rattle.regex_lite_engine.specs.Graph.Stored.{table_of}
 use Rattle.regex_lite_engine.specs.LazyDfa.Scanning.{IsIdleAt}
+use Rattle.regex_lite_engine.specs.LazyDfa.Stored.{way_in}
 use Rattle.regex_lite_engine.proofs.lazy_dfa.RunLemmas.{at_later, maybe_in_empty}
 use Rattle.regex_lite_engine.proofs.lazy_dfa.RunLemmas.{other_at, own_first}
 use Rattle.regex_lite_engine.proofs.lazy_dfa.ResumeLemmas.{first_stuck, is_in_stuck}
 use Rattle.regex_lite_engine.proofs.lazy_dfa.ResumeLemmas.{let_gone, none_by, taken_up}
 use Rattle.regex_lite_engine.proofs.lazy_dfa.automaton.LazyDfa.resume.Goals as goal
+
+pub take_up_ways-requires-clause-few : goal.take_up_ways-requires-clause-few
+take_up_ways-requires-clause-few c =
+    let stands = c.requires.stands.2 in
+    let scanning = c.requires.stands.3.0.2 in
+    let fits = c.requires.remembers.fit c.args.stuck.state scanning.state scanning.is_state in
+    let few = fits.few in
+    let cap = stands.on.ready.cap in
+    let same = ap length (c.ways-ways.ensures scanning.state scanning.is_state) in
+    omega (arith, few, cap, same, length-map c.ways-ways.result.now way_in)
 
 pub returns-then-may_take_up-clause-stands : goal.returns-then-may_take_up-clause-stands
 returns-then-may_take_up-clause-stands c = λ haystack s stands scanned.

@@ -9,7 +9,7 @@ use Rattle.regex_lite_engine.specs.LazyDfa.Scanning.{best_told}
 use Rattle.regex_lite_engine.specs.LazyDfa.Stored.{hit_in, state_in}
 use Rattle.regex_lite_engine.proofs.lazy_dfa.AutomatonLemmas.{is_stored, known_turn, stored_within}
 use Rattle.regex_lite_engine.proofs.lazy_dfa.ScanLemmas.{end_led, led_step}
-use Rattle.regex_lite_engine.proofs.search.OptionLemmas.{not_there, same_some}
+use Rattle.regex_lite_engine.proofs.OptionLemmas.{not_there, same_some}
 use Rattle.regex_lite_engine.proofs.lazy_dfa.automaton.LazyDfa.step_shortest.Goals as goal
 
 pub index-requires-2 : goal.index-requires-2

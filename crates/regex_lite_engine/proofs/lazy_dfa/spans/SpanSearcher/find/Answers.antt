@@ -9,4 +9,4 @@ find-requires-clause-counts c =
     let haystack = c.args.haystack.now in
     let short : length haystack < 2 ^ 63 = search rules in
     can_count (table_of c.args.graph.now) haystack (position_at haystack c.args.start)
-    c.utf8.haystack short c.requires.finds.countable 1 (omega arith)
+    c.utf8.haystack short c.requires.finds.1.countable 1 (omega arith)

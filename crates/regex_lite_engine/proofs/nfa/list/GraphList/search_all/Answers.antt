@@ -12,7 +12,7 @@ use Rattle.regex_lite_syntax.specs.Tree.{empty}
 use Rattle.regex_lite_engine.specs.Graph.PlaceCounts.{whole_arrows, whole_places}
 use Rattle.regex_lite_engine.specs.Graph.SideBySide.{places_of_all, tries_of_all}
 use Rattle.regex_lite_engine.specs.Search.Answer.{HasMatchFrom}
-use Rattle.regex_lite_engine.specs.Search.AnswerOfList.{HasTree}
+use Rattle.regex_lite_engine.specs.Graph.SideBySide.{HasTree}
 use Rattle.regex_lite_engine.specs.Search.Bounds.{IsBoundedBy}
 use Rattle.regex_lite_engine.specs.Search.Offsets.{position_at}
 use Rattle.regex_lite_engine.proofs.pikevm.BoundLemmas.{bounded_both}

@@ -5,7 +5,7 @@ use Rattle.regex_lite_syntax.specs.Tree.{Tree}
 use Rattle.regex_lite_engine.specs.Graph.SideBySide.{AreRegular, places_of_all, tries_of_all}
 use Rattle.regex_lite_engine.specs.Graph.StoredList.{IsGraphOfList, table_of_list}
 use Rattle.regex_lite_engine.specs.Search.Answer.{HasMatchFrom}
-use Rattle.regex_lite_engine.specs.Search.AnswerOfList.{HasTree}
+use Rattle.regex_lite_engine.specs.Graph.SideBySide.{HasTree}
 use Rattle.regex_lite_engine.specs.Search.Bounds.{IsBoundedBy}
 use Rattle.regex_lite_engine.specs.Search.Offsets.{position_at}
 use Rattle.regex_lite_engine.specs.Pikevm.Searching.{IsBetween}

@@ -1,19 +1,20 @@
-use Rattle.std.proofs.Common.{◌≡◌, ℕ, ◌+◌, ◌^◌, ◌<◌, ◌≤◌, List, length, replicate, [], ◌++◌}
-use Rattle.std.proofs.Common.{None, if◌then◌else◌, Some, true, sym, ap, subst, ◌∙◌, arith}
-use Rattle.regex_lite_engine.specs.declared.pikevm.walk.Walk.{Walk}
+use Rattle.std.proofs.Common.{◌≡◌, ℕ, ◌+◌, ◌<◌, ◌≤◌, List, length, replicate, [], ◌∷◌, ◌++◌}
+use Rattle.std.proofs.Common.{None, if◌then◌else◌, Some, true, drop, suc, sym, ap, subst, ◌∙◌}
+use Rattle.std.proofs.Common.{arith}
+use Rattle.std.proofs.Math.ListN.{drop_of_length-le}
+use Rattle.std.proofs.Math.Seq.{drop-cons}
+use Rattle.regex_lite_engine.specs.declared.search.patterns.Start.{Start}
 use Rattle.regex_lite_engine.specs.Search.Bounds.{StaysCounted}
-use Rattle.regex_lite_engine.specs.Pikevm.Again.{all_retold, best_again, retold}
-use Rattle.regex_lite_engine.specs.Pikevm.Beginnings.{Told}
+use Rattle.regex_lite_engine.specs.Pikevm.Again.{all_retold, best_again, retold, state_retold}
+use Rattle.regex_lite_engine.specs.Pikevm.Beginnings.{Told, untold}
 use Rattle.regex_lite_engine.specs.Pikevm.Machine.{Row, State, BestState, Thread, thread_at}
-use Rattle.regex_lite_engine.specs.Pikevm.Room.{due_entries, due_tries, KeepsPosition}
+use Rattle.regex_lite_engine.specs.Pikevm.Room.{explores, KeepsPosition}
 use Rattle.regex_lite_engine.specs.Pikevm.Searching.{ways_at}
-use Rattle.regex_lite_engine.specs.Pikevm.Turns.{begun, best_of, StepsTo}
+use Rattle.regex_lite_engine.specs.Pikevm.Turns.{begun, best_of, with_starts, Between, StepsTo}
 use Rattle.regex_lite_engine.specs.Pikevm.Walking.{Best}
-use Rattle.regex_lite_engine.proofs.pikevm.AgainLemmas.{thread_retold}
 use Rattle.regex_lite_engine.proofs.pikevm.CountLemmas.{still_counted}
 use Rattle.regex_lite_engine.proofs.pikevm.StateLemmas.{takes_up}
-use Rattle.regex_lite_engine.proofs.pikevm.StepLemmas.{room_pushed, stepped_again}
-use Rattle.regex_lite_engine.proofs.pikevm.StepLemmas.{stepped_walk, spent_walk, entries_walk}
+use Rattle.regex_lite_engine.proofs.pikevm.StepLemmas.{goes_up, room_pushed, stepped}
 use Rattle.regex_lite_engine.proofs.pikevm.TurnLemmas.{begun_below, start_begun, start_taken}
 use Rattle.regex_lite_engine.proofs.pikevm.cache.Cache.follow_ways.Goals as goal
 
@@ -21,6 +22,31 @@ use Rattle.regex_lite_engine.proofs.pikevm.cache.Cache.follow_ways.Goals as goal
 has_row : (best : Best) (i : Told) (at : ℕ) (row row' : Row) → best ≡ Some (i, at, row) → row ≡ row'
     → best ≡ Some (i, at, row')
 has_row best i at row row' is same = cc
+
+-- the k-th of the ways is taken up
+module _ (starts : List Start) (told : ℕ → Told) (best : Best) (m w : State) (k : ℕ)
+    (kept : KeepsPosition m w) where
+  abbrev ways : List Thread
+  ways = with_starts starts told best (length m.row) m.threads
+
+  taken_at : k < length ways → (thread : Thread)
+      → thread_at (w.threads ++ begun told (replicate (length w.row) None) starts) k ≡ thread
+      → thread_at ways k ≡ thread
+  taken_at lt thread is =
+      (start_taken starts told (length m.row) best m.threads k lt).1
+      ∙ ap (λ ts. thread_at (ts ++ begun told (replicate (length m.row) None) starts) k)
+      (sym kept.threads)
+      ∙ ap (λ n. thread_at (w.threads ++ begun told (replicate n None) starts) k) (sym kept.row)
+      ∙ is
+
+  taken_first : k < length ways → (thread : Thread)
+      → thread_at (w.threads ++ begun told (replicate (length w.row) None) starts) k ≡ thread
+      → drop k ways ≡ thread ∷ drop (k + 1) ways
+  taken_first lt thread is =
+      let next : suc k ≡ k + 1 = omega arith in
+      drop-cons ways k (0, untold, []) lt
+      ∙ ap (λ t. t ∷ drop (suc k) ways) (taken_at lt thread is)
+      ∙ ap (λ j. thread ∷ drop j ways) next
 
 pub take_up-place-requires : goal.take_up-place-requires
 take_up-place-requires g c =
@@ -38,229 +64,193 @@ pub explore-requires-clause-room : goal.explore-requires-clause-room
 explore-requires-clause-room g c =
     let a = c.args in let i = a.self.now.walk.memory in let w = c.ways.self.walk in
     let v = c.ways.invariant in let up = c.take_up-place.ensures in
-    let q : ℕ = c.take_up-place.result.0 in
-    let start : Told = g.S.Beginning.told c.take_up-place.result.1 in
-    let w1 : Walk g.row.S.Denot =
-    record { memory = c.take_up-place.new.self.memory; steps = c.take_up-place.new.self.steps } in
-    let ws =
-    ways_at (g.P.Patterns.starts a.patterns.now) (g.S.Beginning.told_of a.here.at) a.self.now in
+    let x = c.take_up-place.new.self in let table = g.P.Patterns.table a.patterns.now in
+    let starts = g.P.Patterns.starts a.patterns.now in let told = g.S.Beginning.told_of a.here.at in
+    let ws = ways_at starts told a.self.now in
     let lt : c.ways.k < length ws =
-    (let t = c.ways-test.true in let e = c.ways-k-end.ensures (g.S.Beginning.told_of a.here.at) in
-    omega (arith, t, e)) in
-    let em = takes_up w.memory w1.memory up.memory v.empty in
-    let taken = start_taken (g.P.Patterns.starts a.patterns.now) (g.S.Beginning.told_of a.here.at)
-    (length i.row) (best_of a.self.now.best) i.threads c.ways.k lt in
-    let at : thread_at ws c.ways.k ≡ (q, start, w1.memory.row) =
-    taken.1 ∙ ap (λ ts. thread_at (ts ++ begun (g.S.Beginning.told_of a.here.at)
-    (replicate (length i.row) None) (g.P.Patterns.starts a.patterns.now)) c.ways.k)
-    (sym v.kept.threads)
-    ∙ ap (λ n. thread_at (w.memory.threads ++ begun (g.S.Beginning.told_of a.here.at)
-    (replicate n None) (g.P.Patterns.starts a.patterns.now)) c.ways.k) (sym v.kept.row)
-    ∙ up.thread in
-    let below = begun_below (length (g.P.Patterns.table a.patterns.now)) (best_of a.self.now.best)
-    (g.P.Patterns.starts a.patterns.now)
-    (g.S.Beginning.told_of a.here.at) i.threads ws c.requires.inside c.requires.placed.below
-    (start_begun (g.P.Patterns.starts a.patterns.now) (g.S.Beginning.told_of a.here.at)
-    (length i.row) (best_of a.self.now.best) i.threads) in
+    (let t = c.ways-test.true in let e = c.ways-k-end.ensures told in omega (arith, t, e)) in
+    let at = taken_at starts told (best_of a.self.now.best) i w.memory c.ways.k v.kept lt
+    (c.take_up-place.result.0, g.S.Beginning.told c.take_up-place.result.1, x.memory.row)
+    up.thread in
+    let below = begun_below (length table) (best_of a.self.now.best) starts told i.threads ws
+    c.requires.inside c.requires.placed.below
+    (start_begun starts told (length i.row) (best_of a.self.now.best) i.threads) in
     let budget = c.requires.placed.budget in let spent = v.spent in
-    room_pushed (g.P.Patterns.table a.patterns.now) w w1 q em up.steps
-    (subst (λ (t : Thread). t.0 < length (g.P.Patterns.table a.patterns.now)) at
-    (below c.ways.k lt))
-    c.requires.placed.stack_room
-    (subst (λ z. due_tries (g.P.Patterns.table a.patterns.now) w.memory.rounds z [] w.memory.next
-    w.steps.tried + 1 < 2 ^ 127) (sym v.kept.round) (omega (arith, budget, spent, lt)))
-    v.room
-
-pub ways-preserved : goal.ways-preserved
-ways-preserved g c =
-    let a = c.args in let i = a.self.now.walk.memory in let w = c.ways.self.walk in
-    let v = c.ways.invariant in let up = c.take_up-place.ensures in
-    let q : ℕ = c.take_up-place.result.0 in
-    let start : Told = g.S.Beginning.told c.take_up-place.result.1 in
-    let w1 : Walk g.row.S.Denot =
-    record { memory = c.take_up-place.new.self.memory; steps = c.take_up-place.new.self.steps } in
-    let ws =
-    ways_at (g.P.Patterns.starts a.patterns.now) (g.S.Beginning.told_of a.here.at) a.self.now in
-    let lt : c.ways.k < length ws =
-    (let t = c.ways-test.true in let e = c.ways-k-end.ensures (g.S.Beginning.told_of a.here.at) in
-    omega (arith, t, e)) in
-    let em = takes_up w.memory w1.memory up.memory v.empty in
-    let more = c.explore.ensures in
-    let taken = start_taken (g.P.Patterns.starts a.patterns.now) (g.S.Beginning.told_of a.here.at)
-    (length i.row) (best_of a.self.now.best) i.threads c.ways.k lt in
-    let at : thread_at ws c.ways.k ≡ (q, start, w1.memory.row) =
-    taken.1 ∙ ap (λ ts. thread_at (ts ++ begun (g.S.Beginning.told_of a.here.at)
-    (replicate (length i.row) None) (g.P.Patterns.starts a.patterns.now)) c.ways.k)
-    (sym v.kept.threads)
-    ∙ ap (λ n. thread_at (w.memory.threads ++ begun (g.S.Beginning.told_of a.here.at)
-    (replicate n None) (g.P.Patterns.starts a.patterns.now)) c.ways.k) (sym v.kept.row)
-    ∙ up.thread in
-    let due = due_tries (g.P.Patterns.table a.patterns.now) i.rounds i.now [] i.next
-    a.self.now.walk.steps.tried in
-    let kept : KeepsPosition i c.explore.new.self.memory = record {
-      round = more.kept.round ∙ ap (λ (m : State). m.now) em ∙ v.kept.round;
-      threads = more.kept.threads ∙ ap (λ (m : State). m.threads) em ∙ v.kept.threads;
-      room = more.kept.room ∙ ap (λ (m : State). m.room) em ∙ v.kept.room;
-      row = more.kept.row ∙ up.row ∙ v.kept.row;
-    } in
-    record {
-      room = more.room;
-      steps =
-          subst (λ d. StepsTo (g.P.Patterns.table a.patterns.now) a.here i.now (thread_at ws)
-          (length ws) i.rounds i.next (best_of a.self.now.best)
-          (if d then length ws else c.ways.k + 1) c.explore.new.self.memory.rounds
-          c.explore.new.self.memory.next
-          (if d then Some (start, a.here.at, c.explore.new.self.memory.row)
-          else best_of a.self.now.best)) c.if-explore.false
-          (stepped_walk (g.P.Patterns.table a.patterns.now) w w1 q em up.steps a.here i.now
-          v.kept.round c.explore.new.self start c.explore.result more.explored (thread_at ws)
-          (length ws) i.rounds i.next (best_of a.self.now.best) c.ways.k lt at v.steps);
-      again = λ tell there b0 alike.
-          subst (λ d. StepsTo (g.P.Patterns.table a.patterns.now) there i.now
-          (thread_at (all_retold tell ws)) (length ws) i.rounds (all_retold tell i.next) b0
-          (if d then length ws else c.ways.k + 1) c.explore.new.self.memory.rounds
-          (all_retold tell c.explore.new.self.memory.next)
-          (if d then Some (tell start, there.at, []) else b0)) c.if-explore.false
-          (stepped_again (g.P.Patterns.table a.patterns.now) w w1 q em up.steps a.here i.now
-          v.kept.round c.explore.new.self start c.explore.result more.explored
-          (thread_at (all_retold tell ws)) (length ws) i.rounds (all_retold tell i.next) b0 c.ways.k
-          tell there alike lt (thread_retold tell ws c.ways.k lt ∙ ap (retold tell) at)
-          (v.again tell there b0 alike));
-      best = v.best;
-      kept = kept;
-      spent =
-          spent_walk (g.P.Patterns.table a.patterns.now) w w1 q em up.steps a.here i.now
-          v.kept.round c.explore.new.self start c.explore.result more.explored due c.ways.k v.spent;
-      spent_entries =
-          entries_walk (g.P.Patterns.table a.patterns.now) w w1 q em up.steps a.here i.now
-          v.kept.round c.explore.new.self start c.explore.result more.explored
-          (due_entries (g.P.Patterns.table a.patterns.now) i.rounds i.now
-          a.self.now.walk.steps.entered) v.spent_entries;
-      empty = more.empty;
-      counts = still_counted a.self.now.walk.steps w.steps c.explore.new.self.steps v.counts
-          (subst (λ s. StaysCounted s c.explore.new.self.steps) up.steps more.counts);
-      ready = more.ready ∙ ap (λ (m : State). m.ready) em ∙ v.ready;
-    }
+    room_pushed table w x c.take_up-place.result.0 (takes_up w.memory x.memory up.memory v.empty)
+    up.steps (subst (λ (t : Thread). t.0 < length table) at (below c.ways.k lt))
+    c.requires.placed.stack_room (omega (arith, budget, spent, lt)) v.room
 
 pub explore-requires-clause-ready : goal.explore-requires-clause-ready
 explore-requires-clause-ready g c = λ all.
     ap (λ (m : State). m.ready) c.take_up-place.ensures.memory ∙ c.ways.invariant.ready
     ∙ c.requires.ready all
 
-pub returns-then-explore-clause-followed : goal.returns-then-explore-clause-followed
-returns-then-explore-clause-followed g c =
-    let a = c.args in let i = a.self.now.walk.memory in let w = c.ways.self.walk in
+pub ways-preserved : goal.ways-preserved
+ways-preserved g c =
+    let a = c.args in let i = a.self.now.walk in let w = c.ways.self.walk in
     let v = c.ways.invariant in let up = c.take_up-place.ensures in
+    let x = c.take_up-place.new.self in let y = c.explore.new.self in
+    let table = g.P.Patterns.table a.patterns.now in
+    let starts = g.P.Patterns.starts a.patterns.now in let told = g.S.Beginning.told_of a.here.at in
+    let best = best_of a.self.now.best in
     let q : ℕ = c.take_up-place.result.0 in
     let start : Told = g.S.Beginning.told c.take_up-place.result.1 in
-    let w1 : Walk g.row.S.Denot =
-    record { memory = c.take_up-place.new.self.memory; steps = c.take_up-place.new.self.steps } in
-    let ws =
-    ways_at (g.P.Patterns.starts a.patterns.now) (g.S.Beginning.told_of a.here.at) a.self.now in
+    let thread : Thread = (q, start, x.memory.row) in
+    let ws = ways_at starts told a.self.now in
     let lt : c.ways.k < length ws =
-    (let t = c.ways-test.true in let e = c.ways-k-end.ensures (g.S.Beginning.told_of a.here.at) in
-    omega (arith, t, e)) in
-    let em = takes_up w.memory w1.memory up.memory v.empty in
+    (let t = c.ways-test.true in let e = c.ways-k-end.ensures told in omega (arith, t, e)) in
+    let em = takes_up w.memory x.memory up.memory v.empty in
     let more = c.explore.ensures in
-    let taken = start_taken (g.P.Patterns.starts a.patterns.now) (g.S.Beginning.told_of a.here.at)
-    (length i.row) (best_of a.self.now.best) i.threads c.ways.k lt in
-    let at : thread_at ws c.ways.k ≡ (q, start, w1.memory.row) =
-    taken.1 ∙ ap (λ ts. thread_at (ts ++ begun (g.S.Beginning.told_of a.here.at)
-    (replicate (length i.row) None) (g.P.Patterns.starts a.patterns.now)) c.ways.k)
-    (sym v.kept.threads)
-    ∙ ap (λ n. thread_at (w.memory.threads ++ begun (g.S.Beginning.told_of a.here.at)
-    (replicate n None) (g.P.Patterns.starts a.patterns.now)) c.ways.k) (sym v.kept.row)
-    ∙ up.thread in
-    let due = due_tries (g.P.Patterns.table a.patterns.now) i.rounds i.now [] i.next
-    a.self.now.walk.steps.tried in
-    let kept : KeepsPosition i c.explore.new.self.memory = record {
-      round = more.kept.round ∙ ap (λ (m : State). m.now) em ∙ v.kept.round;
-      threads = more.kept.threads ∙ ap (λ (m : State). m.threads) em ∙ v.kept.threads;
-      room = more.kept.room ∙ ap (λ (m : State). m.room) em ∙ v.kept.room;
-      row = more.kept.row ∙ up.row ∙ v.kept.row;
-    } in
-    let spent = spent_walk (g.P.Patterns.table a.patterns.now) w w1 q em up.steps a.here i.now
-    v.kept.round c.explore.new.self start c.explore.result more.explored due c.ways.k v.spent in
-    let found : best_of c.set.new.self ≡ Some (start, a.here.at, c.explore.new.self.memory.row) =
-    has_row (best_of c.set.new.self) start a.here.at c.row.result.now c.explore.new.self.memory.row
+    let first = taken_first starts told best i.memory w.memory c.ways.k v.kept lt
+    thread up.thread in
+    let left = drop (c.ways.k + 1) ws in
+    let on = goes_up table w x q em up.steps a.here start y c.explore.result more.explored in
+    let spent = on.spent in let so_far = v.spent in
+    let idle : explores y.memory.frames ≡ 0 = ap (λ fs. explores fs) more.empty in
+    let entries = on.spent_entries in let entries_so_far = v.spent_entries in
+    record {
+      room = more.room;
+      steps =
+          subst (λ d. StepsTo table a.here i.memory ws best y.memory (if d then [] else left)
+          (if d then Some (start, a.here.at, y.memory.row) else best)) c.if-explore.false
+          (λ at is u. stepped table a.here w.memory y.memory thread left best c.explore.result
+          on.walks at is
+          (subst (λ (ts : List Thread). Between table at w.memory ts best) first
+          (v.steps at is u)));
+      again = λ tell there b alike.
+          subst (λ d. StepsTo table there (state_retold tell i.memory) (all_retold tell ws) b
+          (state_retold tell y.memory) (if d then [] else all_retold tell left)
+          (if d then Some (tell start, there.at, []) else b)) c.if-explore.false
+          (λ at is u. stepped table there (state_retold tell w.memory)
+          (state_retold tell y.memory) (retold tell thread) (all_retold tell left) b
+          c.explore.result (on.again tell there alike) at is
+          (subst (λ (ts : List Thread). Between table at (state_retold tell w.memory)
+          (all_retold tell ts) b) first (v.again tell there b alike at is u)));
+      best = v.best;
+      kept = record {
+        round = more.kept.round ∙ ap (λ (m : State). m.now) em ∙ v.kept.round;
+        threads = more.kept.threads ∙ ap (λ (m : State). m.threads) em ∙ v.kept.threads;
+        room = more.kept.room ∙ ap (λ (m : State). m.room) em ∙ v.kept.room;
+        row = more.kept.row ∙ up.row ∙ v.kept.row;
+      };
+      spent = omega (arith, spent, so_far, idle);
+      spent_entries = omega (arith, entries, entries_so_far);
+      empty = more.empty;
+      counts = still_counted i.steps w.steps y.steps v.counts
+          (subst (λ s. StaysCounted s y.steps) up.steps more.counts);
+      ready = more.ready ∙ ap (λ (m : State). m.ready) em ∙ v.ready;
+    }
+
+pub returns-then-explore-clause-followed : goal.returns-then-explore-clause-followed
+returns-then-explore-clause-followed g c =
+    let a = c.args in let i = a.self.now.walk in let w = c.ways.self.walk in
+    let v = c.ways.invariant in let up = c.take_up-place.ensures in
+    let x = c.take_up-place.new.self in let y = c.explore.new.self in
+    let table = g.P.Patterns.table a.patterns.now in
+    let starts = g.P.Patterns.starts a.patterns.now in let told = g.S.Beginning.told_of a.here.at in
+    let best = best_of a.self.now.best in
+    let q : ℕ = c.take_up-place.result.0 in
+    let start : Told = g.S.Beginning.told c.take_up-place.result.1 in
+    let thread : Thread = (q, start, x.memory.row) in
+    let ws = ways_at starts told a.self.now in
+    let lt : c.ways.k < length ws =
+    (let t = c.ways-test.true in let e = c.ways-k-end.ensures told in omega (arith, t, e)) in
+    let em = takes_up w.memory x.memory up.memory v.empty in
+    let more = c.explore.ensures in
+    let first = taken_first starts told best i.memory w.memory c.ways.k v.kept lt
+    thread up.thread in
+    let left = drop (c.ways.k + 1) ws in
+    let on = goes_up table w x q em up.steps a.here start y c.explore.result more.explored in
+    let spent = on.spent in let so_far = v.spent in
+    let idle : explores y.memory.frames ≡ 0 = ap (λ fs. explores fs) more.empty in
+    let entries = on.spent_entries in let entries_so_far = v.spent_entries in
+    let found : best_of c.set.new.self ≡ Some (start, a.here.at, y.memory.row) =
+    has_row (best_of c.set.new.self) start a.here.at c.row.result.now y.memory.row
     c.set.ensures.found c.row.ensures in
     record {
       steps =
-          subst (λ z. StepsTo (g.P.Patterns.table a.patterns.now) a.here i.now (thread_at ws)
-          (length ws) i.rounds i.next (best_of a.self.now.best)
-          (length ws) c.explore.new.self.memory.rounds c.explore.new.self.memory.next z) (sym found)
-          (subst (λ d. StepsTo (g.P.Patterns.table a.patterns.now) a.here i.now (thread_at ws)
-          (length ws) i.rounds i.next (best_of a.self.now.best)
-          (if d then length ws else c.ways.k + 1) c.explore.new.self.memory.rounds
-          c.explore.new.self.memory.next
-          (if d then Some (start, a.here.at, c.explore.new.self.memory.row)
-          else best_of a.self.now.best)) c.if-explore.true
-          (stepped_walk (g.P.Patterns.table a.patterns.now) w w1 q em up.steps a.here i.now
-          v.kept.round c.explore.new.self start c.explore.result more.explored (thread_at ws)
-          (length ws) i.rounds i.next (best_of a.self.now.best) c.ways.k lt at v.steps));
-      spent = omega (arith, spent, lt);
-      spent_entries =
-          entries_walk (g.P.Patterns.table a.patterns.now) w w1 q em up.steps a.here i.now
-          v.kept.round c.explore.new.self start c.explore.result more.explored
-          (due_entries (g.P.Patterns.table a.patterns.now) i.rounds i.now
-          a.self.now.walk.steps.entered) v.spent_entries;
+          subst (λ z. StepsTo table a.here i.memory ws best y.memory [] z) (sym found)
+          (subst (λ d. StepsTo table a.here i.memory ws best y.memory (if d then [] else left)
+          (if d then Some (start, a.here.at, y.memory.row) else best)) c.if-explore.true
+          (λ at is u. stepped table a.here w.memory y.memory thread left best c.explore.result
+          on.walks at is
+          (subst (λ (ts : List Thread). Between table at w.memory ts best) first
+          (v.steps at is u))));
+      spent = omega (arith, spent, so_far, idle, lt);
+      spent_entries = omega (arith, entries, entries_so_far);
       stack_empty = more.empty;
-      kept = kept;
+      kept = record {
+        round = more.kept.round ∙ ap (λ (m : State). m.now) em ∙ v.kept.round;
+        threads = more.kept.threads ∙ ap (λ (m : State). m.threads) em ∙ v.kept.threads;
+        room = more.kept.room ∙ ap (λ (m : State). m.room) em ∙ v.kept.room;
+        row = more.kept.row ∙ up.row ∙ v.kept.row;
+      };
       best_width = c.set.ensures.width ∙ ap (λ (b : BestState). length b.row) v.best;
     }
 
 pub returns-then-explore-clause-again : goal.returns-then-explore-clause-again
-returns-then-explore-clause-again g c = λ tell there b0 alike.
-    let a = c.args in let i = a.self.now.walk.memory in let w = c.ways.self.walk in
+returns-then-explore-clause-again g c = λ tell there b alike.
+    let a = c.args in let i = a.self.now.walk in let w = c.ways.self.walk in
     let v = c.ways.invariant in let up = c.take_up-place.ensures in
+    let x = c.take_up-place.new.self in let y = c.explore.new.self in
+    let table = g.P.Patterns.table a.patterns.now in
+    let starts = g.P.Patterns.starts a.patterns.now in let told = g.S.Beginning.told_of a.here.at in
     let q : ℕ = c.take_up-place.result.0 in
     let start : Told = g.S.Beginning.told c.take_up-place.result.1 in
-    let w1 : Walk g.row.S.Denot =
-    record { memory = c.take_up-place.new.self.memory; steps = c.take_up-place.new.self.steps } in
-    let ws =
-    ways_at (g.P.Patterns.starts a.patterns.now) (g.S.Beginning.told_of a.here.at) a.self.now in
+    let thread : Thread = (q, start, x.memory.row) in
+    let ws = ways_at starts told a.self.now in
     let lt : c.ways.k < length ws =
-    (let t = c.ways-test.true in let e = c.ways-k-end.ensures (g.S.Beginning.told_of a.here.at) in
-    omega (arith, t, e)) in
-    let em = takes_up w.memory w1.memory up.memory v.empty in
-    let more = c.explore.ensures in
-    let taken = start_taken (g.P.Patterns.starts a.patterns.now) (g.S.Beginning.told_of a.here.at)
-    (length i.row) (best_of a.self.now.best) i.threads c.ways.k lt in
-    let at : thread_at ws c.ways.k ≡ (q, start, w1.memory.row) =
-    taken.1 ∙ ap (λ ts. thread_at (ts ++ begun (g.S.Beginning.told_of a.here.at)
-    (replicate (length i.row) None) (g.P.Patterns.starts a.patterns.now)) c.ways.k)
-    (sym v.kept.threads)
-    ∙ ap (λ n. thread_at (w.memory.threads ++ begun (g.S.Beginning.told_of a.here.at)
-    (replicate n None) (g.P.Patterns.starts a.patterns.now)) c.ways.k) (sym v.kept.row)
-    ∙ up.thread in
-    let found : best_of c.set.new.self ≡ Some (start, a.here.at, c.explore.new.self.memory.row) =
-    has_row (best_of c.set.new.self) start a.here.at c.row.result.now c.explore.new.self.memory.row
+    (let t = c.ways-test.true in let e = c.ways-k-end.ensures told in omega (arith, t, e)) in
+    let first = taken_first starts told (best_of a.self.now.best) i.memory w.memory c.ways.k v.kept
+    lt thread up.thread in
+    let on = goes_up table w x q (takes_up w.memory x.memory up.memory v.empty) up.steps a.here
+    start y c.explore.result c.explore.ensures.explored in
+    let left = all_retold tell (drop (c.ways.k + 1) ws) in
+    let found : best_of c.set.new.self ≡ Some (start, a.here.at, y.memory.row) =
+    has_row (best_of c.set.new.self) start a.here.at c.row.result.now y.memory.row
     c.set.ensures.found c.row.ensures in
-    subst (λ z. StepsTo (g.P.Patterns.table a.patterns.now) there i.now
-    (thread_at (all_retold tell ws)) (length ws) i.rounds (all_retold tell i.next) b0
-    (length ws) c.explore.new.self.memory.rounds (all_retold tell c.explore.new.self.memory.next)
-    (best_again tell there.at true z b0)) (sym found)
-    (subst (λ d. StepsTo (g.P.Patterns.table a.patterns.now) there i.now
-    (thread_at (all_retold tell ws)) (length ws) i.rounds (all_retold tell i.next) b0
-    (if d then length ws else c.ways.k + 1) c.explore.new.self.memory.rounds
-    (all_retold tell c.explore.new.self.memory.next)
-    (if d then Some (tell start, there.at, []) else b0)) c.if-explore.true
-    (stepped_again (g.P.Patterns.table a.patterns.now) w w1 q em up.steps a.here i.now v.kept.round
-    c.explore.new.self start c.explore.result more.explored (thread_at (all_retold tell ws))
-    (length ws) i.rounds (all_retold tell i.next) b0 c.ways.k
-    tell there alike lt (thread_retold tell ws c.ways.k lt ∙ ap (retold tell) at)
-    (v.again tell there b0 alike)))
+    subst (λ z. StepsTo table there (state_retold tell i.memory) (all_retold tell ws) b
+    (state_retold tell y.memory) [] (best_again tell there.at true z b)) (sym found)
+    (subst (λ d. StepsTo table there (state_retold tell i.memory) (all_retold tell ws) b
+    (state_retold tell y.memory) (if d then [] else left)
+    (if d then Some (tell start, there.at, []) else b)) c.if-explore.true
+    (λ at is u. stepped table there (state_retold tell w.memory) (state_retold tell y.memory)
+    (retold tell thread) left b c.explore.result (on.again tell there alike) at is
+    (subst (λ (ts : List Thread). Between table at (state_retold tell w.memory) (all_retold tell ts)
+    b) first (v.again tell there b alike at is u))))
 
-pub returns-clause-again : goal.returns-clause-again
-returns-clause-again g c = λ tell there b0 alike.
-    let a = c.args in let i = a.self.now.walk.memory in let v = c.ways.invariant in
-    let ws =
-    ways_at (g.P.Patterns.starts a.patterns.now) (g.S.Beginning.told_of a.here.at) a.self.now in
-    let e = c.ways-k-end.ensures (g.S.Beginning.told_of a.here.at) in
+pub returns-clause-followed : goal.returns-clause-followed
+returns-clause-followed g c =
+    let a = c.args in let v = c.ways.invariant in
+    let table = g.P.Patterns.table a.patterns.now in
+    let told = g.S.Beginning.told_of a.here.at in
+    let ws = ways_at (g.P.Patterns.starts a.patterns.now) told a.self.now in
+    let e = c.ways-k-end.ensures told in
     let t = c.ways-test.false in
     let far : c.ways.k ≤ c.ways-k-end.result = search in
-    let all : c.ways.k ≡ length ws = omega (arith, t, e, far) in
-    subst (λ z. StepsTo (g.P.Patterns.table a.patterns.now) there i.now
-    (thread_at (all_retold tell ws)) (length ws) i.rounds (all_retold tell i.next) b0
-    z c.ways.self.walk.memory.rounds (all_retold tell c.ways.self.walk.memory.next) b0) all
-    (v.again tell there b0 alike)
+    let spent = v.spent in
+    record {
+      steps =
+          subst (λ b. StepsTo table a.here a.self.now.walk.memory ws (best_of a.self.now.best)
+          c.ways.self.walk.memory [] b) (sym (ap best_of v.best))
+          (subst (λ ts. StepsTo table a.here a.self.now.walk.memory ws (best_of a.self.now.best)
+          c.ways.self.walk.memory ts (best_of a.self.now.best))
+          (drop_of_length-le ws (omega (arith, t, e))) v.steps);
+      spent = omega (arith, e, far, spent);
+      spent_entries = v.spent_entries;
+      stack_empty = v.empty;
+      kept = v.kept;
+      best_width = ap (λ (b : BestState). length b.row) v.best;
+    }
+
+pub returns-clause-again : goal.returns-clause-again
+returns-clause-again g c = λ tell there b alike.
+    let a = c.args in let i = a.self.now.walk.memory in
+    let told = g.S.Beginning.told_of a.here.at in
+    let ws = ways_at (g.P.Patterns.starts a.patterns.now) told a.self.now in
+    let e = c.ways-k-end.ensures told in
+    let t = c.ways-test.false in
+    subst (λ (ts : List Thread). StepsTo (g.P.Patterns.table a.patterns.now) there
+    (state_retold tell i) (all_retold tell ws) b (state_retold tell c.ways.self.walk.memory)
+    (all_retold tell ts) b) (drop_of_length-le ws (omega (arith, t, e)))
+    (c.ways.invariant.again tell there b alike)

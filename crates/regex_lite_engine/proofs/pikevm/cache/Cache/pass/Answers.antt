@@ -3,10 +3,10 @@ use Rattle.std.specs.Prelude.{chars}
 use Rattle.regex_lite_engine.specs.Graph.Parts.{row_of}
 use Rattle.regex_lite_engine.specs.Graph.Renumbered.{arrows_of}
 use Rattle.regex_lite_engine.specs.Pikevm.Passing.{IsUnderWay}
-use Rattle.regex_lite_engine.specs.Search.Starts.{GoesOnAt}
+use Rattle.regex_lite_engine.specs.Pikevm.Passing.{GoesOnAt}
 use Rattle.regex_lite_engine.specs.Pikevm.Turns.{best_of}
 use Rattle.regex_lite_engine.proofs.pikevm.PassLemmas.{bound_on}
-use Rattle.regex_lite_engine.proofs.search.SkipLemmas.{onward}
+use Rattle.regex_lite_engine.proofs.pikevm.PassLemmas.{onward}
 use Rattle.regex_lite_engine.proofs.pikevm.cache.Cache.pass.Goals as goal
 
 pub returns-clause-passes : goal.returns-clause-passes

@@ -1,44 +1,52 @@
-use Rattle.std.proofs.Common.{◌≡◌, ℕ, ◌+◌, length, sym, ap, subst, ◌∙◌, arith}
+use Rattle.std.proofs.Common.{◌≡◌, ℕ, List, ◌+◌, length, sym, ap, subst, ◌∙◌, arith}
 use Rattle.regex_lite_engine.specs.Graph.Parts.{row_of}
 use Rattle.regex_lite_engine.specs.Graph.Renumbered.{arrow_count}
-use Rattle.regex_lite_engine.specs.Pikevm.Again.{all_retold, best_again}
+use Rattle.regex_lite_engine.specs.Pikevm.Again.{all_retold, best_again, state_retold}
 use Rattle.regex_lite_engine.specs.Pikevm.Beginnings.{Told}
-use Rattle.regex_lite_engine.specs.Pikevm.Machine.{thread_at}
-use Rattle.regex_lite_engine.specs.Pikevm.Room.{lone, ThreadsBelow}
-use Rattle.regex_lite_engine.specs.Pikevm.Turns.{best_of, with_starts, Begun, IsComing, StepsTo}
-use Rattle.regex_lite_engine.proofs.pikevm.AgainLemmas.{all_retold_len, best_kept, start_retold}
+use Rattle.regex_lite_engine.specs.Pikevm.Room.{explores, lone, ThreadsBelow}
+use Rattle.regex_lite_engine.specs.Pikevm.Turns.{best_of, with_starts, Begun, IsComing}
+use Rattle.regex_lite_engine.specs.Pikevm.Walking.{SearchAt}
+use Rattle.regex_lite_syntax.specs.Text.{Text}
+use Rattle.regex_lite_engine.proofs.pikevm.AgainLemmas.{best_kept, start_retold}
 use Rattle.regex_lite_engine.proofs.pikevm.OwnPartLemmas.{left_outside, length_row}
 use Rattle.regex_lite_engine.proofs.pikevm.RoomLemmas.{left_most}
 use Rattle.regex_lite_engine.proofs.pikevm.StateLemmas.{begins_round, turns_over}
-use Rattle.regex_lite_engine.proofs.pikevm.TurnLemmas.{fit_first, turned_all, turned_within}
+use Rattle.regex_lite_engine.proofs.pikevm.TurnLemmas.{begins_with, fit_first, none_entered}
+use Rattle.regex_lite_engine.proofs.pikevm.TurnLemmas.{turned_all, turned_within}
 use Rattle.regex_lite_engine.proofs.pikevm.TurnLemmas.{sum_lone, begun_len, start_begun}
 use Rattle.regex_lite_engine.proofs.pikevm.cache.Cache.turn.Goals as goal
 
+-- a search at the position, before any start is offered there
+abbrev search_at : Text → (entries : List ℕ) → (first last p : ℕ) → SearchAt
+search_at h entries first last p = record {
+  haystack = h;
+  entries = entries;
+  first = first;
+  last = last;
+  p = p;
+  from = p;
+}
+
 pub follow-hit-requires-clause-room : goal.follow-hit-requires-clause-room
 follow-hit-requires-clause-room g c =
-    let a = c.args in let m = a.self.now.walk.memory in let r = c.requires in
-    let n = c.begin_round.new.self in let round = begins_round m n c.begin_round.ensures in
-    fit_first (g.P.Patterns.table a.patterns.now) m n a.self.now.best a.self.now.walk.steps.tried
-    a.self.now.walk.steps.entered a.self.now.walk.steps.looked r.ready
-    c.begin_round.ensures
+    let a = c.args in let r = c.requires in
+    fit_first (g.P.Patterns.table a.patterns.now) a.self.now.walk c.begin_round.new.self
+    a.self.now.best r.ready c.begin_round.ensures
     (let few = r.few_tries in omega (arith, few)) (let few = r.few_entries in omega (arith, few))
 
 pub follow-hit-requires-clause-placed : goal.follow-hit-requires-clause-placed
 follow-hit-requires-clause-placed g c =
     let a = c.args in let m = a.self.now.walk.memory in let r = c.requires in
     let n = c.begin_round.new.self in let round = begins_round m n c.begin_round.ensures in
-    let ws = with_starts (g.P.Patterns.starts a.patterns.now) (g.S.Beginning.told_of a.here.at)
-    (best_of a.self.now.best) (length n.row) n.threads in
-    let begins : Begun (g.P.Patterns.starts a.patterns.now) (g.S.Beginning.told_of a.here.at)
-    (best_of a.self.now.best) m.threads ws =
-    subst (λ ts. Begun (g.P.Patterns.starts a.patterns.now) (g.S.Beginning.told_of a.here.at)
-    (best_of a.self.now.best) ts ws) round.threads
-    (start_begun (g.P.Patterns.starts a.patterns.now) (g.S.Beginning.told_of a.here.at)
-    (length n.row) (best_of a.self.now.best) n.threads) in
+    let starts = g.P.Patterns.starts a.patterns.now in let told = g.S.Beginning.told_of a.here.at in
+    let best = best_of a.self.now.best in
     let few = r.few_tries in
     let none : length n.next ≡ 0 = ap length round.next ∙ ap length r.ready.none_next in
-    let one = begun_len (best_of a.self.now.best) (g.P.Patterns.starts a.patterns.now)
-    (g.S.Beginning.told_of a.here.at) m.threads ws begins in
+    let idle : explores n.frames ≡ 0 =
+    ap (λ fs. explores fs) (round.frames ∙ r.ready.stack_empty) in
+    let one = begun_len best starts told m.threads
+    (with_starts starts told best (length n.row) n.threads)
+    (begins_with m n starts told best round) in
     let most = left_most arrow_count n.now n.rounds (g.P.Patterns.table a.patterns.now) in
     record {
       stack_empty = round.frames ∙ r.ready.stack_empty;
@@ -47,29 +55,26 @@ follow-hit-requires-clause-placed g c =
           subst (ThreadsBelow (length (g.P.Patterns.table a.patterns.now))) (sym round.threads)
           r.ready.below;
       best_width = r.ready.best_width ∙ sym (ap length round.row);
-      budget = omega (arith, few, none, one, most);
+      budget = omega (arith, few, none, idle, one, most);
     }
 
 pub returns-clause-tries : goal.returns-clause-tries
 returns-clause-tries g c =
     let a = c.args in let m = a.self.now.walk.memory in let r = c.requires in
     let n = c.begin_round.new.self in let round = begins_round m n c.begin_round.ensures in
-    let ws = with_starts (g.P.Patterns.starts a.patterns.now) (g.S.Beginning.told_of a.here.at)
-    (best_of a.self.now.best) (length n.row) n.threads in
-    let begins : Begun (g.P.Patterns.starts a.patterns.now) (g.S.Beginning.told_of a.here.at)
-    (best_of a.self.now.best) m.threads ws =
-    subst (λ ts. Begun (g.P.Patterns.starts a.patterns.now) (g.S.Beginning.told_of a.here.at)
-    (best_of a.self.now.best) ts ws) round.threads
-    (start_begun (g.P.Patterns.starts a.patterns.now) (g.S.Beginning.told_of a.here.at)
-    (length n.row) (best_of a.self.now.best) n.threads) in
+    let starts = g.P.Patterns.starts a.patterns.now in let told = g.S.Beginning.told_of a.here.at in
+    let best = best_of a.self.now.best in
     let none : length n.next ≡ 0 = ap length round.next ∙ ap length r.ready.none_next in
-    let one = begun_len (best_of a.self.now.best) (g.P.Patterns.starts a.patterns.now)
-    (g.S.Beginning.told_of a.here.at) m.threads ws begins in
+    let idle : explores n.frames ≡ 0 =
+    ap (λ fs. explores fs) (round.frames ∙ r.ready.stack_empty) in
+    let one = begun_len best starts told m.threads
+    (with_starts starts told best (length n.row) n.threads)
+    (begins_with m n starts told best round) in
     let most = left_most arrow_count n.now n.rounds (g.P.Patterns.table a.patterns.now) in
     let spent = c.follow-hit.ensures.followed.spent in
     let over = ap length
     (turns_over c.follow-hit.new.self.walk.memory c.turn_over.new.self c.turn_over.ensures) in
-    omega (arith, none, one, most, spent, over)
+    omega (arith, none, idle, one, most, spent, over)
 
 pub returns-clause-entries : goal.returns-clause-entries
 returns-clause-entries g c =
@@ -83,60 +88,71 @@ pub returns-clause-comes : goal.returns-clause-comes
 returns-clause-comes g c = λ h entries p first last is low high are coming.
     let a = c.args in let m = a.self.now.walk.memory in let r = c.requires in
     let n = c.begin_round.new.self in let round = begins_round m n c.begin_round.ensures in
-    let ws = with_starts (g.P.Patterns.starts a.patterns.now) (g.S.Beginning.told_of a.here.at)
-    (best_of a.self.now.best) (length n.row) n.threads in
-    let begins : Begun (g.P.Patterns.starts a.patterns.now) (g.S.Beginning.told_of a.here.at)
-    (best_of a.self.now.best) m.threads ws =
-    subst (λ ts. Begun (g.P.Patterns.starts a.patterns.now) (g.S.Beginning.told_of a.here.at)
-    (best_of a.self.now.best) ts ws) round.threads
-    (start_begun (g.P.Patterns.starts a.patterns.now) (g.S.Beginning.told_of a.here.at)
-    (length n.row) (best_of a.self.now.best) n.threads) in
-    let f = c.follow-hit.new.self in
+    let starts = g.P.Patterns.starts a.patterns.now in let told = g.S.Beginning.told_of a.here.at in
+    let best = best_of a.self.now.best in let f = c.follow-hit.new.self in
     subst (λ z. IsComing (g.P.Patterns.table a.patterns.now) h entries first last (p + 1) z
     (best_of f.best)) (sym (turns_over f.walk.memory c.turn_over.new.self c.turn_over.ensures))
-    (turned_all (g.P.Patterns.table a.patterns.now) h entries first last m.rounds n.rounds m.now
-    n.now r.ready.old_rounds round.rounds round.now m.threads ws n.next
-    (round.next ∙ r.ready.none_next) a.here (g.S.Beginning.told_of a.here.at)
-    (g.met.S.Beginning.tells a.here.at) p is (g.P.Patterns.starts a.patterns.now) are
-    (best_of a.self.now.best) (best_of f.best) f.walk.memory.rounds f.walk.memory.next low high
-    begins c.follow-hit.ensures.followed.steps c.follow-hit.ensures.kept coming)
+    (turned_all (g.P.Patterns.table a.patterns.now) (search_at h entries first last p) a.here
+    m.threads best f.walk.memory (best_of f.best) (record {
+      is = is;
+      low = low;
+      high = high;
+      round = n;
+      new = none_entered m n r.ready.old_rounds round;
+      empty = round.next ∙ r.ready.none_next;
+      starts = starts;
+      are = are;
+      told = told;
+      tells = g.met.S.Beginning.tells a.here.at;
+      ways = with_starts starts told best (length n.row) n.threads;
+      begins = begins_with m n starts told best round;
+      steps = c.follow-hit.ensures.followed.steps;
+      kept = c.follow-hit.ensures.kept;
+    }) coming)
 
 pub returns-clause-own : goal.returns-clause-own
 returns-clause-own g c = λ h entries p first last begin len is low high are coming part.
     let a = c.args in let m = a.self.now.walk.memory in let r = c.requires in
     let n = c.begin_round.new.self in let round = begins_round m n c.begin_round.ensures in
     let table = g.P.Patterns.table a.patterns.now in
-    let ws = with_starts (g.P.Patterns.starts a.patterns.now) (g.S.Beginning.told_of a.here.at)
-    (best_of a.self.now.best) (length n.row) n.threads in
-    let begins : Begun (g.P.Patterns.starts a.patterns.now) (g.S.Beginning.told_of a.here.at)
-    (best_of a.self.now.best) m.threads ws =
-    subst (λ ts. Begun (g.P.Patterns.starts a.patterns.now) (g.S.Beginning.told_of a.here.at)
-    (best_of a.self.now.best) ts ws) round.threads
-    (start_begun (g.P.Patterns.starts a.patterns.now) (g.S.Beginning.told_of a.here.at)
-    (length n.row) (best_of a.self.now.best) n.threads) in
-    let f = c.follow-hit.new.self in let left = f.walk.memory in
+    let starts = g.P.Patterns.starts a.patterns.now in let told = g.S.Beginning.told_of a.here.at in
+    let best = best_of a.self.now.best in let f = c.follow-hit.new.self in
+    let followed = c.follow-hit.ensures in let left = f.walk.memory in
+    let ways = with_starts starts told best (length n.row) n.threads in
+    let begins = begins_with m n starts told best round in
     let only =
-    turned_within table h entries first last m.rounds n.rounds m.now n.now r.ready.old_rounds
-    round.rounds round.now m.threads ws n.next (round.next ∙ r.ready.none_next)
-    a.here (g.S.Beginning.told_of a.here.at) (g.met.S.Beginning.tells a.here.at) p is
-    (g.P.Patterns.starts a.patterns.now) are (best_of a.self.now.best)
-    (best_of f.best) left.rounds left.next low high
-    begins c.follow-hit.ensures.followed.steps c.follow-hit.ensures.kept coming begin len part in
-    let outside = left_outside arrow_count n.now left.rounds table begin len
-    c.follow-hit.ensures.room.all_seen only in
+    turned_within table (search_at h entries first last p) a.here m.threads best left
+    (best_of f.best) (record {
+      is = is;
+      low = low;
+      high = high;
+      round = n;
+      new = none_entered m n r.ready.old_rounds round;
+      empty = round.next ∙ r.ready.none_next;
+      starts = starts;
+      are = are;
+      told = told;
+      tells = g.met.S.Beginning.tells a.here.at;
+      ways = ways;
+      begins = begins;
+      steps = followed.followed.steps;
+      kept = followed.kept;
+    }) coming begin len part in
+    let outside =
+    left_outside arrow_count left.now left.rounds table begin len followed.room.all_seen only in
     let others =
-    left_outside lone n.now left.rounds table begin len c.follow-hit.ensures.room.all_seen only in
+    left_outside lone left.now left.rounds table begin len followed.room.all_seen only in
     let none : length n.next ≡ 0 = ap length round.next ∙ ap length r.ready.none_next in
-    let one = begun_len (best_of a.self.now.best) (g.P.Patterns.starts a.patterns.now)
-    (g.S.Beginning.told_of a.here.at) m.threads ws begins in
+    let idle : explores n.frames ≡ 0 =
+    ap (λ fs. explores fs) (round.frames ∙ r.ready.stack_empty) in
+    let one = begun_len best starts told m.threads ways begins in
     let most = left_most arrow_count n.now n.rounds table in
     let each = left_most lone n.now n.rounds table in
-    let spent = c.follow-hit.ensures.followed.spent in
-    let over = ap length
-    (turns_over c.follow-hit.new.self.walk.memory c.turn_over.new.self c.turn_over.ensures) in
-    let spent_entries = c.follow-hit.ensures.followed.spent_entries in
+    let spent = followed.followed.spent in
+    let over = ap length (turns_over left c.turn_over.new.self c.turn_over.ensures) in
+    let spent_entries = followed.followed.spent_entries in
     record {
-      tries = omega (arith, none, one, most, spent, over, outside);
+      tries = omega (arith, none, idle, one, most, spent, over, outside);
       entries = omega (
         arith,
         each,
@@ -152,33 +168,33 @@ returns-clause-again g c =
     λ tell there best alike tells to back h entries p first last is low high are coming.
     let a = c.args in let m = a.self.now.walk.memory in let r = c.requires in
     let n = c.begin_round.new.self in let round = begins_round m n c.begin_round.ensures in
-    let told = g.S.Beginning.told_of a.here.at in
+    let table = g.P.Patterns.table a.patterns.now in
+    let starts = g.P.Patterns.starts a.patterns.now in let told = g.S.Beginning.told_of a.here.at in
     let retells : ℕ → Told = λ k. tell (told k) in
-    let ws = with_starts (g.P.Patterns.starts a.patterns.now) told (best_of a.self.now.best)
-    (length n.row) n.threads in
+    let ws = with_starts starts told (best_of a.self.now.best) (length n.row) n.threads in
     let ts = all_retold tell m.threads in
-    let same : all_retold tell ws
-    ≡ with_starts (g.P.Patterns.starts a.patterns.now) retells best 0 ts =
-    start_retold tell (g.P.Patterns.starts a.patterns.now) told (best_of a.self.now.best) best
-    (length n.row) n.threads back to
-    ∙ ap (λ z. with_starts (g.P.Patterns.starts a.patterns.now) retells best 0
-    (all_retold tell z)) round.threads in
-    let begins : Begun (g.P.Patterns.starts a.patterns.now) retells best ts (all_retold tell ws) =
-    subst (Begun (g.P.Patterns.starts a.patterns.now) retells best ts) (sym same)
-    (start_begun (g.P.Patterns.starts a.patterns.now) retells 0 best ts) in
+    let same : all_retold tell ws ≡ with_starts starts retells best 0 ts =
+    start_retold tell starts told (best_of a.self.now.best) best (length n.row) n.threads back to
+    ∙ ap (λ z. with_starts starts retells best 0 (all_retold tell z)) round.threads in
     let f = c.follow-hit.new.self in
-    subst (λ z. IsComing (g.P.Patterns.table a.patterns.now) h entries first last (p + 1)
-    (all_retold tell z) (best_again tell there.at c.follow-hit.result (best_of f.best) best))
+    let found = best_again tell there.at c.follow-hit.result (best_of f.best) best in
+    subst (λ z. IsComing table h entries first last (p + 1) (all_retold tell z) found)
     (sym (turns_over f.walk.memory c.turn_over.new.self c.turn_over.ensures))
-    (turned_all (g.P.Patterns.table a.patterns.now) h entries first last m.rounds n.rounds m.now
-    n.now r.ready.old_rounds round.rounds round.now ts (all_retold tell ws) (all_retold tell n.next)
-    (ap (all_retold tell) round.next ∙ ap (all_retold tell) r.ready.none_next)
-    there retells tells p is (g.P.Patterns.starts a.patterns.now) are best
-    (best_again tell there.at c.follow-hit.result (best_of f.best) best) f.walk.memory.rounds
-    (all_retold tell f.walk.memory.next) low high
-    begins (subst (λ z. StepsTo (g.P.Patterns.table a.patterns.now) there n.now
-    (thread_at (all_retold tell ws)) z n.rounds (all_retold tell n.next) best z f.walk.memory.rounds
-    (all_retold tell f.walk.memory.next)
-    (best_again tell there.at c.follow-hit.result (best_of f.best) best))
-    (sym (all_retold_len tell ws)) (c.follow-hit.ensures.again tell there best alike))
-    (best_kept tell there.at c.follow-hit.result (best_of f.best) best) coming)
+    (turned_all table (search_at h entries first last p) there ts best
+    (state_retold tell f.walk.memory) found (record {
+      is = is;
+      low = low;
+      high = high;
+      round = state_retold tell n;
+      new = none_entered m n r.ready.old_rounds round;
+      empty = ap (all_retold tell) round.next ∙ ap (all_retold tell) r.ready.none_next;
+      starts = starts;
+      are = are;
+      told = retells;
+      tells = tells;
+      ways = all_retold tell ws;
+      begins =
+          subst (Begun starts retells best ts) (sym same) (start_begun starts retells 0 best ts);
+      steps = c.follow-hit.ensures.again tell there best alike;
+      kept = best_kept tell there.at c.follow-hit.result (best_of f.best) best;
+    }) coming)

@@ -1,15 +1,12 @@
-use Rattle.std.proofs.Common.{◌≡◌, ◌==◌, ◌-◌, ◌*◌, ◌/◌, ◌%◌, ◌&&◌, ◌||◌, ℕ, Bool}
-use Rattle.std.proofs.Common.{true, false, Option, Some, None, refl, ap, ◌∙◌, arith}
+use Rattle.std.proofs.Common.{◌≡◌, ◌==◌, ◌-◌, ◌*◌, ◌/◌, ◌%◌, ◌&&◌, ◌||◌, ℕ}
+use Rattle.std.proofs.Common.{Option, Some, None, ap, ◌∙◌, arith}
 use Rattle.std.specs.Int.{bit_at}
 use Rattle.std.specs.Prelude.{is_none, option_map, unwrap_or}
 use Rattle.std.proofs.lemmas.Nat.Bits.{shr_and_one}
+use Rattle.std.proofs.Math.Bool.{and_self}
 use Rattle.regex_lite_engine.specs.Prefilter.ListHeads.{first_row, has, may_start, second_row}
 use Rattle.regex_lite_engine.specs.Prefilter.ListHeads.{start_row}
 use Rattle.regex_lite_engine.proofs.prefilter.list_heads.ListHeads.may_start.Goals as goal
-
-both_same : (a : Bool) → (a && a) ≡ a
-both_same true = refl
-both_same false = refl
 
 pub returns : goal.returns
 returns c =
@@ -38,7 +35,7 @@ returns c =
         && has c.args.self.now.rows r c.args.number)
         || (is_none c.args.before && has c.args.self.now.rows start_row c.args.number)) e
         ∙ ap (λ b. b || (is_none c.args.before && has c.args.self.now.rows start_row c.args.number))
-        (both_same (has c.args.self.now.rows (first_row c.args.first) c.args.number))
+        (and_self (has c.args.self.now.rows (first_row c.args.first) c.args.number))
     by_second (Some d) row e =
         ap (λ r. (has c.args.self.now.rows (first_row c.args.first) c.args.number
         && has c.args.self.now.rows r c.args.number)

@@ -1,5 +1,5 @@
-use Rattle.std.proofs.Common.{◌≡◌, ◌%◌, inl, inr, true, false, ap, sym, subst, ◌∙◌, arith}
-use Rattle.std.proofs.lemmas.Bool.{cases_lt}
+use Rattle.std.proofs.Common.{◌≡◌, ◌%◌, inl, inr, true, ap, sym, subst, ◌∙◌, arith}
+use Rattle.std.proofs.lemmas.Bool.{cases_lt, both_ways}
 use Rattle.regex_lite_engine.specs.Prefilter.Starts.{begins_with}
 use Rattle.regex_lite_engine.specs.Prefilter.Thirds.{in_mask}
 use Rattle.regex_lite_engine.proofs.prefilter.list_heads.ThirdLemmas.{added, all_in_mask}
@@ -10,9 +10,6 @@ use Rattle.regex_lite_engine.proofs.prefilter.list_heads.thirds.mask_of.Goals.{
   then-begins_in-2,
   else-begins_in-2,
 }
-
-never : true ≡ false → ⊥
-never e = cc
 
 pub returns-then-at_start : goal.returns-then-at_start
 returns-then-at_start c = λ before code may. all_in_mask code
@@ -36,8 +33,9 @@ loop-code-preserved c =
               | inl low ↦ v.told other low begins
               | inr le ↦
                   let same : other ≡ code = omega (arith, less, le) in
-                  absurd (never (sym (ap (begins_with c.args.starts.now) (sym same) ∙ begins)
-                  ∙ sym c.begins_in-in-loop-code.ensures ∙ w.if-begins_in-2.false))
+                  absurd (both_ways (begins_with c.args.starts.now code)
+                  (sym c.begins_in-in-loop-code.ensures ∙ w.if-begins_in-2.false)
+                  (ap (begins_with c.args.starts.now) (sym same) ∙ begins))
             ])
       ];
       same = v.same;
@@ -52,6 +50,6 @@ returns c = λ before code may.
     elim (cases_lt code 128) [
       | inl low ↦
           c.loop-code.invariant.told code (omega (arith, low, c.loop-code-test.false)) begins
-      | inr le ↦ absurd (never (sym begins ∙ begins_as_one starts code le
-          ∙ sym c.begins_in.ensures ∙ c.if-begins_in.false))
+      | inr le ↦ absurd (both_ways (begins_with starts code)
+          (begins_as_one starts code le ∙ sym c.begins_in.ensures ∙ c.if-begins_in.false) begins)
     ]

@@ -3,20 +3,20 @@ use Rattle.regex_lite_syntax.specs.Text.{Text}
 use Rattle.regex_lite_syntax.specs.Tree.{trees}
 use Rattle.regex_lite_syntax.specs.Tree.Views.{tree_of}
 use Rattle.regex_lite_syntax.specs.Tree.Matches.{Chain, SomeBranch}
-use Rattle.regex_lite_engine.specs.Prefilter.Starts.{IsGrown, MayBegin}
+use Rattle.regex_lite_engine.specs.Prefilter.Starts.{IsWider, MayBegin}
 use Rattle.regex_lite_engine.proofs.prefilter.starts.Starts.+add.Given as goal
 
 -- the parts before may read nothing
 abbrev pub invariant-add_parts-loop-part : goal.invariant-add_parts-loop-part
 invariant-add_parts-loop-part l = record {
-  grown : IsGrown l.fn.self l.self;
+  grown : IsWider l.fn.self l.self;
   left : (h : Text) (i j : ℕ) → Chain h (trees (map tree_of l.parts)) i j
       → MayBegin l.self h i ⊎ Chain h (trees (map tree_of (drop l.part-index l.parts))) i j;
 }
 
 abbrev pub invariant-add_branches-loop-branch : goal.invariant-add_branches-loop-branch
 invariant-add_branches-loop-branch l = record {
-  grown : IsGrown l.fn.self l.self;
+  grown : IsWider l.fn.self l.self;
   left : (h : Text) (i j : ℕ) → SomeBranch h (trees (map tree_of l.branches)) i j
       → MayBegin l.self h i
       ⊎ ((IsTrue l.passable × (i ≡ j))

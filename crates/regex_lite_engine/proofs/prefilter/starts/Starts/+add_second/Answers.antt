@@ -8,7 +8,7 @@ use Rattle.regex_lite_engine.specs.declared.prefilter.heads.Head.TheVariants.{On
 use Rattle.regex_lite_engine.specs.declared.prefilter.heads.Head.{Head}
 use Rattle.regex_lite_engine.specs.declared.prefilter.starts.Starts.{Starts}
 use Rattle.regex_lite_engine.specs.Prefilter.Heads.{Reads, ReadsEach}
-use Rattle.regex_lite_engine.specs.Prefilter.Starts.{IsGrown}
+use Rattle.regex_lite_engine.specs.Prefilter.Starts.{IsWider}
 use Rattle.regex_lite_engine.proofs.prefilter.starts.StartLemmas.{grown_on}
 use Rattle.regex_lite_engine.proofs.prefilter.heads.HeadLemmas.{as_one, branch_read, of_more}
 use Rattle.regex_lite_engine.proofs.prefilter.heads.HeadLemmas.{part_read, reads_grown}
@@ -37,7 +37,7 @@ add_second_of_parts-loop-part-preserved t c =
           let added = w.add_second.new.self in
           let told = w.in_ok-head-in-Nothing.ensures in
           record {
-            grown = subst (IsGrown c.args.self.now) (sym w.self-is)
+            grown = subst (IsWider c.args.self.now) (sym w.self-is)
                 (grown_on c.args.self.now old added v.grown told.grown);
             left = λ h i j m. part_read (tree_of part) rest old new before after h i j
                 (λ l n read here. subst (λ z. Reads z h i n after) (sym w.self-is)
@@ -50,7 +50,7 @@ add_second_of_parts-loop-part-preserved t c =
           let added = w.add_behind_one-head.new.self in
           let told = w.add_behind_one-head.ensures in
           record {
-            grown = subst (IsGrown c.args.self.now) (sym w.self-is)
+            grown = subst (IsWider c.args.self.now) (sym w.self-is)
                 (grown_on c.args.self.now old added v.grown told.grown);
             left = λ h i j m. part_read (tree_of part) rest old new before after h i j
                 (λ l n read here. subst (λ z. Reads z h i n after) (sym w.self-is)

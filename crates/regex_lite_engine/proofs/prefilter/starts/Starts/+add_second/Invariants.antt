@@ -5,13 +5,13 @@ use Rattle.regex_lite_syntax.specs.Tree.Views.{tree_of}
 use Rattle.regex_lite_syntax.specs.Tree.Matches.{Chain, SomeBranch}
 use Rattle.regex_lite_engine.specs.declared.prefilter.heads.Head.TheVariants.{One, More}
 use Rattle.regex_lite_engine.specs.Prefilter.Heads.{Reads}
-use Rattle.regex_lite_engine.specs.Prefilter.Starts.{IsGrown}
+use Rattle.regex_lite_engine.specs.Prefilter.Starts.{IsWider}
 use Rattle.regex_lite_engine.proofs.prefilter.starts.Starts.+add_second.Given as goal
 
 -- the parts before read what is given
 abbrev pub invariant-add_second_of_parts-loop-part : goal.invariant-add_second_of_parts-loop-part
 invariant-add_second_of_parts-loop-part l = record {
-  grown : IsGrown l.fn.self l.self;
+  grown : IsWider l.fn.self l.self;
   left : (h : Text) (i j : ℕ) → Chain h (trees (map tree_of l.parts)) i j
       → (k : ℕ) × Reads l.self h i k l.head
       × Chain h (trees (map tree_of (drop l.part-index l.parts))) k j;
@@ -20,7 +20,7 @@ invariant-add_second_of_parts-loop-part l = record {
 abbrev pub invariant-add_second_of_branches-loop-branch :
     goal.invariant-add_second_of_branches-loop-branch
 invariant-add_second_of_branches-loop-branch l = record {
-  grown : IsGrown l.fn.self l.self;
+  grown : IsWider l.fn.self l.self;
   some : (l.head ≡ One) ⊎ (l.head ≡ More);
   left : (h : Text) (i j : ℕ) → SomeBranch h (trees (map tree_of l.branches)) i j
       → Reads l.self h i j l.head

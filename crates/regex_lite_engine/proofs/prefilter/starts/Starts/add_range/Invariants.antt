@@ -1,11 +1,11 @@
 use Rattle.std.proofs.Common.{◌≡◌, ◌≤◌, ◌<◌, ℕ, true, false, slice_index_or}
 use Rattle.std.specs.Char.{is_ascii}
-use Rattle.regex_lite_engine.specs.Prefilter.Starts.{IsGrown}
+use Rattle.regex_lite_engine.specs.Prefilter.Starts.{IsWider}
 use Rattle.regex_lite_engine.proofs.prefilter.starts.Starts.add_range.Given as goal
 
 abbrev pub invariant-loop-code : goal.invariant-loop-code
 invariant-loop-code l = record {
-  grown : IsGrown l.fn.self l.self;
+  grown : IsWider l.fn.self l.self;
   any : l.self.any ≡ true;
   others : is_ascii l.fn.range.end ≡ false → l.self.others ≡ true;
   filled : (c : ℕ) → l.fn.range.start ≤ c → c < l.code → slice_index_or l.self.ascii c true ≡ true;

@@ -1,6 +1,6 @@
-use Rattle.std.proofs.Common.{◌≡◌, ◌+◌, ◌<◌, inl, inr, ℕ, Bool, true, ◌||◌, length}
+use Rattle.std.proofs.Common.{◌≡◌, ◌<◌, inl, inr, Bool, true, ◌||◌, length}
 use Rattle.std.proofs.Common.{set, slice_index_or, ap, sym, ◌∙◌, refl, arith, rules}
-use Rattle.std.proofs.lemmas.Bool.{cases_lt, cases_eq}
+use Rattle.std.proofs.lemmas.Bool.{cases_eq}
 use Rattle.std.proofs.lemmas.List.{get_or-set_same, get_or-set_other}
 use Rattle.regex_lite_engine.specs.Prefilter.Starts.{begins_with}
 use Rattle.regex_lite_engine.specs.declared.prefilter.starts.Starts.{Starts}
@@ -33,19 +33,13 @@ loop-code-preserved c =
             ∙ here ∙ sym (ap (λ z. begins_with old z || begins_with other z) same)
         | inr apart ↦
             get_or-set_other now.ascii k d bit true apart
-            ∙ v.done d (less d k lt apart)
+            ∙ v.done d (omega (arith, lt, apart))
       ];
       kept = λ d le. (
           get_or-set_other now.ascii k d bit true
           (λ e. omega (arith, e, le))
           ∙ v.kept d (omega (arith, le)));
     }
-  where
-    less : (d k : ℕ) → d < k + 1 → (d ≡ k → ⊥) → d < k
-    less d k lt apart = elim (cases_lt d k) [
-      | inl below ↦ below
-      | inr ge ↦ absurd (apart (omega (arith, lt, ge)))
-    ]
 
 pub returns : goal.returns
 returns c =

@@ -4,7 +4,7 @@ use Rattle.std.specs.List.{All}
 use Rattle.std.proofs.lemmas.List.{length-map}
 use Rattle.regex_lite_engine.specs.Graph.StoredList.{table_of_list}
 use Rattle.regex_lite_engine.specs.Prefilter.ListHeads.{is_candidate_at}
-use Rattle.regex_lite_engine.specs.Search.Starts.{start_of}
+use Rattle.regex_lite_engine.specs.Search.Starts.{start_numbered}
 use Rattle.regex_lite_engine.proofs.prefilter.list_heads.WalkLemmas.{filter_at_most}
 use Rattle.regex_lite_engine.proofs.search.list_patterns.ListStartLemmas.{all_below, listed_start}
 use Rattle.regex_lite_engine.proofs.search.list_patterns.ListStartLemmas.{places_inside}
@@ -44,7 +44,7 @@ pub returns-clause-few : goal.returns-clause-few
 returns-clause-few c =
     let list = c.args.self.now.list.now in
     let numbers = c.list_starts.new.numbers.items in
-    let mapped = length-map numbers (start_of list.entries) in
+    let mapped = length-map numbers (start_numbered list.entries) in
     let listed = ap length (c.list_starts.ensures.listed c.requires.0 c.requires.1) in
     let most = filter_at_most
     (is_candidate_at list.heads (chars c.args.haystack.now) c.requires.0) 0 (length list.entries) in

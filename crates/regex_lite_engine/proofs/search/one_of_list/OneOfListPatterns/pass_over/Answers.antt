@@ -1,9 +1,9 @@
 use Rattle.std.proofs.Common.{◌∷◌, [], slice_index}
 use Rattle.std.specs.Prelude.{chars}
 use Rattle.regex_lite_engine.specs.Graph.StoredList.{table_of_list}
-use Rattle.regex_lite_engine.specs.Pikevm.Turns.{AreDeadAt, IsDeadAt}
+use Rattle.regex_lite_engine.specs.Search.Starts.{AreDeadAt, IsDeadAt}
 use Rattle.regex_lite_engine.proofs.search.SkipLemmas.{passes_as}
-use Rattle.regex_lite_engine.proofs.pikevm.TurnLemmas.{one_dead}
+use Rattle.regex_lite_engine.proofs.search.OneStartLemmas.{one_dead}
 use Rattle.regex_lite_engine.proofs.search.one_of_list.OneOfListPatterns.pass_over.Goals as goal
 
 pub returns : goal.returns

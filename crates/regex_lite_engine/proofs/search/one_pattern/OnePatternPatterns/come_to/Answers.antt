@@ -2,7 +2,7 @@ use Rattle.std.proofs.Common.{length}
 use Rattle.std.specs.Prelude.{chars}
 use Rattle.regex_lite_engine.specs.Graph.Stored.{table_of}
 use Rattle.regex_lite_engine.proofs.search.OneStartLemmas.{one_inside, one_at_most}
-use Rattle.regex_lite_engine.proofs.pikevm.TurnLemmas.{one_starts}
+use Rattle.regex_lite_engine.proofs.search.OneStartLemmas.{one_starts}
 use Rattle.regex_lite_engine.proofs.search.one_pattern.OnePatternPatterns.come_to.Goals as goal
 
 pub returns-clause-inside : goal.returns-clause-inside

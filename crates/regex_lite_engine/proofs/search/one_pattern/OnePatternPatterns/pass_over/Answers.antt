@@ -3,9 +3,9 @@ use Rattle.std.specs.Prelude.{chars}
 use Rattle.regex_lite_engine.specs.Graph.Stored.{table_of}
 use Rattle.regex_lite_engine.specs.Prefilter.Heads.{NeverBegins}
 use Rattle.regex_lite_engine.specs.Search.Starts.{PassesTo}
-use Rattle.regex_lite_engine.specs.Pikevm.Turns.{AreDeadAt}
+use Rattle.regex_lite_engine.specs.Search.Starts.{AreDeadAt}
 use Rattle.regex_lite_engine.proofs.search.SkipLemmas.{passes_as}
-use Rattle.regex_lite_engine.proofs.pikevm.TurnLemmas.{one_dead}
+use Rattle.regex_lite_engine.proofs.search.OneStartLemmas.{one_dead}
 use Rattle.regex_lite_engine.proofs.search.one_pattern.OnePatternPatterns.pass_over.Goals as goal
 
 pub returns : goal.returns

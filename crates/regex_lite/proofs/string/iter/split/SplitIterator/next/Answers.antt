@@ -8,10 +8,11 @@ use Rattle.regex_lite.proofs.string.iter.split.SplitIterator.next.Goals as goal
 pub returns-in-Some-clause-steps : goal.returns-in-Some-clause-steps
 returns-in-Some-clause-steps c =
     let s = c.in-Some.ensures.steps in
-    let it = c.args.self.now.matches in
-    let hay = it.scan.haystack in
-    let from = unwrap_or it.scan.ended 0 in
-    let goes_on : c.args.self.now.is_done ≡ false = search rules in (
+    let it = c.self.inside.matches in
+    let hay = it.haystack in
+    let from = unwrap_or it.ended 0 in
+    let goes_on : c.self.inside.is_done ≡ false = search rules in
+    rw (← c.self.view_is) (
       goes_on,
       λ list left.
           let rest =
@@ -33,10 +34,11 @@ returns-in-Some-clause-steps c =
 pub returns-in-None-clause-steps : goal.returns-in-None-clause-steps
 returns-in-None-clause-steps c =
     let s = c.in-None.ensures.steps in
-    let it = c.args.self.now.matches in
-    let hay = it.scan.haystack in
-    let from = unwrap_or it.scan.ended 0 in
-    let goes_on : c.args.self.now.is_done ≡ false = search rules in (
+    let it = c.self.inside.matches in
+    let hay = it.haystack in
+    let from = unwrap_or it.ended 0 in
+    let goes_on : c.self.inside.is_done ≡ false = search rules in
+    rw (← c.self.view_is) (
       goes_on,
       λ list left.
           let start =

@@ -2,7 +2,7 @@ use Rattle.std.proofs.Common.{◌≡◌, [], ◌∷◌, ◌∙◌, ap, sym, subs
 use Rattle.std.proofs.Common.{length, length-append, slice_get, List, Some, ℕ}
 use Rattle.regex_lite_syntax.specs.Tree.Views.{tree_of}
 use Rattle.regex_lite_engine.specs.Prefilter.Thirds.{AreMasksOf}
-use Rattle.regex_lite_engine.proofs.nfa.count.TotalLemmas.{tree_there}
+use Rattle.regex_lite_engine.proofs.count.TotalLemmas.{tree_there}
 use Rattle.regex_lite_engine.proofs.prefilter.list_heads.ThirdLemmas.{masks_more}
 use Rattle.regex_lite_engine.proofs.prefilter.list_heads.thirds.Thirds.of.Goals as goal
 

@@ -1,0 +1,32 @@
+-- What stands where in a list that is put together.
+use Rattle.std.proofs.Common.{◌≡◌, ◌<◌, ◌+◌, refl, ap, ◌∙◌, arith, ℕ, zero, suc, List, [], ◌∷◌}
+use Rattle.std.proofs.Common.{◌++◌, length, slice_get, Some}
+use Rattle.std.proofs.lemmas.Option.{slice_get_within}
+
+pub get_left : {X : Type 0} (xs ys : List X) (k : ℕ) → k < length xs
+    → slice_get (xs ++ ys) k ≡ slice_get xs k
+get_left [] ys k less = absurd (omega (arith, less))
+get_left (x ∷ xs) ys zero less = refl
+get_left (x ∷ xs) ys (suc k) less = get_left xs ys k (omega (arith, less))
+
+pub get_right : {X : Type 0} (xs ys : List X) (k : ℕ)
+    → slice_get (xs ++ ys) (length xs + k) ≡ slice_get ys k
+get_right [] ys k = let same : 0 + k ≡ k = omega arith in ap (slice_get ys) same
+get_right (x ∷ xs) ys k =
+    let same : suc (length xs) + k ≡ suc (length xs + k) = omega arith in
+    ap (slice_get (x ∷ (xs ++ ys))) same ∙ get_right xs ys k
+
+pub get_last : {X : Type 0} (xs : List X) (x : X) → slice_get (xs ++ x ∷ []) (length xs) ≡ Some x
+get_last [] x = refl
+get_last (y ∷ xs) x = get_last xs x
+
+-- what stands in a list stands there when more comes after it
+pub still_there : {X : Type 0} (xs ys : List X) (k : ℕ) (x : X) → slice_get xs k ≡ Some x
+    → slice_get (xs ++ ys) k ≡ Some x
+still_there xs ys k x at = get_left xs ys k (slice_get_within xs k x at) ∙ at
+
+pub there_is : {X : Type 0} (xs : List X) (k : ℕ) → k < length xs
+    → (x : X) × (slice_get xs k ≡ Some x)
+there_is [] k lt = absurd (omega (arith, lt))
+there_is (x ∷ xs) zero lt = (x, refl)
+there_is (x ∷ xs) (suc k) lt = there_is xs k (omega (arith, lt))

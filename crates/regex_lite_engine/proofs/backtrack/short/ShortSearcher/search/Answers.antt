@@ -1,0 +1,75 @@
+use Rattle.std.proofs.Common.{rules, ◌≡◌, ◌+◌, ◌-◌, ◌*◌, ◌≤◌, ◌<◌, ◌^◌, ℕ, length, None, sum_by}
+use Rattle.std.proofs.Common.{false, replicate, ap, sym, subst, ◌∙◌, arith}
+use Rattle.std.specs.Prelude.{IsCharBoundary}
+use Rattle.std.proofs.lemmas.List.{length-map, length-replicate}
+use Rattle.std.proofs.Math.Nat.{mul-le-mul_left}
+use Rattle.regex_lite_engine.specs.Graph.Places.{kept_back_with}
+use Rattle.regex_lite_engine.specs.Graph.Stored.{place_of, table_of}
+use Rattle.regex_lite_engine.specs.Search.Offsets.{position_at}
+use Rattle.regex_lite_engine.specs.Pikevm.Turns.{IsBlank}
+use Rattle.regex_lite_engine.proofs.pikevm.TurnLemmas.{blank_row}
+use Rattle.regex_lite_engine.proofs.search.OutcomeLemmas.{can_count}
+use Rattle.regex_lite_engine.proofs.backtrack.short.ShortSearcher.search.Goals as goal
+
+pub run-requires-clause-counts : goal.run-requires-clause-counts
+run-requires-clause-counts c =
+    let haystack = c.args.haystack.now in
+    let short : length haystack < 2 ^ 63 = search rules in
+    can_count (table_of c.args.graph.now) haystack (position_at haystack c.args.start)
+    c.utf8.haystack short c.requires.searches.countable 1 (omega arith)
+
+pub run-requires-clause-fresh : goal.run-requires-clause-fresh
+run-requires-clause-fresh c =
+    let a = c.args in
+    let old = a.self.now.walk.stack in
+    let few = c.few.ensures in
+    let offsets = length a.haystack.now - a.start + 1 in
+    let places : c.places.result ≡ length (table_of a.graph.now)
+    = c.places.ensures.same ∙ sym (length-map a.graph.now.places place_of) in
+    let none : c.few.result.entered ≡ replicate (length (table_of a.graph.now) * offsets) false
+    = few.none ∙ ap (λ n. replicate (n * offsets) false) places in
+    let row : c.clear.new.self.row ≡ replicate (length old.row) None
+    = ap (λ held. held.row) c.clear.ensures in
+    let width : length c.clear.new.self.row ≡ length old.row
+    = ap length row ∙ length-replicate (length old.row) None in
+    let room : c.clear.new.self.room ≡ old.room = ap (λ held. held.room) c.clear.ensures in
+    let kept : ℕ = sum_by (kept_back_with (length old.row)) (table_of a.graph.now) in
+    let fits : kept * offsets ≤ kept * a.self.now.offsets
+    = mul-le-mul_left kept (omega (arith, c.requires.short)) in
+    record {
+      all = record {
+        places = few.places ∙ places;
+        boundary = subst (IsCharBoundary a.haystack.now) (sym few.first) c.requires.boundary;
+        all = ap length none
+            ∙ length-replicate (length (table_of a.graph.now) * offsets) false
+            ∙ ap (λ z. length (table_of a.graph.now) * (length a.haystack.now - z + 1))
+            (sym few.first);
+      };
+      first = few.first;
+      none = none;
+      frames = ap (λ held. held.frames) c.clear.ensures;
+      blank = subst IsBlank (sym row) (blank_row (length old.row));
+      room = subst (λ (z : ℕ). sum_by (kept_back_with z) (table_of a.graph.now) * offsets
+          ≤ c.clear.new.self.room) (sym width)
+          (omega (arith, room, fits, c.requires.searches.room));
+      tried = c.none-self.ensures.tried;
+      entered = c.none-self.ensures.entered;
+      looked = c.none-self.ensures.looked;
+    }
+
+pub returns-clause-searches : goal.returns-clause-searches
+returns-clause-searches c =
+    let a = c.args in
+    let old = a.self.now in
+    let width : length c.run.new.walk.stack.row ≡ length old.walk.stack.row
+    = c.run.ensures.width ∙ ap (λ held. length held.row) c.clear.ensures
+    ∙ length-replicate (length old.walk.stack.row) None in
+    let room : c.run.new.walk.stack.room ≡ old.walk.stack.room
+    = c.run.ensures.room ∙ ap (λ held. held.room) c.clear.ensures in
+    record {
+      room = subst (λ (z : ℕ). sum_by (kept_back_with z) (table_of a.graph.now) * old.offsets
+          ≤ c.run.new.walk.stack.room) (sym width)
+          (omega (arith, room, c.requires.searches.room));
+      few_pairs = c.requires.searches.few_pairs;
+      countable = c.requires.searches.countable;
+    }

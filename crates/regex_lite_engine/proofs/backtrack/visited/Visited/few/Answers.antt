@@ -1,0 +1,15 @@
+use Rattle.std.proofs.Common.{◌+◌, ◌-◌, ◌*◌, arith}
+use Rattle.std.proofs.Math.Nat.{mul-le-mul_right}
+use Rattle.regex_lite_engine.proofs.backtrack.BitLemmas.{none_of_zeros}
+use Rattle.regex_lite_engine.proofs.backtrack.visited.Visited.few.Goals as goal
+
+pub overflow_add-result : goal.overflow_add-result
+overflow_add-result c =
+    let a = c.args in
+    let each = mul-le-mul_right (a.last - a.first + 1) c.requires.some in
+    let few = c.requires.few in
+    omega (arith, each, few)
+
+pub returns-clause-none : goal.returns-clause-none
+returns-clause-none c =
+    none_of_zeros 64 (c.args.places * (c.args.last - c.args.first + 1))

@@ -1,0 +1,56 @@
+use Rattle.std.proofs.Common.{◌≡◌, sym, ap, ◌∙◌, subst, ◌+◌, ◌-◌, drop, arith}
+use Rattle.std.proofs.lemmas.List.{drop_all}
+use Rattle.regex_lite_syntax.specs.Tree.{Tree, Trees, repetition, alternation, none, more}
+use Rattle.regex_lite_syntax.specs.Tree.Views.{tree_of}
+use Rattle.regex_lite_engine.specs.Nfa.Saturation.{AreCountsOf}
+use Rattle.regex_lite_syntax.proofs.TreeLemmas.{tree_of-Repetition, trees_of, trees_more}
+use Rattle.regex_lite_engine.proofs.count.Counts.+count.Goals as goal
+
+pub of-returns-in-Repetition : goal.of-returns-in-Repetition
+of-returns-in-Repetition t c =
+    let r = c.in-Repetition in
+    let same : tree_of c.args.hir.now
+    ≡ repetition r.least r.most r.greedy (tree_of c.deref-in-Repetition.result.now) =
+    ap tree_of r.is ∙ tree_of-Repetition r.least r.most r.greedy r.body
+    ∙ ap (λ body. repetition r.least r.most r.greedy (tree_of body))
+    (sym c.deref-in-Repetition.ensures) in
+    subst (λ (tree : Tree). AreCountsOf tree c.repeated.result) (sym same)
+    (c.repeated.ensures (tree_of c.deref-in-Repetition.result.now) r.greedy c.of.ensures)
+
+pub of_branches-loop-i-init : goal.of_branches-loop-i-init
+of_branches-loop-i-init t c =
+    let hirs = c.args.branches.now in
+    let last = c.in-Some.last in
+    let branch = c.index-branches-last.result in
+    let one =
+    trees_more hirs last branch (omega (arith, c.in-Some.ensures)) c.index-branches-last.is in
+    let behind = ap trees_of (drop_all (last + 1) hirs (omega (arith, c.in-Some.ensures))) in (
+      tree_of branch,
+      none,
+      one ∙ ap (λ rest. more (tree_of branch) rest) behind,
+      c.alone-counts.ensures (tree_of branch) c.of.ensures,
+    )
+
+pub of_branches-loop-i-preserved : goal.of_branches-loop-i-preserved
+of_branches-loop-i-preserved t c =
+    let hirs = c.args.branches.now in
+    let before = c.loop-i.i - 1 in
+    let branch = c.index-branches-i.result in
+    let known = c.loop-i.invariant in
+    let one = trees_more hirs before branch (omega arith) c.index-branches-i.is in
+    let same : before + 1 ≡ c.loop-i.i = omega (arith, c.loop-i-test.true) in
+    let behind = ap (λ i. trees_of (drop i hirs)) same ∙ known.2 in (
+      tree_of branch,
+      more known.0 known.1,
+      one ∙ ap (λ rest. more (tree_of branch) rest) behind,
+      c.or-counts.ensures (tree_of branch) known.0 known.1 c.of-in-loop-i.ensures known.3,
+    )
+
+pub of_branches-returns : goal.of_branches-returns
+of_branches-returns t c =
+    let hirs = c.args.branches.now in
+    let known = c.loop-i.invariant in
+    let first : c.loop-i.i ≡ 0 = omega (arith, c.loop-i-test.false) in
+    let whole = ap (λ i. trees_of (drop i hirs)) (sym first) ∙ known.2 in
+    subst (λ (branches : Trees). AreCountsOf (alternation branches) c.loop-i.counts)
+    (sym whole) known.3

@@ -1,0 +1,63 @@
+-- A search keeps back less at the places in the layout of a tree than there are.
+use Rattle.std.proofs.Common.{◌≡◌, ◌≤◌, ◌<◌, refl, arith, ℕ, zero, suc, ◌+◌, List, [], ◌∷◌}
+use Rattle.std.proofs.Common.{replicate}
+use Rattle.std.proofs.lemmas.List.{length-map, length-replicate}
+use Rattle.std.proofs.Math.Nat.{mul-le-mul_left}
+use Rattle.regex_lite_syntax.specs.declared.class.ClassRange.{ClassRange}
+use Rattle.regex_lite_syntax.specs.Tree.{Tree, Trees, empty, character, class, look, repetition}
+use Rattle.regex_lite_syntax.specs.Tree.{capture, concat, alternation, none, more}
+use Rattle.regex_lite_syntax.specs.Tree.Properties.{nullable}
+use Rattle.regex_lite_syntax.specs.Tree.Regular.{IsRegular, AreRegular}
+use Rattle.regex_lite_engine.specs.Graph.Places.{Place, with_arrows, go, one_of, kept_back}
+use Rattle.regex_lite_engine.specs.Graph.Places.{kept_back_of, complete, Arrow, renamed_arrow}
+use Rattle.regex_lite_engine.specs.Graph.PlaceCounts.{copies, places, places_in, count}
+use Rattle.regex_lite_engine.specs.Graph.PlaceCounts.{whole_places}
+use Rattle.regex_lite_engine.specs.Nfa.Layout.{pattern_table, whole_table}
+use Rattle.regex_lite_engine.proofs.ArrowBoundLemmas.{repeated_few}
+use Rattle.regex_lite_engine.proofs.count.MeasureLemmas.{unnumbered, forget, measured}
+use Rattle.regex_lite_engine.proofs.count.MeasureLemmas.{measured_in, sum_pattern}
+
+kept_alike : (place : Place ℕ) → kept_back place ≡ kept_back (unnumbered place)
+kept_alike complete = refl
+kept_alike (with_arrows []) = refl
+kept_alike (with_arrows (arrow ∷ arrows)) =
+    omega (arith, length-map arrows (renamed_arrow forget))
+
+kept_at_set : (ranges : List ClassRange) → kept_back {A = ℕ} (one_of ranges 0) ≡ 0
+kept_at_set [] = refl
+kept_at_set (range ∷ ranges) = refl
+
+kept_at_branches : (n : ℕ) → kept_back {A = ℕ} (with_arrows (replicate n (go 0))) ≤ n
+kept_at_branches zero = omega arith
+kept_at_branches (suc n) = omega (arith, length-replicate {A = Arrow ℕ} n (go 0))
+
+mutual
+  few_kept : (tree : Tree) → IsRegular tree → measured kept_back tree < places tree
+  few_kept empty regular = omega arith
+  few_kept (character c) regular = omega arith
+  few_kept (class ranges) regular = omega (arith, kept_at_set ranges)
+  few_kept (look test) regular = omega arith
+  few_kept (repetition least most greedy body) regular =
+      let few = mul-le-mul_left (copies least most) (few_kept body regular.1) in
+      omega (arith, few, repeated_few least most (nullable body))
+  few_kept (capture index name body) regular = omega (arith, few_kept body regular.1)
+  few_kept (concat none) regular = absurd regular.0
+  few_kept (concat (more a rest)) regular =
+      omega (arith, few_kept a regular.1.0, few_kept_in rest regular.1.1)
+  few_kept (alternation branches) regular =
+      omega (arith, few_kept_in branches regular.1, kept_at_branches (count branches))
+
+  few_kept_in : (trees : Trees) → AreRegular trees
+      → measured_in kept_back trees + count trees ≤ places_in trees
+  few_kept_in none regular = omega arith
+  few_kept_in (more a rest) regular =
+      omega (arith, few_kept a regular.0, few_kept_in rest regular.1)
+
+pub kept_back_pattern : (tree : Tree) → IsRegular tree → (base : ℕ)
+    → kept_back_of (pattern_table tree base) < whole_places tree
+kept_back_pattern tree regular base =
+    omega (arith, sum_pattern kept_back kept_alike tree base, few_kept tree regular)
+
+pub kept_back_whole : (tree : Tree) → IsRegular tree
+    → kept_back_of (whole_table tree) < whole_places tree
+kept_back_whole tree regular = kept_back_pattern tree regular 0

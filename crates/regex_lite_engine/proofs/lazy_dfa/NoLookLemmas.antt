@@ -1,0 +1,40 @@
+-- Where no place looks at its neighbours, no arrow requires a look.
+use Rattle.std.proofs.Common.{◌≡◌, ℕ, zero, suc, true, false, List, [], ◌∷◌, map, slice_get}
+use Rattle.std.proofs.Common.{Some, sym, subst, ◌∙◌}
+use Rattle.regex_lite_engine.specs.declared.nfa.place.Place as code
+use Rattle.regex_lite_engine.specs.declared.nfa.place.Place.TheVariants as stored
+use Rattle.regex_lite_engine.specs.Graph.NoLooks.{HasNoLooks, RequiresNoLook}
+use Rattle.regex_lite_engine.specs.Graph.Stored.{place_of}
+use Rattle.regex_lite_engine.specs.LazyDfa.Intervals.{Intervals, AreIntervalsOf, IsBoundedPlace}
+use Rattle.regex_lite_engine.proofs.OptionLemmas.{not_there, same_some}
+use Rattle.regex_lite_engine.proofs.laws.search.NoLookLemmas.{free_arrows}
+
+module _ (intervals : Intervals) (none : intervals.looks ≡ false) where
+  no_look : (place : code.Place) → IsBoundedPlace intervals place
+      → RequiresNoLook (place_of place)
+  no_look (stored.Empty to) bounded = (tt, tt)
+  no_look (stored.Char c to) bounded = (tt, tt)
+  no_look (stored.Class to []) bounded = tt
+  no_look (stored.Class to (range ∷ ranges)) bounded = (tt, tt)
+  no_look (stored.Look test to) bounded = absurd (apart (sym none ∙ bounded))
+    where
+      apart : false ≡ true → ⊥
+      apart e = cc
+  no_look (stored.Slot slot to) bounded = (tt, tt)
+  no_look (stored.Choice first second) bounded = (tt, (tt, tt))
+  no_look (stored.Branches entries) bounded = free_arrows entries.items
+  no_look stored.Match bounded = tt
+
+  each_no_look : (places : List code.Place)
+      → ((q : ℕ) (place : code.Place) → slice_get places q ≡ Some place
+      → IsBoundedPlace intervals place)
+      → HasNoLooks (map place_of places)
+  each_no_look [] each q place e = absurd (not_there e)
+  each_no_look (first ∷ places) each zero place e =
+      subst RequiresNoLook (same_some e) (no_look first (each zero first (λ t. Some first)))
+  each_no_look (first ∷ places) each (suc q) place e =
+      each_no_look places (λ r next at. each (suc r) next at) q place e
+
+pub no_looks : (places : List code.Place) (intervals : Intervals)
+    → AreIntervalsOf places intervals → intervals.looks ≡ false → HasNoLooks (map place_of places)
+no_looks places intervals are none = each_no_look intervals none places are.each

@@ -1,0 +1,45 @@
+use Rattle.std.proofs.Common.{rules, length, List, ℕ, ◌<◌, ◌^◌, sym, subst, arith}
+use Rattle.std.specs.Prelude.{chars}
+use Rattle.regex_lite_engine.specs.Graph.StoredList.{IsGraphOfList, table_of_list}
+use Rattle.regex_lite_engine.specs.Search.Bounds.{characters_left}
+use Rattle.regex_lite_engine.specs.Search.Offsets.{position_at}
+use Rattle.regex_lite_engine.specs.Search.Searching.{ListSearching}
+use Rattle.regex_lite_engine.specs.Pikevm.Outcomes.{CanCount, IsBestOutcomeOf}
+use Rattle.regex_lite_engine.specs.Pikevm.Turns.{best_of}
+use Rattle.regex_lite_engine.proofs.search.ListOutcomeLemmas.{list_span_told}
+use Rattle.regex_lite_engine.proofs.search.OutcomeLemmas.{can_count}
+use Rattle.regex_lite_engine.proofs.meta.list_searcher.ListSearcher.search.Goals as goal
+
+pub run-requires-clause-counts : goal.run-requires-clause-counts
+run-requires-clause-counts c =
+    let list = c.self.inside.graph.now in
+    let haystack = c.args.haystack.now in
+    let s = position_at haystack c.args.start in
+    let characters = characters_left (chars haystack) s in
+    let own = c.self.inside.patterns.list.now in
+    let short : length haystack < 2 ^ 63 = search rules in
+    let some : 0 < length list.entries = omega (arith, c.if-len-eq0.false, c.len.ensures.same) in
+    let few : length list.entries < 2 ^ 32 = omega (arith, c.len.ensures.few, c.len.ensures.same) in
+    let counts = can_count (table_of_list list) haystack s c.utf8.haystack short
+    (c.self.invariant.0 some).1 (length list.entries) few in
+    subst (λ table. CanCount table (length own.entries) characters) (sym c.self.invariant.1)
+    (subst (λ (entries : List ℕ). CanCount (table_of_list list) (length entries) characters)
+    (sym c.self.invariant.2) counts)
+
+pub returns-clause-found : goal.returns-clause-found
+returns-clause-found c = λ trees regular is.
+    let list = c.self.inside.graph.now in
+    let haystack = c.args.haystack.now in
+    let s = position_at haystack c.args.start in
+    let best = best_of c.run.new.cache.best in
+    let of_list =
+    subst (λ (z : ListSearching). IsGraphOfList trees z.graph) (sym c.self.view_is) is in
+    let found : IsBestOutcomeOf (table_of_list list) (chars haystack) list.entries s best =
+    subst (λ table. IsBestOutcomeOf table (chars haystack) list.entries s best) c.self.invariant.1
+    (subst (λ (entries : List ℕ). IsBestOutcomeOf (table_of_list c.self.inside.patterns.list.now)
+    (chars haystack) entries s best) c.self.invariant.2 c.run.ensures.found) in
+    list_span_told trees list of_list haystack c.args.start
+    (omega (arith, c.if-start-haystack.false)) regular c.numbered_span.result
+    c.run.new.cache.best.row
+    (subst (λ own. IsBestOutcomeOf (table_of_list list) (chars haystack) list.entries s own)
+    c.numbered_span.ensures found)

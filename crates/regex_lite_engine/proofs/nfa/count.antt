@@ -1,8 +1,0 @@
--- lemmas that several proofs here share
-pub mod ArrowCountLemmas
-pub mod KeptBackLemmas
-pub mod NameSizeLemmas
-pub mod PlaceCountLemmas
-pub mod ReadingCountLemmas
-pub mod StaticGroupLemmas
-pub mod TotalLemmas

@@ -1,0 +1,107 @@
+//! Depth-first searches of short haystacks, all in the same memory.
+ghost use Rattle.std.specs.Prelude.{◌≡◌, ◌-◌, ◌<◌, ◌↔◌, None, IfOk, IfSome, IsTrue};
+ghost use Rattle.std.specs.Prelude.{IsCharBoundary, chars, length};
+ghost use Rattle.regex_lite_engine.specs.Backtrack.Short.{SearchesShort};
+ghost use Rattle.regex_lite_engine.specs.Graph.Renumbered.{arrows_of};
+ghost use Rattle.regex_lite_engine.specs.Graph.Stored.{table_of};
+ghost use Rattle.regex_lite_engine.specs.Search.Bounds.{IsBounded};
+ghost use Rattle.regex_lite_engine.specs.Search.Offsets.{position_at};
+ghost use Rattle.regex_lite_engine.specs.Pikevm.Outcomes.{IsNumberedOutcome};
+ghost use Rattle.regex_lite_engine.specs.Pikevm.Turns.{best_at};
+
+use crate::Graph;
+use crate::backtrack::run::run;
+use crate::backtrack::stack::Stack;
+use crate::backtrack::visited::Visited;
+use crate::backtrack::walk::Walk;
+use crate::steps::Steps;
+use std::alloc::{AllocError, Global};
+
+/// A haystack is short if a search of it has at most this number of pairs of a place and an offset.
+const MOST_SHORT: usize = 2048;
+
+/// Searches depth first in short haystacks, one after another, in the same memory.
+#[derive(Drop)]
+pub(crate) struct ShortSearcher {
+    walk: Walk,
+    /// Over at most this number of offsets, with the end's.
+    offsets: usize,
+}
+
+impl ShortSearcher {
+    /// One for this graph, whose matches have this number of slots. All its memory is asked for
+    /// here. None if the graph has too many places.
+    pub(crate) fn new(
+        alloc: Global,
+        graph: &Graph,
+        slots: usize,
+    ) -> Result<Option<ShortSearcher>, AllocError>
+        ensures searches { IfOk result (λ made. IfSome made (SearchesShort graph.now)) }
+        ensures width { IfOk result (λ made. IfSome made
+            (λ searcher. length searcher.walk.stack.row ≡ slots)) }
+        ensures none { IfOk result (λ made. made ≡ None → 1024 < length (table_of graph.now)) }
+    {
+        let offsets = MOST_SHORT / graph.places();
+        if offsets < 2 {
+            return Ok(None);
+        }
+        let room = graph
+            .kept_back(slots)
+            .checked_mul(offsets)
+            .ok_or(AllocError)?;
+        let walk = Walk {
+            visited: Visited::few(graph.places(), 0, 0),
+            stack: Stack::blank(alloc, room, slots)?,
+            steps: Steps::none(),
+        };
+        Ok(Some(ShortSearcher { walk, offsets }))
+    }
+
+    /// Whether this many bytes are few enough.
+    pub(crate) fn suits(&self, bytes: usize) -> bool
+        ensures { IsTrue result ↔ (bytes < self.now.offsets) }
+    {
+        bytes < self.offsets
+    }
+
+    /// Returns where the match starts and ends that a search by itself finds from this offset on.
+    /// Its slots are in the row.
+    pub(crate) fn search(
+        &mut self,
+        graph: &Graph,
+        haystack: &str,
+        start: usize,
+    ) -> Option<(usize, usize)>
+        requires boundary { IsCharBoundary haystack.now start }
+        requires short { length haystack.now - start < self.old.offsets }
+        requires searches { SearchesShort graph.now self.old }
+        ensures found { IsNumberedOutcome (table_of graph.now) (chars haystack.now) graph.now.start
+            (position_at haystack.now start) (best_at result self.new.walk.stack.row) }
+        ensures searches { SearchesShort graph.now self.new }
+        ensures width { length self.new.walk.stack.row ≡ length self.old.walk.stack.row }
+        ensures offsets { self.new.offsets ≡ self.old.offsets }
+        ensures entered { IfSome result (λ _. 0 < self.new.walk.steps.entered) }
+        ensures bounded { IsBounded (length (table_of graph.now)) (arrows_of (table_of graph.now))
+            (chars haystack.now) (position_at haystack.now start) self.new.walk.steps.tried
+            self.new.walk.steps.entered self.new.walk.steps.looked }
+    {
+        self.walk.visited = Visited::few(graph.places(), start, haystack.len());
+        self.walk.stack.clear();
+        self.walk.steps = Steps::none();
+        run(&mut self.walk, graph, haystack, start)
+    }
+
+    /// What the slots hold after a match was found.
+    pub(crate) fn row(&self) -> &[Option<usize>]
+        ensures { result.now ≡ self.now.walk.stack.row }
+    {
+        self.walk.stack.row()
+    }
+
+    /// What the last search did.
+    pub(crate) fn steps(&self) -> Steps
+        ensures { result ≡ self.now.walk.steps }
+    {
+        self.walk.steps
+    }
+}

@@ -1,0 +1,59 @@
+//! Whether a tree passes the limits on what is written out.
+ghost use Rattle.std.specs.Prelude.{◌≡◌, ◌+◌, ◌*◌, ◌^◌, ◌<◌, ◌≤◌, ◌↔◌, ℕ, IfOk, IfErr};
+ghost use Rattle.regex_lite_syntax.specs.Errors.{kind_of, passed_limit};
+ghost use Rattle.regex_lite_syntax.specs.Tree.{Tree};
+ghost use Rattle.regex_lite_engine.specs.Graph.Size.{size, Fits, IsDueToTree};
+ghost use Rattle.regex_lite_engine.specs.Graph.PlaceCounts.{whole_places};
+ghost use Rattle.regex_lite_engine.specs.Nfa.Saturation.{AreCountsOf};
+
+use crate::count::Counts;
+use regex_lite_syntax::LimitFault;
+
+/// What each place counts in the size of a pattern.
+const PLACE_SIZE: u128 = 32;
+
+/// What each group counts in it, the whole match among them.
+const GROUP_SIZE: u128 = 16;
+
+/// What each arrow of a choice counts in it.
+const ARROW_SIZE: u128 = 4;
+
+/// What each range of a set counts in it.
+const RANGE_SIZE: u128 = 8;
+
+/// The least index of a group whose slots cannot be numbered.
+const FIRST_PAST_SLOTS: u32 = 0x8000_0000;
+
+impl Counts {
+    /// How many places the whole pattern has, where it passes none of the limits.
+    pub(crate) fn within(&self, size_limit: usize) -> Result<u32, LimitFault>
+        ensures ok { (tree : Tree) → AreCountsOf tree self.now
+            → IfOk result (λ places. (places ≡ whole_places tree) × Fits size_limit tree) }
+        ensures refused { (tree : Tree) → AreCountsOf tree self.now
+            → IfErr result (λ fault. IsDueToTree size_limit tree (kind_of (passed_limit fault))) }
+    {
+        if self.size() > size_limit as u128 {
+            return Err(LimitFault::Size);
+        }
+        if self.properties.greatest_index >= FIRST_PAST_SLOTS {
+            return Err(LimitFault::Slots);
+        }
+        match u32::try_from(self.places.saturating_add(3)) {
+            Ok(places) => Ok(places),
+            Err(_) => Err(LimitFault::Places),
+        }
+    }
+
+    /// The size of the whole pattern. Where a number has stopped it is another one, which is above
+    /// every limit too.
+    fn size(&self) -> u128
+        ensures { (tree : Tree) (limit : ℕ) → AreCountsOf tree self.now → limit < 2 ^ 64
+            → (result ≤ limit) ↔ (size tree ≤ limit) }
+    {
+        PLACE_SIZE * (u128::from(self.places) + 3)
+            + GROUP_SIZE * (u128::from(self.properties.greatest_index) + 1)
+            + ARROW_SIZE * u128::from(self.choice_arrows)
+            + RANGE_SIZE * u128::from(self.ranges)
+            + u128::from(self.names_size)
+    }
+}

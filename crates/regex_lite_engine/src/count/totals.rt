@@ -1,0 +1,54 @@
+//! What the patterns of a list take together.
+ghost use Rattle.std.specs.Prelude.{◌≡◌, ◌^◌, ◌*◌, ◌+◌, ◌≤◌, IfOk, IfErr};
+ghost use Rattle.regex_lite_syntax.specs.declared.error.LimitFault.TheVariants.{Places};
+ghost use Rattle.regex_lite_syntax.specs.Tree.{Tree};
+ghost use Rattle.regex_lite_syntax.specs.Tree.Regular.{IsRegular};
+ghost use Rattle.regex_lite_engine.specs.Graph.PlaceCounts.{whole_places};
+ghost use Rattle.regex_lite_engine.specs.Nfa.Saturation.{AreCountsOf};
+ghost use Rattle.regex_lite_engine.specs.Nfa.Totals.{AreTotalsWith};
+
+use crate::count::Counts;
+use regex_lite_syntax::LimitFault;
+
+/// What whole patterns take together, where their places can be numbered.
+#[derive(Clone, Copy)]
+pub(crate) struct Totals {
+    pub(crate) places: u32,
+    pub(crate) arrows: usize,
+    /// The places that read a character.
+    pub(crate) reading: usize,
+}
+
+impl Totals {
+    /// What no pattern at all takes.
+    pub(crate) const NONE: Totals = Totals {
+        places: 0,
+        arrows: 0,
+        reading: 0,
+    };
+
+    /// What these patterns take with one more, which has these counts.
+    ///
+    /// # Errors
+    ///
+    /// `Places` where they have more places than can be numbered.
+    pub(crate) fn with(self, counts: &Counts) -> Result<Totals, LimitFault>
+        requires counted { (tree : Tree) × IsRegular tree × AreCountsOf tree counts.now }
+        requires few_arrows { self.arrows ≤ 2 * self.places }
+        requires few_reading { self.reading ≤ self.places }
+        ensures ok { (tree : Tree) → IsRegular tree → AreCountsOf tree counts.now
+            → IfOk result (AreTotalsWith self tree) }
+        ensures refused { (tree : Tree) → AreCountsOf tree counts.now → IfErr result
+            (λ fault. (fault ≡ Places) × (2 ^ 32 ≤ self.places + whole_places tree)) }
+    {
+        let own = counts.places.saturating_add(3);
+        let Ok(places) = u32::try_from(own.saturating_add(u64::from(self.places))) else {
+            return Err(LimitFault::Places);
+        };
+        Ok(Totals {
+            places,
+            arrows: self.arrows + counts.arrows(),
+            reading: self.reading + counts.reading(),
+        })
+    }
+}
