@@ -3,6 +3,7 @@ pub mod AheadLemmas
 pub mod BoundaryLemmas
 pub mod IntervalLemmas
 pub mod KnownEndLemmas
+pub mod LeapLemmas
 pub mod LearnLemmas
 pub mod NoLookLemmas
 pub mod RememberedLemmas

@@ -14,5 +14,6 @@ pub mod StateLemmas
 pub mod StepLemmas
 pub mod ThreadLemmas
 pub mod TurnLemmas
+pub mod OfferedLemmas
 pub mod WalkLemmas
 pub mod WentLemmas

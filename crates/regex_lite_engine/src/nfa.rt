@@ -1,6 +1,6 @@
 //! The graph of a pattern: numbered places with ordered arrows.
 ghost use Rattle.std.specs.Prelude.{◌≡◌, ◌+◌, ◌^◌, ◌<◌, length, slice_get};
-ghost use Rattle.std.specs.Prelude.{sum_by, Some, IfOk, IfErr, IfSome};
+ghost use Rattle.std.specs.Prelude.{sum_by, Some, IfOk, IfErr};
 ghost use Rattle.regex_lite_syntax.specs.Errors.{kind_of};
 ghost use Rattle.regex_lite_syntax.specs.Tree.Regular.{IsRegular};
 ghost use Rattle.regex_lite_syntax.specs.Tree.Views.{tree_of};
@@ -8,7 +8,6 @@ ghost use Rattle.regex_lite_engine.specs.Graph.Renumbered.{arrows_of, IsGraphOf,
 ghost use Rattle.regex_lite_engine.specs.Graph.Size.{Fits, IsDueToTree};
 ghost use Rattle.regex_lite_engine.specs.Graph.Places.{kept_back_of, kept_back_with, reading_of};
 ghost use Rattle.regex_lite_engine.specs.Graph.Stored.{LeadsBelow, place_of, table_of};
-ghost use Rattle.regex_lite_engine.specs.Prefilter.Bytes.{IsPrefilterOf};
 ghost use Rattle.regex_lite_engine.specs.Search.Starts.{AreHeadsOf};
 
 pub(crate) mod class;
@@ -20,8 +19,7 @@ pub(crate) mod table;
 mod write;
 
 use crate::count::Counts;
-use crate::prefilter::Prefilter;
-use crate::prefilter::heads::Heads;
+use crate::prefilter::filter::Filter;
 use crate::steps::Steps;
 use groups::Groups;
 use place::Place;
@@ -41,15 +39,12 @@ pub struct Graph {
     start: u32,
     groups: Groups,
     /// Where a match can begin.
-    heads: Heads,
-    /// What blocks of bytes are compared with before these.
-    prefilter: Option<Prefilter>,
+    filter: Filter,
 }
 
 impl Model for Graph {
-    ghost use Rattle.std.specs.Prelude.{◌<◌, IfSome, length};
+    ghost use Rattle.std.specs.Prelude.{◌<◌, length};
     ghost use Rattle.regex_lite_engine.specs.Graph.Stored.{StoredGraph, places_of};
-    ghost use Rattle.regex_lite_engine.specs.Prefilter.Bytes.{IsPrefilterOf};
     ghost use Rattle.regex_lite_engine.specs.Search.Starts.{AreHeadsOf};
 
     ghost Value = { StoredGraph };
@@ -58,15 +53,12 @@ impl Model for Graph {
       places = graph.table.places;
       start = graph.start;
       arrows = graph.table.arrows;
-      reading = graph.table.reading;
       capture_names = graph.groups.capture_names;
       static_captures_len = graph.groups.static_captures_len;
-      heads = graph.heads;
     } };
 
     ghost invariant = { λ graph. (graph.start < length graph.table.places)
-        × AreHeadsOf (places_of graph.table) graph.start graph.heads
-        × IfSome graph.prefilter (IsPrefilterOf graph.heads) };
+        × AreHeadsOf (places_of graph.table) graph.start graph.filter };
 }
 
 impl Graph {
@@ -95,14 +87,12 @@ impl Graph {
         let groups = Groups::of(alloc, hir, &counts)?;
         let (places, start) = write_out(alloc, hir, count)?;
         let table = Table::new(places, counts.arrows(), counts.reading());
-        let heads = Heads::of(hir);
-        let prefilter = Prefilter::of(&heads);
+        let filter = Filter::of(hir);
         Ok(Graph {
             table,
             start,
             groups,
-            heads,
-            prefilter,
+            filter,
         })
     }
 
@@ -123,7 +113,6 @@ impl Graph {
         ensures same { result.now ≡ record {
           places = self.now.places;
           arrows = self.now.arrows;
-          reading = self.now.reading;
         } }
     {
         &self.table
@@ -138,19 +127,11 @@ impl Graph {
     }
 
     /// Where a match can begin.
-    pub(crate) fn heads(&self) -> &Heads
-        ensures same { result.now ≡ self.now.heads }
+    pub(crate) fn filter(&self) -> &Filter
         ensures all { AreHeadsOf (table_of self.now) self.now.start result.now }
         ensures inside { self.now.start < length self.now.places }
     {
-        &self.heads
-    }
-
-    /// What blocks of bytes are compared with before these.
-    pub(crate) fn prefilter(&self) -> &Option<Prefilter>
-        ensures { IfSome result.now (IsPrefilterOf self.now.heads) }
-    {
-        &self.prefilter
+        &self.filter
     }
 
     /// How many places there are.
@@ -174,7 +155,6 @@ impl Graph {
 
     /// How many places read a character. A search counts on there being few arrows too.
     pub(crate) fn reading(&self) -> usize
-        ensures same { result ≡ self.now.reading }
         ensures each { result ≡ reading_of (table_of self.now) }
         ensures few { result < length self.now.places }
         ensures few_arrows { arrows_of (table_of self.now) < 2 ^ 34 }

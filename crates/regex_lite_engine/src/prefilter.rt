@@ -12,6 +12,7 @@ ghost use Rattle.regex_lite_engine.specs.Prefilter.Bytes.{is_among, suits, AreAl
 ghost use Rattle.regex_lite_engine.specs.Prefilter.Bytes.{IsPrefilterOf, StandsBelow};
 ghost use Rattle.regex_lite_engine.specs.Prefilter.Starts.{stops_at};
 
+pub(crate) mod filter;
 pub(crate) mod heads;
 pub(crate) mod list_heads;
 pub(crate) mod starts;

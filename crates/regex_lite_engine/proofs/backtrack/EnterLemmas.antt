@@ -19,7 +19,7 @@ use Rattle.regex_lite_engine.specs.Backtrack.Machine.{pair_number, was_entered}
 use Rattle.regex_lite_engine.specs.Backtrack.Walking as walk
 use Rattle.regex_lite_engine.specs.Graph.Places.{Arrow, Place, with_arrows, go, go_holding}
 use Rattle.regex_lite_engine.specs.Graph.Places.{go_marking, go_reading, one_of, arrived}
-use Rattle.regex_lite_engine.specs.Graph.Places.{behind, arrow_taken, step_from}
+use Rattle.regex_lite_engine.specs.Graph.Places.{behind, step_from}
 use Rattle.regex_lite_engine.specs.Graph.Renumbered.{arrow_count}
 use Rattle.regex_lite_engine.specs.Graph.Stored.{place_of}
 use Rattle.regex_lite_engine.specs.Search.Marks.{Marks, marked, over, mark_of}
@@ -27,16 +27,16 @@ use Rattle.regex_lite_engine.specs.Search.Offsets.{offset, IsOffset, HasSlots}
 use Rattle.regex_lite_engine.specs.Pikevm.InStep.{Offer}
 use Rattle.regex_lite_engine.specs.Pikevm.Machine.{Row}
 use Rattle.regex_lite_engine.specs.Search.NumberedAnswer.{place_with, is_complete}
-use Rattle.regex_lite_engine.specs.Search.NumberedAnswer.{numbered_step, is_end}
+use Rattle.regex_lite_engine.specs.Search.NumberedAnswer.{numbered_step}
 use Rattle.regex_lite_engine.specs.Pikevm.Outcomes.{IsNumberedOutcome}
 use Rattle.regex_lite_engine.specs.Pikevm.Walking.{Node}
 use Rattle.regex_lite_engine.specs.Backtrack.Walking.{IsWalking, SearchFrom, WayHolds}
 use Rattle.regex_lite_engine.proofs.OffsetLemmas.{offset_next}
 use Rattle.regex_lite_engine.proofs.backtrack.WalkLemmas.{walk_entered, walk_complete}
-use Rattle.regex_lite_engine.proofs.pikevm.EnterLemmas.{got_map, free_marks}
+use Rattle.regex_lite_engine.proofs.pikevm.OfferedLemmas.{free_marks, hops, none_offered}
+use Rattle.regex_lite_engine.proofs.pikevm.OfferedLemmas.{one_blocked, open_at}
 use Rattle.regex_lite_engine.proofs.search.MarkLemmas.{slots_set, slots_past}
-use Rattle.regex_lite_engine.proofs.OptionLemmas.{not_there}
-use Rattle.regex_lite_engine.proofs.pikevm.WalkLemmas.{one, wide, no_more, offered_by}
+use Rattle.regex_lite_engine.proofs.pikevm.WalkLemmas.{one, offered_by}
 use Rattle.regex_lite_engine.proofs.backtrack.NumberedLemmas.{holds_on}
 
 -- nothing is read of the empty set
@@ -82,13 +82,6 @@ module _ (table : List (Place ℕ)) (search : SearchFrom) (pairs : Pairs) (held 
   unmarked k e marks has =
       subst (λ z. HasSlots haystack row (over (marked z p) marks)) (sym e) has
 
-  not_end : (arrows : List (Arrow ℕ)) → place_with table q ≡ with_arrows arrows
-      → IsTrue (is_end table haystack (q, p)) → ⊥
-  not_end arrows e ends = closed (subst (λ x. IsTrue (is_complete x)) e ends)
-    where
-      closed : IsTrue (is_complete (with_arrows arrows)) → ⊥
-      closed b = cc
-
   goes_on : (arrows : List (Arrow ℕ)) (row' : Row) (frames' : List Frame)
       → place_with table q ≡ with_arrows arrows
       → ((w : List ℕ) (rest : List (Offer Node)) → Holds row (q, p) w → FramesHold row frames rest
@@ -96,7 +89,7 @@ module _ (table : List (Place ℕ)) (search : SearchFrom) (pairs : Pairs) (held 
       → Walks row' frames'
   goes_on arrows row' frames' e hold' =
       walk_entered table search pairs held q p at inside low is_offset u new all begins short
-      (record held { row = row'; frames = frames' }) (not_end arrows e)
+      (record held { row = row'; frames = frames' }) (open_at table haystack q p arrows e)
       (λ w rest holds waits. subst (λ c. FramesHold row' frames' (listed w c 0 ++ rest))
       (sym (ap arrow_count e)) (hold' w rest holds waits))
 
@@ -106,17 +99,7 @@ module _ (table : List (Place ℕ)) (search : SearchFrom) (pairs : Pairs) (held 
   walk_blocked arrows e blocked =
       goes_on arrows row frames e
       (λ w rest holds waits. subst (λ z. FramesHold row frames (z ++ rest))
-      (sym (nothing w (length arrows) 0)) waits)
-    where
-      nothing : (w : List ℕ) (c k : ℕ) → listed w c k ≡ []
-      nothing w zero k = refl
-      nothing w (suc c) k =
-          by_first (step_from haystack (place_with table q) p k) (blocked k) (nothing w c (suc k))
-        where
-          by_first : (o : Option Node) → o ≡ None → listed w c (suc k) ≡ []
-              → one table haystack o (w ++ k ∷ []) ++ listed w c (suc k) ≡ []
-          by_first None e rest = rest
-          by_first (Some z) e rest = absurd (not_there (sym e))
+      (sym (none_offered table haystack q p blocked w (length arrows) 0)) waits)
 
   -- free arrows
   walk_choice : (to : List ℕ) → place_with table q ≡ with_arrows (map go to)
@@ -125,15 +108,8 @@ module _ (table : List (Place ℕ)) (search : SearchFrom) (pairs : Pairs) (held 
       goes_on (map go to) row (map (λ l. explore l at) to ++ frames) e
       (λ w rest holds waits. subst
       (λ c. FramesHold row (map (λ l. explore l at) to ++ frames) (listed w c 0 ++ rest))
-      (sym (length-map to go)) (each to 0 w rest hops holds waits))
+      (sym (length-map to go)) (each to 0 w rest (hops table haystack q p to e) holds waits))
     where
-      hops : (t l : ℕ) → slice_get to t ≡ Some l
-          → numbered_step table haystack (q, p) (0 + t) ≡ Some (l, p)
-      hops t l got =
-          ap (λ x. step_from haystack x p (0 + t)) e
-          ∙ ap (λ y. arrow_taken haystack p (slice_get (map go to) y)) (omega arith)
-          ∙ ap (arrow_taken haystack p) (got_map to t l got)
-
       each : (qs : List ℕ) (k : ℕ) (w : List ℕ) (rest : List (Offer Node))
           → ((t l : ℕ) → slice_get qs t ≡ Some l
           → numbered_step table haystack (q, p) (k + t) ≡ Some (l, p))
@@ -241,13 +217,8 @@ module _ (table : List (Place ℕ)) (search : SearchFrom) (pairs : Pairs) (held 
   walk_look true arrow to e here none =
       walk_single arrow to p at row frames e here is_offset (unmarked 0 none)
       (λ rest waits. waits)
-  walk_look false arrow to e here none = walk_blocked (arrow ∷ []) e blocked
-    where
-      blocked : (k : ℕ) → numbered_step table haystack (q, p) k ≡ None
-      blocked zero = here
-      blocked (suc k) =
-          let lone : wide table haystack (q, p) ≡ 1 = ap arrow_count e in
-          no_more table haystack (q, p) (suc k) (omega (arith, lone))
+  walk_look false arrow to e here none =
+      walk_blocked (arrow ∷ []) e (one_blocked table haystack q p arrow e here)
 
   -- the slot holds the offset until the way is left
   walk_marks : (slot to : ℕ) → place_with table q ≡ with_arrows (go_marking slot to ∷ [])

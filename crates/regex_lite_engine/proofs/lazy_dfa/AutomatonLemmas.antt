@@ -1,7 +1,7 @@
 -- The states of a lazy automaton, as they are stored.
 use Rattle.std.proofs.Common.{◌≡◌, ℕ, zero, suc, ◌+◌, ◌-◌, ◌<◌, ◌≤◌, List, [], ◌∷◌, ◌++◌, length}
 use Rattle.std.proofs.Common.{map, take, drop, slice_get, slice_index, slice_index_or, slice_set}
-use Rattle.std.proofs.Common.{replicate, true, None, Some, refl, sym, ap, ◌∙◌, arith}
+use Rattle.std.proofs.Common.{replicate, true, None, Some, refl, sym, ap, subst, ◌∙◌, arith}
 use Rattle.std.proofs.lemmas.List.{length-take-le, take-append-drop, take-append-le}
 use Rattle.std.proofs.lemmas.List.{drop-append-le, length-map, map-append, map-set}
 use Rattle.std.proofs.lemmas.List.{nil_from_length, get_or-replicate, take_rest, length-drop}
@@ -295,3 +295,24 @@ module _ (intervals : Intervals) (states : List StoredState) (used : ℕ) (ways 
       × LeadsOn (map place_of places) entries automaton.intervals (state_in ways found) class to
   known_turn places entries remembers x found stored inside class few known =
       remembers.leads x (state_in ways found) class (is_stored x found stored inside) few known
+
+  -- the states that it leads from and to are those that are stored
+  pub stored_turn : (places : List code.Place) (entries : List ℕ)
+      → Remembers places entries automaton → (x : ℕ) (found : StoredState)
+      → found ≡ slice_index_or states x found → x < length automaton.states →
+      (class : ℕ) → class < most_classes → (slice_index found.next class ≡ unknown → ⊥) →
+      (there : StoredState) → there ≡ slice_index_or states (slice_index found.next class) there →
+      (slice_get automaton.states x ≡ Some (state_in ways found))
+      × (slice_get automaton.states (slice_index found.next class) ≡ Some (state_in ways there))
+      × LeadsOn (map place_of places) entries automaton.intervals (state_in ways found) class
+      (state_in ways there)
+  stored_turn places entries remembers x found stored inside class few known there own =
+      let y = slice_index found.next class in
+      let turn = known_turn places entries remembers x found stored inside class few known in
+      let at = is_stored y there own (slice_get_within automaton.states y turn.0 turn.1) in (
+        is_stored x found stored inside,
+        at,
+        subst
+            (LeadsOn (map place_of places) entries automaton.intervals (state_in ways found) class)
+            (same_some (sym turn.1 ∙ at)) turn.2,
+      )

@@ -84,6 +84,9 @@ pub interval_cons : (bs : List ℕ) (k c : ℕ) → k < length bs
     ≡ tick (nat_le (slice_index bs k) c) + interval_of (drop (suc k) bs) c
 interval_cons bs k c lt = ap (λ rest. interval_of rest c) (drop-cons bs k 0 lt)
 
+-- what is counted from the end on, boundary by boundary
+pub ruleset interval_steps = (interval_cons, interval_after)
+
 module _ (bs : List ℕ) (c d : ℕ) (e : interval_of bs c ≡ interval_of bs d) where
   between_tests : (start end c : ℕ)
       → is_between start end c ≡ (nat_le start c && not (nat_le (end + 1) c))

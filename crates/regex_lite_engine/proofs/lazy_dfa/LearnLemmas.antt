@@ -1,6 +1,6 @@
 -- A turn that is remembered when it has been taken.
 use Rattle.std.proofs.Common.{◌≡◌, ℕ, zero, suc, ◌<◌, ◌≤◌, inl, inr, Bool, true}
-use Rattle.std.proofs.Common.{false, Option, None, slice_set, List, [], ◌∷◌, length}
+use Rattle.std.proofs.Common.{false, Option, None, slice_set, List, [], ◌∷◌, ◌++◌, length}
 use Rattle.std.proofs.Common.{map, slice_get, Some, refl, sym, ap, subst, ◌∙◌, arith}
 use Rattle.std.proofs.lemmas.Bool.{cases_eq}
 use Rattle.std.proofs.lemmas.List.{length-map}
@@ -12,6 +12,7 @@ use Rattle.regex_lite_engine.specs.Graph.Stored.{place_of}
 use Rattle.regex_lite_engine.specs.LazyDfa.Automaton.{Automaton, FitsTable, LeadsOn, Origin}
 use Rattle.regex_lite_engine.specs.LazyDfa.Automaton.{Remembers, Sees, State, Suits, Way}
 use Rattle.regex_lite_engine.specs.LazyDfa.Automaton.{hit_of, searching_after, way_of, ways_of}
+use Rattle.regex_lite_engine.specs.LazyDfa.Extending.{Extends}
 use Rattle.regex_lite_engine.specs.LazyDfa.Intervals.{class_of, side_of}
 use Rattle.regex_lite_engine.specs.LazyDfa.Learning.{HasTurned, IsIn}
 use Rattle.regex_lite_engine.specs.Pikevm.Again.{AreAlike}
@@ -22,6 +23,7 @@ use Rattle.regex_lite_engine.specs.Pikevm.Turns.{best_of}
 use Rattle.regex_lite_engine.specs.Pikevm.Walking.{Best}
 use Rattle.regex_lite_engine.proofs.lazy_dfa.AlikeLemmas.{alike_at, same_side_of}
 use Rattle.regex_lite_engine.proofs.lazy_dfa.RememberedLemmas.{remembered, set_other, set_there}
+use Rattle.regex_lite_engine.proofs.lazy_dfa.RememberedLemmas.{still_remembers}
 use Rattle.regex_lite_engine.proofs.OptionLemmas.{not_there, same_some}
 
 -- what is pending is none of it
@@ -48,6 +50,26 @@ ways_fit table first threads below few = record {
         subst (λ (w : Way). w.place < length table) (same_some at) (below 0 (omega arith))
     each (t ∷ ts) below (suc k) way at =
         each ts (λ j lt. below (suc j) (omega (arith, lt))) k way at
+
+-- what is remembered stays so while the ways of the threads become those of a state
+pub remembers_settled : (places : List code.Place) (entries : List ℕ)
+    (old gathered settled : Automaton) (first : ℕ) (threads : List Thread)
+    → gathered ≡ record old { pending = old.pending ++ ways_of first threads } → old.pending ≡ []
+    → Remembers places entries old → ThreadsBelow (length (map place_of places)) threads
+    → length threads ≤ reading_of (map place_of places) → Extends gathered settled
+    → (gathered.pending ≡ ways_of first threads) × Remembers places entries settled
+remembers_settled places entries old gathered settled first threads all none remembers below few
+    extends =
+    let ways = ways_of first threads in
+    let pending : gathered.pending ≡ ways =
+    ap (λ (z : Automaton). z.pending) all ∙ ap (λ own. own ++ ways) none in (
+      pending,
+      still_remembers places entries gathered settled
+          (subst (Remembers places entries) (sym all)
+          (remembers_pending places entries old (old.pending ++ ways) remembers)) extends
+          (subst (FitsTable (map place_of places)) (sym pending)
+          (ways_fit (map place_of places) first threads below few)),
+    )
 
 -- there is a match afterwards where none is searched for
 pub suits_after : (first : ℕ) (hit : Bool) (before now : Best) (last : Option Origin)

@@ -15,7 +15,7 @@ use Rattle.regex_lite_engine.specs.declared.nfa.place.Place.TheVariants as store
 use Rattle.regex_lite_engine.specs.declared.search.here.Here.{Here}
 use Rattle.regex_lite_engine.specs.Graph.Places.{Arrow, Place, with_arrows, go, go_holding}
 use Rattle.regex_lite_engine.specs.Graph.Places.{go_marking, go_reading, one_of, arrived}
-use Rattle.regex_lite_engine.specs.Graph.Places.{behind, arrow_taken, step_from}
+use Rattle.regex_lite_engine.specs.Graph.Places.{behind, step_from}
 use Rattle.regex_lite_engine.specs.Graph.Renumbered.{arrow_count}
 use Rattle.regex_lite_engine.specs.Graph.Stored.{place_of}
 use Rattle.regex_lite_engine.specs.Search.Marks.{Marks, marked, over, mark_of}
@@ -23,33 +23,24 @@ use Rattle.regex_lite_engine.specs.Pikevm.Entering.{Enters, pushing, reading_on,
 use Rattle.regex_lite_engine.specs.Pikevm.InStep.{Offer}
 use Rattle.regex_lite_engine.specs.Pikevm.Machine.{Row, Frame, explore, restore, Thread, State}
 use Rattle.regex_lite_engine.specs.Search.NumberedAnswer.{place_with, is_complete}
-use Rattle.regex_lite_engine.specs.Search.NumberedAnswer.{numbered_step, is_end}
+use Rattle.regex_lite_engine.specs.Search.NumberedAnswer.{numbered_step}
 use Rattle.regex_lite_engine.specs.Search.Standing.{IsHere}
 use Rattle.regex_lite_engine.specs.Search.Offsets.{HasSlots}
 use Rattle.regex_lite_engine.specs.Pikevm.Walking.{Node, Best, WayTold, FramesHold}
 use Rattle.regex_lite_engine.specs.Pikevm.Walking.{ThreadsHold, SearchAt, IsWalking}
 use Rattle.regex_lite_engine.proofs.search.MarkLemmas.{slots_set, slots_past}
 use Rattle.regex_lite_engine.proofs.OptionLemmas.{not_there, same_some}
-use Rattle.regex_lite_engine.proofs.pikevm.WalkLemmas.{one, wide, no_more, offered_by}
+use Rattle.regex_lite_engine.proofs.pikevm.OfferedLemmas.{free_marks, hops, no_second}
+use Rattle.regex_lite_engine.proofs.pikevm.OfferedLemmas.{none_offered, one_blocked, open_at}
+use Rattle.regex_lite_engine.proofs.pikevm.WalkLemmas.{one, wide, offered_by}
 use Rattle.regex_lite_engine.proofs.pikevm.WalkLemmas.{marked_in, holds_on, held_append}
 use Rattle.regex_lite_engine.proofs.pikevm.WalkLemmas.{walk_entered, walk_read, walk_complete}
-
-pub got_map : (qs : List ℕ) (t l : ℕ) → slice_get qs t ≡ Some l
-    → slice_get (map go qs) t ≡ Some (go l)
-got_map [] t l e = absurd (not_there e)
-got_map (q ∷ qs) zero l e = ap (λ z. Some (go z)) (same_some e)
-got_map (q ∷ qs) (suc t) l e = got_map qs t l e
 
 free_stays : (h : Text) (qs : List ℕ) (p a : ℕ) (l : Node)
     → step_from h (with_arrows (map go qs)) p a ≡ Some l → l.1 ≡ p
 free_stays h [] p a l e = absurd (not_there e)
 free_stays h (q ∷ qs) p zero l e = sym (ap (λ (z : Node). z.1) (same_some e))
 free_stays h (q ∷ qs) p (suc a) l e = free_stays h qs p a l e
-
-pub free_marks : (qs : List ℕ) (a : ℕ) → mark_of (with_arrows (map go qs)) a ≡ None
-free_marks [] a = refl
-free_marks (q ∷ qs) zero = refl
-free_marks (q ∷ qs) (suc a) = free_marks qs a
 
 -- nothing is read of the empty set
 pub reads_none : (o : Option ℕ) → reads (in_ranges []) o ≡ false
@@ -81,52 +72,28 @@ module _ (table : List (Place ℕ)) (at : SearchAt) (m : State) (i : Told) (ways
   abbrev n : State
   n = marked_in m q
 
-  open_at : (arrows : List (Arrow ℕ)) → place_with table q ≡ with_arrows arrows
-      → IsTrue (is_end table h (q, p)) → ⊥
-  open_at arrows e ends = closed (subst (λ x. IsTrue (is_complete x)) e ends)
-    where
-      closed : IsTrue (is_complete (with_arrows arrows)) → ⊥
-      closed b = cc
-
   -- no arrow fits
   walk_blocked : (arrows : List (Arrow ℕ)) → place_with table q ≡ with_arrows arrows
       → ((a : ℕ) → step a ≡ None) → Walks n
   walk_blocked arrows e blocked =
-      walk_entered table at m i ways best q short u new m.row m.frames (open_at arrows e)
+      walk_entered table at m i ways best q short u new m.row m.frames
+      (open_at table h q p arrows e)
       (λ a l hops. absurd (not_there (sym (blocked a) ∙ hops)))
       (λ w rest held waits. subst (λ z. Frames_hold m.row m.frames (z ++ rest))
-      (sym (nothing w (wide table h (q, p)) 0)) waits)
-    where
-      nothing : (w : List ℕ) (c j : ℕ) → offered_by table h (place_with table q) p w c j ≡ []
-      nothing w zero j = refl
-      nothing w (suc c) j =
-          here (step_from h (place_with table q) p j) (blocked j) (nothing w c (suc j))
-        where
-          here : (o : Option Node) → o ≡ None
-              → offered_by table h (place_with table q) p w c (suc j) ≡ [] →
-              one table h o (w ++ j ∷ [])
-              ++ offered_by table h (place_with table q) p w c (suc j) ≡ []
-          here None e r = r
-          here (Some z) e r = absurd (not_there (sym e))
+      (sym (none_offered table h q p blocked w (wide table h (q, p)) 0)) waits)
 
   -- free arrows
   walk_choice : (to : List ℕ) → place_with table q ≡ with_arrows (map go to)
       → Walks (pushing n (map (λ l. explore l) to))
   walk_choice to e =
       walk_entered table at m i ways best q short u new m.row
-      (map (λ l. explore l) to ++ m.frames) (open_at (map go to) e)
+      (map (λ l. explore l) to ++ m.frames) (open_at table h q p (map go to) e)
       (λ a l hops. free_stays h to p a l (sym (ap (λ x. step_from h x p a) e) ∙ hops))
       (λ w rest held waits.
       subst (λ c. Frames_hold m.row (map (λ l. explore l) to ++ m.frames) (listed w c ++ rest))
       (sym (length-map to go) ∙ sym (ap arrow_count e))
-      (all_listed to 0 w rest (λ t l at. hops t l at) held waits))
+      (all_listed to 0 w rest (hops table h q p to e) held waits))
     where
-      hops : (t l : ℕ) → slice_get to t ≡ Some l → step (0 + t) ≡ Some (l, p)
-      hops t l at =
-          ap (λ x. step_from h x p (0 + t)) e
-          ∙ ap (λ y. arrow_taken h p (slice_get (map go to) y)) (omega arith)
-          ∙ ap (arrow_taken h p) (got_map to t l at)
-
       all_listed : (qs : List ℕ) (j : ℕ) (w : List ℕ) (rest : List (Offer Node))
           → ((t l : ℕ) → slice_get qs t ≡ Some l → step (j + t) ≡ Some (l, p))
           → Told_way m.row (q, p) w → Frames_hold m.row m.frames rest
@@ -162,7 +129,7 @@ module _ (table : List (Place ℕ)) (at : SearchAt) (m : State) (i : Told) (ways
       Walks (record n { row = row; frames = explore to ∷ frames })
   walk_single a to row frames e here marks waits' =
       walk_entered table at m i ways best q short u new row (explore to ∷ frames)
-      (open_at (a ∷ []) e) stays
+      (open_at table h q p (a ∷ []) e) stays
       (λ w rest held waits. subst (λ c. Frames_hold row (explore to ∷ frames) (listed w c ++ rest))
       (sym (ap arrow_count e))
       (subst (λ o. Frames_hold row (explore to ∷ frames) ((one table h o (w ++ 0 ∷ []) ++ [])
@@ -176,8 +143,7 @@ module _ (table : List (Place ℕ)) (at : SearchAt) (m : State) (i : Told) (ways
     where
       stays : (b : ℕ) (l : Node) → step b ≡ Some l → l.1 ≡ p
       stays zero l hops = sym (ap (λ (z : Node). z.1) (same_some (sym here ∙ hops)))
-      stays (suc b) l hops = let lone : wide table h (q, p) ≡ 1 = ap arrow_count e in
-          absurd (not_there (sym (no_more table h (q, p) (suc b) (omega (arith, lone))) ∙ hops))
+      stays (suc b) l hops = absurd (not_there (sym (no_second table h q p a e b) ∙ hops))
 
   -- one arrow that leads to the next position
   walk_reads : (a : Arrow ℕ) (to : ℕ) → place_with table q ≡ with_arrows (a ∷ [])
@@ -185,7 +151,7 @@ module _ (table : List (Place ℕ)) (at : SearchAt) (m : State) (i : Told) (ways
       → Walks (reading_on true n (to, i, m.row))
   walk_reads a to e here unmarked =
       walk_read table at m i ways best q short u new (m.next ++ (to, i, m.row) ∷ [])
-      (open_at (a ∷ []) e) moves
+      (open_at table h q p (a ∷ []) e) moves
       (λ w coming held all_held. held_append table h at.entries (suc p) m.next
       ((to, i, m.row) ∷ []) coming (listed w (wide table h (q, p))) all_held
       (subst (λ c. Held (listed w c)) (sym (ap arrow_count e))
@@ -201,8 +167,7 @@ module _ (table : List (Place ℕ)) (at : SearchAt) (m : State) (i : Told) (ways
 
       moves : (b : ℕ) (l : Node) → step b ≡ Some l → l.1 ≡ suc p
       moves zero l hops = sym (ap (λ (z : Node). z.1) (same_some (sym here ∙ hops)))
-      moves (suc b) l hops = let lone : wide table h (q, p) ≡ 1 = ap arrow_count e in
-          absurd (not_there (sym (no_more table h (q, p) (suc b) (omega (arith, lone))) ∙ hops))
+      moves (suc b) l hops = absurd (not_there (sym (no_second table h q p a e b) ∙ hops))
 
   module _ (here : Here) (is : IsHere h p here) where
     -- what is true after a place is entered
@@ -257,13 +222,8 @@ module _ (table : List (Place ℕ)) (at : SearchAt) (m : State) (i : Told) (ways
     settle_look true arrow to e hops unmarked =
         walk_single arrow to m.row m.frames e hops (λ ms has.
         subst (λ z. HasSlots h m.row (over (marked z p) ms)) (sym unmarked) has) (λ os w. w)
-    settle_look false arrow to e hops unmarked = walk_blocked (arrow ∷ []) e blocked
-      where
-        blocked : (a : ℕ) → step a ≡ None
-        blocked zero = hops
-        blocked (suc a) =
-            let lone : wide table h (q, p) ≡ 1 = ap arrow_count e in
-            no_more table h (q, p) (suc a) (omega (arith, lone))
+    settle_look false arrow to e hops unmarked =
+        walk_blocked (arrow ∷ []) e (one_blocked table h q p arrow e hops)
 
     -- a slot is marked
     walk_marked : (slot to : ℕ) (frames : List Frame)

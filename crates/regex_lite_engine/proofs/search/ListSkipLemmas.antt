@@ -8,7 +8,8 @@ use Rattle.std.proofs.lemmas.Option.{slice_get_within}
 use Rattle.regex_lite_engine.specs.declared.prefilter.list_heads.ListHeads.{ListHeads}
 use Rattle.regex_lite_engine.specs.declared.search.here.Here.{Here}
 use Rattle.regex_lite_engine.specs.Graph.Places.{Place}
-use Rattle.regex_lite_engine.specs.Prefilter.ListHeads.{has, may_start, start_row, IsPassedByAll}
+use Rattle.regex_lite_engine.specs.Prefilter.ListHeads.{may_start, IsPassedByAll}
+use Rattle.regex_lite_engine.specs.Prefilter.Rows.{has, start_row}
 use Rattle.regex_lite_engine.specs.Prefilter.Starts.{MayBegin}
 use Rattle.regex_lite_engine.specs.Search.Offsets.{offset}
 use Rattle.regex_lite_engine.specs.Search.Standing.{IsHere}

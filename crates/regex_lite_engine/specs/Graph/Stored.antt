@@ -9,15 +9,12 @@ use Rattle.regex_lite_engine.specs.Graph.Places.{reading_of, kept_back_of, kept_
 use Rattle.regex_lite_engine.specs.declared.nfa.place.Place as code
 use Rattle.regex_lite_engine.specs.declared.nfa.place.Place.TheVariants as stored
 use Rattle.regex_lite_engine.specs.declared.nfa.kept_back.KeptBack.{KeptBack}
-use Rattle.regex_lite_engine.specs.declared.prefilter.heads.Heads.{Heads}
 
 -- the table of a graph as callers see it
 pub record StoredTable : Type 0 where
   pub places : List code.Place
   -- how many arrows the places have
   pub arrows : ℕ
-  -- how many places read a character
-  pub reading : ℕ
 
 -- the graph of one pattern as callers see it
 pub record StoredGraph : Type 0 where
@@ -26,13 +23,9 @@ pub record StoredGraph : Type 0 where
   pub start : ℕ
   -- how many arrows the places have
   pub arrows : ℕ
-  -- how many places read a character
-  pub reading : ℕ
   -- by index
   pub capture_names : List (Option (RcStr Global))
   pub static_captures_len : Option ℕ
-  -- where a match can begin
-  pub heads : Heads
 
 -- the place that is stored
 abbrev pub place_of : code.Place → Place ℕ

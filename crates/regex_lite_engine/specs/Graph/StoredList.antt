@@ -6,7 +6,6 @@ use Rattle.std.specs.declared.rc.RcStr.{RcStr}
 use Rattle.regex_lite_syntax.specs.Tree.{Tree}
 use Rattle.regex_lite_syntax.specs.Tree.Properties.{captures_len, group_name, static_captures_len}
 use Rattle.regex_lite_syntax.specs.Tree.Views.{text_of_name}
-use Rattle.regex_lite_engine.specs.declared.prefilter.list_heads.ListHeads.{ListHeads}
 use Rattle.regex_lite_engine.specs.declared.nfa.place.Place as code
 use Rattle.regex_lite_engine.specs.Graph.Addresses.{Address}
 use Rattle.regex_lite_engine.specs.Graph.Parts.{HaveOwnParts}
@@ -29,12 +28,8 @@ pub record StoredList : Type 0 where
   pub entries : List ℕ
   -- how many arrows the places have
   pub arrows : ℕ
-  -- how many places read a character
-  pub reading : ℕ
   -- by the number of the pattern
   pub groups : List StoredGroups
-  -- which patterns may start at a position
-  pub heads : ListHeads
 
 -- the places of the graph
 abbrev pub table_of_list : StoredList → List (Place ℕ)

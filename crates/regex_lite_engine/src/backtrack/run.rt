@@ -32,7 +32,7 @@ pub fn run(walk: &mut Walk, graph: &Graph, haystack: &str, start: usize) -> Opti
 {
     let mut here = Here::at(haystack, start);
     'starts: loop {
-        here = pass_over(graph.heads(), graph.prefilter(), haystack, here);
+        here = pass_over(graph.filter(), haystack, here);
         if let Some(end) = walk.explore(graph, haystack, here.at) {
             return Some((here.at, end));
         }

@@ -167,7 +167,7 @@ impl Classes {
 }
 
 /// The intervals of the ASCII characters: a boundary counts for those from it on.
-#[tactic(auto, using(crate::proofs::lazy_dfa::IntervalLemmas::interval_cons, crate::proofs::lazy_dfa::IntervalLemmas::interval_after))]
+#[tactic(auto, using(crate::proofs::lazy_dfa::IntervalLemmas::interval_steps))]
 fn ascii_of(boundaries: &[u32]) -> [u8; 128]
     requires { length boundaries.now ≤ 125 }
     ensures { (c : ℕ) → c < 128 → slice_index result c ≡ interval_of boundaries.now c }

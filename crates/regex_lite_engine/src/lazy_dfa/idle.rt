@@ -1,8 +1,12 @@
 //! Positions at which there is nothing to go on from, and no match: a search goes on by turns, if
 //! they are known, or else passes over those at which no match can begin.
-ghost use Rattle.std.specs.Prelude.{◌<◌, ◌∷◌, [], ℕ, IfSome, chars, length};
+ghost use Rattle.std.specs.Prelude.{◌≡◌, ◌<◌, ◌≤◌, ◌∷◌, [], ℕ, IfSome, None, Some, chars};
+ghost use Rattle.std.specs.Prelude.{false, length, slice_get, true};
 ghost use Rattle.regex_lite_engine.specs.Graph.Stored.{table_of};
+ghost use Rattle.regex_lite_engine.specs.LazyDfa.Automaton.{Remembers, State};
 ghost use Rattle.regex_lite_engine.specs.LazyDfa.Running.{StandsIdle};
+ghost use Rattle.regex_lite_engine.specs.LazyDfa.Scanning.{best_told, IsScanning, IsSince};
+ghost use Rattle.regex_lite_engine.specs.Pikevm.Outcomes.{IsBestOutcomeOf};
 ghost use Rattle.regex_lite_engine.specs.Search.Standing.{IsHere};
 ghost use Rattle.regex_lite_engine.specs.Search.Starts.{PassesTo};
 ghost use Rattle.regex_lite_engine.specs.Search.Starts.{AreDeadAt};
@@ -10,6 +14,7 @@ ghost use Rattle.regex_lite_engine.specs.Search.Starts.{AreDeadAt};
 use crate::Graph;
 use crate::lazy_dfa::automaton::{LazyDfa, MOST_STATES, UNKNOWN};
 use crate::lazy_dfa::run::Progress;
+use crate::lazy_dfa::scan::Standing;
 use crate::search::here::Here;
 use crate::search::one_pattern::OnePattern;
 use crate::search::patterns::Patterns;
@@ -23,7 +28,7 @@ impl LazyDfa {
         ensures { IfSome result (StandsIdle self.now at.here) }
     {
         // A prefilter is faster than turns.
-        if graph.prefilter().is_some() {
+        if graph.filter().prefilter().is_some() {
             return None;
         }
         let state = self.empty_state(at.here.before)?;
@@ -56,10 +61,130 @@ impl LazyDfa {
         next
     }
 
+    /// Goes on by remembered turns, and over positions at which no match can begin. Returns whether
+    /// nothing leads on from the last match, which is the answer then.
+    pub(super) fn run_on(&self, graph: &Graph, haystack: &str, at: &mut Standing) -> bool
+        requires remembers { Remembers graph.now.places (graph.now.start ∷ []) self.now }
+        requires scanning { (low p : ℕ) × IsScanning (table_of graph.now) (graph.now.start ∷ [])
+            (chars haystack.now) low p self.now at.old }
+        ensures over { result ≡ true → (low p : ℕ) → IsScanning (table_of graph.now)
+            (graph.now.start ∷ []) (chars haystack.now) low p self.now at.old
+            → IsBestOutcomeOf (table_of graph.now) (chars haystack.now) (graph.now.start ∷ []) low
+            (best_told at.new.best) }
+        ensures on { result ≡ false → (low p : ℕ) → IsScanning (table_of graph.now)
+            (graph.now.start ∷ []) (chars haystack.now) low p self.now at.old
+            → (q : ℕ) × (p ≤ q) × IsScanning (table_of graph.now) (graph.now.start ∷ [])
+            (chars haystack.now) low q self.now at.new
+            × IsSince (table_of graph.now) (graph.now.start ∷ []) (chars haystack.now) low p
+            at.old.first at.new.first }
+    {
+        if self.run(graph, haystack, at) {
+            return true;
+        }
+        self.leap_on(graph, haystack, at)
+    }
+
+    /// The same, but that it passes over positions first.
+    // Not inlined, so that a search without a prefilter has no more than the call.
+    #[inline(never)]
+    fn leap_on(&self, graph: &Graph, haystack: &str, at: &mut Standing) -> bool
+        requires remembers { Remembers graph.now.places (graph.now.start ∷ []) self.now }
+        requires scanning { (low p : ℕ) × IsScanning (table_of graph.now) (graph.now.start ∷ [])
+            (chars haystack.now) low p self.now at.old }
+        ensures over { result ≡ true → (low p : ℕ) → IsScanning (table_of graph.now)
+            (graph.now.start ∷ []) (chars haystack.now) low p self.now at.old
+            → IsBestOutcomeOf (table_of graph.now) (chars haystack.now) (graph.now.start ∷ []) low
+            (best_told at.new.best) }
+        ensures on { result ≡ false → (low p : ℕ) → IsScanning (table_of graph.now)
+            (graph.now.start ∷ []) (chars haystack.now) low p self.now at.old
+            → (q : ℕ) × (p ≤ q) × IsScanning (table_of graph.now) (graph.now.start ∷ [])
+            (chars haystack.now) low q self.now at.new
+            × IsSince (table_of graph.now) (graph.now.start ∷ []) (chars haystack.now) low p
+            at.old.first at.new.first }
+    {
+        'leaps: loop {
+            if !self.leap(graph, haystack, at) {
+                return false;
+            }
+            if self.run(graph, haystack, at) {
+                return true;
+            }
+        }
+    }
+
+    /// The same up to the first match that ends, where there is none yet.
+    pub(super) fn run_on_to_match(&self, graph: &Graph, haystack: &str, at: &mut Standing)
+        requires remembers { Remembers graph.now.places (graph.now.start ∷ []) self.now }
+        requires scanning { (low p : ℕ) × IsScanning (table_of graph.now) (graph.now.start ∷ [])
+            (chars haystack.now) low p self.now at.old }
+        ensures on { (low p : ℕ) → IsScanning (table_of graph.now) (graph.now.start ∷ [])
+            (chars haystack.now) low p self.now at.old
+            → (q : ℕ) × (p ≤ q) × IsScanning (table_of graph.now) (graph.now.start ∷ [])
+            (chars haystack.now) low q self.now at.new
+            × IsSince (table_of graph.now) (graph.now.start ∷ []) (chars haystack.now) low p
+            at.old.first at.new.first }
+        ensures none { at.new.best ≡ at.old.best }
+    {
+        'leaps: loop {
+            self.run_to_match(graph, haystack, at);
+            if !self.leap(graph, haystack, at) {
+                return;
+            }
+        }
+    }
+
+    /// Where there is nothing to go on from and no match, asks the prefilter, if there is one, for
+    /// the next position at which a match can begin. Returns whether that is a later one. It stays
+    /// in the same state, so the graph has no looks.
+    #[inline(always)]
+    fn leap(&self, graph: &Graph, haystack: &str, at: &mut Standing) -> bool
+        requires scanning { (low p : ℕ) × IsScanning (table_of graph.now) (graph.now.start ∷ [])
+            (chars haystack.now) low p self.now at.old }
+        ensures on { result ≡ true → (low p : ℕ) → IsScanning (table_of graph.now)
+            (graph.now.start ∷ []) (chars haystack.now) low p self.now at.old
+            → (q : ℕ) × (p ≤ q) × IsScanning (table_of graph.now) (graph.now.start ∷ [])
+            (chars haystack.now) low q self.now at.new
+            × IsSince (table_of graph.now) (graph.now.start ∷ []) (chars haystack.now) low p
+            at.old.first at.new.first }
+        ensures later { result ≡ true → at.old.here.at < at.new.here.at }
+        ensures same { result ≡ false → at.new ≡ at.old }
+        ensures none { at.new.best ≡ at.old.best }
+    {
+        if !self.may_leap(graph, at) {
+            return false;
+        }
+        let pattern = OnePattern {
+            graph,
+            may_start: false,
+        };
+        let next = pattern.pass_over(haystack, at.here);
+        if next.at <= at.here.at {
+            return false;
+        }
+        at.here = next;
+        at.first = next.at;
+        true
+    }
+
+    /// Whether there is nothing to go on from and no match, a prefilter and no looks.
+    #[inline(always)]
+    fn may_leap(&self, graph: &Graph, at: &Standing) -> bool
+        requires { at.now.state < length self.now.states }
+        ensures looks { result ≡ true → self.now.intervals.looks ≡ false }
+        ensures none { result ≡ true → at.now.best ≡ None }
+        ensures empty { result ≡ true → (state : State)
+            → slice_get self.now.states at.now.state ≡ Some state → state.ways ≡ [] }
+    {
+        graph.filter().prefilter().is_some()
+            && !self.has_looks()
+            && at.best.is_none()
+            && self.is_empty(at.state)
+    }
+
     /// Whether it pays to take the turns up to this position, so that they are remembered.
     #[inline(always)]
     pub(super) fn is_worth_a_turn(&self, graph: &Graph, here: Here, next: Here) -> bool {
-        graph.prefilter().is_none()
+        graph.filter().prefilter().is_none()
             && here.at < next.at
             && next.at - here.at <= NEAR
             && self.states.len() < MOST_STATES

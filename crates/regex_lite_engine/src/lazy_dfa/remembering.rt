@@ -26,7 +26,7 @@ pub(crate) fn pays(graph: &Graph, bytes: usize) -> bool {
     if graph.reading() == 0 {
         return false;
     }
-    if graph.prefilter().is_none() {
+    if graph.filter().prefilter().is_none() {
         return bytes >= LONG;
     }
     bytes >= LONG_BETWEEN_MATCHES && graph.arrows() >= graph.places()
@@ -49,7 +49,7 @@ pub(crate) fn pays_from(graph: &Graph, start: usize, bytes: usize) -> bool {
         return false;
     }
     let is_large = bytes.saturating_mul(graph.places()) >= MOST_PAIRS;
-    start == 0 || (is_large && graph.prefilter().is_none())
+    start == 0 || (is_large && graph.filter().prefilter().is_none())
 }
 
 /// Whether it pays if slots are kept. The automaton then finds where matches start and end, and
@@ -63,7 +63,7 @@ pub(crate) fn pays_with_slots(graph: &Graph, bytes: usize) -> bool {
 /// they are searched for up to the match's end, it does: a URL with three groups took 50 in place
 /// of 113.
 pub(super) fn begins_rarely(graph: &Graph) -> bool {
-    match graph.prefilter() {
+    match graph.filter().prefilter() {
         None | Some(Prefilter::Range(_, _)) => false,
         Some(_) => true,
     }

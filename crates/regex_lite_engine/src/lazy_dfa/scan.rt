@@ -53,7 +53,7 @@ impl LazyDfa {
     {
         let mut at = from;
         'positions: loop {
-            if self.run(graph, haystack, &mut at) {
+            if self.run_on(graph, haystack, &mut at) {
                 return Scanned::Found(at.best);
             }
             let Some(on) = self.skip(graph, haystack, at) else {

@@ -161,7 +161,7 @@ impl LazyDfa {
     {
         let mut at = from;
         'positions: loop {
-            self.run_to_match(graph, haystack, &mut at);
+            self.run_on_to_match(graph, haystack, &mut at);
             let Some(on) = self.skip(graph, haystack, at) else {
                 return ScannedEnd::Unknown {
                     at,

@@ -97,8 +97,7 @@ impl Graph {
         let Some(at) = cache.take_turns(self, haystack, begun, Some(TURNS_WITHOUT)) else {
             return cache.best.span();
         };
-        let mut made = LazyDfa::for_graph(alloc, self);
-        let Some(dfa) = &mut made else {
+        let Some(mut dfa) = LazyDfa::for_graph(alloc, self) else {
             cache.take_turns(self, haystack, at, None);
             return cache.best.span();
         };
@@ -133,8 +132,7 @@ impl Graph {
         let Some(at) = cache.take_turns_to_end(self, haystack, begun, Some(TURNS_WITHOUT)) else {
             return cache.best.end();
         };
-        let mut made = LazyDfa::for_graph(alloc, self);
-        let Some(dfa) = &mut made else {
+        let Some(mut dfa) = LazyDfa::for_graph(alloc, self) else {
             cache.take_turns_to_end(self, haystack, at, None);
             return cache.best.end();
         };

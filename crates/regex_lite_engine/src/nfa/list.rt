@@ -49,9 +49,7 @@ impl Model for GraphList {
       places = list.table.places;
       entries = list.entries.items;
       arrows = list.table.arrows;
-      reading = list.table.reading;
       groups = list.groups.items;
-      heads = list.heads;
     } };
 
     ghost invariant = { λ list.
@@ -114,7 +112,6 @@ impl GraphList {
         ensures same { result.now ≡ record {
           places = self.now.places;
           arrows = self.now.arrows;
-          reading = self.now.reading;
         } }
     {
         &self.table
@@ -131,8 +128,7 @@ impl GraphList {
 
     /// Which patterns may start at a position.
     pub(crate) fn heads(&self) -> &ListHeads
-        ensures same { result.now ≡ self.now.heads }
-        ensures all { AreListHeadsOf (table_of_list self.now) self.now.entries result.now }
+        ensures { AreListHeadsOf (table_of_list self.now) self.now.entries result.now }
     {
         &self.heads
     }

@@ -32,7 +32,6 @@ impl Model for Table {
     ghost view = { λ table. record {
       places = table.places.items;
       arrows = table.arrows;
-      reading = table.reading;
     } };
 
     ghost invariant = { λ table.
@@ -50,7 +49,6 @@ impl Table {
         ensures { result ≡ record {
           places = places.items;
           arrows = arrows;
-          reading = reading;
         } }
     {
         let kept_back = KeptBack::of(&places);
@@ -102,7 +100,6 @@ impl Table {
 
     /// How many places read a character. A search counts on there being few arrows too.
     pub(crate) fn reading(&self) -> usize
-        ensures same { result ≡ self.now.reading }
         ensures each { result ≡ reading_of (places_of self.now) }
         ensures few { 0 < length self.now.places → result < length self.now.places }
         ensures few_arrows { arrows_of (places_of self.now) < 2 ^ 34 }

@@ -4,6 +4,7 @@ ghost use Rattle.regex_lite_engine.specs.Pikevm.Cells.{other, place_on, start_on
 
 use crate::pikevm::beginning::{Beginning, Origin, Unkept};
 use crate::pikevm::slot::Slot;
+use std::alloc::AllocError;
 use std::mem::size_of;
 
 /// One thing that is left to do.
@@ -24,7 +25,7 @@ pub enum Side {
 
 /// Parts of what is numbered alike: places, frames, and the threads of two lists. They have nothing
 /// else to do with one another, and lie together so that one request gives memory for all of them.
-#[derive(Clone, Copy)]
+#[derive(Copy)]
 pub struct Cell<S: Beginning> {
     /// The round in which the place with this number was entered last.
     pub entered: u64,
@@ -35,6 +36,19 @@ pub struct Cell<S: Beginning> {
     second_start: S,
     first_place: u32,
     second_place: u32,
+}
+
+// What is derived would clone one field after another.
+impl<S: Beginning> Clone for Cell<S> {
+    ghost use Rattle.std.specs.Prelude.{⊤};
+
+    ghost is_clone = { λ old new. new ≡ old };
+
+    ghost is_infallible = { λ _. ⊤ };
+
+    fn clone(&self) -> Result<Cell<S>, AllocError> {
+        Ok(*self)
+    }
 }
 
 // A search has one for each place.

@@ -8,10 +8,10 @@ ghost use Rattle.std.specs.Prelude.{◌≡◌, ◌==◌, ◌&&◌, ◌||◌, ◌
 ghost use Rattle.std.specs.Prelude.{[], ◌∷◌, ℕ, List, IfOk, length, map};
 ghost use Rattle.regex_lite_syntax.specs.Tree.Views.{tree_of};
 ghost use Rattle.regex_lite_engine.specs.declared.prefilter.heads.Heads.{Heads};
-ghost use Rattle.regex_lite_engine.specs.Prefilter.ListHeads.{goes_on_with, has, in_set};
-ghost use Rattle.regex_lite_engine.specs.Prefilter.ListHeads.{ArePairsWith, AreHeadsOfTrees};
-ghost use Rattle.regex_lite_engine.specs.Prefilter.ListHeads.{IsIndexOf, IsSized, belongs};
-ghost use Rattle.regex_lite_engine.specs.Prefilter.ListHeads.{row_count};
+ghost use Rattle.regex_lite_engine.specs.Prefilter.ListHeads.{AreHeadsOfTrees, IsIndexOf};
+ghost use Rattle.regex_lite_engine.specs.Prefilter.Pairs.{in_set, ArePairsWith};
+ghost use Rattle.regex_lite_engine.specs.Prefilter.Rows.{goes_on_with, has, IsSized, belongs};
+ghost use Rattle.regex_lite_engine.specs.Prefilter.Rows.{row_count};
 
 mod ascii_set;
 mod pairs;

@@ -180,33 +180,19 @@ impl Starts {
     {
         match after {
             None => true,
-            Some(c) => self.begins_with(c) || self.at_start && before.is_none(),
+            Some(c) => self.begins_in(c as usize) || self.at_start && before.is_none(),
         }
     }
 
-    /// Whether a match can begin with the character.
-    fn begins_with(&self, c: char) -> bool
-        ensures { result ≡ begins_with self.now c }
+    /// Whether a match can begin with the character that has this code. From 128 on all are alike.
+    pub(crate) fn begins_in(&self, code: usize) -> bool
+        ensures { result ≡ begins_with self.now code }
     {
         if !self.any {
             return false;
         }
-        if c.is_ascii() {
-            self.ascii[c as usize]
-        } else {
-            self.others
-        }
-    }
-
-    /// Whether a match can begin with this ASCII code, or with 128 for all that is not ASCII.
-    pub(crate) fn begins_in(&self, column: usize) -> bool
-        ensures { result ≡ begins_with self.now column }
-    {
-        if !self.any {
-            return false;
-        }
-        if column < 128 {
-            self.ascii[column]
+        if code < 128 {
+            self.ascii[code]
         } else {
             self.others
         }

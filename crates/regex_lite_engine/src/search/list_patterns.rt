@@ -1,14 +1,13 @@
 //! Several patterns, which are searched for at once.
+ghost use Prim.{hlevel};
 ghost use Rattle.std.specs.Prelude.{◌≡◌, ◌^◌, ◌≤◌, ◌<◌, ℕ, suc, All, IfOk};
 ghost use Rattle.std.specs.Prelude.{chars, filter, length, vec_capacity};
 ghost use Rattle.std.specs.List.{range_with_len};
 ghost use Rattle.std.proofs.Props.{props};
 ghost use Rattle.regex_lite_syntax.specs.Text.{after};
-ghost use Rattle.regex_lite_engine.specs.Graph.StoredList.{table_of_list};
-ghost use Rattle.regex_lite_engine.specs.Prefilter.ListHeads.{is_candidate_at};
+ghost use Rattle.regex_lite_engine.specs.Prefilter.ListHeads.{is_candidate_at, IsWalkable};
 ghost use Rattle.regex_lite_engine.specs.Prefilter.Thirds.{may_go_on};
 ghost use Rattle.regex_lite_engine.specs.Search.Standing.{IsHere};
-ghost use Rattle.regex_lite_engine.specs.Search.Starts.{AreListHeadsOf};
 
 use crate::nfa::list::GraphList;
 use crate::nfa::table::Table;
@@ -25,7 +24,7 @@ pub struct ListPatterns<'g> {
     /// The numbers of those that may start there. There is room for all patterns.
     numbers: Vec<u32>,
     pub ghost room: { length list.now.entries ≤ vec_capacity numbers },
-    pub ghost inside: { All (λ number. number < length list.now.entries) numbers.items } by { Prim.hlevel props },
+    pub ghost inside: { All (λ n. n < length list.now.entries) numbers.items } by { hlevel props },
 }
 
 impl<'g> ListPatterns<'g> {
@@ -66,7 +65,9 @@ impl<'g> Patterns for ListPatterns<'g> {
     }
 
     fn come_to(&mut self, haystack: &str, here: Here) {
-        list_starts(self.list, haystack, here, &mut self.numbers);
+        // Each has a number of 32 bits, since there are no more.
+        let _entries = self.list.entries();
+        list_starts(self.list.heads(), haystack, here, &mut self.numbers);
     }
 
     fn len(&self) -> usize {
@@ -83,20 +84,16 @@ impl<'g> Patterns for ListPatterns<'g> {
 }
 
 /// Lists the patterns that may start here, in the order of their numbers.
-fn list_starts(list: &GraphList, haystack: &str, here: Here, numbers: &mut Vec<u32>)
+fn list_starts(heads: &ListHeads, haystack: &str, here: Here, numbers: &mut Vec<u32>)
     requires here { (p : ℕ) × IsHere (chars haystack.now) p here }
-    requires room { length list.now.entries ≤ vec_capacity numbers.old }
+    requires walkable { IsWalkable heads.now }
+    requires few { heads.now.count < 2 ^ 32 }
+    requires room { heads.now.count ≤ vec_capacity numbers.old }
     ensures listed { (p : ℕ) → IsHere (chars haystack.now) p here
-        → numbers.new.items ≡ filter (is_candidate_at list.now.heads (chars haystack.now) p)
-        (range_with_len 0 (length list.now.entries)) }
+        → numbers.new.items ≡ filter (is_candidate_at heads.now (chars haystack.now) p)
+        (range_with_len 0 heads.now.count) }
     ensures capacity { vec_capacity numbers.old ≤ vec_capacity numbers.new }
-    ensures heads { AreListHeadsOf (table_of_list list.now) list.now.entries list.now.heads }
-    ensures inside { All (λ entry. entry < length (table_of_list list.now)) list.now.entries }
-    ensures few { length list.now.entries < 2 ^ 32 }
 {
-    let heads = list.heads();
-    // Each has a number of 32 bits, since there are no more.
-    let _entries = list.entries();
     match here.after {
         None => heads.list_all(numbers),
         Some(first) => {

@@ -1,10 +1,4 @@
 //! One pattern, which is searched for by itself.
-ghost use Rattle.std.specs.Prelude.{◌≡◌, ◌≤◌, ◌<◌, ◌∷◌, [], ℕ, false, length};
-ghost use Rattle.regex_lite_syntax.specs.Text.{Text};
-ghost use Rattle.regex_lite_engine.specs.Graph.Stored.{table_of};
-ghost use Rattle.regex_lite_engine.specs.Prefilter.Starts.{may_begin};
-ghost use Rattle.regex_lite_engine.specs.Search.Standing.{IsHere};
-ghost use Rattle.regex_lite_engine.specs.Search.Starts.{IsDeadAt};
 
 use crate::Graph;
 use crate::nfa::table::Table;
@@ -22,6 +16,7 @@ pub struct OnePattern<'g> {
 
 impl<'g> Patterns for OnePattern<'g> {
     ghost use Rattle.std.specs.Prelude.{◌∷◌, [], if◌then◌else◌};
+    ghost use Rattle.regex_lite_engine.specs.Graph.Stored.{table_of};
 
     ghost table = { λ one. table_of one.graph.now };
 
@@ -35,11 +30,12 @@ impl<'g> Patterns for OnePattern<'g> {
     }
 
     fn pass_over(&self, haystack: &str, here: Here) -> Here {
-        pass_over(self.graph.heads(), self.graph.prefilter(), haystack, here)
+        pass_over(self.graph.filter(), haystack, here)
     }
 
     fn come_to(&mut self, _: &str, here: Here) {
-        self.may_start = may_start(self.graph, here);
+        let heads = self.graph.filter().heads();
+        self.may_start = heads.first.may_begin(here.before, here.after);
     }
 
     fn len(&self) -> usize {
@@ -52,14 +48,4 @@ impl<'g> Patterns for OnePattern<'g> {
             place: self.graph.start(),
         }
     }
-}
-
-/// Whether a match can start here.
-fn may_start(graph: &Graph, here: Here) -> bool
-    ensures dead { (haystack : Text) (p : ℕ) → IsHere haystack p here → result ≡ false
-        → IsDeadAt (table_of graph.now) haystack graph.now.start p }
-    ensures inside { graph.now.start < length (table_of graph.now) }
-    ensures tells { result ≡ may_begin graph.now.heads.first here.before here.after }
-{
-    graph.heads().first.may_begin(here.before, here.after)
 }

@@ -8,6 +8,7 @@ ghost use Rattle.regex_lite_engine.specs.Search.Standing.{IsHere};
 ghost use Rattle.regex_lite_engine.specs.Search.Starts.{PassesTo};
 
 use crate::prefilter::Prefilter;
+use crate::prefilter::filter::Filter;
 use crate::prefilter::heads::Heads;
 use crate::prefilter::starts::Starts;
 use crate::search::here::Here;
@@ -20,18 +21,18 @@ const BLOCK: usize = 32;
 const NEAR: usize = 16;
 
 /// The next position from here on at which a match can begin, or the haystack's end.
-pub fn pass_over(heads: &Heads, prefilter: &Option<Prefilter>, haystack: &str, here: Here) -> Here
-    requires here { (p : ℕ) × IsHere (chars haystack.now) p here }
-    requires prefilter { IfSome prefilter.now (IsPrefilterOf heads.now) }
+pub fn pass_over(filter: &Filter, haystack: &str, here: Here) -> Here
+    requires { (p : ℕ) × IsHere (chars haystack.now) p here }
     ensures passes { (p : ℕ) → IsHere (chars haystack.now) p here
-        → PassesTo (NeverBegins heads.now (chars haystack.now)) (chars haystack.now) p result }
-    ensures stops { may_begin heads.now.first result.before result.after ≡ true }
+        → PassesTo (NeverBegins filter.now (chars haystack.now)) (chars haystack.now) p result }
+    ensures stops { may_begin filter.now.first result.before result.after ≡ true }
 {
+    let heads = filter.heads();
     let bytes = haystack.as_bytes();
     if can_begin(heads, bytes, here) {
         return here;
     }
-    let at = next_offset(heads, prefilter, bytes, here.at);
+    let at = next_offset(heads, filter.prefilter(), bytes, here.at);
     Here::at(haystack, at)
 }
 

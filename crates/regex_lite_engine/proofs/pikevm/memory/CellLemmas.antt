@@ -149,15 +149,15 @@ with_frame First x frame = (refl, refl)
 with_frame Second x frame = (refl, refl)
 
 -- cells that were cloned from one of which nothing is known
-pub clones_blank : {S : Type 0} (More : Cell S → Type 0) (x : Cell S) → x.entered ≡ 0
-    → (cells : List (Cell S))
-    → AllByRecursion (λ y. (y ≡ x) ⊎ ((y.entered ≡ x.entered) × More y)) cells →
+pub clones_blank : {S : Type 0} (x : Cell S) → x.entered ≡ 0 → (cells : List (Cell S))
+    → AllByRecursion (λ y. (y ≡ x) ⊎ (y ≡ x)) cells →
     (q : ℕ) → slice_index (map round_in cells) q ≤ 0
-clones_blank More x e [] all q = omega arith
-clones_blank More x e (y ∷ cells) (inl is, all) zero =
+clones_blank x e [] all q = omega arith
+clones_blank x e (y ∷ cells) (inl is, all) zero =
     let round = ap (λ (z : Cell _). z.entered) is in omega (arith, round, e)
-clones_blank More x e (y ∷ cells) (inr (round, more), all) zero = omega (arith, round, e)
-clones_blank More x e (y ∷ cells) (first, all) (suc q) = clones_blank More x e cells all q
+clones_blank x e (y ∷ cells) (inr is, all) zero =
+    let round = ap (λ (z : Cell _). z.entered) is in omega (arith, round, e)
+clones_blank x e (y ∷ cells) (first, all) (suc q) = clones_blank x e cells all q
 
 -- one more cell whose place was not entered
 pub cleared_more : {S : Type 0} (cells : List (Cell S)) (k : ℕ) (x : Cell S) → x.entered ≡ 0

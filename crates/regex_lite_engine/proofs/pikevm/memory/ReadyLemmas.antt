@@ -1,7 +1,7 @@
 -- What stays where more cells are made ready.
 use Rattle.std.proofs.Common.{◌≡◌, ℕ, Bool, zero, suc, ◌+◌, ◌-◌, ◌≤◌, ◌<◌, List, [], ◌∷◌, ◌++◌}
 use Rattle.std.proofs.Common.{length, map, take, reverse, replicate, set, slice_index}
-use Rattle.std.proofs.Common.{slice_index_or, refl, sym, ap, ◌∙◌, arith, length-append}
+use Rattle.std.proofs.Common.{slice_index_or, refl, sym, ap, ◌∙◌, arith, length-append, length-set}
 use Rattle.std.proofs.lemmas.List.{get_or-append_right, get_or-take, length-map, length-replicate}
 use Rattle.std.proofs.lemmas.List.{length-take, map-set, set-append_right, take-take}
 use Rattle.regex_lite_engine.specs.declared.pikevm.cell.Cell.{Cell}
@@ -15,6 +15,25 @@ use Rattle.regex_lite_engine.specs.Pikevm.Cells.{MakesReady}
 use Rattle.regex_lite_engine.specs.Pikevm.Machine.{Row, State}
 use Rattle.regex_lite_engine.proofs.pikevm.memory.CellLemmas.{state_is, told_at}
 use Rattle.regex_lite_engine.proofs.pikevm.rows.RowLemmas.{listed_alike}
+
+-- there is room for the same where a cell is written over
+pub together_set : {S : Type 0} (cells : List (Cell S)) (k : ℕ) (x : Cell S)
+    (capacity low : ℕ) (ready : Bool) (rows : List Row) (room depth len next_len : ℕ)
+    → HoldTogether cells capacity low ready rows room depth len next_len
+    → HoldTogether (set cells k x) capacity low ready rows room depth len next_len
+together_set cells k x capacity low ready rows room depth len next_len fit =
+    let same = length-set cells k x in
+    record {
+      all_ready = fit.all_ready;
+      cells_fit = omega (arith, same, fit.cells_fit);
+      frames_fit = omega (arith, same, fit.frames_fit);
+      threads_fit = omega (arith, same, fit.threads_fit);
+      next_fit = omega (arith, same, fit.next_fit);
+      threads_few = fit.threads_few;
+      next_few = fit.next_few;
+      room_few = omega (arith, same, fit.room_few);
+      rows_fit = fit.rows_fit;
+    }
 
 -- what does not depend on rounds
 alike : {S X : Type 0} (f : Cell S → X) → ((x : Cell S) → f (without_round x) ≡ f x)

@@ -14,10 +14,10 @@ use Rattle.regex_lite_syntax.specs.Tree.{Tree}
 use Rattle.regex_lite_engine.specs.declared.prefilter.heads.Heads.{Heads}
 use Rattle.regex_lite_engine.specs.declared.prefilter.list_heads.ListHeads.{ListHeads}
 use Rattle.regex_lite_engine.specs.Prefilter.Heads.{AreHeadsOfTree}
-use Rattle.regex_lite_engine.specs.Prefilter.ListHeads.{AreEachHeadsOf, begins_with_pair, belongs}
-use Rattle.regex_lite_engine.specs.Prefilter.ListHeads.{column, first_row, goes_on_with, has}
-use Rattle.regex_lite_engine.specs.Prefilter.ListHeads.{IsIndexOf, IsWalkable, one_belongs}
-use Rattle.regex_lite_engine.specs.Prefilter.ListHeads.{second_row}
+use Rattle.regex_lite_engine.specs.Prefilter.ListHeads.{AreEachHeadsOf, IsIndexOf, IsWalkable}
+use Rattle.regex_lite_engine.specs.Prefilter.Pairs.{begins_with_pair}
+use Rattle.regex_lite_engine.specs.Prefilter.Rows.{belongs, column, first_row, goes_on_with, has}
+use Rattle.regex_lite_engine.specs.Prefilter.Rows.{one_belongs, second_row}
 use Rattle.regex_lite_engine.specs.Prefilter.Starts.{begins_with}
 use Rattle.regex_lite_engine.proofs.OptionLemmas.{same_some}
 use Rattle.regex_lite_engine.proofs.LookupLemmas.{get_left, get_last}

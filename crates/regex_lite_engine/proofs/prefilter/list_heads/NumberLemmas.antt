@@ -9,7 +9,7 @@ use Rattle.std.proofs.lemmas.Nat.{and_le_l}
 use Rattle.std.proofs.lemmas.Nat.Bits.{bit_at-trailing_zeros, bit_at-zero}
 use Rattle.std.proofs.lemmas.Nat.Bits.{bit_at_clear_same, bit_at_clear_other}
 use Rattle.std.proofs.lemmas.List.Elements.{filter-append}
-use Rattle.regex_lite_engine.specs.Prefilter.ListHeads.{set_from}
+use Rattle.regex_lite_engine.specs.Prefilter.Rows.{set_from}
 
 pub filter_same : (p q : ℕ → Bool) (a n : ℕ) → ((k : ℕ) → a ≤ k → k < a + n → p k ≡ q k)
     → filter p (range_with_len a n) ≡ filter q (range_with_len a n)

@@ -11,7 +11,7 @@ use Rattle.std.proofs.Math.Bool.{or-false}
 use Rattle.regex_lite_syntax.specs.AsciiMaps.{bit_of_words}
 use Rattle.regex_lite_engine.specs.declared.prefilter.heads.Heads.{Heads}
 use Rattle.regex_lite_engine.specs.declared.prefilter.list_heads.ascii_set.AsciiSet.{AsciiSet}
-use Rattle.regex_lite_engine.specs.Prefilter.ListHeads.{begins_with_pair, in_set, in_some_set}
+use Rattle.regex_lite_engine.specs.Prefilter.Pairs.{begins_with_pair, in_set, in_some_set}
 use Rattle.regex_lite_engine.proofs.prefilter.list_heads.WalkLemmas.{bit_of_either}
 use Rattle.regex_lite_engine.proofs.WordBitLemmas.{bit_told, zero_bit}
 

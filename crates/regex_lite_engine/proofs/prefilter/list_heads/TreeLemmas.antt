@@ -15,9 +15,9 @@ use Rattle.regex_lite_engine.specs.declared.prefilter.heads.Heads.{Heads}
 use Rattle.regex_lite_engine.specs.declared.prefilter.list_heads.ListHeads.{ListHeads}
 use Rattle.regex_lite_engine.specs.declared.prefilter.starts.Starts.{Starts}
 use Rattle.regex_lite_engine.specs.Prefilter.Heads.{AreHeadsOfTree, AreSecondOfTree}
-use Rattle.regex_lite_engine.specs.Prefilter.ListHeads.{belongs, column, first_row, goes_on_with}
-use Rattle.regex_lite_engine.specs.Prefilter.ListHeads.{has, may_start, may_start_at, one_belongs}
-use Rattle.regex_lite_engine.specs.Prefilter.ListHeads.{second_row, start_row, IsIndexOf}
+use Rattle.regex_lite_engine.specs.Prefilter.ListHeads.{may_start, may_start_at, IsIndexOf}
+use Rattle.regex_lite_engine.specs.Prefilter.Rows.{belongs, column, first_row, goes_on_with, has}
+use Rattle.regex_lite_engine.specs.Prefilter.Rows.{one_belongs, second_row, start_row}
 use Rattle.regex_lite_engine.specs.Prefilter.Starts.{begins_with, may_begin, IsWider, IsUnionOf}
 use Rattle.regex_lite_engine.specs.Prefilter.Starts.{MayBegin}
 use Rattle.regex_lite_engine.proofs.prefilter.starts.StartLemmas.{begins_as_one, may_grown}

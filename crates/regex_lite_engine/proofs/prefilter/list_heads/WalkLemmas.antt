@@ -12,10 +12,10 @@ use Rattle.std.proofs.lemmas.Nat.Bits.{bit_at-lt, bit_at_and, bit_at_or}
 use Rattle.std.proofs.Math.Bool.{and_self}
 use Rattle.regex_lite_engine.specs.declared.prefilter.list_heads.ListHeads.{ListHeads}
 use Rattle.regex_lite_engine.specs.declared.prefilter.list_heads.rows.Rows.{Rows}
-use Rattle.regex_lite_engine.specs.Prefilter.ListHeads.{column, first_row, has, may_start}
-use Rattle.regex_lite_engine.specs.Prefilter.ListHeads.{second_row}
-use Rattle.regex_lite_engine.specs.Prefilter.ListHeads.{set_from, start_row, IsWalkable}
-use Rattle.regex_lite_engine.specs.Prefilter.ListHeads.{NeverBeginsWith}
+use Rattle.regex_lite_engine.specs.Prefilter.ListHeads.{may_start, IsWalkable}
+use Rattle.regex_lite_engine.specs.Prefilter.Pairs.{NeverBeginsWith}
+use Rattle.regex_lite_engine.specs.Prefilter.Rows.{column, first_row, has, second_row, set_from}
+use Rattle.regex_lite_engine.specs.Prefilter.Rows.{start_row}
 use Rattle.regex_lite_engine.proofs.prefilter.list_heads.NumberLemmas.{filter_none}
 use Rattle.regex_lite_engine.proofs.prefilter.list_heads.NumberLemmas.{filter_parts, set_passes}
 use Rattle.regex_lite_engine.proofs.prefilter.list_heads.RowBitLemmas.{word_of_bit}

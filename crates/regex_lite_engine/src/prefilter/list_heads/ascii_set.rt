@@ -1,6 +1,6 @@
 //! Sets of ASCII characters.
 ghost use Rattle.std.specs.Prelude.{◌≡◌, ◌==◌, ◌&&◌, ◌||◌, ◌<◌, ℕ, false, true};
-ghost use Rattle.regex_lite_engine.specs.Prefilter.ListHeads.{in_set};
+ghost use Rattle.regex_lite_engine.specs.Prefilter.Pairs.{in_set};
 ghost use Rattle.regex_lite_engine.specs.Prefilter.Starts.{begins_with};
 
 use crate::prefilter::starts::Starts;

@@ -1,7 +1,7 @@
 //! The positions at which none of several patterns may start, by the bytes there.
 ghost use Rattle.std.specs.Prelude.{◌≡◌, ◌<◌, IsTrue, IsCharBoundary, false, length};
-ghost use Rattle.regex_lite_engine.specs.Prefilter.ListHeads.{has_pair, IsPassedByAll};
-ghost use Rattle.regex_lite_engine.specs.Prefilter.ListHeads.{NeverBeginsWith};
+ghost use Rattle.regex_lite_engine.specs.Prefilter.ListHeads.{IsPassedByAll};
+ghost use Rattle.regex_lite_engine.specs.Prefilter.Pairs.{has_pair, NeverBeginsWith};
 
 use crate::prefilter::list_heads::ListHeads;
 

@@ -1,8 +1,8 @@
 //! Rows of bits with a bit for each pattern.
 ghost use Rattle.std.specs.Prelude.{◌≡◌, ◌==◌, ◌&&◌, ◌||◌, ◌+◌, ◌*◌, ◌<◌, ◌≤◌};
 ghost use Rattle.std.specs.Prelude.{ℕ, IfOk, false, length, slice_index, true};
-ghost use Rattle.regex_lite_engine.specs.Prefilter.ListHeads.{first_row, has, is_in_column};
-ghost use Rattle.regex_lite_engine.specs.Prefilter.ListHeads.{second_row, row_count, IsSized};
+ghost use Rattle.regex_lite_engine.specs.Prefilter.Rows.{first_row, has, is_in_column, second_row};
+ghost use Rattle.regex_lite_engine.specs.Prefilter.Rows.{row_count, IsSized};
 ghost use Rattle.regex_lite_engine.specs.Prefilter.Starts.{begins_with};
 
 use crate::prefilter::starts::Starts;

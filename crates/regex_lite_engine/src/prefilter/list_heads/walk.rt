@@ -4,9 +4,9 @@ ghost use Rattle.std.specs.Prelude.{◌≤◌, ◌++◌, [], ◌∷◌, ℕ, Som
 ghost use Rattle.std.specs.Prelude.{length, option_map, unwrap_or, vec_capacity};
 ghost use Rattle.std.specs.Int.{bit_at};
 ghost use Rattle.std.specs.List.{range_with_len};
-ghost use Rattle.regex_lite_engine.specs.Prefilter.ListHeads.{has, may_start, row_count};
-ghost use Rattle.regex_lite_engine.specs.Prefilter.ListHeads.{second_row};
-ghost use Rattle.regex_lite_engine.specs.Prefilter.ListHeads.{set_from, start_row, IsWalkable};
+ghost use Rattle.regex_lite_engine.specs.Prefilter.ListHeads.{may_start, IsWalkable};
+ghost use Rattle.regex_lite_engine.specs.Prefilter.Rows.{has, row_count, second_row, set_from};
+ghost use Rattle.regex_lite_engine.specs.Prefilter.Rows.{start_row};
 
 use crate::prefilter::list_heads::ListHeads;
 use crate::prefilter::list_heads::rows::{AT_START, first_row, second_row};

@@ -29,7 +29,7 @@ explore-requires-clause-room c =
     let a = c.args in
     let v = c.starts.invariant in
     let w = c.pass_over-here.ensures.passes v.p v.is in
-    let lt = c.heads.ensures.inside in
+    let lt = c.filter.ensures.inside in
     let size = length-map a.graph.now.places place_of in
     start_fits (table_of a.graph.now) a.haystack.now c.utf8.haystack a.start c.requires.boundary
     a.graph.now.start v.p c.starts.walk v.under_way w.q c.pass_over-here.result.at w.later
@@ -51,7 +51,7 @@ returns-in-Some-clause-found c =
     start_matches a.haystack.now c.utf8.haystack table a.graph.now.start a.start v.p w.q
     c.pass_over-here.result.at old new v.under_way.first later (omega (arith, low, later))
     (w.is.inside, w.is.bytes)
-    (λ k le lt. c.heads.ensures.all text k (w.passed k le lt)) v.under_way.walking
+    (λ k le lt. c.filter.ensures.all text k (w.passed k le lt)) v.under_way.walking
     c.in-Some.end explored.on.walks
 
 pub returns-then-is_none-clause-found : goal.returns-then-is_none-clause-found
@@ -67,7 +67,7 @@ returns-then-is_none-clause-found c =
     let on = went_on table a.haystack.now c.utf8.haystack a.start c.requires.boundary
     a.graph.now.start v.p c.starts.walk v.under_way w.q c.pass_over-here.result.at w.later
     (w.is.inside, w.is.bytes) new
-    (λ k le lt. c.heads.ensures.all text k (w.passed k le lt)) explored in
+    (λ k le lt. c.filter.ensures.all text k (w.passed k le lt)) explored in
     let last = over_here text w.q c.pass_over-here.result w.is c.if-is_none.ensures in
     walk_over table
     (searching table a.haystack.now a.graph.now.start (position_at a.haystack.now a.start) (w.q + 1)
@@ -96,7 +96,7 @@ starts-preserved c =
       under_way = went_on table a.haystack.now c.utf8.haystack a.start c.requires.boundary
           a.graph.now.start v.p c.starts.walk v.under_way w.q c.pass_over-here.result.at w.later
           (w.is.inside, w.is.bytes) c.explore.new.self
-          (λ k le lt. c.heads.ensures.all text k (w.passed k le lt)) explored;
+          (λ k le lt. c.filter.ensures.all text k (w.passed k le lt)) explored;
       width = explored.on.kept.row ∙ v.width;
       room = explored.on.kept.room ∙ v.room;
       counts = still_counted a.walk.now.steps c.starts.walk.steps c.explore.new.self.steps v.counts

@@ -14,78 +14,60 @@ take_turns-requires c =
     (c.args.self.now.start ∷ []) empty c.args.cache.now c.requires.fresh c.requires.width in
     record { stands = (s, empty, c.requires.counts, begun) }
 
-pub returns-in_default-clause-found : goal.returns-in_default-clause-found
-returns-in_default-clause-found c =
+pub returns-in_default : goal.returns-in_default
+returns-in_default c =
+    let table = table_of c.args.self.now in
+    let h = chars c.args.haystack.now in
+    let entries = c.args.self.now.start ∷ [] in
     let s = position_at c.args.haystack.now c.args.start in
-    let begun = c.begun-begun.ensures (table_of c.args.self.now)
-    (c.args.self.now.start ∷ []) empty c.args.cache.now c.requires.fresh c.requires.width in
+    let now = c.take_turns.new.self in
+    let begun =
+    c.begun-begun.ensures table entries empty c.args.cache.now c.requires.fresh c.requires.width in
     let on = c.in_default.ensures.on s empty begun in
-    span_told (table_of c.args.self.now) (chars c.args.haystack.now)
-    (c.args.self.now.start ∷ []) s on.0 c.take_turns.new.self c.span.result on.2 c.span.ensures
-    (c.in_default.ensures.over s empty begun refl)
+    let first = begun.on.low in
+    let last = begun.is.inside in
+    record {
+      found =
+          span_told table h entries s on.0 now c.span.result on.2 c.span.ensures
+          (c.in_default.ensures.over s empty begun refl);
+      bounded = bounded_on table h entries s on.0 now (omega (arith, first, last)) on.1 on.2;
+      entered =
+          match_counted (best_of now.best) c.span.result now.best.row now.walk.steps.entered 1
+          c.span.ensures on.2.ready.match_entered (omega arith);
+    }
 
-pub returns-in_default-clause-bounded : goal.returns-in_default-clause-bounded
-returns-in_default-clause-bounded c =
-    let s = position_at c.args.haystack.now c.args.start in
-    let begun = c.begun-begun.ensures (table_of c.args.self.now)
-    (c.args.self.now.start ∷ []) empty c.args.cache.now c.requires.fresh c.requires.width in
-    let on = c.in_default.ensures.on s empty begun in
-    let first = begun.on.low in let last = begun.is.inside in
-    bounded_on (table_of c.args.self.now) (chars c.args.haystack.now)
-    (c.args.self.now.start ∷ []) s on.0 c.take_turns.new.self (omega (arith, first, last)) on.1 on.2
-
-pub returns-in_default-clause-entered : goal.returns-in_default-clause-entered
-returns-in_default-clause-entered c =
-    let s = position_at c.args.haystack.now c.args.start in
-    let begun = c.begun-begun.ensures (table_of c.args.self.now)
-    (c.args.self.now.start ∷ []) empty c.args.cache.now c.requires.fresh c.requires.width in
-    let on = c.in_default.ensures.on s empty begun in
-    match_counted (best_of c.take_turns.new.self.best) c.span.result c.take_turns.new.self.best.row
-    c.take_turns.new.self.walk.steps.entered 1 c.span.ensures on.2.ready.match_entered (omega arith)
-
-pub take_turns-requires-in_default-made : goal.take_turns-requires-in_default-made
-take_turns-requires-in_default-made c =
+pub take_turns-requires-in_default-for_graph : goal.take_turns-requires-in_default-for_graph
+take_turns-requires-in_default-for_graph c =
     let s = position_at c.args.haystack.now c.args.start in
     let begun = c.begun-begun.ensures (table_of c.args.self.now)
     (c.args.self.now.start ∷ []) empty c.args.cache.now c.requires.fresh c.requires.width in
     let stands = c.in-Some.ensures.stands s empty begun in
     record { stands = (s, empty, c.requires.counts, stands) }
 
-pub returns-in_default-made-clause-found : goal.returns-in_default-made-clause-found
-returns-in_default-made-clause-found c =
+pub returns-in_default-for_graph : goal.returns-in_default-for_graph
+returns-in_default-for_graph c =
+    let table = table_of c.args.self.now in
+    let h = chars c.args.haystack.now in
+    let entries = c.args.self.now.start ∷ [] in
     let s = position_at c.args.haystack.now c.args.start in
-    let begun = c.begun-begun.ensures (table_of c.args.self.now)
-    (c.args.self.now.start ∷ []) empty c.args.cache.now c.requires.fresh c.requires.width in
+    let begun =
+    c.begun-begun.ensures table entries empty c.args.cache.now c.requires.fresh c.requires.width in
     let stands = c.in-Some.ensures.stands s empty begun in
-    let on = c.take_turns-in_default-made.ensures.on s empty stands in
-    span_told (table_of c.args.self.now) (chars c.args.haystack.now)
-    (c.args.self.now.start ∷ []) s on.0 c.take_turns-in_default-made.new.self
-    c.span-in_default-made.result on.2 c.span-in_default-made.ensures
-    (c.take_turns-in_default-made.ensures.over s empty stands
-    (c.take_turns-in_default-made.ensures.all refl))
-
-pub returns-in_default-made-clause-bounded : goal.returns-in_default-made-clause-bounded
-returns-in_default-made-clause-bounded c =
-    let s = position_at c.args.haystack.now c.args.start in
-    let begun = c.begun-begun.ensures (table_of c.args.self.now)
-    (c.args.self.now.start ∷ []) empty c.args.cache.now c.requires.fresh c.requires.width in
-    let stands = c.in-Some.ensures.stands s empty begun in
-    let on = c.take_turns-in_default-made.ensures.on s empty stands in
-    let first = begun.on.low in let last = begun.is.inside in
-    bounded_on (table_of c.args.self.now) (chars c.args.haystack.now) (c.args.self.now.start ∷ []) s
-    on.0 c.take_turns-in_default-made.new.self (omega (arith, first, last)) on.1 on.2
-
-pub returns-in_default-made-clause-entered : goal.returns-in_default-made-clause-entered
-returns-in_default-made-clause-entered c =
-    let s = position_at c.args.haystack.now c.args.start in
-    let begun = c.begun-begun.ensures (table_of c.args.self.now)
-    (c.args.self.now.start ∷ []) empty c.args.cache.now c.requires.fresh c.requires.width in
-    let stands = c.in-Some.ensures.stands s empty begun in
-    let on = c.take_turns-in_default-made.ensures.on s empty stands in
-    match_counted (best_of c.take_turns-in_default-made.new.self.best) c.span-in_default-made.result
-    c.take_turns-in_default-made.new.self.best.row
-    c.take_turns-in_default-made.new.self.walk.steps.entered 1 c.span-in_default-made.ensures
-    on.2.ready.match_entered (omega arith)
+    let turns = c.take_turns-in_default-for_graph.ensures in
+    let now = c.take_turns-in_default-for_graph.new.self in
+    let span = c.span-in_default-for_graph in
+    let on = turns.on s empty stands in
+    let first = begun.on.low in
+    let last = begun.is.inside in
+    record {
+      found =
+          span_told table h entries s on.0 now span.result on.2 span.ensures
+          (turns.over s empty stands (turns.all refl));
+      bounded = bounded_on table h entries s on.0 now (omega (arith, first, last)) on.1 on.2;
+      entered =
+          match_counted (best_of now.best) span.result now.best.row now.walk.steps.entered 1
+          span.ensures on.2.ready.match_entered (omega arith);
+    }
 
 pub state_at-state-requires-clause-between : goal.state_at-state-requires-clause-between
 state_at-state-requires-clause-between c =
@@ -97,36 +79,29 @@ state_at-state-requires-clause-between c =
 
 pub find_from-requires-clause-stands : goal.find_from-requires-clause-stands
 find_from-requires-clause-stands c =
+    let table = table_of c.args.self.now in
+    let h = chars c.args.haystack.now in
+    let entries = c.args.self.now.start ∷ [] in
     let s = position_at c.args.haystack.now c.args.start in
-    let begun = c.begun-begun.ensures (table_of c.args.self.now)
-    (c.args.self.now.start ∷ []) empty c.args.cache.now c.requires.fresh c.requires.width in
+    let begun =
+    c.begun-begun.ensures table entries empty c.args.cache.now c.requires.fresh c.requires.width in
     let stands = c.in-Some.ensures.stands s empty begun in
-    let known =
-    known_stands (table_of c.args.self.now) (chars c.args.haystack.now) (c.args.self.now.start ∷ [])
-    s empty c.state_at-state.new.self c.in-Some.at c.with_state-known.result c.state_at-state.result
-    c.take_turns.new.self stands c.with_state-known.ensures c.state_at-state.ensures.state in
+    let known = known_stands table h entries s empty c.state_at-state.new.self c.in-Some.at
+    c.with_state-known.result c.state_at-state.result c.take_turns.new.self stands
+    c.with_state-known.ensures c.state_at-state.ensures.state in
     (s, c.requires.counts, known)
 
-pub returns-clause-found : goal.returns-clause-found
-returns-clause-found c =
+pub returns : goal.returns
+returns c =
+    let table = table_of c.args.self.now in
+    let h = chars c.args.haystack.now in
+    let entries = c.args.self.now.start ∷ [] in
     let s = position_at c.args.haystack.now c.args.start in
-    let begun = c.begun-begun.ensures (table_of c.args.self.now)
-    (c.args.self.now.start ∷ []) empty c.args.cache.now c.requires.fresh c.requires.width in
+    let begun =
+    c.begun-begun.ensures table entries empty c.args.cache.now c.requires.fresh c.requires.width in
     let stands = c.in-Some.ensures.stands s empty begun in
-    let known =
-    known_stands (table_of c.args.self.now) (chars c.args.haystack.now) (c.args.self.now.start ∷ [])
-    s empty c.state_at-state.new.self c.in-Some.at c.with_state-known.result c.state_at-state.result
-    c.take_turns.new.self stands c.with_state-known.ensures c.state_at-state.ensures.state in
-    c.find_from.ensures.found s known
-
-pub returns-clause-bounded : goal.returns-clause-bounded
-returns-clause-bounded c =
-    let s = position_at c.args.haystack.now c.args.start in
-    let begun = c.begun-begun.ensures (table_of c.args.self.now)
-    (c.args.self.now.start ∷ []) empty c.args.cache.now c.requires.fresh c.requires.width in
-    let stands = c.in-Some.ensures.stands s empty begun in
-    let known =
-    known_stands (table_of c.args.self.now) (chars c.args.haystack.now) (c.args.self.now.start ∷ [])
-    s empty c.state_at-state.new.self c.in-Some.at c.with_state-known.result c.state_at-state.result
-    c.take_turns.new.self stands c.with_state-known.ensures c.state_at-state.ensures.state in
-    c.find_from.ensures.bounded s known
+    let known = known_stands table h entries s empty c.state_at-state.new.self c.in-Some.at
+    c.with_state-known.result c.state_at-state.result c.take_turns.new.self stands
+    c.with_state-known.ensures c.state_at-state.ensures.state in
+    let end = c.find_from.ensures in
+    record { found = end.found s known; bounded = end.bounded s known; entered = end.entered }

@@ -69,6 +69,5 @@ invariant_of-result c =
       start_inside tree c.requires c.new-table.result.places table_is c.in_ok-places.start
           written.0,
       written_heads tree c.requires (places_of c.new-table.result) c.in_ok-places.start table_is
-          written.0 c.of-heads.result c.of-heads.ensures,
-      c.of-prefilter.ensures,
+          written.0 c.of-filter.result c.of-filter.ensures,
     )

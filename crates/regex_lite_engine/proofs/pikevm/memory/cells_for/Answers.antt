@@ -3,5 +3,5 @@ use Rattle.regex_lite_engine.proofs.pikevm.memory.cells_for.Goals as goal
 
 pub returns-then-places-le-FEW-clause-old : goal.returns-then-places-le-FEW-clause-old
 returns-then-places-le-FEW-clause-old g c =
-    clones_blank _ c.blank.result c.blank.ensures c.in_ok-cells.cells.items
+    clones_blank c.blank.result c.blank.ensures c.in_ok-cells.cells.items
     c.in_ok-cells.ensures.items

@@ -1,18 +1,36 @@
-use Rattle.std.proofs.Common.{rules, refl, sym, subst, ◌≡◌, ◌∙◌, ℕ, length, ◌+◌, ◌≤◌, arith}
+use Rattle.std.proofs.Common.{rules, refl, sym, subst, ◌∙◌, ℕ, length, ◌+◌, ◌≤◌, arith}
 use Rattle.std.specs.Prelude.{chars}
-use Rattle.regex_lite_engine.specs.Graph.Parts.{IsOwnPart, row_of}
-use Rattle.regex_lite_engine.specs.Graph.Renumbered.{arrows_of}
-use Rattle.regex_lite_engine.specs.Search.Bounds.{IsBoundedBy, characters_left}
+use Rattle.regex_lite_engine.specs.Search.Bounds.{characters_left}
 use Rattle.regex_lite_engine.specs.Search.Offsets.{position_at}
-use Rattle.regex_lite_engine.specs.Pikevm.Outcomes.{CanCount, IsNumberedEndOf}
-use Rattle.regex_lite_engine.specs.Pikevm.Searching.{IsBetween}
+use Rattle.regex_lite_engine.specs.Pikevm.Outcomes.{CanCount}
+use Rattle.regex_lite_engine.specs.Pikevm.Passing.{Passes}
 use Rattle.regex_lite_engine.specs.Pikevm.Turns.{best_of}
 use Rattle.regex_lite_engine.proofs.search.here.OffsetLemmas.{less_left}
 use Rattle.regex_lite_engine.proofs.pikevm.CountLemmas.{counted_at_first, still_counted}
 use Rattle.regex_lite_engine.proofs.pikevm.EndLemmas.{over_at, some_after}
 use Rattle.regex_lite_engine.proofs.pikevm.PassLemmas.{begun, bounded, bounded_within}
 use Rattle.regex_lite_engine.proofs.pikevm.ShortestLemmas.{shortest_known, not_true}
+use Rattle.regex_lite_engine.proofs.pikevm.shortest.run_shortest.Given as given
 use Rattle.regex_lite_engine.proofs.pikevm.shortest.run_shortest.Goals as goal
+use Rattle.regex_lite_engine.proofs.pikevm.shortest.run_shortest.Goals.{After-pass-here}
+
+-- what the position did is said of the patterns as they were at the start
+passed : (g : given.Over) (c : goal.After-pass-here g)
+    → Passes (g.P.Patterns.table c.args.patterns.now) (chars c.args.haystack.now)
+    (g.P.Patterns.entries c.args.patterns.now) (position_at c.args.haystack.now c.args.start)
+    c.positions.invariant.p c.positions.cache c.pass-here.new.self c.pass-here.result
+passed g c =
+    let a = c.args in
+    let v = c.positions.invariant in
+    let h = chars a.haystack.now in
+    let s : ℕ = position_at a.haystack.now a.start in
+    let now = c.pass-here.new.self in
+    let here = c.pass-here.result in
+    subst (λ t. Passes t h (g.P.Patterns.entries a.patterns.now) s v.p c.positions.cache now here)
+    (c.pass-here.ensures.table ∙ v.table)
+    (subst (λ es. Passes (g.P.Patterns.table c.pass-here.new.patterns) h es s v.p c.positions.cache
+    now here) (c.pass-here.ensures.entries ∙ v.entries)
+    (c.pass-here.ensures.passes s v.p v.is v.under_way))
 
 pub positions-init : goal.positions-init
 positions-init g c =
@@ -81,86 +99,30 @@ positions-smaller g c =
     less_left c.args.haystack.now v.p w.q c.positions.here c.next-here.result c.utf8.haystack v.is
     (c.next-here.ensures w.q w.is) w.later
 
-pub returns-then-is_known-clause-found : goal.returns-then-is_known-clause-found
-returns-then-is_known-clause-found g c =
+pub returns-then-is_known : goal.returns-then-is_known
+returns-then-is_known g c =
     let a = c.args in
     let v = c.positions.invariant in
+    let h = chars a.haystack.now in
     let s : ℕ = position_at a.haystack.now a.start in
-    let haystack = chars a.haystack.now in
-    let w = c.pass-here.ensures.passes s v.p v.is v.under_way in
+    let table = g.P.Patterns.table a.patterns.now in
+    let entries = g.P.Patterns.entries a.patterns.now in
+    let now = c.pass-here.new.self in
+    let w = passed g (goal.at.returns-then-is_known g c).After-pass-here in
     let low = v.under_way.low in
     let later = w.later in
     let first : s ≤ w.q = omega (arith, low, later) in
-    let table = g.P.Patterns.table c.pass-here.new.patterns in
-    let entries = g.P.Patterns.entries c.pass-here.new.patterns in
-    let table_is : table ≡ g.P.Patterns.table a.patterns.now =
-    c.pass-here.ensures.table ∙ v.table in
-    let entries_are : entries ≡ g.P.Patterns.entries a.patterns.now
-    = c.pass-here.ensures.entries ∙ v.entries in
-    let best = best_of c.pass-here.new.self.best in
-    subst (λ t. IsNumberedEndOf t haystack (g.P.Patterns.entries a.patterns.now) s best) table_is
-    (subst (λ es. IsNumberedEndOf table haystack es s best) entries_are
-    (shortest_known table haystack entries s w.q c.pass-here.result.at
-    c.positions.cache.walk.memory.threads c.pass-here.new.self.walk.memory.threads
-    (best_of c.positions.cache.best)
-    (best_of c.pass-here.new.self.best) first w.is.inside v.none w.is.bytes w.ends
-    (over_at haystack w.q c.pass-here.result w.is (c.is_known.ensures.known (search rules)))
-    w.before w.after.coming))
-
-pub returns-then-is_known-clause-bounded : goal.returns-then-is_known-clause-bounded
-returns-then-is_known-clause-bounded g c =
-    let a = c.args in
-    let v = c.positions.invariant in
-    let s : ℕ = position_at a.haystack.now a.start in
-    let w = c.pass-here.ensures.passes s v.p v.is v.under_way in
-    let low = v.under_way.low in
-    let later = w.later in
-    let table = g.P.Patterns.table c.pass-here.new.patterns in
-    let entries = g.P.Patterns.entries c.pass-here.new.patterns in
-    let table_is : table ≡ g.P.Patterns.table a.patterns.now =
-    c.pass-here.ensures.table ∙ v.table in
-    let entries_are : entries ≡ g.P.Patterns.entries a.patterns.now
-    = c.pass-here.ensures.entries ∙ v.entries in
-    let steps = c.pass-here.new.self.walk.steps in
-    subst (λ t. IsBoundedBy (length t)
-    (arrows_of t + length (g.P.Patterns.entries a.patterns.now)) (chars a.haystack.now) s
-    steps.tried steps.entered steps.looked) table_is
-    (subst (λ es. IsBoundedBy (length table) (arrows_of table + length es) (chars a.haystack.now) s
-    steps.tried steps.entered steps.looked) entries_are
-    (bounded table (chars a.haystack.now) entries s w.q c.pass-here.new.self
-    (omega (arith, low, later)) w.is.inside w.after))
-
-pub returns-then-is_known-clause-own : goal.returns-then-is_known-clause-own
-returns-then-is_known-clause-own g c = λ begin len part.
-    let a = c.args in
-    let v = c.positions.invariant in
-    let s : ℕ = position_at a.haystack.now a.start in
-    let w = c.pass-here.ensures.passes s v.p v.is v.under_way in
-    let low = v.under_way.low in
-    let later = w.later in
-    let table = g.P.Patterns.table c.pass-here.new.patterns in
-    let entries = g.P.Patterns.entries c.pass-here.new.patterns in
-    let table_is : table ≡ g.P.Patterns.table a.patterns.now =
-    c.pass-here.ensures.table ∙ v.table in
-    let entries_are : entries ≡ g.P.Patterns.entries a.patterns.now
-    = c.pass-here.ensures.entries ∙ v.entries in
-    let steps = c.pass-here.new.self.walk.steps in
-    let own : IsOwnPart table entries begin len =
-    subst (λ t. IsOwnPart t entries begin len) (sym table_is)
-    (subst (λ es. IsOwnPart (g.P.Patterns.table a.patterns.now) es begin len)
-    (sym entries_are) part) in
-    subst (λ t. IsBoundedBy len
-    (arrows_of (row_of t begin len) + length (g.P.Patterns.entries a.patterns.now))
-    (chars a.haystack.now) s steps.tried steps.entered steps.looked) table_is
-    (subst (λ es. IsBoundedBy len (arrows_of (row_of table begin len) + length es)
-    (chars a.haystack.now) s steps.tried steps.entered steps.looked) entries_are
-    (bounded_within table (chars a.haystack.now) entries s w.q c.pass-here.new.self
-    (omega (arith, low, later)) w.is.inside w.after begin len own))
-
-pub returns-then-is_known-clause-between : goal.returns-then-is_known-clause-between
-returns-then-is_known-clause-between g c =
-    let a = c.args in
-    let v = c.positions.invariant in
-    let w = c.pass-here.ensures.passes (position_at a.haystack.now a.start) v.p v.is v.under_way in
-    subst (λ t. IsBetween t c.pass-here.new.self) (c.pass-here.ensures.table ∙ v.table)
-    w.after.ready
+    record {
+      found =
+          shortest_known table h entries s w.q c.pass-here.result.at
+          c.positions.cache.walk.memory.threads now.walk.memory.threads
+          (best_of c.positions.cache.best) (best_of now.best) first w.is.inside v.none w.is.bytes
+          w.ends (over_at h w.q c.pass-here.result w.is (c.is_known.ensures.known (search rules)))
+          w.before w.after.coming;
+      bounded = bounded table h entries s w.q now first w.is.inside w.after;
+      own = bounded_within table h entries s w.q now first w.is.inside w.after;
+      between = w.after.ready;
+      counts = still_counted a.cache.now.walk.steps c.positions.cache.walk.steps now.walk.steps
+          v.counts c.pass-here.ensures.counts;
+      entry = w.after.ready.match_entered;
+    }

@@ -39,7 +39,7 @@ returns c = λ p is.
           let none = ap is_some (is.behind ∙ ap (before (chars bytes)) zero_is) in
           never (sym w.if-is_none.ensures ∙ none)
     ] in
-    passes_to (table_of_list list) list.entries heads c.heads-heads.ensures.all bytes
+    passes_to (table_of_list list) list.entries heads c.heads-heads.ensures bytes
     c.utf8.haystack p
     (position_at bytes c.next_offset-at.result) c.args.here c.at.result is c.at.ensures.here
     (omega (arith, at, low))

@@ -12,7 +12,7 @@ returns-clause-dead c = λ p is off.
     let number = c.args.number in
     let later = c.next-second.ensures p is in
     let next : p + 1 ≡ suc p = omega arith in
-    c.heads.ensures.all.each h p number (slice_index c.args.list.now.entries number)
+    c.heads.ensures.each h p number (slice_index c.args.list.now.entries number)
     (slice_get-get_or c.args.list.now.entries number 0 c.requires.number)
     (ap (λ b. may_start heads b (after h p) (after h (suc p)) number) (sym is.behind)
     ∙ ap (λ a. may_start heads c.args.here.before a (after h (suc p)) number)

@@ -1,8 +1,11 @@
 use Rattle.std.proofs.Common.{◌≡◌, ◌≤◌, ◌<◌, inl, inr, length, slice_index, true, sym, subst, arith}
-use Rattle.std.specs.Prelude.{chars}
+use Rattle.std.specs.Prelude.{chars, IfSome}
+use Rattle.regex_lite_engine.specs.declared.prefilter.heads.Heads.{Heads}
+use Rattle.regex_lite_engine.specs.Prefilter.Bytes.{IsPrefilterOf}
 use Rattle.regex_lite_engine.specs.Prefilter.Heads.{IsCutOff, IsPassed, NeverBegins}
-use Rattle.regex_lite_engine.specs.Prefilter.Starts.{stops_at}
+use Rattle.regex_lite_engine.specs.Prefilter.Starts.{may_begin, stops_at}
 use Rattle.regex_lite_engine.specs.Search.Offsets.{position_at}
+use Rattle.regex_lite_engine.specs.Search.Starts.{PassesTo}
 use Rattle.regex_lite_engine.proofs.search.here.OffsetLemmas.{at_most}
 use Rattle.regex_lite_engine.proofs.search.SkipLemmas.{cut_off_here, never_at}
 use Rattle.regex_lite_engine.proofs.search.SkipLemmas.{passes_between, stopped}
@@ -12,17 +15,22 @@ pub can_begin-requires : goal.can_begin-requires
 can_begin-requires c =
     let same = c.as_bytes-bytes.ensures.value in
     subst (λ z. c.args.here.at ≤ length z) (sym same)
-    (at_most c.args.haystack.now c.requires.here.0 c.args.here c.utf8.haystack c.requires.here.1)
+    (at_most c.args.haystack.now c.requires.0 c.args.here c.utf8.haystack c.requires.1)
 
 pub next_offset-at-requires-clause-inside : goal.next_offset-at-requires-clause-inside
 next_offset-at-requires-clause-inside c =
     let same = c.as_bytes-bytes.ensures.value in
     subst (λ z. c.args.here.at ≤ length z) (sym same)
-    (at_most c.args.haystack.now c.requires.here.0 c.args.here c.utf8.haystack c.requires.here.1)
+    (at_most c.args.haystack.now c.requires.0 c.args.here c.utf8.haystack c.requires.1)
+
+pub next_offset-at-requires-clause-prefilter : goal.next_offset-at-requires-clause-prefilter
+next_offset-at-requires-clause-prefilter c =
+    subst (λ h. IfSome c.prefilter.result.now (IsPrefilterOf h)) (sym c.heads-heads.ensures)
+    c.prefilter.ensures
 
 pub returns-clause-passes : goal.returns-clause-passes
 returns-clause-passes c = λ p is.
-    let heads = c.args.heads.now in
+    let heads = c.heads-heads.result.now in
     let bytes = c.args.haystack.now in
     let same = c.as_bytes-bytes.ensures.value in
     let at = c.at.ensures.at in
@@ -34,20 +42,24 @@ returns-clause-passes c = λ p is.
       | inr cut ↦ cut_off_here heads bytes p c.args.here c.utf8.haystack is
           (subst (λ z. IsCutOff heads z c.args.here.at) same cut)
     ] in
-    passes_between heads bytes p (position_at bytes c.next_offset-at.result) c.args.here c.at.result
-    c.utf8.haystack is c.at.ensures.here not_here (omega (arith, at, low))
+    subst (λ h. PassesTo (NeverBegins h (chars bytes)) (chars bytes) p c.at.result)
+    c.heads-heads.ensures
+    (passes_between heads bytes p (position_at bytes c.next_offset-at.result) c.args.here
+    c.at.result c.utf8.haystack is c.at.ensures.here not_here (omega (arith, at, low))
     (subst (λ z. c.at.result.at ≤ length z) same (omega (arith, at, high)))
     (λ k from below. subst (λ z. IsPassed heads z k) same
-    (c.next_offset-at.ensures.passed k from (omega (arith, below, at))))
+    (c.next_offset-at.ensures.passed k from (omega (arith, below, at)))))
 
 pub returns-clause-stops : goal.returns-clause-stops
 returns-clause-stops c =
-    let first = c.args.heads.now.first in
+    let first = c.heads-heads.result.now.first in
     let same = c.as_bytes-bytes.ensures.value in
     let at = c.at.ensures.at in
-    stopped first c.args.haystack.now (position_at c.args.haystack.now c.next_offset-at.result)
+    subst (λ (h : Heads). may_begin h.first c.at.result.before c.at.result.after ≡ true)
+    c.heads-heads.ensures
+    (stopped first c.args.haystack.now (position_at c.args.haystack.now c.next_offset-at.result)
     c.at.result c.utf8.haystack c.at.ensures.here
     (λ short. subst (λ z. stops_at first (slice_index c.args.haystack.now z) ≡ true) (sym at)
     (subst (λ z. stops_at first (slice_index z c.next_offset-at.result) ≡ true) same
     (c.next_offset-at.ensures.stops
-    (subst (λ z. c.next_offset-at.result < length z) (sym same) (omega (arith, at, short))))))
+    (subst (λ z. c.next_offset-at.result < length z) (sym same) (omega (arith, at, short)))))))

@@ -20,6 +20,32 @@ returns-in-Complete-clause-explored c =
     (subst (λ n. TakesFrame t a.haystack.now w next v (onto n v.stack.frames)
     (end_at c.ways.at n)) c.in-Complete.is c.come_to.ensures.taken)
 
+pub ways-smaller-in-To : goal.ways-smaller-in-To
+ways-smaller-in-To c =
+    let a = c.args in let t = table_of a.graph.now in let w = c.ways.self in
+    let v = c.come_to.new.self in
+    let next = explore c.ways.place c.ways.at ∷ w.stack.frames in
+    (subst (λ n. TakesFrame t a.haystack.now w next v (onto n v.stack.frames)
+    (end_at c.ways.at n)) c.in-To.is c.come_to.ensures.taken).less refl
+
+pub ways-preserved-in-To : goal.ways-preserved-in-To
+ways-preserved-in-To c =
+    let a = c.args in let t = table_of a.graph.now in let h = a.haystack.now in
+    let w = c.ways.self in let v = c.come_to.new.self in
+    let next = explore c.ways.place c.ways.at ∷ w.stack.frames in
+    let first = with_frames a.self.now (explore a.graph.now.start a.start ∷ []) in
+    let went = subst (λ n. TakesFrame t h w next v (onto n v.stack.frames) (end_at c.ways.at n))
+    c.in-To.is c.come_to.ensures.taken in
+    record {
+      room = went.fit refl;
+      on =
+          goes_further t h first (with_frames w next)
+          (with_frames v (explore c.in-To.to c.in-To.behind ∷ v.stack.frames)) None
+          c.ways.invariant.on went.on;
+      counts = still_counted a.self.now.steps w.steps v.steps c.ways.invariant.counts
+          c.come_to.ensures.counts;
+    }
+
 pub go_back-requires : goal.go_back-requires
 go_back-requires c =
     let a = c.args in let t = table_of a.graph.now in let w = c.ways.self in

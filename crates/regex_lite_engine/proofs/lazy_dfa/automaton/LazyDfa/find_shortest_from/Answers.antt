@@ -21,6 +21,16 @@ positions-init c = record {
   stands = λ s begun. begun;
 }
 
+pub at_idle-at-requires-clause-stands : goal.at_idle-at-requires-clause-stands
+at_idle-at-requires-clause-stands c =
+    let from = c.requires.stands in (from.0, c.positions.invariant.stands from.0 from.2)
+
+pub look_for_end-requires-clause-stands : goal.look_for_end-requires-clause-stands
+look_for_end-requires-clause-stands c =
+    let from = c.requires.stands in
+    let stands = c.positions.invariant.stands from.0 from.2 in
+    (from.0, c.at_idle-at.ensures.stands from.0 stands)
+
 pub go_over-hit-requires : goal.go_over-hit-requires
 go_over-hit-requires c =
     let s = c.requires.stands.0 in

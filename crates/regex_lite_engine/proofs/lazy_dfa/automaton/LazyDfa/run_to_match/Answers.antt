@@ -6,9 +6,11 @@ use Rattle.regex_lite_engine.specs.Graph.Stored.{table_of}
 use Rattle.regex_lite_engine.proofs.lazy_dfa.SpotLemmas.{unmoved, ran, since_on, spot_edge, spot_of}
 use Rattle.regex_lite_engine.proofs.lazy_dfa.SpotLemmas.{spot_on, spot_since}
 use Rattle.regex_lite_engine.proofs.lazy_dfa.automaton.LazyDfa.run_to_match.Goals as goal
-use Rattle.regex_lite_engine.proofs.lazy_dfa.automaton.LazyDfa.run_to_match.Goals.{in_default}
-use Rattle.regex_lite_engine.proofs.lazy_dfa.automaton.LazyDfa.run_to_match.Goals.{in-Some+then-is_hit}
-use Rattle.regex_lite_engine.proofs.lazy_dfa.automaton.LazyDfa.run_to_match.Goals.{in-Some+else-is_hit+in_default-take}
+use Rattle.regex_lite_engine.proofs.lazy_dfa.automaton.LazyDfa.run_to_match.Goals.{
+  in_default,
+  in-Some+then-is_hit,
+  in-Some+else-is_hit+in_default-take,
+}
 
 pub turns-init : goal.turns-init
 turns-init c = record {

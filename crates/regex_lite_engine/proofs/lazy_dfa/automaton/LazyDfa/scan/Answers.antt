@@ -10,8 +10,8 @@ use Rattle.regex_lite_engine.proofs.pikevm.EndLemmas.{some_after}
 use Rattle.regex_lite_engine.proofs.search.here.OffsetLemmas.{less_left}
 use Rattle.regex_lite_engine.proofs.lazy_dfa.automaton.LazyDfa.scan.Goals as goal
 
-pub run-requires-clause-scanning : goal.run-requires-clause-scanning
-run-requires-clause-scanning c =
+pub run_on-requires-clause-scanning : goal.run_on-requires-clause-scanning
+run_on-requires-clause-scanning c =
     let from = c.requires.scanning in
     let v = c.positions.invariant from.0 from.1 from.2 in (from.0, v.0, v.2)
 
@@ -19,7 +19,7 @@ pub skip-requires : goal.skip-requires
 skip-requires c =
     let from = c.requires.scanning in
     let v = c.positions.invariant from.0 from.1 from.2 in
-    let r = c.run.ensures.on c.if-run.false from.0 v.0 v.2 in
+    let r = c.run_on.ensures.on c.if-run_on.false from.0 v.0 v.2 in
     record { scanning = (from.0, r.0, r.2) }
 
 pub idle_since-requires : goal.idle_since-requires
@@ -30,11 +30,11 @@ idle_since-requires c =
     let fits : length bs + 1 < 2 ^ 64 = omega arith in
     let from = c.requires.scanning in
     let v = c.positions.invariant from.0 from.1 from.2 in
-    let r = c.run.ensures.on c.if-run.false from.0 v.0 v.2 in
+    let r = c.run_on.ensures.on c.if-run_on.false from.0 v.0 v.2 in
     since_edge table entries bs c.utf8.haystack fits from.0 from.1 c.args.from.first
-    c.run.new.at.first
+    c.run_on.new.at.first
     (since_on table entries (chars bs) from.0 from.1 v.0 c.args.from.first c.positions.at.first
-    c.run.new.at.first v.1 v.3 r.3)
+    c.run_on.new.at.first v.1 v.3 r.3)
 
 pub returns-in_default : goal.returns-in_default
 returns-in_default c = λ low p from.
@@ -43,14 +43,14 @@ returns-in_default c = λ low p from.
     let bs = c.args.haystack.now in
     let fits : length bs + 1 < 2 ^ 64 = omega arith in
     let v = c.positions.invariant low p from in
-    let r = c.run.ensures.on c.if-run.false low v.0 v.2 in
+    let r = c.run_on.ensures.on c.if-run_on.false low v.0 v.2 in
     let first = v.1 in
     let later = r.1 in (
       (r.0, omega (arith, first, later), r.2),
       since_idle table entries bs c.utf8.haystack fits low p c.args.from.first
-          c.run.new.at.first
+          c.run_on.new.at.first
           (since_on table entries (chars bs) low p v.0 c.args.from.first c.positions.at.first
-          c.run.new.at.first v.1 v.3 r.3) c.idle_since.result c.idle_since.ensures.at
+          c.run_on.new.at.first v.1 v.3 r.3) c.idle_since.result c.idle_since.ensures.at
           c.idle_since.ensures.here c.idle_since.ensures.other,
     )
 
@@ -58,7 +58,7 @@ pub step-requires-clause-state : goal.step-requires-clause-state
 step-requires-clause-state c =
     let from = c.requires.scanning in
     let v = c.positions.invariant from.0 from.1 from.2 in
-    let r = c.run.ensures.on c.if-run.false from.0 v.0 v.2 in
+    let r = c.run_on.ensures.on c.if-run_on.false from.0 v.0 v.2 in
     let on = c.in-Some.ensures.on from.0 r.0 r.2 in
     slice_get_within c.args.self.now.states c.in-Some.on.state on.2.state on.2.is_state
 
@@ -70,8 +70,8 @@ idle_since-requires-in_default-step c =
     let fits : length bs + 1 < 2 ^ 64 = omega arith in
     let from = c.requires.scanning in
     let v = c.positions.invariant from.0 from.1 from.2 in
-    let r = c.run.ensures.on c.if-run.false from.0 v.0 v.2 in
-    let run = c.run.new.at.first in
+    let r = c.run_on.ensures.on c.if-run_on.false from.0 v.0 v.2 in
+    let run = c.run_on.new.at.first in
     since_edge table entries bs c.utf8.haystack fits from.0 from.1 c.args.from.first
     c.in-Some.on.first
     (since_on table entries (chars bs) from.0 from.1 v.0 c.args.from.first c.positions.at.first
@@ -86,9 +86,9 @@ returns-in_default-step c = λ low p from.
     let bs = c.args.haystack.now in
     let fits : length bs + 1 < 2 ^ 64 = omega arith in
     let v = c.positions.invariant low p from in
-    let r = c.run.ensures.on c.if-run.false low v.0 v.2 in
+    let r = c.run_on.ensures.on c.if-run_on.false low v.0 v.2 in
     let on = c.in-Some.ensures.on low r.0 r.2 in
-    let run = c.run.new.at.first in
+    let run = c.run_on.new.at.first in
     let told = c.idle_since-in_default-step in
     let first = v.1 in
     let more = r.1 in
@@ -106,7 +106,7 @@ pub is_over-requires : goal.is_over-requires
 is_over-requires c =
     let from = c.requires.scanning in
     let v = c.positions.invariant from.0 from.1 from.2 in
-    let r = c.run.ensures.on c.if-run.false from.0 v.0 v.2 in
+    let r = c.run_on.ensures.on c.if-run_on.false from.0 v.0 v.2 in
     let on = c.in-Some.ensures.on from.0 r.0 r.2 in
     let led = c.in-Some-step.ensures (chars c.args.haystack.now) from.0 on.0 on.2 in
     slice_get_within c.args.self.now.states c.in-Some-step.to led.state led.is_state
@@ -114,7 +114,7 @@ is_over-requires c =
 pub returns-then-is_over : goal.returns-then-is_over
 returns-then-is_over c = λ low p from.
     let v = c.positions.invariant low p from in
-    let r = c.run.ensures.on c.if-run.false low v.0 v.2 in
+    let r = c.run_on.ensures.on c.if-run_on.false low v.0 v.2 in
     let on = c.in-Some.ensures.on low r.0 r.2 in
     let led = c.in-Some-step.ensures (chars c.args.haystack.now) low on.0 on.2 in
     scan_over (table_of c.args.graph.now) (c.args.graph.now.start ∷ []) (chars c.args.haystack.now)
@@ -125,7 +125,7 @@ pub go_on-at-requires-clause-here : goal.go_on-at-requires-clause-here
 go_on-at-requires-clause-here c =
     let from = c.requires.scanning in
     let v = c.positions.invariant from.0 from.1 from.2 in
-    let r = c.run.ensures.on c.if-run.false from.0 v.0 v.2 in
+    let r = c.run_on.ensures.on c.if-run_on.false from.0 v.0 v.2 in
     let on = c.in-Some.ensures.on from.0 r.0 r.2 in (
       on.0,
       on.2.is,
@@ -137,7 +137,7 @@ pub go_on-at-requires-clause-state : goal.go_on-at-requires-clause-state
 go_on-at-requires-clause-state c =
     let from = c.requires.scanning in
     let v = c.positions.invariant from.0 from.1 from.2 in
-    let r = c.run.ensures.on c.if-run.false from.0 v.0 v.2 in
+    let r = c.run_on.ensures.on c.if-run_on.false from.0 v.0 v.2 in
     let on = c.in-Some.ensures.on from.0 r.0 r.2 in
     let led = c.in-Some-step.ensures (chars c.args.haystack.now) from.0 on.0 on.2 in
     slice_get_within c.args.self.now.states c.in-Some-step.to led.state led.is_state
@@ -146,7 +146,7 @@ pub positions-smaller : goal.positions-smaller
 positions-smaller c =
     let from = c.requires.scanning in
     let v = c.positions.invariant from.0 from.1 from.2 in
-    let r = c.run.ensures.on c.if-run.false from.0 v.0 v.2 in
+    let r = c.run_on.ensures.on c.if-run_on.false from.0 v.0 v.2 in
     let on = c.in-Some.ensures.on from.0 r.0 r.2 in
     let more = r.1 in
     let later = on.1 in
@@ -160,7 +160,7 @@ positions-preserved c = λ low p from.
     let h = chars c.args.haystack.now in
     let now = c.args.self.now in
     let v = c.positions.invariant low p from in
-    let r = c.run.ensures.on c.if-run.false low v.0 v.2 in
+    let r = c.run_on.ensures.on c.if-run_on.false low v.0 v.2 in
     let on = c.in-Some.ensures.on low r.0 r.2 in
     let to = c.in-Some-step.to in
     let best = c.in-Some-step.best in
@@ -169,7 +169,7 @@ positions-preserved c = λ low p from.
     let told = c.go_on-at.ensures.first led.state led.is_state in
     let start = c.args.from.first in
     let first = c.positions.at.first in
-    let run = c.run.new.at.first in
+    let run = c.run_on.new.at.first in
     let skip = c.in-Some.on.first in
     let last = c.go_on-at.result.first in
     let begun = v.1 in
@@ -189,6 +189,6 @@ positions-preserved c = λ low p from.
           (c.is_over.ensures.none led.state led.is_state (search rules)) told))),
     )
 
-pub returns-then-run : goal.returns-then-run
-returns-then-run c = λ low p from.
-    let v = c.positions.invariant low p from in c.run.ensures.over c.if-run.true low v.0 v.2
+pub returns-then-run_on : goal.returns-then-run_on
+returns-then-run_on c = λ low p from.
+    let v = c.positions.invariant low p from in c.run_on.ensures.over c.if-run_on.true low v.0 v.2

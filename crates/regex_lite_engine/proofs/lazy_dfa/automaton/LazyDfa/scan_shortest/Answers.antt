@@ -12,8 +12,8 @@ use Rattle.regex_lite_engine.proofs.lazy_dfa.ScanLemmas.{end_none, scanned_on}
 use Rattle.regex_lite_engine.proofs.search.here.OffsetLemmas.{less_left}
 use Rattle.regex_lite_engine.proofs.lazy_dfa.automaton.LazyDfa.scan_shortest.Goals as goal
 
-pub run_to_match-requires-clause-scanning : goal.run_to_match-requires-clause-scanning
-run_to_match-requires-clause-scanning c =
+pub run_on_to_match-requires-clause-scanning : goal.run_on_to_match-requires-clause-scanning
+run_on_to_match-requires-clause-scanning c =
     let from = c.requires.scanning in
     let v = c.positions.invariant.on from.0 from.1 from.2 in (from.0, v.0, v.2)
 
@@ -21,7 +21,7 @@ pub skip-requires : goal.skip-requires
 skip-requires c =
     let from = c.requires.scanning in
     let v = c.positions.invariant.on from.0 from.1 from.2 in
-    let r = c.run_to_match.ensures.on from.0 v.0 v.2 in
+    let r = c.run_on_to_match.ensures.on from.0 v.0 v.2 in
     record { scanning = (from.0, r.0, r.2) }
 
 pub idle_since-requires : goal.idle_since-requires
@@ -32,11 +32,11 @@ idle_since-requires c =
     let fits : length bs + 1 < 2 ^ 64 = omega arith in
     let from = c.requires.scanning in
     let v = c.positions.invariant.on from.0 from.1 from.2 in
-    let r = c.run_to_match.ensures.on from.0 v.0 v.2 in
+    let r = c.run_on_to_match.ensures.on from.0 v.0 v.2 in
     since_edge table entries bs c.utf8.haystack fits from.0 from.1 c.args.from.first
-    c.run_to_match.new.at.first
+    c.run_on_to_match.new.at.first
     (since_on table entries (chars bs) from.0 from.1 v.0 c.args.from.first c.positions.at.first
-    c.run_to_match.new.at.first v.1 v.3 r.3)
+    c.run_on_to_match.new.at.first v.1 v.3 r.3)
 
 pub returns-in_default : goal.returns-in_default
 returns-in_default c = λ low p from.
@@ -45,14 +45,14 @@ returns-in_default c = λ low p from.
     let bs = c.args.haystack.now in
     let fits : length bs + 1 < 2 ^ 64 = omega arith in
     let v = c.positions.invariant.on low p from in
-    let r = c.run_to_match.ensures.on low v.0 v.2 in
+    let r = c.run_on_to_match.ensures.on low v.0 v.2 in
     let first = v.1 in
     let later = r.1 in (
       (r.0, omega (arith, first, later), r.2),
       since_idle table entries bs c.utf8.haystack fits low p c.args.from.first
-          c.run_to_match.new.at.first
+          c.run_on_to_match.new.at.first
           (since_on table entries (chars bs) low p v.0 c.args.from.first c.positions.at.first
-          c.run_to_match.new.at.first v.1 v.3 r.3) c.idle_since.result c.idle_since.ensures.at
+          c.run_on_to_match.new.at.first v.1 v.3 r.3) c.idle_since.result c.idle_since.ensures.at
           c.idle_since.ensures.here c.idle_since.ensures.other,
     )
 
@@ -60,7 +60,7 @@ pub step_shortest-requires-clause-state : goal.step_shortest-requires-clause-sta
 step_shortest-requires-clause-state c =
     let from = c.requires.scanning in
     let v = c.positions.invariant.on from.0 from.1 from.2 in
-    let r = c.run_to_match.ensures.on from.0 v.0 v.2 in
+    let r = c.run_on_to_match.ensures.on from.0 v.0 v.2 in
     let on = c.in-Some.ensures.on from.0 r.0 r.2 in
     slice_get_within c.args.self.now.states c.in-Some.on.state on.2.state on.2.is_state
 
@@ -72,8 +72,8 @@ idle_since-requires-in_default-step_shortest c =
     let fits : length bs + 1 < 2 ^ 64 = omega arith in
     let from = c.requires.scanning in
     let v = c.positions.invariant.on from.0 from.1 from.2 in
-    let r = c.run_to_match.ensures.on from.0 v.0 v.2 in
-    let run = c.run_to_match.new.at.first in
+    let r = c.run_on_to_match.ensures.on from.0 v.0 v.2 in
+    let run = c.run_on_to_match.new.at.first in
     since_edge table entries bs c.utf8.haystack fits from.0 from.1 c.args.from.first
     c.in-Some.on.first
     (since_on table entries (chars bs) from.0 from.1 v.0 c.args.from.first c.positions.at.first
@@ -88,9 +88,9 @@ returns-in_default-step_shortest c = λ low p from.
     let bs = c.args.haystack.now in
     let fits : length bs + 1 < 2 ^ 64 = omega arith in
     let v = c.positions.invariant.on low p from in
-    let r = c.run_to_match.ensures.on low v.0 v.2 in
+    let r = c.run_on_to_match.ensures.on low v.0 v.2 in
     let on = c.in-Some.ensures.on low r.0 r.2 in
-    let run = c.run_to_match.new.at.first in
+    let run = c.run_on_to_match.new.at.first in
     let told = c.idle_since-in_default-step_shortest in
     let first = v.1 in
     let more = r.1 in
@@ -110,7 +110,7 @@ returns-then-hit c = λ low p from.
     let entries = c.args.graph.now.start ∷ [] in
     let h = chars c.args.haystack.now in
     let v = c.positions.invariant.on low p from in
-    let r = c.run_to_match.ensures.on low v.0 v.2 in
+    let r = c.run_on_to_match.ensures.on low v.0 v.2 in
     let on = c.in-Some.ensures.on low r.0 r.2 in
     subst
     (λ hit. EndsOrLeads table entries h low on.0 c.args.self.now c.in-Some.on
@@ -123,7 +123,7 @@ returns-then-is_none c = λ low p from.
     let entries = c.args.graph.now.start ∷ [] in
     let h = chars c.args.haystack.now in
     let v = c.positions.invariant.on low p from in
-    let r = c.run_to_match.ensures.on low v.0 v.2 in
+    let r = c.run_on_to_match.ensures.on low v.0 v.2 in
     let on = c.in-Some.ensures.on low r.0 r.2 in
     let led = subst
     (λ hit. EndsOrLeads table entries h low on.0 c.args.self.now c.in-Some.on
@@ -131,14 +131,14 @@ returns-then-is_none c = λ low p from.
     (c.in-Some-step_shortest.ensures h low on.0 on.2) in
     end_none table entries h low on.0 c.args.self.now c.in-Some.on on.2
     (c.in-Some.ensures.none
-    (c.run_to_match.ensures.none ∙ c.positions.invariant.none)) c.in-Some-step_shortest.to led
+    (c.run_on_to_match.ensures.none ∙ c.positions.invariant.none)) c.in-Some-step_shortest.to led
     (none_by c.in-Some.on.here.after c.is_none.result c.is_none.ensures c.if-is_none.true)
 
 pub go_on-at-requires-clause-here : goal.go_on-at-requires-clause-here
 go_on-at-requires-clause-here c =
     let from = c.requires.scanning in
     let v = c.positions.invariant.on from.0 from.1 from.2 in
-    let r = c.run_to_match.ensures.on from.0 v.0 v.2 in
+    let r = c.run_on_to_match.ensures.on from.0 v.0 v.2 in
     let on = c.in-Some.ensures.on from.0 r.0 r.2 in (
       on.0,
       on.2.is,
@@ -152,7 +152,7 @@ go_on-at-requires-clause-state c =
     let h = chars c.args.haystack.now in
     let from = c.requires.scanning in
     let v = c.positions.invariant.on from.0 from.1 from.2 in
-    let r = c.run_to_match.ensures.on from.0 v.0 v.2 in
+    let r = c.run_on_to_match.ensures.on from.0 v.0 v.2 in
     let on = c.in-Some.ensures.on from.0 r.0 r.2 in
     let led = subst
     (λ hit. EndsOrLeads table entries h from.0 on.0 c.args.self.now c.in-Some.on
@@ -164,7 +164,7 @@ pub positions-smaller : goal.positions-smaller
 positions-smaller c =
     let from = c.requires.scanning in
     let v = c.positions.invariant.on from.0 from.1 from.2 in
-    let r = c.run_to_match.ensures.on from.0 v.0 v.2 in
+    let r = c.run_on_to_match.ensures.on from.0 v.0 v.2 in
     let on = c.in-Some.ensures.on from.0 r.0 r.2 in
     let more = r.1 in
     let later = on.1 in
@@ -180,14 +180,14 @@ positions-preserved c =
     let to = c.in-Some-step_shortest.to in
     let start = c.args.from.first in
     let first = c.positions.at.first in
-    let run = c.run_to_match.new.at.first in
+    let run = c.run_on_to_match.new.at.first in
     let skip = c.in-Some.on.first in
     let last = c.go_on-at.result.first in
     record {
       none = ap (λ (z : Standing). z.best) c.go_on-at.ensures.same;
       on = λ low p from.
           let v = c.positions.invariant.on low p from in
-          let r = c.run_to_match.ensures.on low v.0 v.2 in
+          let r = c.run_on_to_match.ensures.on low v.0 v.2 in
           let on = c.in-Some.ensures.on low r.0 r.2 in
           let led = subst
           (λ hit. EndsOrLeads table entries h low on.0 now c.in-Some.on to hit) c.if-hit.false

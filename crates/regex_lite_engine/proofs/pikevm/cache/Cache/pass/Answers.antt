@@ -9,6 +9,20 @@ use Rattle.regex_lite_engine.proofs.pikevm.PassLemmas.{bound_on}
 use Rattle.regex_lite_engine.proofs.pikevm.PassLemmas.{onward}
 use Rattle.regex_lite_engine.proofs.pikevm.cache.Cache.pass.Goals as goal
 
+pub next_start-here-requires : goal.next_start-here-requires
+next_start-here-requires g c = (c.requires.1, c.requires.2)
+
+pub come_to-requires : goal.come_to-requires
+come_to-requires g c =
+    let a = c.args in
+    let from = c.requires in
+    let haystack = chars a.haystack.now in
+    let w =
+    onward (g.P.Patterns.table a.patterns.now) haystack (g.P.Patterns.entries a.patterns.now)
+    from.0 (length haystack) from.1 a.self.now.walk.memory.threads (best_of a.self.now.best)
+    c.next_start-here.result (c.next_start-here.ensures from.1 from.2) from.4.coming in
+    (w.q, w.is)
+
 pub returns-clause-passes : goal.returns-clause-passes
 returns-clause-passes g c s p is before =
     let a = c.args in

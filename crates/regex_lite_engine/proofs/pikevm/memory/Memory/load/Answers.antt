@@ -1,5 +1,5 @@
 use Rattle.std.proofs.Common.{◌≡◌, ◌<◌, length, map, slice_index}
-use Rattle.std.proofs.Common.{slice_index_or, refl, ap, sym, ◌∙◌, arith}
+use Rattle.std.proofs.Common.{slice_index_or, refl, ap, sym, ◌∙◌, arith, length-set}
 use Rattle.regex_lite_engine.specs.Pikevm.Beginnings.{untold}
 use Rattle.regex_lite_engine.specs.Pikevm.Cells.{nth_row, other, row_on}
 use Rattle.regex_lite_engine.specs.Pikevm.Cells.{place_on, start_on, start_told}
@@ -90,3 +90,21 @@ returns-clause-same g c =
     state_is _ _ (ap (λ (z : State). z.rounds) v) (ap (λ (z : State). z.now) v)
     (ap (λ (z : State). z.frames) v) refl threads next (ap (λ (z : State). z.room) v)
     (ap (λ (z : State). z.ready) v)
+
+pub invariant_of-self : goal.invariant_of-self
+invariant_of-self g c =
+    let i = c.self.inside in let fit = c.self.invariant in
+    record {
+      all_ready = fit.all_ready;
+      cells_fit = fit.cells_fit;
+      frames_fit = fit.frames_fit;
+      threads_fit = fit.threads_fit;
+      next_fit = fit.next_fit;
+      threads_few = fit.threads_few;
+      next_few = fit.next_few;
+      room_few = fit.room_few;
+      rows_fit =
+          ap length c.copy.ensures.copied
+          ∙ length-set i.rows 0 (nth_row i.rows c.row_of.result)
+          ∙ fit.rows_fit;
+    }

@@ -1,4 +1,4 @@
-use Rattle.std.proofs.Common.{◌∷◌, length, set, refl, ap, ◌∙◌, arith}
+use Rattle.std.proofs.Common.{◌∷◌, length, set, refl, ap, ◌∙◌, arith, length-set}
 use Rattle.regex_lite_engine.specs.declared.pikevm.cell.Cell.{Cell}
 use Rattle.regex_lite_engine.specs.Pikevm.Cells.{round_in, frame_of, other}
 use Rattle.regex_lite_engine.specs.Pikevm.Machine.{State}
@@ -7,19 +7,47 @@ use Rattle.regex_lite_engine.proofs.pikevm.memory.CellLemmas.{state_is, with_fra
 use Rattle.regex_lite_engine.proofs.pikevm.memory.ListLemmas.{threads_kept}
 use Rattle.regex_lite_engine.proofs.pikevm.memory.ReadyLemmas.{frames_stay, threads_stay}
 use Rattle.regex_lite_engine.proofs.pikevm.memory.ReadyLemmas.{rounds_long, rounds_still}
+use Rattle.regex_lite_engine.proofs.pikevm.memory.ReadyLemmas.{still_together, together_set}
 use Rattle.regex_lite_engine.proofs.pikevm.memory.Memory.push.Goals as goal
 
-pub provide-requires-clause-number : goal.provide-requires-clause-number
-provide-requires-clause-number g c =
-    let i = c.self.inside in let v = c.self.view_is in
-    omega (
-      arith,
-      c.requires.room,
-      frames_long i.cells.items i.depth c.self.invariant.frames_fit,
-      rounds_long i.low i.cells.items,
-      ap (λ (z : State). length z.frames) v,
-      ap (λ (z : State). length z.rounds) v,
-    )
+pub provide-requires : goal.provide-requires
+provide-requires g c =
+    let i = c.self.inside in let v = c.self.view_is in let fit = c.self.invariant in
+    record {
+      number = omega (
+        arith,
+        c.requires.room,
+        frames_long i.cells.items i.depth fit.frames_fit,
+        rounds_long i.low i.cells.items,
+        ap (λ (z : State). length z.frames) v,
+        ap (λ (z : State). length z.rounds) v,
+      );
+      next = fit.frames_fit;
+      room = fit.cells_fit;
+      ready = λ ready. fit.all_ready (ap (λ (z : State). z.ready) v ∙ c.requires.ready ready);
+    }
+
+pub invariant_of-self : goal.invariant_of-self
+invariant_of-self g c =
+    let i = c.self.inside in let cells = c.provide.new.cells in let low = c.provide.new.low in
+    let x = c.index_mut.result.now in
+    let y : Cell _ = record x { frame = c.args.frame } in
+    let still = together_set cells.items i.depth y cells.cap low i.ready i.rows i.room i.depth i.len
+    i.next_len (still_together i.low low i.cells.items cells.items c.provide.ensures.made
+    i.cells.cap cells.cap i.ready i.rows i.room i.depth i.len i.next_len c.provide.ensures.capacity
+    c.self.invariant) in
+    let same = length-set cells.items i.depth y in
+    record {
+      all_ready = still.all_ready;
+      cells_fit = still.cells_fit;
+      frames_fit = omega (arith, same, c.provide.ensures.ready);
+      threads_fit = still.threads_fit;
+      next_fit = still.next_fit;
+      threads_few = still.threads_few;
+      next_few = still.next_few;
+      room_few = still.room_few;
+      rows_fit = still.rows_fit;
+    }
 
 pub returns : goal.returns
 returns g c =

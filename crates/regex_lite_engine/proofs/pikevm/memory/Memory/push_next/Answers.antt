@@ -22,17 +22,22 @@ copy-requires-clause-to g c =
     ) in
     omega (arith, row_fits c.other-side.result i.room i.next_len lt, fit.rows_fit, c.row_of.ensures)
 
-pub provide-requires-clause-number : goal.provide-requires-clause-number
-provide-requires-clause-number g c =
-    let i = c.self.inside in let v = c.self.view_is in
-    omega (
-      arith,
-      c.requires.room,
-      threads_long g.S.Beginning.told (other i.side) i.cells.items i.rows i.room i.next_len,
-      ap (λ (z : State). length z.next) v,
-      ap (λ (z : State). z.room) v,
-      c.self.invariant.room_few,
-    )
+pub provide-requires : goal.provide-requires
+provide-requires g c =
+    let i = c.self.inside in let v = c.self.view_is in let fit = c.self.invariant in
+    record {
+      number = omega (
+        arith,
+        c.requires.room,
+        threads_long g.S.Beginning.told (other i.side) i.cells.items i.rows i.room i.next_len,
+        ap (λ (z : State). length z.next) v,
+        ap (λ (z : State). z.room) v,
+        fit.room_few,
+      );
+      next = fit.next_fit;
+      room = fit.cells_fit;
+      ready = λ ready. fit.all_ready (ap (λ (z : State). z.ready) v ∙ c.requires.ready ready);
+    }
 
 pub invariant_of-self : goal.invariant_of-self
 invariant_of-self g c =

@@ -46,7 +46,7 @@ returns-in-Complete-clause-taken g c =
     (record e { frames = onto o e.frames }) (completes o)) c.in-Complete.is
     (subst (λ (z : State). Enters a.here told x z
     (record e { frames = onto c.enter-onward.result e.frames }) (completes c.enter-onward.result))
-    c.insert.ensures.added c.enter-onward.ensures.entered) in
+    {y = marked_in w.memory a.place} c.insert.ensures.added c.enter-onward.ensures.entered) in
     let same =
     later_same a.place w.memory n e c.insert.ensures.added c.enter-onward.ensures.same in
     let after = record w { memory = d; steps = c.look-found.new.steps } in
@@ -71,7 +71,7 @@ returns-in_default-clause-taken g c =
     let size : length (map place_of a.table.now.places) ≡ length a.table.now.places =
     length-map a.table.now.places place_of in
     let enters = subst (λ (z : State). Enters a.here told x z e (completes o))
-    c.insert.ensures.added c.enter-onward.ensures.entered in
+    {y = marked_in w.memory a.place} c.insert.ensures.added c.enter-onward.ensures.entered in
     let same = ap (λ (z : State). record z { frames = left })
     (later_same a.place w.memory c.insert.new.self c.enter-onward.new.memory c.insert.ensures.added
     c.enter-onward.ensures.same) in

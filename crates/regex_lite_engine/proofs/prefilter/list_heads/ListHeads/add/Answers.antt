@@ -1,8 +1,8 @@
 use Rattle.std.proofs.Common.{◌==◌, ◌<◌, ◌*◌, ◌&&◌, ◌||◌, ◌∷◌, []}
 use Rattle.std.proofs.Common.{map, length, ap, sym, subst, ◌∙◌, arith}
 use Rattle.std.proofs.lemmas.List.{map-append}
-use Rattle.regex_lite_engine.specs.Prefilter.ListHeads.{begins_with_pair, belongs, has, has_pair}
-use Rattle.regex_lite_engine.specs.Prefilter.ListHeads.{IsSized}
+use Rattle.regex_lite_engine.specs.Prefilter.Pairs.{begins_with_pair, has_pair}
+use Rattle.regex_lite_engine.specs.Prefilter.Rows.{belongs, has, IsSized}
 use Rattle.regex_lite_engine.specs.Prefilter.Starts.{IsUnion, IsUnionOf}
 use Rattle.regex_lite_engine.specs.declared.prefilter.heads.Heads.{Heads}
 use Rattle.regex_lite_engine.specs.declared.prefilter.list_heads.ListHeads.{ListHeads}

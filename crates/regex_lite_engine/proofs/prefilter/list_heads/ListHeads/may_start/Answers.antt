@@ -4,8 +4,8 @@ use Rattle.std.specs.Int.{bit_at}
 use Rattle.std.specs.Prelude.{is_none, option_map, unwrap_or}
 use Rattle.std.proofs.lemmas.Nat.Bits.{shr_and_one}
 use Rattle.std.proofs.Math.Bool.{and_self}
-use Rattle.regex_lite_engine.specs.Prefilter.ListHeads.{first_row, has, may_start, second_row}
-use Rattle.regex_lite_engine.specs.Prefilter.ListHeads.{start_row}
+use Rattle.regex_lite_engine.specs.Prefilter.ListHeads.{may_start}
+use Rattle.regex_lite_engine.specs.Prefilter.Rows.{first_row, has, second_row, start_row}
 use Rattle.regex_lite_engine.proofs.prefilter.list_heads.ListHeads.may_start.Goals as goal
 
 pub returns : goal.returns

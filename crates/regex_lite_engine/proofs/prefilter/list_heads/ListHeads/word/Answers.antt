@@ -2,7 +2,7 @@ use Rattle.std.proofs.Common.{◌≡◌, ◌==◌, ◌-◌, ◌*◌, ◌&&◌, �
 use Rattle.std.proofs.Common.{false, not, bit_and, ap, refl, sym, ◌∙◌}
 use Rattle.std.specs.Int.{bit_at}
 use Rattle.std.specs.Prelude.{is_none}
-use Rattle.regex_lite_engine.specs.Prefilter.ListHeads.{has, start_row}
+use Rattle.regex_lite_engine.specs.Prefilter.Rows.{has, start_row}
 use Rattle.regex_lite_engine.proofs.prefilter.list_heads.WalkLemmas.{bit_in_row, bit_of_both}
 use Rattle.regex_lite_engine.proofs.prefilter.list_heads.WalkLemmas.{bit_of_either}
 use Rattle.regex_lite_engine.proofs.prefilter.list_heads.ListHeads.word.Goals as goal

@@ -1,8 +1,7 @@
-use Rattle.std.proofs.Common.{◌∷◌, [], sym, subst}
+use Rattle.std.proofs.Common.{◌∷◌, []}
 use Rattle.std.specs.Prelude.{chars}
 use Rattle.regex_lite_engine.specs.Graph.Stored.{table_of}
 use Rattle.regex_lite_engine.specs.Prefilter.Heads.{NeverBegins}
-use Rattle.regex_lite_engine.specs.Search.Starts.{PassesTo}
 use Rattle.regex_lite_engine.specs.Search.Starts.{AreDeadAt}
 use Rattle.regex_lite_engine.proofs.search.SkipLemmas.{passes_as}
 use Rattle.regex_lite_engine.proofs.search.OneStartLemmas.{one_dead}
@@ -12,11 +11,9 @@ pub returns : goal.returns
 returns c = λ p is.
     let graph = c.args.self.now.graph.now in
     let haystack = chars c.args.haystack.now in
-    passes_as (NeverBegins graph.heads haystack)
+    passes_as (NeverBegins c.filter.result.now haystack)
     (AreDeadAt (table_of graph) haystack (graph.start ∷ [])) haystack p
     c.pass_over.result
-    (λ i never. one_dead (table_of graph) haystack graph.start i (c.heads.ensures.all haystack i
-    (subst (λ h. NeverBegins h haystack i) (sym c.heads.ensures.same) never)))
-    (subst (λ h. PassesTo (NeverBegins h haystack) haystack p c.pass_over.result)
-    c.heads.ensures.same
-    (c.pass_over.ensures.passes p is))
+    (λ i never. one_dead (table_of graph) haystack graph.start i (c.filter.ensures.all haystack i
+    never))
+    (c.pass_over.ensures.passes p is)

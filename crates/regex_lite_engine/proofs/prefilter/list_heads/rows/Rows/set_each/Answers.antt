@@ -1,5 +1,5 @@
 use Rattle.std.proofs.Common.{◌≡◌, ◌==◌, ◌&&◌, ◌||◌, ap, ◌∙◌, arith}
-use Rattle.regex_lite_engine.specs.Prefilter.ListHeads.{has, is_in_column}
+use Rattle.regex_lite_engine.specs.Prefilter.Rows.{has, is_in_column}
 use Rattle.regex_lite_engine.specs.Prefilter.Starts.{begins_with}
 use Rattle.regex_lite_engine.proofs.prefilter.list_heads.rows.Rows.set_each.Goals as goal
 

@@ -1,0 +1,32 @@
+use Rattle.std.proofs.Common.{rules, ◌≡◌, ◌∷◌, [], true}
+use Rattle.std.specs.Prelude.{chars}
+use Rattle.std.proofs.lemmas.Option.{slice_get_within}
+use Rattle.regex_lite_engine.specs.Graph.Stored.{table_of}
+use Rattle.regex_lite_engine.proofs.lazy_dfa.LeapLemmas.{leapt, leapt_since}
+use Rattle.regex_lite_engine.proofs.lazy_dfa.automaton.LazyDfa.leap.Goals as goal
+
+pub may_leap-requires : goal.may_leap-requires
+may_leap-requires c =
+    let is = c.requires.scanning.2 in
+    slice_get_within c.args.self.now.states c.args.at.now.state is.state is.is_state
+
+pub pass_over-next-requires : goal.pass_over-next-requires
+pass_over-next-requires c = let from = c.requires.scanning in (from.1, from.2.is)
+
+pub returns-clause-on : goal.returns-clause-on
+returns-clause-on c = λ _ low p is.
+    let table = table_of c.args.graph.now in
+    let entries = c.args.graph.now.start ∷ [] in
+    let h = chars c.args.haystack.now in
+    let now = c.args.self.now in
+    let at = c.args.at.now in
+    let may : c.may_leap.result ≡ true = search rules in
+    let empty = c.may_leap.ensures.empty may in
+    let none = c.may_leap.ensures.none may in
+    let next = c.pass_over-next.result in
+    let passes = c.pass_over-next.ensures p is.is in (
+      passes.q,
+      passes.later,
+      leapt table entries h low p now at is next passes empty none (c.may_leap.ensures.looks may),
+      leapt_since table entries h low p now at is next passes empty none,
+    )

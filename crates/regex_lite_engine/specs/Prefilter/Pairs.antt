@@ -1,0 +1,38 @@
+-- The pairs of ASCII characters with which a match of some pattern can begin.
+use Rattle.std.specs.Prelude.{◌≡◌, ◌==◌, ◌<◌, ℕ, Bool, false, ◌&&◌, ◌||◌}
+use Rattle.std.specs.Prelude.{length, slice_get, Option, Some, None}
+use Rattle.regex_lite_syntax.specs.AsciiMaps.{bit_of_words}
+use Rattle.regex_lite_engine.specs.declared.prefilter.heads.Heads.{Heads}
+use Rattle.regex_lite_engine.specs.declared.prefilter.list_heads.ListHeads.{ListHeads}
+use Rattle.regex_lite_engine.specs.declared.prefilter.list_heads.ascii_set.AsciiSet.{AsciiSet}
+use Rattle.regex_lite_engine.specs.Prefilter.Rows.{goes_on_with}
+use Rattle.regex_lite_engine.specs.Prefilter.Starts.{begins_with}
+
+-- the ASCII character with this code is in the set
+abbrev pub in_set : AsciiSet → (code : ℕ) → Bool
+in_set set code = bit_of_words set.words code == 1
+
+abbrev pub in_some_set : Option AsciiSet → (code : ℕ) → Bool
+in_some_set None code = false
+in_some_set (Some set) code = in_set set code
+
+-- a match of some pattern can begin with these two ASCII characters, by the index
+abbrev pub has_pair : ListHeads → (first second : ℕ) → Bool
+has_pair heads first second = in_some_set (slice_get heads.pairs.items first) second
+
+-- one that begins like this can begin with these two characters
+abbrev pub begins_with_pair : (first second : ℕ) → Heads → Bool
+begins_with_pair first second heads =
+    begins_with heads.first first && goes_on_with heads.second second
+
+-- the pairs of a pattern that begins like this are added
+pub record ArePairsWith (part : Heads) (before after : ListHeads) : Type 0 where
+  pub all : length after.pairs.items ≡ length before.pairs.items
+  pub each : (first second : ℕ) → first < 128 → second < 128 → has_pair after first second
+      ≡ (has_pair before first second || begins_with_pair first second part)
+
+-- both are ASCII characters with which none begins
+abbrev pub NeverBeginsWith : ListHeads → (first : ℕ) → (second : Option ℕ) → Type 0
+NeverBeginsWith heads first None = ⊥
+NeverBeginsWith heads first (Some second) =
+    (first < 128) × (second < 128) × (has_pair heads first second ≡ false)
