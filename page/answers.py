@@ -26,10 +26,12 @@ class Question(TypedDict):
 class Answer(TypedDict, total=False):
     """What is shown: why the pattern is refused and where it is at fault, or all the rest. A place
     in the pattern, and the spans of the groups of each match, are given in bytes, and in units of
-    UTF-16, as strings of the page have them."""
+    UTF-16, as strings of the page have them. A pattern that is not finished has no place where its
+    fault ends."""
 
     refusal: str
     fault: Tuple[int, int]
+    fault_end: Tuple[int, int]
     names: List[Optional[str]]
     spans: List[List[Span]]
     matches: List[List[Span]]
@@ -71,10 +73,18 @@ def answer_to(question: Question) -> Answer:
 
 def _refused(refusal: error) -> Answer:
     """Why a pattern is refused, and where it is at fault, if it has a place for that."""
-    if refusal.pos is None:
-        return Answer(refusal=refusal.msg)
-    before = refusal.pattern[:refusal.pos].encode()
-    return Answer(refusal=refusal.msg, fault=(len(before), _units_before(before)[-1]))
+    answer = Answer(refusal=refusal.msg)
+    if refusal.pos is not None:
+        answer['fault'] = _place(refusal.pattern[:refusal.pos])
+    if refusal.end is not None:
+        answer['fault_end'] = _place(refusal.pattern[:refusal.end])
+    return answer
+
+
+def _place(before: str) -> Tuple[int, int]:
+    """The place after this part of the pattern."""
+    raw = before.encode()
+    return len(raw), _units_before(raw)[-1]
 
 
 def _found(regex: Regex, text: bytes, replacement: bytes) -> Answer:

@@ -69,6 +69,13 @@ typedef struct regex_lite_span {
     size_t end;
 } regex_lite_span;
 
+/* Where in a pattern its first fault is, as offsets in bytes. */
+typedef struct regex_lite_fault {
+    size_t start;      /* where the part begins that can't be read */
+    size_t end;        /* where it ends: no pattern that begins with what is before is accepted */
+    bool is_cut_short; /* whether the pattern ends too soon; then end is its length */
+} regex_lite_fault;
+
 /* How far a walk over all matches of a text has come. */
 typedef struct regex_lite_walk {
     bool is_begun;
@@ -158,16 +165,19 @@ uint32_t regex_lite_new(regex_lite *handle, const uint8_t *pattern, size_t patte
                         const regex_lite_options *options, uint8_t *message, size_t message_room,
                         size_t *message_len);
 
-/* Writes where in a pattern its first fault is, as an offset in bytes: REGEX_LITE_YES. An editor
- * can mark the pattern from there on. It returns REGEX_LITE_NO where the syntax has no fault; the
- * limits of the options don't count.
+/* Writes where in a pattern its first fault is: REGEX_LITE_YES. It returns REGEX_LITE_NO where the
+ * syntax has no fault; the limits of the options don't count.
  *
- * The fault is where the part begins that can't be read: a class, an escape, an operator, a list of
- * flags, a group with a bad name. If groups are open at the end of the pattern, it is where the
- * innermost of them begins. A pattern that is no UTF-8 is REGEX_LITE_NOT_TEXT, and one with more
- * groups than can be numbered may be REGEX_LITE_GROUPS. */
+ * The fault starts where the part begins that can't be read: a class, an escape, an operator, a
+ * list of flags, a group with a bad name. If groups are open at the end of the pattern, it is where
+ * the innermost of them begins. It ends where it shows that no accepted pattern begins like this;
+ * an editor can mark it up to there. A pattern that ends too soon, as one with an open group or
+ * class, is cut short: more of it may mend it, and an editor can wait.
+ *
+ * A pattern that is no UTF-8 is REGEX_LITE_NOT_TEXT, and one with more groups than can be numbered
+ * may be REGEX_LITE_GROUPS. */
 uint32_t regex_lite_fault_at(const uint8_t *pattern, size_t pattern_len,
-                             const regex_lite_options *options, size_t *at);
+                             const regex_lite_options *options, regex_lite_fault *fault);
 
 /* Frees what the handle holds, if anything. */
 void regex_lite_free(regex_lite *handle);

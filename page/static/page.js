@@ -4,7 +4,7 @@
 
 const MOST_MARKED = 50000;  // characters of the text in which matches are marked
 const MOST_CELL = 200;      // characters of a group that the table shows
-const MOST_AROUND = 100;    // characters of a refused pattern before its fault, and from there on
+const MOST_AROUND = 100;    // characters of a refused pattern before its fault, in it, and after it
 const MOST_BYTES = 2 << 20; // of a request
 const COLOURS = 5;
 
@@ -90,17 +90,23 @@ function drawTable(haystack, { names = [], matches = [], spans = [] }) {
   field('matches').tBodies[0].replaceChildren(...rows);
 }
 
-// A refused pattern, marked from where it is at fault.
-function drawFault(refused, fault) {
+// A refused pattern, marked where it is at fault; or from there on, where it isn't finished.
+function drawFault(refused, { fault, fault_end: faultEnd }) {
   if (fault === undefined) {
     field('fault').replaceChildren();
     return;
   }
   const [bytes, at] = fault;
-  const [start, end] = [Math.max(at - MOST_AROUND, 0), at + MOST_AROUND];
-  const shown = element('code', '', (start > 0 ? '…' : '') + refused.slice(start, at));
-  shown.append(element('mark', '', refused.slice(at, end) + (end < refused.length ? '…' : '')));
-  field('fault').replaceChildren(`At offset ${number(bytes)}: `, shown);
+  const [endBytes, end] = faultEnd ?? [0, refused.length];
+  const [first, last] = [Math.max(at - MOST_AROUND, 0), Math.min(end, at + MOST_AROUND)];
+  const after = last < end ? '' : refused.slice(end, end + MOST_AROUND);
+  const shown = element('code', '', (first > 0 ? '…' : '') + refused.slice(first, at));
+  const kind = faultEnd === undefined ? 'unfinished' : '';
+  shown.append(element('mark', kind, refused.slice(at, last) + (last < end ? '…' : '')),
+    after + (last === end && end + MOST_AROUND < refused.length ? '…' : ''));
+  field('fault').replaceChildren(faultEnd === undefined
+    ? `Not finished, from offset ${number(bytes)} on: `
+    : `From offset ${number(bytes)} to ${number(endBytes)}: `, shown);
 }
 
 function summary(answer, haystack) {
@@ -124,7 +130,7 @@ function show(question, answer) {
   const isRefused = 'refusal' in answer;
   pattern.setAttribute('aria-invalid', isRefused);
   field('refusal').textContent = isRefused ? answer.refusal : '';
-  drawFault(question.pattern, answer.fault);
+  drawFault(question.pattern, answer);
   field('summary').textContent = isRefused ? '' : summary(answer, question.text);
   field('cost').textContent = isRefused ? '' : cost(answer);
   const replaced = isRefused ? '' : answer.replaced;

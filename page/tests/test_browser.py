@@ -162,20 +162,33 @@ class Page(WithServer):
 
     def test_places_of_faults(self) -> None:
         mark = 'document.querySelector("#fault mark")'
-        for pattern, before, marked in (
-                ('sam(?:wise|[a-)', 'At offset 11: sam(?:wise|', '[a-)'),
-                ('ü😀(<b>', 'At offset 6: ü😀', '(<b>'),
-                ('a' * 1000 + ')' * 101, f'At offset 1,000: …{"a" * 100}', f'{")" * 100}…')):
+        for pattern, before, marked, after in (
+                ('sam(?:wise|[a-)', 'From offset 11 to 15: sam(?:wise|', '[a-)', ''),
+                ('ü😀(<b>[b-a]</b>', 'From offset 10 to 14: ü😀(<b>', '[b-a', ']</b>'),
+                ('a' * 1000 + ')' * 102, f'From offset 1,000 to 1,001: …{"a" * 100}', ')',
+                 f'{")" * 100}…'),
+                (f'[c{"b" * 100}-a]', 'From offset 0 to 104: ', f'[c{"b" * 98}…', '')):
             self.browser.write('pattern', pattern)
-            self.shows('fault', before + marked)
+            self.shows('fault', before + marked + after)
             self.assertEqual(self.browser.value(f'{mark}.textContent'), marked)
         self.assertEqual(self.browser.value('document.querySelectorAll("b").length'), 0)
         # The mark is one without colours, and for who hears the page too.
         self.assertEqual(self.browser.value(f'getComputedStyle({mark}).textDecorationLine'),
                          'underline')
+        self.assertEqual(self.browser.value(f'getComputedStyle({mark}).textDecorationStyle'),
+                         'wavy')
         self.assertEqual(self.browser.value(
             'document.getElementById("pattern").getAttribute("aria-describedby")'),
             'refusal fault')
+        # One that is not finished is marked in another way.
+        for pattern, before, marked in (
+                ('ü😀(<b>', 'Not finished, from offset 6 on: ü😀', '(<b>'),
+                ('(' + 'a' * 100, 'Not finished, from offset 0 on: ', f'({"a" * 99}…')):
+            self.browser.write('pattern', pattern)
+            self.shows('fault', before + marked)
+            self.assertEqual(self.browser.value(f'{mark}.textContent'), marked)
+            self.assertEqual(self.browser.value(f'getComputedStyle({mark}).textDecorationStyle'),
+                             'dotted')
         self.browser.write('pattern', '(' * 60 + ')' * 60)
         self.shows('fault', '')
         self.assertNotEqual(self.text('refusal'), '')

@@ -38,10 +38,14 @@ class Answers(WithServer):
 
     def test_places_of_faults(self) -> None:
         self.assertEqual(list(self.ask('(', '')), ['refusal', 'fault'])
-        self.assertEqual(self.ask('sam(?:wise|[a-)', '')['fault'], [11, 11])
         self.assertEqual(self.ask('ü😀[b', '')['fault'], [6, 3])
-        self.assertEqual(self.ask('a # ) )', '')['fault'], [4, 4])
-        self.assertEqual(self.ask('a # )\n )', '', flags='x')['fault'], [7, 7])
+        for pattern, flags, start, end in (('sam(?:wise|[a-)', '', [11, 11], [15, 15]),
+                                           ('ü😀[b-a]', '', [6, 3], [10, 7]),
+                                           ('a # ) )', '', [4, 4], [5, 5]),
+                                           ('a # )\n )', 'x', [7, 7], [8, 8])):
+            answer = self.ask(pattern, '', flags=flags)
+            self.assertEqual(list(answer), ['refusal', 'fault', 'fault_end'])
+            self.assertEqual((answer['fault'], answer['fault_end']), (start, end))
 
     def test_many_matches(self) -> None:
         shown = self.ask('a', 'a' * 100_000, 'bb')

@@ -44,41 +44,56 @@ static void test_building(void) {
     regex_lite_free(&regex);
 }
 
-/* Whether the first fault of a pattern is at this offset. */
-static bool is_at(const char *pattern, const regex_lite_options *options, size_t wanted) {
-    size_t at = SIZE_MAX;
-    return regex_lite_fault_at(TEXT(pattern), options, &at) == REGEX_LITE_YES && at == wanted;
+/* Whether the first fault of a pattern is from this offset to that. */
+static bool is_at(const char *pattern, const regex_lite_options *options, size_t start,
+                  size_t end) {
+    regex_lite_fault fault = {SIZE_MAX, SIZE_MAX, true};
+    return regex_lite_fault_at(TEXT(pattern), options, &fault) == REGEX_LITE_YES &&
+           fault.start == start && fault.end == end && !fault.is_cut_short;
 }
 
-/* Whether a pattern has none. The offset then stays as it was. */
+/* Whether it starts at this offset, and the pattern ends too soon. */
+static bool is_cut_short(const char *pattern, const regex_lite_options *options, size_t start) {
+    regex_lite_fault fault = {SIZE_MAX, SIZE_MAX, false};
+    return regex_lite_fault_at(TEXT(pattern), options, &fault) == REGEX_LITE_YES &&
+           fault.start == start && fault.end == strlen(pattern) && fault.is_cut_short;
+}
+
+/* Whether a pattern has none. What is to be written then stays as it was. */
 static bool is_faultless(const char *pattern, const regex_lite_options *options) {
-    size_t at = 7;
-    return regex_lite_fault_at(TEXT(pattern), options, &at) == REGEX_LITE_NO && at == 7;
+    regex_lite_fault fault = {7, 8, true};
+    return regex_lite_fault_at(TEXT(pattern), options, &fault) == REGEX_LITE_NO &&
+           fault.start == 7 && fault.end == 8 && fault.is_cut_short;
 }
 
 static void test_faults(void) {
     regex_lite_options options = REGEX_LITE_DEFAULTS;
-    size_t at = 7;
-    WANT(is_at("*", &defaults, 0));
-    WANT(is_at("a(b", &defaults, 1));
-    WANT(is_at("(?:a(?:b", &defaults, 4));
-    WANT(is_at("sam(?:wise|[a-)", &defaults, 11));
-    WANT(is_at("a\\q", &defaults, 1));
-    WANT(is_at("(?P<a>y)(?P<a>z)", &defaults, 8));
-    WANT(is_at("\xe2\x98\x83[b-a]", &defaults, 3));
+    regex_lite_fault fault = {7, 8, true};
+    WANT(is_at("*", &defaults, 0, 1));
+    WANT(is_at("a*{x}", &defaults, 2, 4));
+    WANT(is_at("sam(?:wise|[a-)", &defaults, 11, 15));
+    WANT(is_at("a\\qb", &defaults, 1, 3));
+    WANT(is_at("(?P<a>y)(?P<a>z)", &defaults, 8, 14));
+    WANT(is_at("\xe2\x98\x83[b-a]", &defaults, 3, 7));
+    WANT(is_cut_short("a(b", &defaults, 1));
+    WANT(is_cut_short("(?:a(?:b", &defaults, 4));
+    WANT(is_cut_short("\xe2\x98\x83[b-", &defaults, 3));
+    WANT(is_cut_short("a{2,", &defaults, 1));
     WANT(is_faultless("", &defaults));
     WANT(is_faultless("(?<a>b)(?i:c){2}", &defaults));
-    WANT(is_at(" a # )", &defaults, 5));
+    WANT(is_at(" a # )", &defaults, 5, 6));
     options.ignore_whitespace = true;
     WANT(is_faultless(" a # )", &options));
-    WANT(is_at("a # )\n )", &options, 7));
+    WANT(is_at("a # )\n )", &options, 7, 8));
+    WANT(is_cut_short("(a # )", &options, 0));
     /* The limits don't count. */
     options.nest_limit = 0;
     options.size_limit = 0;
     WANT(is_faultless("((a{100}))", &options));
-    WANT(is_at("((a{100})", &options, 0));
-    WANT(regex_lite_fault_at((const uint8_t *)"(\xff", 2, &defaults, &at) == REGEX_LITE_NOT_TEXT);
-    WANT(at == 7);
+    WANT(is_cut_short("((a{100})", &options, 0));
+    WANT(regex_lite_fault_at((const uint8_t *)"(\xff", 2, &defaults, &fault) ==
+         REGEX_LITE_NOT_TEXT);
+    WANT(fault.start == 7 && fault.end == 8 && fault.is_cut_short);
 }
 
 /* Whether a pattern matches a text under these options. */

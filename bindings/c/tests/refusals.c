@@ -44,11 +44,12 @@ void __wrap_free(void *place) {
 /* Asks for the place of a fault, and returns how many answers are what they shouldn't be. */
 static int call_fault_at(void) {
     regex_lite_options options = REGEX_LITE_DEFAULTS;
-    size_t at = 7;
-    uint32_t answer = regex_lite_fault_at(TEXT("(?:(?<a>b)(c"), &options, &at);
-    if (answer == REGEX_LITE_YES ? at == 10 : answer == REGEX_LITE_OUT_OF_MEMORY && at == 7)
+    regex_lite_fault fault = {7, 7, false};
+    uint32_t answer = regex_lite_fault_at(TEXT("(?:(?<a>b)(c[b-a]"), &options, &fault);
+    bool is_found = fault.start == 12 && fault.end == 16, is_same = fault.start == 7;
+    if (answer == REGEX_LITE_YES ? is_found : answer == REGEX_LITE_OUT_OF_MEMORY && is_same)
         return 0;
-    printf("the place of a fault: %u, %lu\n", (unsigned)answer, (unsigned long)at);
+    printf("the place of a fault: %u, %lu\n", (unsigned)answer, (unsigned long)fault.start);
     return 1;
 }
 

@@ -35,6 +35,12 @@ class CSpan(ctypes.Structure):
     _fields_ = [('is_there', c_bool), ('start', c_size_t), ('end', c_size_t)]
 
 
+class Fault(ctypes.Structure):
+    """Where in a pattern its first fault is, in bytes."""
+
+    _fields_ = [('start', c_size_t), ('end', c_size_t), ('is_cut_short', c_bool)]
+
+
 class Walk(ctypes.Structure):
     """How far a walk over the matches of a text has come."""
 
@@ -57,15 +63,18 @@ class error(Exception):
     """A pattern is refused. `msg` says why, and `number` is that of the library.
 
     Where the syntax is wrong, `pos` is where the part of the pattern begins that is at fault, and
-    `lineno` and `colno` are the line and the column of that place, both from 1 on. Else they are
-    None."""
+    `lineno` and `colno` are the line and the column of that place, both from 1 on. No pattern that
+    begins with what stands before `end` is accepted; it is None where the pattern ends too soon, so
+    that more of it may mend it. Where only a limit is passed, all four are None."""
 
-    def __init__(self, msg: str, pattern: str, number: int, pos: Optional[int] = None) -> None:
+    def __init__(self, msg: str, pattern: str, number: int, pos: Optional[int] = None,
+                 end: Optional[int] = None) -> None:
         super().__init__(msg if pos is None else f'{msg} at position {pos}')
         self.msg = msg
         self.pattern = pattern
         self.number = number
         self.pos = pos
+        self.end = end
         self.lineno: Optional[int] = None
         self.colno: Optional[int] = None
         if pos is not None:
@@ -96,7 +105,7 @@ def call(name: str, result: object, *arguments: object) -> Callable[..., int]:
 
 _HANDLE = POINTER(Handle)
 _new = call('new', c_uint32, _HANDLE, *TEXT, POINTER(Options), *_ROOM)
-_fault_at = call('fault_at', c_uint32, *TEXT, POINTER(Options), POINTER(c_size_t))
+_fault_at = call('fault_at', c_uint32, *TEXT, POINTER(Options), POINTER(Fault))
 _free = call('free', None, _HANDLE)
 _groups = call('groups', c_size_t, _HANDLE)
 _places = call('places', c_size_t, _HANDLE)
@@ -147,16 +156,17 @@ def refusal(answer: int, message: bytes, pattern: str, options: Options) -> Exce
     """What is raised where a pattern is refused by this number."""
     if answer == OUT_OF_MEMORY:
         return MemoryError()
-    pos = _fault_in(pattern, options) if answer == SYNTAX else None
-    return error(message.decode(), pattern, answer, pos)
+    pos, end = _fault_in(pattern, options) if answer == SYNTAX else (None, None)
+    return error(message.decode(), pattern, answer, pos, end)
 
 
-def _fault_in(pattern: str, options: Options) -> Optional[int]:
-    """Where in a pattern its first fault stands, in characters."""
-    raw, at = encoded(pattern), c_size_t()
-    if not checked(_fault_at(raw, len(raw), options, at)):
-        return None
-    return len(raw[:at.value].decode())
+def _fault_in(pattern: str, options: Options) -> Tuple[Optional[int], Optional[int]]:
+    """Where in a pattern its first fault stands, in characters, and where it ends."""
+    raw, fault = encoded(pattern), Fault()
+    if not checked(_fault_at(raw, len(raw), options, fault)):
+        return None, None
+    pos = len(raw[:fault.start].decode())
+    return pos, None if fault.is_cut_short else len(raw[:fault.end].decode())
 
 
 class Regex:

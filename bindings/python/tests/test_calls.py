@@ -96,6 +96,15 @@ class Refusals(unittest.TestCase):
             self.assertEqual((ours.pos, ours.lineno, ours.colno),
                              (theirs.pos, theirs.lineno, theirs.colno), pattern)
 
+    def test_ends(self):
+        for pattern, flags, end in (('ab)', 0, 3), ('*', 0, 1), (r'a\yb', 0, 3), ('a{2,x}', 0, 5),
+                                    ('ü€😀[b-a]', 0, 7), ('(?P<n>a)(?P<n>b)', 0, 14),
+                                    ('a # ü )\n\n  )', re.VERBOSE, 12)):
+            self.assertEqual(refused(regex_lite, pattern, flags).end, end, pattern)
+        for pattern, flags in (('a(b', 0), ('a[b', 0), ('ü€😀[b-', 0), ('a{2,', 0), ('a\\', 0),
+                               ('(?P<n', 0), ('(a # )', re.VERBOSE)):
+            self.assertIsNone(refused(regex_lite, pattern, flags).end, pattern)
+
     def test_place_in_text(self):
         self.assertEqual(str(refused(regex_lite, 'a(b')),
                          "found open group without closing ')' at position 1")
@@ -105,7 +114,7 @@ class Refusals(unittest.TestCase):
             with self.assertRaises(regex_lite.error) as caught:
                 regex_lite.compile(pattern, **limit)
             fault = caught.exception
-            self.assertEqual((fault.pos, fault.lineno, fault.colno), (None, None, None))
+            self.assertEqual((fault.pos, fault.end, fault.lineno, fault.colno), (None,) * 4)
             self.assertEqual(str(fault), fault.msg)
 
     def test_limits(self):

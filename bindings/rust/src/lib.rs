@@ -29,14 +29,24 @@ pub enum Error {
         number: u32,
         /// What is wrong.
         message: String,
-        /// Where the part of the pattern begins that is at fault, as an offset in bytes. There is
-        /// none where the pattern only passes a limit, or memory runs out for it.
-        at: Option<usize>,
+        /// Where the pattern is at fault. There is none where it only passes a limit, or memory
+        /// runs out for it.
+        fault: Option<Fault>,
     },
     /// The offset is above the text's length, or inside a character.
     BadOffset,
     /// A request for memory was refused.
     OutOfMemory,
+}
+
+/// Where a pattern is at fault, as offsets in bytes.
+#[derive(Clone, Copy, Debug, PartialEq, Eq)]
+pub struct Fault {
+    /// Where the part of the pattern begins that can't be read.
+    pub start: usize,
+    /// Where it ends: no pattern that begins with what stands before is accepted. There is none
+    /// where the pattern ends too soon, so that more of it may mend it.
+    pub end: Option<usize>,
 }
 
 impl fmt::Display for Error {
@@ -419,18 +429,21 @@ fn refusal(number: u32, message: &[u8], len: usize, pattern: &str, options: Opti
         return Error::OutOfMemory;
     }
     let message = String::from_utf8_lossy(&message[..len.min(message.len())]).into_owned();
-    let at = if number == raw::SYNTAX { fault_in(pattern, options) } else { None };
-    Error::Pattern { number, message, at }
+    let fault = if number == raw::SYNTAX { fault_in(pattern, options) } else { None };
+    Error::Pattern { number, message, fault }
 }
 
 /// Where in a pattern its first fault stands, unless memory runs out.
-fn fault_in(pattern: &str, options: Options) -> Option<usize> {
-    let mut at = 0;
+fn fault_in(pattern: &str, options: Options) -> Option<Fault> {
+    let mut told = raw::Fault::default();
     // SAFETY: all pointers are to live memory of these lengths, and nothing overlaps.
     let answer = unsafe {
-        raw::regex_lite_fault_at(pattern.as_ptr(), pattern.len(), &options.raw(), &mut at)
+        raw::regex_lite_fault_at(pattern.as_ptr(), pattern.len(), &options.raw(), &mut told)
     };
-    (answer == raw::YES).then_some(at)
+    (answer == raw::YES).then_some(Fault {
+        start: told.start,
+        end: (!told.is_cut_short).then_some(told.end),
+    })
 }
 
 /// Whether the answer is yes, where the call isn't refused.

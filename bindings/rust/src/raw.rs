@@ -53,6 +53,14 @@ pub struct Span {
 
 #[repr(C)]
 #[derive(Default)]
+pub struct Fault {
+    pub start: usize,
+    pub end: usize,
+    pub is_cut_short: bool,
+}
+
+#[repr(C)]
+#[derive(Default)]
 pub struct Walk {
     pub is_begun: bool,
     pub end: usize,
@@ -114,7 +122,7 @@ extern "C" {
         pattern: *const u8,
         pattern_len: usize,
         options: *const Options,
-        at: *mut usize,
+        fault: *mut Fault,
     ) -> u32;
     pub fn regex_lite_free(handle: *mut Handle);
     pub fn regex_lite_groups(handle: *mut Handle) -> usize;

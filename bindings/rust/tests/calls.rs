@@ -1,6 +1,6 @@
 //! The calls of the crate. The values that are expected are those of the Rust crate.
 
-use regex_lite_proved::{escape, Error, Options, Regex};
+use regex_lite_proved::{escape, Error, Fault, Options, Regex};
 
 #[test]
 fn searches() -> Result<(), Error> {
@@ -91,15 +91,18 @@ fn settings_and_refusals() -> Result<(), Error> {
 #[test]
 fn faults() {
     let message = "found open group without closing ')'".to_string();
-    let open = Error::Pattern { number: 10, message, at: Some(2) };
+    let fault = Some(Fault { start: 2, end: None });
+    let open = Error::Pattern { number: 10, message, fault };
     assert_eq!(open.to_string(), "found open group without closing ')'");
     assert_eq!(Regex::new("ü(b").err(), Some(open));
+    assert_eq!(place("ü(b[d-c])", Options::default()), Some(Fault { start: 4, end: Some(8) }));
     let verbose = Options {
         ignore_whitespace: true,
         ..Options::default()
     };
-    assert_eq!(place("a # )\n )", verbose), Some(7));
-    assert_eq!(place("a # )\n )", Options::default()), Some(4));
+    assert_eq!(place("a # )\n )", verbose), Some(Fault { start: 7, end: Some(8) }));
+    assert_eq!(place("a # )\n )", Options::default()), Some(Fault { start: 4, end: Some(5) }));
+    assert_eq!(place("(a # )", verbose), Some(Fault { start: 0, end: None }));
     let shallow = Options {
         nest_limit: 1,
         ..Options::default()
@@ -108,9 +111,9 @@ fn faults() {
 }
 
 /// Where a pattern is at fault, which is refused under these settings.
-fn place(pattern: &str, options: Options) -> Option<usize> {
+fn place(pattern: &str, options: Options) -> Option<Fault> {
     match Regex::with_options(pattern, options) {
-        Err(Error::Pattern { at, .. }) => at,
+        Err(Error::Pattern { fault, .. }) => fault,
         _ => panic!("{pattern} is not refused"),
     }
 }

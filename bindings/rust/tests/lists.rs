@@ -1,6 +1,6 @@
 //! The calls for several patterns. The values that are expected are those of the Rust crate.
 
-use regex_lite_proved::{Error, Options, RegexList};
+use regex_lite_proved::{Error, Fault, Options, RegexList};
 
 type Tested = Result<(), Box<dyn std::error::Error>>;
 
@@ -101,7 +101,8 @@ fn settings_and_refusals() -> Tested {
     let refused = RegexList::new(&["a", "b(c", "d)"]).err().unwrap();
     let message = "found open group without closing ')'".to_string();
     assert_eq!(refused.number, Some(1));
-    assert_eq!(refused.error, Error::Pattern { number: 10, message, at: Some(1) });
+    let fault = Some(Fault { start: 1, end: None });
+    assert_eq!(refused.error, Error::Pattern { number: 10, message, fault });
     assert_eq!(refused.to_string(), "pattern 1: found open group without closing ')'");
     Ok(())
 }

@@ -1,16 +1,20 @@
 -- Where in a pattern its first fault stands, as a builder tells it.
-use Rattle.std.specs.Prelude.{◌≡◌, ℕ, chars}
+use Rattle.std.specs.Prelude.{◌≡◌, chars, option_map}
 use Rattle.regex_lite_syntax.specs.Grammar.{HasTree}
-use Rattle.regex_lite_syntax.specs.FaultPlaces.{IsFaultAt}
+use Rattle.regex_lite_syntax.specs.declared.parse.fault.FaultPlace.{FaultPlace}
+use Rattle.regex_lite_syntax.specs.FaultPlaces.{IsPlaceOfFault}
 use Rattle.regex_lite_engine.specs.Search.Offsets.{offset}
+use Rattle.regex_lite.specs.declared.string.fault.FaultSpan.{FaultSpan}
 use Rattle.regex_lite.specs.Settings.{Settings}
 
 -- under these settings, whatever the limits, the grammar gives the pattern a tree
 abbrev pub HasTreeUnder : Settings → Type 0
 HasTreeUnder settings = HasTree settings.flags (chars settings.pattern)
 
--- under these settings the first fault of the pattern stands at this offset, in bytes
-abbrev pub IsFaultOffset : Settings → ℕ → Type 0
-IsFaultOffset settings at =
-    (k : ℕ) × IsFaultAt settings.flags (chars settings.pattern) k
-    × (at ≡ offset (chars settings.pattern) k)
+-- under these settings the first fault of the pattern starts at the one offset, in bytes, and no
+-- accepted pattern begins with what stands up to the other, if there is one
+pub record IsFaultSpan (settings : Settings) (span : FaultSpan) : Type 0 where
+  pub place : FaultPlace
+  pub fault : IsPlaceOfFault settings.flags (chars settings.pattern) place
+  pub starts : span.start ≡ offset (chars settings.pattern) place.start
+  pub ends : span.end ≡ option_map (offset (chars settings.pattern)) place.end

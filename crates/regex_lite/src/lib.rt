@@ -38,8 +38,8 @@ pub use regex_lite_engine::Steps;
 pub use regex_lite_syntax::{Error, ErrorKind};
 pub use string::escape::escape;
 pub use string::{
-    CaptureLocations, CaptureMatches, CaptureNames, Captures, CapturesIn, ListCaptureMatches,
-    ListMatches, Match, Matches, NoExpand, Regex, RegexBuilder, RegexList, RegexListBuilder,
-    RegexListSearcher, RegexSearcher, ReplaceBy, Replacer, ReplacerRef, SetMatches, Split, SplitN,
-    SubCaptureMatches, Text,
+    CaptureLocations, CaptureMatches, CaptureNames, Captures, CapturesIn, FaultSpan,
+    ListCaptureMatches, ListMatches, Match, Matches, NoExpand, Regex, RegexBuilder, RegexList,
+    RegexListBuilder, RegexListSearcher, RegexSearcher, ReplaceBy, Replacer, ReplacerRef,
+    SetMatches, Split, SplitN, SubCaptureMatches, Text,
 };

@@ -30,6 +30,7 @@ pub use builder::RegexBuilder;
 pub use capture_names::CaptureNames;
 pub use captures::Captures;
 pub use captures_in::{CapturesIn, Text};
+pub use fault::FaultSpan;
 pub use iter::captures_iter::CaptureMatches;
 pub use iter::find_iter::Matches;
 pub use iter::split::{Split, SplitN};

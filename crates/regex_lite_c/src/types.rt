@@ -2,10 +2,11 @@
 ghost use Rattle.std.specs.Prelude.{◌≡◌, ◌-◌, ◌^◌, Some, min, option_map};
 ghost use Rattle.regex_lite.specs.MatchViews.{span_of_match};
 ghost use Rattle.regex_lite_c.specs.Costs.{IsCostOf};
+ghost use Rattle.regex_lite_c.specs.Faults.{IsFaultOf};
 ghost use Rattle.regex_lite_c.specs.Spans.{span_of};
 ghost use Rattle.regex_lite_c.specs.Walks.{ended_of};
 
-use regex_lite::{Match, Steps};
+use regex_lite::{FaultSpan, Match, Steps};
 
 /// The settings under which a pattern is built.
 #[repr(C)]
@@ -74,6 +75,39 @@ impl Span {
                 is_there: false,
                 start: 0,
                 end: 0,
+            },
+        }
+    }
+}
+
+/// Where a fault stands in a pattern.
+#[repr(C)]
+#[derive(Clone, Copy)]
+pub struct Fault {
+    /// The offset at which the part begins that can't be read.
+    pub start: usize,
+    /// The offset at which it ends: what stands before it can begin no accepted pattern. Where the
+    /// pattern ends too soon, its length.
+    pub end: usize,
+    /// Whether the pattern ends too soon, so that more of it could mend it.
+    pub is_cut_short: bool,
+}
+
+impl Fault {
+    /// That with this span, in a pattern of this many bytes.
+    pub(crate) fn of(span: FaultSpan, len: usize) -> Fault
+        ensures { IsFaultOf span len result }
+    {
+        match span.end {
+            Some(end) => Fault {
+                start: span.start,
+                end,
+                is_cut_short: false,
+            },
+            None => Fault {
+                start: span.start,
+                end: len,
+                is_cut_short: true,
             },
         }
     }

@@ -1,6 +1,7 @@
 -- The characters of a text are Unicode scalar values.
 use Rattle.std.proofs.Common.{◌≡◌, refl, Bool, true, false, ◌&&◌, List}
-use Rattle.std.proofs.Common.{[], ◌∷◌, ℕ, chars, IsTrue, subst, arith}
+use Rattle.std.proofs.Common.{[], ◌∷◌, ℕ, zero, suc, take, chars, IsTrue, subst, arith}
+use Rattle.regex_lite_syntax.specs.Text.{Text}
 use Rattle.std.specs.Char.{IsScalar}
 use Rattle.std.specs.Str.{IsUtf8, all_scalars}
 use Rattle.std.proofs.lemmas.Bool.Decides.{nat_tests}
@@ -24,3 +25,9 @@ pub chars_are : (bs : List ℕ) → IsUtf8 bs → AreCharacters (chars bs)
 chars_are bs utf8 =
     subst (λ t. AreCharacters t) (chars_from_encodes utf8.0 bs utf8 utf8.1.1)
     (scalars_are utf8.0 utf8.1.0)
+
+-- the first of them are characters
+pub first_are : (n : ℕ) (t : Text) → AreCharacters t → AreCharacters (take n t)
+first_are zero t are = tt
+first_are (suc n) [] are = tt
+first_are (suc n) (c ∷ t) are = (are.0, first_are n t are.1)

@@ -8,9 +8,9 @@ use Rattle.std.proofs.lemmas.Grind.{common_steps}
 use Rattle.std.proofs.lemmas.List.Folds.{list_any_more}
 use Rattle.std.proofs.lemmas.List.Sorted.{list_any-IsPermutation}
 use Rattle.regex_lite_syntax.specs.Characters.{is_character}
-use Rattle.regex_lite_syntax.specs.Sets.{Set, span}
+use Rattle.regex_lite_syntax.specs.Sets.{span}
 use Rattle.regex_lite_syntax.specs.declared.class.ClassRange.{ClassRange}
-use Rattle.regex_lite_syntax.specs.Ranges.{in_ranges, next_character, AreRuns, AreRunsOf}
+use Rattle.regex_lite_syntax.specs.Ranges.{in_ranges, next_character, AreRuns}
 
 pub next_above : (c : ℕ) → c < next_character c
 next_above c = grind (arith, nat_tests)
@@ -47,11 +47,6 @@ in_ranges_more ranges i c d inside = simp in_ranges-any (list_any_more (holds c)
 pub in_ranges-permutation : (a b : List ClassRange) (c : ℕ) → IsPermutation a b
     → in_ranges a c ≡ in_ranges b c
 in_ranges-permutation a b c moved = simp in_ranges-any (list_any-IsPermutation (holds c) a b moved)
-
--- runs of a set are runs of a set with the same members
-pub runs_of_same : (ranges : List ClassRange) (s t : Set) → ((c : ℕ) → s c ≡ t c)
-    → AreRunsOf ranges s → AreRunsOf ranges t
-runs_of_same ranges s t same of = record { runs = of.runs; members = λ c. of.members c ∙ same c }
 
 -- runs hold no character before their start
 pub runs_from : (n : ℕ) (ranges : List ClassRange) (c : ℕ) → AreRuns n ranges

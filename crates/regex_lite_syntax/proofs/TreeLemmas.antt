@@ -1,14 +1,13 @@
 -- The equations of `tree_of`, and the trees of a list from some index on.
-use Rattle.std.proofs.Common.{◌≡◌, ℕ, ◌+◌, ◌<◌, Bool, Option, option_map, List, ◌∷◌}
+use Rattle.std.proofs.Common.{◌≡◌, ℕ, ◌+◌, ◌<◌, Bool, Option, List, ◌∷◌}
 use Rattle.std.proofs.Common.{drop, length, get_or, map, Vec, Box, Global, sym, ap, ◌∙◌}
 use Rattle.std.proofs.lemmas.List.{drop_more}
-use Rattle.std.specs.declared.rc.RcStr.{RcStr}
 use Rattle.regex_lite_syntax.specs.Tree.{Tree, Trees, trees, more, repetition}
-use Rattle.regex_lite_syntax.specs.Tree.{capture, concat, alternation}
-use Rattle.regex_lite_syntax.specs.Tree.Views.{text_of_name, tree_of, node_tree}
+use Rattle.regex_lite_syntax.specs.Tree.{concat, alternation}
+use Rattle.regex_lite_syntax.specs.Tree.Views.{tree_of, node_tree}
 use Rattle.regex_lite_syntax.specs.declared.hir.Hir.{Hir, Hir-F, fold-roll-Hir}
 use Rattle.regex_lite_syntax.specs.declared.hir.Hir.TheVariants.{Repetition, rolls-Repetition}
-use Rattle.regex_lite_syntax.specs.declared.hir.Hir.TheVariants.{Capture, rolls-Capture, Concat}
+use Rattle.regex_lite_syntax.specs.declared.hir.Hir.TheVariants.{Concat}
 use Rattle.regex_lite_syntax.specs.declared.hir.Hir.TheVariants.{rolls-Concat, Alternation}
 use Rattle.regex_lite_syntax.specs.declared.hir.Hir.TheVariants.{rolls-Alternation}
 
@@ -18,13 +17,6 @@ pub tree_of-Repetition : (least : ℕ) (most : Option ℕ) (greedy : Bool) (body
 tree_of-Repetition least most greedy body =
     ap tree_of (sym (rolls-Repetition least most greedy body))
     ∙ fold-roll-Hir Tree node_tree (Hir-F.Repetition least most greedy body)
-
-pub tree_of-Capture : (index : ℕ) (name : Option (RcStr Global)) (body : Box Hir Global)
-    → tree_of (Capture index name body)
-    ≡ capture index (option_map text_of_name name) (tree_of body.value)
-tree_of-Capture index name body =
-    ap tree_of (sym (rolls-Capture index name body))
-    ∙ fold-roll-Hir Tree node_tree (Hir-F.Capture index name body)
 
 pub tree_of-Concat : (parts : Vec Hir Global)
     → tree_of (Concat parts) ≡ concat (trees (map tree_of parts.items))

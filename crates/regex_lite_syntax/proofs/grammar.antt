@@ -12,6 +12,8 @@ pub mod LongerClassLemmas
 pub mod LongerEscapeLemmas
 pub mod LongerGapLemmas
 pub mod LongerHeadLemmas
+pub mod LongerNumberLemmas
+pub mod LongerOpeningLemmas
 pub mod NameLemmas
 pub mod NameOpeningLemmas
 pub mod NameReadingLemmas

@@ -1,11 +1,13 @@
 -- How far the grammar reads a pattern, and where its first fault stands.
-use Rattle.std.specs.Prelude.{◌≡◌, ◌⊎◌, ℕ, ◌+◌, ◌<◌, ◌≤◌, List, [], length, drop}
+use Rattle.std.specs.Prelude.{◌≡◌, ◌⊎◌, ℕ, ◌+◌, ◌<◌, ◌≤◌, List, [], ◌++◌, length, drop, take}
+use Rattle.std.specs.Prelude.{IfSome}
 use Rattle.regex_lite_syntax.specs.declared.error.ErrorKind.{ErrorKind}
 use Rattle.regex_lite_syntax.specs.declared.error.ErrorKind.TheVariants.{Groups, Memory}
 use Rattle.regex_lite_syntax.specs.declared.flags.Flags.{Flags}
+use Rattle.regex_lite_syntax.specs.declared.parse.fault.FaultPlace.{FaultPlace}
 use Rattle.regex_lite_syntax.specs.Text.{Text}
 use Rattle.regex_lite_syntax.specs.Tree.{Tree}
-use Rattle.regex_lite_syntax.specs.Grammar.{Alternatives}
+use Rattle.regex_lite_syntax.specs.Grammar.{Alternatives, HasTree}
 use Rattle.regex_lite_syntax.specs.Grammar.Gaps.{Gap, WholeGap}
 use Rattle.regex_lite_syntax.specs.Grammar.GroupNames.{NamesDiffer}
 use Rattle.regex_lite_syntax.specs.Grammar.Heads.{GroupKind, Head}
@@ -63,6 +65,17 @@ pub record IsUnclosedAt (flags : Flags) (pattern : Text) (k : ℕ) : Type 0 wher
 pub record IsFaultAt (flags : Flags) (pattern : Text) (k : ℕ) : Type 0 where
   pub inside : k < length pattern
   pub place : IsStuckAt flags pattern k ⊎ IsUnclosedAt flags pattern k
+
+-- under these flags no accepted pattern begins with the text
+abbrev pub BeginsNone : Flags → Text → Type 0
+BeginsNone flags text = (more : Text) → HasTree flags (text ++ more) → ⊥
+
+-- the first fault of the pattern stands where the place begins, and no accepted pattern begins with
+-- as many of its characters as stand before the place's end, if it has one
+pub record IsPlaceOfFault (flags : Flags) (pattern : Text) (place : FaultPlace) : Type 0 where
+  pub starts : IsFaultAt flags pattern place.start
+  pub past : IfSome place.end (λ k. (place.start < k) × (k ≤ length pattern))
+  pub ends : IfSome place.end (λ k. BeginsNone flags (take k pattern))
 
 -- what an error says by its kind where the fault can't be told. Memory may run out with any pattern
 abbrev pub IsUntold : Flags → Text → ErrorKind → Type 0

@@ -16,8 +16,10 @@ use Rattle.regex_lite_syntax.specs.declared.error.syntax.SyntaxFault.TheVariants
   FlagRepeatedNegation,
   FlagDuplicate,
   FlagUnexpectedEof,
+  FlagOrNameUnexpectedEof,
   FlagDanglingNegation,
   DecimalNoDigits,
+  DecimalUnexpectedEof,
   DecimalInvalid,
   HexBraceInvalidDigit,
   HexBraceUnexpectedEof,
@@ -48,10 +50,12 @@ use Rattle.regex_lite_syntax.specs.declared.error.syntax.SyntaxFault.TheVariants
   ClassInvalidRange,
   ClassUnclosed,
   ClassNestUnsupported,
+  ClassNestUnexpectedEof,
   ClassIntersectionUnsupported,
   ClassDifferenceUnsupported,
   ClassSymmetricDifferenceUnsupported,
   SpecialWordBoundaryUnclosed,
+  SpecialWordBoundaryUnexpectedEof,
   SpecialWordBoundaryUnrecognized,
   SpecialWordOrRepetitionUnexpectedEof,
 }
@@ -73,8 +77,10 @@ fault_text FlagRepeatedNegation = codes "inline flag negation cannot be repeated
 fault_text FlagDuplicate = codes "duplicate inline flag is not allowed"
 fault_text FlagUnexpectedEof =
     codes "expected ':' or ')' to end inline flags, but got end of pattern"
+fault_text FlagOrNameUnexpectedEof = codes "unrecognized inline flag"
 fault_text FlagDanglingNegation = codes "inline flags cannot end with negation directive"
 fault_text DecimalNoDigits = codes "expected decimal number, but found no digits"
+fault_text DecimalUnexpectedEof = codes "expected decimal number, but found no digits"
 fault_text DecimalInvalid = codes "got invalid decimal number"
 fault_text HexBraceInvalidDigit =
     codes "expected hexadecimal number in braces, but got non-hex digit"
@@ -120,11 +126,14 @@ fault_text ClassUnclosedAfterClosing =
 fault_text ClassInvalidRange = codes "invalid range in character class"
 fault_text ClassUnclosed = codes "found unclosed character class"
 fault_text ClassNestUnsupported = codes "nested character classes are not supported"
+fault_text ClassNestUnexpectedEof = codes "nested character classes are not supported"
 fault_text ClassIntersectionUnsupported = codes "character class intersection is not supported"
 fault_text ClassDifferenceUnsupported = codes "character class difference is not supported"
 fault_text ClassSymmetricDifferenceUnsupported =
     codes "character class symmetric difference is not supported"
 fault_text SpecialWordBoundaryUnclosed =
+    codes "special word boundary assertion is unclosed or has an invalid character"
+fault_text SpecialWordBoundaryUnexpectedEof =
     codes "special word boundary assertion is unclosed or has an invalid character"
 fault_text SpecialWordBoundaryUnrecognized = codes "special word boundary assertion is unrecognized"
 fault_text SpecialWordOrRepetitionUnexpectedEof =

@@ -10,6 +10,7 @@ pub mod Tree
 pub mod Grammar
 pub mod Escaped
 pub mod FaultTexts
+pub mod CutShort
 pub mod Errors
 pub mod Limits
 pub mod FaultPlaces

@@ -7,6 +7,7 @@ pub mod KnownNames
 pub mod Readings
 pub mod ClassReadings
 pub mod FlagRuns
+pub mod NameOpenings
 pub mod Machine
 pub mod States
 pub mod Starts

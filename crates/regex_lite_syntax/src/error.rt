@@ -2,7 +2,8 @@
 //!
 //! A text of a syntax fault stands in one place, `SyntaxFault::text`, so that it shows which rule
 //! of the grammar a pattern broke.
-ghost use Rattle.std.specs.Prelude.{◌≡◌, Some};
+ghost use Rattle.std.specs.Prelude.{◌≡◌, ◌≢◌, MatchOption, Some};
+ghost use Rattle.regex_lite_syntax.specs.declared.error.ErrorKind.TheVariants.{Syntax};
 ghost use Rattle.regex_lite_syntax.specs.Errors.{kind_of, text_of, syntax_error};
 ghost use Rattle.regex_lite_syntax.specs.Errors.{too_deep, too_many_groups, passed_limit};
 ghost use Rattle.regex_lite_syntax.specs.Errors.{out_of_memory, refused_replacement};
@@ -93,6 +94,17 @@ impl Error {
             Fault::Limit(LimitFault::Slots) => ErrorKind::Slots,
             Fault::Memory => ErrorKind::Memory,
             Fault::Replace => ErrorKind::Replace,
+        }
+    }
+
+    /// The rule of the grammar that the pattern breaks, if that is why it is refused.
+    pub(crate) fn syntax_fault(&self) -> Option<SyntaxFault>
+        ensures { MatchOption result (kind_of self.now ≢ Syntax)
+            (λ fault. self.now ≡ syntax_error fault) }
+    {
+        match self.fault {
+            Fault::Syntax(fault) => Some(fault),
+            _ => None,
         }
     }
 

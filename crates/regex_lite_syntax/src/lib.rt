@@ -21,4 +21,4 @@ pub use hir::Hir;
 pub use hir::look::Look;
 pub use hir::properties::Properties;
 pub use parse::Config;
-pub use parse::fault::fault_at;
+pub use parse::fault::{FaultPlace, fault_at};

@@ -14,7 +14,7 @@ ghost use Rattle.regex_lite_syntax.specs.Limits.{IsAdmitted, IsDueToPattern, dep
 ghost use Rattle.regex_lite_syntax.specs.Tree.Regular.{IsRegular};
 ghost use Rattle.regex_lite_syntax.specs.Tree.Views.{tree_of};
 ghost use Rattle.regex_lite_syntax.specs.Parser.Machine.{first_state, BeginsAtom};
-ghost use Rattle.regex_lite_syntax.specs.Refusals.{Refuses};
+ghost use Rattle.regex_lite_syntax.specs.Refusals.{Refuses, NoReading};
 ghost use Rattle.regex_lite_syntax.specs.Parser.States.{state, Advances, CanRead};
 ghost use Rattle.regex_lite_syntax.specs.Parser.States.{BeginsTooMany, EndsBranch, Adds};
 ghost use Rattle.regex_lite_syntax.specs.Parser.States.{Finishes, FinishesTooDeep};
@@ -159,7 +159,8 @@ impl Parser {
         requires past_gap { EndsGap self.old.here.flags.ignore_whitespace (drop at chars.now) }
         ensures ok { IfOk result (Advances self.old self.new chars.now at) }
         ensures refused { let t = drop at chars.now in IfErr result (λ error.
-            Refuses (kind_of error) (¬ CanRead self.old t) ⊥ (BeginsTooMany self.old t)) }
+            Refuses error (λ fault. NoReading fault (CanRead self.old) t) ⊥
+            (BeginsTooMany self.old t)) }
     {
         match chars[at] {
             '(' => self.read_group_head(chars, at),
@@ -182,8 +183,8 @@ impl Parser {
         ensures ok { IfOk result (λ hir.
             Finishes self (tree_of hir) × (nest_limit < depth (tree_of hir) → ⊥)) }
         ensures groups { self.groups < 2 ^ 32 }
-        ensures refused { IfErr result (λ error. Refuses (kind_of error)
-            (self.below.items ≢ []) (FinishesTooDeep self nest_limit) ⊥) }
+        ensures refused { IfErr result (λ error. Refuses error
+            (λ _. self.below.items ≢ []) (FinishesTooDeep self nest_limit) ⊥) }
     {
         if !self.below.is_empty() {
             return Err(SyntaxFault::UnclosedGroup.into());
@@ -202,7 +203,8 @@ impl Parser {
         requires begins { BeginsAtom (drop at chars.now) }
         ensures ok { IfOk result (Advances self.old self.new chars.now at) }
         ensures refused { let t = drop at chars.now in IfErr result (λ error.
-            Refuses (kind_of error) (¬ CanRead self.old t) ⊥ (BeginsTooMany self.old t)) }
+            Refuses error (λ fault. NoReading fault (CanRead self.old) t) ⊥
+            (BeginsTooMany self.old t)) }
     {
         let (end, item) = read_atom(self.alloc, chars, at, self.here.flags)?;
         self.add(item)?;

@@ -1,25 +1,38 @@
 //! Where in a pattern its first fault stands.
-ghost use Rattle.std.specs.Prelude.{◌≤◌, length, chars, IfOk, IfErr, MatchOption};
+ghost use Rattle.std.specs.Prelude.{◌≡◌, ◌≤◌, length, chars, IfOk, IfErr, MatchOption};
+ghost use Rattle.std.specs.Prelude.{IfSome, option_map};
 ghost use Rattle.regex_lite_syntax.specs.Errors.{kind_of};
 ghost use Rattle.regex_lite_syntax.specs.FaultPlaces.{IsUntold};
-ghost use Rattle.regex_lite_engine.specs.Search.Offsets.{IsOffset};
-ghost use Rattle.regex_lite.specs.FaultOffsets.{HasTreeUnder, IsFaultOffset};
+ghost use Rattle.regex_lite_engine.specs.Search.Offsets.{IsOffset, offset};
+ghost use Rattle.regex_lite.specs.FaultOffsets.{HasTreeUnder, IsFaultSpan};
 
 use crate::string::builder::RegexBuilder;
 use crate::string::iter::scan::next_offset;
-use regex_lite_syntax::{Error, fault_at};
+use regex_lite_syntax::{Error, FaultPlace, fault_at};
+
+/// Where a fault stands in a pattern, as offsets in bytes.
+#[derive(Clone, Copy, PartialEq, Eq, Debug)]
+pub struct FaultSpan {
+    /// Where the part of the pattern begins that can't be read.
+    pub start: usize,
+    /// After this many bytes no accepted pattern can begin as this one does. `None` where the
+    /// pattern ends inside the part, so that there may be more to come.
+    pub end: Option<usize>,
+}
 
 impl RegexBuilder {
-    /// The offset at which the first fault of the pattern stands, or `None` if the grammar gives
-    /// the pattern a tree. The limits of the builder don't count.
+    /// Where the first fault of the pattern stands, or `None` if the grammar gives the pattern a
+    /// tree. The limits of the builder don't count.
     ///
-    /// The fault stands where the part of the pattern begins with which reading stops: a class, an
+    /// The fault starts where the part of the pattern begins with which reading stops: a class, an
     /// escape, an operator, a directive, or a group with a faulty head. Of a pattern that ends with
-    /// groups open it is where the innermost of them begins. An editor can mark the fault there.
+    /// groups open it is where the innermost of them begins. The fault ends where it shows that no
+    /// accepted pattern begins like this, and has no end where the pattern itself ends inside the
+    /// part. An editor can mark what stands between, and wait where it has no end.
     ///
     /// ```
-    /// let builder = RegexBuilder::new(alloc, "sam(?:wise|[a-)")?;
-    /// builder.fault_at()?; // Some(11)
+    /// let builder = RegexBuilder::new(alloc, r"sam|\qwise")?;
+    /// builder.fault_at()?; // Some(FaultSpan { start: 4, end: Some(6) })
     /// ```
     ///
     /// The test `examples::fault` in tests/unit runs this example.
@@ -28,17 +41,34 @@ impl RegexBuilder {
     ///
     /// `Groups` where the pattern has more capture groups than can be numbered, and `Memory` if
     /// memory runs out.
-    pub fn fault_at(&self) -> Result<Option<usize>, Error>
+    pub fn fault_at(&self) -> Result<Option<FaultSpan>, Error>
         ensures found { IfOk result (λ found. MatchOption found (HasTreeUnder self.now)
-            (λ at. IsFaultOffset self.now at × (HasTreeUnder self.now → ⊥))) }
+            (λ span. IsFaultSpan self.now span × (HasTreeUnder self.now → ⊥))) }
         ensures refused { IfErr result (λ error.
             IsUntold self.now.flags (chars self.now.pattern) (kind_of error)) }
     {
         let pattern = self.pattern.as_str();
         match fault_at(self.alloc, self.flags, pattern)? {
             None => Ok(None),
-            Some(place) => Ok(Some(offset_of(pattern, place))),
+            Some(place) => Ok(Some(span_of(pattern, place))),
         }
+    }
+}
+
+/// The offsets of a fault.
+fn span_of(pattern: &str, place: FaultPlace) -> FaultSpan
+    requires start { place.start ≤ length (chars pattern.now) }
+    requires end { IfSome place.end (λ end. end ≤ length (chars pattern.now)) }
+    ensures start { IsOffset (chars pattern.now) place.start result.start }
+    ensures end { result.end ≡ option_map (offset (chars pattern.now)) place.end }
+{
+    let end = match place.end {
+        None => None,
+        Some(end) => Some(offset_of(pattern, end)),
+    };
+    FaultSpan {
+        start: offset_of(pattern, place.start),
+        end,
     }
 }
 

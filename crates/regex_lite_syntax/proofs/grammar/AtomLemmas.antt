@@ -7,7 +7,6 @@ use Rattle.regex_lite_syntax.specs.Text.{Text, the}
 use Rattle.regex_lite_syntax.specs.Characters.{is_letter}
 use Rattle.regex_lite_syntax.specs.Sets.{Set, just, case_closure}
 use Rattle.regex_lite_syntax.specs.Grammar.Escapes.{Primitive, one, some_of, look_at, Escape}
-use Rattle.regex_lite_syntax.specs.Grammar.Classes.{BracketedClass}
 use Rattle.regex_lite_syntax.specs.Tree.{Tree, character, class}
 use Rattle.regex_lite_syntax.specs.Grammar.Atoms.{is_literal, AtomKind, single, escape}
 use Rattle.regex_lite_syntax.specs.Grammar.Atoms.{bracketed, no_atom, atom_kind, IsClassOf}
@@ -165,17 +164,3 @@ pub no_escape : (flags : Flags) (t past rest : Text) (a : Tree) → t ≡ the "\
     → Atom flags t rest a → ⊥
 no_escape flags t past rest a e none d =
     let from = by_kind flags escape (the "\\") t past rest a e refl d in none rest from.0 from.1
-
--- a bracketed class
-pub class_atom : (flags : Flags) (t past rest : Text) (s : Set) (a : Tree) → t ≡ the "[" ∷ past
-    → BracketedClass flags.case_insensitive flags.ignore_whitespace t rest s → IsClassOf s a
-    → Atom flags t rest a
-class_atom flags t past rest s a e d tree =
-    atom_by flags bracketed (the "[") t past rest a e refl (s, d, tree)
-
-pub no_class : (flags : Flags) (t past rest : Text) (a : Tree) → t ≡ the "[" ∷ past
-    → ((rest : Text) (s : Set)
-    → BracketedClass flags.case_insensitive flags.ignore_whitespace t rest s → ⊥)
-    → Atom flags t rest a → ⊥
-no_class flags t past rest a e none d =
-    let from = by_kind flags bracketed (the "[") t past rest a e refl d in none rest from.0 from.1

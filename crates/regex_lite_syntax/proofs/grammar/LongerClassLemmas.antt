@@ -22,7 +22,7 @@ use Rattle.regex_lite_syntax.proofs.grammar.LongerGapLemmas.{begins_longer, full
 use Rattle.regex_lite_syntax.proofs.parse.bracket.ClassItemLemmas.{open_past_dash, nothing_left}
 
 -- the first two characters of a part
-record Two (t : Text) : Type 0 where
+pub record Two (t : Text) : Type 0 where
   first : ℕ
   second : ℕ
   rest : Text
@@ -32,14 +32,14 @@ two_of : (c : ℕ) (t u : Text) → t ≡ c ∷ u → u ≢ [] → Two t
 two_of c t [] e some = absurd (some refl)
 two_of c t (d ∷ u) e some = record { first = c; second = d; rest = u; is = e }
 
-element_two : (verbose : Bool) (t rest : Text) (p : Primitive) → ClassElement verbose t rest p
+pub element_two : (verbose : Bool) (t rest : Text) (p : Primitive) → ClassElement verbose t rest p
     → rest ≢ [] → Two t
 element_two verbose t rest p (literal c e plain w is) some = two_of c t rest e some
 element_two verbose t rest p (escaped past e d) some =
     two_of (the "\\") t past e (λ none. let first = sym d.begins ∙ none in cc first)
 
 module _ (more : Text) where
-  begins_item : (t : Text) → BeginsItem t → Two t → BeginsItem (t ++ more)
+  pub begins_item : (t : Text) → BeginsItem t → Two t → BeginsItem (t ++ more)
   begins_item t begins two =
       subst (λ u. BeginsItem (u ++ more)) (sym two.is)
       (subst (λ u. BeginsItem u) two.is begins)
@@ -97,7 +97,7 @@ module _ (more : Text) where
         not_dash = λ e. f.not_dash (sym same ∙ e);
       })
 
-  negation_longer : (negated : Bool) (opened begin : Text)
+  pub negation_longer : (negated : Bool) (opened begin : Text)
       → opened ≡ (if negated then the "^" ∷ begin else begin)
       → opened ++ more ≡ (if negated then the "^" ∷ (begin ++ more) else begin ++ more)
   negation_longer true opened begin e = ap (λ u. u ++ more) e

@@ -2,6 +2,7 @@
 use Rattle.std.proofs.Common.{inl, inr, ◌≡◌, ◌≢◌, refl, sym, ◌∙◌, ap, subst, ℕ, Bool}
 use Rattle.std.proofs.Common.{true, false, ◌==◌, [], ◌∷◌, ◌++◌}
 use Rattle.std.proofs.lemmas.Bool.{both_ways, eqb-true, not_from_false}
+use Rattle.std.proofs.lemmas.List.{append-nil}
 use Rattle.regex_lite_syntax.specs.Text.{Text, Begins, the}
 use Rattle.regex_lite_syntax.specs.Characters.{is_white_space}
 use Rattle.regex_lite_syntax.specs.Grammar.Gaps.{Gap, EndsGap, WholeGap, Spaced}
@@ -147,3 +148,17 @@ module _ (more : Text) where
   spaced_longer verbose kind [] t rest s = ap (λ u. u ++ more) s
   spaced_longer verbose kind (c ∷ cs) t rest s =
       (s.0 ++ more, gap_before verbose t s.0 c s.1, s.2, spaced_longer verbose kind cs s.0 rest s.3)
+
+  -- where the whole gap leads to a character, it still does
+  pub whole_before : (verbose : Bool) (t : Text) {u past : Text} {c : ℕ} → WholeGap verbose t u
+      → u ≡ c ∷ past → WholeGap verbose (t ++ more) (c ∷ (past ++ more))
+  whole_before verbose t {u} {past} {c} whole here =
+      whole_longer verbose t (c ∷ past) (subst (λ v. WholeGap verbose t v) here whole) (λ e. cc e)
+
+  -- and so where it leads to the end, and nothing more follows
+  pub whole_to_end : (verbose : Bool) (t : Text) {u : Text} → WholeGap verbose t u → u ≡ []
+      → more ≡ [] → WholeGap verbose (t ++ more) []
+  whole_to_end verbose t whole end none =
+      subst (λ m. WholeGap verbose (t ++ m) []) (sym none)
+      (subst (λ v. WholeGap verbose v []) (sym (append-nil t))
+      (subst (λ v. WholeGap verbose t v) end whole))

@@ -13,6 +13,7 @@ use Rattle.regex_lite_syntax.specs.Grammar.Counted.{WholeSide, Number, EndsNumbe
 use Rattle.regex_lite_syntax.proofs.ListLemmas.{same_head, same_tail}
 use Rattle.regex_lite_syntax.proofs.grammar.GapLemmas.{blank_once, empty_gap, ends_any, gap_once}
 use Rattle.regex_lite_syntax.proofs.grammar.SpacedLemmas.{EndsGaps, printed_ends, whole_gap_leads}
+use Rattle.regex_lite_syntax.proofs.grammar.SpacedLemmas.{spaced_more}
 
 -- WhiteSpace space and sides.
 
@@ -44,7 +45,7 @@ whole_side_once true t u v g h = blank_once t u v g.0 h.0 g.1 h.1
 whole_side_once false t u v g h = white_once t u v g.0 h.0 g.1 h.1
 
 -- a whole side leads where any side leads that ends before what no gap goes on with
-side_leads : (verbose : Bool) (t u v : Text) → WholeSide verbose t u → Side verbose t v
+pub side_leads : (verbose : Bool) (t u v : Text) → WholeSide verbose t u → Side verbose t v
     → EndsGap true v → u ≡ v
 side_leads verbose t u v whole side ends =
     whole_side_once verbose t u v whole (side, ends_side verbose v ends)
@@ -73,7 +74,7 @@ pub digit_bounds : (c : ℕ) → IsTrue (is_digit c) → (0x30 ≤ c) × (c ≤ 
 digit_bounds c digit =
     let bounds = and_parts _ _ digit in (leb-true 0x30 c bounds.0, leb-true c 0x39 bounds.1)
 
-digits_end : EndsGaps is_digit
+pub digits_end : EndsGaps is_digit
 digits_end c t digit =
     let bounds = digit_bounds c digit in
     printed_ends c t (omega (arith, bounds)) (omega (arith, bounds))
@@ -81,15 +82,6 @@ digits_end c t digit =
 -- no digit stands past the gap
 abbrev pub NoDigit : (verbose : Bool) → Text → Type 0
 NoDigit verbose t = (c : ℕ) (rest : Text) → Gap verbose t (c ∷ rest) → IsTrue (is_digit c) → ⊥
-
--- a digit further
-spaced_more : (verbose : Bool) (ds : Text) (c : ℕ) (t u past : Text)
-    → Spaced verbose is_digit ds t u
-    → Gap verbose u (c ∷ past) → IsTrue (is_digit c) → Spaced verbose is_digit (ds ++ c ∷ []) t past
-spaced_more verbose [] c t u past s gap is =
-    (past, subst (λ v. Gap verbose v (c ∷ past)) (sym s) gap, is, refl)
-spaced_more verbose (d ∷ ds) c t u past s gap is =
-    (s.0, s.1, s.2, spaced_more verbose ds c s.0 u past s.3 gap is)
 
 -- digits from one place of which no more can be read begin with those that were read
 spaced_prefix : (verbose : Bool) (ds es t u last : Text) → Spaced verbose is_digit ds t u
@@ -188,7 +180,7 @@ pub digit_read : {verbose : Bool} {read read' n m v : ℕ} {t u past : Text}
     → DigitsRead verbose read' t past m
 digit_read {verbose} {read} {read'} {n} {m} {v} {t} {u} {past} d (c, gap, digit, is) more = record {
   digits = d.digits ++ c ∷ [];
-  written = spaced_more verbose d.digits c t u past d.written gap digit;
+  written = spaced_more verbose is_digit d.digits c t u past d.written gap digit;
   some = λ _. omega (arith, length-append d.digits (c ∷ []));
   value = cc (d.value, is, more, fold-append (λ n d. n * 10 + digit_value d) 0 d.digits (c ∷ []));
 }
@@ -287,10 +279,16 @@ number_once verbose t r s n m p q ends_p ends_q = go p.digits p.some p.written p
         number_only whole read (no_digit_before verbose p.last r p.after ends_p)
         (p.after, ends_side verbose r (ender_ends r ends_p)) q ends_q
 
--- no number stands there where nothing is left past the gap
+-- no number stands there where nothing is left past the side
+pub no_number_at_end : {verbose : Bool} {n : ℕ} {t rest : Text} → WholeSide verbose t []
+    → Number verbose t rest n → ⊥
+no_number_at_end {verbose} {n} {t} {rest} whole p =
+    no_number [] whole
+    (no_digit_past verbose [] [] (empty_gap verbose [], ends_any verbose [] tt)
+    (λ c past here digit. cc here)) p
+
+-- nor where nothing is left past the gap
 pub nothing_left : {verbose : Bool} {n : ℕ} {t rest : Text} → WholeGap verbose t []
     → Number verbose t rest n → ⊥
 nothing_left {verbose} {n} {t} {rest} whole p =
-    no_number [] (side_of verbose t [] whole.0, ends_side verbose [] tt)
-    (no_digit_past verbose [] [] (empty_gap verbose [], ends_any verbose [] tt)
-    (λ c past here digit. cc here)) p
+    no_number_at_end (side_of verbose t [] whole.0, ends_side verbose [] tt) p

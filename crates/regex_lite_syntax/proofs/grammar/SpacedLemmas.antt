@@ -1,6 +1,6 @@
 -- Characters of one kind, each with a gap before it, are read in one way.
 use Rattle.std.proofs.Common.{inl, inr, ◌≡◌, refl, sym, ◌∙◌, subst, ℕ, ◌≤◌, length, Bool}
-use Rattle.std.proofs.Common.{true, false, ◌&&◌, ◌||◌, nat_le, [], ◌∷◌, IsTrue, arith}
+use Rattle.std.proofs.Common.{true, false, ◌&&◌, ◌||◌, nat_le, [], ◌∷◌, ◌++◌, IsTrue, arith}
 use Rattle.std.proofs.lemmas.Bool.{agree_below_at, and_from, and_parts, both_ways}
 use Rattle.std.proofs.lemmas.Bool.{eqb-true, le-leb, leb-true, not_from_false, or_cases}
 use Rattle.regex_lite_syntax.specs.Text.{Text, Begins, the}
@@ -73,7 +73,7 @@ brace_past verbose t u last rest whole ended closes =
 
 -- a gap that ends before `}` and one that ends before a character of another kind do not stand at
 -- one place
-brace_or_other : (verbose : Bool) (kind : ℕ → Bool) (t past rest : Text) (c : ℕ) → EndsGaps kind
+pub brace_or_other : (verbose : Bool) (kind : ℕ → Bool) (t past rest : Text) (c : ℕ) → EndsGaps kind
     → kind (the "}") ≡ false → Gap verbose t (c ∷ past) → IsTrue (kind c)
     → Gap verbose t (the "}" ∷ rest) → ⊥
 brace_or_other verbose kind t past rest c ends other gap is_kind closing =
@@ -139,6 +139,15 @@ pub spaced_before : (verbose : Bool) (kind : ℕ → Bool) (c : ℕ) (cs t u pas
     → Spaced verbose kind (c ∷ cs) t last
 spaced_before verbose kind c cs t u past last whole here is_kind s =
     (past, subst (λ v. Gap verbose t v) here whole.0, is_kind, s)
+
+-- one character more
+pub spaced_more : (verbose : Bool) (kind : ℕ → Bool) (cs : Text) (c : ℕ) (t u past : Text)
+    → Spaced verbose kind cs t u
+    → Gap verbose u (c ∷ past) → IsTrue (kind c) → Spaced verbose kind (cs ++ c ∷ []) t past
+spaced_more verbose kind [] c t u past s gap is =
+    (past, subst (λ v. Gap verbose v (c ∷ past)) (sym s) gap, is, refl)
+spaced_more verbose kind (d ∷ cs) c t u past s gap is =
+    (s.0, s.1, s.2, spaced_more verbose kind cs c s.0 u past s.3 gap is)
 
 pub not_spaced : (verbose : Bool) (kind : ℕ → Bool) (d : ℕ) (ds t u last : Text) → EndsGaps kind
     → WholeGap verbose t u → Lacks kind u → Spaced verbose kind (d ∷ ds) t last → ⊥

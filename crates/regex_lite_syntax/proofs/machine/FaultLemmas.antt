@@ -1,19 +1,24 @@
 -- What the parser has come to says of where the pattern's first fault stands.
-use Rattle.std.proofs.Common.{Option, Some, None, MatchOption, option_to_list}
+use Rattle.std.proofs.Common.{Option, Some, None, MatchOption, option_to_list, option_map, true}
 use Rattle.std.proofs.Common.{inr, ◌≡◌, refl, sym, ◌∙◌, ap, subst, ℕ, ◌+◌, ◌<◌}
 use Rattle.std.proofs.Common.{List, [], ◌∷◌, ◌++◌, map, reverse, length, drop, arith}
-use Rattle.std.proofs.Common.{length-drop}
+use Rattle.std.proofs.Common.{length-drop, false}
 use Rattle.std.proofs.lemmas.List.{length_push}
 use Rattle.regex_lite_syntax.proofs.machine.DepthLemmas.{head_opens}
 use Rattle.regex_lite_syntax.specs.Characters.{AreCharacters}
 use Rattle.regex_lite_syntax.specs.declared.flags.Flags.{Flags}
-use Rattle.regex_lite_syntax.specs.declared.error.ErrorKind.{ErrorKind}
 use Rattle.regex_lite_syntax.specs.declared.error.ErrorKind.TheVariants as kind
-use Rattle.regex_lite_syntax.specs.Refusals.{Refuses}
+use Rattle.regex_lite_syntax.specs.Refusals.{NoReading, Refuses}
+use Rattle.regex_lite_syntax.specs.declared.error.syntax.SyntaxFault.{SyntaxFault}
+use Rattle.regex_lite_syntax.specs.CutShort.{is_cut_short}
+use Rattle.regex_lite_syntax.specs.Errors.{Refusal, kind_of, syntax_error, too_deep}
+use Rattle.regex_lite_syntax.specs.Errors.{too_many_groups, passed_limit, out_of_memory}
+use Rattle.regex_lite_syntax.specs.Errors.{refused_replacement}
 use Rattle.regex_lite_syntax.specs.declared.parse.Parser.{Parser}
+use Rattle.regex_lite_syntax.specs.declared.parse.fault.Stop.{Stop}
 use Rattle.regex_lite_syntax.specs.Text.{Text}
 use Rattle.regex_lite_syntax.specs.FaultPlaces.{IsReadTo, IsStuckAt, IsUnclosedAt, IsFaultAt}
-use Rattle.regex_lite_syntax.specs.FaultPlaces.{IsUntold}
+use Rattle.regex_lite_syntax.specs.FaultPlaces.{IsUntold, BeginsNone}
 use Rattle.std.proofs.Common.{◌≢◌}
 use Rattle.regex_lite_syntax.specs.Grammar.{HasTree}
 use Rattle.regex_lite_syntax.specs.Grammar.Gaps.{Gap, WholeGap}
@@ -25,7 +30,9 @@ use Rattle.regex_lite_syntax.specs.Parser.Machine.{stay}
 use Rattle.regex_lite_syntax.specs.Parser.Starts.{Tracks}
 use Rattle.regex_lite_syntax.specs.Parser.States.{state, StepsTo, CanRead, BeginsTooMany}
 use Rattle.regex_lite_syntax.proofs.ListLemmas.{same_tail}
-use Rattle.regex_lite_syntax.proofs.grammar.GapLemmas.{whole_gap_once}
+use Rattle.regex_lite_syntax.proofs.grammar.GapLemmas.{whole_gap_once, gap_to_end}
+use Rattle.regex_lite_syntax.proofs.grammar.LongerGapLemmas.{whole_longer}
+use Rattle.regex_lite_syntax.proofs.machine.LongerRunLemmas.{leads_longer}
 use Rattle.regex_lite_syntax.proofs.machine.OneStepLemmas.{step_over_gap, step_past_gap}
 use Rattle.regex_lite_syntax.proofs.machine.OneStepLemmas.{leads_step}
 use Rattle.regex_lite_syntax.proofs.machine.ReadOnLemmas.{reads_of, stuck_farthest, unclosed_at}
@@ -217,21 +224,64 @@ end_found flags pattern p t starts outer (Some k) before after c gap is many cas
         let head = ap length (sym u.begins ∙ (head_opens u.head).1) in
         omega (arith, here, head)
 
-pub syntax_says : (k : ErrorKind) (s n g : Type 0) → k ≡ kind.Syntax → Refuses k s n g → s
-syntax_says k s n g e says = subst (λ j. Refuses j s n g) e says
+none_before : (t more : Text) → t ++ more ≡ [] → t ≡ []
+none_before [] more e = refl
+none_before (c ∷ t) more e = absurd (cc e)
 
--- what a refusal says that is no syntax fault
+-- where nothing can be read, whatever follows, no accepted pattern begins with this one
+pub stuck_for_good : (flags : Flags) (pattern : Text) (p : Parser) (t u : Text) (starts : List ℕ)
+    → Comes flags pattern p t starts → WholeGap p.here.flags.ignore_whitespace t u
+    → (u ≡ [] → ⊥) → ((more : Text) → CanRead p (u ++ more) → ⊥) → BeginsNone flags pattern
+unfolding state
+stuck_for_good flags pattern p t u starts c whole some stuck more has =
+    let verbose = p.here.flags.ignore_whitespace in
+    let longer = whole_longer more verbose t u whole some in
+    let comes : Reaches flags c.deepest (pattern ++ more) p (t ++ more) = record {
+      deepest = c.deepest;
+      leads = leads_longer more c.leads (λ gap. some (gap_to_end verbose t u whole gap));
+      within = omega arith;
+      differ = c.differ;
+      characters = has.1.2.characters;
+    } in
+    stuck_refused flags c.deepest (pattern ++ more) p (t ++ more) (u ++ more) comes longer
+    (λ e. some (none_before u more e)) (stuck more) has
+
+-- what a refusal says that is a syntax fault
+pub syntax_says : (e : Refusal) (fault : SyntaxFault) (s : SyntaxFault → Type 0) (n g : Type 0)
+    → e ≡ syntax_error fault → Refuses e s n g → s fault
+syntax_says e fault s n g is says = subst (λ x. Refuses x s n g) is says
+
+-- what is said of a longer pattern by a refusal to read on that doesn't come from the pattern's end
+pub says_for_good : (flags : Flags) (pattern : Text) (p : Parser) (t u : Text) (starts : List ℕ)
+    (e : Refusal) (fault : SyntaxFault)
+    → Comes flags pattern p t starts → WholeGap p.here.flags.ignore_whitespace t u
+    → (u ≡ [] → ⊥) → Refuses e (λ f. NoReading f (CanRead p) u) ⊥ (BeginsTooMany p u)
+    → e ≡ syntax_error fault → is_cut_short fault ≡ false → BeginsNone flags pattern
+says_for_good flags pattern p t u starts e fault c whole some says is whole_fault =
+    stuck_for_good flags pattern p t u starts c whole some
+    (λ more. syntax_says e fault _ _ _ is says more (λ short. cc (whole_fault, short)))
+
+-- what a refusal says that is none
 pub other_says : (flags : Flags) (pattern : Text) (p : Parser) (t u : Text) (starts : List ℕ)
-    (k : ErrorKind) → Comes flags pattern p t starts → WholeGap p.here.flags.ignore_whitespace t u
-    → k ≢ kind.Syntax → Refuses k (¬ CanRead p u) ⊥ (BeginsTooMany p u)
-    → IsUntold flags pattern k
-other_says flags pattern p t u starts kind.Syntax c whole other says = absurd (other refl)
-other_says flags pattern p t u starts kind.Groups c whole other says =
+    (e : Refusal) → Comes flags pattern p t starts → WholeGap p.here.flags.ignore_whitespace t u
+    → kind_of e ≢ kind.Syntax
+    → Refuses e (λ fault. NoReading fault (CanRead p) u) ⊥ (BeginsTooMany p u)
+    → IsUntold flags pattern (kind_of e)
+other_says flags pattern p t u starts (syntax_error fault) c whole other says = absurd (other refl)
+other_says flags pattern p t u starts too_many_groups c whole other says =
     number_refused flags c.deepest pattern p t u (reaches_as flags pattern p t starts c) whole
     says.0 says.1
-other_says flags pattern p t u starts kind.Memory c whole other says = tt
-other_says flags pattern p t u starts kind.Nesting c whole other says = absurd says
-other_says flags pattern p t u starts kind.Size c whole other says = absurd says
-other_says flags pattern p t u starts kind.Places c whole other says = absurd says
-other_says flags pattern p t u starts kind.Slots c whole other says = absurd says
-other_says flags pattern p t u starts kind.Replace c whole other says = absurd says
+other_says flags pattern p t u starts out_of_memory c whole other says = tt
+other_says flags pattern p t u starts too_deep c whole other says = absurd says
+other_says flags pattern p t u starts (passed_limit limit) c whole other says = absurd says
+other_says flags pattern p t u starts refused_replacement c whole other says = absurd says
+
+-- what is said of the start of the group that is open there is said of the stop
+pub stop_found : (flags : Flags) (pattern : Text) (last : Option ℕ)
+    → MatchOption last (HasTree flags pattern)
+    (λ k. IsFaultAt flags pattern k × (HasTree flags pattern → ⊥))
+    → MatchOption (option_map (λ k. record { start = k; is_cut_short = true }) last)
+    (HasTree flags pattern)
+    (λ (stop : Stop). IsFaultAt flags pattern stop.start × (HasTree flags pattern → ⊥))
+stop_found flags pattern None found = found
+stop_found flags pattern (Some k) found = found

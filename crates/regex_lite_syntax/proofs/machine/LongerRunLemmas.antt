@@ -5,24 +5,22 @@ use Rattle.regex_lite_syntax.specs.declared.flags.Flags.{Flags}
 use Rattle.regex_lite_syntax.specs.Text.{Text}
 use Rattle.regex_lite_syntax.specs.Tree.{Tree}
 use Rattle.regex_lite_syntax.specs.FaultPlaces.{IsReadTo}
-use Rattle.regex_lite_syntax.specs.Grammar.{HasTree}
 use Rattle.regex_lite_syntax.specs.Grammar.Atoms.{AtomKind, single, escape, bracketed}
 use Rattle.regex_lite_syntax.specs.Grammar.Atoms.{no_atom, atom_kind, AtomFrom, Atom}
 use Rattle.regex_lite_syntax.specs.Grammar.Points.{Point, start}
-use Rattle.regex_lite_syntax.specs.Parser.Machine.{State, first_state, opened, closed, parted}
+use Rattle.regex_lite_syntax.specs.Parser.Machine.{State, opened, closed, parted}
 use Rattle.regex_lite_syntax.specs.Parser.Machine.{with_items, Kind, stop, paren, closing, bar}
 use Rattle.regex_lite_syntax.specs.Parser.Machine.{operator, atom, kind_at, Does, Step}
 use Rattle.regex_lite_syntax.specs.Parser.Machine.{LeadsOn, stay, go}
 use Rattle.regex_lite_syntax.proofs.grammar.LongerClassLemmas.{class_longer}
 use Rattle.regex_lite_syntax.proofs.grammar.LongerEscapeLemmas.{escape_longer}
-use Rattle.regex_lite_syntax.proofs.grammar.LongerGapLemmas.{GoesOn, some_left, goes_on_longer}
+use Rattle.regex_lite_syntax.proofs.grammar.LongerGapLemmas.{GoesOn, some_left}
 use Rattle.regex_lite_syntax.proofs.grammar.LongerGapLemmas.{whole_longer}
 use Rattle.regex_lite_syntax.proofs.grammar.LongerHeadLemmas.{longer, operator_longer}
 use Rattle.regex_lite_syntax.proofs.grammar.LongerHeadLemmas.{head_longer, directive_longer}
 use Rattle.regex_lite_syntax.proofs.machine.OneStepLemmas.{at_end}
 use Rattle.regex_lite_syntax.proofs.machine.ReadOnLemmas.{runs_of, reads_of}
 use Rattle.regex_lite_syntax.proofs.machine.SoundLemmas.{leads_keeps, stands_first}
-use Rattle.regex_lite_syntax.proofs.machine.WholeLemmas.{refuses}
 
 module _ (more : Text) where
   atom_from : (k : AtomKind) (flags : Flags) (t past rest : Text) (a : Tree)
@@ -135,13 +133,3 @@ read_longer flags pattern more q read goes =
     let begin = start flags (pattern ++ more) in
     let on = leads_keeps begin _ _ l [] (stands_first flags (pattern ++ more)) in
     record { level = _; reads = reads_of begin on.0 _ on.1; names_differ = read.names_differ }
-
--- so a state with no step of any longer pattern refuses them all
-pub refuses_longer : (flags : Flags) (pattern more : Text) (s : State)
-    → LeadsOn (first_state flags pattern) s
-    → GoesOn s.point.flags.ignore_whitespace s.point.rest
-    → ((q : State) → Step (longer_state more s) q → ⊥)
-    → HasTree flags (pattern ++ more) → ⊥
-refuses_longer flags pattern more s l goes stuck =
-    refuses flags (pattern ++ more) (longer_state more s) (leads_longer more l goes) stuck
-    (λ _ gap. goes_on_longer more s.point.flags.ignore_whitespace s.point.rest goes gap)

@@ -1,10 +1,14 @@
 -- What the parser reads of a group's head is a step of the machine, and where it refuses there is
 -- none.
 use Rattle.std.proofs.Common.{List, inl, inr, ◌≡◌, ◌≢◌, refl, sym, ◌∙◌, ap, subst}
-use Rattle.std.proofs.Common.{◌+◌, [], ◌∷◌, ◌++◌, Some, None, Contains, length}
+use Rattle.std.proofs.Common.{◌+◌, [], ◌∷◌, ◌++◌, Some, None, Contains, length, Bool, IsTrue}
 use Rattle.std.specs.Prelude.{max as greatest}
 use Rattle.regex_lite_syntax.specs.declared.flags.Flags.{Flags}
+use Rattle.regex_lite_syntax.specs.declared.error.syntax.SyntaxFault.{SyntaxFault}
 use Rattle.regex_lite_syntax.specs.declared.parse.Parser.{Parser}
+use Rattle.regex_lite_syntax.specs.CutShort.{is_cut_short}
+use Rattle.regex_lite_syntax.specs.Refusals.{NoReading}
+use Rattle.regex_lite_syntax.specs.Parser.NameOpenings.{EndsInOpening, Unnamed}
 use Rattle.regex_lite_syntax.specs.Text.{Text, Begins, the}
 use Rattle.regex_lite_syntax.specs.Grammar.Gaps.{Gap, WholeGap}
 use Rattle.regex_lite_syntax.specs.Grammar.FlagLetters.{FlagLetters}
@@ -17,6 +21,9 @@ use Rattle.regex_lite_syntax.specs.Parser.States.{state, StepsTo, CanRead, Begin
 use Rattle.regex_lite_syntax.specs.Parser.States.{OpensGroup, OpensCapture, Directs}
 use Rattle.regex_lite_syntax.proofs.grammar.NameLemmas.{differ_more, no_second}
 use Rattle.regex_lite_syntax.proofs.grammar.HeadLemmas.{numbered_head, named_head}
+use Rattle.regex_lite_syntax.proofs.grammar.NameOpeningLemmas.{opening_question}
+use Rattle.regex_lite_syntax.proofs.grammar.LongerGapLemmas.{whole_longer}
+use Rattle.regex_lite_syntax.proofs.grammar.LongerHeadLemmas.{opening_longer, named_longer}
 use Rattle.regex_lite_syntax.proofs.machine.OneStepLemmas.{step_once}
 use Rattle.regex_lite_syntax.proofs.machine.StepLemmas.{at_once, step_open, step_named}
 use Rattle.regex_lite_syntax.proofs.machine.StepLemmas.{step_direct, no_flags, no_name, no_empty}
@@ -105,48 +112,83 @@ begins_named p t begun first rest name e whole named = (
       (_, named_head (length s.frames) s.point begun first rest name e whole.0 named),
 )
 
+-- before a `?`, and so before what opens a name, the gap of a longer text ends too
+longer_question : (more : Text) (verbose : Bool) (begun u first : Text)
+    → WholeGap verbose begun u → u ≡ the "?" ∷ first
+    → WholeGap verbose (begun ++ more) (the "?" ∷ (first ++ more))
+longer_question more verbose begun u first whole e =
+    whole_longer more verbose begun (the "?" ∷ first)
+    (subst (λ v. WholeGap verbose begun v) e whole) (λ none. cc none)
+
+longer_whole : (more : Text) (verbose : Bool) (begun u past : Text) → WholeGap verbose begun u
+    → NameOpening u past → WholeGap verbose (begun ++ more) (u ++ more)
+longer_whole more verbose begun u past whole opens =
+    let question = opening_question u past opens in
+    whole_longer more verbose begun u whole (λ none. cc (none, question.1))
+
 -- where a name is opened and none follows, nothing can be read
-pub reads_no_name : (p : Parser) (t begun first past : Text) → t ≡ the "(" ∷ begun
-    → WholeGap p.here.flags.ignore_whitespace begun first → NameOpening first past
-    → ((rest name : Text) → NameWritten past rest name → ⊥) → CanRead p t → ⊥
+pub reads_no_name : (fault : SyntaxFault) (p : Parser) (t begun first past : Text)
+    → t ≡ the "(" ∷ begun → WholeGap p.here.flags.ignore_whitespace begun first
+    → NameOpening first past
+    → NoReading fault (λ u. (rest : Text) × (name : Text) × NameWritten u rest name) past
+    → NoReading fault (CanRead p) t
 unfolding state
-reads_no_name p t begun first past e whole opens none can =
-    let s = state p t can.0 in
-    no_name s can.1 s.point begun first past (at_once s.point) e whole opens none can.2
+reads_no_name fault p t begun first past e whole opens none more follows can =
+    let s = state p (t ++ more) can.0 in
+    let verbose = s.point.flags.ignore_whitespace in
+    no_name s can.1 s.point (begun ++ more) (first ++ more) (past ++ more) (at_once s.point)
+    (ap (λ u. u ++ more) e) (longer_whole more verbose begun first past whole opens)
+    (opening_longer more opens)
+    (λ rest name written. none more follows (rest, name, written)) can.2
 
 -- nor where the name stands that another group has
-pub reads_no_second : (p : Parser) (t begun first rest name : Text) → t ≡ the "(" ∷ begun
-    → WholeGap p.here.flags.ignore_whitespace begun first → Named first rest name
-    → Contains p.names name → CanRead p t → ⊥
+pub reads_no_second : (fault : SyntaxFault) (p : Parser) (t begun first rest name : Text)
+    → t ≡ the "(" ∷ begun → WholeGap p.here.flags.ignore_whitespace begun first
+    → Named first rest name → Contains p.names name → NoReading fault (CanRead p) t
 unfolding state opened
-reads_no_second p t begun first rest name e whole named twice can =
-    let s = state p t can.0 in
-    let st = step_named s s.point begun first rest name (at_once s.point) e whole.0 named in
+reads_no_second fault p t begun first rest name e whole named twice more follows can =
+    let s = state p (t ++ more) can.0 in
+    let verbose = s.point.flags.ignore_whitespace in
+    let gap = (longer_whole more verbose begun first named.past whole named.opens).0 in
+    let st =
+    step_named s s.point (begun ++ more) (first ++ more) (rest ++ more) name (at_once s.point)
+    (ap (λ u. u ++ more) e) gap (named_longer more named) in
     let same = step_once s can.1 _ can.2 st in
     no_second s.point.names name twice
     (subst (λ names. NamesDiffer names) (ap (λ (x : State). x.point.names) same) can.3)
 
 -- nor where past the `?` no name stands and no flags do
-pub reads_no_flags : (p : Parser) (t begun u first : Text) → t ≡ the "(" ∷ begun
-    → WholeGap p.here.flags.ignore_whitespace begun u → u ≡ the "?" ∷ first
-    → ((rest name : Text) → Named u rest name → ⊥)
-    → ((rest : Text) (new : Flags) → EndedFlags p.here.flags first rest new → ⊥) → CanRead p t → ⊥
+pub reads_no_flags : (fault : SyntaxFault) (p : Parser) (t begun u first : Text)
+    → t ≡ the "(" ∷ begun → WholeGap p.here.flags.ignore_whitespace begun u → u ≡ the "?" ∷ first
+    → Unnamed u → (EndsInOpening (the "?" ∷ first) → IsTrue (is_cut_short fault))
+    → NoReading fault
+    (λ v. (rest : Text) × (new : Flags) × EndedFlags p.here.flags v rest new) first
+    → NoReading fault (CanRead p) t
 unfolding state
-reads_no_flags p t begun u first e whole begins unnamed none can =
-    let s = state p t can.0 in
-    let gap = subst (λ v. WholeGap p.here.flags.ignore_whitespace begun v) begins whole in
-    no_flags s can.1 s.point begun first (at_once s.point) e gap
-    (λ rest name named. unnamed rest name (subst (λ v. Named v rest name) (sym begins) named))
-    (λ rest new letters. none (the ":" ∷ rest) new (record { letters = letters; ends = inl refl }))
-    (λ rest new letters. none (the ")" ∷ rest) new (record { letters = letters; ends = inr refl }))
+reads_no_flags fault p t begun u first e whole begins unnamed cut_short none more follows can =
+    let s = state p (t ++ more) can.0 in
+    let verbose = s.point.flags.ignore_whitespace in
+    let mends : EndsInOpening u → more ≡ [] =
+    λ inside. follows (cut_short (subst (λ v. EndsInOpening v) begins inside)) in
+    let same = ap (λ v. v ++ more) begins in
+    no_flags s can.1 s.point (begun ++ more) (first ++ more) (at_once s.point)
+    (ap (λ v. v ++ more) e) (longer_question more verbose begun u first whole begins)
+    (λ rest name named.
+    unnamed more rest name mends (subst (λ v. Named v rest name) (sym same) named))
+    (λ rest new letters.
+    none more follows (the ":" ∷ rest, new, record { letters = letters; ends = inl refl }))
+    (λ rest new letters.
+    none more follows (the ")" ∷ rest, new, record { letters = letters; ends = inr refl }))
     can.2
 
 -- nor where nothing stands there
-pub reads_no_empty : (p : Parser) (t begun u rest : Text) → t ≡ the "(" ∷ begun
-    → WholeGap p.here.flags.ignore_whitespace begun u → u ≡ the "?" ∷ the ")" ∷ rest
-    → CanRead p t → ⊥
+pub reads_no_empty : (fault : SyntaxFault) (p : Parser) (t begun u rest : Text)
+    → t ≡ the "(" ∷ begun → WholeGap p.here.flags.ignore_whitespace begun u
+    → u ≡ the "?" ∷ the ")" ∷ rest → NoReading fault (CanRead p) t
 unfolding state
-reads_no_empty p t begun u rest e whole begins can =
-    let s = state p t can.0 in
-    let gap = subst (λ v. WholeGap p.here.flags.ignore_whitespace begun v) begins whole in
-    no_empty s can.1 s.point begun rest (at_once s.point) e gap can.2
+reads_no_empty fault p t begun u rest e whole begins more follows can =
+    let s = state p (t ++ more) can.0 in
+    let verbose = s.point.flags.ignore_whitespace in
+    no_empty s can.1 s.point (begun ++ more) (rest ++ more) (at_once s.point)
+    (ap (λ v. v ++ more) e) (longer_question more verbose begun u (the ")" ∷ rest) whole begins)
+    can.2

@@ -1,5 +1,5 @@
 -- What the parser reads is a step of the machine, and where it refuses there is none.
-use Rattle.std.proofs.Common.{◌≡◌, refl, sym, ◌∙◌, ap, subst, ℕ, Bool, List}
+use Rattle.std.proofs.Common.{◌≡◌, refl, sym, ◌∙◌, ap, subst, ℕ, Bool, true, false, List}
 use Rattle.std.proofs.Common.{[], ◌∷◌, ◌++◌, Option, Some, map, reverse}
 use Rattle.regex_lite_syntax.specs.declared.parse.Parser.{Parser}
 use Rattle.regex_lite_syntax.specs.Text.{Text, the}
@@ -17,7 +17,7 @@ use Rattle.regex_lite_syntax.specs.Parser.States.{CanRead, Closes, EndsBranch, A
 use Rattle.regex_lite_syntax.proofs.machine.StepLemmas.{at_once, step_close, step_part}
 use Rattle.regex_lite_syntax.proofs.machine.StepLemmas.{step_operate, step_atom, no_close}
 use Rattle.regex_lite_syntax.proofs.machine.StepLemmas.{no_operand, no_counted_operand}
-use Rattle.regex_lite_syntax.proofs.machine.StepLemmas.{no_counts, no_item}
+use Rattle.regex_lite_syntax.proofs.machine.StepLemmas.{no_counts, some_item}
 
 -- a step that adds no name
 pub fresh_step : {s q x : State} → Step s x → q ≡ x → x.point.names ≡ s.point.names → FreshStep s q
@@ -98,10 +98,23 @@ reads_atom p q t rest a d adds n =
     let s = state p t n in
     (n, fresh_step (step_atom s s.point rest a (at_once s.point) d) (adds t rest n) refl)
 
-pub reads_no_atom : (p : Parser) (t : Text) → EndsGap p.here.flags.ignore_whitespace t
+still_ends : (verbose : Bool) (t more : Text) → EndsGap verbose t → BeginsAtom t
+    → EndsGap verbose (t ++ more)
+still_ends true [] more ends begins = cc
+still_ends true (c ∷ t) more ends begins = ends
+still_ends false t more ends begins = tt
+
+still_begins : (t more : Text) → BeginsAtom t → BeginsAtom (t ++ more)
+still_begins [] more begins = cc
+still_begins (c ∷ t) more begins = begins
+
+-- where an item has to begin, a step in a longer text is one that reads an item
+pub reads_item : (p : Parser) (t more : Text) → EndsGap p.here.flags.ignore_whitespace t
     → BeginsAtom t
-    → ((rest : Text) (a : Tree) → Atom p.here.flags t rest a → ⊥) → CanRead p t → ⊥
+    → CanRead p (t ++ more) → (rest : Text) × (a : Tree) × Atom p.here.flags (t ++ more) rest a
 unfolding state
-reads_no_atom p t ends begins none can =
-    let s = state p t can.0 in
-    no_item s can.1 s.point (at_once s.point) ends begins none can.2
+reads_item p t more ends begins can =
+    let s = state p (t ++ more) can.0 in
+    some_item s can.1 s.point (at_once s.point)
+    (still_ends p.here.flags.ignore_whitespace t more ends begins) (still_begins t more begins)
+    can.2

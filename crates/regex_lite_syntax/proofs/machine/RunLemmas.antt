@@ -4,10 +4,11 @@ use Rattle.std.proofs.Common.{◌^◌, ◌<◌, ◌≤◌, List, [], map, revers
 use Rattle.std.proofs.lemmas.List.{length-reverse, length-map}
 use Rattle.regex_lite_syntax.specs.Characters.{AreCharacters}
 use Rattle.regex_lite_syntax.specs.declared.flags.Flags.{Flags}
-use Rattle.regex_lite_syntax.specs.declared.error.ErrorKind.{ErrorKind}
-use Rattle.regex_lite_syntax.specs.declared.error.ErrorKind.TheVariants as kind
 use Rattle.regex_lite_syntax.specs.declared.parse.Parser.{Parser}
-use Rattle.regex_lite_syntax.specs.Refusals.{Refuses}
+use Rattle.regex_lite_syntax.specs.Errors.{Refusal, syntax_error, too_deep, too_many_groups}
+use Rattle.regex_lite_syntax.specs.Errors.{passed_limit, out_of_memory, refused_replacement}
+use Rattle.regex_lite_syntax.specs.Errors.{kind_of}
+use Rattle.regex_lite_syntax.specs.Refusals.{NoReading, Refuses}
 use Rattle.regex_lite_syntax.specs.Text.{Text}
 use Rattle.regex_lite_syntax.specs.Grammar.Gaps.{Gap, WholeGap}
 use Rattle.regex_lite_syntax.specs.Tree.{Tree}
@@ -20,6 +21,7 @@ use Rattle.regex_lite_syntax.specs.Parser.Machine.{LeadsOn, first_state}
 use Rattle.regex_lite_syntax.specs.Parser.States.{frame_of, state, StepsTo, CanRead, BeginsCapture}
 use Rattle.regex_lite_syntax.specs.Parser.States.{BeginsTooMany, Finishes, FinishesTooDeep}
 use Rattle.regex_lite_syntax.proofs.grammar.GapLemmas.{gap_to_end}
+use Rattle.regex_lite_syntax.proofs.parse.DenialLemmas.{none_now}
 use Rattle.regex_lite_syntax.proofs.machine.OneStepLemmas.{step_over_gap, step_past_gap}
 use Rattle.regex_lite_syntax.proofs.machine.OneStepLemmas.{at_end, leads_step}
 use Rattle.regex_lite_syntax.proofs.machine.StateLemmas.{none_left}
@@ -63,12 +65,12 @@ reaches_next flags nest_limit pattern p q t u v r whole reads shallow =
     }
 
 -- where more groups are open than the limit
-pub too_deep : (flags : Flags) (nest_limit : ℕ) (pattern : Text) (p q : Parser) (t u v : Text)
+pub open_too_deep : (flags : Flags) (nest_limit : ℕ) (pattern : Text) (p q : Parser) (t u v : Text)
     → Reaches flags nest_limit pattern p t → WholeGap p.here.flags.ignore_whitespace t u
     → StepsTo p q u v
     → nest_limit < length q.below.items → NestingRefused flags nest_limit pattern
 unfolding state
-too_deep flags nest_limit pattern p q t u v r whole reads deep =
+open_too_deep flags nest_limit pattern p q t u v r whole reads deep =
     let next = reads r.deepest in
     let st = step_over_gap (state p t r.deepest) (state q v next.0) u whole next.1.0 in
     let l = leads_step r.leads st in
@@ -134,21 +136,19 @@ tree_refused flags nest_limit pattern a groups deepest g deep = record {
 }
 
 pub end_says : (flags : Flags) (nest_limit : ℕ) (pattern : Text) (p : Parser) (t : Text)
-    (k : ErrorKind)
+    (e : Refusal)
     → Reaches flags nest_limit pattern p t → Gap p.here.flags.ignore_whitespace t []
-    → Refuses k (p.below.items ≢ []) (FinishesTooDeep p nest_limit) ⊥
-    → IsDueToPattern flags nest_limit pattern k
-end_says flags nest_limit pattern p t kind.Syntax r gap d =
+    → Refuses e (λ _. p.below.items ≢ []) (FinishesTooDeep p nest_limit) ⊥
+    → IsDueToPattern flags nest_limit pattern (kind_of e)
+end_says flags nest_limit pattern p t (syntax_error fault) r gap d =
     open_refused flags nest_limit pattern p t r gap d
-end_says flags nest_limit pattern p t kind.Nesting r gap d =
+end_says flags nest_limit pattern p t too_deep r gap d =
     let g = reaches_tree flags nest_limit pattern p t d.0 r gap d.1 in
     tree_refused flags nest_limit pattern d.0 p.groups r.deepest g d.2
-end_says flags nest_limit pattern p t kind.Memory r gap d = tt
-end_says flags nest_limit pattern p t kind.Groups r gap d = absurd d
-end_says flags nest_limit pattern p t kind.Size r gap d = absurd d
-end_says flags nest_limit pattern p t kind.Places r gap d = absurd d
-end_says flags nest_limit pattern p t kind.Slots r gap d = absurd d
-end_says flags nest_limit pattern p t kind.Replace r gap d = absurd d
+end_says flags nest_limit pattern p t out_of_memory r gap d = tt
+end_says flags nest_limit pattern p t too_many_groups r gap d = absurd d
+end_says flags nest_limit pattern p t (passed_limit limit) r gap d = absurd d
+end_says flags nest_limit pattern p t refused_replacement r gap d = absurd d
 
 -- before the end with nothing to be read, there is no tree either
 pub stuck_refused : (flags : Flags) (nest_limit : ℕ) (pattern : Text) (p : Parser) (t u : Text)
@@ -187,17 +187,16 @@ number_refused flags nest_limit pattern p t u r whole many capture =
     }
 
 pub step_says : (flags : Flags) (nest_limit : ℕ) (pattern : Text) (p : Parser) (t u : Text)
-    (k : ErrorKind)
+    (e : Refusal)
     → Reaches flags nest_limit pattern p t → WholeGap p.here.flags.ignore_whitespace t u
     → (u ≡ [] → ⊥)
-    → Refuses k (¬ CanRead p u) ⊥ (BeginsTooMany p u) → IsDueToPattern flags nest_limit pattern k
-step_says flags nest_limit pattern p t u kind.Syntax r whole more d =
-    stuck_refused flags nest_limit pattern p t u r whole more d
-step_says flags nest_limit pattern p t u kind.Groups r whole more d =
+    → Refuses e (λ fault. NoReading fault (CanRead p) u) ⊥ (BeginsTooMany p u)
+    → IsDueToPattern flags nest_limit pattern (kind_of e)
+step_says flags nest_limit pattern p t u (syntax_error fault) r whole more d =
+    stuck_refused flags nest_limit pattern p t u r whole more (none_now fault (CanRead p) u d)
+step_says flags nest_limit pattern p t u too_many_groups r whole more d =
     number_refused flags nest_limit pattern p t u r whole d.0 d.1
-step_says flags nest_limit pattern p t u kind.Memory r whole more d = tt
-step_says flags nest_limit pattern p t u kind.Nesting r whole more d = absurd d
-step_says flags nest_limit pattern p t u kind.Size r whole more d = absurd d
-step_says flags nest_limit pattern p t u kind.Places r whole more d = absurd d
-step_says flags nest_limit pattern p t u kind.Slots r whole more d = absurd d
-step_says flags nest_limit pattern p t u kind.Replace r whole more d = absurd d
+step_says flags nest_limit pattern p t u out_of_memory r whole more d = tt
+step_says flags nest_limit pattern p t u too_deep r whole more d = absurd d
+step_says flags nest_limit pattern p t u (passed_limit limit) r whole more d = absurd d
+step_says flags nest_limit pattern p t u refused_replacement r whole more d = absurd d

@@ -208,11 +208,11 @@ no_counts s q here rest past e none st =
     let counts = counts_of here.flags here.rest rest d.0 d.3 d.4 d.5 e d.7 in
     none counts.0 d.3 d.4 counts.1
 
--- nor where an item would have to begin and none does
-pub no_item : (s q : State) (here : Point) → PastGap s.point here
+-- where an item would have to begin, one does
+pub some_item : (s q : State) (here : Point) → PastGap s.point here
     → EndsGap here.flags.ignore_whitespace here.rest
-    → kind_at here.rest ≡ atom → ((rest : Text) (a : Tree) → Atom here.flags here.rest rest a → ⊥)
-    → Step s q → ⊥
-no_item s q here past ends kind none st =
+    → kind_at here.rest ≡ atom → Step s q
+    → (rest : Text) × (a : Tree) × Atom here.flags here.rest rest a
+some_item s q here past ends kind st =
     let d = does_by atom s here q past (record { ends = ends; kind_is = kind }) st in
-    none d.0 d.1 d.2
+    (d.0, d.1, d.2)

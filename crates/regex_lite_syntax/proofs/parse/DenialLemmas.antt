@@ -1,51 +1,69 @@
 -- What the refusal of one reading says of another.
-use Rattle.std.proofs.Common.{◌+◌, Result, OnErr}
-use Rattle.std.proofs.lemmas.Result.{on_err_weaker}
-use Rattle.regex_lite_syntax.specs.declared.error.Error.{Error}
-use Rattle.regex_lite_syntax.specs.declared.error.ErrorKind.{ErrorKind}
-use Rattle.regex_lite_syntax.specs.declared.error.ErrorKind.TheVariants as kind
+use Rattle.std.proofs.Common.{refl, sym, subst, ◌+◌, ◌++◌, [], IsTrue, Result, Ok, Err, IfErr}
+use Rattle.std.proofs.lemmas.List.{append-nil}
+use Rattle.regex_lite_syntax.specs.declared.error.syntax.SyntaxFault.{SyntaxFault}
 use Rattle.regex_lite_syntax.specs.declared.parse.Parser.{Parser}
 use Rattle.regex_lite_syntax.specs.Text.{Text}
-use Rattle.regex_lite_syntax.specs.Errors.{kind_of}
+use Rattle.regex_lite_syntax.specs.CutShort.{is_cut_short}
+use Rattle.regex_lite_syntax.specs.Errors.{Refusal, syntax_error, too_deep, too_many_groups}
+use Rattle.regex_lite_syntax.specs.Errors.{passed_limit, out_of_memory, refused_replacement}
 use Rattle.regex_lite_syntax.specs.Limits.{PassesGroups}
-use Rattle.regex_lite_syntax.specs.Refusals.{Refuses, Denies}
+use Rattle.regex_lite_syntax.specs.Refusals.{NoReading, Refuses, Denies}
 use Rattle.regex_lite_syntax.specs.Parser.States.{CanRead, BeginsCapture, BeginsTooMany}
 
--- a refusal that says the one says what follows from it
-pub refuses_more : (k : ErrorKind) (s n g s' n' g' : Type 0) → (s → s') → (n → n') → (g → g')
-    → Refuses k s n g
-    → Refuses k s' n' g'
-refuses_more kind.Syntax s n g s' n' g' of_s of_n of_g says = of_s says
-refuses_more kind.Nesting s n g s' n' g' of_s of_n of_g says = of_n says
-refuses_more kind.Groups s n g s' n' g' of_s of_n of_g says = of_g says
-refuses_more kind.Memory s n g s' n' g' of_s of_n of_g says = tt
-refuses_more kind.Size s n g s' n' g' of_s of_n of_g says = absurd says
-refuses_more kind.Places s n g s' n' g' of_s of_n of_g says = absurd says
-refuses_more kind.Slots s n g s' n' g' of_s of_n of_g says = absurd says
-refuses_more kind.Replace s n g s' n' g' of_s of_n of_g says = absurd says
+-- the text itself has no such reading
+pub none_now : (fault : SyntaxFault) (R : Text → Type 0) (t : Text) → NoReading fault R t → R t → ⊥
+none_now fault R t none r = none [] (λ short. refl) (subst R (sym (append-nil t)) r)
 
--- what denies a reading refuses what the reading is needed for
-pub denial_refuses : (e : Error) (reading s n g : Type 0) → ((reading → ⊥) → s) → Denies e reading
-    → Refuses (kind_of e) s n g
-denial_refuses e reading s n g of_none denied =
-    refuses_more (kind_of e) (reading → ⊥) ⊥ ⊥ s n g of_none (λ none. absurd none)
+-- and if the pattern is cut short, no more is said
+pub none_at_end : (fault : SyntaxFault) (R : Text → Type 0) (t : Text)
+    → IsTrue (is_cut_short fault) → (R t → ⊥) → NoReading fault R t
+none_at_end fault R t short none more follows r =
+    none (subst R (append-nil t) (subst (λ m. R (t ++ m)) (follows short) r))
+
+-- where each reading of the one text gives one of the other, the other's refusal is its own
+pub none_of_other : (fault : SyntaxFault) (R S : Text → Type 0) (t u : Text)
+    → ((more : Text) → R (t ++ more) → S (u ++ more)) → NoReading fault S u → NoReading fault R t
+none_of_other fault R S t u gives none more follows r = none more follows (gives more r)
+
+-- the same where a pure reader refuses
+pub none_of_part : {T : Type 0} (r : Result T SyntaxFault) (R S : Text → Type 0) (t u : Text)
+    → ((more : Text) → R (t ++ more) → S (u ++ more))
+    → IfErr r (λ fault. NoReading fault S u) → IfErr r (λ fault. NoReading fault R t)
+none_of_part (Ok v) R S t u gives none = tt
+none_of_part (Err fault) R S t u gives none = none_of_other fault R S t u gives none
+
+-- a refusal that says the one says what follows from it
+pub refuses_more : (e : Refusal) (s s' : SyntaxFault → Type 0) (n g n' g' : Type 0)
+    → ((fault : SyntaxFault) → s fault → s' fault) → (n → n') → (g → g')
+    → Refuses e s n g
+    → Refuses e s' n' g'
+refuses_more (syntax_error fault) s s' n g n' g' of_s of_n of_g says = of_s fault says
+refuses_more too_deep s s' n g n' g' of_s of_n of_g says = of_n says
+refuses_more too_many_groups s s' n g n' g' of_s of_n of_g says = of_g says
+refuses_more out_of_memory s s' n g n' g' of_s of_n of_g says = tt
+refuses_more (passed_limit limit) s s' n g n' g' of_s of_n of_g says = absurd says
+refuses_more refused_replacement s s' n g n' g' of_s of_n of_g says = absurd says
+
+-- what denies a reading of the one text refuses what needs a reading of it
+pub denial_refuses : (e : Refusal) (R S : Text → Type 0) (t u : Text) (n g : Type 0)
+    → ((more : Text) → S (u ++ more) → R (t ++ more)) → Denies e R t
+    → Refuses e (λ fault. NoReading fault S u) n g
+denial_refuses e R S t u n g gives denied =
+    refuses_more e (λ fault. NoReading fault R t) (λ fault. NoReading fault S u) ⊥ ⊥ n g
+    (λ fault. none_of_other fault S R u t gives) (λ none. absurd none)
     (λ none. absurd none) denied
 
 -- what denies the one reading denies each that would give it
-pub denies_part : (e : Error) (whole part : Type 0) → (part → whole) → Denies e whole
-    → Denies e part
-denies_part e whole part whole_of denied =
-    denial_refuses e whole (part → ⊥) ⊥ ⊥ (λ none p. none (whole_of p)) denied
-
--- the same where a pure reader refuses
-pub none_of_part : {T E whole part : Type 0} (r : Result T E) → (part → whole) → OnErr r (¬ whole)
-    → OnErr r (¬ part)
-none_of_part r whole_of none = on_err_weaker r (λ no p. no (whole_of p)) none
+pub denies_part : (e : Refusal) (R S : Text → Type 0) (t u : Text)
+    → ((more : Text) → S (u ++ more) → R (t ++ more)) → Denies e R t → Denies e S u
+denies_part e R S t u gives denied = denial_refuses e R S t u ⊥ ⊥ gives denied
 
 -- what refuses to number a group that begins there refuses to read on
-pub number_refuses : (e : Error) (p : Parser) (t : Text)
-    → Refuses (kind_of e) ⊥ ⊥ (PassesGroups (p.groups + 1))
-    → BeginsCapture p t → Refuses (kind_of e) (¬ CanRead p t) ⊥ (BeginsTooMany p t)
+pub number_refuses : (e : Refusal) (p : Parser) (t : Text)
+    → Refuses e (λ _. ⊥) ⊥ (PassesGroups (p.groups + 1))
+    → BeginsCapture p t → Refuses e (λ fault. NoReading fault (CanRead p) t) ⊥ (BeginsTooMany p t)
 number_refuses e p t says begins =
-    refuses_more (kind_of e) ⊥ ⊥ (PassesGroups (p.groups + 1)) (¬ CanRead p t) ⊥ (BeginsTooMany p t)
-    (λ none. absurd none) (λ none. none) (λ passes. (passes, begins)) says
+    refuses_more e (λ _. ⊥) (λ fault. NoReading fault (CanRead p) t) ⊥ (PassesGroups (p.groups + 1))
+    ⊥ (BeginsTooMany p t)
+    (λ fault none. absurd none) (λ none. none) (λ passes. (passes, begins)) says

@@ -1,5 +1,5 @@
 -- What is left of a text at an index.
-use Rattle.std.proofs.Common.{◌≡◌, sym, ◌∙◌, ap, subst, ℕ, ◌+◌, ◌<◌, ◌≤◌}
+use Rattle.std.proofs.Common.{◌≡◌, ◌≢◌, sym, ◌∙◌, ap, subst, ℕ, ◌+◌, ◌<◌}
 use Rattle.std.proofs.Common.{drop, length, [], ◌∷◌, get_or, arith, add-one}
 use Rattle.std.proofs.Math.Seq.{drop-cons}
 use Rattle.std.proofs.lemmas.List.{drop_all, get_or_read}
@@ -24,7 +24,6 @@ drop_begins xs i c h begins =
 pub left_at_end : (xs : Text) (i : ℕ) → i ≡ length xs → drop i xs ≡ []
 left_at_end xs i e = drop_all i xs (omega (arith, e))
 
--- before the end some character stands there
-pub left_inside : (xs : Text) (i : ℕ) → i ≤ length xs → (i ≡ length xs → ⊥)
-    → drop i xs ≡ get_or xs i 0 ∷ drop (i + 1) xs
-left_inside xs i l more = drop_at xs i (omega (arith, l, more))
+-- and something is left
+pub some_at : (xs : Text) (i : ℕ) → i < length xs → drop i xs ≢ []
+some_at xs i h e = let here = drop_at xs i h in cc (here, e)

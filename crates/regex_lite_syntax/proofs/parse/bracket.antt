@@ -2,3 +2,4 @@
 pub mod ClassItemLemmas
 pub mod ClassOpeningLemmas
 pub mod ClassSetLemmas
+pub mod LongerItemLemmas

@@ -1,6 +1,7 @@
 //! The faults of a pattern, and the text of each.
 ghost use Rattle.std.specs.Prelude.{◌≡◌};
 ghost use Rattle.regex_lite_syntax.specs.FaultTexts.{fault_text};
+ghost use Rattle.regex_lite_syntax.specs.CutShort.{is_cut_short};
 
 /// Which rule of the grammar a pattern breaks.
 #[derive(Clone, Copy, PartialEq, Eq, Debug)]
@@ -19,8 +20,10 @@ pub enum SyntaxFault {
     FlagRepeatedNegation,
     FlagDuplicate,
     FlagUnexpectedEof,
+    FlagOrNameUnexpectedEof,
     FlagDanglingNegation,
     DecimalNoDigits,
+    DecimalUnexpectedEof,
     DecimalInvalid,
     HexBraceInvalidDigit,
     HexBraceUnexpectedEof,
@@ -51,15 +54,49 @@ pub enum SyntaxFault {
     ClassInvalidRange,
     ClassUnclosed,
     ClassNestUnsupported,
+    ClassNestUnexpectedEof,
     ClassIntersectionUnsupported,
     ClassDifferenceUnsupported,
     ClassSymmetricDifferenceUnsupported,
     SpecialWordBoundaryUnclosed,
+    SpecialWordBoundaryUnexpectedEof,
     SpecialWordBoundaryUnrecognized,
     SpecialWordOrRepetitionUnexpectedEof,
 }
 
 impl SyntaxFault {
+    /// Whether the fault is that the pattern ends inside the part that breaks the rule.
+    pub(crate) fn is_cut_short(self) -> bool
+        ensures { result ≡ is_cut_short self }
+    {
+        matches!(
+            self,
+            SyntaxFault::UnclosedGroup
+                | SyntaxFault::UnclosedGroupQuestion
+                | SyntaxFault::MissingGroupName
+                | SyntaxFault::UnclosedGroupName
+                | SyntaxFault::FlagUnexpectedEof
+                | SyntaxFault::FlagOrNameUnexpectedEof
+                | SyntaxFault::DecimalUnexpectedEof
+                | SyntaxFault::HexBraceUnexpectedEof
+                | SyntaxFault::HexFixedUnexpectedEof
+                | SyntaxFault::HexUnexpectedEof
+                | SyntaxFault::EscapeUnexpectedEof
+                | SyntaxFault::CountedRepetitionUnclosed
+                | SyntaxFault::CountedRepetitionMinUnclosed
+                | SyntaxFault::CountedRepetitionCommaUnclosed
+                | SyntaxFault::CountedRepetitionMinMaxUnclosed
+                | SyntaxFault::ClassUnclosed
+                | SyntaxFault::ClassUnclosedAfterItem
+                | SyntaxFault::ClassUnclosedAfterDash
+                | SyntaxFault::ClassUnclosedAfterNegation
+                | SyntaxFault::ClassUnclosedAfterClosing
+                | SyntaxFault::ClassNestUnexpectedEof
+                | SyntaxFault::SpecialWordBoundaryUnexpectedEof
+                | SyntaxFault::SpecialWordOrRepetitionUnexpectedEof
+        )
+    }
+
     /// The text with which the fault is reported.
     pub fn text(self) -> &'static str
         ensures { result.now ≡ fault_text self }
@@ -77,14 +114,18 @@ impl SyntaxFault {
                 "expected end of capture group name, but got end of pattern"
             }
             SyntaxFault::EmptyGroupName => "empty capture group names are not allowed",
-            SyntaxFault::FlagUnrecognized => "unrecognized inline flag",
+            SyntaxFault::FlagUnrecognized | SyntaxFault::FlagOrNameUnexpectedEof => {
+                "unrecognized inline flag"
+            }
             SyntaxFault::FlagRepeatedNegation => "inline flag negation cannot be repeated",
             SyntaxFault::FlagDuplicate => "duplicate inline flag is not allowed",
             SyntaxFault::FlagUnexpectedEof => {
                 "expected ':' or ')' to end inline flags, but got end of pattern"
             }
             SyntaxFault::FlagDanglingNegation => "inline flags cannot end with negation directive",
-            SyntaxFault::DecimalNoDigits => "expected decimal number, but found no digits",
+            SyntaxFault::DecimalNoDigits | SyntaxFault::DecimalUnexpectedEof => {
+                "expected decimal number, but found no digits"
+            }
             SyntaxFault::DecimalInvalid => "got invalid decimal number",
             SyntaxFault::HexBraceInvalidDigit => {
                 "expected hexadecimal number in braces, but got non-hex digit"
@@ -152,7 +193,9 @@ impl SyntaxFault {
             }
             SyntaxFault::ClassInvalidRange => "invalid range in character class",
             SyntaxFault::ClassUnclosed => "found unclosed character class",
-            SyntaxFault::ClassNestUnsupported => "nested character classes are not supported",
+            SyntaxFault::ClassNestUnsupported | SyntaxFault::ClassNestUnexpectedEof => {
+                "nested character classes are not supported"
+            }
             SyntaxFault::ClassIntersectionUnsupported => {
                 "character class intersection is not supported"
             }
@@ -162,7 +205,8 @@ impl SyntaxFault {
             SyntaxFault::ClassSymmetricDifferenceUnsupported => {
                 "character class symmetric difference is not supported"
             }
-            SyntaxFault::SpecialWordBoundaryUnclosed => {
+            SyntaxFault::SpecialWordBoundaryUnclosed
+            | SyntaxFault::SpecialWordBoundaryUnexpectedEof => {
                 "special word boundary assertion is unclosed or has an invalid character"
             }
             SyntaxFault::SpecialWordBoundaryUnrecognized => {

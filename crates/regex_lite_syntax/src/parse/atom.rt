@@ -37,7 +37,7 @@ pub(crate) fn read_atom(
     ensures ok { IfOk result (λ r.
         Atom flags (drop at chars.now) (drop r.0 chars.now) (tree_of r.1)) }
     ensures refused { IfErr result (λ error. Denies error
-        ((rest : Text) × (a : Tree) × Atom flags (drop at chars.now) rest a)) }
+        (λ t. (rest : Text) × (a : Tree) × Atom flags t rest a) (drop at chars.now)) }
 {
     let verbose = flags.ignore_whitespace;
     match chars[at] {

@@ -14,7 +14,7 @@ mod opening;
 mod set;
 
 use crate::class::{Class, ClassRange};
-use crate::error::Error;
+use crate::error::{Error, SyntaxFault};
 use crate::parse::gap::skip_gap;
 use crate::parse::read::is_at;
 use item::read_item;
@@ -36,8 +36,9 @@ pub(crate) fn read_class(
     ensures ok { IfOk result (λ r. BracketedClass insensitive verbose
         (drop at chars.now) (drop r.0 chars.now) (in_ranges r.1)) }
     ensures runs { IfOk result (λ r. AreRuns 0 r.1) }
-    ensures refused { IfErr result (λ error. Denies error ((rest : Text) × (s : Set)
-        × BracketedClass insensitive verbose (drop at chars.now) rest s)) }
+    ensures refused { IfErr result (λ error. Denies error
+        (λ t. (rest : Text) × (s : Set) × BracketedClass insensitive verbose t rest s)
+        (drop at chars.now)) }
 {
     let (start, opening) = read_opening(chars, at, verbose);
     if start == chars.len() {
@@ -66,10 +67,14 @@ fn read_items(
         × ((c : ℕ) →
         in_ranges ranges.new.items c ≡ (in_ranges ranges.old.items c || union sets c))) }
     ensures refused { IfErr result (λ error. Denies error
-        ((rest : Text) × (sets : List Set) × ClassItems verbose sets (drop at chars.now) rest)) }
+        (λ t. (rest : Text) × (sets : List Set) × ClassItems verbose sets t rest)
+        (drop at chars.now)) }
 {
     let mut end = at;
     'items: while !is_at(chars, end, ']') {
+        if end == chars.len() {
+            return Err(SyntaxFault::ClassUnclosed.into());
+        }
         let (past, item) = read_item(chars, end, verbose)?;
         push_item(alloc, ranges, item)?;
         end = skip_gap(chars, past, verbose);

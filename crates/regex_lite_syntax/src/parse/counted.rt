@@ -1,11 +1,12 @@
 //! Counted operators: how often they repeat, in braces.
-ghost use Rattle.std.specs.Prelude.{◌≡◌, ℕ, ◌+◌, ◌*◌, ◌^◌, ◌<◌, ◌≤◌, ◌∷◌, drop, length};
-ghost use Rattle.std.specs.Prelude.{Option, IsTrue, IfOk, OnErr, IfSome, IfNone, SomeIff};
+ghost use Rattle.std.specs.Prelude.{◌≡◌, ℕ, ◌+◌, ◌*◌, ◌^◌, ◌<◌, ◌≤◌, [], ◌∷◌, ◌++◌, drop, length};
+ghost use Rattle.std.specs.Prelude.{Option, IsTrue, IfOk, IfSome, IfNone, SomeIff, IfErr};
 ghost use Rattle.regex_lite_syntax.specs.Text.{Text};
 ghost use Rattle.regex_lite_syntax.specs.Characters.{is_digit, digit_value};
 ghost use Rattle.regex_lite_syntax.specs.Grammar.Gaps.{Gap};
 ghost use Rattle.regex_lite_syntax.specs.Grammar.Counted.{WholeSide, Number};
 ghost use Rattle.regex_lite_syntax.specs.Grammar.Counted.{EndsNumber, Limit, Counted};
+ghost use Rattle.regex_lite_syntax.specs.Refusals.{NoReading};
 
 use crate::error::SyntaxFault;
 use crate::parse::gap::{is_white_space_char, skip_gap};
@@ -28,9 +29,9 @@ pub(crate) fn read_counted(
     ensures inside { IfOk result (λ r. (at < r.0) × (r.0 ≤ length chars.now)) }
     ensures ok { IfOk result (λ r.
         Counted verbose (drop at chars.now) (drop r.0 chars.now) r.1.least r.1.most) }
-    ensures refused { OnErr result
-        (¬ ((rest : Text) × (least : ℕ) × (most : Option ℕ)
-        × Counted verbose (drop at chars.now) rest least most)) }
+    ensures refused { IfErr result (λ fault. NoReading fault
+        (λ t. (rest : Text) × (least : ℕ) × (most : Option ℕ) × Counted verbose t rest least most)
+        (drop at chars.now)) }
 {
     let first = skip_gap(chars, at, verbose);
     if first == chars.len() {
@@ -59,8 +60,8 @@ fn read_limit(chars: &[char], at: usize, verbose: bool) -> Result<(usize, Option
     requires { at ≤ length chars.now }
     ensures inside { IfOk result (λ r. (at < r.0) × (r.0 ≤ length chars.now)) }
     ensures ok { IfOk result (λ r. Limit verbose (drop at chars.now) (drop r.0 chars.now) r.1) }
-    ensures refused { OnErr result
-        (¬ ((rest : Text) × (most : Option ℕ) × Limit verbose (drop at chars.now) rest most)) }
+    ensures refused { IfErr result (λ fault. NoReading fault
+        (λ t. (rest : Text) × (most : Option ℕ) × Limit verbose t rest most) (drop at chars.now)) }
 {
     let first = skip_gap(chars, at, verbose);
     match char_at(chars, first) {
@@ -81,15 +82,20 @@ fn read_number(chars: &[char], at: usize, verbose: bool) -> Result<(usize, u32),
     requires { at ≤ length chars.now }
     ensures inside { IfOk result (λ r. (at < r.0) × (r.0 ≤ length chars.now)) }
     ensures ok { IfOk result (λ r. Number verbose (drop at chars.now) (drop r.0 chars.now) r.1) }
-    // No other number stands there that goes up to a comma or a brace.
+    // No other number stands there that goes up to a comma or a brace, nor does one in a longer
+    // text, if anything is left past the number.
     ensures only { IfOk result (λ r.
-        (rest : Text) (n : ℕ) → Number verbose (drop at chars.now) rest n → EndsNumber rest
-        → (rest ≡ drop r.0 chars.now) × (n ≡ r.1)) }
-    ensures refused { OnErr result
-        (¬ ((rest : Text) × (n : ℕ) × Number verbose (drop at chars.now) rest n
-        × EndsNumber rest)) }
+        (more rest : Text) (n : ℕ) → (drop r.0 chars.now ≡ [] → more ≡ [])
+        → Number verbose (drop at chars.now ++ more) rest n → EndsNumber rest
+        → (rest ≡ drop r.0 chars.now ++ more) × (n ≡ r.1)) }
+    ensures refused { IfErr result (λ fault. NoReading fault
+        (λ t. (rest : Text) × (n : ℕ) × Number verbose t rest n × EndsNumber rest)
+        (drop at chars.now)) }
 {
     let first = skip_side(chars, at, verbose);
+    if first == chars.len() {
+        return Err(SyntaxFault::DecimalUnexpectedEof);
+    }
     let mut end = first;
     let mut number = 0;
     while let Some((next, digit)) = next_digit(chars, end, verbose) {

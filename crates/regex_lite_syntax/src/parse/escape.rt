@@ -1,5 +1,5 @@
 //! Escapes: what follows a backslash, and what it gives.
-ghost use Rattle.std.specs.Prelude.{◌≡◌, ◌<◌, ◌≤◌, drop, length, IfOk, OnErr, if◌then◌else◌};
+ghost use Rattle.std.specs.Prelude.{◌≡◌, ◌<◌, ◌≤◌, drop, length, IfOk, if◌then◌else◌, IfErr};
 ghost use Rattle.regex_lite_syntax.specs.Text.{Text};
 ghost use Rattle.regex_lite_syntax.specs.Sets.{complement};
 ghost use Rattle.regex_lite_syntax.specs.NamedSets.{members};
@@ -8,6 +8,7 @@ ghost use Rattle.regex_lite_syntax.specs.Grammar.Escapes.{Primitive as Given, Es
 ghost use Rattle.regex_lite_syntax.specs.Grammar.Escapes.{one, some_of, gives, refused};
 ghost use Rattle.regex_lite_syntax.specs.Grammar.Escapes.{escape_kind, is_escapable};
 ghost use Rattle.regex_lite_syntax.specs.Parser.Readings.{primitive_of, escape_kind_of};
+ghost use Rattle.regex_lite_syntax.specs.Refusals.{NoReading};
 
 mod boundary;
 mod hexadecimal;
@@ -51,8 +52,8 @@ pub(crate) fn read_escape(
     ensures inside { IfOk result (λ r. (at < r.0) × (r.0 ≤ length chars.now)) }
     ensures ok { IfOk result (λ r.
         Escape verbose (drop at chars.now) (drop r.0 chars.now) (primitive_of r.1)) }
-    ensures refused { OnErr result
-        (¬ ((rest : Text) × (p : Given) × Escape verbose (drop at chars.now) rest p)) }
+    ensures refused { IfErr result (λ fault. NoReading fault
+        (λ t. (rest : Text) × (p : Given) × Escape verbose t rest p) (drop at chars.now)) }
 {
     let Some(c) = char_at(chars, at) else {
         return Err(SyntaxFault::EscapeUnexpectedEof);

@@ -1,13 +1,13 @@
 //! Groups and directives.
 ghost use Rattle.std.specs.Prelude.{◌≡◌, ◌<◌, ◌≤◌, ◌+◌, ◌∷◌, [], true, false};
 ghost use Rattle.std.specs.Prelude.{drop, length, option_map, IfOk, IfErr, OnOk};
-ghost use Rattle.regex_lite_syntax.specs.Errors.{kind_of};
 ghost use Rattle.regex_lite_syntax.specs.Limits.{PassesGroups};
 ghost use Rattle.regex_lite_syntax.specs.Text.{Text, the};
 ghost use Rattle.regex_lite_syntax.specs.Grammar.Gaps.{WholeGap};
-ghost use Rattle.regex_lite_syntax.specs.Grammar.GroupNames.{NameOpening, Named};
+ghost use Rattle.regex_lite_syntax.specs.Grammar.GroupNames.{NameOpening};
 ghost use Rattle.regex_lite_syntax.specs.Tree.Views.{text_of_name};
-ghost use Rattle.regex_lite_syntax.specs.Refusals.{Refuses};
+ghost use Rattle.regex_lite_syntax.specs.Parser.NameOpenings.{Unnamed};
+ghost use Rattle.regex_lite_syntax.specs.Refusals.{Refuses, NoReading};
 ghost use Rattle.regex_lite_syntax.specs.Parser.States.{group_kind, Advances, CanRead};
 ghost use Rattle.regex_lite_syntax.specs.Parser.States.{BeginsTooMany, OpensGroup};
 ghost use Rattle.regex_lite_syntax.specs.Parser.States.{OpensCapture, Closes, Directs};
@@ -30,7 +30,8 @@ impl Parser {
         requires begins { drop at chars.now ≡ the "(" ∷ drop (at + 1) chars.now }
         ensures ok { IfOk result (Advances self.old self.new chars.now at) }
         ensures refused { let t = drop at chars.now in IfErr result (λ error.
-            Refuses (kind_of error) (¬ CanRead self.old t) ⊥ (BeginsTooMany self.old t)) }
+            Refuses error (λ fault. NoReading fault (CanRead self.old) t) ⊥
+            (BeginsTooMany self.old t)) }
     {
         let first = self.skip_gap(chars, at + 1);
         if !is_at(chars, first, '?') {
@@ -58,7 +59,8 @@ impl Parser {
         requires opens { NameOpening (drop first chars.now) (drop start chars.now) }
         ensures ok { IfOk result (Advances self.old self.new chars.now at) }
         ensures refused { let t = drop at chars.now in IfErr result (λ error.
-            Refuses (kind_of error) (¬ CanRead self.old t) ⊥ (BeginsTooMany self.old t)) }
+            Refuses error (λ fault. NoReading fault (CanRead self.old) t) ⊥
+            (BeginsTooMany self.old t)) }
     {
         let end = read_name(chars, start)?;
         let name = name_of(self.alloc, &chars[start..end - 1])?;
@@ -82,10 +84,11 @@ impl Parser {
             (drop (at + 1) chars.now) (drop question chars.now) }
         requires question { drop question chars.now
             ≡ the "?" ∷ drop (question + 1) chars.now }
-        requires unnamed { (rest name : Text) → Named (drop question chars.now) rest name → ⊥ }
+        requires unnamed { Unnamed (drop question chars.now) }
         ensures ok { IfOk result (Advances self.old self.new chars.now at) }
         ensures refused { let t = drop at chars.now in IfErr result (λ error.
-            Refuses (kind_of error) (¬ CanRead self.old t) ⊥ (BeginsTooMany self.old t)) }
+            Refuses error (λ fault. NoReading fault (CanRead self.old) t) ⊥
+            (BeginsTooMany self.old t)) }
     {
         if is_at(chars, question + 1, ')') {
             return Err(SyntaxFault::EmptyFlags.into());
@@ -105,7 +108,8 @@ impl Parser {
         requires begins { drop at chars.now ≡ the ")" ∷ drop (at + 1) chars.now }
         ensures ok { IfOk result (Advances self.old self.new chars.now at) }
         ensures refused { let t = drop at chars.now in IfErr result (λ error.
-            Refuses (kind_of error) (¬ CanRead self.old t) ⊥ (BeginsTooMany self.old t)) }
+            Refuses error (λ fault. NoReading fault (CanRead self.old) t) ⊥
+            (BeginsTooMany self.old t)) }
     {
         if !self.close()? {
             return Err(SyntaxFault::UnopenedGroup.into());
@@ -118,7 +122,7 @@ impl Parser {
         ensures ok { OnOk result
             (OpensCapture self.old self.new (option_map text_of_name name)) }
         ensures refused { IfErr result (λ error.
-            Refuses (kind_of error) ⊥ ⊥ (PassesGroups (self.old.groups + 1))) }
+            Refuses error (λ _. ⊥) ⊥ (PassesGroups (self.old.groups + 1))) }
     {
         let Some(index) = self.groups.checked_add(1) else {
             return Err(Error::groups());

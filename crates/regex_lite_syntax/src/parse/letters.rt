@@ -1,16 +1,22 @@
 //! Flags that are written in a pattern.
-ghost use Rattle.std.specs.Prelude.{◌≡◌, ◌<◌, ◌≤◌, ◌++◌, IsTrue, true, false, drop};
-ghost use Rattle.std.specs.Prelude.{length, slice_range, codes, IfOk, OnErr, OnSome};
+ghost use Rattle.std.specs.Prelude.{◌≡◌, ◌<◌, ◌≤◌, ◌∷◌, ◌++◌, IsTrue, true, false, drop};
+ghost use Rattle.std.specs.Prelude.{length, slice_range, codes, IfOk, IfErr, IfSome, IfNone};
+ghost use Rattle.regex_lite_syntax.specs.declared.error.syntax.SyntaxFault.TheVariants.{
+  FlagUnrecognized,
+};
 ghost use Rattle.regex_lite_syntax.specs.declared.flags.Flags.{Flags};
-ghost use Rattle.regex_lite_syntax.specs.Text.{Text, ◌∈◌};
+ghost use Rattle.regex_lite_syntax.specs.Text.{Text, the, ◌∈◌};
 ghost use Rattle.regex_lite_syntax.specs.Characters.{is_one_of};
 ghost use Rattle.regex_lite_syntax.specs.Grammar.FlagLetters.{is_flag_letter, with_flag};
 ghost use Rattle.regex_lite_syntax.specs.Grammar.FlagLetters.{with_flags, all_differ};
 ghost use Rattle.regex_lite_syntax.specs.Parser.FlagRuns.{EndedFlags, LetterRun};
+ghost use Rattle.regex_lite_syntax.specs.Parser.NameOpenings.{EndsInOpening};
+ghost use Rattle.regex_lite_syntax.specs.CutShort.{is_cut_short};
+ghost use Rattle.regex_lite_syntax.specs.Refusals.{NoReading};
 
 use crate::error::SyntaxFault;
 use crate::flags::Flags;
-use crate::parse::read::is_at;
+use crate::parse::read::{char_at, is_at};
 
 /// Reads a group's head from after its `?` on, up to the `:` or `)` that ends it. Returns the
 /// index of that and the flags as the head changes them.
@@ -22,8 +28,10 @@ pub(crate) fn read_head(
     requires { at ≤ length chars.now }
     ensures inside { IfOk result (λ r. (at ≤ r.0) × (r.0 < length chars.now)) }
     ensures ok { IfOk result (λ r. EndedFlags old (drop at chars.now) (drop r.0 chars.now) r.1) }
-    ensures refused { OnErr result
-        (¬ ((rest : Text) × (new : Flags) × EndedFlags old (drop at chars.now) rest new)) }
+    ensures refused { IfErr result (λ fault. NoReading fault
+        (λ t. (rest : Text) × (new : Flags) × EndedFlags old t rest new) (drop at chars.now)) }
+    ensures cut_short { IfErr result (λ fault.
+        EndsInOpening (the "?" ∷ drop at chars.now) → IsTrue (is_cut_short fault)) }
 {
     match other_head(chars, at) {
         Some(fault) => Err(fault),
@@ -31,18 +39,21 @@ pub(crate) fn read_head(
     }
 }
 
-/// The fault of a head that begins with no flags.
+/// The fault of a head that begins with no flags. Where a `P` ends the pattern, it may be part of
+/// what opens a name.
 fn other_head(chars: &[char], at: usize) -> Option<SyntaxFault>
     requires { at ≤ length chars.now }
-    ensures { OnSome result ((old new : Flags) (rest : Text)
-        → EndedFlags old (drop at chars.now) rest new → ⊥) }
+    ensures refused { IfSome result (λ fault. (old : Flags) → NoReading fault
+        (λ t. (rest : Text) × (new : Flags) × EndedFlags old t rest new) (drop at chars.now)) }
+    ensures cut_short { IfSome result (λ fault.
+        EndsInOpening (the "?" ∷ drop at chars.now) → IsTrue (is_cut_short fault)) }
+    ensures goes_on { IfNone result (EndsInOpening (the "?" ∷ drop at chars.now) → ⊥) }
 {
-    if at == chars.len() {
-        return Some(SyntaxFault::UnclosedGroupQuestion);
-    }
-    match chars[at] {
-        '=' | '!' => Some(SyntaxFault::LookUnsupported),
-        _ => None,
+    match char_at(chars, at) {
+        None => Some(SyntaxFault::UnclosedGroupQuestion),
+        Some('=' | '!') => Some(SyntaxFault::LookUnsupported),
+        Some('P') if at + 1 == chars.len() => Some(SyntaxFault::FlagOrNameUnexpectedEof),
+        Some(_) => None,
     }
 }
 
@@ -52,8 +63,8 @@ fn read_flags(chars: &[char], at: usize, old: Flags) -> Result<(usize, Flags), S
     requires { at ≤ length chars.now }
     ensures inside { IfOk result (λ r. (at ≤ r.0) × (r.0 < length chars.now)) }
     ensures ok { IfOk result (λ r. EndedFlags old (drop at chars.now) (drop r.0 chars.now) r.1) }
-    ensures refused { OnErr result
-        (¬ ((rest : Text) × (new : Flags) × EndedFlags old (drop at chars.now) rest new)) }
+    ensures refused { IfErr result (λ fault. NoReading fault
+        (λ t. (rest : Text) × (new : Flags) × EndedFlags old t rest new) (drop at chars.now)) }
 {
     let (middle, set) = read_letters(chars, at, &[], true, old)?;
     if !is_at(chars, middle, '-') {
@@ -85,8 +96,9 @@ fn read_letters(
     ensures ok { IfOk result (λ r. LetterRun before.now (slice_range chars.now at r.0)
         (drop at chars.now) (drop r.0 chars.now)) }
     ensures flags { IfOk result (λ r. r.1 ≡ with_flags set (slice_range chars.now at r.0) old) }
-    ensures refused { OnErr result
-        (¬ ((letters rest : Text) × LetterRun before.now letters (drop at chars.now) rest)) }
+    ensures refused { IfErr result (λ fault. NoReading fault
+        (λ t. (letters : Text) × (rest : Text) × LetterRun before.now letters t rest)
+        (drop at chars.now)) }
 {
     let mut flags = old;
     for end in at..chars.len() {
@@ -112,7 +124,8 @@ fn ends_letters(c: char) -> bool
 /// The flags after one letter.
 fn with_letter(flags: Flags, set: bool, c: char) -> Result<Flags, SyntaxFault>
     ensures ok { IfOk result (λ new. IsTrue (is_flag_letter c) × (new ≡ with_flag set c flags)) }
-    ensures refused { OnErr result (is_flag_letter c ≡ false) }
+    ensures refused { IfErr result (λ fault.
+        (fault ≡ FlagUnrecognized) × (is_flag_letter c ≡ false)) }
 {
     match c {
         'i' => Ok(Flags {

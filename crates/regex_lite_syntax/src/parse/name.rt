@@ -1,10 +1,12 @@
 //! Names of capturing groups.
 ghost use Rattle.std.specs.Prelude.{◌≡◌, ◌<◌, ◌≤◌, ◌-◌, ◌↔◌, drop, length, chars as chars_of};
-ghost use Rattle.std.specs.Prelude.{slice_range, IsTrue, Contains, IfOk, OnErr, IfSome, IfNone};
+ghost use Rattle.std.specs.Prelude.{slice_range, IsTrue, Contains, IfOk, IfSome, IfNone, IfErr};
 ghost use Rattle.regex_lite_syntax.specs.Text.{Text};
 ghost use Rattle.regex_lite_syntax.specs.Grammar.GroupNames.{begins_name, continues_name};
-ghost use Rattle.regex_lite_syntax.specs.Grammar.GroupNames.{NameWritten, NameOpening, Named};
+ghost use Rattle.regex_lite_syntax.specs.Grammar.GroupNames.{NameWritten, NameOpening};
 ghost use Rattle.regex_lite_syntax.specs.Tree.Views.{text_of_name, names_of};
+ghost use Rattle.regex_lite_syntax.specs.Parser.NameOpenings.{Unnamed};
+ghost use Rattle.regex_lite_syntax.specs.Refusals.{NoReading};
 
 use crate::error::SyntaxFault;
 use crate::parse::read::{char_at, is_at};
@@ -18,7 +20,7 @@ pub(crate) fn skip_name_opening(chars: &[char], at: usize) -> Option<usize>
     ensures inside { IfSome result (λ start. (at < start) × (start ≤ length chars.now)) }
     ensures there { IfSome result (λ start.
         NameOpening (drop at chars.now) (drop start chars.now)) }
-    ensures absent { IfNone result ((rest name : Text) → Named (drop at chars.now) rest name → ⊥) }
+    ensures absent { IfNone result (Unnamed (drop at chars.now)) }
 {
     if !is_at(chars, at, '?') {
         return None;
@@ -38,8 +40,8 @@ pub(crate) fn read_name(chars: &[char], at: usize) -> Result<usize, SyntaxFault>
     ensures inside { IfOk result (λ end. (at < end) × (end ≤ length chars.now)) }
     ensures ok { IfOk result (λ end. NameWritten (drop at chars.now) (drop end chars.now)
         (slice_range chars.now at (end - 1))) }
-    ensures refused { OnErr result
-        (¬ ((rest : Text) × (name : Text) × NameWritten (drop at chars.now) rest name)) }
+    ensures refused { IfErr result (λ fault. NoReading fault
+        (λ t. (rest : Text) × (name : Text) × NameWritten t rest name) (drop at chars.now)) }
 {
     match char_at(chars, at) {
         None => return Err(SyntaxFault::MissingGroupName),

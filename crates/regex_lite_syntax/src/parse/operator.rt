@@ -6,7 +6,7 @@ ghost use Rattle.regex_lite_syntax.specs.Text.{the};
 ghost use Rattle.regex_lite_syntax.specs.Tree.{repeated};
 ghost use Rattle.regex_lite_syntax.specs.Grammar.Operators.{times, greed};
 ghost use Rattle.regex_lite_syntax.specs.Tree.Views.{tree_of};
-ghost use Rattle.regex_lite_syntax.specs.Refusals.{Refuses};
+ghost use Rattle.regex_lite_syntax.specs.Refusals.{Refuses, NoReading};
 ghost use Rattle.regex_lite_syntax.specs.Parser.States.{Advances, CanRead, BeginsTooMany, Adds};
 
 use crate::error::{Error, SyntaxFault};
@@ -30,7 +30,8 @@ impl Parser {
             times c ≡ Some (least, most) }
         ensures ok { IfOk result (Advances self.old self.new chars.now at) }
         ensures refused { let t = drop at chars.now in IfErr result (λ error.
-            Refuses (kind_of error) (¬ CanRead self.old t) ⊥ (BeginsTooMany self.old t)) }
+            Refuses error (λ fault. NoReading fault (CanRead self.old) t) ⊥
+            (BeginsTooMany self.old t)) }
     {
         let Some(item) = self.here.items.pop() else {
             return Err(SyntaxFault::UncountedRepetitionSubMissing.into());
@@ -50,7 +51,8 @@ impl Parser {
         requires begins { drop at chars.now ≡ the "{" ∷ drop (at + 1) chars.now }
         ensures ok { IfOk result (Advances self.old self.new chars.now at) }
         ensures refused { let t = drop at chars.now in IfErr result (λ error.
-            Refuses (kind_of error) (¬ CanRead self.old t) ⊥ (BeginsTooMany self.old t)) }
+            Refuses error (λ fault. NoReading fault (CanRead self.old) t) ⊥
+            (BeginsTooMany self.old t)) }
     {
         let Some(item) = self.here.items.pop() else {
             return Err(SyntaxFault::CountedRepetitionSubMissing.into());

@@ -15,10 +15,11 @@ use Rattle.regex_lite_syntax.specs.Parser.SetNames.{name_of}
 use Rattle.regex_lite_syntax.specs.Parser.ClassReadings.{element_primitive, IsElement, element_set}
 use Rattle.regex_lite_syntax.specs.Parser.ClassReadings.{BeginsOperator, RangeTo, EndsOpen}
 use Rattle.regex_lite_syntax.specs.Parser.ClassReadings.{at_once, past_dash, HasItems, IsNamedSet}
+use Rattle.regex_lite_syntax.specs.Parser.ClassReadings.{HasNamedSet}
 use Rattle.regex_lite_syntax.proofs.ListLemmas.{same_head, same_tail}
-use Rattle.regex_lite_syntax.proofs.grammar.GapLemmas.{whole_gap_once}
+use Rattle.regex_lite_syntax.proofs.grammar.GapLemmas.{empty_gap, ends_nothing, whole_gap_once}
 use Rattle.regex_lite_syntax.proofs.grammar.ClassLemmas.{begins, part_once, follows_once}
-use Rattle.regex_lite_syntax.proofs.grammar.ClassLemmas.{follows_same, named_begins}
+use Rattle.regex_lite_syntax.proofs.grammar.ClassLemmas.{follows_same, named_begins, no_bracket}
 use Rattle.regex_lite_syntax.proofs.grammar.ClassLemmas.{item_goes_on, items_past}
 
 -- parts
@@ -57,6 +58,28 @@ no_end verbose t past u last gap gap' cases follows =
       | inr dashed ↦ follows.not_dash dashed
     ]
 
+-- past a part more is left than a gap, or a dash with its gaps
+pub closed_by_other : (verbose : Bool) (t u : Text) → WholeGap verbose t u → u ≢ []
+    → (Begins (the "-") u → ⊥) → EndsOpen verbose t → ⊥
+closed_by_other verbose t u gap some none (at_once g) =
+    some (whole_gap_once verbose t u [] gap g)
+closed_by_other verbose t u gap some none (past_dash past g h) =
+    none (begins (the "-") u past (whole_gap_once verbose t u _ gap g))
+
+pub closed_past_dash : (verbose : Bool) (t past u : Text) → WholeGap verbose t (the "-" ∷ past)
+    → WholeGap verbose past u → u ≢ [] → EndsOpen verbose t → ⊥
+closed_past_dash verbose t past u gap gap' some (at_once g) =
+    let clash = whole_gap_once verbose t _ [] gap g in cc clash
+closed_past_dash verbose t past u gap gap' some (past_dash v g h) =
+    let same = same_tail (whole_gap_once verbose t _ _ gap g) in
+    some (whole_gap_once verbose past u [] gap'
+    (subst (λ w. WholeGap verbose w []) (sym same) h))
+
+pub some_past : (verbose : Bool) (t : Text) → (EndsOpen verbose t → ⊥) → t ≢ []
+some_past verbose t closed e =
+    closed (at_once (subst (λ u. WholeGap verbose u []) (sym e)
+    (empty_gap verbose [], ends_nothing verbose)))
+
 -- what an item begins with
 pub begins_item : (t u : Text) (c : ℕ) → t ≡ c ∷ u → (Begins (the "]") t → ⊥)
     → (Begins (the "[") t → ⊥)
@@ -84,6 +107,13 @@ item_part verbose t rest s none (escaped_set set i p o e) = (rest, some_of set, 
 item_part verbose t rest s none (range g h u v i p o q le e) = (u, one g, tt, p)
 
 -- the item of a set with a name
+pub item_bracketed : (verbose : Bool) (t rest : Text) (s : Set) → Begins (the "[") t
+    → ClassItem verbose t rest s → HasNamedSet t
+item_bracketed verbose t rest s b (named_class n set x e) = (rest, n, set, x)
+item_bracketed verbose t rest s b (character c i p o e) = absurd (no_bracket t i b)
+item_bracketed verbose t rest s b (escaped_set set i p o e) = absurd (no_bracket t i b)
+item_bracketed verbose t rest s b (range g h u v i p o q le e) = absurd (no_bracket t i b)
+
 pub item_named : (verbose : Bool) (t rest : Text) (element : Element) → IsNamedSet t rest element
     → ClassItem verbose t rest (element_set element)
 item_named verbose t rest (elements.Char c) is = absurd is

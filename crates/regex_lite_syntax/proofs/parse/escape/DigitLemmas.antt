@@ -1,6 +1,6 @@
 -- Hexadecimal digits that go on from a number that has been read.
 use Rattle.std.proofs.Common.{inl, inr, ◌≡◌, refl, sym, ◌∙◌, ap, subst, ℕ, ◌+◌, ◌*◌}
-use Rattle.std.proofs.Common.{◌<◌, ◌≤◌, length, Bool, [], ◌∷◌, fold, IsTrue, arith}
+use Rattle.std.proofs.Common.{◌<◌, ◌≤◌, length, Bool, [], ◌∷◌, ◌++◌, fold, IsTrue, arith}
 use Rattle.std.proofs.lemmas.Bool.{and_parts, ltb-true, or_cases}
 use Rattle.std.specs.Char.{OutOfScalarRange}
 use Rattle.regex_lite_syntax.specs.Text.{Text, Begins, the}
@@ -9,6 +9,7 @@ use Rattle.regex_lite_syntax.specs.Grammar.Gaps.{Gap, WholeGap, Spaced}
 use Rattle.regex_lite_syntax.specs.Grammar.Escapes.{FixedDigits}
 use Rattle.regex_lite_syntax.specs.Parser.ClassReadings.{Lacks}
 use Rattle.regex_lite_syntax.proofs.ListLemmas.{same_head}
+use Rattle.regex_lite_syntax.proofs.grammar.LongerGapLemmas.{whole_longer}
 use Rattle.regex_lite_syntax.proofs.grammar.SpacedLemmas.{hex_digits_end, brace_past}
 use Rattle.regex_lite_syntax.proofs.grammar.SpacedLemmas.{next_spaced, not_spaced}
 
@@ -26,6 +27,17 @@ digit_at {verbose} {t} {u} {past} {d} whole here valued = record {
   whole = subst (λ w. WholeGap verbose t w) here whole;
   is_digit = valued.0;
   value = valued.1;
+}
+
+-- and there in each longer text
+pub still_digit_at : {verbose : Bool} {t past : Text} {v : ℕ} (more : Text)
+    → DigitAt verbose t past v
+    → DigitAt verbose (t ++ more) (past ++ more) v
+still_digit_at {verbose} {t} {past} more at = record {
+  digit = at.digit;
+  whole = whole_longer more verbose t (at.digit ∷ past) at.whole (λ e. cc e);
+  is_digit = at.is_digit;
+  value = at.value;
 }
 
 -- the number to which these digits go on

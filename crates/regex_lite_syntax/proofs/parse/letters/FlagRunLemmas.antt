@@ -146,6 +146,20 @@ no_run_twice before read letters t u rest c v p all here is_letter either run =
         both_ways _ (differ_middle (before ++ read) more c
         (subst (λ w. IsTrue (all_differ w)) parts run.differ)) (one_of_both before read c ∙ either)
 
+-- a run of a text is one of each longer text
+ends_longer : (more u : Text) → EndsRun u → EndsRun (u ++ more)
+ends_longer more [] ends = absurd ends
+ends_longer more (c ∷ u) ends = ends
+
+pub run_longer : (more before letters t u : Text) → LetterRun before letters t u
+    → LetterRun before letters (t ++ more) (u ++ more)
+run_longer more before letters t u run = record {
+  written = ap (λ v. v ++ more) run.written ∙ append_assoc letters u more;
+  all = run.all;
+  differ = run.differ;
+  ends = ends_longer more u run.ends;
+}
+
 -- what ends a run
 record RunEnd (u : Text) : Type 0 where
   first : ℕ

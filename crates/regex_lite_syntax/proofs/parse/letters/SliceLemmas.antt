@@ -1,6 +1,7 @@
 -- Parts of the pattern as slices of its characters.
 use Rattle.std.proofs.Common.{◌≡◌, sym, ◌∙◌, ap, ℕ, suc, ◌+◌, ◌-◌, ◌<◌, ◌≤◌, [], ◌∷◌, ◌++◌, length}
 use Rattle.std.proofs.Common.{drop, take, get_or, slice_range, arith, length-take, length-drop}
+use Rattle.std.proofs.Common.{append_assoc}
 use Rattle.std.proofs.Math.Seq.{take-suc}
 use Rattle.std.proofs.lemmas.List.{get_or-drop}
 use Rattle.std.proofs.lemmas.List.Folds.{drop_split}
@@ -26,3 +27,7 @@ slice_more xs at end c low high e =
     get_or-drop at xs (end - at) c ∙ ap (λ i. get_or xs i c) here ∙ sym e in
     ap (λ n. take n (drop at xs)) longer ∙ take-suc (drop at xs) (end - at) c inside
     ∙ ap (λ d. take (end - at) (drop at xs) ++ d ∷ []) last
+
+-- what begins a text begins a longer one
+pub spelled_longer : (more t read u : Text) → t ≡ read ++ u → t ++ more ≡ read ++ (u ++ more)
+spelled_longer more t read u e = ap (λ v. v ++ more) e ∙ append_assoc read u more

@@ -13,7 +13,7 @@ use Rattle.regex_lite_syntax.specs.Grammar.FlagLetters.{FlagLetters, setting, cl
 use Rattle.regex_lite_syntax.specs.Parser.FlagRuns.{EndedFlags, EndsRun, LetterRun}
 use Rattle.regex_lite_syntax.proofs.ListLemmas.{same_head, same_tail}
 use Rattle.regex_lite_syntax.proofs.parse.letters.FlagRunLemmas.{one_of_both, run_once}
-use Rattle.regex_lite_syntax.proofs.parse.letters.FlagRunLemmas.{no_run_end, no_run_other}
+use Rattle.regex_lite_syntax.proofs.parse.letters.FlagRunLemmas.{no_run_other}
 
 -- flags without a dash are one run, and those with one are two
 differ_first : (on off : Text) → IsTrue (all_differ (on ++ off)) → IsTrue (all_differ on)
@@ -141,13 +141,6 @@ flags_cleared old on off t u past rest new run dashed run_off some no_dash e =
 
 nothing_passes : AllPass is_flag_letter []
 nothing_passes = AllPass-from_list_all is_flag_letter [] refl
-
--- no flags stand at the end of the pattern
-pub no_flags_end : (old : Flags) (t rest : Text) (new : Flags) → t ≡ []
-    → EndedFlags old t rest new → ⊥
-no_flags_end old t rest new none flags =
-    let run = first_run old t rest new flags in
-    no_run_end [] [] run.0 t t run.1 refl nothing_passes none run.2
 
 -- nor at a character that is no part of flags
 pub no_flags_other : (old : Flags) (t rest : Text) (new : Flags) (c : ℕ) (u : Text) → t ≡ c ∷ u

@@ -14,7 +14,7 @@ use Rattle.regex_lite_syntax.specs.Parser.Machine.{stay}
 use Rattle.regex_lite_syntax.specs.Parser.States.{Finishes, FinishesTooDeep}
 use Rattle.regex_lite_syntax.proofs.parse.IndexLemmas.{drop_at}
 use Rattle.regex_lite_syntax.proofs.grammar.NameLemmas.{no_names_differ}
-use Rattle.regex_lite_syntax.proofs.machine.RunLemmas.{reaches_next, too_deep}
+use Rattle.regex_lite_syntax.proofs.machine.RunLemmas.{reaches_next, open_too_deep}
 use Rattle.regex_lite_syntax.proofs.machine.RunLemmas.{admitted, end_says, step_says}
 use Rattle.regex_lite_syntax.proofs.parse.parse_chars.Goals as goal
 
@@ -51,7 +51,7 @@ returns-then-is_deeper_than-clause-refused c =
     let xs = c.args.chars.now in
     let config = c.args.config in
     rw c.nesting.ensures
-    (too_deep config.flags config.nest_limit xs c.loop-parser.parser c.step.new.self
+    (open_too_deep config.flags config.nest_limit xs c.loop-parser.parser c.step.new.self
     (drop c.loop-parser.at xs) (drop c.skip_gap-here.result xs)
     (drop c.in_ok-at.at xs) c.loop-parser.invariant.reaches
     c.skip_gap-here.ensures.gap c.in_ok-at.ensures.ok.reads
@@ -104,10 +104,10 @@ returns-then-here-chars-clause-refused c =
     let gap =
     gap_only xs c.skip_gap-here.result _ t c.if-here-chars.true c.skip_gap-here.ensures.gap in
     IfErr-weaker c.finish.result
-    (λ e. Refuses (kind_of e) (p.below.items ≢ []) (FinishesTooDeep p config.nest_limit) ⊥)
+    (λ e. Refuses e (λ _. p.below.items ≢ []) (FinishesTooDeep p config.nest_limit) ⊥)
     (λ e. IsDueToPattern config.flags config.nest_limit xs (kind_of e))
-    (λ e. end_says config.flags config.nest_limit xs p t
-    (kind_of e) c.loop-parser.invariant.reaches gap) c.finish.ensures.refused
+    (λ e. end_says config.flags config.nest_limit xs p t e c.loop-parser.invariant.reaches gap)
+    c.finish.ensures.refused
 
 pub returns-in_err-at-clause-refused : goal.returns-in_err-at-clause-refused
 returns-in_err-at-clause-refused c =
@@ -121,5 +121,5 @@ returns-in_err-at-clause-refused c =
     rw (left.1, left.2)
     (step_says config.flags config.nest_limit xs c.loop-parser.parser (drop c.loop-parser.at xs)
     (drop here xs)
-    (kind_of c.in_err-at.field-0.0) c.loop-parser.invariant.reaches c.skip_gap-here.ensures.gap more
+    _ c.loop-parser.invariant.reaches c.skip_gap-here.ensures.gap more
     c.in_err-at.ensures.refused)

@@ -1,5 +1,6 @@
 //! Items of a class.
-ghost use Rattle.std.specs.Prelude.{◌≡◌, ◌<◌, ◌≤◌, drop, length, IfOk, OnErr, IfSome, MatchOption};
+ghost use Rattle.std.specs.Prelude.{◌≡◌, ◌<◌, ◌≤◌, ◌++◌, drop, length};
+ghost use Rattle.std.specs.Prelude.{IsTrue, IfOk, OnOk, IfErr, IfSome, MatchOption};
 ghost use Rattle.regex_lite_syntax.specs.Text.{Text, Begins, the};
 ghost use Rattle.regex_lite_syntax.specs.Grammar.Gaps.{EndsGap};
 ghost use Rattle.regex_lite_syntax.specs.Sets.{Set};
@@ -9,6 +10,8 @@ ghost use Rattle.regex_lite_syntax.specs.Parser.Readings.{primitive_of};
 ghost use Rattle.regex_lite_syntax.specs.Parser.ClassReadings.{element_primitive, IsElement};
 ghost use Rattle.regex_lite_syntax.specs.Parser.ClassReadings.{item_set, BeginsOperator};
 ghost use Rattle.regex_lite_syntax.specs.Parser.ClassReadings.{RangeTo, EndsOpen, HasItems};
+ghost use Rattle.regex_lite_syntax.specs.Refusals.{NoReading};
+ghost use Rattle.regex_lite_syntax.specs.CutShort.{is_cut_short};
 
 use crate::class::named::NamedSet;
 use crate::error::SyntaxFault;
@@ -34,28 +37,26 @@ pub(crate) enum Item {
     Range { start: char, end: char },
 }
 
-/// Reads an item, and returns the index after it. No `]` stands at the index.
+/// Reads an item, and returns the index after it. A character other than `]` stands at the index.
 pub(crate) fn read_item(
     chars: &[char],
     at: usize,
     verbose: bool,
 ) -> Result<(usize, Item), SyntaxFault>
-    requires inside { at ≤ length chars.now }
+    requires inside { at < length chars.now }
     requires past_gap { EndsGap verbose (drop at chars.now) }
     requires goes_on { Begins (the "]") (drop at chars.now) → ⊥ }
     ensures inside { IfOk result (λ r. (at < r.0) × (r.0 ≤ length chars.now)) }
     ensures ok { IfOk result (λ r.
         ClassItem verbose (drop at chars.now) (drop r.0 chars.now) (item_set r.1)) }
-    ensures refused { OnErr result (¬ HasItems verbose (drop at chars.now)) }
+    ensures stays { IfOk result (λ r. (more : Text) → ClassItem verbose
+        (drop at chars.now ++ more) (drop r.0 chars.now ++ more) (item_set r.1)) }
+    ensures refused { IfErr result (λ fault.
+        NoReading fault (HasItems verbose) (drop at chars.now)) }
 {
-    if at == chars.len() {
-        return Err(SyntaxFault::ClassUnclosed);
-    }
     if is_at(chars, at, '[') {
-        return match read_named_set(chars, at) {
-            Some((end, element)) => Ok((end, Item::Alone(element))),
-            None => Err(SyntaxFault::ClassNestUnsupported),
-        };
+        let (end, element) = read_named_set(chars, at)?;
+        return Ok((end, Item::Alone(element)));
     }
     if let Some(fault) = operator_fault(chars, at) {
         return Err(fault);
@@ -95,8 +96,8 @@ fn read_element(chars: &[char], at: usize, verbose: bool) -> Result<(usize, Prim
     ensures inside { IfOk result (λ r. (at < r.0) × (r.0 ≤ length chars.now)) }
     ensures ok { IfOk result (λ r.
         ClassElement verbose (drop at chars.now) (drop r.0 chars.now) (primitive_of r.1)) }
-    ensures refused { OnErr result
-        (¬ ((rest : Text) × (p : Given) × ClassElement verbose (drop at chars.now) rest p)) }
+    ensures refused { IfErr result (λ fault. NoReading fault
+        (λ t. (rest : Text) × (p : Given) × ClassElement verbose t rest p) (drop at chars.now)) }
 {
     let c = chars[at];
     if c != '\\' {
@@ -125,7 +126,9 @@ fn find_range_end(chars: &[char], at: usize, verbose: bool) -> Result<Option<usi
     ensures ok { IfOk result (λ found. MatchOption found
         ((last : Text) → RangeFollows verbose (drop at chars.now) last → ⊥)
         (λ last. RangeFollows verbose (drop at chars.now) (drop last chars.now))) }
-    ensures refused { OnErr result (EndsOpen verbose (drop at chars.now)) }
+    ensures closed { OnOk result (¬ EndsOpen verbose (drop at chars.now)) }
+    ensures refused { IfErr result (λ fault.
+        IsTrue (is_cut_short fault) × EndsOpen verbose (drop at chars.now)) }
 {
     let dash = skip_gap(chars, at, verbose);
     if dash == chars.len() {
@@ -156,8 +159,9 @@ fn read_range(
     ensures inside { IfOk result (λ r. (last < r.0) × (r.0 ≤ length chars.now)) }
     ensures ok { IfOk result (λ r. RangeTo verbose (primitive_of first)
         (drop last chars.now) (drop r.0 chars.now) (item_set r.1)) }
-    ensures refused { OnErr result (¬ ((rest : Text) × (s : Set)
-        × RangeTo verbose (primitive_of first) (drop last chars.now) rest s)) }
+    ensures refused { IfErr result (λ fault. NoReading fault
+        (λ t. (rest : Text) × (s : Set) × RangeTo verbose (primitive_of first) t rest s)
+        (drop last chars.now)) }
 {
     let (past, element) = read_element(chars, last, verbose)?;
     let Primitive::Char(start) = first else {

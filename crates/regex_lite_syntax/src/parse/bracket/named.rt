@@ -1,34 +1,53 @@
 //! Sets that stand in a class by their names, as `[:alpha:]`.
-ghost use Rattle.std.specs.Prelude.{◌≡◌, ◌<◌, ◌≤◌, ◌-◌, ◌++◌, drop, take};
-ghost use Rattle.std.specs.Prelude.{length, IfSome, MatchOption, find};
+ghost use Rattle.std.specs.Prelude.{◌≡◌, ◌<◌, ◌≤◌, ◌+◌, ◌-◌, ◌∷◌, ◌++◌, drop, take};
+ghost use Rattle.std.specs.Prelude.{length, IfOk, IfErr, OnOk, find};
 ghost use Rattle.std.specs.List.{AllPass};
-ghost use Rattle.regex_lite_syntax.specs.Text.{is_text};
+ghost use Rattle.regex_lite_syntax.specs.Text.{Begins, is_text, the};
 ghost use Rattle.regex_lite_syntax.specs.Characters.{is_lower};
 ghost use Rattle.regex_lite_syntax.specs.Parser.ClassReadings.{set_name, Lacks};
 ghost use Rattle.regex_lite_syntax.specs.Parser.ClassReadings.{IsNamedSet, HasNamedSet};
+ghost use Rattle.regex_lite_syntax.specs.Refusals.{NoReading};
 
 use crate::class::named::NamedSet;
+use crate::error::SyntaxFault;
 use crate::parse::bracket::item::Element;
 use crate::parse::read::is_at;
 
-/// Reads `[:name:]` or `[:^name:]`, if that stands at the index.
-pub(crate) fn read_named_set(chars: &[char], at: usize) -> Option<(usize, Element)>
-    requires { at ≤ length chars.now }
-    ensures inside { IfSome result (λ r. (at < r.0) × (r.0 ≤ length chars.now)) }
-    ensures found { MatchOption result (HasNamedSet (drop at chars.now) → ⊥)
-        (λ r. IsNamedSet (drop at chars.now) (drop r.0 chars.now) r.1) }
+/// Reads `[:name:]` or `[:^name:]`, whose first bracket stands at the index.
+pub(crate) fn read_named_set(chars: &[char], at: usize) -> Result<(usize, Element), SyntaxFault>
+    requires inside { at < length chars.now }
+    requires begins { drop at chars.now ≡ the "[" ∷ drop (at + 1) chars.now }
+    ensures inside { IfOk result (λ r. (at < r.0) × (r.0 ≤ length chars.now)) }
+    ensures ok { IfOk result (λ r. IsNamedSet (drop at chars.now) (drop r.0 chars.now) r.1) }
+    ensures refused { IfErr result (λ fault. NoReading fault HasNamedSet (drop at chars.now)) }
 {
-    if !is_at(chars, at, '[') || !is_at(chars, at + 1, ':') {
-        return None;
-    }
+    expect(chars, at + 1, ':')?;
     let negated = is_at(chars, at + 2, '^');
     let begin = if negated { at + 3 } else { at + 2 };
     let end = skip_lower(chars, begin);
-    if !is_at(chars, end, ':') || !is_at(chars, end + 1, ']') {
-        return None;
+    expect(chars, end, ':')?;
+    expect(chars, end + 1, ']')?;
+    match set_with_name(&chars[begin..end]) {
+        None => Err(SyntaxFault::ClassNestUnsupported),
+        Some(set) => Ok((end + 2, Element::Set { set, negated })),
     }
-    let set = set_with_name(&chars[begin..end])?;
-    Some((end + 2, Element::Set { set, negated }))
+}
+
+/// Refuses any other character than this at the index, and the pattern's end as cut short.
+fn expect(chars: &[char], at: usize, c: char) -> Result<(), SyntaxFault>
+    requires { at ≤ length chars.now }
+    ensures there { OnOk result
+        ((at < length chars.now) × (drop at chars.now ≡ c ∷ drop (at + 1) chars.now)) }
+    ensures refused { IfErr result (λ fault. NoReading fault (Begins c) (drop at chars.now)) }
+{
+    if at == chars.len() {
+        return Err(SyntaxFault::ClassNestUnexpectedEof);
+    }
+    if is_at(chars, at, c) {
+        Ok(())
+    } else {
+        Err(SyntaxFault::ClassNestUnsupported)
+    }
 }
 
 /// Where the lower-case letters from the index on end.

@@ -1,9 +1,10 @@
 //! What a class begins with.
-ghost use Rattle.std.specs.Prelude.{◌≡◌, ◌<◌, ◌≤◌, ◌+◌, ◌∷◌, ℕ, nat_lt, drop, length};
+ghost use Rattle.std.specs.Prelude.{◌≡◌, ◌<◌, ◌≤◌, ◌+◌, ◌∷◌, ℕ, nat_lt, drop, length, IsTrue};
 ghost use Rattle.regex_lite_syntax.specs.Text.{the};
 ghost use Rattle.regex_lite_syntax.specs.Grammar.Gaps.{EndsGap};
 ghost use Rattle.regex_lite_syntax.specs.Grammar.Classes.{Takes, Dashes};
 ghost use Rattle.regex_lite_syntax.specs.Grammar.Classes.{FirstBracket, ClassOpening};
+ghost use Rattle.regex_lite_syntax.specs.CutShort.{is_cut_short};
 
 use crate::error::SyntaxFault;
 use crate::parse::gap::skip_gap;
@@ -19,7 +20,9 @@ pub(crate) struct Opening {
 
 impl Opening {
     /// The fault of a pattern that ends after this.
-    pub(crate) fn unclosed(self) -> SyntaxFault {
+    pub(crate) fn unclosed(self) -> SyntaxFault
+        ensures { IsTrue (is_cut_short result) }
+    {
         if self.dash {
             SyntaxFault::ClassUnclosedAfterDash
         } else if self.bracket {

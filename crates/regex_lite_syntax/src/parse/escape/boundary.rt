@@ -1,12 +1,14 @@
 //! Starts and ends of words: `\b`, and its forms with a name in braces.
-ghost use Rattle.std.specs.Prelude.{◌≡◌, ◌≤◌, ◌∷◌, drop, length, IsTrue};
-ghost use Rattle.std.specs.Prelude.{IfOk, OnErr, IfSome, IfNone};
+ghost use Rattle.std.specs.Prelude.{◌≡◌, ◌≤◌, [], ◌∷◌, ◌++◌, drop, length, IsTrue};
+ghost use Rattle.std.specs.Prelude.{IfOk, IfSome, IfNone, IfErr};
 ghost use Rattle.std.specs.List.{list_all};
 ghost use Rattle.regex_lite_syntax.specs.declared.hir.look.Look.{Look};
 ghost use Rattle.regex_lite_syntax.specs.Text.{Text, the};
 ghost use Rattle.regex_lite_syntax.specs.Grammar.Gaps.{Gap, Spaced};
 ghost use Rattle.regex_lite_syntax.specs.Grammar.Escapes.{is_boundary_character};
 ghost use Rattle.regex_lite_syntax.specs.Grammar.Escapes.{BoundaryName, WordBoundary};
+ghost use Rattle.regex_lite_syntax.specs.CutShort.{is_cut_short};
+ghost use Rattle.regex_lite_syntax.specs.Refusals.{MayFollow, NoReading};
 
 use crate::error::SyntaxFault;
 use crate::hir::look::Look;
@@ -24,8 +26,9 @@ pub(super) fn read_word_boundary(
     ensures inside { IfOk result (λ r. (at ≤ r.0) × (r.0 ≤ length chars.now)) }
     ensures ok { IfOk result (λ r.
         WordBoundary verbose (drop at chars.now) (drop r.0 chars.now) r.1) }
-    ensures refused { OnErr result
-        (¬ ((rest : Text) × (look : Look) × WordBoundary verbose (drop at chars.now) rest look)) }
+    ensures refused { IfErr result (λ fault. NoReading fault
+        (λ t. (rest : Text) × (look : Look) × WordBoundary verbose t rest look)
+        (drop at chars.now)) }
 {
     if !is_at(chars, at, '{') {
         return Ok((at, Look::Word));
@@ -44,8 +47,9 @@ fn read_name(chars: &[char], at: usize, verbose: bool) -> Result<(usize, Look), 
     ensures inside { IfOk result (λ r. (at ≤ r.0) × (r.0 ≤ length chars.now)) }
     ensures ok { IfOk result (λ r.
         BoundaryName verbose (drop at chars.now) (drop r.0 chars.now) r.1) }
-    ensures refused { OnErr result
-        (¬ ((rest : Text) × (look : Look) × BoundaryName verbose (drop at chars.now) rest look)) }
+    ensures refused { IfErr result (λ fault. NoReading fault
+        (λ t. (rest : Text) × (look : Look) × BoundaryName verbose t rest look)
+        (drop at chars.now)) }
 {
     if let Some(end) = skip_name(chars, at, verbose, "start") {
         return Ok((end, Look::WordStart));
@@ -90,18 +94,30 @@ fn skip_name(chars: &[char], at: usize, verbose: bool, name: &str) -> Option<usi
     }
 }
 
-/// Why no name stands there: it isn't closed, or it is none of the names.
+/// Why no name stands there: its letters go on to the end of the pattern, it isn't closed, or it
+/// is none of the names.
 fn fault_of_name(chars: &[char], at: usize, verbose: bool) -> SyntaxFault
     requires { at ≤ length chars.now }
+    ensures cut_short { IsTrue (is_cut_short result) → (letters : Text) × (last : Text)
+        × Spaced verbose is_boundary_character letters (drop at chars.now) last
+        × Gap verbose last [] }
+    ensures stands { (more rest : Text) (look : Look) → MayFollow result more
+        → BoundaryName verbose (drop at chars.now ++ more) rest look
+        → (past : Text) × BoundaryName verbose (drop at chars.now) past look }
 {
-    let mut next = skip_gap(chars, at, verbose);
-    while next < chars.len() && is_name_char(chars[next]) {
-        next = skip_gap(chars, next + 1, verbose);
-    }
-    if is_at(chars, next, '}') {
-        SyntaxFault::SpecialWordBoundaryUnrecognized
-    } else {
-        SyntaxFault::SpecialWordBoundaryUnclosed
+    let mut end = at;
+    loop {
+        let next = skip_gap(chars, end, verbose);
+        let Some(c) = char_at(chars, next) else {
+            return SyntaxFault::SpecialWordBoundaryUnexpectedEof;
+        };
+        if c == '}' {
+            return SyntaxFault::SpecialWordBoundaryUnrecognized;
+        }
+        if !is_name_char(c) {
+            return SyntaxFault::SpecialWordBoundaryUnclosed;
+        }
+        end = next + 1;
     }
 }
 

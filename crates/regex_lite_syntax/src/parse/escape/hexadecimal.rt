@@ -1,9 +1,10 @@
 //! Characters by their numbers: a fixed number of hexadecimal digits, or some in braces.
 ghost use Rattle.std.specs.Prelude.{◌≡◌, ℕ, ◌<◌, ◌≤◌, drop, length, IsTrue};
-ghost use Rattle.std.specs.Prelude.{false, MatchOption, IfOk, OnErr};
+ghost use Rattle.std.specs.Prelude.{false, MatchOption, IfOk, IfErr};
 ghost use Rattle.regex_lite_syntax.specs.Text.{Text};
 ghost use Rattle.regex_lite_syntax.specs.Characters.{is_hex_digit, digit_value as value_of_digit};
 ghost use Rattle.regex_lite_syntax.specs.Grammar.Escapes.{FixedDigits, BracedDigits, Hexadecimal};
+ghost use Rattle.regex_lite_syntax.specs.Refusals.{NoReading};
 
 use crate::error::SyntaxFault;
 use crate::parse::gap::skip_gap;
@@ -24,8 +25,8 @@ pub(super) fn read_hexadecimal(
     ensures inside { IfOk result (λ r. (at ≤ r.0) × (r.0 ≤ length chars.now)) }
     ensures ok { IfOk result (λ r.
         Hexadecimal verbose digits (drop at chars.now) (drop r.0 chars.now) r.1) }
-    ensures refused { OnErr result
-        (¬ ((rest : Text) × (c : ℕ) × Hexadecimal verbose digits (drop at chars.now) rest c)) }
+    ensures refused { IfErr result (λ fault. NoReading fault
+        (λ t. (rest : Text) × (c : ℕ) × Hexadecimal verbose digits t rest c) (drop at chars.now)) }
 {
     let first = skip_gap(chars, at, verbose);
     match char_at(chars, first) {
@@ -46,8 +47,8 @@ fn read_fixed(
     ensures inside { IfOk result (λ r. (at ≤ r.0) × (r.0 ≤ length chars.now)) }
     ensures ok { IfOk result (λ r.
         FixedDigits verbose digits (drop at chars.now) (drop r.0 chars.now) r.1) }
-    ensures refused { OnErr result
-        (¬ ((rest : Text) × (c : ℕ) × FixedDigits verbose digits (drop at chars.now) rest c)) }
+    ensures refused { IfErr result (λ fault. NoReading fault
+        (λ t. (rest : Text) × (c : ℕ) × FixedDigits verbose digits t rest c) (drop at chars.now)) }
 {
     let mut end = at;
     let mut number = 0;
@@ -77,8 +78,8 @@ fn read_braced(chars: &[char], at: usize, verbose: bool) -> Result<(usize, char)
     ensures inside { IfOk result (λ r. (at ≤ r.0) × (r.0 ≤ length chars.now)) }
     ensures ok { IfOk result (λ r.
         BracedDigits verbose (drop at chars.now) (drop r.0 chars.now) r.1) }
-    ensures refused { OnErr result
-        (¬ ((rest : Text) × (c : ℕ) × BracedDigits verbose (drop at chars.now) rest c)) }
+    ensures refused { IfErr result (λ fault. NoReading fault
+        (λ t. (rest : Text) × (c : ℕ) × BracedDigits verbose t rest c) (drop at chars.now)) }
 {
     let mut end = at;
     let mut number = 0;

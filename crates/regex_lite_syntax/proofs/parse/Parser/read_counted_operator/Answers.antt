@@ -1,4 +1,4 @@
-use Rattle.std.proofs.Common.{refl, ℕ, sym, ◌∙◌, ap, subst, map, arith, drop, ◌+◌}
+use Rattle.std.proofs.Common.{refl, ℕ, sym, ◌∙◌, ap, subst, map, arith, drop, ◌+◌, ◌++◌}
 use Rattle.std.proofs.lemmas.Result.{err_from_is_err_and}
 use Rattle.regex_lite_syntax.specs.Text.{Text}
 use Rattle.regex_lite_syntax.specs.Grammar.Gaps.{Gap}
@@ -17,13 +17,17 @@ pub returns-in_default-clause-refused : goal.returns-in_default-clause-refused
 returns-in_default-clause-refused c =
     let items = c.args.self.now.here.items in
     let none = none_left items.items (sym items.ok.0 ∙ c.in_default.ensures.cases.0) in
-    rw c.into.ensures (reads_no_counted c.args.self.now _ _ c.requires.begins none)
+    rw c.into.ensures
+    (λ more follows. reads_no_counted c.args.self.now _ _ (ap (λ t. t ++ more) c.requires.begins)
+    none)
 
 pub returns-in_err-end-clause-refused : goal.returns-in_err-end-clause-refused
 returns-in_err-end-clause-refused c =
     let left = err_from_is_err_and c.from_residual.result c.from_residual.ensures.1 in
-    rw (left.1, left.2) (reads_no_counts c.args.self.now _ _ c.requires.begins
-    (λ past least most counted. c.in_err-end.ensures.refused (past, least, most, counted)))
+    rw (left.1, left.2)
+    (λ more follows. reads_no_counts c.args.self.now _ _ (ap (λ t. t ++ more) c.requires.begins)
+    (λ past least most counted.
+    c.in_err-end.ensures.refused more follows (past, least, most, counted)))
 
 pub returns-clause-ok : goal.returns-clause-ok
 unfolding state with_items

@@ -1,6 +1,9 @@
 use Rattle.std.proofs.Common.{inl, inr, ◌⊎◌, ◌≡◌, ◌≢◌, Bool, ◌∷◌, ◌+◌}
 use Rattle.std.proofs.Common.{sym, ◌∙◌, ap, subst, refl, drop, arith}
 use Rattle.std.proofs.lemmas.Result.{err_from_is_err_and}
+use Rattle.regex_lite_syntax.specs.declared.error.syntax.SyntaxFault.TheVariants.{
+  EmptyFlags,
+}
 use Rattle.regex_lite_syntax.specs.Text.{Text, Begins, the}
 use Rattle.regex_lite_syntax.specs.Grammar.Gaps.{Gap, WholeGap}
 use Rattle.regex_lite_syntax.specs.Grammar.FlagLetters.{FlagLetters}
@@ -12,15 +15,15 @@ use Rattle.regex_lite_syntax.proofs.parse.Parser.read_flags_head.Goals as goal
 pub returns-then-is_at-clause-refused : goal.returns-then-is_at-clause-refused
 returns-then-is_at-clause-refused c =
     let closing = (c.is_at.ensures.there c.if-is_at.true).1 in
-    rw c.into.ensures (reads_no_empty c.args.self.now _ _ _ _ c.requires.begins
+    rw c.into.ensures (reads_no_empty EmptyFlags c.args.self.now _ _ _ _ c.requires.begins
     c.requires.gap (c.requires.question ∙ ap (λ t. (the "?") ∷ t) closing))
 
 pub returns-in_err-end-clause-refused : goal.returns-in_err-end-clause-refused
 returns-in_err-end-clause-refused c =
     let left = err_from_is_err_and c.from_residual.result c.from_residual.ensures.1 in
-    rw (left.1, left.2) (reads_no_flags c.args.self.now _ _ _ _ c.requires.begins c.requires.gap
-    c.requires.question c.requires.unnamed
-    (λ rest new flags. c.in_err-end.ensures.refused (rest, new, flags)))
+    rw (left.1, left.2) (reads_no_flags c.in_err-end.field-0.0 c.args.self.now _ _ _ _
+    c.requires.begins c.requires.gap c.requires.question c.requires.unnamed
+    c.in_err-end.ensures.cut_short c.in_err-end.ensures.refused)
 
 -- past the gap after the `(` stands the `?`
 gap_to : (verbose : Bool) (t u first : Text) → WholeGap verbose t u → u ≡ the "?" ∷ first

@@ -1,14 +1,19 @@
 use Rattle.std.proofs.lemmas.Result.{err_from_is_err_and}
+use Rattle.regex_lite_syntax.specs.Text.{Text}
+use Rattle.regex_lite_syntax.specs.Grammar.Atoms.{Atom}
+use Rattle.regex_lite_syntax.specs.Tree.{Tree}
+use Rattle.regex_lite_syntax.specs.Parser.States.{CanRead}
 use Rattle.regex_lite_syntax.proofs.parse.DenialLemmas.{denial_refuses}
-use Rattle.regex_lite_syntax.proofs.machine.ReadStepLemmas.{reads_atom, reads_no_atom}
+use Rattle.regex_lite_syntax.proofs.machine.ReadStepLemmas.{reads_atom, reads_item}
 use Rattle.regex_lite_syntax.proofs.parse.Parser.read_item.Goals as goal
 
 pub returns-in_err-end-clause-refused : goal.returns-in_err-end-clause-refused
 returns-in_err-end-clause-refused c =
+    let p = c.args.self.now in
     let left = err_from_is_err_and c.from_residual.result c.from_residual.ensures.1 in
-    rw (left.1, left.2) (denial_refuses c.in_err-end.field-0.0 _ _ _ _
-    (λ none. reads_no_atom c.args.self.now _ c.requires.past_gap c.requires.begins
-    (λ rest a atom. none (rest, a, atom)))
+    rw (left.1, left.2) (denial_refuses c.in_err-end.field-0.0
+    (λ t. (rest : Text) × (a : Tree) × Atom p.here.flags t rest a) (CanRead p) _ _ _ _
+    (λ more. reads_item p _ more c.requires.past_gap c.requires.begins)
     c.in_err-end.ensures.refused)
 
 pub returns-clause-ok : goal.returns-clause-ok

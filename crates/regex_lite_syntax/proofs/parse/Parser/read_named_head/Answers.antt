@@ -1,5 +1,8 @@
 use Rattle.std.proofs.Common.{true, false, ◌≡◌, sym, subst, Contains, drop, arith}
 use Rattle.std.proofs.lemmas.Result.{err_from_is_err_and}
+use Rattle.regex_lite_syntax.specs.declared.error.syntax.SyntaxFault.TheVariants.{
+  DuplicateCaptureName,
+}
 use Rattle.regex_lite_syntax.specs.Text.{Text}
 use Rattle.regex_lite_syntax.specs.Grammar.GroupNames.{NameOpening, NameWritten, Named}
 use Rattle.regex_lite_syntax.specs.Tree.Views.{text_of_name}
@@ -12,8 +15,8 @@ pub returns-in_err-end-clause-refused : goal.returns-in_err-end-clause-refused
 returns-in_err-end-clause-refused c =
     let left = err_from_is_err_and c.from_residual.result c.from_residual.ensures.1 in
     rw (left.1, left.2)
-    (reads_no_name c.args.self.now _ _ _ _ c.requires.begins c.requires.gap c.requires.opens
-    (λ rest name written. c.in_err-end.ensures.refused (rest, name, written)))
+    (reads_no_name c.in_err-end.field-0.0 c.args.self.now _ _ _ _ c.requires.begins c.requires.gap
+    c.requires.opens c.in_err-end.ensures.refused)
 
 -- what opens a name and the name
 named_from : (t past rest name letters : Text) → NameOpening t past → NameWritten past rest letters
@@ -46,7 +49,8 @@ returns-then-not-branch-clause-refused c =
     let known = rw old at c.in_ok-insert.ensures in
     let twice : Contains c.args.self.now.names name = known in
     rw c.into.ensures
-    (reads_no_second c.args.self.now _ _ _ _ name c.requires.begins c.requires.gap named twice)
+    (reads_no_second DuplicateCaptureName c.args.self.now _ _ _ _ name c.requires.begins
+    c.requires.gap named twice)
 
 pub returns-clause-ok : goal.returns-clause-ok
 returns-clause-ok c =

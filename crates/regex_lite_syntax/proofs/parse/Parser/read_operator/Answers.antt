@@ -1,4 +1,5 @@
-use Rattle.std.proofs.Common.{◌≡◌, ℕ, refl, sym, ◌∙◌, ap, map, arith, drop, get_or, ◌+◌, ◌∷◌}
+use Rattle.std.proofs.Common.{◌≡◌, ℕ, refl, sym, ◌∙◌, ap, map, arith, drop, get_or, ◌+◌}
+use Rattle.std.proofs.Common.{◌∷◌, ◌++◌}
 use Rattle.regex_lite_syntax.specs.Text.{Text, the}
 use Rattle.regex_lite_syntax.specs.Grammar.Operators.{greed, uncounted, uncounted_lazy}
 use Rattle.regex_lite_syntax.specs.Tree.Views.{tree_of}
@@ -17,7 +18,8 @@ returns-in_default-clause-refused c =
     let items = c.args.self.now.here.items in
     let none = none_left items.items (sym items.ok.0 ∙ c.in_default.ensures.cases.0) in
     rw c.into.ensures
-    (reads_no_operator c.args.self.now (drop c.args.at xs) _ _ _ e (c.requires.bounded _ e) none)
+    (λ more follows. reads_no_operator c.args.self.now _ _ _ _ (ap (λ t. t ++ more) e)
+    (c.requires.bounded _ e) none)
 
 pub returns-clause-ok : goal.returns-clause-ok
 unfolding state with_items

@@ -1,6 +1,12 @@
-use Rattle.std.proofs.Common.{◌∙◌, ap, arith, drop, ◌+◌, ◌∷◌}
+use Rattle.std.proofs.Common.{refl, ◌∙◌, ap, arith, drop, ◌+◌, ◌∷◌, ◌++◌}
 use Rattle.std.proofs.lemmas.Result.{err_from_is_err_and}
-use Rattle.regex_lite_syntax.proofs.grammar.AtomLemmas.{NoSign, no_escape}
+use Rattle.regex_lite_syntax.specs.Text.{Text, the}
+use Rattle.regex_lite_syntax.specs.Sets.{Set}
+use Rattle.regex_lite_syntax.specs.Grammar.Classes.{BracketedClass}
+use Rattle.regex_lite_syntax.specs.Grammar.Atoms.{bracketed, Atom}
+use Rattle.regex_lite_syntax.specs.Tree.{Tree}
+use Rattle.regex_lite_syntax.proofs.grammar.AtomLemmas.{by_kind, NoSign, no_escape}
+use Rattle.regex_lite_syntax.proofs.parse.DenialLemmas.{denies_part}
 use Rattle.regex_lite_syntax.proofs.parse.IndexLemmas.{drop_char}
 use Rattle.regex_lite_syntax.proofs.parse.atom.LiteralLemmas.{other_atom}
 use Rattle.regex_lite_syntax.proofs.parse.atom.read_atom.Goals as goal
@@ -12,8 +18,27 @@ returns-in_err-end-in-92-clause-refused c =
     let backslash = here ∙ ap (λ d. d ∷ drop (c.args.at + 1) xs) c.in-92.is in
     let left = err_from_is_err_and c.from_residual-in_err-end-in-92.result
     c.from_residual-in_err-end-in-92.ensures.1 in
-    rw (left.1, left.2) (λ (rest, a, atom). no_escape c.args.flags _ _ rest a backslash
-    (λ past p escape. c.in_err-end-in-92.ensures.refused (past, p, escape)) atom)
+    rw (left.1, left.2)
+    (λ more follows (rest, a, atom).
+    no_escape c.args.flags _ _ rest a (ap (λ u. u ++ more) backslash)
+    (λ past p escape. c.in_err-end-in-92.ensures.refused more follows (past, p, escape)) atom)
+
+pub returns-in_err-end-in-91-clause-refused : goal.returns-in_err-end-in-91-clause-refused
+returns-in_err-end-in-91-clause-refused c =
+    let xs = c.args.chars.now in
+    let flags = c.args.flags in
+    let here = drop_char xs c.args.at _ c.requires.inside c.index-chars-at.is in
+    let bracket = here ∙ ap (λ d. d ∷ drop (c.args.at + 1) xs) c.in-91.is in
+    let left = err_from_is_err_and c.from_residual-in_err-end-in-91.result
+    c.from_residual-in_err-end-in-91.ensures.1 in
+    rw (left.1, left.2)
+    (denies_part c.in_err-end-in-91.field-0.0
+    (λ t. (rest : Text) × (s : Set)
+    × BracketedClass flags.case_insensitive flags.ignore_whitespace t rest s)
+    (λ t. (rest : Text) × (a : Tree) × Atom flags t rest a) _ _
+    (λ more (rest, a, atom).
+    let from = by_kind flags bracketed (the "[") _ _ rest a (ap (λ u. u ++ more) bracket) refl atom
+    in (rest, from.0, from.1)) c.in_err-end-in-91.ensures.refused)
 
 pub returns-in_ok-char_tree-in_default-clause-ok :
     goal.returns-in_ok-char_tree-in_default-clause-ok

@@ -1,48 +1,57 @@
-use Rattle.std.proofs.Common.{◌≡◌, sym, subst, drop, List, ◌∷◌, ℕ}
+use Rattle.std.proofs.Common.{◌≡◌, sym, subst, drop, List, ◌∷◌, ◌++◌, ℕ, arith}
 use Rattle.std.proofs.lemmas.Result.{err_from_is_err_and}
 use Rattle.regex_lite_syntax.specs.Text.{Text, the}
 use Rattle.regex_lite_syntax.specs.Sets.{Set, just, union}
 use Rattle.regex_lite_syntax.specs.Ranges.{in_ranges}
 use Rattle.regex_lite_syntax.specs.Grammar.Classes.{ClassItems, only_if, BracketedClass}
 use Rattle.regex_lite_syntax.specs.Refusals.{Denies}
-use Rattle.regex_lite_syntax.proofs.parse.DenialLemmas.{denies_part}
+use Rattle.regex_lite_syntax.proofs.grammar.LongerClassLemmas.{opening_longer}
+use Rattle.regex_lite_syntax.proofs.parse.DenialLemmas.{none_at_end, denies_part}
 use Rattle.regex_lite_syntax.proofs.parse.IndexLemmas.{left_at_end}
 use Rattle.regex_lite_syntax.proofs.parse.bracket.ClassItemLemmas.{nothing_left}
 use Rattle.regex_lite_syntax.proofs.parse.bracket.ClassOpeningLemmas.{class_from, class_items}
 use Rattle.regex_lite_syntax.proofs.parse.bracket.ClassSetLemmas.{holds_all, class_as}
+use Rattle.regex_lite_syntax.proofs.parse.bracket.LongerItemLemmas.{some_at}
 use Rattle.regex_lite_syntax.proofs.parse.bracket.read_class.Goals as goal
 use Rattle.regex_lite_syntax.proofs.parse.bracket.read_class.Goals.{In_ok-class}
 
 pub returns-then-start-chars-clause-refused : goal.returns-then-start-chars-clause-refused
 returns-then-start-chars-clause-refused c =
+    let insensitive = c.args.insensitive in
     let verbose = c.args.verbose in
     let xs = c.args.chars.now in
     let t = drop c.args.at xs in
     let start = c.read_opening-start.result.0 in
-    subst (λ e. Denies e ((r : Text) × (s : Set) × BracketedClass c.args.insensitive verbose t r s))
+    subst (λ e. Denies e (λ t. (r : Text) × (s : Set) × BracketedClass insensitive verbose t r s) t)
     (sym c.into.ensures)
+    (none_at_end c.unclosed.result
+    (λ t. (r : Text) × (s : Set) × BracketedClass insensitive verbose t r s) t
+    c.unclosed.ensures
     (λ found. nothing_left verbose found.2.sets found.0
     (subst (λ u. ClassItems verbose found.2.sets u found.0)
     (left_at_end xs start c.if-start-chars.true)
-    (class_items c.args.insensitive verbose t
-    (drop start xs) found.0 _ _ _ found.1 c.read_opening-start.ensures.opens found.2)))
+    (class_items insensitive verbose t
+    (drop start xs) found.0 _ _ _ found.1 c.read_opening-start.ensures.opens found.2))))
 
 pub returns-in_err-end-clause-refused : goal.returns-in_err-end-clause-refused
 returns-in_err-end-clause-refused c =
+    let insensitive = c.args.insensitive in
     let verbose = c.args.verbose in
     let xs = c.args.chars.now in
     let t = drop c.args.at xs in
     let u = drop c.read_opening-start.result.0 xs in
+    let some = some_at xs c.read_opening-start.result.0
+    (omega (arith, c.if-start-chars.false, c.read_opening-start.ensures.inside)) in
     let left =
     err_from_is_err_and c.from_residual-in_err-end.result c.from_residual-in_err-end.ensures.1 in
     rw (left.1, left.2) (denies_part _
-    ((r : Text) × (sets : List Set) × ClassItems verbose sets u r)
-    ((r : Text) × (s : Set) × BracketedClass c.args.insensitive verbose t r s)
-    (λ found. (
+    (λ t. (r : Text) × (sets : List Set) × ClassItems verbose sets t r)
+    (λ t. (r : Text) × (s : Set) × BracketedClass insensitive verbose t r s) u t
+    (λ more found. (
       found.0,
       found.2.sets,
-      class_items c.args.insensitive verbose t u found.0 _ _ _ found.1
-          c.read_opening-start.ensures.opens found.2,
+      class_items insensitive verbose (t ++ more) (u ++ more) found.0 _ _ _ found.1
+          (opening_longer more c.read_opening-start.ensures.opens some) found.2,
     ))
     c.in_err-end.ensures.refused)
 

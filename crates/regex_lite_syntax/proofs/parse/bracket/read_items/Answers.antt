@@ -1,21 +1,49 @@
-use Rattle.std.proofs.Common.{refl, subst, ◌+◌, ◌++◌, drop, [], ◌∷◌, arith}
+use Rattle.std.proofs.Common.{◌≡◌, refl, sym, ◌∙◌, ap, subst, ◌+◌, ◌++◌, drop, List, [], ◌∷◌}
+use Rattle.std.proofs.Common.{arith}
 use Rattle.std.proofs.lemmas.List.{append-nil}
 use Rattle.std.proofs.lemmas.Result.{err_from_is_err_and}
+use Rattle.regex_lite_syntax.specs.Text.{Text, the}
+use Rattle.regex_lite_syntax.specs.Sets.{Set}
 use Rattle.regex_lite_syntax.specs.Grammar.Classes.{ClassItems}
 use Rattle.regex_lite_syntax.specs.Parser.ClassReadings.{item_set}
+use Rattle.regex_lite_syntax.specs.Refusals.{Denies}
+use Rattle.regex_lite_syntax.proofs.grammar.LongerGapLemmas.{begins_longer}
+use Rattle.regex_lite_syntax.proofs.parse.IndexLemmas.{left_at_end}
 use Rattle.regex_lite_syntax.proofs.parse.bracket.ClassItemLemmas.{has_items, items_push}
-use Rattle.regex_lite_syntax.proofs.parse.bracket.ClassItemLemmas.{items_next}
+use Rattle.regex_lite_syntax.proofs.parse.bracket.ClassItemLemmas.{items_next, nothing_left}
+use Rattle.regex_lite_syntax.proofs.parse.bracket.LongerItemLemmas.{some_at, whole_follows}
 use Rattle.regex_lite_syntax.proofs.parse.bracket.ClassSetLemmas.{holds_more}
 use Rattle.regex_lite_syntax.proofs.parse.bracket.read_items.Goals as goal
 
+pub returns-then-end-chars-clause-refused : goal.returns-then-end-chars-clause-refused
+returns-then-end-chars-clause-refused c =
+    let verbose = c.args.verbose in
+    let xs = c.args.chars.now in
+    let left = left_at_end xs c.items.end c.if-end-chars.true in
+    subst (λ e. Denies e (λ t. (rest : Text) × (sets : List Set) × ClassItems verbose sets t rest)
+    (drop c.args.at xs))
+    (sym c.into.ensures)
+    (λ more follows found.
+    let nothing : more ≡ [] = follows refl in
+    let items = c.items.invariant.back more (λ _. nothing) found.1 found.0 found.2 in
+    nothing_left verbose items.0 found.0
+    (subst (λ u. ClassItems verbose items.0 u found.0) (ap (λ u. u ++ more) left ∙ nothing)
+    items.1))
+
 pub returns-in_err-past-clause-refused : goal.returns-in_err-past-clause-refused
 returns-in_err-past-clause-refused c =
+    let verbose = c.args.verbose in
+    let u = drop c.items.end c.args.chars.now in
     let left = err_from_is_err_and c.from_residual.result c.from_residual.ensures.1 in
+    let some = some_at c.args.chars.now c.items.end
+    (omega (arith, c.if-end-chars.false, c.items.invariant.inside)) in
     rw (left.1, left.2)
-    (λ found.
-    let more = c.items.invariant.back found.1 found.0 found.2 in
-    c.in_err-past.ensures.refused
-    (has_items c.args.verbose more.0 _ _ (c.items-test.ensures.absent refl) more.1))
+    (λ more follows found.
+    let items =
+    c.items.invariant.back more (λ ends. absurd (some ends)) found.1 found.0 found.2 in
+    c.in_err-past.ensures.refused more follows
+    (has_items verbose items.0 (u ++ more) found.0
+    (begins_longer more (the "]") u (c.items-test.ensures.absent refl) some) items.1))
 
 pub items-preserved : goal.items-preserved
 items-preserved c =
@@ -23,6 +51,8 @@ items-preserved c =
     let s = item_set c.in_ok-past.item in
     let item = c.in_ok-past.ensures.ok in
     let gap = c.skip_gap-end.ensures.gap in
+    let some = some_at c.args.chars.now c.items.end
+    (omega (arith, c.if-end-chars.false, so_far.inside)) in
     record {
       inside = (omega (arith, c.in_ok-past.ensures.inside), c.skip_gap-end.ensures.inside.1);
       past_gap = gap.1;
@@ -30,8 +60,10 @@ items-preserved c =
       holds = λ d. holds_more _ _ _ so_far.sets s d (so_far.holds d) (c.in_ok-push_item.ensures d);
       goes = λ more rest items.
           items_push _ so_far.sets more s _ _ _ _ rest so_far.goes item gap items;
-      back = λ all rest items.
-          let more = so_far.back all rest items in items_next _ more.0 s _ _ _ rest item gap more.1;
+      back = λ more follows all rest items.
+          let here = so_far.back more (λ ends. absurd (some ends)) all rest items in
+          items_next _ here.0 s _ _ _ rest (c.in_ok-past.ensures.stays more)
+          (whole_follows more _ _ _ gap follows) here.1;
     }
 
 pub returns-clause-ok : goal.returns-clause-ok

@@ -1,4 +1,4 @@
-use Rattle.std.proofs.Common.{◌≡◌, ◌≤◌, ◌-◌, ◌++◌, ◌||◌, drop, length, ℕ, List}
+use Rattle.std.proofs.Common.{◌≡◌, ◌≤◌, ◌-◌, ◌++◌, ◌||◌, drop, length, ℕ, List, []}
 use Rattle.regex_lite_syntax.specs.Text.{Text}
 use Rattle.regex_lite_syntax.specs.Grammar.Gaps.{EndsGap}
 use Rattle.regex_lite_syntax.specs.Sets.{Set, union}
@@ -17,8 +17,10 @@ invariant-items l = record {
   -- items from here on are items from the start on, and the other way round
   goes : (more : List Set) (rest : Text) → ClassItems l.verbose more (drop l.end l.chars) rest
       → ClassItems l.verbose (sets ++ more) (drop l.at l.chars) rest;
-  back : (all : List Set) (rest : Text) → ClassItems l.verbose all (drop l.at l.chars) rest
-      → (more : List Set) × ClassItems l.verbose more (drop l.end l.chars) rest;
+  -- the latter in a longer text too, unless the text ends here
+  back : (more : Text) → (drop l.end l.chars ≡ [] → more ≡ []) → (all : List Set) (rest : Text)
+      → ClassItems l.verbose all (drop l.at l.chars ++ more) rest
+      → (sets : List Set) × ClassItems l.verbose sets (drop l.end l.chars ++ more) rest;
 }
 
 abbrev pub decreases-items : goal.decreases-items

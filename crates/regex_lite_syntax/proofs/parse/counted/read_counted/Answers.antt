@@ -1,42 +1,65 @@
-use Rattle.std.proofs.Common.{◌≡◌, ◌∙◌, subst, drop, arith}
-use Rattle.std.proofs.lemmas.List.{drop_all}
+use Rattle.std.proofs.Common.{◌≡◌, refl, ◌∙◌, ap, subst, drop, ◌++◌, arith}
 use Rattle.std.proofs.lemmas.Result.{err_from_is_err_and}
 use Rattle.regex_lite_syntax.specs.Grammar.Gaps.{WholeGap}
 use Rattle.regex_lite_syntax.specs.Grammar.Counted.{Counted}
 use Rattle.regex_lite_syntax.proofs.grammar.NumberLemmas.{no_ender, nothing_left, other_ender}
 use Rattle.regex_lite_syntax.proofs.grammar.CountLemmas.{counted_to, first_number}
 use Rattle.regex_lite_syntax.proofs.grammar.CountLemmas.{limit_once, limit_past, past_min}
+use Rattle.regex_lite_syntax.proofs.grammar.LongerNumberLemmas.{of_text, limit_longer}
+use Rattle.regex_lite_syntax.proofs.parse.IndexLemmas.{left_at_end}
 use Rattle.regex_lite_syntax.proofs.parse.counted.read_counted.Goals as goal
 
 pub returns-then-first-chars-clause-refused : goal.returns-then-first-chars-clause-refused
 returns-then-first-chars-clause-refused c =
-    let none = drop_all c.skip_gap-first.result c.args.chars.now (omega arith) in
-    let left = subst (λ u. WholeGap c.args.verbose (drop c.args.at c.args.chars.now) u) none
-    c.skip_gap-first.ensures.gap in
-    λ (rest, least, most, counted). nothing_left left (first_number counted).1
+    let xs = c.args.chars.now in
+    let t = drop c.args.at xs in
+    let none = left_at_end xs c.skip_gap-first.result c.if-first-chars.true in
+    let left = subst (λ u. WholeGap c.args.verbose t u) none c.skip_gap-first.ensures.gap in
+    λ more follows (rest, least, most, counted).
+    let now =
+    of_text (λ v. Counted c.args.verbose v rest least most) t more (follows refl) counted in
+    nothing_left left (first_number now).1
+
+pub returns-in_err-past_min-clause-refused : goal.returns-in_err-past_min-clause-refused
+returns-in_err-past_min-clause-refused c =
+    let refused = err_from_is_err_and c.from_residual.result c.from_residual.ensures.1 in
+    rw (refused.1, refused.2)
+    (λ more follows (rest, least, most, counted).
+    let number = first_number counted in
+    c.in_err-past_min.ensures.refused more follows (number.0, least, number.1, number.2))
 
 pub returns-in_err-end-in-Some-eq44-clause-refused :
     goal.returns-in_err-end-in-Some-eq44-clause-refused
 returns-in_err-end-in-Some-eq44-clause-refused c =
     let refused = err_from_is_err_and c.from_residual-in_err-end-in-Some-eq44.result
     c.from_residual-in_err-end-in-Some-eq44.ensures.1 in
-    rw refused.1
-    (λ (rest, least, most, counted).
-    let past = past_min c.in_ok-past_min.ensures.only counted in
-    let limit = limit_past _ _ _ c.in-Some-eq44.ensures.1 c.in-Some-eq44.field-0-test past.1 in
-    c.in_err-end-in-Some-eq44.ensures.refused (rest, most, limit.0))
+    let here = c.in-Some-eq44.ensures.1 in
+    rw (refused.1, refused.2)
+    (λ more follows (rest, least, most, counted).
+    let past = past_min (λ rest' n. c.in_ok-past_min.ensures.only more rest' n
+    (λ none. cc (here, none))) counted in
+    let limit = limit_past _ _ _ (ap (λ u. u ++ more) here) c.in-Some-eq44.field-0-test past.1 in
+    c.in_err-end-in-Some-eq44.ensures.refused more follows (rest, most, limit.0))
 
 pub returns-in-None-clause-refused : goal.returns-in-None-clause-refused
 returns-in-None-clause-refused c =
-    λ (rest, least, most, counted).
-    no_ender _ c.in-None.ensures (past_min c.in_ok-past_min.ensures.only counted).0
+    λ more follows (rest, least, most, counted).
+    let past = past_min (λ rest' n. c.in_ok-past_min.ensures.only more rest' n
+    (λ none. follows refl)) counted in
+    no_ender _ (ap (λ u. u ++ more) c.in-None.ensures ∙ follows refl) past.0
 
 pub returns-in-Some-most-clause-refused : goal.returns-in-Some-most-clause-refused
 returns-in-Some-most-clause-refused c =
-    λ (rest, least, most, counted).
-    let past = past_min c.in_ok-past_min.ensures.only counted in
-    let limit = limit_past _ _ _ c.in-Some-eq44.ensures.1 c.in-Some-eq44.field-0-test past.1 in
-    let same = limit_once _ _ _ _ _ _ limit.0 c.in_ok-end-in-Some-eq44.ensures.ok in
+    let xs = c.args.chars.now in
+    let here = c.in-Some-eq44.ensures.1 in
+    let read = c.in_ok-end-in-Some-eq44 in
+    λ more follows (rest, least, most, counted).
+    let past = past_min (λ rest' n. c.in_ok-past_min.ensures.only more rest' n
+    (λ none. cc (here, none))) counted in
+    let limit =
+    limit_past _ _ _ (ap (λ u. u ++ more) here) c.in-Some-eq44.field-0-test past.1 in
+    let longer = limit_longer more c.args.verbose _ _ read.most read.ensures.ok in
+    let same = limit_once _ _ _ _ _ _ limit.0 longer in
     let order = limit.1 c.in-Some-most.most (same.1 ∙ c.in-Some-most.is) in
     omega (arith, order, c.if-most-least.true)
 
@@ -63,7 +86,10 @@ returns-in_default-2-clause-ok c =
 
 pub returns-in-Some-clause-refused : goal.returns-in-Some-clause-refused
 returns-in-Some-clause-refused c =
-    λ (rest, least, most, counted).
-    other_ender _ _ _ c.in-Some.ensures.1 (λ is. omega (arith, is, c.in-Some.field-0-test))
+    let here = c.in-Some.ensures.1 in
+    λ more follows (rest, least, most, counted).
+    let past = past_min (λ rest' n. c.in_ok-past_min.ensures.only more rest' n
+    (λ none. cc (here, none))) counted in
+    other_ender _ _ _ (ap (λ u. u ++ more) here)
     (λ is. omega (arith, is, c.in-Some.field-0-test))
-    (past_min c.in_ok-past_min.ensures.only counted).0
+    (λ is. omega (arith, is, c.in-Some.field-0-test)) past.0

@@ -1,43 +1,48 @@
-use Rattle.std.proofs.Common.{inr, refl, sym, ◌∙◌, subst, drop, ◌∷◌}
+use Rattle.std.proofs.Common.{inr, refl, sym, ◌∙◌, ap, subst, drop, ◌∷◌, ◌++◌}
 use Rattle.std.proofs.lemmas.Result.{err_from_is_err_and}
 use Rattle.regex_lite_syntax.specs.Text.{the}
 use Rattle.regex_lite_syntax.specs.Grammar.Gaps.{WholeGap}
+use Rattle.regex_lite_syntax.specs.Grammar.Counted.{Limit}
 use Rattle.regex_lite_syntax.proofs.ListLemmas.{same_head}
 use Rattle.regex_lite_syntax.proofs.grammar.NumberLemmas.{no_ender, nothing_left}
-use Rattle.regex_lite_syntax.proofs.grammar.CountLemmas.{limit_before_other, limit_is_number}
+use Rattle.regex_lite_syntax.proofs.grammar.CountLemmas.{limit_is_number}
+use Rattle.regex_lite_syntax.proofs.grammar.LongerNumberLemmas.{of_text, longer_limit_is_number}
 use Rattle.regex_lite_syntax.proofs.parse.counted.read_limit.Goals as goal
 
 pub returns-in-None-clause-refused : goal.returns-in-None-clause-refused
 returns-in-None-clause-refused c =
+    let t = drop c.args.at c.args.chars.now in
     let whole = c.skip_gap-first.ensures.gap in
-    let left = subst (λ u. WholeGap c.args.verbose (drop c.args.at c.args.chars.now) u)
-    c.in-None.ensures whole in
-    λ (rest, most, limit). nothing_left left (limit_is_number _ left (λ begins. begins) limit).2
+    let left = subst (λ u. WholeGap c.args.verbose t u) c.in-None.ensures whole in
+    λ more follows (rest, most, limit).
+    let now = of_text (λ v. Limit c.args.verbose v rest most) t more (follows refl) limit in
+    nothing_left left (limit_is_number _ left (λ begins. begins) now).2
 
 pub returns-in_err-end-clause-refused : goal.returns-in_err-end-clause-refused
 returns-in_err-end-clause-refused c =
     let refused = err_from_is_err_and c.from_residual.result c.from_residual.ensures.1 in
-    rw refused.1
-    (λ (rest, most, limit).
-    let number = limit_before_other _ _ _ c.skip_gap-first.ensures.gap c.in-Some.ensures.1
-    c.in-Some.field-0-test.1
-    limit in
-    c.in_err-end.ensures.refused (the "}" ∷ rest, number.0, number.2, inr refl))
+    rw (refused.1, refused.2)
+    (λ more follows (rest, most, limit).
+    let number = longer_limit_is_number more _ _ _ _ c.skip_gap-first.ensures.gap
+    c.in-Some.ensures.1 c.in-Some.field-0-test.1 limit in
+    c.in_err-end.ensures.refused more follows (the "}" ∷ rest, number.0, number.2, inr refl))
 
 pub returns-in-None-char_at-clause-refused : goal.returns-in-None-char_at-clause-refused
 returns-in-None-char_at-clause-refused c =
-    λ (rest, most, limit).
-    let number = limit_before_other _ _ _ c.skip_gap-first.ensures.gap c.in-Some.ensures.1
-    c.in-Some.field-0-test.1
-    limit in
-    let same = c.in_ok-end.ensures.only (the "}" ∷ rest) number.0 number.2 (inr refl) in
-    no_ender _ (same.0 ∙ c.in-None-char_at.ensures) (inr refl)
+    λ more follows (rest, most, limit).
+    let number = longer_limit_is_number more _ _ _ _ c.skip_gap-first.ensures.gap
+    c.in-Some.ensures.1 c.in-Some.field-0-test.1 limit in
+    let same = c.in_ok-end.ensures.only more (the "}" ∷ rest) number.0 (λ _. follows refl)
+    number.2 (inr refl) in
+    no_ender _ (same.0 ∙ ap (λ u. u ++ more) c.in-None-char_at.ensures ∙ follows refl)
+    (inr refl)
 
 pub returns-in-Some-char_at-clause-refused : goal.returns-in-Some-char_at-clause-refused
 returns-in-Some-char_at-clause-refused c =
-    λ (rest, most, limit).
-    let number = limit_before_other _ _ _ c.skip_gap-first.ensures.gap c.in-Some.ensures.1
-    c.in-Some.field-0-test.1
-    limit in
-    let same = c.in_ok-end.ensures.only (the "}" ∷ rest) number.0 number.2 (inr refl) in
-    c.in-Some-char_at.field-0-test.1 (sym (same_head (same.0 ∙ c.in-Some-char_at.ensures.1)))
+    λ more follows (rest, most, limit).
+    let number = longer_limit_is_number more _ _ _ _ c.skip_gap-first.ensures.gap
+    c.in-Some.ensures.1 c.in-Some.field-0-test.1 limit in
+    let here = c.in-Some-char_at.ensures.1 in
+    let same = c.in_ok-end.ensures.only more (the "}" ∷ rest) number.0 (λ none. cc (here, none))
+    number.2 (inr refl) in
+    c.in-Some-char_at.field-0-test.1 (sym (same_head (same.0 ∙ ap (λ u. u ++ more) here)))

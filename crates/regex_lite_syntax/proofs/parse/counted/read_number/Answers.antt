@@ -1,8 +1,22 @@
 use Rattle.std.proofs.Common.{refl, subst, drop, arith}
+use Rattle.regex_lite_syntax.specs.Grammar.Counted.{WholeSide, Number}
 use Rattle.regex_lite_syntax.proofs.grammar.NumberLemmas.{NoDigit, digit_read, no_digits_read}
-use Rattle.regex_lite_syntax.proofs.grammar.NumberLemmas.{no_number, number_only, number_read}
-use Rattle.regex_lite_syntax.proofs.grammar.NumberLemmas.{number_too_large}
+use Rattle.regex_lite_syntax.proofs.grammar.NumberLemmas.{number_read, no_number_at_end}
+use Rattle.regex_lite_syntax.proofs.grammar.LongerNumberLemmas.{of_text, longer_too_large}
+use Rattle.regex_lite_syntax.proofs.grammar.LongerNumberLemmas.{longer_number_only}
+use Rattle.regex_lite_syntax.proofs.grammar.LongerNumberLemmas.{no_longer_number}
+use Rattle.regex_lite_syntax.proofs.parse.IndexLemmas.{left_at_end, some_at}
 use Rattle.regex_lite_syntax.proofs.parse.counted.read_number.Goals as goal
+
+pub returns-then-first-chars-clause-refused : goal.returns-then-first-chars-clause-refused
+returns-then-first-chars-clause-refused c =
+    let xs = c.args.chars.now in
+    let none = left_at_end xs c.skip_side-first.result c.if-first-chars.true in
+    let t = drop c.args.at xs in
+    let side = subst (λ u. WholeSide c.args.verbose t u) none c.skip_side-first.ensures.side in
+    λ more follows (rest, n, number, ends).
+    no_number_at_end side
+    (of_text (λ v. Number c.args.verbose v rest n) t more (follows refl) number)
 
 pub loop-next-init : goal.loop-next-init
 loop-next-init c = record {
@@ -13,8 +27,10 @@ loop-next-init c = record {
 
 pub returns-in_default-with_digit-clause-refused : goal.returns-in_default-with_digit-clause-refused
 returns-in_default-with_digit-clause-refused c =
-    λ (rest, n, number, ends). number_too_large c.skip_side-first.ensures.side
-    (digit_read {read' = 1} c.loop-next.invariant.read c.in-Some.ensures.some refl)
+    let some = some_at c.args.chars.now c.skip_side-first.result (omega arith) in
+    let read = digit_read {read' = 1} c.loop-next.invariant.read c.in-Some.ensures.some refl in
+    λ more follows (rest, n, number, ends).
+    longer_too_large more _ c.skip_side-first.ensures.side some read
     (omega (arith, c.in_default-with_digit.ensures)) number ends
 
 pub loop-next-preserved : goal.loop-next-preserved
@@ -30,9 +46,12 @@ loop-next-preserved c =
 
 pub returns-then-end-first-clause-refused : goal.returns-then-end-first-clause-refused
 returns-then-end-first-clause-refused c =
-    let none = subst (λ i. NoDigit c.args.verbose (drop i c.args.chars.now)) c.if-end-first.true
+    let xs = c.args.chars.now in
+    let some = some_at xs c.skip_side-first.result (omega arith) in
+    let none = subst (λ i. NoDigit c.args.verbose (drop i xs)) c.if-end-first.true
     c.in_default.ensures.none in
-    λ (rest, n, number, ends). no_number _ c.skip_side-first.ensures.side none number
+    λ more follows (rest, n, number, ends).
+    no_longer_number more _ _ c.skip_side-first.ensures.side some none number
 
 pub returns-clause-ok : goal.returns-clause-ok
 returns-clause-ok c =
@@ -41,6 +60,7 @@ returns-clause-ok c =
     c.loop-next.invariant.small
 
 pub returns-clause-only : goal.returns-clause-only
-returns-clause-only c rest n number ends =
-    number_only c.skip_side-first.ensures.side c.loop-next.invariant.read c.in_default.ensures.none
-    c.skip_side.ensures.side number ends
+returns-clause-only c more rest n follows number ends =
+    let some = some_at c.args.chars.now c.skip_side-first.result (omega arith) in
+    longer_number_only more _ c.skip_side-first.ensures.side some c.loop-next.invariant.read
+    c.in_default.ensures.none c.skip_side.ensures.side follows number ends

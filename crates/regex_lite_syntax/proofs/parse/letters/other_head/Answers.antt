@@ -1,32 +1,53 @@
-use Rattle.std.proofs.Common.{inl, inr, ◌≡◌, ◌<◌, ℕ, false, refl, ◌∙◌, ap}
-use Rattle.std.proofs.Common.{◌∷◌, ◌+◌, length, drop, get_or, codes, arith}
-use Rattle.std.proofs.lemmas.List.{drop_all}
+use Rattle.std.proofs.Common.{inl, inr, ◌≡◌, ℕ, false, refl, ◌∙◌, ap}
+use Rattle.std.proofs.Common.{◌∷◌, ◌+◌, ◌++◌, codes, subst, arith}
+use Rattle.regex_lite_syntax.specs.declared.error.syntax.SyntaxFault.{SyntaxFault}
+use Rattle.regex_lite_syntax.specs.declared.error.syntax.SyntaxFault.TheVariants.{
+  LookUnsupported,
+  FlagOrNameUnexpectedEof,
+}
 use Rattle.regex_lite_syntax.specs.declared.flags.Flags.{Flags}
-use Rattle.regex_lite_syntax.specs.Text.{Text}
+use Rattle.regex_lite_syntax.specs.Text.{Text, the}
 use Rattle.regex_lite_syntax.specs.Characters.{is_one_of}
 use Rattle.regex_lite_syntax.specs.Grammar.FlagLetters.{is_flag_letter}
 use Rattle.regex_lite_syntax.specs.Parser.FlagRuns.{EndedFlags}
-use Rattle.regex_lite_syntax.proofs.parse.IndexLemmas.{drop_char}
-use Rattle.regex_lite_syntax.proofs.parse.letters.WholeFlagLemmas.{no_flags_end, no_flags_other}
+use Rattle.regex_lite_syntax.specs.Refusals.{NoReading}
+use Rattle.regex_lite_syntax.specs.Parser.NameOpenings.{EndsInOpening}
+use Rattle.regex_lite_syntax.proofs.parse.IndexLemmas.{drop_at}
+use Rattle.regex_lite_syntax.proofs.grammar.LongerOpeningLemmas.{not_inside}
+use Rattle.regex_lite_syntax.proofs.parse.letters.WholeFlagLemmas.{no_flags_other}
 use Rattle.regex_lite_syntax.proofs.parse.letters.other_head.Goals as goal
 
 -- no flags stand where this character does
-no_flags_at : (xs : Text) (i x c : ℕ) → i < length xs → x ≡ get_or xs i x → x ≡ c
-    → is_flag_letter c ≡ false
-    → is_one_of (codes "-:)") c ≡ false → (old new : Flags) (rest : Text)
-    → EndedFlags old (drop i xs) rest new → ⊥
-no_flags_at xs i x c inside e here no_flag no_end old new rest =
-    let begins = drop_char xs i x inside e ∙ ap (λ y. y ∷ drop (i + 1) xs) here in
-    no_flags_other old (drop i xs) rest new c (drop (i + 1) xs) begins no_flag no_end
+no_flags_at : (fault : SyntaxFault) (t u : Text) (x c : ℕ) → t ≡ x ∷ u → x ≡ c
+    → is_flag_letter c ≡ false → is_one_of (codes "-:)") c ≡ false → (old : Flags)
+    → NoReading fault (λ t. (rest : Text) × (new : Flags) × EndedFlags old t rest new) t
+no_flags_at fault t u x c here is no_flag no_end old more follows flags =
+    let begins = ap (λ v. v ++ more) (here ∙ ap (λ y. y ∷ u) is) in
+    no_flags_other old (t ++ more) flags.0 flags.1 c (u ++ more) begins no_flag no_end flags.2
 
-pub returns-then-at-chars : goal.returns-then-at-chars
-returns-then-at-chars c old new rest =
-    no_flags_end old _ rest new (drop_all c.args.at c.args.chars.now (omega arith))
-
-pub returns-in-61 : goal.returns-in-61
-returns-in-61 c =
-    let at = no_flags_at c.args.chars.now c.args.at _ in
-    elim c.in-61.is [
-      | inl e ↦ at 0x21 (omega arith) c.index-chars-at.is e refl refl
-      | inr e ↦ at 0x3D (omega arith) c.index-chars-at.is e refl refl
+pub returns-in-Some-eq61-clause-refused : goal.returns-in-Some-eq61-clause-refused
+returns-in-Some-eq61-clause-refused c =
+    let at = no_flags_at LookUnsupported _ _ _ in
+    elim c.in-Some-eq61.field-0-test [
+      | inl e ↦ at (the "!") c.in-Some-eq61.ensures.1 e refl refl
+      | inr e ↦ at (the "=") c.in-Some-eq61.ensures.1 e refl refl
     ]
+
+pub returns-in-Some-P-clause-refused : goal.returns-in-Some-P-clause-refused
+returns-in-Some-P-clause-refused c =
+    no_flags_at FlagOrNameUnexpectedEof _ _ _ (the "P") c.in-Some-P.ensures.1
+    c.in-Some-P.field-0-test refl refl
+
+pub returns-in-Some-clause-goes_on : goal.returns-in-Some-clause-goes_on
+returns-in-Some-clause-goes_on c inside =
+    let past = drop_at c.args.chars.now (c.args.at + 1)
+    (omega (arith, c.in-Some.ensures.0, c.if-at-chars.false)) in
+    let here = ap (λ t. (the "?") ∷ t) c.in-Some.ensures.1 in
+    not_inside c.in-Some.field-0 _ (λ is_p none. cc (past, none))
+    (subst (λ t. EndsInOpening t) here inside)
+
+pub returns-in-Some-2-clause-goes_on : goal.returns-in-Some-2-clause-goes_on
+returns-in-Some-2-clause-goes_on c inside =
+    let here = ap (λ t. (the "?") ∷ t) c.in-Some.ensures.1 in
+    not_inside c.in-Some.field-0 _ (λ is_p none. c.in-Some.field-0-test.1 is_p)
+    (subst (λ t. EndsInOpening t) here inside)

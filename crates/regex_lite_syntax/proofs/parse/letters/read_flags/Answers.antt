@@ -1,8 +1,12 @@
-use Rattle.std.proofs.Common.{false, ◌+◌, ◌∙◌, ap, drop, slice_range, arith}
+use Rattle.std.proofs.Common.{false, ◌≡◌, ◌+◌, ◌∙◌, ap, drop, slice_range, [], ◌∷◌, ◌++◌, arith}
 use Rattle.std.proofs.lemmas.Result.{err_from_is_err_and}
+use Rattle.regex_lite_syntax.specs.declared.flags.Flags.{Flags}
+use Rattle.regex_lite_syntax.specs.Text.{Text, the}
 use Rattle.regex_lite_syntax.specs.Grammar.FlagLetters.{with_flags}
+use Rattle.regex_lite_syntax.specs.Parser.FlagRuns.{EndedFlags, LetterRun}
 use Rattle.regex_lite_syntax.proofs.parse.letters.SliceLemmas.{slice_length}
-use Rattle.regex_lite_syntax.proofs.parse.letters.WholeFlagLemmas.{first_run, second_run}
+use Rattle.regex_lite_syntax.proofs.parse.letters.FlagRunLemmas.{run_longer}
+use Rattle.regex_lite_syntax.proofs.parse.letters.WholeFlagLemmas.{Cleared, first_run, second_run}
 use Rattle.regex_lite_syntax.proofs.parse.letters.WholeFlagLemmas.{no_second_dash, some_second}
 use Rattle.regex_lite_syntax.proofs.parse.letters.WholeFlagLemmas.{flags_set, flags_cleared}
 use Rattle.regex_lite_syntax.proofs.parse.letters.read_flags.Goals as goal
@@ -11,8 +15,17 @@ pub returns-in_err-middle-clause-refused : goal.returns-in_err-middle-clause-ref
 returns-in_err-middle-clause-refused c =
     let t = drop c.args.at c.args.chars.now in
     let left = err_from_is_err_and c.from_residual.result c.from_residual.ensures.1 in
-    rw left.1
-    (λ flags. c.in_err-middle.ensures.refused (first_run c.args.old t flags.0 flags.1 flags.2))
+    rw (left.1, left.2)
+    (λ more follows flags. c.in_err-middle.ensures.refused more follows
+    (first_run c.args.old (t ++ more) flags.0 flags.1 flags.2))
+
+-- where a dash ends the first run, flags of a longer text go on with another
+second_longer : (more : Text) (old : Flags) (on t u past rest : Text) (new : Flags)
+    → LetterRun [] on t u → u ≡ the "-" ∷ past → EndedFlags old (t ++ more) rest new
+    → Cleared on (past ++ more) rest
+second_longer more old on t u past rest new run dashed flags =
+    second_run old on (t ++ more) (u ++ more) (past ++ more) rest new
+    (run_longer more [] on t u run) (ap (λ v. v ++ more) dashed) flags
 
 pub returns-then-not-is_at-clause-ok : goal.returns-then-not-is_at-clause-ok
 returns-then-not-is_at-clause-ok c =
@@ -22,39 +35,32 @@ returns-then-not-is_at-clause-ok c =
 
 pub returns-in_err-end-clause-refused : goal.returns-in_err-end-clause-refused
 returns-in_err-end-clause-refused c =
-    let xs = c.args.chars.now in
-    let t = drop c.args.at xs in
-    let middle = c.in_ok-middle.middle in
     let dashed = (c.is_at.ensures.there c.if-not-is_at.false).1 in
     let left =
     err_from_is_err_and c.from_residual-in_err-end.result c.from_residual-in_err-end.ensures.1 in
-    rw left.1 (λ flags.
-    let cleared =
-    second_run c.args.old _ t _ _ flags.0 flags.1 c.in_ok-middle.ensures.ok dashed flags.2 in
-    c.in_err-end.ensures.refused (cleared.off, flags.0, cleared.run))
+    rw (left.1, left.2) (λ more follows flags.
+    let cleared = second_longer more _ _ _ _ _ _ _ c.in_ok-middle.ensures.ok dashed flags.2 in
+    c.in_err-end.ensures.refused more follows (cleared.off, flags.0, cleared.run))
 
 pub returns-then-is_at-clause-refused : goal.returns-then-is_at-clause-refused
 returns-then-is_at-clause-refused c =
-    let xs = c.args.chars.now in
-    let t = drop c.args.at xs in
     let dashed = (c.is_at.ensures.there c.if-not-is_at.false).1 in
     let dashed_again = (c.is_at-2.ensures.there c.if-is_at.true).1 in
-    λ flags.
-    let cleared =
-    second_run c.args.old _ t _ _ flags.0 flags.1 c.in_ok-middle.ensures.ok dashed flags.2 in
-    no_second_dash _ _ _ _ _ flags.0 c.in_ok-end.ensures.ok dashed_again flags.2.ends cleared
+    λ more follows flags.
+    let cleared = second_longer more _ _ _ _ _ _ _ c.in_ok-middle.ensures.ok dashed flags.2 in
+    no_second_dash _ _ _ _ _ flags.0 (run_longer more _ _ _ _ c.in_ok-end.ensures.ok)
+    (ap (λ v. v ++ more) dashed_again) flags.2.ends cleared
 
 pub returns-then-end-begin-clause-refused : goal.returns-then-end-begin-clause-refused
 returns-then-end-begin-clause-refused c =
     let xs = c.args.chars.now in
-    let t = drop c.args.at xs in
     let dashed = (c.is_at.ensures.there c.if-not-is_at.false).1 in
     let none = slice_length xs (c.in_ok-middle.middle + 1) c.in_ok-end.end
     (omega (arith, c.in_ok-end.ensures.inside)) in
-    λ flags.
-    let cleared =
-    second_run c.args.old _ t _ _ flags.0 flags.1 c.in_ok-middle.ensures.ok dashed flags.2 in
-    some_second _ _ _ _ flags.0 c.in_ok-end.ensures.ok (omega (arith, none)) cleared
+    λ more follows flags.
+    let cleared = second_longer more _ _ _ _ _ _ _ c.in_ok-middle.ensures.ok dashed flags.2 in
+    some_second _ _ _ _ flags.0 (run_longer more _ _ _ _ c.in_ok-end.ensures.ok)
+    (omega (arith, none)) cleared
 
 pub returns-clause-ok : goal.returns-clause-ok
 returns-clause-ok c =

@@ -1,16 +1,22 @@
-use Rattle.std.proofs.Common.{◌≡◌, sym, ◌∙◌, ap, subst, ◌++◌, ◌||◌}
+use Rattle.std.proofs.Common.{◌≡◌, refl, sym, ◌∙◌, ap, subst, ◌++◌, ◌||◌}
 use Rattle.std.proofs.Common.{true, slice_range, IsTrue, arith}
 use Rattle.std.proofs.lemmas.Bool.{or_left, or_right}
 use Rattle.std.proofs.lemmas.List.{drop_all}
 use Rattle.std.proofs.lemmas.Result.{err_from_is_err_and}
 use Rattle.std.specs.List.{AllPass}
+use Rattle.regex_lite_syntax.specs.Text.{Text}
 use Rattle.regex_lite_syntax.specs.Characters.{is_one_of}
 use Rattle.regex_lite_syntax.specs.Grammar.FlagLetters.{is_flag_letter, with_flag}
 use Rattle.regex_lite_syntax.specs.Grammar.FlagLetters.{with_flags, all_differ}
-use Rattle.regex_lite_syntax.specs.Parser.FlagRuns.{EndsRun}
+use Rattle.regex_lite_syntax.specs.Parser.FlagRuns.{EndsRun, LetterRun}
 use Rattle.regex_lite_syntax.proofs.grammar.WordLemmas.{pass_push}
 use Rattle.regex_lite_syntax.proofs.parse.IndexLemmas.{drop_char}
+use Rattle.regex_lite_syntax.proofs.parse.DenialLemmas.{none_at_end}
+use Rattle.regex_lite_syntax.specs.declared.error.syntax.SyntaxFault.TheVariants.{
+  FlagUnexpectedEof,
+}
 use Rattle.regex_lite_syntax.proofs.parse.letters.SliceLemmas.{slice_spelled, slice_more}
+use Rattle.regex_lite_syntax.proofs.parse.letters.SliceLemmas.{spelled_longer}
 use Rattle.regex_lite_syntax.proofs.parse.letters.FlagRunLemmas.{with_flags_more}
 use Rattle.regex_lite_syntax.proofs.parse.letters.FlagRunLemmas.{differ_more, no_run_end}
 use Rattle.regex_lite_syntax.proofs.parse.letters.FlagRunLemmas.{no_run_other, no_run_twice}
@@ -64,8 +70,9 @@ returns-in_err-flags-clause-refused c =
     let written = slice_spelled xs c.args.at end (omega arith) in
     let left = err_from_is_err_and c.from_residual.result c.from_residual.ensures.1 in
     rw left.1
-    (λ run. no_run_other c.args.before.now read run.0 _ _ run.1 _ _ written c.loop-end.invariant.all
-    here c.in_err-flags.ensures.refused no_end run.2)
+    (λ more follows run. no_run_other c.args.before.now read run.0 _ _ run.1 _ _
+    (spelled_longer more _ _ _ written) c.loop-end.invariant.all (ap (λ v. v ++ more) here)
+    c.in_err-flags.ensures.refused.1 no_end run.2)
 
 pub returns-then-contains-clause-refused : goal.returns-then-contains-clause-refused
 returns-then-contains-clause-refused c =
@@ -83,10 +90,9 @@ returns-then-contains-clause-refused c =
       | then-contains-via-else-contains+then-contains-2 w ↦
           or_right _ _ (sym w.contains-else-contains.ensures.value ∙ w.if-contains-2.true)
     ] in
-    λ run.
-    no_run_twice before read run.0 _ _ run.1 _ _ written c.loop-end.invariant.all here
-    c.in_ok-flags.ensures.ok.0 twice
-    run.2
+    λ more follows run.
+    no_run_twice before read run.0 _ _ run.1 _ _ (spelled_longer more _ _ _ written)
+    c.loop-end.invariant.all (ap (λ v. v ++ more) here) c.in_ok-flags.ensures.ok.0 twice run.2
 
 pub returns-clause-refused : goal.returns-clause-refused
 returns-clause-refused c =
@@ -96,4 +102,6 @@ returns-clause-refused c =
     let read = slice_range xs c.args.at end in
     let none = drop_all end xs (omega arith) in
     let written = slice_spelled xs c.args.at end (omega arith) in
-    λ run. no_run_end before read run.0 _ _ run.1 written c.loop-end.invariant.all none run.2
+    none_at_end FlagUnexpectedEof
+    (λ t. (letters : Text) × (rest : Text) × LetterRun before letters t rest) _ refl
+    (λ run. no_run_end before read run.0 _ _ run.1 written c.loop-end.invariant.all none run.2)

@@ -1,4 +1,4 @@
-use Rattle.std.proofs.Common.{sym, arith}
+use Rattle.std.proofs.Common.{refl, sym, ◌∙◌, ap, ◌++◌, arith}
 use Rattle.std.proofs.lemmas.Bool.{both_ways}
 use Rattle.regex_lite_syntax.proofs.grammar.NameReadingLemmas.{first_of_name, name_begun}
 use Rattle.regex_lite_syntax.proofs.grammar.NameReadingLemmas.{name_goes_on, name_read}
@@ -13,7 +13,8 @@ loop-c-init c =
     record {
       inside = (omega arith, omega (arith, here.0));
       so_far = name_begun _ _ c.args.at _ here.0 here.1 begins c.in-Some.c-test.1;
-      back = λ rest name written. (first_of_name _ _ here.1 written).2;
+      back = λ more rest name written.
+          (first_of_name _ _ (ap (λ v. v ++ more) here.1) written).2;
     }
 
 pub returns-then-c-eq62-clause-ok : goal.returns-then-c-eq62-clause-ok
@@ -25,9 +26,10 @@ returns-then-c-eq62-clause-ok c =
 pub returns-then-not-may_continue_name-clause-refused :
     goal.returns-then-not-may_continue_name-clause-refused
 returns-then-not-may_continue_name-clause-refused c =
-    λ (rest, name, written).
-    let next = next_of_name _ _ c.in-Some-char_at.ensures.1 c.if-c-eq62.false
-    (c.loop-c.invariant.back rest name written) in
+    λ more follows (rest, name, written).
+    let here = ap (λ v. v ++ more) c.in-Some-char_at.ensures.1 in
+    let next = next_of_name _ _ here c.if-c-eq62.false
+    (c.loop-c.invariant.back more rest name written) in
     both_ways _ (sym c.if-not-may_continue_name.ensures) next.0
 
 pub loop-c-preserved : goal.loop-c-preserved
@@ -38,11 +40,13 @@ loop-c-preserved c =
       inside = (omega arith, omega (arith, here.0));
       so_far = name_goes_on _ _ _ (range_more _ _ _ _ _ (omega arith) here.0 here.1)
           (sym c.if-not-may_continue_name.ensures) c.if-c-eq62.false before.so_far;
-      back = λ rest name written.
-          (next_of_name _ _ here.1 c.if-c-eq62.false (before.back rest name written)).1;
+      back = λ more rest name written.
+          (next_of_name _ _ (ap (λ v. v ++ more) here.1) c.if-c-eq62.false
+          (before.back more rest name written)).1;
     }
 
 pub returns-clause-refused : goal.returns-clause-refused
 returns-clause-refused c =
-    λ (rest, name, written).
-    nothing_left_at_end c.in_default.ensures (c.loop-c.invariant.back rest name written)
+    λ more follows (rest, name, written).
+    nothing_left_at_end (ap (λ v. v ++ more) c.in_default.ensures ∙ follows refl)
+    (c.loop-c.invariant.back more rest name written)

@@ -1,4 +1,4 @@
-use Rattle.std.proofs.Common.{◌<◌, ◌≤◌, ◌-◌, drop, length, slice_range}
+use Rattle.std.proofs.Common.{◌<◌, ◌≤◌, ◌-◌, ◌++◌, drop, length, slice_range}
 use Rattle.regex_lite_syntax.specs.Text.{Text}
 use Rattle.regex_lite_syntax.specs.Grammar.GroupNames.{NameWritten}
 use Rattle.regex_lite_syntax.proofs.grammar.NameReadingLemmas.{NameLeft, NameSoFar}
@@ -8,9 +8,9 @@ abbrev pub invariant-loop-c : goal.invariant-loop-c
 invariant-loop-c l = record {
   inside : (l.at < l.end) × (l.end ≤ length l.chars);
   so_far : NameSoFar (slice_range l.chars l.at l.end);
-  -- a name that stands at the start goes on from here
-  back : (rest name : Text) → NameWritten (drop l.at l.chars) rest name
-      → NameLeft (drop l.end l.chars) rest;
+  -- a name that stands at the start, of a longer text too, goes on from here
+  back : (more rest name : Text) → NameWritten (drop l.at l.chars ++ more) rest name
+      → NameLeft (drop l.end l.chars ++ more) rest;
 }
 
 abbrev pub decreases-loop-c : goal.decreases-loop-c

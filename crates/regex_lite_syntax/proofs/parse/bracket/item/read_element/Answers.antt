@@ -1,6 +1,8 @@
-use Rattle.std.proofs.Common.{◌∙◌, ap, ◌+◌, ◌∷◌, drop}
+use Rattle.std.proofs.Common.{◌∙◌, ap, ◌+◌, ◌∷◌, ◌++◌, drop}
 use Rattle.std.proofs.lemmas.Result.{IfOk-weaker}
-use Rattle.regex_lite_syntax.specs.Grammar.Classes.{escaped}
+use Rattle.regex_lite_syntax.specs.Text.{Text}
+use Rattle.regex_lite_syntax.specs.Grammar.Escapes.{Primitive, Escape}
+use Rattle.regex_lite_syntax.specs.Grammar.Classes.{ClassElement, escaped}
 use Rattle.regex_lite_syntax.proofs.parse.DenialLemmas.{none_of_part}
 use Rattle.regex_lite_syntax.proofs.parse.IndexLemmas.{drop_char}
 use Rattle.regex_lite_syntax.proofs.parse.bracket.ClassItemLemmas.{part_literal, escape_of_part}
@@ -28,5 +30,15 @@ returns-clause-refused c =
     let here =
     drop_char xs c.args.at c.index-chars-at.result c.requires.inside c.index-chars-at.is in
     let backslash = here ∙ ap (λ d. d ∷ rest) c.if-c-ne92.false in
-    none_of_part _ (λ (r, p, part). (r, p, escape_of_part _ _ rest r p backslash part))
+    let verbose = c.args.verbose in
+    let t = drop c.args.at xs in
+    none_of_part c.read_escape.result
+    (λ u. (r : Text) × (p : Primitive) × ClassElement verbose u r p)
+    (λ u. (r : Text) × (p : Primitive) × Escape verbose u r p) t rest
+    (λ more (r, p, part). (
+      r,
+      p,
+      escape_of_part verbose (t ++ more) (rest ++ more) r p
+          (ap (λ u. u ++ more) backslash) part,
+    ))
     c.read_escape.ensures.refused

@@ -1,26 +1,74 @@
-use Rattle.std.proofs.Common.{refl, sym, subst, drop}
+use Rattle.std.proofs.Common.{◌≢◌, refl, sym, ap, subst, ◌++◌, drop, []}
 use Rattle.std.proofs.lemmas.Result.{err_from_is_err_and, IfOk-weaker}
-use Rattle.regex_lite_syntax.specs.Grammar.Classes.{ClassElement, ClassItem}
+use Rattle.regex_lite_syntax.specs.Text.{Text, Begins, the}
+use Rattle.regex_lite_syntax.specs.Sets.{Set}
+use Rattle.regex_lite_syntax.specs.Grammar.Classes.{BeginsItem, ClassElement, ClassItem}
 use Rattle.regex_lite_syntax.specs.Parser.Readings.{primitive_of}
-use Rattle.regex_lite_syntax.specs.Parser.ClassReadings.{item_set, RangeTo}
-use Rattle.regex_lite_syntax.proofs.parse.DenialLemmas.{none_of_part}
-use Rattle.regex_lite_syntax.proofs.parse.IndexLemmas.{left_inside}
-use Rattle.regex_lite_syntax.proofs.parse.bracket.ClassItemLemmas.{begins_item, item_part}
+use Rattle.regex_lite_syntax.specs.Parser.ClassReadings.{IsElement, element_set, item_set}
+use Rattle.regex_lite_syntax.specs.Parser.ClassReadings.{RangeTo, HasItems}
+use Rattle.regex_lite_syntax.proofs.grammar.ClassLemmas.{begins, part_once}
+use Rattle.regex_lite_syntax.proofs.grammar.LongerGapLemmas.{begins_longer}
+use Rattle.regex_lite_syntax.proofs.grammar.LongerClassLemmas.{element_longer, item_longer}
+use Rattle.regex_lite_syntax.proofs.grammar.LongerClassLemmas.{follows_longer}
+use Rattle.regex_lite_syntax.proofs.parse.DenialLemmas.{none_at_end, none_of_part}
+use Rattle.regex_lite_syntax.proofs.parse.IndexLemmas.{drop_at}
+use Rattle.regex_lite_syntax.proofs.parse.bracket.ClassItemLemmas.{begins_item, item_begins}
+use Rattle.regex_lite_syntax.proofs.parse.bracket.ClassItemLemmas.{item_part, item_bracketed}
 use Rattle.regex_lite_syntax.proofs.parse.bracket.ClassItemLemmas.{item_named, item_alone}
 use Rattle.regex_lite_syntax.proofs.parse.bracket.ClassItemLemmas.{item_range, item_range_to}
-use Rattle.regex_lite_syntax.proofs.parse.bracket.ClassItemLemmas.{open_items}
+use Rattle.regex_lite_syntax.proofs.parse.bracket.ClassItemLemmas.{open_items, some_past}
+use Rattle.regex_lite_syntax.proofs.parse.bracket.LongerItemLemmas.{some_at, is_named_longer}
+use Rattle.regex_lite_syntax.proofs.parse.bracket.LongerItemLemmas.{no_operator, range_longer}
 use Rattle.regex_lite_syntax.proofs.parse.bracket.item.read_item.Goals as goal
+use Rattle.regex_lite_syntax.proofs.parse.bracket.item.read_item.Goals.{
+  Else-is_at,
+  In_ok-find_range_end,
+  In-Some-element_of,
+}
 
-pub returns-in-Some-clause-ok : goal.returns-in-Some-clause-ok
-returns-in-Some-clause-ok c = item_named _ _ _ _ c.in-Some.ensures.found
+pub returns-in_err-end-clause-refused : goal.returns-in_err-end-clause-refused
+returns-in_err-end-clause-refused c =
+    let verbose = c.args.verbose in
+    let t = drop c.args.at c.args.chars.now in
+    let left = err_from_is_err_and c.from_residual.result c.from_residual.ensures.1 in
+    rw (left.1, left.2) (λ more follows items.
+    let bracket = begins (the "[") (t ++ more) _
+    (ap (λ u. u ++ more) (c.if-is_at.ensures.there refl).1) in
+    c.in_err-end.ensures.refused more follows
+    (item_bracketed verbose (t ++ more) items.3.0 items.0 bracket items.3.2))
+
+pub returns-then-is_at-clause-ok : goal.returns-then-is_at-clause-ok
+returns-then-is_at-clause-ok c = item_named _ _ _ _ c.in_ok-end.ensures.ok
+
+pub returns-then-is_at-clause-stays : goal.returns-then-is_at-clause-stays
+returns-then-is_at-clause-stays c more =
+    item_named _ _ _ _
+    (is_named_longer more _ _ c.in_ok-end.element c.in_ok-end.ensures.ok)
+
+-- no bracket stands there in a longer text
+bare : (c : Else-is_at) (more : Text)
+    → Begins (the "[") (drop c.args.at c.args.chars.now ++ more) → ⊥
+bare c more =
+    begins_longer more (the "[") (drop c.args.at c.args.chars.now)
+    (c.if-is_at.ensures.absent refl)
+    (some_at c.args.chars.now c.args.at c.requires.inside)
+
+pub returns-in-Some-clause-refused : goal.returns-in-Some-clause-refused
+returns-in-Some-clause-refused c more follows items =
+    let t = drop c.args.at c.args.chars.now in
+    no_operator more t c.in-Some.ensures
+    (item_begins c.args.verbose (t ++ more) items.3.0 items.0
+    (bare (goal.at.returns-in-Some-clause-refused c).Else-is_at more) items.3.2)
 
 pub returns-in_err-past-clause-refused : goal.returns-in_err-past-clause-refused
 returns-in_err-past-clause-refused c =
     let t = drop c.args.at c.args.chars.now in
-    let left = err_from_is_err_and c.from_residual.result c.from_residual.ensures.1 in
-    rw left.1 (λ items.
-    let first = item_part c.args.verbose t _ _ (c.if-is_at.ensures.absent refl) items.3.2 in
-    c.in_err-past.ensures.refused (first.0, first.1, first.3))
+    let left = err_from_is_err_and c.from_residual-in_err-past.result
+    c.from_residual-in_err-past.ensures.1 in
+    let none = bare (goal.at.returns-in_err-past-clause-refused c).Else-is_at in
+    rw (left.1, left.2) (λ more follows items.
+    let first = item_part c.args.verbose (t ++ more) _ _ (none more) items.3.2 in
+    c.in_err-past.ensures.refused more follows (first.0, first.1, first.3))
 
 pub returns-in_err-find_range_end-clause-refused : goal.returns-in_err-find_range_end-clause-refused
 returns-in_err-find_range_end-clause-refused c =
@@ -28,22 +76,59 @@ returns-in_err-find_range_end-clause-refused c =
     let t = drop c.args.at c.args.chars.now in
     let left = err_from_is_err_and c.from_residual-in_err-find_range_end.result
     c.from_residual-in_err-find_range_end.ensures.1 in
-    rw left.1 (open_items verbose t _ _ (c.if-is_at.ensures.absent refl) c.in_ok-past.ensures.ok
-    c.in_err-find_range_end.ensures.refused)
+    let refused = c.in_err-find_range_end.ensures.refused in
+    rw (left.1, left.2) (none_at_end c.in_err-find_range_end.field-0.0 (HasItems verbose) t
+    refused.0
+    (open_items verbose t _ _ (c.if-is_at.ensures.absent refl) c.in_ok-past.ensures.ok refused.1))
+
+-- the item begins with its first part, past which something is left
+part_begins : (c : In_ok-find_range_end) → BeginsItem (drop c.args.at c.args.chars.now)
+part_begins c =
+    let xs = c.args.chars.now in
+    begins_item (drop c.args.at xs) _ _ (drop_at xs c.args.at c.requires.inside) c.requires.goes_on
+    (c.if-is_at.ensures.absent refl) c.in_default.ensures
+
+goes_on : (c : In_ok-find_range_end) → drop c.in_ok-past.past c.args.chars.now ≢ []
+goes_on c = some_past c.args.verbose _ c.in_ok-find_range_end.ensures.closed
+
+part_longer : (c : In_ok-find_range_end) (more : Text)
+    → ClassElement c.args.verbose (drop c.args.at c.args.chars.now ++ more)
+    (drop c.in_ok-past.past c.args.chars.now ++ more) (primitive_of c.in_ok-past.first)
+part_longer c more = element_longer more c.args.verbose _ _ _ c.in_ok-past.ensures.ok (goes_on c)
+
+pub returns-in-None-element_of-clause-refused : goal.returns-in-None-element_of-clause-refused
+returns-in-None-element_of-clause-refused c more follows items =
+    let verbose = c.args.verbose in
+    let t = drop c.args.at c.args.chars.now in
+    let place = (goal.at.returns-in-None-element_of-clause-refused c).In_ok-find_range_end in
+    let none = bare (goal.at.returns-in-None-element_of-clause-refused c).Else-is_at more in
+    let first = item_part verbose (t ++ more) _ _ none items.3.2 in
+    let once = part_once verbose (t ++ more) _ first.0 _ first.1 (part_longer place more) first.3 in
+    c.in-None-element_of.ensures (subst (λ p. IsElement p) (sym once.1) first.2)
+
+-- the item of one part alone
+alone : (c : In-Some-element_of) → BeginsItem (drop c.args.at c.args.chars.now)
+    → ClassItem c.args.verbose (drop c.args.at c.args.chars.now)
+    (drop c.in_ok-past.past c.args.chars.now)
+    (element_set c.in-Some-element_of.element)
+alone c begins =
+    let verbose = c.args.verbose in
+    let t = drop c.args.at c.args.chars.now in
+    let past = drop c.in_ok-past.past c.args.chars.now in
+    let none = rw c.in-None.is at c.in_ok-find_range_end.ensures.ok in
+    let part = subst (λ p. ClassElement verbose t past p)
+    (sym c.in-Some-element_of.ensures) c.in_ok-past.ensures.ok in
+    item_alone verbose t past c.in-Some-element_of.element begins part none
 
 pub returns-in-Some-element_of-clause-ok : goal.returns-in-Some-element_of-clause-ok
 returns-in-Some-element_of-clause-ok c =
-    let verbose = c.args.verbose in
-    let xs = c.args.chars.now in
-    let t = drop c.args.at xs in
-    let past = drop c.in_ok-past.past xs in
-    let here = left_inside xs c.args.at c.requires.inside c.if-at-chars.false in
-    let none = rw c.in-None-2.is at c.in_ok-find_range_end.ensures.ok in
-    let part = subst (λ p. ClassElement verbose t past p)
-    (sym c.in-Some-element_of.ensures) c.in_ok-past.ensures.ok in
-    item_alone verbose t past c.in-Some-element_of.element
-    (begins_item _ _ _ here c.requires.goes_on
-    (c.if-is_at.ensures.absent refl) c.in_default.ensures) part none
+    alone c (part_begins (goal.at.returns-in-Some-element_of-clause-ok c).In_ok-find_range_end)
+
+pub returns-in-Some-element_of-clause-stays : goal.returns-in-Some-element_of-clause-stays
+returns-in-Some-element_of-clause-stays c more =
+    let place = (goal.at.returns-in-Some-element_of-clause-stays c).In_ok-find_range_end in
+    item_longer more (alone c (part_begins place)) (goes_on place)
+    c.in_ok-find_range_end.ensures.closed
 
 pub returns-in-Some-2-clause-ok : goal.returns-in-Some-2-clause-ok
 returns-in-Some-2-clause-ok c =
@@ -52,10 +137,8 @@ returns-in-Some-2-clause-ok c =
     let t = drop c.args.at xs in
     let first = primitive_of c.in_ok-past.first in
     let last = drop c.in-Some-2.last xs in
-    let here = left_inside xs c.args.at c.requires.inside c.if-at-chars.false in
     let follows = rw c.in-Some-2.is at c.in_ok-find_range_end.ensures.ok in
-    let begins = begins_item t _ _ here c.requires.goes_on
-    (c.if-is_at.ensures.absent refl) c.in_default.ensures in
+    let begins = part_begins (goal.at.returns-in-Some-2-clause-ok c).In_ok-find_range_end in
     IfOk-weaker c.read_range.result
     (λ r. RangeTo verbose first last (drop r.0 xs) (item_set r.1))
     (λ r. ClassItem verbose t (drop r.0 xs) (item_set r.1))
@@ -63,19 +146,39 @@ returns-in-Some-2-clause-ok c =
     (drop c.in_ok-past.past xs) last _ first _ begins c.in_ok-past.ensures.ok follows to)
     c.read_range.ensures.ok
 
-pub returns-in-Some-2-clause-refused : goal.returns-in-Some-2-clause-refused
-returns-in-Some-2-clause-refused c =
+pub returns-in-Some-2-clause-stays : goal.returns-in-Some-2-clause-stays
+returns-in-Some-2-clause-stays c =
     let verbose = c.args.verbose in
     let xs = c.args.chars.now in
     let t = drop c.args.at xs in
     let first = primitive_of c.in_ok-past.first in
     let last = drop c.in-Some-2.last xs in
     let follows = rw c.in-Some-2.is at c.in_ok-find_range_end.ensures.ok in
-    none_of_part c.read_range.result
-    (λ items. (
+    let place = (goal.at.returns-in-Some-2-clause-stays c).In_ok-find_range_end in
+    IfOk-weaker c.read_range.result
+    (λ r. RangeTo verbose first last (drop r.0 xs) (item_set r.1))
+    (λ r. (more : Text) → ClassItem verbose (t ++ more) (drop r.0 xs ++ more) (item_set r.1))
+    (λ r to more. range_longer more verbose t (drop c.in_ok-past.past xs) last (drop r.0 xs) first _
+    (part_begins place) (goes_on place) c.in_ok-past.ensures.ok follows to)
+    c.read_range.ensures.ok
+
+pub returns-in-Some-2-clause-refused : goal.returns-in-Some-2-clause-refused
+returns-in-Some-2-clause-refused c =
+    let verbose = c.args.verbose in
+    let xs = c.args.chars.now in
+    let t = drop c.args.at xs in
+    let past = drop c.in_ok-past.past xs in
+    let first = primitive_of c.in_ok-past.first in
+    let last = drop c.in-Some-2.last xs in
+    let follows = rw c.in-Some-2.is at c.in_ok-find_range_end.ensures.ok in
+    let place = (goal.at.returns-in-Some-2-clause-refused c).In_ok-find_range_end in
+    let none = bare (goal.at.returns-in-Some-2-clause-refused c).Else-is_at in
+    none_of_part c.read_range.result (HasItems verbose)
+    (λ u. (rest : Text) × (s : Set) × RangeTo verbose first u rest s) t last
+    (λ more items. (
       items.3.0,
       items.0,
-      item_range_to verbose t (drop c.in_ok-past.past xs) last items.3.0 first items.0
-          (c.if-is_at.ensures.absent refl) c.in_ok-past.ensures.ok follows items.3.2,
+      item_range_to verbose (t ++ more) (past ++ more) (last ++ more) items.3.0 first items.0
+          (none more) (part_longer place more) (follows_longer more follows) items.3.2,
     ))
     c.read_range.ensures.refused

@@ -1,15 +1,27 @@
-use Rattle.std.proofs.Common.{refl, sym, ◌∙◌, ap, subst, drop, arith}
+use Rattle.std.proofs.Common.{◌≡◌, refl, ℕ, sym, ◌∙◌, ap, subst, ◌++◌, drop, arith}
 use Rattle.std.proofs.lemmas.Result.{err_from_is_err_and}
+use Rattle.regex_lite_syntax.specs.declared.parse.escape.Primitive.{Primitive}
+use Rattle.regex_lite_syntax.specs.declared.parse.escape.Primitive.TheVariants as primitives
 use Rattle.regex_lite_syntax.specs.Grammar.Escapes.{one}
 use Rattle.regex_lite_syntax.specs.Grammar.Classes.{ClassElement}
 use Rattle.regex_lite_syntax.specs.Parser.Readings.{primitive_of}
 use Rattle.regex_lite_syntax.proofs.grammar.ClassLemmas.{one_same, part_once}
+use Rattle.regex_lite_syntax.proofs.parse.bracket.LongerItemLemmas.{char_before, char_longer}
 use Rattle.regex_lite_syntax.proofs.parse.bracket.item.read_range.Goals as goal
+
+-- a primitive that is no character
+no_char : (p : Primitive) (c : ℕ) → ((d : ℕ) → p ≡ primitives.Char d → ⊥)
+    → primitive_of p ≡ one c → ⊥
+no_char (primitives.Char d) c none is = none d refl
+no_char (primitives.Set set negated) c none is = cc is
+no_char (primitives.Look look) c none is = cc is
 
 pub returns-in_err-past-clause-refused : goal.returns-in_err-past-clause-refused
 returns-in_err-past-clause-refused c =
     let left = err_from_is_err_and c.from_residual.result c.from_residual.ensures.1 in
-    rw left.1 (λ found. c.in_err-past.ensures.refused (found.0, one found.2.end, found.2.ends))
+    rw (left.1, left.2)
+    (λ more follows found.
+    c.in_err-past.ensures.refused more follows (found.0, one found.2.end, found.2.ends))
 
 pub returns-then-start-end-clause-refused : goal.returns-then-start-end-clause-refused
 returns-then-start-end-clause-refused c =
@@ -18,9 +30,10 @@ returns-then-start-end-clause-refused c =
     let t = drop c.args.last xs in
     let part = subst (λ e. ClassElement verbose t (drop c.in_ok-past.past xs) (primitive_of e))
     c.in-Char-element.is c.in_ok-past.ensures.ok in
-    λ found.
+    λ more follows found.
     let starts = one_same _ _ (sym (ap primitive_of c.in-Char.is) ∙ found.2.starts) in
-    let ends = one_same _ _ (part_once verbose t _ found.0 _ _ part found.2.ends).1 in
+    let longer = char_longer more verbose t (drop c.in_ok-past.past xs) _ part in
+    let ends = one_same _ _ (part_once verbose (t ++ more) _ found.0 _ _ longer found.2.ends).1 in
     omega (arith, starts, ends, found.2.ordered, c.if-start-end.true)
 
 pub returns-clause-ok : goal.returns-clause-ok
@@ -38,3 +51,11 @@ returns-clause-ok c =
       ordered = c.if-start-end.false;
       set_is = refl;
     }
+
+pub returns-in_default-element-clause-refused : goal.returns-in_default-element-clause-refused
+returns-in_default-element-clause-refused c more follows found =
+    let verbose = c.args.verbose in
+    let xs = c.args.chars.now in
+    let char = char_before more verbose (drop c.args.last xs) (drop c.in_ok-past.past xs) found.0
+    (primitive_of c.in_ok-past.element) found.2.end c.in_ok-past.ensures.ok found.2.ends in
+    no_char c.in_ok-past.element char.0 c.in_default-element.not-Char char.1

@@ -1,8 +1,16 @@
-use Rattle.std.proofs.Common.{◌≤◌, ◌-◌, length}
+use Rattle.std.proofs.Common.{◌≤◌, ◌-◌, drop, length}
+use Rattle.regex_lite_syntax.specs.Text.{Text}
+use Rattle.regex_lite_syntax.specs.Grammar.Gaps.{Spaced}
+use Rattle.regex_lite_syntax.specs.Grammar.Escapes.{is_boundary_character}
 use Rattle.regex_lite_syntax.proofs.parse.escape.boundary.fault_of_name.Given as goal
 
-abbrev pub invariant-loop-next : goal.invariant-loop-next
-invariant-loop-next l = l.next ≤ length l.chars
+abbrev pub invariant-loop-c : goal.invariant-loop-c
+invariant-loop-c l = record {
+  inside : (l.at ≤ l.end) × (l.end ≤ length l.chars);
+  -- the letters that have been passed
+  passed : (letters : Text)
+      × Spaced l.verbose is_boundary_character letters (drop l.at l.chars) (drop l.end l.chars);
+}
 
-abbrev pub decreases-loop-next : goal.decreases-loop-next
-decreases-loop-next l = length l.chars - l.next
+abbrev pub decreases-loop-c : goal.decreases-loop-c
+decreases-loop-c l = length l.chars - l.end

@@ -101,7 +101,7 @@ returns-in-Some-skip_name-3-clause-ok c =
     }
 
 pub returns-clause-refused : goal.returns-clause-refused
-returns-clause-refused c =
-    λ (rest, look, n).
-    no_name _ _ rest look c.in_default.ensures.absent c.in_default-skip_name.ensures.absent
-    c.in_default-skip_name-2.ensures.absent c.in_default-skip_name-3.ensures.absent n
+returns-clause-refused c more follows (rest, look, n) =
+    let stands = c.fault_of_name.ensures.stands more rest look follows n in
+    no_name _ _ stands.0 look c.in_default.ensures.absent c.in_default-skip_name.ensures.absent
+    c.in_default-skip_name-2.ensures.absent c.in_default-skip_name-3.ensures.absent stands.1

@@ -1,4 +1,4 @@
-use Rattle.std.proofs.Common.{ℕ, ◌≤◌, ◌-◌, drop, length}
+use Rattle.std.proofs.Common.{ℕ, ◌≤◌, ◌-◌, drop, length, ◌++◌}
 use Rattle.regex_lite_syntax.specs.Text.{Text}
 use Rattle.regex_lite_syntax.specs.Grammar.Escapes.{BracedDigits}
 use Rattle.regex_lite_syntax.proofs.parse.escape.DigitLemmas.{BracedFrom}
@@ -8,12 +8,12 @@ abbrev pub invariant-loop-c : goal.invariant-loop-c
 invariant-loop-c l = record {
   inside : (l.at ≤ l.end) × (l.end ≤ length l.chars);
   small : l.number ≤ 0x10FFFF;
-  -- what goes on from here is what goes on from the start
+  -- what goes on from here is what goes on from the start, in each longer text too
   goes : (rest : Text) (c : ℕ)
       → BracedFrom l.verbose l.number (l.end - l.at) (drop l.end l.chars) rest c
       → BracedDigits l.verbose (drop l.at l.chars) rest c;
-  back : (rest : Text) (c : ℕ) → BracedDigits l.verbose (drop l.at l.chars) rest c
-      → BracedFrom l.verbose l.number (l.end - l.at) (drop l.end l.chars) rest c;
+  back : (more rest : Text) (c : ℕ) → BracedDigits l.verbose (drop l.at l.chars ++ more) rest c
+      → BracedFrom l.verbose l.number (l.end - l.at) (drop l.end l.chars ++ more) rest c;
 }
 
 abbrev pub decreases-loop-c : goal.decreases-loop-c

@@ -1,4 +1,4 @@
-use Rattle.std.proofs.Common.{ℕ, ◌≤◌, drop, length}
+use Rattle.std.proofs.Common.{ℕ, ◌≤◌, drop, length, ◌++◌}
 use Rattle.regex_lite_syntax.specs.Text.{Text}
 use Rattle.regex_lite_syntax.specs.Grammar.Escapes.{FixedDigits}
 use Rattle.regex_lite_syntax.proofs.parse.escape.DigitLemmas.{FixedFrom}
@@ -8,10 +8,11 @@ abbrev pub invariant-loop : goal.invariant-loop
 invariant-loop l = record {
   inside : (l.at ≤ l.end) × (l.end ≤ length l.chars);
   small : l.number ≤ 0x10FFFF;
-  -- what goes on from here is what goes on from the start
+  -- what goes on from here is what goes on from the start, in each longer text too
   goes : (rest : Text) (c : ℕ)
       → FixedFrom l.verbose l.number l.counter l.digits (drop l.end l.chars) rest c
       → FixedDigits l.verbose l.digits (drop l.at l.chars) rest c;
-  back : (rest : Text) (c : ℕ) → FixedDigits l.verbose l.digits (drop l.at l.chars) rest c
-      → FixedFrom l.verbose l.number l.counter l.digits (drop l.end l.chars) rest c;
+  back : (more rest : Text) (c : ℕ)
+      → FixedDigits l.verbose l.digits (drop l.at l.chars ++ more) rest c
+      → FixedFrom l.verbose l.number l.counter l.digits (drop l.end l.chars ++ more) rest c;
 }

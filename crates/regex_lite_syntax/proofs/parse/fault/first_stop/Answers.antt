@@ -1,18 +1,21 @@
 use Rattle.std.proofs.Common.{inl, refl, sym, subst, arith, drop, length, ◌<◌, ◌≡◌, []}
 use Rattle.regex_lite_syntax.specs.declared.error.ErrorKind.TheVariants as kind
-use Rattle.std.proofs.Common.{◌≢◌, Some, MatchOption}
+use Rattle.std.proofs.Common.{◌≢◌, MatchOption, IfSome, false}
 use Rattle.std.proofs.lemmas.Result.{IfOk-weaker, IfErr-weaker}
-use Rattle.regex_lite_syntax.specs.FaultPlaces.{IsFaultAt, IsUntold}
+use Rattle.regex_lite_syntax.specs.FaultPlaces.{IsFaultAt, IsUntold, BeginsNone}
 use Rattle.regex_lite_syntax.specs.Grammar.{HasTree}
 use Rattle.regex_lite_syntax.specs.Errors.{kind_of}
 use Rattle.regex_lite_syntax.specs.Grammar.GroupNames.{NamesDiffer}
 use Rattle.regex_lite_syntax.specs.Grammar.Gaps.{Gap}
 use Rattle.regex_lite_syntax.specs.Parser.Starts.{Tracks}
+use Rattle.regex_lite_syntax.specs.Parser.States.{CanRead}
 use Rattle.regex_lite_syntax.proofs.grammar.NameLemmas.{no_names_differ}
 use Rattle.regex_lite_syntax.proofs.machine.FaultLemmas.{comes_first, comes_next, stuck_at}
 use Rattle.regex_lite_syntax.proofs.machine.FaultLemmas.{end_found, syntax_says, other_says}
+use Rattle.regex_lite_syntax.proofs.machine.FaultLemmas.{says_for_good, stop_found}
+use Rattle.regex_lite_syntax.proofs.parse.DenialLemmas.{none_now}
 use Rattle.regex_lite_syntax.proofs.parse.IndexLemmas.{drop_at, left_at_end}
-use Rattle.regex_lite_syntax.proofs.parse.fault.first_fault.Goals as goal
+use Rattle.regex_lite_syntax.proofs.parse.fault.first_stop.Goals as goal
 
 pub loop-starts-init : goal.loop-starts-init
 loop-starts-init c = record {
@@ -33,9 +36,11 @@ returns-then-here-chars-clause-found c =
     let none = left_at_end xs c.skip_gap-here.result c.if-here-chars.true in
     let gap = subst (λ u. Gap p.here.flags.ignore_whitespace t u) none
     c.skip_gap-here.ensures.gap.0 in
-    end_found c.args.flags xs p t c.loop-starts.starts.items _ c.pop.result _ _
+    rw c.unclosed.ensures
+    (stop_found c.args.flags xs c.pop.result
+    (end_found c.args.flags xs p t c.loop-starts.starts.items _ c.pop.result _ _
     c.loop-starts.invariant.comes gap c.pop.ensures.items c.loop-starts.starts.ok.0
-    c.pop.ensures.cases
+    c.pop.ensures.cases))
 
 pub returns-in-Err-clause-found : goal.returns-in-Err-clause-found
 returns-in-Err-clause-found c =
@@ -44,28 +49,44 @@ returns-in-Err-clause-found c =
     let inside : here < length xs =
     omega (arith, c.if-here-chars.false, c.skip_gap-here.ensures.inside) in
     let more : drop here xs ≡ [] → ⊥ = λ e. cc (e, drop_at xs here inside) in
-    IfOk-weaker c.fault_or_error.result
-    (λ found. (kind_of c.in-Err.error ≡ kind.Syntax) × (found ≡ Some here))
+    IfOk-weaker c.stop_or_error.result _
     (λ found. MatchOption found (HasTree c.args.flags xs)
-    (λ k. IsFaultAt c.args.flags xs k × (HasTree c.args.flags xs → ⊥)))
-    (λ found (syntax, is).
-    let stuck = syntax_says _ _ _ _ syntax c.in-Err.ensures.refused in
-    let fault = stuck_at c.args.flags xs c.loop-starts.parser _ _ _ here
+    (λ stop. IsFaultAt c.args.flags xs stop.start × (HasTree c.args.flags xs → ⊥)))
+    (λ found (fault, syntax, is).
+    let none = syntax_says _ fault _ _ _ syntax c.in-Err.ensures.refused in
+    let stuck = none_now fault (CanRead c.loop-starts.parser) (drop here xs) none in
+    let place = stuck_at c.args.flags xs c.loop-starts.parser _ _ _ here
     c.loop-starts.invariant.comes c.skip_gap-here.ensures.gap refl more stuck in
-    rw is (record { inside = inside; place = inl fault.0 }, fault.1))
-    c.fault_or_error.ensures.fault
+    rw is (record { inside = inside; place = inl place.0 }, place.1))
+    c.stop_or_error.ensures.stop
+
+pub returns-in-Err-clause-for_good : goal.returns-in-Err-clause-for_good
+returns-in-Err-clause-for_good c =
+    let xs = c.args.chars.now in
+    let here = c.skip_gap-here.result in
+    let inside : here < length xs =
+    omega (arith, c.if-here-chars.false, c.skip_gap-here.ensures.inside) in
+    let more : drop here xs ≡ [] → ⊥ = λ e. cc (e, drop_at xs here inside) in
+    IfOk-weaker c.stop_or_error.result _
+    (λ found. IfSome found (λ stop. stop.is_cut_short ≡ false → BeginsNone c.args.flags xs))
+    (λ found (fault, syntax, is).
+    rw is
+    (says_for_good c.args.flags xs c.loop-starts.parser _ _ _ _ fault
+    c.loop-starts.invariant.comes c.skip_gap-here.ensures.gap more c.in-Err.ensures.refused
+    syntax))
+    c.stop_or_error.ensures.stop
 
 pub returns-in-Err-clause-refused : goal.returns-in-Err-clause-refused
 returns-in-Err-clause-refused c =
     let xs = c.args.chars.now in
-    IfErr-weaker c.fault_or_error.result
+    IfErr-weaker c.stop_or_error.result
     (λ e. (kind_of c.in-Err.error ≢ kind.Syntax) × (e ≡ c.in-Err.error))
     (λ e. IsUntold c.args.flags xs (kind_of e))
     (λ e (other, is).
     rw is
     (other_says c.args.flags xs c.loop-starts.parser _ _ _ _ c.loop-starts.invariant.comes
     c.skip_gap-here.ensures.gap other c.in-Err.ensures.refused))
-    c.fault_or_error.ensures.other
+    c.stop_or_error.ensures.other
 
 pub loop-starts-preserved : goal.loop-starts-preserved
 loop-starts-preserved c =

@@ -1,6 +1,6 @@
 use Rattle.std.proofs.Common.{◌≤◌, ◌-◌, drop, length}
 use Rattle.regex_lite_syntax.proofs.machine.FaultLemmas.{Comes}
-use Rattle.regex_lite_syntax.proofs.parse.fault.first_fault.Given as goal
+use Rattle.regex_lite_syntax.proofs.parse.fault.first_stop.Given as goal
 
 abbrev pub invariant-loop-starts : goal.invariant-loop-starts
 invariant-loop-starts l = record {

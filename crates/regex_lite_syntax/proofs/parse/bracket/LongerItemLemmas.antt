@@ -1,0 +1,173 @@
+-- Items of a class in a longer text that begins with the text, and what is refused in each.
+use Rattle.std.proofs.Common.{◌≡◌, ◌≢◌, refl, sym, ◌∙◌, ap, subst, ℕ, Bool, true, false}
+use Rattle.std.proofs.Common.{◌<◌, drop, length, [], ◌∷◌, ◌++◌, IsTrue, codes, if◌then◌else◌}
+use Rattle.std.proofs.Common.{append_assoc}
+use Rattle.std.proofs.lemmas.Bool.{both_ways}
+use Rattle.std.proofs.lemmas.List.{append-nil}
+use Rattle.std.specs.List.{AllPass}
+use Rattle.regex_lite_syntax.specs.declared.error.syntax.SyntaxFault.{SyntaxFault}
+use Rattle.regex_lite_syntax.specs.declared.parse.bracket.item.Element.{Element}
+use Rattle.regex_lite_syntax.specs.declared.parse.bracket.item.Element.TheVariants as elements
+use Rattle.regex_lite_syntax.specs.Text.{Text, Begins, the}
+use Rattle.regex_lite_syntax.specs.Characters.{is_lower}
+use Rattle.regex_lite_syntax.specs.CutShort.{is_cut_short}
+use Rattle.regex_lite_syntax.specs.NamedSets.{SetName}
+use Rattle.regex_lite_syntax.specs.Sets.{Set}
+use Rattle.regex_lite_syntax.specs.Grammar.Gaps.{WholeGap}
+use Rattle.regex_lite_syntax.specs.Grammar.Escapes.{Primitive, one, EscapeKind, gives}
+use Rattle.regex_lite_syntax.specs.Grammar.Escapes.{word_boundary, hexadecimal, refused}
+use Rattle.regex_lite_syntax.specs.Grammar.Escapes.{escape_kind, EscapeFrom}
+use Rattle.regex_lite_syntax.specs.Grammar.Classes.{ClassElement, literal, escaped}
+use Rattle.regex_lite_syntax.specs.Grammar.Classes.{BeginsItem, NamedClass, RangeFollows, ClassItem}
+use Rattle.regex_lite_syntax.specs.Parser.ClassReadings.{IsNamedSet, BeginsOperator, RangeTo}
+use Rattle.regex_lite_syntax.specs.Parser.ClassReadings.{Lacks}
+use Rattle.regex_lite_syntax.specs.Refusals.{NoReading}
+use Rattle.regex_lite_syntax.proofs.ListLemmas.{same_head, same_tail}
+use Rattle.regex_lite_syntax.proofs.grammar.ClassLemmas.{name_once}
+use Rattle.regex_lite_syntax.proofs.grammar.LongerGapLemmas.{whole_longer}
+use Rattle.regex_lite_syntax.proofs.grammar.LongerEscapeLemmas.{hexadecimal_longer}
+use Rattle.regex_lite_syntax.proofs.grammar.LongerClassLemmas.{negation_longer, named_longer}
+use Rattle.regex_lite_syntax.proofs.grammar.LongerClassLemmas.{element_two, begins_item}
+use Rattle.regex_lite_syntax.proofs.grammar.LongerClassLemmas.{element_longer, follows_longer}
+use Rattle.regex_lite_syntax.proofs.parse.IndexLemmas.{drop_at}
+use Rattle.regex_lite_syntax.proofs.parse.bracket.ClassItemLemmas.{item_range}
+
+-- before the end something is left
+pub some_at : (xs : Text) (i : ℕ) → i < length xs → drop i xs ≢ []
+some_at xs i h e = let clash = sym (drop_at xs i h) ∙ e in cc clash
+
+-- a fault that is found at the end of the text, where the character could still come, is that the
+-- text is cut short
+pub cut_at_end : (fault : SyntaxFault) (c : ℕ) (t : Text) → t ≡ []
+    → NoReading fault (Begins c) t → IsTrue (is_cut_short fault)
+cut_at_end fault c t ends none = by_kind (is_cut_short fault) refl
+  where
+    by_kind : (short : Bool) → is_cut_short fault ≡ short → IsTrue (is_cut_short fault)
+    by_kind true e = e
+    by_kind false e =
+        absurd (none (c ∷ []) (λ short. absurd (both_ways _ e short))
+        (subst (λ u. Begins c (u ++ c ∷ [])) (sym ends) refl))
+
+-- sets by their names: where no sign of negation stood, none stands in a longer text, unless the
+-- text ends there
+nothing_spelled : (w r : Text) → [] ≡ w ++ r → r ≡ []
+nothing_spelled [] r e = sym e
+nothing_spelled (c ∷ w) r e = cc e
+
+no_caret : (negated : Bool) (opened begin w r more : Text)
+    → opened ≡ (if negated then the "^" ∷ begin else begin) → begin ≡ w ++ r
+    → (negated ≡ false → Begins (the "^") opened → ⊥) → (r ≡ [] → more ≡ [])
+    → negated ≡ false → Begins (the "^") (opened ++ more) → ⊥
+no_caret true opened begin w r more e s bare follows h b = cc h
+no_caret false [] begin w r more e s bare follows h b =
+    subst (λ m. Begins (the "^") m) (follows (nothing_spelled w r (e ∙ s))) b
+no_caret false (c ∷ opened) begin w r more e s bare follows h b = bare h b
+
+-- nor does the word go on
+lacks_longer : (kind : ℕ → Bool) (r more : Text) → Lacks kind r → (r ≡ [] → more ≡ [])
+    → Lacks kind (r ++ more)
+lacks_longer kind [] more lacks follows =
+    subst (λ m. Lacks kind m) (sym (follows refl)) tt
+lacks_longer kind (c ∷ r) more lacks follows = lacks
+
+-- the longest word past the negation is the name in a longer text as well
+pub name_longer_once : (more opened u w r : Text) (m : Bool)
+    → opened ≡ (if m then the "^" ∷ u else u)
+    → (m ≡ false → Begins (the "^") opened → ⊥) → u ≡ w ++ r → AllPass is_lower w
+    → Lacks is_lower r → (r ≡ [] → more ≡ [])
+    → (t rest : Text) (n : Bool) (set : SetName) → t ≡ codes "[:" ++ opened
+    → (c : NamedClass (t ++ more) rest n set)
+    → (w ≡ c.name) × (r ++ more ≡ c.end)
+name_longer_once more opened u w r m e bare s p lacks follows t rest n set opens c =
+    let same = name_once (opened ++ more) (u ++ more) w (r ++ more) m
+    (negation_longer more m opened u e) (no_caret m opened u w r more e s bare follows)
+    (ap (λ v. v ++ more) s ∙ append_assoc w r more) p (lacks_longer is_lower r more lacks follows)
+    (t ++ more) rest n set (ap (λ v. v ++ more) opens) c in
+    (same.1, same.2)
+
+-- a set that stands there by its name stands in a longer text
+pub is_named_longer : (more t rest : Text) (element : Element) → IsNamedSet t rest element
+    → IsNamedSet (t ++ more) (rest ++ more) element
+is_named_longer more t rest (elements.Char c) is = absurd is
+is_named_longer more t rest (elements.Set set negated) is = named_longer more is
+
+-- what is read in a longer text as a character is one in the text
+char_from : (k : EscapeKind) (verbose : Bool) (t rest u past : Text) (p : Primitive) (c : ℕ)
+    → EscapeFrom k verbose t rest p → EscapeFrom k verbose u past (one c)
+    → (d : ℕ) × (p ≡ one d)
+char_from (gives q) verbose t rest u past p c d e = (c, d.1 ∙ sym e.1)
+char_from word_boundary verbose t rest u past p c d e = let clash = e.2 in cc clash
+char_from (hexadecimal n) verbose t rest u past p c d e = (d.0, d.2)
+char_from refused verbose t rest u past p c d e = absurd d
+
+module _ (more : Text) where
+  pub char_before : (verbose : Bool) (t past rest : Text) (p : Primitive) (c : ℕ)
+      → ClassElement verbose t past p → ClassElement verbose (t ++ more) rest (one c)
+      → (d : ℕ) × (p ≡ one d)
+  char_before verbose t past rest p c (literal d e plain w is) part = (d, is)
+  char_before verbose t past rest p c (escaped u e d) (literal f g plain w is) =
+      absurd (plain (same_head (sym g ∙ ap (λ v. v ++ more) e)))
+  char_before verbose t past rest p c (escaped u e d) (escaped v f g) =
+      let same = same_tail (sym f ∙ ap (λ w. w ++ more) e) in
+      let first = same_head (sym g.begins ∙ same ∙ ap (λ w. w ++ more) d.begins) in
+      char_from (escape_kind d.first) verbose d.past_first past g.past_first rest p c d.goes_on
+      (subst (λ a. EscapeFrom (escape_kind a) verbose g.past_first rest (one c)) first g.goes_on)
+
+  -- and a character of the text is one of the longer text, even where nothing is left past it
+  char_from_longer : (k : EscapeKind) (verbose : Bool) (t rest : Text) (c : ℕ)
+      → EscapeFrom k verbose t rest (one c)
+      → EscapeFrom k verbose (t ++ more) (rest ++ more) (one c)
+  char_from_longer (gives q) verbose t rest c d = (ap (λ u. u ++ more) d.0, d.1)
+  char_from_longer word_boundary verbose t rest c d = let clash = d.2 in cc clash
+  char_from_longer (hexadecimal n) verbose t rest c d = (d.0, hexadecimal_longer more d.1, d.2)
+  char_from_longer refused verbose t rest c d = absurd d
+
+  pub char_longer : (verbose : Bool) (t rest : Text) (c : ℕ) → ClassElement verbose t rest (one c)
+      → ClassElement verbose (t ++ more) (rest ++ more) (one c)
+  char_longer verbose t rest c (literal d e plain w is) =
+      literal d (ap (λ u. u ++ more) e) plain w is
+  char_longer verbose t rest c (escaped past e d) =
+      escaped (past ++ more) (ap (λ u. u ++ more) e) (record {
+        first = d.first;
+        past_first = d.past_first ++ more;
+        begins = ap (λ u. u ++ more) d.begins;
+        goes_on =
+            char_from_longer (escape_kind d.first) verbose d.past_first rest c d.goes_on;
+      })
+
+  -- so is the end of a range, and the range
+  pub range_to_longer : (verbose : Bool) (p : Primitive) (t rest : Text) (s : Set)
+      → RangeTo verbose p t rest s → RangeTo verbose p (t ++ more) (rest ++ more) s
+  range_to_longer verbose p t rest s to = record {
+    start = to.start;
+    end = to.end;
+    starts = to.starts;
+    ends = char_longer verbose t rest to.end to.ends;
+    ordered = to.ordered;
+    set_is = to.set_is;
+  }
+
+  pub range_longer : (verbose : Bool) (t past last rest : Text) (p : Primitive) (s : Set)
+      → BeginsItem t → past ≢ [] → ClassElement verbose t past p
+      → RangeFollows verbose past last → RangeTo verbose p last rest s
+      → ClassItem verbose (t ++ more) (rest ++ more) s
+  range_longer verbose t past last rest p s begins some part follows to =
+      item_range verbose (t ++ more) (past ++ more) (last ++ more) (rest ++ more) p s
+      (begins_item more t begins (element_two verbose t past p part some))
+      (element_longer more verbose t past p part some) (follows_longer more follows)
+      (range_to_longer verbose p last rest s to)
+
+  -- a doubled operator begins no item of a longer text
+  pub no_operator : (t : Text) → BeginsOperator t → BeginsItem (t ++ more) → ⊥
+  no_operator [] operator item = operator
+  no_operator (c ∷ []) operator item = operator.1
+  no_operator (c ∷ d ∷ t) operator item = item.2 operator.0 operator.1
+
+  -- a gap that ends where the text does stays as long as it can be, if nothing more follows
+  pub whole_follows : (verbose : Bool) (t rest : Text) → WholeGap verbose t rest
+      → (rest ≡ [] → more ≡ []) → WholeGap verbose (t ++ more) (rest ++ more)
+  whole_follows verbose t [] gap follows =
+      subst (λ m. WholeGap verbose (t ++ m) m) (sym (follows refl))
+      (subst (λ u. WholeGap verbose u []) (sym (append-nil t)) gap)
+  whole_follows verbose t (c ∷ rest) gap follows =
+      whole_longer more verbose t (c ∷ rest) gap (λ e. cc e)

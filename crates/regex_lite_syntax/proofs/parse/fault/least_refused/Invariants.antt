@@ -1,0 +1,12 @@
+use Rattle.std.proofs.Common.{◌<◌, ◌≤◌, ◌-◌, take}
+use Rattle.regex_lite_syntax.specs.FaultPlaces.{BeginsNone}
+use Rattle.regex_lite_syntax.proofs.parse.fault.least_refused.Given as goal
+
+abbrev pub invariant-loop-end : goal.invariant-loop-end
+invariant-loop-end l = record {
+  inside : (l.fn.low ≤ l.below) × (l.below < l.end) × (l.end ≤ l.fn.high);
+  for_good : BeginsNone l.fn.flags (take l.end l.chars);
+}
+
+abbrev pub decreases-loop-end : goal.decreases-loop-end
+decreases-loop-end l = l.end - l.below
