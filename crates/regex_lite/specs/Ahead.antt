@@ -70,7 +70,7 @@ module _ {S A : Type 0} (found_of : A → Found)
     pub over : NoneIsAhead old
     pub ended : new ≡ at_end old
 
--- So of a regex, whose answers are its matches
+-- The same for a regex, whose answers are its matches
 
 abbrev pub Ahead : Type 0
 Ahead = AheadOf Expression
@@ -110,7 +110,7 @@ most_left (Some zero) bytes ended = 0
 most_left limit bytes None = bytes + 2
 most_left limit bytes (Some e) = (bytes + 1) - e
 
--- What one that goes over a haystack, and what iterators have ahead
+-- What scans and iterators have ahead
 
 abbrev pub ahead_by : {F S : Type 0} → (sought : F → S) → Scanning F → AheadOf S
 ahead_by sought scan = record {
@@ -141,7 +141,7 @@ GivesMatch old item new =
     × IsOnward old.ended (span_of_match m) × (new.ended ≡ Some (span_of_match m).1)
     × Passes (ahead_of old) found (ahead_of new))
 
--- so whatever finds it: it came with the number of its pattern, and its slots are kept
+-- the same whatever finds it: it came with the number of its pattern, and its slots are kept
 module _ {F S A N : Type 0} (sought : F → S) (slots : F → List (Option ℕ)) (found_of : A → Found)
     (number_of : A → N) (IsAnswerTo : S → Text → (s : ℕ) → Option A → Type 0) where
   abbrev pub Came : (old : Scanning F) → N × Match → (new : Scanning F) → Type 0

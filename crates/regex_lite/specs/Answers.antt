@@ -24,8 +24,8 @@ pub record AreLawful {A : Type 0} (found_of : A → Found) (haystack : Text)
       → Answers s (Some answer) → Answers p (Some answer)
   pub one : (s : ℕ) (a b : Option A) → Answers s a → Answers s b → a ≡ b
 
--- what is returned of the answer from position s on: nothing where nothing is found, and else what
--- says of the answer
+-- what is returned of the answer from position s on: nothing if nothing is found, and otherwise a
+-- value of which `says` holds for the answer
 abbrev pub TellsOfAnswer : {A T : Type 0} → (Answers : (s : ℕ) → Option A → Type 0)
     → (says : A → T → Type 0) → (s : ℕ) → Option T → Type 0
 TellsOfAnswer Answers says s None = Answers s None

@@ -13,7 +13,7 @@ use Rattle.regex_lite.specs.Expression.{AreNames, Expression, OfTree}
 use Rattle.regex_lite.specs.Groups.{Groups, spans_of}
 use Rattle.regex_lite.specs.declared.string.compiled.Compiled.{Compiled}
 
--- a regex is built of a tree that the grammar gives its pattern, and that passes no limit
+-- a regex is built of a tree that the grammar gives its pattern, and that exceeds no limit
 pub record IsBuilt (compiled : Compiled) : Type 0 where
   pub tree : Tree
   pub given : IsTree compiled.flags (chars (string_bytes compiled.pattern)) tree

@@ -21,17 +21,17 @@ pub record Expression : Type 0 where
 abbrev pub expression_of : Settings → Expression
 expression_of settings = record { pattern = settings.pattern; flags = settings.flags }
 
--- under these settings the grammar gives the pattern this tree, which passes neither the limit on
+-- under these settings the grammar gives the pattern this tree, which exceeds neither the limit on
 -- nesting nor that on the number of groups
 abbrev pub IsReadAs : Settings → Tree → Type 0
 IsReadAs settings tree =
     IsAdmitted settings.flags settings.nest_limit (chars settings.pattern) tree
 
--- under these settings the grammar gives the pattern a tree, and no limit is passed
+-- under these settings the grammar gives the pattern a tree, and no limit is exceeded
 abbrev pub IsAccepted : Settings → Type 0
 IsAccepted settings = (tree : Tree) × IsReadAs settings tree × Fits settings.size_limit tree
 
--- what the error says of the pattern under these settings is so, or what it says of the tree that
+-- what the error says of the pattern under these settings is true, or what it says of the tree that
 -- would have to be written out
 abbrev pub IsDue : Settings → Error → Type 0
 IsDue settings error =
@@ -39,15 +39,15 @@ IsDue settings error =
     ⊎ ((tree : Tree) × IsReadAs settings tree
     × IsDueToTree settings.size_limit tree (kind_of error))
 
--- what is answered where a regex is to be built under these settings
+-- what is returned when a regex is to be built under these settings
 pub record Builds (settings : Settings) (result : Result Expression Error) : Type 0 where
   -- the regex has the pattern and the flags
   pub ok : IfOk result (λ regex. regex ≡ expression_of settings)
-  -- and its pattern has a tree and passes no limit
+  -- and its pattern has a tree and exceeds no limit
   pub accepted : IfOk result (λ _. IsAccepted settings)
-  -- what the error says is so
+  -- what the error says is true
   pub refused : IfErr result (λ error. IsDue settings error)
-  -- where the pattern has a tree and passes no limit, only memory can be wanting
+  -- if the pattern has a tree and exceeds no limit, the only error is that memory ran out
   pub complete : IfErr result (λ error. IsAccepted settings → error ≡ out_of_memory)
 
 -- the tree of the pattern has this property

@@ -1,4 +1,4 @@
--- Where in a pattern its first fault stands, as a builder tells it.
+-- Where in a pattern its first fault stands, as a builder reports it.
 use Rattle.std.specs.Prelude.{◌≡◌, chars, option_map}
 use Rattle.regex_lite_syntax.specs.Grammar.{HasTree}
 use Rattle.regex_lite_syntax.specs.declared.parse.fault.FaultPlace.{FaultPlace}

@@ -16,11 +16,11 @@ use Rattle.regex_lite.specs.Settings.{Settings}
 -- on
 pub record Headline (settings : Settings) (haystack : List ℕ) (start : ℕ)
     (result : Result (Option Groups × Steps) Error) : Type 0 where
-  -- unless memory runs out, the pattern is accepted exactly where the grammar gives it a tree and
-  -- no limit is passed
+  -- unless memory runs out, the pattern is accepted exactly if the grammar gives it a tree and no
+  -- limit is exceeded
   pub accepted : IfOk result (λ _. IsAccepted settings)
   pub complete : IfErr result (λ error. IsAccepted settings → error ≡ out_of_memory)
-  -- what an error says is so
+  -- what an error says is true
   pub refused : IfErr result (λ error. IsDue settings error)
   -- the answer is the least start from which the tree matches, with the end and the groups of the
   -- most preferred way from there that visits no place twice at one position, or that there is
@@ -33,11 +33,11 @@ pub record Headline (settings : Settings) (haystack : List ℕ) (start : ℕ)
 -- the same of several patterns at once, each under its own settings
 pub record ListHeadline (all : List Settings) (haystack : List ℕ) (start : ℕ)
     (result : Result (Option (ℕ × Groups) × Steps) Error) : Type 0 where
-  -- unless memory runs out, the patterns are accepted exactly where each is by itself and their
-  -- places together are fewer than 2^32
+  -- unless memory runs out, the patterns are accepted exactly if each is by itself and their places
+  -- together are fewer than 2^32
   pub accepted : IfOk result (λ _. AreAccepted all)
   pub complete : IfErr result (λ error. AreAccepted all → error ≡ out_of_memory)
-  -- what an error says is so of the lowest pattern that fails, or where none does of them all
+  -- what an error says is true of the lowest pattern that fails, or if none does, of them all
   pub refused : IfErr result (λ error.
       (error ≡ out_of_memory) ⊎ (IsDueToLowest all error ⊎ IsDueToAll all error))
   -- the answer begins where the first match of any pattern does, and is that of the pattern with

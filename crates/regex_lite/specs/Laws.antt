@@ -56,7 +56,7 @@ EnoughGroupsTakePart =
     → TellsGroups re haystack start (Some groups)
     → IfSome groups.static_captures_len (λ n. n ≤ length (texts_from groups 0))
 
--- two matches are equal exactly where the texts of their haystacks and their spans are
+-- two matches are equal exactly if the texts of their haystacks and their spans are
 abbrev pub MatchesAreTheirSpans : Type 0
 MatchesAreTheirSpans =
     (m n : Match)
@@ -66,7 +66,7 @@ MatchesAreTheirSpans =
 abbrev pub escaped_settings : (text : List ℕ) → Settings
 escaped_settings text = default_settings (escaped_pattern text)
 
--- a refusal of this kind says that the pattern is too large, or that memory was wanting
+-- a refusal of this kind says that the pattern is too large, or that memory ran out
 abbrev pub IsForSize : ErrorKind → Type 0
 IsForSize Size = Unit {0}
 IsForSize Places = Unit {0}
@@ -79,7 +79,7 @@ EscapedTextsAreRefusedForSize =
     (text : List ℕ) (error : Error) → IsUtf8 text → IsDue (escaped_settings text) error
     → IsForSize (kind_of error)
 
--- an escaped text has a tree, which matches exactly where the text stands
+-- an escaped text has a tree, which matches exactly where the text occurs
 abbrev pub EscapedTextsMatchThemselves : Type 0
 EscapedTextsMatchThemselves =
     (text : List ℕ) → IsUtf8 text

@@ -45,5 +45,5 @@ pub mod PiecesLeft
 pub mod Keeping
 pub mod NextMatch
 pub mod Rewriting
--- What those have that share what was built. No public contract rests on it.
+-- What those that share what was built have. No public contract rests on it.
 pub mod Owner

@@ -66,7 +66,7 @@ module _ {A : Type 0} (found_of : A → Found) (Answers : (s : ℕ) → Option A
       (limit ≢ Some 0) × IsNextAnswer ended (Some answer)
       × AreSomeAnswersWithin (one_less limit) (Some (found_of answer).end) list
 
--- So of searches for a pattern, whose answers are what was found
+-- The same for searches for a pattern, whose answers are what was found
 
 -- there is a match, it is empty, and it stands at position e
 abbrev pub is_empty_at : (e : ℕ) → Option Found → Bool
@@ -96,8 +96,8 @@ module _ (re : Expression) (haystack : Text) where
   AreSomeWithin limit ended list =
       AreSomeAnswersWithin (λ own. own) (IsAnswerOf re haystack) limit ended list
 
--- So of searches for several patterns, whose answers are the number of a pattern and what was found
--- of it. Where the next one is looked for has nothing to do with the numbers
+-- The same for searches for several patterns, whose answers are the number of a pattern and what
+-- was found of it. Where the next one is looked for has nothing to do with the numbers
 module _ (list : List Expression) (haystack : Text) where
   -- what comes after a match that ended at this position, or first
   abbrev pub IsNextOfList : (ended : Option ℕ) → Option (ℕ × Found) → Type 0

@@ -9,8 +9,8 @@ use Rattle.regex_lite.specs.MatchViews.{span_of_match}
 use Rattle.regex_lite.specs.Scanning.{IsMatchWithSlots}
 use Rattle.regex_lite.specs.Searches.{CanStartAt}
 
--- what is returned of the answer after a match that ended at this offset: nothing without one,
--- and else its match, with the number of the pattern. It ends at the offset of the answer's end,
+-- what is returned of the answer after a match that ended at this offset: nothing without one, and
+-- otherwise its match, with the number of the pattern. It ends at the offset of the answer's end,
 -- and further on. These are its slots
 module _ {A N : Type 0} (found_of : A → Found) (number_of : A → N)
     (Answers : (s : ℕ) → Option A → Type 0) (haystack : List ℕ) where

@@ -58,8 +58,8 @@ WholeMatchesGiveHaystack R =
     (whole re haystack limit) new
     → new ≡ haystack
 
--- where a template has no `$`, its text in the place of each match and what it gives for the groups
--- of each are the same
+-- for a template without a `$`, replacing each match by the template itself gives the same as
+-- replacing it by what the template gives for its groups
 abbrev pub FixedTextIsTemplate : Type 0 → Type 0
 FixedTextIsTemplate R =
     (template : R → List ℕ) (rep : R) (a : Ahead) (new other : List ℕ)
@@ -67,8 +67,8 @@ FixedTextIsTemplate R =
     → IsReplacedInTurn (TemplateFixed template) (TemplateAppends template) rep a other
     → new ≡ other
 
--- where a replacer is lent, the relations between the states of what lends it are those of the one
--- after it, and what it gives in the place of the matches is what that one gives
+-- if the relations of a replacer that borrows another are those of the other, matches are replaced
+-- as the other replaces them
 module _ {R : Type 0} (Fixed : R → Option (List ℕ) → R → Type 0)
     (Appends : R → Groups → (text : List ℕ) → Answer → R → Type 0) where
   abbrev pub LentReplacersReplaceAlike : Type 0 → Type 0

@@ -18,11 +18,11 @@ AllPaired R [] (y ∷ ys) = ⊥
 AllPaired R (x ∷ xs) [] = ⊥
 AllPaired R (x ∷ xs) (y ∷ ys) = R x y × AllPaired R xs ys
 
--- under these settings the pattern has this tree, and passes no limit by itself
+-- under these settings the pattern has this tree, and exceeds no limit by itself
 abbrev pub IsAcceptedAs : Settings → Tree → Type 0
 IsAcceptedAs settings tree = IsReadAs settings tree × Fits settings.size_limit tree
 
--- so it is with each of these patterns and the tree that has the same number
+-- the same for each of these patterns and the tree that has its number
 abbrev pub AreAcceptedAs : List Settings → List Tree → Type 0
 AreAcceptedAs all trees = AllPaired IsAcceptedAs all trees
 
@@ -47,14 +47,14 @@ pub record IsDueToAll (all : List Settings) (error : Error) : Type 0 where
   pub passed : 2 ^ 32 ≤ places_of_all trees
   pub kind : kind_of error ≡ Places
 
--- what is answered where a list of patterns is to be built, each under its own settings
+-- what is returned when a list of patterns is to be built, each under its own settings
 pub record BuildsList (all : List Settings) (result : Result (List Expression) Error)
     : Type 0 where
   -- the list has the patterns and their flags, in their order
   pub ok : IfOk result (λ list. list ≡ map expression_of all)
   -- and they are accepted
   pub accepted : IfOk result (λ _. AreAccepted all)
-  -- what the error says is so of the lowest pattern that fails, and where none does, of them all
+  -- what the error says is true of the lowest pattern that fails, or if none does, of them all
   pub refused : IfErr result (λ error.
       (error ≡ out_of_memory) ⊎ (IsDueToLowest all error ⊎ IsDueToAll all error))
   -- accepted patterns are refused only where memory runs out

@@ -22,7 +22,7 @@ AreGroupsOfEach re haystack (found ∷ matches) [] = ⊥
 AreGroupsOfEach re haystack (found ∷ matches) (groups ∷ list) =
     AreGroupsFound re haystack found groups × AreGroupsOfEach re haystack matches list
 
--- the haystack from this offset on with one text in the place of each span
+-- the haystack from this offset on with each span replaced by one text
 abbrev pub replaced_by : (text haystack : List ℕ) → (from : ℕ) → (spans : List (ℕ × ℕ)) → List ℕ
 replaced_by text haystack from [] = drop from haystack
 replaced_by text haystack from (span ∷ spans) =
@@ -35,8 +35,8 @@ pub record IsReplacedBy (text : List ℕ) (a : Ahead) (new : List ℕ) : Type 0 
   pub replaced :
       new ≡ replaced_by text a.haystack 0 (map (found_span (chars a.haystack)) found)
 
--- A replacer is known by two relations: what it returns where it is asked for a fixed text, and
--- what it appends for groups, and answers
+-- A replacer is known by two relations: what it returns if it is asked for a fixed text, and what
+-- it appends and returns for groups
 module _ {R : Type 0} (Fixed : R → Option (List ℕ) → R → Type 0)
     (Appends : R → Groups → List ℕ → Answer → R → Type 0) where
   -- the haystack from this offset on where the replacer, asked for each match in turn, appended a
@@ -49,7 +49,7 @@ module _ {R : Type 0} (Fixed : R → Option (List ℕ) → R → Type 0)
       × (new ≡ slice_range haystack from (whole_span groups).0 ++ text ++ rest)
       × IsChain haystack after (whole_span groups).1 list rest
 
-  -- it answered this error for one of the matches, and `Ok` for those before it
+  -- it returned this error for one of the matches, and `Ok` for those before it
   abbrev pub IsRefusedAt : R → List Groups → Error → Type 0
   IsRefusedAt rep [] error = ⊥
   IsRefusedAt rep (groups ∷ list) error =
@@ -77,12 +77,12 @@ module _ {R : Type 0} (Fixed : R → Option (List ℕ) → R → Type 0)
   IsReplaced (Some text) rep a new = IsReplacedBy text a new
   IsReplaced None rep a new = IsReplacedInTurn rep a new
 
-  -- The replacer is asked for a fixed text, once and first. Where it has one, that text replaces
-  -- each match; else it is asked for each match in turn
+  -- The replacer is asked for a fixed text, once and first. If it has one, that text replaces each
+  -- match; otherwise it is asked for each match in turn
   abbrev pub IsReplacement : R → Ahead → List ℕ → Type 0
   IsReplacement rep a new =
       (fixed : Option (List ℕ)) × (after : R) × Fixed rep fixed after × IsReplaced fixed after a new
 
-  -- it has no fixed text, and the error is one that it answers for a match that is to be replaced
+  -- it has no fixed text, and the error is one that it returns for a match that is to be replaced
   abbrev pub IsHandedOn : R → Ahead → Error → Type 0
   IsHandedOn rep a error = (after : R) × Fixed rep None after × IsRefused after a error

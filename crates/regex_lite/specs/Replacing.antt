@@ -1,4 +1,4 @@
--- What a replacer may append for a match, and what it returns where it is asked for a fixed text.
+-- What a replacer may append for a match, and what it returns if it is asked for a fixed text.
 use Rattle.std.specs.Prelude.{◌≡◌, ◌++◌, ℕ, List, [], Option, Result, Ok, Err, ⊤}
 use Rattle.std.specs.Prelude.{MatchResult, MatchOption, Contains, String, string_bytes}
 use Rattle.std.specs.Borrow.{RattleType, MutBor, Fml, follows_so}
@@ -10,7 +10,7 @@ use Rattle.regex_lite_syntax.specs.Text.{the}
 use Rattle.regex_lite.specs.Groups.{Groups}
 use Rattle.regex_lite.specs.Templates.{IsExpansion}
 
--- what a replacer answers where it is to append: `Ok`, or why it could not
+-- what a replacer returns when it is to append: `Ok`, or why it could not
 abbrev pub Answer : Type 0
 Answer = Result (Unit {0}) Error
 
@@ -22,7 +22,7 @@ Rests R reference Holds = follows_so R R reference.ghost_name none (λ _ _. ⊤)
 abbrev pub Begins : (text complete : List ℕ) → Type 0
 Begins text complete = (rest : List ℕ) × (complete ≡ text ++ rest)
 
--- with `Ok` the complete text was appended; and else a beginning of it, because memory runs out
+-- with `Ok` the complete text was appended; otherwise a beginning of it, because memory ran out
 abbrev pub IsAppendedText : (complete text : List ℕ) → Answer → Type 0
 IsAppendedText complete text answer =
     MatchResult answer (λ _. text ≡ complete)
@@ -40,7 +40,7 @@ IsFixedText template fixed =
     MatchOption fixed (Contains template (the "$"))
     (λ text. (text ≡ template) × ¬ (Contains template (the "$")))
 
--- what a closure answered was appended, or its error is the answer
+-- what a closure returned was appended, or its error is the answer
 abbrev pub IsAppendedResult : Result (String Global) Error → (text : List ℕ) → Answer → Type 0
 IsAppendedResult (Ok made) text answer = IsAppendedText (string_bytes made) text answer
 IsAppendedResult (Err error) text answer = (text ≡ []) × (answer ≡ Err error)

@@ -22,7 +22,7 @@ pub record RegexSearching : Type 0 where
   pub regex : Expression
   pub slots : List (Option ℕ)
 
--- so of several patterns
+-- the same for several patterns
 pub record ListSearching : Type 0 where
   pub list : List Expression
   pub slots : List (Option ℕ)
@@ -35,8 +35,8 @@ pub record Scanning (F : Type 0) : Type 0 where
   pub limit : Option ℕ
   pub ended : Option ℕ
 
--- the same with what is searched for, a regex or several patterns, in the place of what finds it:
--- so contracts see an iterator over matches
+-- the same with what is searched for, a regex or several patterns, instead of what finds it:
+-- contracts see an iterator over matches like this
 abbrev pub seen_by : {F S : Type 0} → (sought : F → S) → Scanning F → Scanning S
 seen_by sought scan = record {
   finder = sought scan.finder;
@@ -59,14 +59,14 @@ pub record IsSpanWithSlots {A N : Type 0} (found_of : A → Found) (number_of : 
   pub span : told.1 ≡ offsets (chars haystack) ((found_of answer).start, (found_of answer).end)
   pub has_slots : HasSlots (chars haystack) slots (found_of answer).marks
 
--- so of a search for a pattern from this offset on
+-- the same for a search for a pattern from this offset on
 abbrev pub TellsSpan : Expression → (haystack : List ℕ) → (start : ℕ)
     → (slots : List (Option ℕ)) → Option (Unit {0} × (ℕ × ℕ)) → Type 0
 TellsSpan re haystack start slots told =
     TellsOfAnswer (IsAnswerOf re (chars haystack))
     (IsSpanWithSlots (λ own. own) (λ own. tt {0}) haystack slots) (search_start haystack start) told
 
--- and of one for several patterns
+-- and for a search for several patterns
 abbrev pub TellsListSpan : List Expression → (haystack : List ℕ) → (start : ℕ)
     → (slots : List (Option ℕ)) → Option (ℕ × (ℕ × ℕ)) → Type 0
 TellsListSpan list haystack start slots told =
@@ -74,7 +74,7 @@ TellsListSpan list haystack start slots told =
     (IsSpanWithSlots (λ own. own.1) (λ own. own.0) haystack slots) (search_start haystack start)
     told
 
--- so of the match
+-- the same for the match
 pub record IsMatchWithSlots {A N : Type 0} (found_of : A → Found) (number_of : A → N)
     (haystack : List ℕ) (slots : List (Option ℕ)) (answer : A) (told : N × Match) : Type 0 where
   pub number : told.0 ≡ number_of answer
@@ -89,14 +89,14 @@ IsMatchOfSearch found_of number_of Answers haystack slots answer told =
     (s : ℕ) × Answers s (Some answer)
     × IsMatchWithSlots found_of number_of haystack slots answer told
 
--- so of searches for a pattern
+-- the same for searches for a pattern
 abbrev pub IsMatchOfRegex : Expression → (haystack : List ℕ) → (slots : List (Option ℕ)) → Found
     → Unit {0} × Match → Type 0
 IsMatchOfRegex re haystack slots found told =
     IsMatchOfSearch (λ own. own) (λ own. tt {0}) (IsAnswerOf re (chars haystack)) haystack slots
     found told
 
--- and of searches for several patterns
+-- and for searches for several patterns
 abbrev pub IsMatchOfPatterns : List Expression → (haystack : List ℕ) → (slots : List (Option ℕ))
     → ℕ × Found → ℕ × Match → Type 0
 IsMatchOfPatterns list haystack slots answer told =

@@ -1,7 +1,7 @@
 //! A value that several owners share, in one thread.
 //!
-//! The library's `Rc` refuses a clone where its count is full. A [`Shared`] is never refused: where
-//! its count is full it stays so, and the value is there for ever.
+//! The library's `Rc` refuses a clone if its count is full. A [`Shared`] is never refused: a full
+//! count never decreases, and the value is leaked.
 mod counted;
 mod lasting;
 mod shared;

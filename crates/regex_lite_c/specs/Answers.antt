@@ -23,7 +23,7 @@ IsRefusedText bytes start answer =
     ((answer ≡ NOT_TEXT) × (IsUtf8 bytes → ⊥))
     ⊎ ((answer ≡ BAD_OFFSET) × IsUtf8 bytes × (IsCharBoundary bytes start → ⊥))
 
--- the bytes are refused, and the offset, where that is due, and only there
+-- the bytes, or the offset, are refused exactly if that is due
 pub record RefusesText (bytes : List ℕ) (start answer : ℕ) : Type 0 where
   pub not_text : (answer ≡ NOT_TEXT) ↔ (IsUtf8 bytes → ⊥)
   pub bad_offset : (answer ≡ BAD_OFFSET) ↔ (IsUtf8 bytes × (IsCharBoundary bytes start → ⊥))

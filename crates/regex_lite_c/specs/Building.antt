@@ -7,8 +7,8 @@ use Rattle.regex_lite.specs.Settings.{Settings}
 use Rattle.regex_lite_c.specs.Answers.{number_of}
 use Rattle.regex_lite_c.specs.declared.answer.TheConstants.{YES, NOT_TEXT, OUT_OF_MEMORY}
 
--- a message was written to the room for it, or where that is too small, nothing; and its length was
--- told. Or memory ran out for it, and its length counts as 0
+-- a message was written to the room for it, or nothing if that is too small; and its length was
+-- reported. Or memory ran out for it, and its length counts as 0
 abbrev pub IsMessage : (text old new : List ℕ) → (len : ℕ) → Type 0
 IsMessage text old new len =
     ((len ≡ 0) × (new ≡ old))
@@ -31,7 +31,7 @@ pub record IsBuildAnswer (settings : Settings) (answer : ℕ) (held : Option Exp
   pub nothing : answer ≢ YES → held ≡ None
   pub not_text : (answer ≡ NOT_TEXT) ↔ (IsUtf8 settings.pattern → ⊥)
   pub refused : answer ≢ YES → IsUtf8 settings.pattern → IsRefusedBy settings answer old new len
-  -- where the pattern has a tree and passes no limit, only memory can be wanting
+  -- if the pattern has a tree and exceeds no limit, the only refusal is that memory ran out
   pub complete : answer ≢ YES → IsUtf8 settings.pattern → IsAccepted settings
       → answer ≡ OUT_OF_MEMORY
   pub no_message : (IsUtf8 settings.pattern → answer ≡ YES) → (len ≡ 0) × (new ≡ old)

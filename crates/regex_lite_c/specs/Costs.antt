@@ -17,7 +17,7 @@ abbrev pub IsCostOfSearch : Expression → (haystack : List ℕ) → (start : �
 IsCostOfSearch re haystack start cost =
     (steps : Steps) × IsWithinCost re haystack start steps × IsCostOf steps cost
 
--- so of several patterns
+-- the same for several patterns
 abbrev pub IsCostOfListSearch : List Expression → (haystack : List ℕ) → (start : ℕ) → Cost
     → Type 0
 IsCostOfListSearch list haystack start cost =

@@ -24,10 +24,10 @@ holds_of row null_ptr (Some value) = nowhere
 holds_of row (block_ptr b o) None = nowhere
 holds_of row (block_ptr b o) (Some value) = box_owns frees row (block_ptr b o) value
 
--- so of a regex
+-- the same for a regex
 abbrev pub holds : Ptr → Option Expression → Fml
 holds ptr value = holds_of regex.the_row ptr value
 
--- and of a list of patterns
+-- and for a list of patterns
 abbrev pub holds_list : Ptr → Option (List Expression) → Fml
 holds_list ptr value = holds_of patterns.the_row ptr value

@@ -39,7 +39,7 @@ settings_of_source source = settings_of source.text.now source.options.now
 abbrev pub AreTexts : List Settings → Type 0
 AreTexts all = (k : ℕ) (own : Settings) → slice_get all k ≡ Some own → IsUtf8 own.pattern
 
--- the pattern with this number is the first that is no UTF-8
+-- the pattern with this number is the first that isn't valid UTF-8
 pub record IsFirstOtherBytes (all : List Settings) (number : ℕ) : Type 0 where
   pub settings : Settings
   pub numbered : slice_get all number ≡ Some settings
@@ -47,8 +47,8 @@ pub record IsFirstOtherBytes (all : List Settings) (number : ℕ) : Type 0 where
   pub lower : (k : ℕ) (own : Settings) → k < number → slice_get all k ≡ Some own
       → IsUtf8 own.pattern
 
--- what the error says is so of the first pattern that is refused by itself, which has this number;
--- or where the number is that of the patterns, memory ran out, or they have too many places
+-- what the error says is true of the first pattern that is refused by itself, which has this
+-- number; or if the number is that of all patterns, memory ran out, or they have too many places
 -- together
 abbrev pub IsDueAt : List Settings → (number : ℕ) → Refusal → Type 0
 IsDueAt all number error =
@@ -60,14 +60,14 @@ abbrev pub IsEachAccepted : List Settings → Type 0
 IsEachAccepted all =
     (k : ℕ) (own : Settings) → slice_get all k ≡ Some own → IsAccepted own
 
--- why patterns are refused is so
+-- the reason why patterns are refused is true
 abbrev pub IsRefusedAs : List Settings → Refused → Type 0
 IsRefusedAs all (refused.NotText number) = IsFirstOtherBytes all number
 IsRefusedAs all (refused.By number error) =
     IsDueAt all number error × ((error ≡ out_of_memory) ⊎ AreTexts all)
     × (AreAccepted all → error ≡ out_of_memory)
 
--- the number of why they are refused is returned, and what is said of it is told
+-- the number of the reason why they are refused is returned, and what is said of it is written
 abbrev pub IsTold : Refused → (answer : ℕ) → ListRefusal → (old new : List ℕ) → Type 0
 IsTold (refused.NotText number) answer told old new =
     (answer ≡ NOT_TEXT) × (told.number ≡ number) × (told.message_len ≡ 0) × (new ≡ old)
@@ -89,16 +89,16 @@ pub record IsListBuildAnswer (bytes : List ℕ) (patterns : List ListPattern) (a
   pub built : answer ≡ YES → held ≡ Some (map expression_of (settings_of_all bytes patterns))
   pub accepted : answer ≡ YES → AreAccepted (settings_of_all bytes patterns)
   pub nothing : answer ≢ YES → held ≡ None
-  -- the patterns have not as many bytes as there are
+  -- the patterns don't have as many bytes as there are
   pub bad_offset : (answer ≡ BAD_OFFSET) ↔ (AreAllBytes patterns bytes → ⊥)
-  -- one of them is no UTF-8
+  -- one of them isn't valid UTF-8
   pub not_text : answer ≡ NOT_TEXT
       → IsFirstOtherBytes (settings_of_all bytes patterns) told.number
   pub texts : (answer ≡ BAD_OFFSET) ⊎ ((answer ≡ NOT_TEXT) ⊎ ((answer ≡ OUT_OF_MEMORY)
       ⊎ AreTexts (settings_of_all bytes patterns)))
   pub refused : answer ≢ YES → answer ≢ BAD_OFFSET → answer ≢ NOT_TEXT
       → IsListRefusedBy (settings_of_all bytes patterns) answer told old new
-  -- where the patterns are accepted, only memory can be wanting
+  -- if the patterns are accepted, the only refusal is that memory ran out
   pub complete : answer ≢ YES → AreAllBytes patterns bytes
       → AreTexts (settings_of_all bytes patterns) → AreAccepted (settings_of_all bytes patterns)
       → answer ≡ OUT_OF_MEMORY

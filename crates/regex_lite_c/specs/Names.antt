@@ -14,7 +14,7 @@ IsNameTold (Some None) old new old_len len answer =
     (answer ≡ NO) × (new ≡ old) × (len ≡ old_len)
 IsNameTold (Some (Some name)) old new old_len len answer = IsWritten name old new len answer
 
--- so of the group with this index
+-- the same for the group with this index
 abbrev pub IsNameAnswer : Expression → (index : ℕ) → (old new : List ℕ)
     → (old_len len answer : ℕ) → Type 0
 IsNameAnswer re index old new old_len len answer =
@@ -26,7 +26,7 @@ abbrev pub IsIndexTold : Option ℕ → (old new answer : ℕ) → Type 0
 IsIndexTold None old new answer = (answer ≡ NO) × (new ≡ old)
 IsIndexTold (Some index) old new answer = (answer ≡ YES) × (new ≡ index)
 
--- so of the group with this name
+-- the same for the group with this name
 abbrev pub IsIndexAnswer : Expression → (name : List ℕ) → (old new answer : ℕ) → Type 0
 IsIndexAnswer re name old new answer =
     (names : List (Option (List ℕ))) × OfTree re (AreNames names)

@@ -26,7 +26,7 @@ pub record AreWrittenAs {X Y : Type 0} (view : X → Y) (told : List Y) (old new
   pub each : (k : ℕ) → k < length told → option_map view (slice_get new k) ≡ slice_get told k
   pub rest : (k : ℕ) → length told ≤ k → slice_get new k ≡ slice_get old k
 
--- so of the caller's spans
+-- the same for the caller's spans
 abbrev pub AreWritten : (told : List (Option (ℕ × ℕ))) → (old new : List Span) → Type 0
 AreWritten told old new = AreWrittenAs span_of told old new
 

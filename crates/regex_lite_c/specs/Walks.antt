@@ -35,7 +35,7 @@ pub record GoesOnAfterLast {X : Type 0} (end_of : X → ℕ) (written : List X) 
   pub some : 0 < count
   pub end : (k : ℕ) → suc k ≡ count → option_map end_of (slice_get written k) ≡ ended_of walk
 
--- so of the caller's spans
+-- the same for the caller's spans
 abbrev pub GoesOnAfter : List Span → (count : ℕ) → Walk → Type 0
 GoesOnAfter spans count walk = GoesOnAfterLast (λ span. span.end) spans count walk
 

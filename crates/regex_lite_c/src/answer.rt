@@ -14,7 +14,7 @@ pub(crate) const YES: u32 = 1;
 /// The handle holds nothing.
 pub(crate) const NOTHING_HELD: u32 = 2;
 
-/// The bytes are no UTF-8.
+/// The bytes aren't valid UTF-8.
 pub(crate) const NOT_TEXT: u32 = 3;
 
 /// The offset is above the text's length or inside a character.
@@ -32,13 +32,13 @@ pub(crate) const NO_GROUP: u32 = 7;
 /// The grammar has no tree for the pattern.
 pub(crate) const SYNTAX: u32 = 10;
 
-/// The pattern passes the limit on nesting.
+/// The pattern exceeds the limit on nesting.
 pub(crate) const NESTING: u32 = 11;
 
 /// The pattern has more groups than can be numbered.
 pub(crate) const GROUPS: u32 = 12;
 
-/// The pattern passes the size limit.
+/// The pattern exceeds the size limit.
 pub(crate) const SIZE: u32 = 13;
 
 /// The pattern has more places than can be numbered.

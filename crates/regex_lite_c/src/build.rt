@@ -12,10 +12,11 @@ use crate::types::Options;
 use regex_lite::{Error, Regex, RegexBuilder};
 use std::alloc::Global;
 
-/// Builds the regex of a pattern: 1, and the handle holds it; else why not, and it holds nothing.
+/// Builds the regex of a pattern: 1, and the handle holds it; otherwise why not, and it holds
+/// nothing.
 ///
-/// What was held before is freed. The text of a refusal is written to the room for a message, if it
-/// has room enough, and how long it is; else the length is 0.
+/// What was held before is freed. The text of a refusal is written to the room for a message, if
+/// that is large enough. Its length is written either way, and is 0 if there is no text.
 #[unsafe(no_mangle)]
 pub extern "C" fn regex_lite_new(
     alloc: Global,

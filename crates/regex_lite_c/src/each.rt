@@ -12,8 +12,8 @@ use std::alloc::Global;
 /// each text written, which is none where the text has no match.
 ///
 /// The texts have these lengths, which have to add up to that of the bytes, and each ends between
-/// two characters; else a bad offset is reported. They are searched in the same memory, and what
-/// the searches of one learn of the pattern speeds up those of the next.
+/// two characters; otherwise a bad offset is reported. They are searched in the same memory, and
+/// what the searches of one learn of the pattern speeds up those of the next.
 #[unsafe(no_mangle)]
 pub extern "C" fn regex_lite_find_each(
     alloc: Global,

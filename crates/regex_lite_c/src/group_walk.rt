@@ -92,7 +92,7 @@ fn fill_groups(
     or_yes(*count, NO)
 }
 
-/// Yes where there are some, and else this answer.
+/// Yes if there are some, and otherwise this answer.
 pub(crate) fn or_yes(count: usize, none: u32) -> u32
     ensures some { 0 < count → result ≡ YES }
     ensures none { count ≡ 0 → result ≡ none }

@@ -10,8 +10,8 @@ use std::marker::Model;
 
 /// The place of a regex, or null where there is none.
 ///
-/// Its bytes are those of one pointer. Who copies them has two owners of one regex, which nothing
-/// here can see.
+/// Its bytes are those of one pointer. A caller who copies them has two owners of one regex, which
+/// nothing here can detect.
 #[repr(C)]
 #[derive(Drop)]
 pub struct Handle {
@@ -26,7 +26,7 @@ impl Model for Handle {
 }
 
 impl Handle {
-    /// The regex, which the handle holds no more.
+    /// The regex, which the handle no longer holds.
     pub(crate) fn take(&mut self, alloc: Global) -> Option<Box<Regex, Global>>
         ensures taken { MatchOption result (self.old.value ≡ None)
             (λ regex. self.old.value ≡ Some regex.value) }
@@ -41,7 +41,7 @@ impl Handle {
 
     /// Holds this regex.
     ///
-    /// Condition: nothing is held, which else would never be freed.
+    /// Condition: nothing is held; otherwise that would never be freed.
     pub(crate) fn put(&mut self, regex: Box<Regex, Global>)
         requires { self.old.value ≡ None }
         ensures { self.new.value ≡ Some regex.value }

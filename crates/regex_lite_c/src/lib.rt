@@ -1,13 +1,13 @@
 //! Regular expressions for programs in C, and in each language that calls C.
 //!
-//! A caller keeps a [`Handle`](handle::Handle): one pointer, null at first. Each call is given the
-//! place of the handle, and leaves in it what was there, but for those that build and free. Texts
-//! and arrays stay the caller's: no call keeps a pointer to one.
+//! A caller keeps a [`Handle`](handle::Handle): one pointer, null at first. Each call is given a
+//! pointer to the handle, and leaves in it what was there, except for those that build and free.
+//! Texts and arrays stay the caller's: no call keeps a pointer to one.
 //!
-//! Where a call returns a number, it is one of `answer`: 1 for yes, 0 for no, and else why it
-//! refused. A text that is no UTF-8, a bad offset or index, and a handle that holds nothing are
-//! refused, and need no care of the caller. The contract of each call says what the call of
-//! `regex_lite` below it returns, by bytes, numbers and spans. bindings/c/regex_lite.h says the
+//! Where a call returns a number, it is one of `answer`: 1 for yes, 0 for no, and otherwise why it
+//! refused. Bytes that aren't valid UTF-8, a bad offset or index, and a handle that holds nothing
+//! are refused, so the caller needn't check for them. The contract of each call says what the call
+//! of `regex_lite` below it returns, by bytes, numbers and spans. bindings/c/regex_lite.h says the
 //! same for callers in C.
 #![tactic(auto)]
 

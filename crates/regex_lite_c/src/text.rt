@@ -12,7 +12,8 @@ pub extern "C" fn regex_lite_is_text(bytes: &[u8]) -> bool
     std::str::from_utf8(bytes).is_ok()
 }
 
-/// The text that these bytes are, if the offset is on a character boundary of it; else why not.
+/// The text that these bytes are, if the offset is on a character boundary of it; otherwise why
+/// not.
 pub(crate) fn text_from(bytes: &[u8], start: usize) -> Result<&str, u32>
     ensures { MatchResult result
         (λ text. (text.now ≡ bytes.now) × IsUtf8 bytes.now × IsCharBoundary bytes.now start)

@@ -1,4 +1,4 @@
-//! What a caller passes beside texts.
+//! What a caller passes besides texts.
 ghost use Rattle.std.specs.Prelude.{◌≡◌, ◌-◌, ◌^◌, Some, min, option_map};
 ghost use Rattle.regex_lite.specs.MatchViews.{span_of_match};
 ghost use Rattle.regex_lite_c.specs.Costs.{IsCostOf};
@@ -20,7 +20,7 @@ pub struct Options {
     pub dot_matches_new_line: bool,
     /// A carriage return ends a line too: the flag `R`.
     pub crlf: bool,
-    /// Greedy and lazy operators change places: the flag `U`.
+    /// Greedy and lazy operators are swapped: the flag `U`.
     pub swap_greed: bool,
     /// White space and comments are left out of the pattern: the flag `x`.
     pub ignore_whitespace: bool,
@@ -113,8 +113,8 @@ impl Fault {
     }
 }
 
-/// What a search cost, in places of the pattern written out. A number above 2^64 - 1 counts as
-/// that.
+/// What a search cost, in places of the pattern written out. A number above 2^64 - 1 is written as
+/// 2^64 - 1.
 #[repr(C)]
 #[derive(Clone, Copy)]
 pub struct Cost {

@@ -1,4 +1,4 @@
--- What a search that goes depth first promises.
+-- What the functions of the depth-first search promise one another.
 pub mod Bits
 pub mod DepthFirst
 pub mod Machine

@@ -32,7 +32,7 @@ AtMostOneAnswerOfList =
     (a b : Option (ℕ × Found)) → IsAnswerOfList trees haystack s a
     → IsAnswerOfList trees haystack s b → a ≡ b
 
--- something is found exactly where some pattern matches from a position at or after the start, and
+-- something is found exactly if some pattern matches from a position at or after the start, and
 -- what is found is a match, and the answer, of the pattern with the number
 abbrev pub ListAnswersAreAnswers : Type 0
 ListAnswersAreAnswers =
@@ -44,7 +44,7 @@ ListAnswersAreAnswers =
     × IsMatchFrom tree haystack s found.start found.end
     × IsAnswer tree haystack s (Some found))
 
--- the number of the only pattern beside what was found
+-- the number of the only pattern, with what was found
 abbrev pub by_itself : Option Found → Option (ℕ × Found)
 by_itself answer = option_map (λ found. (0, found)) answer
 

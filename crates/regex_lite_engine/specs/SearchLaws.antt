@@ -39,7 +39,7 @@ pub record IsEarlier (tree : Tree) (haystack : Text) (i : ℕ) (way other : List
   pub is_way : way ≡ shared ++ arrow ∷ rest
   pub is_other : other ≡ shared ++ later_arrow ∷ other_rest
 
--- a way is preferred to another exactly where it takes the earlier arrow where they first differ
+-- a way is preferred to another exactly if it takes the earlier arrow where they first differ
 abbrev pub PreferredWaysAreEarlier : Type 0
 PreferredWaysAreEarlier =
     (tree : Tree) (haystack : Text) (i j : ℕ) (way other : List ℕ)
@@ -58,8 +58,8 @@ AtMostOneAnswer =
     (tree : Tree) → IsPatternTree tree → (haystack : Text) (s : ℕ) (a b : Option Found)
     → IsAnswer tree haystack s a → IsAnswer tree haystack s b → a ≡ b
 
--- something is found exactly where the tree matches from a position at or after the start, and what
--- is found is such a match
+-- something is found exactly if the tree matches from a position at or after the start, and what is
+-- found is such a match
 abbrev pub AnswersAreMatches : Type 0
 AnswersAreMatches =
     (tree : Tree) → IsPatternTree tree → (haystack : Text) (s : ℕ) (answer : Option Found)
@@ -139,7 +139,7 @@ abbrev mutual
   HaveNoLook none = Unit {0}
   HaveNoLook (more a rest) = HasNoLook a × HaveNoLook rest
 
--- what is found of such a tree is also found where the haystack is cut off at the match's end
+-- what is found of such a tree is also found if the haystack is cut off at the match's end
 abbrev pub AnswersNeedNoLaterText : Type 0
 AnswersNeedNoLaterText =
     (tree : Tree) → IsPatternTree tree → HasNoLook tree → (haystack : Text) (s : ℕ)

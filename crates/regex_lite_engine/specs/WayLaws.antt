@@ -11,8 +11,8 @@ use Rattle.regex_lite_engine.specs.Graph.WrittenOut.{IsWayThrough}
 abbrev pub IsPatternTree : Tree → Type 0
 IsPatternTree tree = (flags : Flags) × (pattern : Text) × IsTree flags pattern tree
 
--- such a tree matches from i to j exactly where a way through its written-out pattern leads from i
--- to j
+-- such a tree matches from i to j exactly if a way through its written-out pattern leads from i to
+-- j
 abbrev pub MatchesAreWays : Type 0
 MatchesAreWays =
     (tree : Tree) → IsPatternTree tree → (haystack : Text) (i j : ℕ) →

@@ -1,5 +1,5 @@
-//! The search depth first: from each start it follows one way as far as it leads, then the last
-//! that it left for later, and enters no place twice at a position.
+//! The depth-first search: from each start it follows one way to its end, then resumes the most
+//! recently deferred one. It enters no place twice at a position.
 mod enter;
 mod frame;
 mod run;
@@ -10,5 +10,5 @@ mod visited;
 mod walk;
 
 /// A search of at most this number of pairs of a place and an offset goes depth first. It keeps a
-/// bit for each, and has room for a frame.
+/// bit for each of them, and room for a frame.
 pub(crate) const MOST_PAIRS: usize = 262_144;

@@ -1,8 +1,8 @@
 //! What a tree takes when it is written out, counted before anything is written: one walk over the
 //! tree, which takes no memory.
 //!
-//! A repetition is counted by multiplication, so a number may be greater than any that can be
-//! stored. It then stops at the greatest one, and the pattern passes the size limit all the same.
+//! A repetition is counted by multiplication, so a number may be too large to be stored. It then
+//! saturates, and the pattern exceeds the size limit all the same.
 ghost use Rattle.std.specs.Prelude.{◌≡◌, ◌+◌, ◌*◌, ◌^◌, ◌<◌, ℕ, Bool, map, option_map};
 ghost use Rattle.regex_lite_syntax.specs.Tree.Regular.{IsRegular};
 ghost use Rattle.regex_lite_syntax.specs.Tree.{Tree, Trees, class, repetition, capture};
@@ -23,8 +23,7 @@ use copies::{OwnPlaces, copies};
 use regex_lite_syntax::{Class, Hir, Properties};
 use std::rc::RcStr;
 
-/// What a tree takes when it is written out. A number that cannot be stored stops at the greatest
-/// one.
+/// What a tree takes when it is written out. A number that is too large to be stored saturates.
 #[derive(Clone, Copy)]
 pub(crate) struct Counts {
     pub(crate) places: u64,
@@ -37,7 +36,7 @@ pub(crate) struct Counts {
     pub(crate) properties: Properties,
 }
 
-/// What no tree at all takes.
+/// The counts of no tree at all.
 const NONE: Counts = Counts {
     places: 0,
     arrows: 0,
@@ -52,7 +51,7 @@ const NONE: Counts = Counts {
     },
 };
 
-/// What a tree without groups says of itself that reads a character.
+/// The properties of a tree without groups that reads a character.
 const NOT_NULLABLE: Properties = Properties {
     nullable: false,
     greatest_index: 0,
@@ -67,7 +66,7 @@ const NO_BRANCHES: Counts = Counts {
     ..NONE
 };
 
-/// What each branch takes beside its own places.
+/// What each branch takes besides its own places.
 const BRANCH: Counts = Counts {
     arrows: 1,
     choice_arrows: 1,
@@ -136,7 +135,8 @@ impl Counts {
         counts
     }
 
-    /// What the place of a set takes. It has no arrow where the set is empty, and reads nothing.
+    /// What the place of a set takes. If the set is empty, the place has no arrow and reads
+    /// nothing.
     fn of_class(set: &Class) -> Counts
         ensures { AreCountsOf (class set.now) result }
     {
@@ -200,7 +200,7 @@ impl Counts {
         }
     }
 
-    /// What a group round this takes.
+    /// What a group around this takes.
     fn captured(self, index: u32, name: &Option<RcStr>) -> Counts
         ensures { (body : Tree) → AreCountsOf body self
             → AreCountsOf (capture index (option_map text_of_name name.now) body) result }
@@ -275,7 +275,7 @@ fn name_size(name: &Option<RcStr>) -> u64
     }
 }
 
-/// `copies` times what each takes, and `own` more.
+/// `copies` times what each takes, plus `own`.
 fn times(copies: u64, each: u64, own: u64) -> u64
     ensures { (n : ℕ) → each ≡ saturated n → result ≡ saturated (copies * n + own) }
 {

@@ -2,7 +2,7 @@
 //!
 //! `$name` refers to a group by its name, or by its index where the name is digits alone. It is as
 //! long as it can be: ASCII letters, digits and `_`. `${name}` goes up to the next `}`. `$$` gives
-//! a `$`, and so does any other one.
+//! a `$`, and so does any other `$`.
 ghost use Rattle.std.specs.Prelude.{◌≡◌, ◌≢◌, ◌<◌, ◌≤◌, ◌+◌, ◌*◌, ◌^◌, ◌∷◌, [], ℕ, List};
 ghost use Rattle.std.specs.Prelude.{MatchOption, IfSome, if◌then◌else◌, Some, None, length};
 ghost use Rattle.std.specs.List.{prefix_len};
@@ -81,7 +81,7 @@ fn find_cap_ref(after: &str) -> Option<(&str, &str)>
     }
 }
 
-/// The same without braces.
+/// The name or the index after a `$` without braces, and what follows it.
 fn find_bare(after: &str) -> Option<(&str, &str)>
     requires { (t : List ℕ) → after.now ≢ the "{" ∷ t }
     ensures found { MatchOption result (HasNoReference after.now)
@@ -123,7 +123,7 @@ fn referred(name: &str) -> Piece<'_>
     }
 }
 
-/// The number that digits alone write, where it is below 2^64.
+/// The number that a name of digits alone stands for, if it is below 2^64.
 fn parse_index(name: &[u8]) -> Option<usize>
     ensures { result ≡ (if is_index name.now then Some (number_of 10 name.now) else None) }
 {
@@ -140,7 +140,7 @@ fn parse_index(name: &[u8]) -> Option<usize>
     Some(index)
 }
 
-/// The number with one more digit, where it is below 2^64.
+/// The number with one more digit, if it is below 2^64.
 fn with_digit(number: usize, digit: u8) -> Option<usize>
     ensures { MatchOption result (2 ^ 64 ≤ number * 10 + digit)
         (λ longer. longer ≡ number * 10 + digit) }

@@ -13,8 +13,8 @@ ghost use Rattle.regex_lite_engine.specs.SearchLaws.{AtMostOneAnswer, EnoughTake
 ghost use Rattle.regex_lite_engine.specs.SearchLaws.{GroupsLieInside, HasAnswer, ListIsOfAllWays};
 ghost use Rattle.regex_lite_engine.specs.SearchLaws.{PreferenceIsTotal, PreferredWaysAreEarlier};
 
-/// A tree that the grammar gives matches from one position to another exactly where a way through
-/// its written-out pattern leads from the one to the other.
+/// A tree that the grammar gives matches from one position to another exactly if a way through its
+/// written-out pattern leads from the one to the other.
 pub fn matches_are_ways()
     ensures { MatchesAreWays }
 {}
@@ -24,7 +24,7 @@ pub fn preference_is_total()
     ensures { PreferenceIsTotal }
 {}
 
-/// A way is preferred to another exactly where it takes the earlier arrow where they first differ.
+/// A way is preferred to another exactly if it takes the earlier arrow where they first differ.
 pub fn preferred_ways_are_earlier()
     ensures { PreferredWaysAreEarlier }
 {}
@@ -39,19 +39,20 @@ pub fn at_most_one_answer()
     ensures { AtMostOneAnswer }
 {}
 
-/// A search finds something exactly where the tree matches from a position at or after the start,
-/// and what it finds is such a match.
+/// A search finds something exactly if the tree matches from a position at or after the start, and
+/// what it finds is such a match.
 pub fn answers_are_matches()
     ensures { AnswersAreMatches }
 {}
 
-/// Where each pass of a repetition without a limit reads a character, the preference list is that
-/// of all ways from the position, each preferred to those after it.
+/// If each pass of a repetition without a limit reads a character, the preference list is that of
+/// all ways from the position, each preferred to those after it.
 pub fn list_is_of_all_ways()
     ensures { ListIsOfAllWays }
 {}
 
-/// There, end and marks of an answer are the head of the preference list at its start.
+/// If each pass of a repetition without a limit reads a character, the end and the marks of an
+/// answer are the first entry of the preference list at its start.
 pub fn answer_is_head_of_list()
     ensures { AnswerIsHead }
 {}
@@ -97,8 +98,8 @@ pub fn at_most_one_answer_of_list()
     ensures { AtMostOneAnswerOfList }
 {}
 
-/// A search for several patterns finds something exactly where one of them matches from a position
-/// at or after the start. What it finds is the answer of the pattern with the number.
+/// A search for several patterns finds something exactly if one of them matches from a position at
+/// or after the start. What it finds is the answer of the pattern with the number.
 pub fn list_answers_are_answers()
     ensures { ListAnswersAreAnswers }
 {}

@@ -1,4 +1,4 @@
-//! Which search is taken, and searches that keep their memory for the next one.
+//! Which search is used, and searches that keep their memory for the next one.
 ghost use Rattle.std.specs.Prelude.{◌≡◌, ◌+◌, ◌-◌, ◌*◌, ◌≤◌, ◌<◌, ◌⊎◌, ◌↔◌};
 ghost use Rattle.std.specs.Prelude.{IfOk, IfSome, IsCharBoundary, IsTrue, length};
 ghost use Rattle.regex_lite_syntax.specs.Tree.{Tree};

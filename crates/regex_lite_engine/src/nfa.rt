@@ -62,7 +62,7 @@ impl Model for Graph {
 }
 
 impl Graph {
-    /// The graph of a tree. Whether the limits are passed is found out before anything is written.
+    /// The graph of a tree. Whether a limit is exceeded is found out before anything is written.
     ///
     /// Condition: the tree is regular, as the grammar gives it: in each repetition the least number
     /// is at most the most, a group's index is at least 1, each list has two trees or more, a
@@ -72,8 +72,8 @@ impl Graph {
     ///
     /// `Size` where the size is above the limit, `Places` where there are more places than can be
     /// numbered, `Slots` where a group's slots can't be numbered, and `Memory` if memory runs out
-    /// or a set or a name has as many owners as can be counted. Where several limits are passed,
-    /// any of them may be named.
+    /// or a set or a name has as many owners as can be counted. If several limits are exceeded, any
+    /// of them may be named.
     pub fn new(alloc: Global, hir: &Hir, size_limit: usize) -> Result<Graph, Error>
         requires { IsRegular (tree_of hir.now) }
         ensures ok { IfOk result (λ graph. IsGraphOf (tree_of hir.now) graph) }
@@ -153,7 +153,7 @@ impl Graph {
         self.table.arrows()
     }
 
-    /// How many places read a character. A search counts on there being few arrows too.
+    /// How many places read a character. A search relies on there being few arrows too.
     pub(crate) fn reading(&self) -> usize
         ensures each { result ≡ reading_of (table_of self.now) }
         ensures few { result < length self.now.places }
@@ -162,7 +162,7 @@ impl Graph {
         self.table.reading()
     }
 
-    /// How much a search with this number of slots keeps for later if it enters each place once.
+    /// How much a search with this number of slots keeps back if it enters each place once.
     pub(crate) fn kept_back(&self, slots: usize) -> usize
         ensures { result ≡ sum_by (kept_back_with slots) (table_of self.now) }
     {

@@ -20,16 +20,16 @@ pub(crate) mod starts;
 use crate::prefilter::heads::Heads;
 use crate::prefilter::starts::Starts;
 
-/// What stands where a match begins. Fewer bytes than there is room for stand there again.
+/// The bytes with which a match begins. If there is room for more, one of them is repeated.
 #[derive(Clone, Copy)]
 pub(crate) enum Prefilter {
     /// One of these bytes, and after it one of those.
     Pair([u8; 2], [u8; 2]),
     /// One of these bytes.
     Four([u8; 4]),
-    /// One of these bytes, which are more.
+    /// One of these bytes, of which there are more.
     Eight([u8; 8]),
-    /// A byte from one to the other.
+    /// A byte from the first to the second.
     Range(u8, u8),
 }
 
@@ -72,7 +72,7 @@ impl Prefilter {
         ensures { IfSome result (λ filter. (byte after : ℕ) → suits filter byte after ≡ false
             → stops_at first.now byte ≡ false) }
     {
-        // One of more characters is seldom far away.
+        // With more characters, one of them is seldom far away.
         let mut bytes = [0; 16];
         if len > 16 || !fill(&mut bytes, first) {
             return None;
@@ -81,7 +81,7 @@ impl Prefilter {
         (high.saturating_sub(low) < len).then_some(Prefilter::Range(low, high))
     }
 
-    /// Whether a match may begin in a block of bytes, of which each has the next one beside it.
+    /// Whether a match may begin in a block of bytes, given the byte after each of them.
     // Inlined, so that the length of a block is known, and no byte of it takes a branch.
     #[inline(always)]
     pub(crate) fn may_begin_in(&self, block: &[u8], next: &[u8]) -> bool
@@ -161,8 +161,8 @@ fn has_between(block: &[u8], low: u8, high: u8) -> bool
     is_there
 }
 
-/// Writes down the bytes with which a match can begin, some of them again where there is room.
-/// Returns whether all of them are there.
+/// Lists the bytes with which a match can begin, and repeats the first if there is room for more.
+/// Returns whether all of them are listed.
 fn fill(bytes: &mut [u8], starts: &Starts) -> bool
     ensures length { length bytes.new ≡ length bytes.old }
     ensures all { result ≡ true → AreAllBytes starts.now bytes.new }
@@ -185,8 +185,8 @@ fn fill(bytes: &mut [u8], starts: &Starts) -> bool
     true
 }
 
-/// Writes those of sixteen characters after the ones before them, and returns how many there are
-/// then, if there is room for all.
+/// Adds those of the sixteen characters of this row, and returns how many there are then, if there
+/// is room for all.
 fn fill_row(bytes: &mut [u8], len: usize, starts: &Starts, row: u8) -> Option<usize>
     requires len { len ≤ length bytes.old }
     requires row { row < 8 }

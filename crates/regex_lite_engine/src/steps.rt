@@ -43,7 +43,7 @@ impl Steps {
         }
     }
 
-    /// What two searches did together. More than can be counted counts as much as can be.
+    /// What two searches did together. A sum that is too large to be stored saturates.
     pub(crate) fn plus(&self, other: &Steps) -> Steps
         ensures tried { result.tried ≡ min (self.now.tried + other.now.tried) (2 ^ 128 - 1) }
         ensures entered { result.entered

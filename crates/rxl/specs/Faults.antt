@@ -44,8 +44,9 @@ IsReportedAs fault named = named ≡ fault
 abbrev pub IsReadFault : Fault → Type 0
 IsReadFault fault = (fault ≡ Unreadable) ⊎ (fault ≡ Refused out_of_memory)
 
--- what the fault says of a pattern that is asked about and of the input is so. A fault of the input
--- comes only where the pattern is accepted, and then no refusal comes but the out-of-memory error
+-- what the fault says of a pattern that is asked about and of the input is true. A fault of the
+-- input comes only where the pattern is accepted, and then no refusal comes but the out-of-memory
+-- error
 abbrev pub IsQuestionFault : Fault → (pattern : List ℕ) → (input : Option (List ℕ)) → Type 0
 IsQuestionFault Usage pattern input = ⊥
 IsQuestionFault NotUtf8 pattern input =
@@ -56,7 +57,7 @@ IsQuestionFault (Refused error) pattern input =
     IsDue (default_settings pattern) error
     × (IsAccepted (default_settings pattern) → error ≡ out_of_memory)
 
--- what the fault says of the command and the input is so
+-- what the fault says of the command and the input is true
 abbrev pub IsFaultOf : Fault → Command → (input : Option (List ℕ)) → Type 0
 IsFaultOf fault (Ask question pattern) input = IsQuestionFault fault pattern.now input
 IsFaultOf fault (Escape text) input = fault ≡ Refused out_of_memory
@@ -74,7 +75,7 @@ IsCutShort args input before now =
     (found : Bool) × (text : List ℕ) × IsAnswered args input found text
     × IsWritten before now text false
 
--- what the fault says is so
+-- what the fault says is true
 abbrev pub Ends : Fault → (args : List (Bor (List ℕ))) → (input before now : Option (List ℕ))
     → Type 0
 Ends Unwritten args input before now = IsCutShort args input before now

@@ -70,7 +70,7 @@ pub record PrintsPieces (re : Expression) (haystack text : List ℕ) : Type 0 wh
   pub are_all : ArePieces re haystack pieces
   pub printed : text ≡ flat_map piece_line pieces
 
--- the haystack with the template's expansion in the place of each match
+-- the haystack with each match replaced by the template's expansion
 abbrev pub IsReplacedText : Expression → (template : Bor (List ℕ)) → (haystack text : List ℕ)
     → Type 0
 IsReplacedText re template haystack text =

@@ -20,7 +20,7 @@ status_of false = 1
 -- Where the input's bytes aren't known nothing is said of the text
 pub record IsQuestionAnswered (question : Question) (pattern : List ℕ) (input : Option (List ℕ))
     (found : Bool) (text : List ℕ) : Type 0 where
-  -- the grammar gives the pattern a tree, and no limit is passed
+  -- the grammar gives the pattern a tree, and no limit is exceeded
   pub accepted : IsAccepted (default_settings pattern)
   -- the input is a text
   pub is_text : IfSome input IsUtf8

@@ -7,7 +7,7 @@ ghost use Rattle.rxl.specs.Commands.{Asks};
 pub(crate) enum Command<'a> {
     /// A question about the pattern and standard input.
     Ask(Question<'a>, &'a str),
-    /// The text as a pattern that means it.
+    /// The text escaped, as a pattern that means it.
     Escape(&'a str),
 }
 
@@ -22,7 +22,7 @@ pub(crate) enum Question<'a> {
     Captures,
     /// What stands between the matches.
     Split,
-    /// The haystack with this template in the place of each match.
+    /// The haystack with each match replaced by this template.
     Replace(&'a str),
 }
 

@@ -111,7 +111,7 @@ fn is_new(text: &CowStr<'_>) -> bool
     matches!(text, CowStr::Owned(_))
 }
 
-/// Prints the text as a pattern that means it.
+/// Prints the text escaped, as a pattern that means it.
 pub(crate) fn print_escaped<W: Write>(
     alloc: Global,
     text: &str,

@@ -14,9 +14,9 @@ use std::io::Write;
 /// What goes wrong in a run.
 #[derive(Debug, Drop)]
 pub(crate) enum Fault {
-    /// The arguments are not a command with what it takes.
+    /// The arguments aren't a command with all that it takes.
     Usage,
-    /// The bytes of standard input are no text.
+    /// The bytes of standard input aren't valid UTF-8.
     NotUtf8,
     /// A read of standard input failed.
     Unreadable,

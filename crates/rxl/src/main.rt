@@ -35,7 +35,7 @@ fn main(rt: HostRuntime) -> ExitCode {
 ///
 /// # Errors
 ///
-/// One of them is no text, so that they ask for no command, or there is no memory for them.
+/// One of them isn't valid UTF-8, so that they ask for no command, or there is no memory for them.
 fn arguments<R: Env + AllocGlobal>(rt: &R) -> io::Result<Vec<String>> {
     let mut words = Vec::new(rt.alloc());
     for word in env::args(rt)?.skip(1) {

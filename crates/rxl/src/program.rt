@@ -27,9 +27,9 @@ use std::str;
 /// status: 0 where what was asked for is found, 1 where it isn't there, and 2 after a fault, which
 /// is one line on `err`.
 ///
-/// Wrong arguments are found before all else. Then the pattern is built, and then the whole input
-/// is read. So nothing is read where the arguments are wrong, where a text is escaped, or where the
-/// pattern is refused. What was printed before a fault stays.
+/// Wrong arguments are found before anything else. Then the pattern is built, and then the whole
+/// input is read. So nothing is read where the arguments are wrong, where a text is escaped, or
+/// where the pattern is refused. What was printed before a fault stays.
 pub(crate) fn run<R: Read, O: Write, E: Write>(
     alloc: Global,
     args: &[&str],

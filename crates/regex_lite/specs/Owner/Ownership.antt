@@ -1,5 +1,5 @@
--- What a counted owner has. The owners of a block and their count go by the library's protocol for
--- `Rc`, which lets its user say what a count is in memory. Here a count below the top is the word
+-- What a counted owner has. The owners of a block and their count follow the library's protocol for
+-- `Rc`, which lets its user choose how a count is stored. Here a count below the top is the word
 -- that is stored. A word at the top says nothing of the count, and the value is lent for ever.
 use Rattle.std.specs.Prelude.{ℕ, ◌^◌, ◌-◌, ◌<◌, ◌≡◌, Bool, true, false, []}
 use base.Fraction.{full_share}
@@ -61,7 +61,7 @@ module _ (R : RattleType) (place : Ptr) (x : R.Denot) where
   abbrev pub lends : Lft → Fml
   lends = lent_at R value_place x
 
-  -- what the last owner has beside the value: the right to free the block, and that the count of
+  -- what the last owner has besides the value: the right to free the block, and that the count of
   -- one and the value make the block again
   abbrev pub block_back : Fml
   block_back =

@@ -8,7 +8,7 @@ use std::marker::Model;
 
 /// What the owners of a value share: how many they are, and the value.
 ///
-/// A count that came to 2^64 - 1 stays there.
+/// A count that has reached 2^64 - 1 stays there.
 #[derive(Drop)]
 pub(super) struct Block<T> {
     pub(super) count: usize,
@@ -37,8 +37,8 @@ impl<T> Counted<T> {
         Counted { ptr }
     }
 
-    /// One more owner. Where the count is full, or is full with it, the value stays for ever and is
-    /// borrowed as long.
+    /// One more owner. If the count is full, or becomes full, the value is leaked and borrowed for
+    /// `'static`.
     pub(super) fn another(&self) -> Result<Counted<T>, &'static T>
     where
         T: 'static,
@@ -64,7 +64,7 @@ impl<T> Counted<T> {
         unsafe { &(*self.ptr).value }
     }
 
-    /// One owner less. The last one has the block back, unless the value stays for ever.
+    /// One owner less. The last one gets the block back, unless the value is leaked.
     pub(super) fn release(self, alloc: Global) -> Option<Unboxed<Block<T>, Global>>
         ensures { IfSome result (λ block. block.value.value ≡ self.value) }
     {

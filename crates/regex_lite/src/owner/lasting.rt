@@ -1,10 +1,10 @@
-//! The owners that no count holds.
+//! The owners that aren't counted.
 ghost use Rattle.std.specs.Prelude.{◌≡◌};
 ghost use Rattle.regex_lite.specs.Owner.Ownership.{lent_for_ever};
 
 use std::marker::Model;
 
-/// Where a value stands that stays for ever.
+/// Where a leaked value is.
 ///
 /// It is a `&'static` to the value, as a pointer: the borrow checker has no cover for what hands on
 /// a value with a `'static` in it together with other lifetimes.
@@ -21,7 +21,7 @@ impl<T> Model for Lasting<T> {
 }
 
 impl<T: 'static> Lasting<T> {
-    /// The value that is borrowed for ever.
+    /// An owner of the value that is borrowed for `'static`.
     pub(super) fn of(value: &'static T) -> Lasting<T>
         ensures { result.value ≡ value.now }
     {

@@ -19,8 +19,8 @@ use std::marker::Model;
 /// A pattern with the settings under which it is to be built.
 ///
 /// A setter says whether a flag is on at the pattern's first character. From there on the pattern
-/// itself can turn it on and off, as by `(?i)` and `(?-i)`. Of several calls of a setter the last
-/// counts.
+/// itself can turn it on and off, as by `(?i)` and `(?-i)`. If a setter is called several times,
+/// the last call counts.
 ///
 /// ```
 /// let builder = RegexBuilder::new(alloc, "(?:ab)*c")?;
@@ -141,9 +141,9 @@ impl RegexBuilder {
         self
     }
 
-    /// Whether greedy and lazy operators change places: the flag `U`.
+    /// Whether greedy and lazy operators are swapped: the flag `U`.
     ///
-    /// `*`, `+` and `?` then prefer few passes, and `*?`, `+?` and `??` many. That never changes
+    /// `*`, `+` and `?` then prefer fewer passes, and `*?`, `+?` and `??` more. That never changes
     /// whether a pattern matches somewhere.
     pub fn swap_greed(&mut self, yes: bool) -> &mut RegexBuilder
         ensures same_reference { result.ghost_name ≡ self.entry.ghost_name }
@@ -177,9 +177,9 @@ impl RegexBuilder {
 
     /// How deep a pattern may nest.
     ///
-    /// The limit bounds both how many groups stand in one another and how many nodes of the
-    /// pattern's tree stand in one another below its root. With 0 a pattern may be one character,
-    /// class or look, or empty. A limit above 2^32 - 2 counts as 2^32 - 2.
+    /// The limit bounds both how deeply groups are nested and how deeply nodes of the pattern's
+    /// tree are nested below its root. With 0 a pattern may be one character, class or look, or
+    /// empty. A limit above 2^32 - 2 counts as 2^32 - 2.
     ///
     /// ```
     /// let mut builder = RegexBuilder::new(alloc, "(?:a|(?:b|c+))")?;
@@ -229,10 +229,10 @@ impl RegexBuilder {
     /// deeper than the nest limit, `Groups` where it has more capture groups than can be numbered,
     /// `Size` where its size is above the size limit, `Places` where it has more places than can be
     /// numbered, `Slots` where a group's slots can't be numbered, and `Memory` if memory runs out.
-    /// Where several of `Size`, `Places` and `Slots` could come, any of them may.
+    /// If several of `Size`, `Places` and `Slots` apply, any of them may be returned.
     ///
     /// Reading stops at the first fault. So a pattern without a tree can also be refused by
-    /// `Nesting` or `Groups`, but only if it holds so many `(` that it could pass that limit.
+    /// `Nesting` or `Groups`, but only if it holds so many `(` that it could exceed that limit.
     pub fn build(&self) -> Result<Regex, Error>
         ensures { Builds self.now result }
     {
@@ -261,7 +261,7 @@ impl RegexBuilder {
         Hir::parse(self.alloc, config, self.pattern.as_str())
     }
 
-    /// The tree of the pattern, which passes no limit, with its counts.
+    /// The tree of the pattern, which exceeds no limit, with its counts.
     pub(super) fn accepted_hir(&self) -> Result<Measured, Error>
         ensures accepted { IfOk result (λ hir. IsAcceptedAs self.now (tree_of hir)) }
         ensures refused { IfErr result (λ error. IsDue self.now error) }

@@ -77,8 +77,8 @@ impl<'h> Captures<'h> {
         self.inner.into_parts()
     }
 
-    /// What the group with this index matched last: `None` where it isn't there or took no part.
-    /// Group 0 is the whole match.
+    /// What the group with this index matched last: `None` if there is no such group or it took no
+    /// part. Group 0 is the whole match.
     pub fn get(&self, i: usize) -> Option<Match<'h>>
         ensures span { option_map span_of_match result ≡ group_span self.now i }
         ensures haystack { IfSome result (λ m. haystack_of_match m ≡ self.now.haystack) }
@@ -87,7 +87,8 @@ impl<'h> Captures<'h> {
         Some(Match::new(self.inner.haystack, start, end))
     }
 
-    /// What the group with this name matched last: `None` where it isn't there or took no part.
+    /// What the group with this name matched last: `None` if there is no such group or it took no
+    /// part.
     ///
     /// ```
     /// let regex = Regex::new(alloc, "(?<first>[a-z])(?<second>[0-9])?")?;
@@ -172,7 +173,7 @@ impl<'h> Captures<'h> {
         }
     }
 
-    /// Writes as many of the groups to the locations as these have.
+    /// Writes the groups to the locations, as many as those have.
     pub(super) fn write(&self, locs: &mut CaptureLocations)
         requires { length locs.old ≤ length self.now.spans }
         ensures spans { locs.new ≡ take (length locs.old) self.now.spans }

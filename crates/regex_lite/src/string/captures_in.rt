@@ -11,7 +11,7 @@ use crate::string::source::Source;
 use std::marker::Model;
 use std::rc::RcStr;
 
-/// A text that parts can be taken of: what [`CapturesIn`] asks of a haystack.
+/// A text from which parts can be taken: what [`CapturesIn`] needs of a haystack.
 pub trait Text: Copy {
     /// The bytes of the text.
     ghost bytes: { Self → List ℕ };
@@ -34,7 +34,7 @@ impl Text for &str {
 
 /// The groups of a match in a haystack of this type.
 ///
-/// A [`Captures`](crate::Captures) leads to one with a haystack that is `&str`.
+/// A [`Captures`](crate::Captures) dereferences to one whose haystack is a `&str`.
 #[derive(Drop)]
 pub struct CapturesIn<T: Text> {
     pub(super) haystack: T,
@@ -173,7 +173,7 @@ impl<T: Text> CapturesIn<T> {
         None
     }
 
-    /// Writes as many of the groups to the locations as these have.
+    /// Writes the groups to the locations, as many as those have.
     pub(super) fn write(&self, locs: &mut CaptureLocations)
         requires { length locs.old ≤ length self.now.spans }
         ensures spans { locs.new ≡ take (length locs.old) self.now.spans }

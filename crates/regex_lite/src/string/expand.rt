@@ -10,12 +10,12 @@ use regex_lite_engine::interpolate::{Piece, next_piece};
 use regex_lite_syntax::Error;
 
 impl<'h> Captures<'h> {
-    /// Appends the template with the groups' texts in the place of its references: `$name` and
-    /// `${name}` refer to the group with this name, or with this index where it is digits alone.
+    /// Appends the template with its references replaced by the groups' texts: `$name` and
+    /// `${name}` refer to the group with this name, or with this index if it is digits alone.
     /// Without braces a name is as long as it can be. `$$` gives a `$`. The section on templates in
     /// docs/SYNTAX.md says more.
     ///
-    /// A reference to no group, or to one that took no part, gives nothing.
+    /// A reference to a group that doesn't exist, or that took no part, gives nothing.
     ///
     /// ```
     /// let regex = Regex::new(alloc, "(?<first>[a-z]+) ([a-z]+)")?;

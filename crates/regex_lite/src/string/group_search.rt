@@ -64,8 +64,8 @@ impl Regex {
 
     /// The match that [`Regex::find`] returns, with its groups written to the locations.
     ///
-    /// As many groups are written as the locations have. Without a match, or refused, the locations
-    /// stay as they were.
+    /// As many groups are written as the locations have. Without a match, or on an error, the
+    /// locations stay as they were.
     ///
     /// Condition: the locations have no more groups than the regex.
     ///
@@ -101,8 +101,9 @@ impl Regex {
 
     /// The match that [`Regex::find_at`] returns, with its groups written to the locations.
     ///
-    /// As many groups are written as the locations have. Without a match, or refused, the locations
-    /// stay as they were. Looks see the whole haystack, as they do in [`Regex::is_match_at`].
+    /// As many groups are written as the locations have. Without a match, or on an error, the
+    /// locations stay as they were. Looks see the whole haystack, as they do in
+    /// [`Regex::is_match_at`].
     ///
     /// Conditions: the locations have no more groups than the regex. The start is above the
     /// haystack's length or on a character boundary.

@@ -46,9 +46,8 @@ impl Model for CaptureLocations {
 }
 
 impl CaptureLocations {
-    /// Where the group with this index starts and ends: `None` where it isn't there, or took no
-    /// part in the match that was written last. A group that the pattern which was found doesn't
-    /// have isn't there.
+    /// Where the group with this index starts and ends: `None` if there is no such group, here or
+    /// in the pattern that was found, or if it took no part in the match that was written last.
     pub fn get(&self, i: usize) -> Option<(usize, usize)>
         ensures { result ≡ span_at self.now i }
     {

@@ -7,8 +7,8 @@ use std::ops::Range;
 
 /// A match: a part of the haystack, from one offset to another.
 ///
-/// It borrows the haystack alone, and outlives the regex that found it. Two matches are equal where
-/// the texts of their haystacks are, and their starts and their ends.
+/// It borrows the haystack alone, and outlives the regex that found it. Two matches are equal if
+/// the texts of their haystacks, their starts and their ends are.
 #[derive(Clone, Copy)]
 pub struct Match<'h> {
     haystack: &'h str,

@@ -13,7 +13,7 @@ impl Regex {
     /// The number of groups of a match, including the whole match.
     ///
     /// This is one more than the greatest index of a group that is left: groups under `{0}` are
-    /// numbered, but fall out.
+    /// numbered, but left out.
     ///
     /// ```
     /// Regex::new(alloc, "(a)(?<x>b)")?.captures_len(); // 3
@@ -46,9 +46,9 @@ impl Regex {
     /// How many groups at least take part in every match, the whole match among them, where that is
     /// known.
     ///
-    /// It is `None` where a repetition that may make no pass has a group in it, or where branches
-    /// differ in their number. More groups may take part: `(?:(a)|(b)){2}` has 2, and in a match of
-    /// `ab` all three do.
+    /// It is `None` if a repetition that may make no pass has a group in it, or if branches differ
+    /// in how many of their groups take part. More groups may take part: `(?:(a)|(b)){2}` has 2,
+    /// and in a match of `ab` all three do.
     pub fn static_captures_len(&self) -> Option<usize>
         ensures known { OfTree self.now (λ tree. result ≡ static_captures_len tree) }
         ensures told { IsStaticNumber self.now result }

@@ -20,7 +20,7 @@ use regex_lite_syntax::Error;
 use std::fmt;
 use std::marker::Model;
 
-/// How many bytes the haystacks have together. There may always be another one.
+/// How many bytes the haystacks are taken to have together: there may always be another one.
 const ENDLESS: usize = usize::MAX;
 
 /// A regex, and the memory for its searches: for many haystacks, one after another.
@@ -67,7 +67,7 @@ impl Regex {
     ///
     /// # Errors
     ///
-    /// `Memory` where a growth is refused.
+    /// `Memory` if memory runs out.
     pub fn searcher(&self) -> Result<RegexSearcher<'_>, Error>
         ensures regex { IfOk result (λ searcher. searcher ≡ self.now) }
         ensures refused { IfErr result (λ error. error ≡ out_of_memory) }

@@ -1,4 +1,4 @@
-//! What stands in the place of a match.
+//! What replaces a match.
 ghost use Rattle.std.specs.Prelude.{◌≡◌, ◌++◌, ℕ, List, Option, None};
 ghost use Rattle.std.specs.Prelude.{Some, ⊤, string_bytes, option_map};
 ghost use Rattle.std.specs.Borrow.{sem};
@@ -8,24 +8,23 @@ ghost use Rattle.regex_lite.specs.Replacing.{Answer, IsAppendedResult, IsAppende
 use crate::string::captures::Captures;
 use regex_lite_syntax::Error;
 
-/// What stands in the place of each match that is replaced:
-/// [`Regex::replacen`](crate::Regex::replacen) asks it for a fixed text once, and where it has
-/// none, for what to append for the groups of each match.
+/// What replaces each match: [`Regex::replacen`](crate::Regex::replacen) asks it for a fixed text
+/// once and, if it has none, for what to append for the groups of each match.
 ///
 /// Texts are replacers, and stand for themselves as templates, as [`Captures::expand`] reads them.
-/// [`NoExpand`] is a text that is none, and [`ReplaceBy`] a closure.
+/// [`NoExpand`] is a text that is no template, and [`ReplaceBy`] a closure.
 pub trait Replacer: Drop {
     /// In which states it may be asked.
     ghost can_append: { Self → Type 0 } = { λ _. ⊤ };
 
-    /// What it may append for groups and answer, from its state before to that after.
+    /// What it may append for groups and return, from its state before to that after.
     ghost appends: { Self → Groups → List ℕ → Answer → Self → Type 0 };
 
-    /// What it may answer where it is asked for a fixed text, from its state before to that after.
+    /// What it may return if it is asked for a fixed text, from its state before to that after.
     ghost fixed: { Self → Option (List ℕ) → Self → Type 0 };
 
-    /// Appends what stands in the place of the match with these groups. What was there before
-    /// stays, with an error too.
+    /// Appends what replaces the match with these groups. What was there before stays, even on an
+    /// error.
     ///
     /// # Errors
     ///
@@ -38,13 +37,13 @@ pub trait Replacer: Drop {
             × appends self.old caps.now text result self.new }
         ensures again { can_append self.new };
 
-    /// A text that stands in the place of every match, if there is one.
+    /// A text that replaces every match, if there is one.
     fn no_expansion(&mut self) -> Option<&str>
         requires { can_append self.old }
         ensures* rests { sem 𝓛 (Rests Self.row self.entry (λ new. can_append new
             × fixed self.old (option_map (λ text. text.now) result) new)) };
 
-    /// The replacer lent, so that it can be used again.
+    /// Borrows the replacer, so that it can be used again.
     fn by_ref(&mut self) -> ReplacerRef<'_, Self>
     where
         Self: Sized,
@@ -55,7 +54,7 @@ pub trait Replacer: Drop {
     }
 }
 
-/// A replacer that is lent: [`Replacer::by_ref`] makes it.
+/// A borrowed replacer: [`Replacer::by_ref`] makes it.
 #[derive(Debug, Drop)]
 pub struct ReplacerRef<'a, R>(&'a mut R);
 
@@ -76,7 +75,7 @@ impl<'a, R: Replacer> Replacer for ReplacerRef<'a, R> {
     }
 }
 
-/// A text that is no template: it stands as it is in the place of each match.
+/// A text that is no template: it replaces each match as it is.
 ///
 /// ```
 /// let regex = Regex::new(alloc, "(?<sum>[0-9]+) dollars")?;
@@ -102,7 +101,7 @@ impl<'t> Replacer for NoExpand<'t> {
     }
 }
 
-/// A closure that makes the text for each match of its groups, or an error.
+/// A closure that makes the text for each match from its groups, or returns an error.
 ///
 /// ```
 /// let regex = Regex::new(alloc, "[a-z]+")?;

@@ -39,7 +39,7 @@ impl<'h> Rewrite<'h> {
         }
     }
 
-    /// Puts this text in the place of the next match.
+    /// Replaces the next match by this text.
     pub fn replace(&mut self, found: &Match<'h>, text: &str) -> Result<(), Error>
         requires haystack { haystack_of_match found.now ≡ self.old.haystack.now }
         requires onward { IsOnward self.old.ended (span_of_match found.now) }
@@ -54,7 +54,7 @@ impl<'h> Rewrite<'h> {
         Ok(())
     }
 
-    /// Puts what the replacer appends in the place of the next match, which has these groups.
+    /// Replaces the next match, which has these groups, by what the replacer appends.
     pub fn replace_with<R: Replacer>(
         &mut self,
         caps: &Captures<'h>,

@@ -19,20 +19,21 @@ use std::alloc::Global;
 /// Why patterns are refused.
 #[derive(Drop)]
 pub(crate) enum Refused {
-    /// The pattern with this number is no UTF-8.
+    /// The pattern with this number isn't valid UTF-8.
     NotText(usize),
-    /// The pattern with this number is refused by itself, for this reason. With the number of
-    /// patterns no single one is refused.
+    /// The pattern with this number is refused by itself, for this reason. If the number is that of
+    /// all patterns, no single one is refused.
     By(usize, Error),
 }
 
-/// Builds a list of patterns, whose bytes come one after another: 1, and the handle holds it; else
-/// why not, and it holds nothing.
+/// Builds a list of patterns, whose bytes come one after another: 1, and the handle holds it;
+/// otherwise why not, and it holds nothing.
 ///
 /// What was held before is freed. The number of the refused pattern is written, or the number of
 /// patterns where no single one is refused. The text of a refusal is written to the room for a
-/// message, if it has room enough, and how long it is; else the length is 0. The lengths of the
-/// patterns have to add up to that of the bytes, else a bad offset is reported.
+/// message, if that is large enough. Its length is written either way, and is 0 if there is no
+/// text. The lengths of the patterns have to add up to that of the bytes; otherwise a bad offset is
+/// reported.
 #[unsafe(no_mangle)]
 pub extern "C" fn regex_lite_list_new(
     alloc: Global,
@@ -131,8 +132,8 @@ fn push(builder: &mut RegexListBuilder, source: &Source<'_>) -> Result<(), Error
     builder.push(source.text)
 }
 
-/// Why these patterns are refused, which can't be built for this reason. A single one is named
-/// where one is refused by itself.
+/// Why these patterns, which can't be built for this reason, are refused. If one is refused by
+/// itself, it is named.
 fn why_refused(alloc: Global, sources: &[Source<'_>], error: Error) -> Refused
     requires texts { AreTexts (map settings_of_source sources.now) }
     requires refused { BuildsList (map settings_of_source sources.now) (Err error) }
@@ -145,7 +146,7 @@ fn why_refused(alloc: Global, sources: &[Source<'_>], error: Error) -> Refused
 }
 
 /// The number of the first pattern that is refused by itself, and why; or the number of patterns,
-/// where memory runs out before.
+/// if memory runs out before that.
 fn lowest_refused(alloc: Global, sources: &[Source<'_>]) -> Option<(usize, Error)>
     ensures { MatchOption result (IsEachAccepted (map settings_of_source sources.now))
         (λ told. IsDueAt (map settings_of_source sources.now) told.0 told.1

@@ -20,7 +20,7 @@ use std::alloc::Global;
 ///
 /// They are the matches of `regex_lite_list_find_all`. Where memory runs out after some of them,
 /// these are written. With too little room for the next match, only the number of its groups is
-/// written, in the place of the number of matches.
+/// written, instead of the number of matches.
 #[unsafe(no_mangle)]
 pub extern "C" fn regex_lite_list_captures_all(
     alloc: Global,
@@ -104,7 +104,7 @@ fn fill_groups(
     or_yes(*count, NO)
 }
 
-/// Yes where there are some, and else that there is no room, with this need in place of their
+/// Yes if there are some, and otherwise that there is no room, with this need instead of their
 /// number.
 fn or_need(count: &mut usize, need: usize) -> u32
     ensures some { 0 < count.old → (result ≡ YES) × (count.new ≡ count.old) }

@@ -10,8 +10,8 @@ use std::marker::Model;
 
 /// The place of a list of patterns, or null where there is none.
 ///
-/// Its bytes are those of one pointer. Who copies them has two owners of one list, which nothing
-/// here can see.
+/// Its bytes are those of one pointer. A caller who copies them has two owners of one list, which
+/// nothing here can detect.
 #[repr(C)]
 #[derive(Drop)]
 pub struct ListHandle {
@@ -26,7 +26,7 @@ impl Model for ListHandle {
 }
 
 impl ListHandle {
-    /// The list, which the handle holds no more.
+    /// The list, which the handle no longer holds.
     pub(crate) fn take(&mut self, alloc: Global) -> Option<Box<RegexList, Global>>
         ensures taken { MatchOption result (self.old.value ≡ None)
             (λ list. self.old.value ≡ Some list.value) }
@@ -41,7 +41,7 @@ impl ListHandle {
 
     /// Holds this list.
     ///
-    /// Condition: nothing is held, which else would never be freed.
+    /// Condition: nothing is held; otherwise that would never be freed.
     pub(crate) fn put(&mut self, list: Box<RegexList, Global>)
         requires { self.old.value ≡ None }
         ensures { self.new.value ≡ Some list.value }

@@ -1,4 +1,4 @@
-//! What a caller passes beside texts, and is returned, where there are several patterns.
+//! What a caller passes besides texts, and what is returned, for several patterns.
 ghost use Rattle.std.specs.Prelude.{◌≡◌};
 ghost use Rattle.regex_lite.specs.MatchViews.{span_of_match};
 ghost use Rattle.regex_lite_c.specs.ListSpans.{list_span_of};

@@ -26,7 +26,7 @@ module _ (at : ℕ) where
       ((frames : List Frame) → onto told frames ≡ read_on set next to frames)
       × (completes told ≡ false)
 
-  -- the slot holds the offset, until the way is left. A slot after the row is not kept
+  -- the slot holds the offset, until the way is abandoned. A slot after the row is not kept
   abbrev pub SlotMarked : (slot to : ℕ) → (held held' : Held) → Type 0
   SlotMarked slot to held held' =
       ((slot < length held.row)

@@ -1,4 +1,4 @@
--- What a search that goes depth first keeps.
+-- What a depth-first search keeps.
 use Rattle.std.specs.Prelude.{◌+◌, ◌-◌, ◌*◌, ℕ, Bool, true, false, List}
 use Rattle.std.specs.Prelude.{◌∷◌, Option, Some, None, slice_index_or, if◌then◌else◌}
 use Rattle.regex_lite_engine.specs.declared.backtrack.frame.Frame as code
@@ -7,7 +7,7 @@ use Rattle.regex_lite_engine.specs.declared.backtrack.enter.Onward.{Onward}
 use Rattle.regex_lite_engine.specs.declared.backtrack.enter.Onward.TheVariants.{To, Back, Complete}
 use Rattle.regex_lite_engine.specs.Pikevm.Machine.{Row}
 
--- What is left to do: to explore a place at an offset, or to let a slot hold again what it held
+-- What is left to do: to explore a place at an offset, or to restore what a slot held
 pub data Frame : Type 0 where
   explore : (place at : ℕ) → Frame
   restore : (slot : ℕ) → (old : Option ℕ) → Frame
@@ -29,7 +29,7 @@ completes (To place at) = false
 completes Back = false
 completes Complete = true
 
--- where a match ends that is complete at the offset
+-- where a match that is complete at the offset ends
 abbrev pub end_at : (at : ℕ) → Onward → Option ℕ
 end_at at told = if completes told then Some at else None
 

@@ -122,7 +122,7 @@ module _ (table : List (Place ℕ)) (haystack : List ℕ) where
     pub spent : due_tries walk' ≤ due_tries walk
     pub spent_entries : due_entries walk' ≤ due_entries walk
 
-  -- a frame was taken off, or a match is complete that ends there
+  -- a frame was popped, or a match that ends there is complete
   pub record Went (walk walk' : Walk) (end : Option ℕ) : Type 0 where
     pub on : GoesOn walk walk' end
     pub fit : end ≡ None → IsFit walk'

@@ -1,4 +1,4 @@
--- A search that goes depth first, start by start.
+-- A depth-first search, start by start.
 use Rattle.std.specs.Prelude.{◌≡◌, ◌+◌, ◌-◌, ◌*◌, ◌≤◌, ◌<◌, ℕ, false, List, [], ◌∷◌, length, chars}
 use Rattle.std.specs.Prelude.{replicate, slice_set, Option, Some, None, sum_by}
 use Rattle.regex_lite_engine.specs.declared.backtrack.walk.Walk.{Walk}
@@ -19,7 +19,7 @@ SlotsBelow width [] = Unit {0}
 SlotsBelow width (explore q at ∷ frames) = SlotsBelow width frames
 SlotsBelow width (restore slot old ∷ frames) = (slot < width) × SlotsBelow width frames
 
--- the frames come off up to the first that has a place to explore
+-- frames are popped, up to the first that has a place to explore
 abbrev pub Unwinds : Row → List Frame → (next : Option (ℕ × ℕ)) → Row → List Frame → Type 0
 Unwinds row [] next row' frames' = (next ≡ None) × (row' ≡ row) × (frames' ≡ [])
 Unwinds row (explore q at ∷ frames) next row' frames' =

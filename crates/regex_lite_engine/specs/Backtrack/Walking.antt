@@ -1,4 +1,4 @@
--- What a search that goes depth first keeps true of the ways that it follows.
+-- What a depth-first search keeps true of the ways that it follows.
 use Rattle.std.specs.Prelude.{◌≡◌, ◌≤◌, ◌<◌, ℕ, true, List, []}
 use Rattle.std.specs.Prelude.{◌∷◌, length, slice_set, Option, Some}
 use Rattle.regex_lite_syntax.specs.Text.{Text}
@@ -24,8 +24,8 @@ module _ (table : List (Place ℕ)) (haystack : Text) (s : ℕ) where
       × Leads Node (numbered_step table haystack) (s, j) ks n
       × HasSlots haystack row (marks_along haystack (place_with table) (Some (s, j)) ks)
 
-  -- The frames hold the offers, the first on top. The row of each is that which stands when its
-  -- frame comes off, and when all have come off no slot is marked
+  -- The frames hold the offers, the first on top. The row of each is the one that stands when its
+  -- frame is popped, and when all have been popped no slot is marked
   abbrev pub FramesHold : (i : ℕ) → Row → List Frame → List (Offer Node) → Type 0
   FramesHold i row [] offers = (offers ≡ []) × IsBlank row
   FramesHold i row (explore q at ∷ frames) offers =

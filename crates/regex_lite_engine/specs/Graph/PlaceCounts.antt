@@ -12,9 +12,9 @@ copies zero None = 1
 copies (suc n) None = suc n
 copies least (Some most) = least + (most - least)
 
--- the places beside the copies, by the least number and what the most is above it: none in {n}, an
--- empty place in {0}, choice and join in {0,1}, and else the choices and the join, with an empty
--- place where no copy stands before them
+-- the places besides the copies, by the least number and what the most is above it: none in {n}, an
+-- empty place in {0}, choice and join in {0,1}, and otherwise the choices and the join, with an
+-- empty place where no copy stands before them
 abbrev pub bounded_places : (least above : ℕ) → ℕ
 bounded_places zero zero = 1
 bounded_places (suc n) zero = 0
@@ -22,7 +22,7 @@ bounded_places zero (suc zero) = 2
 bounded_places zero (suc (suc d)) = d + 4
 bounded_places (suc n) (suc d) = d + 2
 
--- the places beside the copies
+-- the places besides the copies
 abbrev pub own_places : (least : ℕ) → (most : Option ℕ) → (nullable_body : Bool) → ℕ
 own_places zero None true = 3
 own_places zero None false = 1

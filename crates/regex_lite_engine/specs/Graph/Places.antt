@@ -99,7 +99,7 @@ module _ {A : Type 0} where
   reading_arrows [] = 0
   reading_arrows (arrow ∷ arrows) = condition_reads arrow.condition + reading_arrows arrows
 
-  -- of a place these are one at most
+  -- how many arrows of a place do: one at most
   abbrev pub reading_count : Place A → ℕ
   reading_count complete = 0
   reading_count (with_arrows arrows) = reading_arrows arrows
@@ -114,7 +114,7 @@ module _ {A : Type 0} where
   kept_back (with_arrows []) = 0
   kept_back (with_arrows (arrow ∷ arrows)) = length arrows + mark_count arrow.mark
 
-  -- the same of a search that keeps this many slots: with none, the other arrows alone
+  -- the same for a search that keeps this many slots: with none, the other arrows alone
   abbrev pub kept_back_with : (slots : ℕ) → Place A → ℕ
   kept_back_with slots complete = 0
   kept_back_with slots (with_arrows []) = 0

@@ -1,5 +1,5 @@
 -- A table of numbered places as what stands at addresses, and the graph of a tree: the tree's
--- written-out pattern with numbers in the place of addresses.
+-- written-out pattern with numbers instead of addresses.
 use Rattle.std.specs.Prelude.{◌≡◌, ◌<◌, ℕ, List, map, option_map, length}
 use Rattle.std.specs.Prelude.{slice_get, slice_index_or, Some, None, sum_by}
 use Rattle.regex_lite_syntax.specs.Tree.{Tree}

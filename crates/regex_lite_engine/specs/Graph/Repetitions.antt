@@ -33,13 +33,13 @@ module _ (pre : Address) (greedy : Bool) (enter : Address → Address)
   optional_row exit (suc zero ∷ a) = inside (part pre 0) (own pre 1) a
   optional_row exit a = None
 
-  -- {0,} round a body that is not nullable: the choice is 0
+  -- {0,} around a body that is not nullable: the choice is 0
   abbrev pub star_row : (exit : Address) → Address → Content
   star_row exit (zero ∷ zero ∷ []) = Some (choice greedy (enter (part pre 0)) exit)
   star_row exit (suc zero ∷ a) = inside (part pre 0) (own pre 0) a
   star_row exit a = None
 
-  -- {0,} round a nullable body: the question is 0, the plus 1, the join 2
+  -- {0,} around a nullable body: the question is 0, the plus 1, the join 2
   abbrev pub nullable_star_row : (exit : Address) → Address → Content
   nullable_star_row exit (zero ∷ zero ∷ []) =
       Some (choice greedy (enter (part pre 0)) (own pre 2))

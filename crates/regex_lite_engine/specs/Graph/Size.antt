@@ -45,7 +45,7 @@ PassesPlaces tree = 2 ^ 32 ≤ whole_places tree
 abbrev pub PassesSlots : Tree → Type 0
 PassesSlots tree = 2 ^ 31 ≤ greatest_index tree
 
--- none of the limits on what is written out is passed
+-- none of the limits on what is written out is exceeded
 pub record Fits (size_limit : ℕ) (tree : Tree) : Type 0 where
   pub size_fits : size tree ≤ size_limit
   pub places_fit : whole_places tree < 2 ^ 32

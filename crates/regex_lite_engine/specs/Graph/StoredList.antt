@@ -46,7 +46,7 @@ pub record IsGraphOfList (trees : List Tree) (list : StoredList) : Type 0 where
   pub arrows : list.arrows ≡ arrows_of_all trees
   pub each_arrow : arrows_of (table_of_list list) ≡ arrows_of_all trees
 
--- what is stored of groups is so of the tree
+-- what is stored of groups is true of the tree
 pub record TellsGroupsOf (tree : Tree) (groups : StoredGroups) : Type 0 where
   pub captures : length groups.capture_names ≡ captures_len tree
   pub names : (k : ℕ)
@@ -54,7 +54,7 @@ pub record TellsGroupsOf (tree : Tree) (groups : StoredGroups) : Type 0 where
       ≡ group_name tree k
   pub static_captures : groups.static_captures_len ≡ static_captures_len tree
 
--- what is stored of the groups of each pattern is so of its tree
+-- what is stored of the groups of each pattern is true of its tree
 abbrev pub TellGroupsOf : List Tree → List StoredGroups → Type 0
 TellGroupsOf trees list =
     (number : ℕ) (tree : Tree) (groups : StoredGroups) → slice_get trees number ≡ Some tree

@@ -69,7 +69,7 @@ abbrev mutual
   place_in_branch (more t rest) pre k exit zero a = place_at t (part pre k) exit a
   place_in_branch (more t rest) pre k exit (suc c) a = place_in_branch rest pre (suc k) exit c a
 
--- the whole is group 0 round the tree, which stands at 1, and after it the place at 0 where the
+-- the whole is group 0 around the tree, which stands at 1, and after it the place at 0 where the
 -- match is complete
 abbrev pub whole : Tree → Tree
 whole tree = capture 0 None tree

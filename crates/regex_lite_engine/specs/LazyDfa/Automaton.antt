@@ -24,7 +24,7 @@ pub record Way : Type 0 where
   pub place : ℕ
   pub origin : Origin
 
--- between two characters of whatever haystack
+-- what a search goes on with between two characters, whatever the haystack
 pub record State : Type 0 where
   -- the ways, the most preferred first
   pub ways : List Way
@@ -47,7 +47,7 @@ pub record Automaton : Type 0 where
 abbrev pub most_classes : ℕ
 most_classes = 128
 
--- stands where no turn is remembered
+-- stands for a turn that isn't remembered
 abbrev pub unknown : ℕ
 unknown = 65535
 
@@ -128,7 +128,7 @@ pub record IsEmptyState (automaton : Automaton) (x : ℕ) (last : Option ℕ) : 
   pub searching : state.searching ≡ true
   pub sees : automaton.intervals.looks ≡ true → state.before ≡ side_of last
 
--- the ways lead to places of the table, and are no more than read a character
+-- the ways lead to places of the table, and are no more than those that read a character
 pub record FitsTable (table : List (Place ℕ)) (ways : List Way) : Type 0 where
   pub below : (k : ℕ) (way : Way) → slice_get ways k ≡ Some way → way.place < length table
   pub few : length ways ≤ reading_of table

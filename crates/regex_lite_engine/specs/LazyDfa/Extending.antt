@@ -14,7 +14,7 @@ pub record IsState (automaton : Automaton) (y : ℕ) (all : List Way) (goes_on :
   pub before : state.before ≡ side
   pub hit : state.hit ≡ last
 
--- all states are there still, and no turn is known from a new one
+-- all states are still there, and no turn is known from a new one
 pub record Extends (old new : Automaton) : Type 0 where
   pub intervals : new.intervals ≡ old.intervals
   pub kept : (x : ℕ) (state : State) → slice_get old.states x ≡ Some state

@@ -13,7 +13,7 @@ use Rattle.regex_lite_engine.specs.declared.nfa.place.Place as code
 use Rattle.regex_lite_engine.specs.declared.nfa.place.Place.TheVariants as stored
 use Rattle.regex_lite_engine.specs.declared.search.here.Here.{Here}
 
--- where the intervals begin, but for the lowest; and whether some place looks at its neighbours
+-- where the intervals begin, except the lowest; and whether some place looks at its neighbours
 pub record Intervals : Type 0 where
   pub boundaries : List ℕ
   pub looks : Bool
@@ -69,7 +69,7 @@ IsBoundedPlace intervals (stored.Choice first second) = Unit {0}
 IsBoundedPlace intervals (stored.Branches entries) = Unit {0}
 IsBoundedPlace intervals stored.Match = Unit {0}
 
--- characters are apart from the numbers that are none
+-- characters are kept apart from the numbers that aren't characters
 abbrev pub character_bounds : List ℕ
 character_bounds = 0xD800 ∷ 0xE000 ∷ 0x110000 ∷ []
 

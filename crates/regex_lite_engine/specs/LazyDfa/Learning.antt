@@ -14,7 +14,7 @@ use Rattle.regex_lite_engine.specs.Search.Standing.{IsHere}
 use Rattle.regex_lite_engine.specs.Pikevm.Turns.{best_of}
 use Rattle.regex_lite_engine.specs.Search.Starts.{AreStartsAt}
 
--- the position's own start is the first where there is no thread, and else another
+-- the first start is the position's own if there is no thread, and otherwise another
 abbrev pub IsFirstStart : (first at : ℕ) → List Thread → Type 0
 IsFirstStart first at [] = first ≡ at
 IsFirstStart first at (thread ∷ threads) = first ≡ at → ⊥

@@ -23,8 +23,8 @@ abbrev pub IsRemembering : StoredGraph → (slots : ℕ) → Option Automaton �
 IsRemembering graph slots automaton =
     IfSome automaton (λ automaton. RemembersAll graph automaton × (slots ≡ 0))
 
--- searches for matches of the graph go on in its memory, which has no slots, and those for this
--- many slots of a short match in that beside it
+-- searches for matches of the graph go on in its memory, which has no slots, and searches for this
+-- many slots of a short match in the memory beside it
 pub record FindsSpansIn (graph : StoredGraph) (slots : ℕ) (spans : SpanSearcher) : Type 0 where
   pub remembers : RemembersAll graph spans.dfa
   pub between : IsBetween (table_of graph) spans.cache

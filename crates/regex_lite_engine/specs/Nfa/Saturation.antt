@@ -1,4 +1,4 @@
--- What is counted of a tree before anything is written: numbers that stop at the greatest one.
+-- What is counted of a tree before anything is written: numbers that saturate.
 use Rattle.std.specs.Prelude.{◌≡◌, ℕ, ◌+◌, ◌-◌, ◌^◌, min}
 use Rattle.regex_lite_syntax.specs.Tree.{Tree}
 use Rattle.regex_lite_syntax.specs.Tree.Properties.{ArePropertiesOf}
@@ -6,7 +6,7 @@ use Rattle.regex_lite_engine.specs.Graph.PlaceCounts as count
 use Rattle.regex_lite_engine.specs.Graph.Size as size
 use Rattle.regex_lite_engine.specs.declared.count.Counts.{Counts}
 
--- the number, or the greatest one that can be stored where it passes that
+-- the number, or the greatest one that can be stored if that is less
 abbrev pub saturated : ℕ → ℕ
 saturated n = min n (2 ^ 64 - 1)
 

@@ -9,8 +9,8 @@ use Rattle.regex_lite_engine.specs.Graph.SideBySide.{places_of_all, arrows_of_al
 abbrev pub reading_of_all : List Tree → ℕ
 reading_of_all trees = sum_by reading_places trees
 
--- these are the totals of what had these before, with one pattern more. Arrows and places that read
--- stay few beside the places
+-- these are the totals after one more pattern is added. Arrows and places that read stay few
+-- compared with the places
 pub record AreTotalsWith (before : Totals) (tree : Tree) (after : Totals) : Type 0 where
   pub places : after.places ≡ before.places + whole_places tree
   pub arrows : after.arrows ≡ before.arrows + whole_arrows tree

@@ -15,7 +15,7 @@ use Rattle.regex_lite_engine.specs.Pikevm.Machine.{Row, Frame, explore, restore,
 abbrev pub row_at : (slots : Row) → (width k : ℕ) → Row
 row_at slots width k = take width (drop (k * width) slots)
 
--- slots of which those after the last that was come to hold nothing
+-- slots, of which those after the last one reached hold nothing
 abbrev pub padded : Row → (size : ℕ) → Row
 padded slots size = slots ++ replicate (size - length slots) None
 
@@ -106,12 +106,12 @@ pub record HoldTogether {S : Type 0} (cells : List (Cell S)) (capacity low : ℕ
   pub room_few : room ≤ low + length cells
   pub rows_fit : length rows ≡ 2 * room + 1
 
--- what a cell holds but for its round
+-- what a cell holds, except its round
 abbrev pub without_round : {S : Type 0} → Cell S → Cell S
 without_round cell = record cell { entered = 0 }
 
--- more cells are ready, and nothing has changed: each place keeps its round, and each number what
--- else it has
+-- more cells are ready, and nothing has changed: each place keeps its round, and each number
+-- whatever else it has
 pub record MakesReady {S : Type 0} (low : ℕ) (cells : List (Cell S)) (new_low : ℕ)
     (new_cells : List (Cell S)) : Type 0 where
   pub rounds : rounds_in new_low new_cells ≡ rounds_in low cells

@@ -39,8 +39,8 @@ abbrev pub reading_on : Bool → State → Thread → State
 reading_on true state thread = record state { next = state.next ++ thread ∷ [] }
 reading_on false state thread = state
 
--- the slot holds the offset until the branch is left, or for good where nothing else is left to do.
--- A slot after the row is not kept
+-- the slot holds the offset until the branch is abandoned, or for good if nothing else is left to
+-- do. A slot after the row is not kept
 abbrev pub SlotMarked : (at slot to : ℕ) → (before after : State) → Type 0
 SlotMarked at slot to before after =
     ((slot < length before.row)

@@ -6,13 +6,13 @@ use Rattle.regex_lite_engine.specs.Pikevm.Beginnings.{Told, untold}
 abbrev pub Row : Type 0
 Row = List (Option ℕ)
 
--- What is left to do: to explore a place, or to let a slot hold again what it held
+-- What is left to do: to explore a place, or to restore what a slot held
 pub data Frame : Type 0 where
   explore : (place : ℕ) → Frame
   restore : (slot : ℕ) → (old : Option ℕ) → Frame
 
--- What is left, and the row, when all is taken off that lies on the next place: each slot holds
--- again what it held
+-- What is left, and the row, once all that lies on the next place is popped: each slot holds again
+-- what it held
 abbrev pub unwound : Row → List Frame → Row × List Frame
 unwound row [] = (row, [])
 unwound row (explore place ∷ frames) = (row, explore place ∷ frames)

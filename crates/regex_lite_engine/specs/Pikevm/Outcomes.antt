@@ -1,4 +1,4 @@
--- What a search over a table of numbered places answers, by offsets.
+-- What a search over a table of numbered places returns, by offsets.
 use Rattle.std.specs.Prelude.{◌≡◌, ◌+◌, ◌*◌, ◌^◌, ◌<◌, ℕ, List, [], Option, length, Some, None}
 use Rattle.regex_lite_syntax.specs.Text.{Text}
 use Rattle.regex_lite_engine.specs.declared.search.outcome.Outcome.{Outcome}
@@ -60,13 +60,13 @@ IsBestOutcomeOf table haystack entries s (Some best) =
     × TellsStart best.0 (offset haystack found.start) number × (best.1 ≡ offset haystack found.end)
     × HasSlots haystack best.2 found.marks
 
--- the match has all of them
+-- the match has all offsets of the answer
 abbrev pub IsNumberedOutcome : List (Place ℕ) → Text → (start s : ℕ) → Option (ℕ × ℕ × Row)
     → Type 0
 IsNumberedOutcome table haystack start s found =
     IsBestOutcome table haystack start s (with_start_kept found)
 
--- so has that of a search for the shortest match, which is where it ends
+-- the match has the offset of the answer to a search for the shortest match, which is where it ends
 abbrev pub IsNumberedEnd : List (Place ℕ) → Text → (start s : ℕ) → Best → Type 0
 IsNumberedEnd table haystack start s None = IsNumberedShortest table haystack start s None
 IsNumberedEnd table haystack start s (Some best) =

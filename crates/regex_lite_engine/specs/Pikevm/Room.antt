@@ -101,7 +101,7 @@ module _ (table : List (Place ℕ)) where
     pub spent : due_tries walk' ≤ due_tries walk
     pub spent_entries : due_entries walk' ≤ due_entries walk
 
-  -- a frame was taken off, or all of them where a match is complete
+  -- a frame was popped, or all of them if a match is complete
   pub record Went {S : Type 0} (here : Here) (i : Told) (walk walk' : Walk S) (done : Bool)
       : Type 0 where
     pub fit : IsFit walk'
@@ -119,7 +119,7 @@ module _ (table : List (Place ℕ)) where
   TakesFrame here i walk frames walk' frames' done =
       Went here i (with_frames walk frames) (with_frames walk' frames') done
 
-  -- all frames were taken off
+  -- all frames were popped
   abbrev pub Explores : {S : Type 0} → Here → (i : Told) → (walk walk' : Walk S) → List Frame
       → (done : Bool) → Type 0
   Explores here i walk walk' frames done =

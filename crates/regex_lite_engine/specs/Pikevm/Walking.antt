@@ -31,8 +31,8 @@ module _ (table : List (Place ℕ)) (haystack : Text) where
         × Leads Node (numbered_step table haystack) (entry, j) ks n
         × HasSlots haystack row (marks_along haystack (place_with table) (Some (entry, j)) ks)
 
-    -- the frames hold the offers at position p, the first on top. The row of each is that which
-    -- stands when its frame comes off
+    -- the frames hold the offers at position p, the first on top. The row of each is the one that
+    -- stands when its frame is popped
     abbrev pub FramesHold : (p : ℕ) → (i : Told) → Row → List Frame → List (Offer Node) → Type 0
     FramesHold p i row [] os = os ≡ []
     FramesHold p i row (explore q ∷ frames) os =

@@ -37,7 +37,7 @@ is_in_column test base width row =
 abbrev pub has : Rows → (row number : ℕ) → Bool
 has rows row number = bit_of_words rows.words.items (64 * (row * rows.width) + number) == 1
 
--- the second character may be this one. It may be any where that is not known
+-- the second character may be this one. If the second characters aren't known, it may be any
 abbrev pub goes_on_with : Option Starts → ℕ → Bool
 goes_on_with None c = true
 goes_on_with (Some second) c = begins_with second c

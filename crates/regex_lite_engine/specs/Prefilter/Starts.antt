@@ -13,8 +13,8 @@ abbrev pub begins_with : Starts → Set
 begins_with starts c =
     starts.any && (if nat_lt c 128 then slice_index_or starts.ascii c true else starts.others)
 
--- the bytes with which such a character may begin in UTF-8. One that is not ASCII begins with
--- 0xC0 or more, and what is between is inside of a character
+-- the bytes with which such a character may begin in UTF-8. One that is not ASCII begins with 0xC0
+-- or more, and a byte in between is inside a character
 abbrev pub stops_at : Starts → ℕ → Bool
 stops_at starts byte =
     starts.any

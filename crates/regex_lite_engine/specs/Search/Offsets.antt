@@ -1,4 +1,4 @@
--- The positions of a haystack in the definitions, and its offsets as calls take and answer them.
+-- The positions of a haystack in the definitions, and its offsets as calls take and return them.
 use Rattle.std.specs.Prelude.{◌≡◌, ◌+◌, ◌-◌, ℕ, List, Option, length, take}
 use Rattle.std.specs.Prelude.{sum_by, chars, option_map, slice_get, Some}
 use Rattle.std.specs.Char.{len_utf8}

@@ -26,13 +26,13 @@ IsSpanOutcome tree haystack start slots (Some span) =
     (found : Found) × IsAnswer tree (chars haystack) (search_start haystack start) (Some found)
     × TellsFound (chars haystack) found span slots
 
--- so does its outcome
+-- the outcome of a search is the answer's
 abbrev pub IsOutcome : Tree → (haystack : List ℕ) → (start : ℕ) → Option Outcome → Type 0
 IsOutcome tree haystack start None = IsSpanOutcome tree haystack start [] None
 IsOutcome tree haystack start (Some outcome) =
     IsSpanOutcome tree haystack start outcome.slots.items (Some (outcome.start, outcome.end))
 
--- so does that of a search for the shortest match, which is where it ends
+-- the outcome of a search for the shortest match is the answer's: the offset where it ends
 abbrev pub IsEndOutcome : Tree → (haystack : List ℕ) → (start : ℕ) → Option ℕ → Type 0
 IsEndOutcome tree haystack start None =
     IsShortest tree (chars haystack) (search_start haystack start) None
@@ -57,7 +57,7 @@ IsSpanOutcomeOfList trees haystack start slots (Some told) =
     × IsAnswerOfList trees (chars haystack) (search_start haystack start) (Some (told.0, found))
     × TellsFound (chars haystack) found told.1 slots
 
--- so does its outcome
+-- the outcome of a search for several patterns is the answer's
 abbrev pub IsOutcomeOfList : List Tree → (haystack : List ℕ) → (start : ℕ) → Option (ℕ × Outcome)
     → Type 0
 IsOutcomeOfList trees haystack start None = IsSpanOutcomeOfList trees haystack start [] None

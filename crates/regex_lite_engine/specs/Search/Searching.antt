@@ -8,7 +8,7 @@ pub record Searching : Type 0 where
   -- the slots of the last match that was found
   pub slots : List (Option ℕ)
 
--- so of the graph of several patterns
+-- the same for the graph of several patterns
 pub record ListSearching : Type 0 where
   pub graph : StoredList
   -- the slots of the last match that was found, whatever its pattern

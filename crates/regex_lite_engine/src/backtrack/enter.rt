@@ -1,4 +1,4 @@
-//! One place entered: where the way goes on, and what is left for later.
+//! Entering a place: where the way goes on, and what is deferred.
 ghost use Rattle.std.specs.Prelude.{◌≡◌, ◌+◌, ◌-◌, ◌≤◌, ◌++◌, None, Some, false};
 ghost use Rattle.std.specs.Prelude.{IsCharBoundary, MatchOption, chars, length, map};
 ghost use Rattle.std.specs.Char.{len_utf8};
@@ -28,8 +28,7 @@ pub enum Onward {
     Complete,
 }
 
-/// Goes on by the first arrow of the place that fits at this offset, and leaves the others for
-/// later.
+/// Follows the first arrow of the place if it fits at this offset, and defers the others.
 pub fn enter(place: &Place, haystack: &str, at: usize, stack: &mut Stack) -> Onward
     requires boundary { IsCharBoundary haystack.now at }
     requires room { length stack.old.frames
@@ -64,7 +63,7 @@ pub fn enter(place: &Place, haystack: &str, at: usize, stack: &mut Stack) -> Onw
     }
 }
 
-/// Goes on after the next character where it is this one.
+/// Goes on after the next character if it is this one.
 fn read_char(c: char, to: u32, haystack: &str, at: usize) -> Onward
     requires { IsCharBoundary haystack.now at }
     ensures { IsReadOn at (just c)
@@ -79,7 +78,7 @@ fn read_char(c: char, to: u32, haystack: &str, at: usize) -> Onward
     }
 }
 
-/// Goes on after the next character where it is one of the set.
+/// Goes on after the next character if it is in the set.
 fn read_class(set: &MappedClass, to: u32, haystack: &str, at: usize) -> Onward
     requires { IsCharBoundary haystack.now at }
     ensures { IsReadOn at (in_ranges set.now)
@@ -108,7 +107,7 @@ fn next_char(haystack: &str, at: usize) -> Option<(char, usize)>
     }
 }
 
-/// Goes on by the first of these, and leaves the others for later.
+/// Goes on at the first of these places, and defers the others.
 fn branch(entries: &[u32], at: usize, stack: &mut Stack) -> Onward
     requires { length stack.old.frames + (length entries.now - 1) ≤ stack.old.room }
     ensures onto { onto result stack.new.frames

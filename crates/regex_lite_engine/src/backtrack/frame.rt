@@ -1,4 +1,4 @@
-//! What is left to do where the way that is followed leads no further.
+//! What is left to do once the current way leads no further.
 use std::mem::size_of;
 
 /// One thing that is left to do.
@@ -6,9 +6,9 @@ use std::mem::size_of;
 pub enum Frame {
     /// To explore a place at this offset.
     Explore { place: u32, at: usize },
-    /// To let a slot hold nothing again, since the branch that marked it is left.
+    /// To clear a slot again, since the branch that marked it is abandoned.
     Clear { slot: u32 },
-    /// To let it hold this offset again.
+    /// To set a slot to this offset again.
     Restore { slot: u32, at: usize },
 }
 

@@ -1,4 +1,4 @@
-//! A search that goes depth first, from its working memory to its outcome.
+//! A depth-first search, from its working memory to its outcome.
 ghost use Rattle.std.specs.Prelude.{◌≡◌, ◌≤◌, ◌<◌, IfOk, IfSome, IsCharBoundary, length};
 ghost use Rattle.regex_lite_syntax.specs.Tree.{Tree};
 ghost use Rattle.regex_lite_syntax.specs.Tree.Regular.{IsRegular};

@@ -24,7 +24,7 @@ const MOST_SHORT: usize = 2048;
 #[derive(Drop)]
 pub(crate) struct ShortSearcher {
     walk: Walk,
-    /// Over at most this number of offsets, with the end's.
+    /// A search goes over at most this number of offsets, including the end's.
     offsets: usize,
 }
 
@@ -57,15 +57,15 @@ impl ShortSearcher {
         Ok(Some(ShortSearcher { walk, offsets }))
     }
 
-    /// Whether this many bytes are few enough.
+    /// Whether a search over this many bytes is short enough.
     pub(crate) fn suits(&self, bytes: usize) -> bool
         ensures { IsTrue result ↔ (bytes < self.now.offsets) }
     {
         bytes < self.offsets
     }
 
-    /// Returns where the match starts and ends that a search by itself finds from this offset on.
-    /// Its slots are in the row.
+    /// Returns the start and the end of the match that a search by itself finds from this offset
+    /// on. Its slots are in the row.
     pub(crate) fn search(
         &mut self,
         graph: &Graph,

@@ -1,4 +1,4 @@
-//! The way that a search follows, and what it has left of others.
+//! The way that a search follows, and what it has deferred.
 ghost use Rattle.std.specs.Prelude.{◌≡◌, ◌+◌, ◌-◌, ◌≤◌, ◌<◌, ◌++◌, ◌⊎◌, [], ◌∷◌};
 ghost use Rattle.std.specs.Prelude.{Some, None, IfOk, MatchOption, length, map};
 ghost use Rattle.std.specs.Prelude.{drop, replicate, slice_set, slice_index_or};
@@ -41,7 +41,7 @@ impl Stack {
         Ok(Stack { frames, row })
     }
 
-    /// Puts the frame on top.
+    /// Pushes the frame.
     pub fn push(&mut self, frame: Frame)
         requires { length self.old.frames < self.old.room }
         ensures { self.new
@@ -50,7 +50,7 @@ impl Stack {
         self.frames.push_reserved(frame);
     }
 
-    /// Puts all these places on it, the first on top.
+    /// Pushes all these places, the first on top.
     pub fn push_all(&mut self, places: &[u32], at: usize)
         requires { length places.now + length self.old.frames ≤ self.old.room }
         ensures { self.new ≡ record self.old {
@@ -65,7 +65,7 @@ impl Stack {
         }
     }
 
-    /// Lets a slot that is kept hold this offset, until what lies below the frame comes off.
+    /// Sets a slot to this offset, if it is kept, and pushes a frame that restores what it held.
     pub fn mark(&mut self, slot: u32, at: usize)
         requires { slot < length self.old.row → length self.old.frames < self.old.room }
         ensures kept { slot < length self.old.row → self.new ≡ record self.old {
@@ -86,7 +86,7 @@ impl Stack {
         self.row[k] = Some(at);
     }
 
-    /// Takes the top frame off.
+    /// Pops the top frame.
     pub fn pop(&mut self) -> Option<Frame>
         ensures { MatchOption result
             ((self.old.frames ≡ []) × (self.new ≡ self.old))
@@ -96,7 +96,7 @@ impl Stack {
         self.frames.pop()
     }
 
-    /// Lets a slot hold this.
+    /// Sets a slot to this.
     pub fn put(&mut self, slot: u32, held: Option<usize>)
         requires { slot < length self.old.row }
         ensures { self.new ≡ record self.old { row = slice_set self.old.row slot held } }
@@ -104,7 +104,7 @@ impl Stack {
         self.row[slot as usize] = held;
     }
 
-    /// Takes all frames off, and lets none of the slots be marked. It keeps its memory.
+    /// Drops all frames and clears all slots. The memory is kept.
     pub fn clear(&mut self)
         ensures { self.new ≡ record self.old {
           frames = [];

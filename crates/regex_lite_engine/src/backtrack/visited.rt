@@ -35,7 +35,7 @@ pub struct Visited {
 
 impl Words {
     /// Words for this number of pairs, each 0.
-    // Inlined, since few words would be copied else.
+    // Inlined, since the few words would otherwise be copied.
     #[inline(always)]
     fn for_pairs(alloc: Global, count: usize) -> Result<Words, AllocError>
         ensures none { IfOk result (λ words. bits_of (words_of words) count
@@ -90,8 +90,8 @@ impl Visited {
         })
     }
 
-    /// As `none`, for so few pairs that no memory is needed for them.
-    // Inlined, since the words would be copied else.
+    /// Like `none`, for so few pairs that no memory is needed for them.
+    // Inlined, since the words would otherwise be copied.
     #[inline(always)]
     pub fn few(places: usize, first: usize, last: usize) -> Visited
         requires from { first ≤ last }
@@ -144,7 +144,7 @@ fn set_bit(words: &mut [u64], k: usize) -> bool
     true
 }
 
-/// As `set_bit`, for words that may end before bit `k`: the missing ones count as 0.
+/// Like `set_bit`, for words that may end before bit `k`: the missing ones count as 0.
 fn set_bit_behind(words: &mut Vec<u64>, k: usize) -> bool
     requires { k < 64 * vec_capacity words.old }
     ensures fresh { (count : ℕ) → k < count

@@ -1,4 +1,5 @@
-//! The walk from one start: a way as far as it leads, and then the last that was left for later.
+//! The walk from one start: it follows a way to its end, then resumes the most recently deferred
+//! one.
 ghost use Rattle.std.specs.Prelude.{◌≡◌, ◌<◌, ◌+◌, [], ◌∷◌, IfSome, length, true};
 ghost use Rattle.regex_lite_engine.specs.Backtrack.Machine.{completes, end_at, explore, onto};
 ghost use Rattle.regex_lite_engine.specs.Backtrack.Room.{HasRoom, TakesFrame};
@@ -67,7 +68,7 @@ impl Walk {
         enter(found, haystack, at, &mut self.stack)
     }
 
-    /// Leaves the way that is followed, and takes up the last that was left for later.
+    /// Abandons the current way, and takes up the most recently deferred one.
     fn go_back(&mut self) -> Option<(u32, usize)>
         requires { SlotsBelow (length self.old.stack.row) self.old.stack.frames }
         ensures back { Unwinds self.old.stack.row self.old.stack.frames result

@@ -1,4 +1,4 @@
-//! What a repetition is written out as: copies of its body, and places beside them.
+//! What a repetition is written out as: copies of its body, and further places.
 ghost use Rattle.std.specs.Prelude.{◌≡◌, ◌+◌, ◌*◌, ◌^◌, ◌<◌};
 ghost use Rattle.regex_lite_engine.specs.Graph.PlaceCounts.{copies, own_places, own_arrows};
 ghost use Rattle.regex_lite_engine.specs.Graph.PlaceCounts.{own_choice_arrows};
@@ -14,7 +14,7 @@ pub(crate) fn copies(least: u32, most: Option<u32>) -> u64
     }
 }
 
-/// The places that a repetition has beside the copies of its body.
+/// The places that a repetition has besides the copies of its body.
 #[derive(Clone, Copy)]
 pub(crate) struct OwnPlaces {
     pub(crate) choices: u64,

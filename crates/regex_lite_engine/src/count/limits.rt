@@ -1,4 +1,4 @@
-//! Whether a tree passes the limits on what is written out.
+//! Whether a tree exceeds the limits on what is written out.
 ghost use Rattle.std.specs.Prelude.{◌≡◌, ◌+◌, ◌*◌, ◌^◌, ◌<◌, ◌≤◌, ◌↔◌, ℕ, IfOk, IfErr};
 ghost use Rattle.regex_lite_syntax.specs.Errors.{kind_of, passed_limit};
 ghost use Rattle.regex_lite_syntax.specs.Tree.{Tree};
@@ -9,23 +9,23 @@ ghost use Rattle.regex_lite_engine.specs.Nfa.Saturation.{AreCountsOf};
 use crate::count::Counts;
 use regex_lite_syntax::LimitFault;
 
-/// What each place counts in the size of a pattern.
+/// What each place adds to the size of a pattern.
 const PLACE_SIZE: u128 = 32;
 
-/// What each group counts in it, the whole match among them.
+/// What each group adds to it, including the whole match.
 const GROUP_SIZE: u128 = 16;
 
-/// What each arrow of a choice counts in it.
+/// What each arrow of a choice adds to it.
 const ARROW_SIZE: u128 = 4;
 
-/// What each range of a set counts in it.
+/// What each range of a set adds to it.
 const RANGE_SIZE: u128 = 8;
 
 /// The least index of a group whose slots cannot be numbered.
 const FIRST_PAST_SLOTS: u32 = 0x8000_0000;
 
 impl Counts {
-    /// How many places the whole pattern has, where it passes none of the limits.
+    /// How many places the whole pattern has, if it exceeds none of the limits.
     pub(crate) fn within(&self, size_limit: usize) -> Result<u32, LimitFault>
         ensures ok { (tree : Tree) → AreCountsOf tree self.now
             → IfOk result (λ places. (places ≡ whole_places tree) × Fits size_limit tree) }
@@ -44,8 +44,8 @@ impl Counts {
         }
     }
 
-    /// The size of the whole pattern. Where a number has stopped it is another one, which is above
-    /// every limit too.
+    /// The size of the whole pattern. If a count is saturated, the result may differ from that
+    /// size, but both are above every limit.
     fn size(&self) -> u128
         ensures { (tree : Tree) (limit : ℕ) → AreCountsOf tree self.now → limit < 2 ^ 64
             → (result ≤ limit) ↔ (size tree ≤ limit) }

@@ -7,7 +7,7 @@ use crate::count::Counts;
 use regex_lite_syntax::Hir;
 use std::marker::Model;
 
-/// A tree that was counted, so that nobody has to count it again.
+/// A tree with its counts, so that it needn't be counted again.
 #[derive(Drop)]
 pub struct Measured {
     hir: Hir,

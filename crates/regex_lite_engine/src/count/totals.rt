@@ -20,7 +20,7 @@ pub(crate) struct Totals {
 }
 
 impl Totals {
-    /// What no pattern at all takes.
+    /// The totals of no pattern at all.
     pub(crate) const NONE: Totals = Totals {
         places: 0,
         arrows: 0,

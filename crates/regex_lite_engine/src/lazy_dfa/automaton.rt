@@ -11,24 +11,24 @@ use crate::lazy_dfa::state::{Hit, StoredState, StoredWay, are_same};
 use std::alloc::{AllocError, Global};
 use std::marker::Model;
 
-/// No more states than these are kept.
+/// At most this many states are kept.
 pub(super) const MOST_STATES: usize = 128;
 
-/// Nor more ways in all of them.
+/// At most this many ways are kept, in all states together.
 const MOST_WAYS: usize = 3072;
 
-/// Stands where no turn is remembered.
+/// Stands for a turn that isn't remembered.
 pub(super) const UNKNOWN: u16 = 0xFFFF;
 
-/// Classes of characters, and the states that searches have come to. All its memory is asked for at
-/// once: where it is full, it remembers no more.
+/// Classes of characters, and the states that searches have come to. All its memory is requested at
+/// once. When that is full, nothing more is remembered.
 #[derive(Drop)]
 pub(crate) struct LazyDfa {
     pub(super) classes: Classes,
     pub(super) states: Vec<StoredState>,
-    /// The ways of all states, and after them those of one that is to come.
+    /// The ways of all states, and after them the pending ones: those of a state that is to come.
     ways: Vec<StoredWay>,
-    /// How many of them the states have.
+    /// How many of them belong to states.
     used: usize,
 }
 
@@ -75,7 +75,7 @@ impl LazyDfa {
         self.classes.looks()
     }
 
-    /// Adds a way to those of the state that is to come. Returns whether there was room.
+    /// Adds a pending way. Returns whether there was room.
     pub(crate) fn push_way(&mut self, place: u32, is_first: bool) -> bool
         ensures pushed { result ≡ true → self.new ≡ record self.old {
           pending = self.old.pending
@@ -92,7 +92,7 @@ impl LazyDfa {
         }
     }
 
-    /// Forgets the ways of the state that was to come.
+    /// Forgets the pending ways.
     pub(crate) fn drop_pending(&mut self)
         ensures { self.new ≡ record self.old { pending = [] } }
     {
@@ -138,7 +138,7 @@ impl LazyDfa {
         None
     }
 
-    /// Lets a state have the pending ways. Returns whether there was memory.
+    /// Adds a state with the pending ways and these properties. Returns whether there was memory.
     fn add(&mut self, searching: bool, before: Side, hit: Hit) -> bool
         requires { length self.old.states < 128 }
         ensures state { result ≡ true → IsState self.new (length self.old.states)
@@ -189,7 +189,7 @@ impl LazyDfa {
         &self.ways[from..from + len]
     }
 
-    /// Those of the state that is to come.
+    /// The pending ways.
     fn pending(&self) -> &[StoredWay]
         ensures { map way_in result.now ≡ self.now.pending }
     {

@@ -9,16 +9,17 @@ use regex_lite_syntax::ClassRange;
 use std::alloc::{AllocError, Global};
 use std::marker::Model;
 
-/// No more boundaries than these are kept, so that an interval has a number of few bits.
+/// At most this many boundaries are kept, so that the number of an interval takes few bits.
 const MOST: usize = 125;
 
-/// What isn't a character is apart from what is: the surrogates, and what is after the last.
+/// Numbers that aren't characters, the surrogates and all above the last character, are kept apart
+/// from those that are.
 const CHARACTER_BOUNDS: [u32; 3] = [0xD800, 0xE000, 0x11_0000];
 
 /// What looks distinguish: line feeds, carriage returns, and the runs of word characters.
 const LOOK_BOUNDS: [u32; 12] = [10, 11, 13, 14, 48, 58, 65, 91, 95, 96, 97, 123];
 
-/// Where the intervals begin, but for the lowest.
+/// Where the intervals begin, except the lowest.
 #[derive(Drop)]
 pub(crate) struct Boundaries {
     /// In the order in which they were added, each once.
@@ -40,7 +41,7 @@ impl Model for Boundaries {
 }
 
 impl Boundaries {
-    /// Those of all characters alone.
+    /// The boundaries between characters and other numbers.
     pub(crate) fn new(alloc: Global) -> Result<Boundaries, AllocError>
         ensures { IfOk result (λ bounds. All (IsBoundary bounds.boundaries) character_bounds) }
     {
@@ -62,7 +63,7 @@ impl Boundaries {
         (all, looks)
     }
 
-    /// Adds those of what the place reads. Returns whether there was room for them.
+    /// Adds the boundaries of what the place reads. Returns whether there was room for them.
     pub(crate) fn add_place(&mut self, place: &Place) -> bool
         ensures bounded { result ≡ true → IsBoundedPlace self.new place.now }
         ensures grows { Grows self.old self.new }
@@ -75,7 +76,7 @@ impl Boundaries {
         }
     }
 
-    /// Adds those of the ranges.
+    /// Adds the boundaries of the ranges.
     fn add_ranges(&mut self, ranges: &[ClassRange]) -> bool
         ensures bounded { result ≡ true → AreBounded self.new.boundaries ranges.now }
         ensures grows { Grows self.old self.new }
@@ -89,7 +90,7 @@ impl Boundaries {
         true
     }
 
-    /// Adds those of what looks distinguish.
+    /// Adds the boundaries of what looks distinguish.
     fn add_looks(&mut self) -> bool
         ensures looks { result ≡ true → self.new.looks ≡ true }
         ensures grows { Grows self.old self.new }
@@ -103,7 +104,7 @@ impl Boundaries {
         true
     }
 
-    /// Lets an interval begin at this number.
+    /// Adds a boundary at this number. Returns whether there was room for it.
     #[tactic(auto, using(crate::proofs::lazy_dfa::BoundaryLemmas::one_more))]
     fn add(&mut self, bound: u32) -> bool
         ensures added { result ≡ true → IsBoundary self.new.boundaries bound }

@@ -73,7 +73,7 @@ impl Classes {
         self.looks
     }
 
-    /// How many there are.
+    /// How many classes there are.
     pub(crate) fn len(&self) -> usize
         ensures same { result ≡ length self.now.boundaries + 2 }
         ensures few { result < 128 }
@@ -81,7 +81,7 @@ impl Classes {
         self.boundaries.len() + 2
     }
 
-    /// That of the next character, or of the end.
+    /// The class of the next character, or of the end.
     pub(crate) fn class(&self, next: Option<char>) -> usize
         ensures same { result ≡ class_of self.now.boundaries next }
         ensures few { result < 128 }
@@ -92,7 +92,7 @@ impl Classes {
         }
     }
 
-    /// That of the character.
+    /// The class of the character.
     #[tactic(auto, using(crate::proofs::lazy_dfa::IntervalLemmas::interval_within))]
     fn interval(&self, c: char) -> usize
         ensures same { result ≡ interval_of self.now.boundaries c }
@@ -105,8 +105,8 @@ impl Classes {
         }
     }
 
-    /// That of the character at this offset, and where the character ends. None at the end of the
-    /// haystack. The interval of one that isn't ASCII is remembered as `near`.
+    /// The class of the character at this offset, and where the character ends. None at the end of
+    /// the haystack. The interval of one that isn't ASCII is remembered as `near`.
     #[inline(always)]
     #[tactic(auto, using(crate::proofs::lazy_dfa::IntervalLemmas::interval_within))]
     pub(super) fn ahead(&self, haystack: &str, at: usize, near: &mut Interval) -> Option<Ahead>
@@ -130,7 +130,7 @@ impl Classes {
         })
     }
 
-    /// The same of any character.
+    /// Like `ahead`, for a character that may not be ASCII.
     #[inline(always)]
     fn wide_ahead(&self, haystack: &str, at: usize, near: &mut Interval) -> Option<Ahead>
         requires inside { at < length haystack.now }
@@ -149,8 +149,8 @@ impl Classes {
         })
     }
 
-    /// The class of the character, which is likely to be in this interval. Else its own takes that
-    /// place.
+    /// The class of the character, which is likely to be in this interval. If it isn't, the
+    /// interval is replaced by its own.
     #[inline(always)]
     fn class_near(&self, c: u32, near: &mut Interval) -> usize
         requires { IsInterval self.now.boundaries near.old }

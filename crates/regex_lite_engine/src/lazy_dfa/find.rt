@@ -32,7 +32,7 @@ impl LazyDfa {
     /// Where the most preferred match starts and ends, from the least start at or after this
     /// offset. No turn is looked up before the search has entered this many places, none or one:
     /// before the first turn, a new automaton has none.
-    // Not inlined, so that a search without an automaton has no more than the test for it.
+    // Not inlined, so that a search without an automaton costs no more than the test for it.
     #[inline(never)]
     pub(crate) fn find(
         &mut self,
@@ -112,7 +112,7 @@ impl LazyDfa {
         }
     }
 
-    /// Remembers the turn, where the state was known that it was taken from. Returns the state that
+    /// Remembers the turn, if the state from which it was taken is known. Returns the state that
     /// the search is in.
     pub(super) fn learn_at(
         &mut self,
@@ -236,8 +236,8 @@ impl LazyDfa {
         }
     }
 
-    /// Goes on where remembered turns end, if all ways there began at the first start; else after
-    /// the last position at which there was nothing to go on from, or where the search was.
+    /// Goes on where remembered turns end, if all ways there began at the first start; otherwise
+    /// after the last position at which there was nothing to go on from, or where the search was.
     pub(super) fn resume(
         &self,
         graph: &Graph,

@@ -23,7 +23,7 @@ use crate::search::patterns::Patterns;
 const NEAR: usize = 4;
 
 impl LazyDfa {
-    /// The same place, if turns lead on from there.
+    /// The same position in the state without ways, if a turn from there is remembered.
     pub(super) fn stay_idle(&self, graph: &Graph, at: Progress) -> Option<Progress>
         ensures { IfSome result (StandsIdle self.now at.here) }
     {
@@ -84,8 +84,8 @@ impl LazyDfa {
         self.leap_on(graph, haystack, at)
     }
 
-    /// The same, but that it passes over positions first.
-    // Not inlined, so that a search without a prefilter has no more than the call.
+    /// Like `run_on`, but passes over positions first.
+    // Not inlined, so that a search without a prefilter costs no more than the call.
     #[inline(never)]
     fn leap_on(&self, graph: &Graph, haystack: &str, at: &mut Standing) -> bool
         requires remembers { Remembers graph.now.places (graph.now.start ∷ []) self.now }
@@ -112,7 +112,7 @@ impl LazyDfa {
         }
     }
 
-    /// The same up to the first match that ends, where there is none yet.
+    /// Like `run_on`, up to the first match that ends, if there is none yet.
     pub(super) fn run_on_to_match(&self, graph: &Graph, haystack: &str, at: &mut Standing)
         requires remembers { Remembers graph.now.places (graph.now.start ∷ []) self.now }
         requires scanning { (low p : ℕ) × IsScanning (table_of graph.now) (graph.now.start ∷ [])

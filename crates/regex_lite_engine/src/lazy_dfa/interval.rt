@@ -11,7 +11,7 @@ pub(super) struct Interval {
 }
 
 impl Interval {
-    /// One without a character.
+    /// An empty interval.
     #[inline(always)]
     pub(super) fn none() -> Interval
         ensures { (boundaries : List ℕ) → IsInterval boundaries result }
@@ -23,7 +23,7 @@ impl Interval {
         }
     }
 
-    /// The one that this number is in, between the boundaries.
+    /// The interval between these boundaries that contains this number.
     #[tactic(auto, using(crate::proofs::lazy_dfa::IntervalLemmas::interval_cons))]
     pub(super) fn around(boundaries: &[u32], c: u32) -> Interval
         requires { length boundaries.now ≤ 125 }
@@ -41,8 +41,8 @@ impl Interval {
         around
     }
 
-    /// Lets it be the one that this number is in.
-    // Not inlined, so that the interval that comes again takes few steps.
+    /// Sets it to the interval between these boundaries that contains this number.
+    // Not inlined, so that a character of the same interval takes few steps.
     #[inline(never)]
     pub(super) fn come_to(&mut self, boundaries: &[u32], c: u32)
         requires { length boundaries.now ≤ 125 }
@@ -52,7 +52,7 @@ impl Interval {
         *self = Interval::around(boundaries, c);
     }
 
-    /// Cuts off what this boundary divides from the number.
+    /// Cuts off what this boundary separates from the number.
     fn cut(&mut self, bound: u32, c: u32)
         requires { self.old.class < 125 }
         ensures class { self.new.class ≡ tick (nat_le bound c) + self.old.class }

@@ -30,8 +30,8 @@ pub(crate) struct Taken {
 }
 
 impl LazyDfa {
-    /// Remembers the turn by which the search has come to what the cache has now. Returns the state
-    /// that it is in, where there is room for it.
+    /// Remembers the turn by which the search came to what the cache holds now. Returns the state
+    /// that the search is in, if there is room for it.
     pub(crate) fn learn(&mut self, graph: &Graph, taken: Taken, cache: &Cache<usize>) -> Option<u16>
         requires remembers { Remembers graph.now.places (graph.now.start ∷ []) self.old }
         requires turned { HasTurned (table_of graph.now) (graph.now.start ∷ []) self.old
@@ -79,8 +79,7 @@ impl LazyDfa {
         self.settle(cache.best.is_none(), before, Hit::Nowhere)
     }
 
-    /// Lets the threads of the position be the ways of a state that is to come. Returns whether
-    /// there was room.
+    /// Adds the threads of the position to the pending ways. Returns whether there was room.
     fn gather(&mut self, memory: &Memory<usize>, first: usize) -> bool
         ensures gathered { result ≡ true → self.new ≡ record self.old {
           pending = self.old.pending ++ ways_of first memory.now.threads;

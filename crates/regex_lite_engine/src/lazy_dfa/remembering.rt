@@ -33,8 +33,8 @@ pub(crate) fn pays(graph: &Graph, bytes: usize) -> bool {
 }
 
 /// Whether it pays to remember the turns of one search that goes over this many bytes. By
-/// measurement it takes .3 to .7 of the instructions from 1,000 bytes on if there is no match, and
-/// up to 2.9 of them if one is near the start.
+/// measurement it takes 0.3 to 0.7 times the instructions from 1,000 bytes on if there is no match,
+/// and up to 2.9 times as many if one is near the start.
 pub(crate) fn pays_once(graph: &Graph, bytes: usize) -> bool {
     pays(graph, bytes)
 }
@@ -42,8 +42,9 @@ pub(crate) fn pays_once(graph: &Graph, bytes: usize) -> bool {
 /// Whether it pays to remember the turns of a search by itself for the match at or after this
 /// offset. One that doesn't start with the haystack is mostly one of many, from match to match, and
 /// soon over. Depth first it then takes fewer instructions than by any turns: loops of `find_at`
-/// over words in 16 KB took 5.2 million in place of 7.5. Where a match begins with a character that
-/// is looked for, an automaton for each search costs more than it saves: eight words took 1.22.
+/// over words in 16 KB took 5.2 million instead of 7.5. Where a match begins with a character that
+/// is looked for, an automaton for each search costs more than it saves: eight words took 1.22
+/// times as many.
 pub(crate) fn pays_from(graph: &Graph, start: usize, bytes: usize) -> bool {
     if !pays_once(graph, bytes) {
         return false;
@@ -59,9 +60,9 @@ pub(crate) fn pays_with_slots(graph: &Graph, bytes: usize) -> bool {
 }
 
 /// Whether one of a few bytes begins each match. If slots are then searched for by ordered sets, an
-/// automaton doesn't pay: `\b(t\w+)\b` on sentences took 51 instructions a byte in place of 42. If
-/// they are searched for up to the match's end, it does: a URL with three groups took 50 in place
-/// of 113.
+/// automaton doesn't pay: `\b(t\w+)\b` on sentences took 51 instructions a byte instead of 42. If
+/// they are searched for up to the match's end, it does: a URL with three groups took 50 instead of
+/// 113.
 pub(super) fn begins_rarely(graph: &Graph) -> bool {
     match graph.filter().prefilter() {
         None | Some(Prefilter::Range(_, _)) => false,

@@ -51,7 +51,7 @@ impl Progress {
         }
     }
 
-    /// The same place in this state.
+    /// The same position, in this state.
     pub(super) fn with_state(self, state: Option<u16>) -> Progress
         ensures { result ≡ record self { state = state } }
     {
@@ -65,7 +65,7 @@ impl Progress {
 }
 
 impl Cache<usize> {
-    /// Goes on to the next position. The state is that in which the search is there.
+    /// Goes on to the next position. The state is the one that the search is in there.
     pub(super) fn on(&self, haystack: &str, at: Progress) -> Progress
         requires here { (p : ℕ) × IsHere (chars haystack.now) p at.here }
         requires more { IsSome at.here.after }

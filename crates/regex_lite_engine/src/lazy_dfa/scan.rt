@@ -19,7 +19,7 @@ use crate::search::here::Here;
 use crate::search::one_pattern::OnePattern;
 use crate::search::patterns::Patterns;
 
-/// Where a search stands that goes by remembered turns.
+/// Where a search that goes by remembered turns stands.
 #[derive(Clone, Copy)]
 pub(crate) struct Standing {
     pub here: Here,
@@ -229,7 +229,7 @@ impl LazyDfa {
     }
 }
 
-/// The place of this first start, if another one was the first before.
+/// The position of this first start, if another one was the first before.
 pub(super) fn idle_since(haystack: &str, before: usize, first: usize) -> Option<Here>
     requires { (first ≡ before) ⊎ IsCharBoundary haystack.now first }
     ensures at { IfSome result (λ here. here.at ≡ first) }

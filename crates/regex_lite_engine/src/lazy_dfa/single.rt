@@ -23,9 +23,9 @@ use std::alloc::{AllocError, Global};
 
 /// A search takes this number of turns before it gets an automaton. A match near the start is found
 /// sooner than one is made, which takes some 2,000 instructions and two or three requests for
-/// memory. With 16 turns, loops of `find_at` in long texts took up to 1.44 of what they take
-/// without automata, where matches are 20 bytes apart, and with 64 up to 1.03. With 256, a search
-/// of 1,000 bytes without a match took up to half as much again as with 64.
+/// memory. With 16 turns, loops of `find_at` in long texts took up to 1.44 times what they take
+/// without automata, where matches are 20 bytes apart, and with 64 up to 1.03 times. With 256, a
+/// search of 1,000 bytes without a match took up to half as much again as with 64.
 const TURNS_WITHOUT: u32 = 64;
 
 impl Graph {
@@ -71,8 +71,8 @@ impl Graph {
         Ok((end, walk.steps))
     }
 
-    /// Where the match starts and ends that a search by itself finds. It gets an automaton if it
-    /// isn't over soon.
+    /// The start and the end of the match that a search by itself finds. The search gets an
+    /// automaton if it isn't over soon.
     fn find_once(
         &self,
         alloc: Global,
@@ -106,8 +106,8 @@ impl Graph {
         dfa.find_from(self, cache, haystack, known, 1)
     }
 
-    /// Where the first match ends that a search by itself comes to. It gets an automaton if it
-    /// isn't over soon.
+    /// The end of the first match that a search by itself comes to. The search gets an automaton if
+    /// it isn't over soon.
     fn find_shortest_once(
         &self,
         alloc: Global,

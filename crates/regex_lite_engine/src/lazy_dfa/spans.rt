@@ -1,5 +1,5 @@
-//! Searches that keep no slots, one after another, for one that keeps them: they find where matches
-//! start, by remembered turns.
+//! Searches without slots that find, by remembered turns, where matches start. A search that keeps
+//! slots goes on from there.
 ghost use Rattle.std.specs.Prelude.{◌≡◌, ◌∷◌, [], ℕ, IfSome, IsCharBoundary, None, Some, chars};
 ghost use Rattle.std.specs.Prelude.{length};
 ghost use Rattle.regex_lite_engine.specs.Graph.Stored.{StoredGraph, table_of};
@@ -43,7 +43,7 @@ pub(crate) struct Passed {
 impl SpanSearcher {
     /// One for this graph, whose matches have this number of slots, and which remembers nothing
     /// yet. None where there are too many classes, where memory runs out, or where it doesn't pay.
-    /// In a box it costs nothing to move.
+    /// It is in a box, so that moving it costs little.
     pub(crate) fn for_graph(alloc: Global, graph: &Graph, slots: usize) -> Option<Box<SpanSearcher>>
         ensures { IfSome result (λ boxed. FindsSpansIn graph.now slots boxed.value) }
     {
@@ -78,8 +78,8 @@ impl SpanSearcher {
         self.dfa.find(graph, &mut self.cache, haystack, start, 0)
     }
 
-    /// Lets the row have the slots of the match from and to these offsets, if they can be found
-    /// depth first. Returns where it starts and ends, and how many tries that took.
+    /// Sets the row to the slots of the match between these offsets, if they can be found depth
+    /// first. Returns where the match starts and ends, and how many tries that took.
     fn find_known(
         &mut self,
         graph: &Graph,
@@ -161,8 +161,8 @@ pub(crate) fn pass_to_match(
     })
 }
 
-/// Lets the row have the slots of the match, if its end is known and they can be found depth first.
-/// Returns where it starts and ends, and how many tries that took.
+/// Sets the row to the slots of the match, if its end is known and they can be found depth first.
+/// Returns where the match starts and ends, and how many tries that took.
 pub(crate) fn find_slots(
     spans: &mut Option<Box<SpanSearcher>>,
     graph: &Graph,
@@ -191,7 +191,8 @@ pub(crate) fn find_slots(
     }
 }
 
-/// The same of a match from and to these offsets.
+/// Sets the row to the slots of the match between these offsets, if the match is short. Returns
+/// where it starts and ends, and how many tries that took.
 fn find_short(
     short: &mut ShortSearcher,
     graph: &Graph,

@@ -47,7 +47,8 @@ enum Step {
     Stuck,
 }
 
-/// After this many of them it is faster to pass over the positions at which no match can begin.
+/// After this many turns in a row with nothing to go on from, it is faster to pass over the
+/// positions at which no match can begin.
 const MOST_IDLE: u32 = 8;
 
 impl LazyDfa {
@@ -83,7 +84,7 @@ impl LazyDfa {
         false
     }
 
-    /// The same up to the first match that ends, where there is none yet.
+    /// Like `run`, up to the first match that ends, if there is none yet.
     // Not inlined, since what an inlined one needs is cleared each time.
     #[inline(never)]
     pub(super) fn run_to_match(&self, graph: &Graph, haystack: &str, at: &mut Standing)
@@ -192,7 +193,7 @@ impl LazyDfa {
         })
     }
 
-    /// How many turns in a row then led from nothing to go on from to nothing, unless that were too
+    /// How many turns in a row then led from nothing to go on from to nothing, unless that is too
     /// many.
     #[inline(always)]
     fn idle_after(&self, spot: Spot) -> Option<u32>
@@ -256,7 +257,7 @@ impl Spot {
 }
 
 impl Standing {
-    /// Lets it stand there, with the characters beside that.
+    /// Moves it to this spot, and looks up the characters beside that.
     #[inline(always)]
     fn settle(&mut self, haystack: &str, spot: Spot)
         requires { IsCharBoundary haystack.now spot.at }

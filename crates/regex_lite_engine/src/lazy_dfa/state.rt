@@ -20,7 +20,7 @@ pub(crate) enum Hit {
     AtLater,
 }
 
-/// Between two characters of whatever haystack: what a search goes on with.
+/// What a search goes on with between two characters, whatever the haystack.
 #[derive(Clone, Copy)]
 pub(crate) struct StoredState {
     /// Where its ways begin in the list of all, and how many they are.

@@ -1,10 +1,10 @@
 //! Whether it pays to find matches by an automaton before their slots are searched for. The first
 //! matches of a text show it.
 
-/// This many matches are found by the automaton at first,
+/// At first this many matches are found with the automaton.
 const WITH: u128 = 8;
 
-/// and then this many without it.
+/// Then this many are found without it.
 const WITHOUT: u128 = 4;
 
 /// It pays where a match takes this many tries fewer with it.
@@ -17,8 +17,7 @@ pub(crate) struct Trial {
     without: Sample,
 }
 
-/// Some matches, how long they are together, and how many tries their searches took that keep
-/// slots.
+/// Some matches: how long they are together, and how many tries the searches for their slots took.
 #[derive(Clone, Copy)]
 struct Sample {
     matches: u128,

@@ -104,7 +104,7 @@ impl Cache<usize> {
     }
 }
 
-/// Whether no turn of this number is left, if there is one. It counts the next.
+/// Counts the next turn, if their number is limited. Returns whether none was left.
 fn is_spent(left: &mut Option<u32>) -> bool
     ensures all { left.old ≡ None → (left.new ≡ None) × ¬ IsTrue result }
 {

@@ -1,11 +1,11 @@
-//! What a search leaves for later.
+//! What a search keeps back.
 ghost use Rattle.std.specs.Prelude.{◌^◌, ◌<◌, map};
 ghost use Rattle.regex_lite_engine.specs.Graph.Places.{kept_back_of};
 ghost use Rattle.regex_lite_engine.specs.Graph.Stored.{IsKeptBackOf, place_of};
 
 use crate::nfa::place::Place;
 
-/// How much a search keeps back that enters each place once.
+/// How much a search that enters each place once keeps back.
 #[derive(Clone, Copy)]
 pub(crate) struct KeptBack {
     /// Without slots: the arrows after the first of each place.

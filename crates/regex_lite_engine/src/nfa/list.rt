@@ -59,13 +59,13 @@ impl Model for GraphList {
 }
 
 impl GraphList {
-    /// The tree with its counts, where it passes none of the limits by itself. Nothing is written.
+    /// The tree with its counts, if it exceeds none of the limits by itself. Nothing is written.
     ///
     /// # Errors
     ///
     /// `Size` where the size is above the limit, `Places` where there are more places than can be
-    /// numbered, and `Slots` where a group's slots can't be numbered. Where several limits are
-    /// passed, any of them may be named.
+    /// numbered, and `Slots` where a group's slots can't be numbered. If several limits are
+    /// exceeded, any of them may be named.
     pub fn within_limits(hir: Hir, size_limit: usize) -> Result<Measured, Error>
         ensures same { IfOk result (λ measured. measured ≡ hir) }
         ensures ok { IfOk result (λ _. Fits size_limit (tree_of hir)) }
@@ -80,7 +80,7 @@ impl GraphList {
     /// The graph of these trees. Whether there are too many places is found out before anything is
     /// written.
     ///
-    /// Conditions: each tree is regular, as the grammar gives it, and passes no limit by itself.
+    /// Conditions: each tree is regular, as the grammar gives it, and exceeds no limit by itself.
     ///
     /// # Errors
     ///

@@ -43,7 +43,7 @@ impl Place {
         }
     }
 
-    /// How much a search keeps back here that keeps slots.
+    /// How much a search that keeps slots keeps back here.
     pub(crate) fn kept_back(&self) -> usize
         ensures { result ≡ kept_back (place_of self.now) }
     {

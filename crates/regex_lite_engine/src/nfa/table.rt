@@ -17,7 +17,7 @@ pub(crate) struct Table {
     arrows: usize,
     /// How many of its places read a character.
     reading: usize,
-    /// How much a search keeps back that enters each of them once.
+    /// How much a search that enters each of them once keeps back.
     kept_back: KeptBack,
 }
 
@@ -98,7 +98,7 @@ impl Table {
         self.arrows
     }
 
-    /// How many places read a character. A search counts on there being few arrows too.
+    /// How many places read a character. A search relies on there being few arrows too.
     pub(crate) fn reading(&self) -> usize
         ensures each { result ≡ reading_of (places_of self.now) }
         ensures few { 0 < length self.now.places → result < length self.now.places }
@@ -107,7 +107,7 @@ impl Table {
         self.reading
     }
 
-    /// How much a search with this number of slots keeps for later if it enters each place once.
+    /// How much a search with this number of slots keeps back if it enters each place once.
     pub(crate) fn kept_back(&self, slots: usize) -> usize
         ensures { result ≡ sum_by (kept_back_with slots) (places_of self.now) }
     {

@@ -23,7 +23,7 @@ use regex_lite_syntax::Hir;
 use std::alloc::{AllocError, Global};
 use std::marker::Model;
 
-/// The table of the tree's places, with those of group 0 round it and the match at number 0, and
+/// The table of the tree's places, with those of group 0 around it and the match at number 0, and
 /// the number where it is entered.
 ///
 /// Condition: `count` is how many places there are, so the table needs memory only once, and each
@@ -153,7 +153,7 @@ impl Writer {
     }
 
     /// Adds the places of a whole pattern: the one where its match is complete, and then the tree
-    /// with those of group 0 round it. Returns where it is entered.
+    /// with those of group 0 around it. Returns where it is entered.
     fn write_pattern(&mut self, hir: &Hir) -> Result<u32, AllocError>
         requires room { length self.old + whole_places (tree_of hir.now) < 2 ^ 32 }
         requires slots { greatest_index (tree_of hir.now) < 2 ^ 31 }
@@ -252,7 +252,7 @@ impl Writer {
 fn part_at(parts: &[Hir], i: usize) -> &Hir
     requires { i < length parts.now }
     ensures part { result.now ≡ slice_index_or parts.now i result.now }
-    // It takes no more than what is after it leaves.
+    // It takes no more places than the parts after it leave.
     ensures room { places (tree_of result.now)
         + places_in (trees (map tree_of (drop (i + 1) parts.now)))
         ≤ places_in (trees (map tree_of parts.now)) }

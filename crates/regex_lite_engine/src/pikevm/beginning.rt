@@ -2,13 +2,13 @@
 ghost use Rattle.std.specs.Prelude.{◌≡◌, ℕ, Some, None};
 ghost use Rattle.regex_lite_engine.specs.Pikevm.Beginnings.{Told, TellsStart, untold};
 
-/// What stands beside a thread for where its way began: the offset with or without the number of
-/// the pattern, or nothing in a search that is asked only for an end.
+/// What is kept with a thread of where its way began: the offset, with or without the number of the
+/// pattern, or nothing in a search that is asked only for an end.
 pub trait Beginning: Copy {
     /// What it says of where the way began.
     ghost told: { Self → Told };
 
-    /// What is kept says this of a way from this offset of the pattern with this number.
+    /// What it says of a way from this offset, of the pattern with this number.
     ghost told_of: { (at number : ℕ) → Told };
 
     /// What is kept of a way that begins at this offset, of the pattern with this number.
@@ -19,7 +19,7 @@ pub trait Beginning: Copy {
     ghost tells: { (at number : ℕ) → TellsStart (told_of at number) at number };
 }
 
-// The offset itself is kept: there is one pattern.
+// The offset alone is kept, since there is one pattern.
 impl Beginning for usize {
     ghost use Rattle.std.specs.Prelude.{refl};
 
@@ -55,7 +55,7 @@ impl Beginning for Origin {
     ghost tells = { λ at number. record { start_told = refl; number_told = refl } };
 }
 
-/// Nothing is kept, in no bytes.
+/// Nothing is kept: this takes no bytes.
 #[derive(Clone, Copy)]
 pub struct Unkept;
 

@@ -7,7 +7,7 @@ use crate::search::outcome::Outcome;
 use std::alloc::{AllocError, Global};
 use std::marker::Model;
 
-/// What is kept of its start, and its end, and its slots in `row`.
+/// What is kept of the best match's start, and its end, with its slots in `row`.
 #[derive(Drop)]
 pub struct Best<S: Beginning> {
     found: Option<(S, usize)>,
@@ -45,7 +45,7 @@ impl<S: Beginning> Best<S> {
         self.found.is_none()
     }
 
-    /// Takes this match for the best, since the search has found it last.
+    /// Makes this match the best, since the search has found it last.
     pub fn set(&mut self, start: S, end: usize, slots: &[Slot])
         requires { length slots.now ≡ length self.old.row }
         ensures found { best_of self.new ≡ Some (S.told start, end, slots.now) }
@@ -72,7 +72,7 @@ impl<S: Beginning> Best<S> {
         &self.row
     }
 
-    /// Lets the slots hold this, which another search has found.
+    /// Sets the slots to these, which another search has found.
     pub fn set_row(&mut self, row: &[Option<usize>])
         requires { length row.now ≡ length self.old.row }
         ensures { self.new ≡ record self.old { row = row.now } }

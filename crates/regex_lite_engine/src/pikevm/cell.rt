@@ -12,7 +12,7 @@ use std::mem::size_of;
 pub enum Frame {
     /// To explore a place.
     Explore(u32),
-    /// To let a slot hold again what it held, since the branch that marked it is left.
+    /// To restore what a slot held, since the branch that marked it is abandoned.
     Restore { slot: u32, old: Slot },
 }
 
@@ -23,8 +23,9 @@ pub enum Side {
     Second,
 }
 
-/// Parts of what is numbered alike: places, frames, and the threads of two lists. They have nothing
-/// else to do with one another, and lie together so that one request gives memory for all of them.
+/// What belongs to one number: to the place, the frame and the threads of both lists that have it.
+/// These have nothing else to do with one another, and lie together so that one request gives
+/// memory for all of them.
 #[derive(Copy)]
 pub struct Cell<S: Beginning> {
     /// The round in which the place with this number was entered last.
@@ -38,7 +39,7 @@ pub struct Cell<S: Beginning> {
     second_place: u32,
 }
 
-// What is derived would clone one field after another.
+// A derived `clone` would copy one field after another.
 impl<S: Beginning> Clone for Cell<S> {
     ghost use Rattle.std.specs.Prelude.{⊤};
 
@@ -51,13 +52,13 @@ impl<S: Beginning> Clone for Cell<S> {
     }
 }
 
-// A search has one for each place.
+// A search has one cell for each place.
 const _: () = prove!(size_of::<Cell<usize>>() == 48);
 
-// One for several patterns has larger ones.
+// A search for several patterns has larger cells.
 const _: () = prove!(size_of::<Cell<Origin>>() == 64);
 
-// One that is asked only for an end has smaller ones.
+// A search that is asked only for an end has smaller cells.
 const _: () = prove!(size_of::<Cell<Unkept>>() == 32);
 
 impl Side {

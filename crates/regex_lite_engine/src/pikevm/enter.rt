@@ -1,4 +1,4 @@
-//! One place entered: what its arrows offer.
+//! Entering a place: what its arrows offer.
 ghost use Rattle.std.specs.Prelude.{◌≡◌, ◌+◌, ◌^◌, ◌≤◌, ◌<◌, ◌∷◌, ℕ, length, true};
 ghost use Rattle.regex_lite_syntax.specs.Ranges.{in_ranges};
 ghost use Rattle.regex_lite_syntax.specs.Sets.{just};
@@ -27,8 +27,8 @@ pub enum Onward {
     Complete,
 }
 
-/// Returns the first place that this one offers at this position. The others are put on the
-/// stack, and what it offers at the next position after the threads there.
+/// Returns the first place that this one offers at this position. The others are pushed onto the
+/// stack, and what it offers at the next position is added to the threads there.
 #[inline(always)]
 pub fn enter<S: Beginning, const READY: bool>(
     place: &Place,
@@ -95,7 +95,7 @@ fn is_in_set(set: &MappedClass, after: Option<char>) -> bool
     }
 }
 
-/// Goes on after the character, where it is read.
+/// Goes on after the character, if it is read.
 fn read_on<S: Beginning, const READY: bool>(reads: bool, to: u32, start: S, memory: &mut Memory<S>)
     requires room { length memory.old.next < memory.old.room }
     requires ready { READY ≡ true → memory.old.ready ≡ true }
@@ -118,7 +118,7 @@ fn mark<S: Beginning, const READY: bool>(slot: u32, at: usize, memory: &mut Memo
 {
     let row = memory.row();
     if (slot as usize) < row.len() {
-        // Where nothing else is left to do, nobody asks what the slot held.
+        // If nothing else is left to do, what the slot held isn't needed again.
         if !memory.is_done() {
             let old = row[slot as usize];
             memory.push::<READY>(Frame::Restore { slot, old });

@@ -17,7 +17,7 @@ const MOST_ROUNDS: u64 = 1 << 63;
 /// Up to this number of cells are made ready at once, which costs less than one after another.
 const FEW: usize = 32;
 
-/// The working memory of a search. It is asked for by one request, or by two where slots are kept.
+/// The working memory of a search. It is allocated by one request, or by two if slots are kept.
 #[derive(Drop)]
 pub struct Memory<S: Beginning> {
     /// One for each place of the graph from `low` on. There is room for all, and those that a
@@ -141,7 +141,7 @@ impl<S: Beginning> Memory<S> {
         self.rows.first()
     }
 
-    /// Lets a slot of that row hold this.
+    /// Sets a slot of that row to this.
     pub fn put(&mut self, slot: u32, held: Slot)
         requires { slot < length self.old.row }
         ensures { self.new ≡ record self.old { row = slice_set self.old.row slot held } }

@@ -88,7 +88,7 @@ pub(super) fn provide<S: Beginning, const READY: bool>(
 
 /// Makes at least `count` cells ready, and at least twice as many as before if there are that many,
 /// so that a long search seldom gets here. Returns the first place whose cell is ready.
-// Not inlined, so that a search has no more than the test in its loop.
+// Not inlined, so that the loop of a search has only the test.
 #[inline(never)]
 fn make_ready<S: Beginning>(cells: &mut Vec<Cell<S>>, low: usize, count: usize) -> usize
     requires more { length cells.old.items < count }

@@ -7,12 +7,12 @@ use crate::pikevm::slot::Slot;
 use std::alloc::{AllocError, Global};
 use std::marker::Model;
 
-/// A fixed number of rows of one width. All their memory is asked for at once, and none if the
+/// A fixed number of rows of one width. All their memory is requested at once, and none if the
 /// width is 0.
 #[derive(Drop)]
 pub struct Rows {
-    /// The rows one after the other, up to the last that was come to: a search needs few of them,
-    /// and to fill the others would cost more than a short search. They are as good as blank.
+    /// The rows one after the other, up to the last one reached: a search needs few of them, and
+    /// filling the others would cost more than a short search. They count as blank.
     slots: Vec<Slot>,
     width: usize,
     count: usize,
@@ -64,7 +64,7 @@ impl Rows {
         &self.slots[..self.width]
     }
 
-    /// Lets a slot of the first row hold this.
+    /// Sets a slot of the first row to this.
     pub fn put(&mut self, slot: u32, held: Slot)
         requires some { 0 < length self.old }
         requires inside { slot < length (slice_index_or self.old 0 []) }
@@ -74,7 +74,7 @@ impl Rows {
         self.slots[slot as usize] = held;
     }
 
-    /// Writes a row over another one.
+    /// Copies a row over another one.
     pub fn copy(&mut self, from: usize, to: usize)
         requires from { from < length self.old }
         requires to { to < length self.old }
@@ -89,8 +89,8 @@ impl Rows {
         }
     }
 
-    /// The same where a row has slots.
-    // Not inlined, so that a search without slots has no more than the test in its loop.
+    /// Like `copy`, for rows that have slots.
+    // Not inlined, so that the loop of a search without slots has only the test.
     #[inline(never)]
     fn copy_slots(&mut self, from: usize, to: usize)
         requires from { from < length self.old }
@@ -103,7 +103,7 @@ impl Rows {
         let start = from * self.width;
         let place = to * self.width;
         let end = start.max(place) + self.width;
-        // Apart, so that the one that takes most calls has no more to keep than it needs.
+        // Two functions, so that the one for most calls keeps no more than it needs.
         if self.slots.len() < end {
             copy_filled(&mut self.slots, start, place, self.width, end);
         } else {
@@ -111,7 +111,7 @@ impl Rows {
         }
     }
 
-    /// Takes all marks from a row.
+    /// Clears a row.
     pub fn clear(&mut self, row: usize)
         requires { row < length self.old }
         ensures { self.new ≡ slice_set self.old row
@@ -123,8 +123,7 @@ impl Rows {
     }
 }
 
-/// Lets all slots be there up to this number, those that are new with nothing marked. There is room
-/// for them.
+/// Extends the slots with blank ones up to this number, if they are fewer. There is room for them.
 fn fill_to(slots: &mut Vec<Slot>, end: usize)
     requires { end ≤ vec_capacity slots.old }
     ensures items { slots.new.items
@@ -136,7 +135,7 @@ fn fill_to(slots: &mut Vec<Slot>, end: usize)
     }
 }
 
-/// Copies a row of this width, once all slots up to this end are there.
+/// Extends the slots up to this end, and copies a row of this width.
 #[inline(never)]
 fn copy_filled(slots: &mut Vec<Slot>, from: usize, to: usize, width: usize, end: usize)
     requires room { end ≤ vec_capacity slots.old }
@@ -170,7 +169,7 @@ fn copy_row(slots: &mut Vec<Slot>, from: usize, to: usize, width: usize)
     }
 }
 
-/// Writes over a row of this width that nothing is marked.
+/// Clears a row of this width.
 fn clear_row(slots: &mut Vec<Slot>, from: usize, width: usize)
     requires { from + width ≤ length slots.old.items }
     ensures cleared { slots.new.items ≡ take from slots.old.items

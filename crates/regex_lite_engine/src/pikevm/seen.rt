@@ -20,7 +20,7 @@ impl<S: Beginning> Memory<S> {
         self.round += 1;
     }
 
-    /// Makes all cells ready, where the rest is little beside the rounds that have been.
+    /// Makes all cells ready, if few are left compared with the rounds so far.
     fn make_rest_ready(&mut self)
         ensures { self.new ≡ record self.old { ready = self.new.ready } }
     {

@@ -11,7 +11,7 @@ use crate::pikevm::memory::Memory;
 use crate::pikevm::ready::provide;
 
 impl<S: Beginning> Memory<S> {
-    /// Puts the frame on top.
+    /// Pushes the frame.
     pub fn push<const READY: bool>(&mut self, frame: Frame)
         requires room { length self.old.frames < length self.old.rounds }
         requires ready { READY ≡ true → self.old.ready ≡ true }
@@ -23,7 +23,7 @@ impl<S: Beginning> Memory<S> {
         self.depth += 1;
     }
 
-    /// Puts all these places on it, the first on top.
+    /// Pushes all these places, the first on top.
     pub fn push_all<const READY: bool>(&mut self, places: &[u32])
         requires room { length places.now + length self.old.frames ≤ length self.old.rounds }
         requires ready { READY ≡ true → self.old.ready ≡ true }
@@ -35,7 +35,7 @@ impl<S: Beginning> Memory<S> {
         }
     }
 
-    /// Takes the top frame off.
+    /// Pops the top frame.
     pub fn pop(&mut self) -> Option<Frame>
         ensures { MatchOption result
             ((self.old.frames ≡ []) × (self.new ≡ self.old))

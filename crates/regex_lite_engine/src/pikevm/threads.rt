@@ -19,8 +19,8 @@ impl<S: Beginning> Memory<S> {
         self.len
     }
 
-    /// Takes up a thread of the position: its row is that which is followed. Returns its place, and
-    /// what is kept of where its way began.
+    /// Takes up a thread of the position: its row becomes that of the way that is followed. Returns
+    /// its place, and what is kept of where its way began.
     pub fn load(&mut self, k: usize) -> (u32, S)
         requires { k < length self.old.threads }
         ensures thread { thread_at self.old.threads k ≡ (result.0, S.told result.1, self.new.row) }
@@ -47,7 +47,7 @@ impl<S: Beginning> Memory<S> {
         self.rows.clear(0);
     }
 
-    /// Adds a thread to the next position, with the row that is followed.
+    /// Adds a thread to the next position, with the row of the way that is followed.
     pub fn push_next<const READY: bool>(&mut self, place: u32, start: S)
         requires room { length self.old.next < self.old.room }
         requires ready { READY ≡ true → self.old.ready ≡ true }

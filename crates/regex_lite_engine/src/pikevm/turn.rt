@@ -25,8 +25,8 @@ impl<S: Beginning> Cache<S> {
 
     /// Goes over the position. Its own starts come last, and only while there is no match. Returns
     /// whether a match is complete there.
-    // Inlined with all that it calls, though searches with an automaton call it too: else a turn
-    // costs a quarter more.
+    // Inlined with all that it calls, though searches with an automaton call it too: otherwise a
+    // turn costs a quarter more.
     #[inline(always)]
     pub fn turn<P: Patterns>(&mut self, patterns: &P, here: Here) -> bool
         requires ready { IsBetween (P.table patterns.now) self.old }

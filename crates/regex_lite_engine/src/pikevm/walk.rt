@@ -1,4 +1,5 @@
-//! The walk over one position: from a place over all that its arrows lead to without reading.
+//! The walk at one position: from a place to all that its arrows lead to without reading a
+//! character.
 ghost use Rattle.std.specs.Prelude.{◌≡◌, ◌+◌, ◌≤◌, ◌<◌, ◌++◌, [], ◌∷◌};
 ghost use Rattle.std.specs.Prelude.{None, length, replicate, true};
 ghost use Rattle.regex_lite_engine.specs.Graph.Stored.{places_of};
@@ -24,8 +25,9 @@ pub struct Walk<S: Beginning> {
 }
 
 impl<S: Beginning> Walk<S> {
-    /// Takes up a thread of the position, or one of its own starts after them: the row is that
-    /// which is followed. Returns the place to explore, and what is kept of where the way began.
+    /// Takes up a thread of the position, or one of its own starts after them: its row becomes that
+    /// of the way that is followed. Returns the place to explore, and what is kept of where the way
+    /// began.
     #[inline(always)]
     pub fn take_up<P: Patterns>(&mut self, k: usize, patterns: &P, at: usize) -> (u32, S)
         requires { k < length self.old.memory.threads + length (P.starts patterns.now) }
@@ -73,7 +75,7 @@ impl<S: Beginning> Walk<S> {
         self.explore_in::<READY>(first, patterns.table(), here, start)
     }
 
-    /// The same in a table.
+    /// Like `explore`, in a table.
     #[inline(always)]
     fn explore_in<const READY: bool>(
         &mut self,

@@ -18,7 +18,7 @@ pub struct Here {
 impl Here {
     ghost use Rattle.regex_lite_engine.specs.Search.Standing.{IsHere};
 
-    /// The place at this offset.
+    /// The position at this offset.
     pub fn at(haystack: &str, at: usize) -> Here
         requires { IsCharBoundary haystack.now at }
         ensures here { IsHere (chars haystack.now) (position_at haystack.now at) result }
@@ -32,7 +32,7 @@ impl Here {
         }
     }
 
-    /// The place after the next character.
+    /// The position after the next character.
     #[inline(always)]
     pub fn next(self, haystack: &str) -> Here
         requires { (p : ℕ) × IsHere (chars haystack.now) p self × IsSome self.after }
@@ -60,7 +60,7 @@ pub fn byte_len(c: char) -> usize
     if c.is_ascii() { 1 } else { wide_len(c) }
 }
 
-/// The same of a character that is not ASCII.
+/// The same for a character that is not ASCII.
 // Not inlined, so that an ASCII one takes a single test.
 #[inline(never)]
 fn wide_len(c: char) -> usize

@@ -17,7 +17,7 @@ use crate::search::list_skip::pass_over_all;
 use crate::search::patterns::{Patterns, Start};
 use std::alloc::{AllocError, Global};
 
-/// Patterns, and those of them that may start at the position that was come to last.
+/// Patterns, and those of them that may start at the position reached last.
 #[derive(Drop)]
 pub struct ListPatterns<'g> {
     list: &'g GraphList,
@@ -104,7 +104,7 @@ fn list_starts(heads: &ListHeads, haystack: &str, here: Here, numbers: &mut Vec<
     }
 }
 
-/// Leaves those of these patterns that may start by their third character too, which comes after
+/// Keeps only those of these patterns that may start by their third character too: the one after
 /// the second here, if there is one.
 fn keep_by_third(heads: &ListHeads, haystack: &str, second: Here, numbers: &mut Vec<u32>)
     requires { (p : ℕ) × IsHere (chars haystack.now) p second }

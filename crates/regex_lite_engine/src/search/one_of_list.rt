@@ -10,7 +10,7 @@ use crate::nfa::table::Table;
 use crate::search::here::Here;
 use crate::search::patterns::{Patterns, Start};
 
-/// A pattern of a list, and whether it may start at the position that was come to last.
+/// A pattern of a list, and whether it may start at the position reached last.
 #[derive(Drop)]
 pub struct OneOfList<'g> {
     list: &'g GraphList,

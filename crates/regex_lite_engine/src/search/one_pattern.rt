@@ -6,7 +6,7 @@ use crate::search::here::Here;
 use crate::search::patterns::{Patterns, Start};
 use crate::search::skip::pass_over;
 
-/// A pattern, and whether it may start at the position that was come to last.
+/// A pattern, and whether it may start at the position reached last.
 #[derive(Drop)]
 pub struct OnePattern<'g> {
     pub graph: &'g Graph,

@@ -27,7 +27,7 @@ pub trait Patterns {
     /// The places where they are entered, in the order of their numbers.
     ghost entries: { Self → List ℕ };
 
-    /// Those that may start at the position that was come to last.
+    /// Those that may start at the position reached last.
     ghost starts: { Self → List Start };
 
     /// Their places.

@@ -49,7 +49,7 @@ fn can_begin(heads: &Heads, bytes: &[u8], here: Here) -> bool
 }
 
 /// [`Heads::may_go_on`].
-// Not inlined, so that a search which knows no second character has no more than the test for it.
+// Not inlined, so that a search which knows no second character costs no more than the test for it.
 #[inline(never)]
 fn may_go_on(heads: &Heads, bytes: &[u8], at: usize) -> bool
     requires { at ≤ length bytes.now }

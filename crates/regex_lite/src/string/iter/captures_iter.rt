@@ -70,8 +70,8 @@ impl Regex {
 /// The groups of all matches of a haystack, match after match: an iterator that
 /// [`Regex::captures_iter`] makes.
 ///
-/// After the last match, and after an error, it gives `None`, and goes on giving it. The groups
-/// borrow the haystack alone, and outlive the iterator and the regex.
+/// After the last match, and after an error, it always gives `None`. The groups borrow the haystack
+/// alone, and outlive the iterator and the regex.
 #[derive(Drop)]
 pub struct CaptureMatches<'r, 'h> {
     scan: GroupScan<'h, Searcher<'r>>,

@@ -75,7 +75,7 @@ impl<'h> Cursor<'h> {
         }
     }
 
-    /// In the same place with nothing to come.
+    /// At the same offset, with nothing to come.
     pub fn at_end(self) -> Cursor<'h>
         ensures haystack { result.haystack.now ≡ self.entry.haystack.now }
         ensures ended { result.ended ≡ self.entry.ended }

@@ -40,8 +40,8 @@ impl Regex {
         Matches::new(self, haystack, None)
     }
 
-    /// The matches that [`Regex::find_iter`] gives after one that ended at this offset; `None`
-    /// stands for its start. So a list of matches can be gone on with.
+    /// The matches that [`Regex::find_iter`] gives after one that ended at this offset; with
+    /// `None`, all of them. So a list of matches can be resumed.
     ///
     /// Condition: the offset is on a character boundary of the haystack.
     ///
@@ -76,8 +76,8 @@ impl Regex {
 
 /// The matches of a haystack, one after another: an iterator that [`Regex::find_iter`] makes.
 ///
-/// After the last match it gives `None`, and goes on giving it. The matches borrow the haystack
-/// alone, and outlive the iterator and the regex.
+/// After the last match it always gives `None`. The matches borrow the haystack alone, and outlive
+/// the iterator and the regex.
 #[derive(Drop)]
 pub struct Matches<'r, 'h> {
     scan: Scan<'h, Searcher<'r>>,

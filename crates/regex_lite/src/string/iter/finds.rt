@@ -22,10 +22,10 @@ pub(crate) trait Finds {
     /// What is searched for.
     ghost Sought: { Type 0 };
 
-    /// What a search answers where there is a match.
+    /// What a search returns if there is a match.
     ghost Answer: { Type 0 };
 
-    /// What it says that was found.
+    /// What an answer says was found.
     ghost found_of: { Answer → Found };
 
     /// The number of the pattern.
@@ -40,7 +40,7 @@ pub(crate) trait Finds {
     /// This many slots are kept for the groups.
     ghost AreSlotsForGroups: { Sought → (slots : ℕ) → Type 0 };
 
-    /// The memory of these groups can be taken for others.
+    /// The memory of these groups can be reused for others.
     ghost CanReuse: { Sought → Groups → Type 0 };
 
     /// What is searched for.
@@ -61,8 +61,8 @@ pub(crate) trait Finds {
         ensures sought { sought self.new ≡ sought self.old }
         ensures slots { length (slots self.new) ≡ length (slots self.old) };
 
-    /// The groups of the last match, which was found in this haystack. They may take the memory of
-    /// the spare ones, where there are some.
+    /// The groups of the last match, which was found in this haystack. They may reuse the memory of
+    /// the spare ones, if there are any.
     fn captures<'h>(
         &self,
         haystack: &'h str,

@@ -83,7 +83,7 @@ impl<'h, F: Finds + Drop> GroupScan<'h, F> {
         }
     }
 
-    /// Takes groups back that it gave, so that the next ones take their memory.
+    /// Takes back groups that it gave, so that the next ones reuse their memory.
     pub fn take_back(&mut self, caps: Captures<'h>)
         requires { F.CanReuse (F.sought self.old.finder) caps }
         ensures { self.new ≡ self.old }

@@ -35,7 +35,7 @@ impl<'h, F: Finds + Drop> Model for Scan<'h, F> {
       ended = scan.cursor.ended;
     } };
 
-    // Where no more may come, nothing rests on it.
+    // Needed only as long as more may come.
     ghost invariant = { λ scan. scan.cursor.limit ≢ Some 0 → IsAfterAnswer F.found_of
         (F.IsAnswer (F.sought scan.finder) (chars scan.cursor.haystack.now)) scan.cursor };
 }

@@ -80,8 +80,8 @@ impl Regex {
 
 /// The pieces of a haystack between its matches: an iterator that [`Regex::split`] makes.
 ///
-/// After the last piece it gives `None`, and goes on giving it. The pieces borrow the haystack
-/// alone, and outlive the iterator and the regex.
+/// After the last piece it always gives `None`. The pieces borrow the haystack alone, and outlive
+/// the iterator and the regex.
 #[derive(Debug, Drop)]
 pub struct Split<'r, 'h> {
     matches: Matches<'r, 'h>,
@@ -128,8 +128,8 @@ impl<'r, 'h> FusedIterator for Split<'r, 'h> {}
 
 /// At most a given number of pieces of a haystack: the iterator that [`Regex::splitn`] returns.
 ///
-/// After the last piece it gives `None`, and goes on giving it. The pieces borrow the haystack
-/// alone, and outlive the iterator and the regex.
+/// After the last piece it always gives `None`. The pieces borrow the haystack alone, and outlive
+/// the iterator and the regex.
 #[derive(Debug, Drop)]
 pub struct SplitN<'r, 'h> {
     pieces: Pieces<'r, 'h>,

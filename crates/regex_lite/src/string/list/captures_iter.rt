@@ -74,8 +74,8 @@ impl RegexList {
 /// The groups of all matches of several patterns in a haystack, match after match, each with the
 /// number of its pattern: an iterator that [`RegexList::captures_iter`] makes.
 ///
-/// After the last match, and after an error, it gives `None`, and goes on giving it. The groups
-/// borrow the haystack alone, and outlive the iterator and the list.
+/// After the last match, and after an error, it always gives `None`. The groups borrow the haystack
+/// alone, and outlive the iterator and the list.
 #[derive(Drop)]
 pub struct ListCaptureMatches<'r, 'h> {
     scan: GroupScan<'h, ListSearcher<'r>>,

@@ -44,8 +44,8 @@ impl RegexList {
         })
     }
 
-    /// The matches that [`RegexList::find_iter`] gives after one that ended at this offset; `None`
-    /// stands for its start. So a list of matches can be gone on with.
+    /// The matches that [`RegexList::find_iter`] gives after one that ended at this offset; with
+    /// `None`, all of them. So a list of matches can be resumed.
     ///
     /// Condition: the offset is on a character boundary of the haystack.
     ///
@@ -83,8 +83,8 @@ impl RegexList {
 /// The matches of several patterns in a haystack, one after another, each with the number of its
 /// pattern: an iterator that [`RegexList::find_iter`] makes.
 ///
-/// After the last match it gives `None`, and goes on giving it. The matches borrow the haystack
-/// alone, and outlive the iterator and the list.
+/// After the last match it always gives `None`. The matches borrow the haystack alone, and outlive
+/// the iterator and the list.
 #[derive(Drop)]
 pub struct ListMatches<'r, 'h> {
     scan: Scan<'h, ListSearcher<'r>>,

@@ -1,6 +1,6 @@
 //! With which third character a match of one of several patterns can go on.
 //!
-//! Most candidates that the first two characters leave are none by the third, so that a search
+//! Most candidates that the first two characters leave are ruled out by the third, so a search
 //! enters few. A pattern has a mask of 32 bits, each of which stands for all characters whose codes
 //! leave the same remainder.
 ghost use Rattle.std.specs.Prelude.{◌≡◌, ℕ, Option, Some, IfOk, IsTrue};
@@ -48,7 +48,7 @@ impl Thirds {
         Ok(Thirds { masks })
     }
 
-    /// Leaves those of these patterns that may have this third character.
+    /// Keeps only those of these patterns that may have this third character.
     pub(crate) fn keep(&self, third: char, numbers: &mut Vec<u32>)
         ensures kept { numbers.new.items
             ≡ filter (may_go_on self.now (Some third)) numbers.old.items }
