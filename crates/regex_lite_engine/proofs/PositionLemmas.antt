@@ -1,15 +1,82 @@
 -- The positions of offsets: of the haystack's start and end, of a position, and of the next one.
-use Rattle.std.proofs.Common.{◌≡◌, ◌++◌, ◌+◌, ℕ, suc, List, length, drop}
-use Rattle.std.proofs.Common.{slice_get, Some, sym, ap, ◌∙◌, chars, IsUtf8, arith}
+use Rattle.std.proofs.Common.{◌≡◌, ◌++◌, ◌+◌, ◌<◌, ◌≤◌, ◌⊎◌, inl, inr, ℕ, zero, suc, List, [], ◌∷◌}
+use Rattle.std.proofs.Common.{length, take, drop, sum_by, slice_get, Some, refl, sym, ap, subst}
+use Rattle.std.proofs.Common.{◌∙◌, chars, IsUtf8, arith, length-append}
 use Rattle.std.specs.Prelude.{IsCharBoundary}
 use Rattle.std.specs.Char.{len_utf8}
-use lib.Utf8.{encode}
+use lib.Utf8.{encode, encodes}
+use Rattle.std.proofs.lemmas.Bool.{cases_order}
+use Rattle.std.proofs.lemmas.List.{take-append-drop, length-take-le}
 use Rattle.std.proofs.lemmas.Option.{slice_get_within}
-use Rattle.std.proofs.lemmas.Str.{IsUtf8-drop, chars-nil, chars_past_char}
-use Rattle.regex_lite_engine.specs.Search.Offsets.{position_at, search_start, IsOffset}
-use Rattle.regex_lite_engine.proofs.OffsetLemmas.{boundary_at, offset_next}
-use Rattle.regex_lite_engine.proofs.search.here.OffsetLemmas.{after_at, same_position}
-pub use Rattle.regex_lite_engine.proofs.search.here.OffsetLemmas.{position_is}
+use Rattle.std.proofs.lemmas.Str.{encodes-chars, chars-append, IsUtf8-take, IsUtf8-drop, chars-nil}
+use Rattle.std.proofs.lemmas.Str.{chars_from_encodes, chars_past_char}
+use Rattle.regex_lite_syntax.specs.Text.{after}
+use Rattle.regex_lite_engine.specs.Search.Offsets.{offset, position_at, search_start, IsOffset}
+use Rattle.regex_lite_engine.proofs.OffsetLemmas.{boundary_at, length_encodes, offset_less}
+use Rattle.regex_lite_engine.proofs.OffsetLemmas.{offset_next, rest_at, utf8_rest}
+
+-- the characters that follow a place
+pub chars_at : (bs : List ℕ) (p at : ℕ) → IsUtf8 bs → IsOffset (chars bs) p at
+    → chars (drop at bs) ≡ drop p (chars bs)
+chars_at bs p at u (le, e) =
+    let same : encodes (chars bs) ≡ bs = encodes-chars bs u in
+    let cut : encodes (drop p (chars bs)) ≡ drop at bs =
+    sym (rest_at (chars bs) p) ∙ ap (drop (offset (chars bs) p)) same
+    ∙ ap (λ z. drop z bs) (sym e) in
+    sym (chars_from_encodes (drop p (chars bs)) (drop at bs)
+    (subst IsUtf8 cut (utf8_rest (chars bs) p (subst IsUtf8 (sym same) u))) cut)
+
+pub chars_cut : (bs : List ℕ) (at : ℕ) → IsUtf8 bs → IsCharBoundary bs at
+    → chars bs ≡ chars (take at bs) ++ chars (drop at bs)
+chars_cut bs at u b =
+    ap chars (sym (take-append-drop at bs))
+    ∙ chars-append (take at bs) (drop at bs) (IsUtf8-take bs at u b)
+
+pub position_is : (bs : List ℕ) (at : ℕ) → IsUtf8 bs → IsCharBoundary bs at
+    → IsOffset (chars bs) (position_at bs at) at
+position_is bs at u b = (within, spans)
+  where
+    xs : List ℕ
+    xs = chars (take at bs)
+
+    ys : List ℕ
+    ys = chars (drop at bs)
+
+    both : chars bs ≡ xs ++ ys
+    both = chars_cut bs at u b
+
+    within : position_at bs at ≤ length (chars bs)
+    within = omega (arith, ap length both, length-append xs ys)
+
+    front : (us cs : List ℕ) → take (length us) (us ++ cs) ≡ us
+    front [] cs = refl
+    front (a ∷ us) cs = ap (λ z. a ∷ z) (front us cs)
+
+    spans : at ≡ offset (chars bs) (position_at bs at)
+    spans =
+        sym (length-take-le at bs b.0)
+        ∙ ap length (sym (encodes-chars (take at bs) (IsUtf8-take bs at u b))) ∙ length_encodes xs
+        ∙ ap (sum_by len_utf8) (sym (front xs ys))
+        ∙ ap (λ z. sum_by len_utf8 (take (length xs) z)) (sym both)
+
+-- an offset has one position
+pub same_position : (cs : List ℕ) (p q : ℕ) → p ≤ length cs → q ≤ length cs
+    → offset cs p ≡ offset cs q → p ≡ q
+same_position cs p q lp lq e = go (cases_order p q)
+  where
+    go : (p ≡ q) ⊎ ((p < q) ⊎ (q < p)) → p ≡ q
+    go (inl d) = d
+    go (inr (inl lt)) = let less = offset_less cs p q lt lq in absurd (omega (arith, less, e))
+    go (inr (inr lt)) = let less = offset_less cs q p lt lp in absurd (omega (arith, less, e))
+
+get_drop : (p : ℕ) (cs : List ℕ) → slice_get (drop p cs) 0 ≡ slice_get cs p
+get_drop zero cs = refl
+get_drop (suc p) [] = refl
+get_drop (suc p) (c ∷ cs) = get_drop p cs
+
+pub after_at : (bs : List ℕ) (p at : ℕ) → IsUtf8 bs → IsOffset (chars bs) p at
+    → slice_get (chars (drop at bs)) 0 ≡ after (chars bs) p
+after_at bs p at u is = ap (λ z. slice_get z 0) (chars_at bs p at u is) ∙ get_drop p (chars bs)
 
 pub first_position : (bytes : List ℕ) → position_at bytes 0 ≡ 0
 first_position bytes = ap length chars-nil

@@ -1,11 +1,11 @@
 -- lemmas that several proofs here share
 pub mod AgainLemmas
 pub mod BoundLemmas
-pub mod CountLemmas
 pub mod EnterLemmas
 pub mod EndLemmas
 pub mod InStepLemmas
 pub mod InStepMatchLemmas
+pub mod InStepNextLemmas
 pub mod OwnPartLemmas
 pub mod PassLemmas
 pub mod RoomLemmas
@@ -14,6 +14,5 @@ pub mod StateLemmas
 pub mod StepLemmas
 pub mod ThreadLemmas
 pub mod TurnLemmas
-pub mod OfferedLemmas
 pub mod WalkLemmas
 pub mod WentLemmas

@@ -1,11 +1,12 @@
 -- lemmas that several proofs here share
 pub mod BlockLemmas
+pub mod CountLemmas
 pub mod ListSkipLemmas
 pub mod MarkLemmas
 pub mod OfferLemmas
-pub mod PositionLemmas
 pub mod RecordLemmas
 pub mod SkipLemmas
 pub mod OutcomeLemmas
 pub mod ListOutcomeLemmas
 pub mod OneStartLemmas
+pub mod PlaceLemmas

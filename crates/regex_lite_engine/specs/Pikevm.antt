@@ -1,5 +1,4 @@
 -- What the functions of the search by ordered sets promise one another.
-pub mod Beginnings
 pub mod Machine
 pub mod Cells
 pub mod InStep
@@ -10,4 +9,3 @@ pub mod Room
 pub mod Turns
 pub mod Searching
 pub mod Passing
-pub mod Outcomes

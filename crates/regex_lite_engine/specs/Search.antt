@@ -11,6 +11,11 @@ pub mod Bounds
 pub mod Explored
 pub mod NumberedAnswer
 pub mod NumberedList
+pub mod Beginnings
+pub mod Rows
+pub mod NumberedOutcomes
+pub mod Counting
+pub mod Offers
 pub mod Standing
 pub mod Slots
 pub mod Starts

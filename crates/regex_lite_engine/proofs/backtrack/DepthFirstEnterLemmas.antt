@@ -5,8 +5,8 @@ use Rattle.std.proofs.lemmas.Bool.{cases_lt}
 use Rattle.regex_lite_engine.specs.Backtrack.DepthFirst as walk
 use Rattle.regex_lite_engine.specs.Search.Explored as explored
 use Rattle.regex_lite_engine.specs.Search.Explored.{NotAfter, StartsAt}
-use Rattle.regex_lite_engine.specs.Pikevm.InStep as offered
-use Rattle.regex_lite_engine.specs.Pikevm.InStep.{StartsBelow}
+use Rattle.regex_lite_engine.specs.Search.Offers as offered
+use Rattle.regex_lite_engine.specs.Search.Offers.{StartsBelow}
 use Rattle.regex_lite_engine.proofs.backtrack.DepthFirstLemmas.{at_starts}
 use Rattle.regex_lite_engine.proofs.laws.search.WayOrderLemmas.{NotAfter-trans, NotAfter-append}
 use Rattle.regex_lite_engine.proofs.search.RecordLemmas.{or_dead}

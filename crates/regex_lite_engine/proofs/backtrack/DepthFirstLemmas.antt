@@ -6,8 +6,8 @@ use Rattle.std.proofs.lemmas.Bool.{cases_lt, cases_eq}
 use Rattle.regex_lite_engine.specs.Backtrack.DepthFirst as walk
 use Rattle.regex_lite_engine.specs.Search.Explored as explored
 use Rattle.regex_lite_engine.specs.Search.Explored.{NotAfter, StartsAt}
-use Rattle.regex_lite_engine.specs.Pikevm.InStep as offered
-use Rattle.regex_lite_engine.specs.Pikevm.InStep.{StartsBelow}
+use Rattle.regex_lite_engine.specs.Search.Offers as offered
+use Rattle.regex_lite_engine.specs.Search.Offers.{StartsBelow}
 use Rattle.regex_lite_engine.proofs.search.RecordLemmas.{or_dead}
 use Rattle.regex_lite_engine.proofs.search.OfferLemmas.{preferred_before, below_front, below_up}
 use Rattle.regex_lite_engine.proofs.OptionLemmas.{not_there}

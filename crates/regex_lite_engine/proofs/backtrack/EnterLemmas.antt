@@ -24,19 +24,17 @@ use Rattle.regex_lite_engine.specs.Graph.Renumbered.{arrow_count}
 use Rattle.regex_lite_engine.specs.Graph.Stored.{place_of}
 use Rattle.regex_lite_engine.specs.Search.Marks.{Marks, marked, over, mark_of}
 use Rattle.regex_lite_engine.specs.Search.Offsets.{offset, IsOffset, HasSlots}
-use Rattle.regex_lite_engine.specs.Pikevm.InStep.{Offer}
-use Rattle.regex_lite_engine.specs.Pikevm.Machine.{Row}
+use Rattle.regex_lite_engine.specs.Search.Offers.{Offer, Node}
+use Rattle.regex_lite_engine.specs.Search.Rows.{Row}
 use Rattle.regex_lite_engine.specs.Search.NumberedAnswer.{place_with, is_complete}
 use Rattle.regex_lite_engine.specs.Search.NumberedAnswer.{numbered_step}
-use Rattle.regex_lite_engine.specs.Pikevm.Outcomes.{IsNumberedOutcome}
-use Rattle.regex_lite_engine.specs.Pikevm.Walking.{Node}
+use Rattle.regex_lite_engine.specs.Search.NumberedOutcomes.{IsNumberedOutcome}
 use Rattle.regex_lite_engine.specs.Backtrack.Walking.{IsWalking, SearchFrom, WayHolds}
 use Rattle.regex_lite_engine.proofs.OffsetLemmas.{offset_next}
 use Rattle.regex_lite_engine.proofs.backtrack.WalkLemmas.{walk_entered, walk_complete}
-use Rattle.regex_lite_engine.proofs.pikevm.OfferedLemmas.{free_marks, hops, none_offered}
-use Rattle.regex_lite_engine.proofs.pikevm.OfferedLemmas.{one_blocked, open_at}
+use Rattle.regex_lite_engine.proofs.search.PlaceLemmas.{free_marks, hops, none_offered}
+use Rattle.regex_lite_engine.proofs.search.PlaceLemmas.{one_blocked, open_at, one, offered_by}
 use Rattle.regex_lite_engine.proofs.search.MarkLemmas.{slots_set, slots_past}
-use Rattle.regex_lite_engine.proofs.pikevm.WalkLemmas.{one, offered_by}
 use Rattle.regex_lite_engine.proofs.backtrack.NumberedLemmas.{holds_on}
 
 -- nothing is read of the empty set

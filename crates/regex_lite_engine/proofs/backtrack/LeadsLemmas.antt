@@ -16,12 +16,12 @@ use Rattle.regex_lite_engine.specs.Graph.Places.{Place}
 use Rattle.regex_lite_engine.specs.Graph.Stored.{place_of}
 use Rattle.regex_lite_engine.specs.Search.Offsets.{offset, position_at, IsOffset}
 use Rattle.regex_lite_engine.specs.Search.NumberedAnswer.{place_with}
-use Rattle.regex_lite_engine.specs.Pikevm.Outcomes.{IsNumberedOutcome}
+use Rattle.regex_lite_engine.specs.Search.NumberedOutcomes.{IsNumberedOutcome}
 use Rattle.regex_lite_engine.specs.Search.Starts.{IsDeadAt}
 use Rattle.regex_lite_engine.proofs.OffsetLemmas.{offset_less}
 use Rattle.regex_lite_engine.proofs.backtrack.EnterLemmas.{walk_enters, Entered}
 use Rattle.regex_lite_engine.proofs.backtrack.WalkLemmas.{walk_between, walk_passed, walk_started}
-use Rattle.regex_lite_engine.proofs.search.here.OffsetLemmas.{position_is}
+use Rattle.regex_lite_engine.proofs.PositionLemmas.{position_is}
 
 -- with the pair entered
 abbrev pub entered_at : Pairs → (q at : ℕ) → Pairs

@@ -15,11 +15,11 @@ use Rattle.regex_lite_engine.specs.Backtrack.Room.{AreAll, left_in, left_from, l
 use Rattle.regex_lite_engine.specs.Graph.Places.{Place}
 use Rattle.regex_lite_engine.specs.Search.Bounds.{characters_left}
 use Rattle.regex_lite_engine.specs.Search.Offsets.{offset, position_at}
-use Rattle.regex_lite_engine.specs.Pikevm.Room.{lone}
+use Rattle.regex_lite_engine.specs.Search.Counting.{lone}
 use Rattle.regex_lite_engine.proofs.OffsetLemmas.{offset_less}
 use Rattle.regex_lite_engine.proofs.OptionLemmas.{not_there, same_some}
-use Rattle.regex_lite_engine.proofs.pikevm.RoomLemmas.{test_most}
-use Rattle.regex_lite_engine.proofs.search.here.OffsetLemmas.{position_is}
+use Rattle.regex_lite_engine.proofs.search.CountLemmas.{test_most}
+use Rattle.regex_lite_engine.proofs.PositionLemmas.{position_is}
 
 -- a pair that does not lie in the stretch
 stretch_other : (f : Place ℕ → ℕ) (entered : List Bool) (k pair : ℕ) (table : List (Place ℕ))

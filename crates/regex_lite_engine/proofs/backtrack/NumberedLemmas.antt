@@ -5,12 +5,11 @@ use Rattle.regex_lite_syntax.specs.Text.{Text}
 use Rattle.regex_lite_engine.specs.Backtrack.DepthFirst as walk
 use Rattle.regex_lite_engine.specs.Graph.Places.{Place}
 use Rattle.regex_lite_engine.specs.Search.Offsets.{offset}
-use Rattle.regex_lite_engine.specs.Pikevm.InStep.{Offer}
-use Rattle.regex_lite_engine.specs.Pikevm.Machine.{Row}
+use Rattle.regex_lite_engine.specs.Search.Offers.{Offer, Node}
+use Rattle.regex_lite_engine.specs.Search.Rows.{Row}
 use Rattle.regex_lite_engine.specs.Search.NumberedAnswer.{place_with, numbered_step, is_end}
-use Rattle.regex_lite_engine.specs.Pikevm.Outcomes.{IsNumberedOutcome}
+use Rattle.regex_lite_engine.specs.Search.NumberedOutcomes.{IsNumberedOutcome}
 use Rattle.regex_lite_engine.specs.Search.Starts.{IsDeadAt}
-use Rattle.regex_lite_engine.specs.Pikevm.Walking.{Node}
 use Rattle.regex_lite_engine.specs.Backtrack.Walking.{WayHolds}
 use Rattle.regex_lite_engine.proofs.backtrack.DepthFirstEnterLemmas.{
   depth_first_entered,
@@ -23,9 +22,9 @@ use Rattle.regex_lite_engine.specs.Search.Offsets.{HasSlots}
 use Rattle.regex_lite_engine.proofs.laws.LeadsLemmas.{leads_append}
 use Rattle.regex_lite_engine.proofs.laws.search.OverLemmas.{answer_when_over}
 use Rattle.regex_lite_engine.proofs.search.MarkLemmas.{same_slots, marks_append}
-use Rattle.regex_lite_engine.proofs.search.RecordLemmas.{extended}
-use Rattle.regex_lite_engine.proofs.pikevm.WalkLemmas.{same_node, wide, no_more, no_arrow_at}
-use Rattle.regex_lite_engine.proofs.pikevm.WalkLemmas.{offered_by, offers_listed}
+use Rattle.regex_lite_engine.proofs.search.RecordLemmas.{extended, same_node}
+use Rattle.regex_lite_engine.proofs.search.PlaceLemmas.{wide, no_more, no_arrow_at, offered_by}
+use Rattle.regex_lite_engine.proofs.search.PlaceLemmas.{offers_listed}
 
 module _ (table : List (Place ℕ)) (h : Text) (s : ℕ) where
   pub holds_on : (i : ℕ) (row row' : Row) (n : Node) (w : List ℕ) (a : ℕ) (l : Node)

@@ -23,7 +23,7 @@ use Rattle.regex_lite_engine.specs.Graph.Renumbered.{arrow_count}
 use Rattle.regex_lite_engine.specs.Graph.Stored.{LeadBelow, LeadsBelow, place_of}
 use Rattle.regex_lite_engine.specs.Search.Offsets.{position_at}
 use Rattle.regex_lite_engine.proofs.OffsetLemmas.{boundary_at, offset_next}
-use Rattle.regex_lite_engine.proofs.search.here.OffsetLemmas.{position_is}
+use Rattle.regex_lite_engine.proofs.PositionLemmas.{position_is}
 
 explores_map : (qs : List ℕ) (at : ℕ) (frames : List Frame)
     → explores (map (λ q. explore q at) qs ++ frames) ≡ explores frames + length qs

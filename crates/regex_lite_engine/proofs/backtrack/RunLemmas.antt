@@ -17,8 +17,7 @@ use Rattle.regex_lite_engine.specs.Graph.Places.{Place, kept_back_with}
 use Rattle.regex_lite_engine.specs.Graph.Renumbered.{arrow_count, arrows_of}
 use Rattle.regex_lite_engine.specs.Search.Bounds.{characters_left}
 use Rattle.regex_lite_engine.specs.Search.Offsets.{position_at, IsOffset}
-use Rattle.regex_lite_engine.specs.Pikevm.Outcomes.{CanCount}
-use Rattle.regex_lite_engine.specs.Pikevm.Room.{lone}
+use Rattle.regex_lite_engine.specs.Search.Counting.{CanCount, lone}
 use Rattle.regex_lite_engine.specs.Search.Standing.{IsHere}
 use Rattle.regex_lite_engine.specs.Search.Starts.{IsDeadAt}
 use Rattle.regex_lite_engine.proofs.OffsetLemmas.{boundary_at}
@@ -26,9 +25,9 @@ use Rattle.regex_lite_engine.proofs.backtrack.LeadsLemmas.{start_left}
 use Rattle.regex_lite_engine.proofs.backtrack.LeftLemmas.{left_blank, left_most, lone_all}
 use Rattle.regex_lite_engine.proofs.backtrack.PairLemmas.{offset_grows}
 use Rattle.regex_lite_engine.proofs.backtrack.WalkLemmas.{walk_begun}
-use Rattle.regex_lite_engine.proofs.pikevm.EndLemmas.{over_at}
+use Rattle.regex_lite_engine.proofs.search.here.HereLemmas.{over_at}
 use Rattle.regex_lite_engine.proofs.search.OutcomeLemmas.{few_chars}
-use Rattle.regex_lite_engine.proofs.search.here.OffsetLemmas.{chars_at, position_is}
+use Rattle.regex_lite_engine.proofs.PositionLemmas.{chars_at, position_is}
 
 -- nothing comes next at the end alone
 pub over_here : (text : Text) (q : ℕ) (here : Here) → IsHere text q here

@@ -5,7 +5,7 @@ use Rattle.std.proofs.Math.Seq.{drop-cons}
 use Rattle.std.proofs.lemmas.List.{length-map, length-reverse, map-append, reverse-append}
 use Rattle.regex_lite_engine.specs.declared.backtrack.frame.Frame as code
 use Rattle.regex_lite_engine.specs.Backtrack.Machine.{Frame, Held, explore, frame_of}
-use Rattle.regex_lite_engine.specs.Pikevm.Machine.{Row}
+use Rattle.regex_lite_engine.specs.Search.Rows.{Row}
 
 pub held_is : (a b : Held) → a.frames ≡ b.frames → a.row ≡ b.row → a.room ≡ b.room → a ≡ b
 held_is a b f r m =

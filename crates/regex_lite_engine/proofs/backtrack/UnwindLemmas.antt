@@ -5,7 +5,7 @@ use Rattle.regex_lite_engine.specs.Backtrack.Machine.{Frame, explore, restore}
 use Rattle.regex_lite_engine.specs.Backtrack.Room.{explores, FramesBelow}
 use Rattle.regex_lite_engine.specs.Backtrack.Searching.{SlotsBelow, Unwinds, taken_up}
 use Rattle.regex_lite_engine.specs.Graph.Places.{Place}
-use Rattle.regex_lite_engine.specs.Pikevm.Machine.{Row}
+use Rattle.regex_lite_engine.specs.Search.Rows.{Row}
 
 module _ (next : Option (ℕ × ℕ)) (row' : Row) (frames' : List Frame) where
   -- what comes next was among them

@@ -12,13 +12,11 @@ use Rattle.regex_lite_engine.specs.Backtrack.Searching.{Unwinds, taken_up}
 use Rattle.regex_lite_engine.specs.Backtrack.Walking as walk
 use Rattle.regex_lite_engine.specs.Graph.Places.{Place}
 use Rattle.regex_lite_engine.specs.Search.Offsets.{offset, IsOffset}
-use Rattle.regex_lite_engine.specs.Pikevm.InStep.{Offer}
-use Rattle.regex_lite_engine.specs.Pikevm.Machine.{Row}
+use Rattle.regex_lite_engine.specs.Search.Offers.{Offer, Node}
+use Rattle.regex_lite_engine.specs.Search.Rows.{Row, IsBlank}
 use Rattle.regex_lite_engine.specs.Search.NumberedAnswer.{place_with, numbered_step, is_end}
-use Rattle.regex_lite_engine.specs.Pikevm.Outcomes.{IsNumberedOutcome}
-use Rattle.regex_lite_engine.specs.Pikevm.Turns.{IsBlank}
+use Rattle.regex_lite_engine.specs.Search.NumberedOutcomes.{IsNumberedOutcome}
 use Rattle.regex_lite_engine.specs.Search.Starts.{IsDeadAt}
-use Rattle.regex_lite_engine.specs.Pikevm.Walking.{Node}
 use Rattle.regex_lite_engine.specs.Backtrack.Walking.{IsWalking, SearchFrom, WayHolds}
 use Rattle.regex_lite_engine.proofs.backtrack.DepthFirstLemmas.{
   depth_first_begun,
@@ -31,8 +29,9 @@ use Rattle.regex_lite_engine.proofs.backtrack.PairLemmas.{same_pair, offset_grow
 use Rattle.regex_lite_engine.proofs.backtrack.PairLemmas.{none_entered}
 use Rattle.regex_lite_engine.proofs.OptionLemmas.{not_there}
 use Rattle.regex_lite_engine.proofs.search.RecordLemmas as records
-use Rattle.regex_lite_engine.proofs.pikevm.WalkLemmas.{same_node, none_or, wide, offered_by}
-use Rattle.regex_lite_engine.proofs.search.here.OffsetLemmas.{same_position}
+use Rattle.regex_lite_engine.proofs.search.RecordLemmas.{same_node, none_or}
+use Rattle.regex_lite_engine.proofs.search.PlaceLemmas.{wide, offered_by}
+use Rattle.regex_lite_engine.proofs.PositionLemmas.{same_position}
 
 module _ (table : List (Place ℕ)) (search : SearchFrom) where
   open search use {haystack, entry as s, first, from, i}

@@ -15,7 +15,7 @@ use Rattle.regex_lite_engine.specs.Graph.Renumbered.{arrow_count}
 use Rattle.regex_lite_engine.specs.Graph.Stored.{LeadsBelow, place_of}
 use Rattle.regex_lite_engine.specs.Search.Bounds.{StepCounts}
 use Rattle.regex_lite_engine.specs.Search.Offsets.{position_at}
-use Rattle.regex_lite_engine.specs.Pikevm.Room.{lone, weight}
+use Rattle.regex_lite_engine.specs.Search.Counting.{lone, weight}
 use Rattle.regex_lite_engine.proofs.backtrack.LeadsLemmas.{entered_at}
 use Rattle.regex_lite_engine.proofs.backtrack.LeftLemmas.{left_enter, left_room}
 use Rattle.regex_lite_engine.proofs.backtrack.RoomLemmas.{enters_few, enters_within}

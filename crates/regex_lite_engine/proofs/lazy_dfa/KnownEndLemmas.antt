@@ -15,10 +15,10 @@ use Rattle.regex_lite_engine.specs.Graph.NoLooks.{HasNoLooks, RequiresNoLook}
 use Rattle.regex_lite_engine.specs.Graph.Places.{Place, with_arrows, step}
 use Rattle.regex_lite_engine.specs.Graph.Ways.{Leads}
 use Rattle.regex_lite_engine.specs.LazyDfa.Scanning.{best_told}
-use Rattle.regex_lite_engine.specs.Pikevm.Machine.{Row}
-use Rattle.regex_lite_engine.specs.Pikevm.Outcomes.{IsBestOutcome, IsBestOutcomeOf}
-use Rattle.regex_lite_engine.specs.Pikevm.Outcomes.{IsNumberedOutcome, with_start_kept}
-use Rattle.regex_lite_engine.specs.Pikevm.Turns.{best_at}
+use Rattle.regex_lite_engine.specs.Search.Rows.{Row}
+use Rattle.regex_lite_engine.specs.Search.NumberedOutcomes.{IsBestOutcome, IsBestOutcomeOf}
+use Rattle.regex_lite_engine.specs.Search.NumberedOutcomes.{IsNumberedOutcome, with_start_kept}
+use Rattle.regex_lite_engine.specs.Search.NumberedOutcomes.{best_at}
 use Rattle.regex_lite_engine.specs.Search.Answer.{Found}
 use Rattle.regex_lite_engine.specs.Search.Marks.{mark_of, marked, marks_along}
 use Rattle.regex_lite_engine.specs.Search.NumberedAnswer.{place_with, numbered_step}
@@ -28,13 +28,12 @@ use Rattle.regex_lite_engine.specs.Search.Offsets.{offset, position_at, HasSlots
 use Rattle.regex_lite_engine.specs.Search.Preference.{IsPreferred}
 use Rattle.regex_lite_engine.proofs.OffsetLemmas.{boundary_at, offset_less}
 use Rattle.regex_lite_engine.proofs.OptionLemmas.{same_some}
-use Rattle.regex_lite_engine.proofs.PositionLemmas.{position_of}
+use Rattle.regex_lite_engine.proofs.PositionLemmas.{position_of, chars_cut}
 use Rattle.regex_lite_engine.proofs.laws.answer.OrderLemmas as order
 use Rattle.regex_lite_engine.proofs.laws.answer.ReachLemmas.{walk_inside}
 use Rattle.regex_lite_engine.proofs.laws.search.ShorterHaystackLemmas.{leads_onward, same_marks}
 use Rattle.regex_lite_engine.proofs.laws.search.ShorterHaystackLemmas.{way_in_whole, way_up_to}
 use Rattle.regex_lite_engine.proofs.pikevm.EndLemmas.{one_best}
-use Rattle.regex_lite_engine.proofs.search.here.OffsetLemmas.{chars_cut}
 
 -- up to the end, offsets are the same
 same_offset : (haystack : Text) (end p : ℕ) → p ≤ end

@@ -8,7 +8,7 @@ use Rattle.regex_lite_engine.specs.Graph.Places.{Place}
 use Rattle.regex_lite_engine.specs.LazyDfa.Automaton.{Automaton, State, Suits}
 use Rattle.regex_lite_engine.specs.LazyDfa.Scanning.{best_told, IsScanning, IsSince}
 use Rattle.regex_lite_engine.specs.Search.Starts.{AreDeadAt, PassesTo}
-use Rattle.regex_lite_engine.specs.Pikevm.Walking.{Best}
+use Rattle.regex_lite_engine.specs.Search.NumberedOutcomes.{Best}
 use Rattle.regex_lite_engine.proofs.lazy_dfa.ScanLemmas.{is_idle, skipped}
 
 -- a match is searched for where there is none

@@ -20,7 +20,7 @@ use Rattle.regex_lite_engine.specs.Pikevm.Machine.{Thread, thread_at}
 use Rattle.regex_lite_engine.specs.Pikevm.Room.{ThreadsBelow}
 use Rattle.regex_lite_engine.specs.Pikevm.Searching.{IsHit}
 use Rattle.regex_lite_engine.specs.Pikevm.Turns.{best_of}
-use Rattle.regex_lite_engine.specs.Pikevm.Walking.{Best}
+use Rattle.regex_lite_engine.specs.Search.NumberedOutcomes.{Best}
 use Rattle.regex_lite_engine.proofs.lazy_dfa.AlikeLemmas.{alike_at, same_side_of}
 use Rattle.regex_lite_engine.proofs.lazy_dfa.RememberedLemmas.{remembered, set_other, set_there}
 use Rattle.regex_lite_engine.proofs.lazy_dfa.RememberedLemmas.{still_remembers}

@@ -9,8 +9,9 @@ use Rattle.regex_lite_engine.specs.LazyDfa.Automaton.{Automaton}
 use Rattle.regex_lite_engine.specs.LazyDfa.Learning.{IsIn}
 use Rattle.regex_lite_engine.specs.LazyDfa.Running.{IsOnItsWay, Stands}
 use Rattle.regex_lite_engine.specs.LazyDfa.Scanning.{best_told}
-use Rattle.regex_lite_engine.specs.Pikevm.Outcomes.{IsBestOutcomeOf, with_start_kept}
-use Rattle.regex_lite_engine.specs.Pikevm.Turns.{best_at, best_of}
+use Rattle.regex_lite_engine.specs.Search.NumberedOutcomes.{IsBestOutcomeOf, with_start_kept}
+use Rattle.regex_lite_engine.specs.Search.NumberedOutcomes.{best_at}
+use Rattle.regex_lite_engine.specs.Pikevm.Turns.{best_of}
 
 -- one that remembers nothing
 pub empty : Automaton

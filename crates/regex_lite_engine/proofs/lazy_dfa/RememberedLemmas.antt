@@ -20,13 +20,13 @@ use Rattle.regex_lite_engine.specs.LazyDfa.Extending.{Extends}
 use Rattle.regex_lite_engine.specs.LazyDfa.Learning.{IsFirstStart}
 use Rattle.regex_lite_engine.specs.LazyDfa.Intervals.{Intervals, AreIntervalsOf, class_of, side_of}
 use Rattle.regex_lite_engine.specs.Pikevm.Again.{AreAlike, retold, all_retold, best_again}
-use Rattle.regex_lite_engine.specs.Pikevm.Beginnings.{Told, TellsStart, IsTold}
+use Rattle.regex_lite_engine.specs.Search.Beginnings.{Told, TellsStart, IsTold}
 use Rattle.regex_lite_engine.specs.Pikevm.Machine.{Thread}
 use Rattle.regex_lite_engine.specs.Pikevm.Searching.{TurnsAgain}
 use Rattle.regex_lite_engine.specs.Search.Standing.{IsHere}
 use Rattle.regex_lite_engine.specs.Pikevm.Turns.{best_of, IsComing}
 use Rattle.regex_lite_engine.specs.Search.Starts.{AreStartsAt}
-use Rattle.regex_lite_engine.specs.Pikevm.Walking.{Best}
+use Rattle.regex_lite_engine.specs.Search.NumberedOutcomes.{Best}
 use Rattle.regex_lite_engine.proofs.OptionLemmas.{not_there, same_some}
 
 eq_same : (a b : ℕ) → a ≡ b → (a == b) ≡ true

@@ -24,14 +24,16 @@ use Rattle.regex_lite_engine.specs.LazyDfa.Scanning.{best_told, IsIdleAt, IsScan
 use Rattle.regex_lite_engine.specs.LazyDfa.Stored.{way_in}
 use Rattle.regex_lite_engine.specs.Search.Bounds.{StepCounts}
 use Rattle.regex_lite_engine.specs.Search.Offsets.{offset}
-use Rattle.regex_lite_engine.specs.Pikevm.Beginnings.{IsTold, Told}
-use Rattle.regex_lite_engine.specs.Pikevm.InStep.{Offer}
-use Rattle.regex_lite_engine.specs.Pikevm.Machine.{Row, Thread, thread_at}
+use Rattle.regex_lite_engine.specs.Search.Beginnings.{IsTold, Told}
+use Rattle.regex_lite_engine.specs.Search.Offers.{Offer, Node}
+use Rattle.regex_lite_engine.specs.Pikevm.Machine.{Thread, thread_at}
+use Rattle.regex_lite_engine.specs.Search.Rows.{Row}
 use Rattle.regex_lite_engine.specs.Pikevm.Room.{ThreadsBelow}
 use Rattle.regex_lite_engine.specs.Pikevm.Searching.{IsBetween}
 use Rattle.regex_lite_engine.specs.Search.Standing.{IsHere}
 use Rattle.regex_lite_engine.specs.Pikevm.Turns.{best_of, IsComing}
-use Rattle.regex_lite_engine.specs.Pikevm.Walking.{Best, Node, ThreadsHold, WayTold}
+use Rattle.regex_lite_engine.specs.Pikevm.Walking.{ThreadsHold, WayTold}
+use Rattle.regex_lite_engine.specs.Search.NumberedOutcomes.{Best}
 use Rattle.regex_lite_engine.proofs.lazy_dfa.RunLemmas.{moved_on}
 use Rattle.regex_lite_engine.proofs.OptionLemmas.{not_there}
 

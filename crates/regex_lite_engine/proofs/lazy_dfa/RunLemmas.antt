@@ -15,16 +15,16 @@ use Rattle.regex_lite_engine.specs.LazyDfa.Learning.{HasTurned, IsFirstStart, Is
 use Rattle.regex_lite_engine.specs.LazyDfa.Running.{IsOnItsWay}
 use Rattle.regex_lite_engine.specs.Search.Offsets.{offset}
 use Rattle.regex_lite_engine.specs.Search.Bounds.{IsBoundedBy, StepCounts}
-use Rattle.regex_lite_engine.specs.Pikevm.Machine.{Row, Thread}
+use Rattle.regex_lite_engine.specs.Pikevm.Machine.{Thread}
+use Rattle.regex_lite_engine.specs.Search.Rows.{Row}
 use Rattle.regex_lite_engine.specs.Search.NumberedList.{IsEntry}
-use Rattle.regex_lite_engine.specs.Pikevm.Outcomes.{IsFresh, with_start_kept}
-use Rattle.regex_lite_engine.specs.Pikevm.Searching.{IsBetween, IsHit, TurnsAgain}
+use Rattle.regex_lite_engine.specs.Pikevm.Searching.{IsFresh, IsBetween, IsHit, TurnsAgain}
+use Rattle.regex_lite_engine.specs.Search.NumberedOutcomes.{with_start_kept, best_at, Best}
 use Rattle.regex_lite_engine.specs.Search.Standing.{IsHere}
 use Rattle.regex_lite_engine.specs.Search.Starts.{PassesTo}
 use Rattle.regex_lite_engine.specs.Search.Starts.{AreDeadAt, AreStartsAt, IsAmong}
-use Rattle.regex_lite_engine.specs.Pikevm.Turns.{best_at, best_of, IsComing}
-use Rattle.regex_lite_engine.specs.Pikevm.Walking.{Best}
-use Rattle.regex_lite_engine.proofs.search.here.OffsetLemmas.{offset_less}
+use Rattle.regex_lite_engine.specs.Pikevm.Turns.{best_of, IsComing}
+use Rattle.regex_lite_engine.proofs.OffsetLemmas.{offset_less}
 use Rattle.regex_lite_engine.proofs.OptionLemmas.{not_there, same_some}
 use Rattle.regex_lite_engine.proofs.pikevm.PassLemmas.{begun}
 use Rattle.regex_lite_engine.proofs.pikevm.TurnLemmas.{jumped}

@@ -12,13 +12,13 @@ use Rattle.regex_lite_engine.specs.LazyDfa.Automaton.{searching_after, threads_o
 use Rattle.regex_lite_engine.specs.LazyDfa.Intervals.{class_of, side_of}
 use Rattle.regex_lite_engine.specs.LazyDfa.Scanning.{best_told, end_told}
 use Rattle.regex_lite_engine.specs.LazyDfa.Scanning.{IsIdleAt, IsScanning, LedTo}
-use Rattle.regex_lite_engine.specs.Pikevm.Outcomes.{IsBestOutcomeOf, IsNumberedEndOf}
+use Rattle.regex_lite_engine.specs.Search.NumberedOutcomes.{IsBestOutcomeOf, IsNumberedEndOf, Best}
 use Rattle.regex_lite_engine.specs.Search.Standing.{IsHere}
 use Rattle.regex_lite_engine.specs.Search.Starts.{PassesTo}
 use Rattle.regex_lite_engine.specs.Pikevm.Turns.{EndsAt, IsComing}
 use Rattle.regex_lite_engine.specs.Search.Starts.{AreDeadAt}
-use Rattle.regex_lite_engine.specs.Pikevm.Walking.{Best}
-use Rattle.regex_lite_engine.proofs.pikevm.EndLemmas.{ended_all, over_at}
+use Rattle.regex_lite_engine.proofs.pikevm.EndLemmas.{ended_all}
+use Rattle.regex_lite_engine.proofs.search.here.HereLemmas.{over_at}
 use Rattle.regex_lite_engine.proofs.OptionLemmas.{not_there, same_some}
 use Rattle.regex_lite_engine.proofs.pikevm.ShortestLemmas.{shortest_known}
 use Rattle.regex_lite_engine.proofs.pikevm.TurnLemmas.{jumped}

@@ -19,13 +19,13 @@ use Rattle.regex_lite_engine.specs.LazyDfa.Scanning.{IsSince, LedTo}
 use Rattle.regex_lite_engine.specs.LazyDfa.Spots.{EndsScan, IsSpotAt, IsTaken, IsTurn, Takes}
 use Rattle.regex_lite_engine.specs.Search.Offsets.{position_at, IsOffset}
 use Rattle.regex_lite_engine.specs.Search.Standing.{IsHere}
-use Rattle.regex_lite_engine.specs.Pikevm.Outcomes.{IsBestOutcomeOf}
+use Rattle.regex_lite_engine.specs.Search.NumberedOutcomes.{IsBestOutcomeOf}
 use Rattle.regex_lite_engine.specs.Pikevm.Turns.{IsComing}
-use Rattle.regex_lite_engine.proofs.PositionLemmas.{position_of}
+use Rattle.regex_lite_engine.proofs.PositionLemmas.{position_of, after_at}
 use Rattle.regex_lite_engine.proofs.lazy_dfa.ScanLemmas.{led_step, scan_over, scanned_on}
 use Rattle.regex_lite_engine.proofs.OptionLemmas.{same_some}
-use Rattle.regex_lite_engine.proofs.search.here.OffsetLemmas.{after_at, boundary_at, here_next}
-use Rattle.regex_lite_engine.proofs.search.here.OffsetLemmas.{moved}
+use Rattle.regex_lite_engine.proofs.OffsetLemmas.{boundary_at}
+use Rattle.regex_lite_engine.proofs.search.here.HereLemmas.{here_next, moved}
 
 module _ (table : List (Place ℕ)) (entries : List ℕ) (h : Text) (low : ℕ) where
   pub since_on : (p q a b c : ℕ) → p ≤ q → IsSince table entries h low p a b

@@ -16,13 +16,15 @@ use Rattle.regex_lite_engine.specs.Graph.Stored.{place_of}
 use Rattle.regex_lite_engine.specs.Pikevm.Again.{FitsAlike, retold, all_retold, best_again}
 use Rattle.regex_lite_engine.specs.Pikevm.Again.{state_retold}
 use Rattle.regex_lite_engine.specs.declared.search.patterns.Start.{Start}
-use Rattle.regex_lite_engine.specs.Pikevm.Beginnings.{Told}
+use Rattle.regex_lite_engine.specs.Search.Beginnings.{Told}
 use Rattle.regex_lite_engine.specs.Pikevm.Entering.{Enters, pushing, reading_on, reads}
-use Rattle.regex_lite_engine.specs.Pikevm.Machine.{Row, Frame, explore, restore, Thread}
+use Rattle.regex_lite_engine.specs.Pikevm.Machine.{Frame, explore, restore, Thread}
+use Rattle.regex_lite_engine.specs.Search.Rows.{Row}
 use Rattle.regex_lite_engine.specs.Pikevm.Machine.{State}
 use Rattle.regex_lite_engine.specs.Pikevm.Room.{WalksTo}
 use Rattle.regex_lite_engine.specs.Pikevm.Turns.{begun, with_starts}
-use Rattle.regex_lite_engine.specs.Pikevm.Walking.{Best, SearchAt, IsWalking}
+use Rattle.regex_lite_engine.specs.Pikevm.Walking.{SearchAt, IsWalking}
+use Rattle.regex_lite_engine.specs.Search.NumberedOutcomes.{Best}
 use Rattle.regex_lite_engine.proofs.pikevm.EnterLemmas.{reads_none, walk_enters}
 use Rattle.regex_lite_engine.proofs.pikevm.WalkLemmas.{marked_in, walk_framed}
 

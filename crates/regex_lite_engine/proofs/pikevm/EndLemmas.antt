@@ -1,15 +1,13 @@
 -- The end of a search, and its counts.
-use Rattle.std.proofs.Common.{◌≡◌, ℕ, zero, suc, ◌+◌, ◌*◌, ◌-◌, ◌<◌, ◌≤◌, ◌⊎◌, inl, inr, Bool}
+use Rattle.std.proofs.Common.{◌≡◌, ℕ, suc, ◌+◌, ◌*◌, ◌-◌, ◌<◌, ◌≤◌, ◌⊎◌, inl, inr, Bool}
 use Rattle.std.proofs.Common.{true, false, List, [], ◌∷◌, length, slice_get, Option, Some}
 use Rattle.std.proofs.Common.{None, if◌then◌else◌, IsTrue, refl, sym, ap, subst, ◌∙◌, arith}
 use Rattle.std.specs.Option.{IsSome}
 use Rattle.std.proofs.lemmas.List.{nil_from_length}
-use Rattle.std.proofs.lemmas.Bool.{cases_lt}
 use Rattle.std.proofs.lemmas.Option.{slice_get_within}
 use Rattle.std.proofs.Math.Nat.{mul-suc}
 use Rattle.regex_lite_syntax.specs.Text.{Text, before, after}
 use Rattle.regex_lite_syntax.specs.Tree.Looks.{holds_between}
-use Rattle.regex_lite_engine.specs.declared.search.here.Here.{Here}
 use Rattle.regex_lite_engine.specs.Graph.Places.{Condition, Arrow, Place, complete}
 use Rattle.regex_lite_engine.specs.Graph.Places.{with_arrows, free, holding, reading, taken}
 use Rattle.regex_lite_engine.specs.Graph.Places.{behind, arrived, arrow_taken, step_from}
@@ -19,17 +17,16 @@ use Rattle.regex_lite_engine.specs.Search.Explored.{IsGrown}
 use Rattle.regex_lite_engine.specs.Search.NumberedAnswer.{place_with, numbered_step}
 use Rattle.regex_lite_engine.specs.Search.NumberedAnswer.{is_end, IsNumberedFound}
 use Rattle.regex_lite_engine.specs.Search.NumberedList.{StartsOf, IsOverOf}
-use Rattle.regex_lite_engine.specs.Pikevm.InStep.{Offer, StartsBelow}
-use Rattle.regex_lite_engine.specs.Search.Standing.{IsHere}
-use Rattle.regex_lite_engine.specs.Pikevm.Outcomes.{IsBestOutcome, IsBestOutcomeOf}
+use Rattle.regex_lite_engine.specs.Search.Offers.{Offer, StartsBelow, Node}
+use Rattle.regex_lite_engine.specs.Search.NumberedOutcomes.{IsBestOutcome, IsBestOutcomeOf, Best}
 use Rattle.regex_lite_engine.specs.Pikevm.Turns.{IsComing, FromIs}
 use Rattle.regex_lite_engine.specs.Pikevm.Machine.{Thread}
-use Rattle.regex_lite_engine.specs.Pikevm.Walking.{Node, Best, BestHolds, InStep, ThreadsHold}
+use Rattle.regex_lite_engine.specs.Pikevm.Walking.{BestHolds, InStep, ThreadsHold}
 use Rattle.regex_lite_engine.proofs.laws.several.OverListLemmas.{list_answer_when_over}
 use Rattle.regex_lite_engine.proofs.search.OneStartLemmas.{only_entry}
 use Rattle.regex_lite_engine.proofs.pikevm.WalkLemmas.{none_held}
 use Rattle.regex_lite_engine.proofs.OptionLemmas.{not_there, same_some}
-use Rattle.regex_lite_engine.proofs.search.PositionLemmas as deep
+use Rattle.regex_lite_engine.proofs.pikevm.InStepNextLemmas as deep
 
 taken_in_text : (h : Text) (a : Condition) (i j : ℕ) → i ≤ length h → taken h a i ≡ Some j
     → j ≤ length h
@@ -184,21 +181,6 @@ bound_more a b p s m low so_far more =
     let next : p + 1 - s ≡ suc (p - s) = omega arith in
     let e : m * (p + 1 - s) ≡ m * (p - s) + m = ap (λ z. m * z) next ∙ mul-suc m (p - s) in
     omega (arith, e, so_far, more)
-
--- at the end of the text
-pub over_at : {Q : Type 0} (h : Text) (p : ℕ) (x : Here) → IsHere h p x → (x.after ≡ None) ⊎ Q
-    → (p ≡ length h) ⊎ Q
-over_at h p x is (inr q) = inr q
-over_at h p x is (inl e) = inl (go (cases_lt p (length h)))
-  where
-    there : (cs : List ℕ) (q : ℕ) → q < length cs → slice_get cs q ≡ None → ⊥
-    there [] q lt e = omega (arith, lt)
-    there (c ∷ cs) zero lt e = not_there (sym e)
-    there (c ∷ cs) (suc q) lt e = there cs q (omega (arith, lt)) e
-
-    go : (p < length h) ⊎ (length h ≤ p) → p ≡ length h
-    go (inl lt) = absurd (there h p lt (sym is.ahead ∙ e))
-    go (inr le) = let within = is.inside in omega (arith, le, within)
 
 pub some_after : (o : Option ℕ) (r : Bool) → r ≡ false → (o ≡ None → IsTrue r) → IsSome o
 some_after None r e f = absurd (false_true r e (f refl))

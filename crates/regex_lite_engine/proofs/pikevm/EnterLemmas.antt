@@ -9,7 +9,7 @@ use Rattle.regex_lite_syntax.specs.Text.{Text, after}
 use Rattle.regex_lite_syntax.specs.Ranges.{in_ranges}
 use Rattle.regex_lite_syntax.specs.Sets.{Set, just}
 use Rattle.regex_lite_syntax.specs.Tree.Looks.{holds_between}
-use Rattle.regex_lite_engine.specs.Pikevm.Beginnings.{Told}
+use Rattle.regex_lite_engine.specs.Search.Beginnings.{Told}
 use Rattle.regex_lite_engine.specs.declared.nfa.place.Place as code
 use Rattle.regex_lite_engine.specs.declared.nfa.place.Place.TheVariants as stored
 use Rattle.regex_lite_engine.specs.declared.search.here.Here.{Here}
@@ -20,19 +20,21 @@ use Rattle.regex_lite_engine.specs.Graph.Renumbered.{arrow_count}
 use Rattle.regex_lite_engine.specs.Graph.Stored.{place_of}
 use Rattle.regex_lite_engine.specs.Search.Marks.{Marks, marked, over, mark_of}
 use Rattle.regex_lite_engine.specs.Pikevm.Entering.{Enters, pushing, reading_on, reads}
-use Rattle.regex_lite_engine.specs.Pikevm.InStep.{Offer}
-use Rattle.regex_lite_engine.specs.Pikevm.Machine.{Row, Frame, explore, restore, Thread, State}
+use Rattle.regex_lite_engine.specs.Search.Offers.{Offer, Node}
+use Rattle.regex_lite_engine.specs.Pikevm.Machine.{Frame, explore, restore, Thread, State}
+use Rattle.regex_lite_engine.specs.Search.Rows.{Row}
 use Rattle.regex_lite_engine.specs.Search.NumberedAnswer.{place_with, is_complete}
 use Rattle.regex_lite_engine.specs.Search.NumberedAnswer.{numbered_step}
 use Rattle.regex_lite_engine.specs.Search.Standing.{IsHere}
 use Rattle.regex_lite_engine.specs.Search.Offsets.{HasSlots}
-use Rattle.regex_lite_engine.specs.Pikevm.Walking.{Node, Best, WayTold, FramesHold}
+use Rattle.regex_lite_engine.specs.Pikevm.Walking.{WayTold, FramesHold}
+use Rattle.regex_lite_engine.specs.Search.NumberedOutcomes.{Best}
 use Rattle.regex_lite_engine.specs.Pikevm.Walking.{ThreadsHold, SearchAt, IsWalking}
 use Rattle.regex_lite_engine.proofs.search.MarkLemmas.{slots_set, slots_past}
 use Rattle.regex_lite_engine.proofs.OptionLemmas.{not_there, same_some}
-use Rattle.regex_lite_engine.proofs.pikevm.OfferedLemmas.{free_marks, hops, no_second}
-use Rattle.regex_lite_engine.proofs.pikevm.OfferedLemmas.{none_offered, one_blocked, open_at}
-use Rattle.regex_lite_engine.proofs.pikevm.WalkLemmas.{one, wide, offered_by}
+use Rattle.regex_lite_engine.proofs.search.PlaceLemmas.{free_marks, hops, no_second, none_offered}
+use Rattle.regex_lite_engine.proofs.search.PlaceLemmas.{one_blocked, open_at, one, wide}
+use Rattle.regex_lite_engine.proofs.search.PlaceLemmas.{offered_by}
 use Rattle.regex_lite_engine.proofs.pikevm.WalkLemmas.{marked_in, holds_on, held_append}
 use Rattle.regex_lite_engine.proofs.pikevm.WalkLemmas.{walk_entered, walk_read, walk_complete}
 

@@ -4,7 +4,8 @@ use Rattle.std.proofs.Common.{◌++◌, Option, Some, None, refl, sym, ap, subst
 use Rattle.regex_lite_engine.specs.Search.Preference.{IsPreferred}
 use Rattle.regex_lite_engine.specs.Search.Explored.{NotAfter, IsAnswered, IsGrown}
 use Rattle.regex_lite_engine.specs.Pikevm.InStep as walk
-use Rattle.regex_lite_engine.specs.Pikevm.InStep.{StartsBelow}
+use Rattle.regex_lite_engine.specs.Search.Offers as offer
+use Rattle.regex_lite_engine.specs.Search.Offers.{StartsBelow}
 use Rattle.regex_lite_engine.proofs.pikevm.InStepLemmas as deep
 use Rattle.regex_lite_engine.proofs.search.RecordLemmas.{or_dead}
 use Rattle.regex_lite_engine.proofs.OptionLemmas.{not_there, same_some}
@@ -16,10 +17,10 @@ module _ (N : Type 0) (step : N → ℕ → Option N) (same : (x y : N) → (x �
     (width : N → ℕ) (no_more : (n : N) (k : ℕ) → width n ≤ k → step n k ≡ None)
     (IsStart : List ℕ → N → Type 0) (is_end : N → Bool) (position : N → ℕ) where
   abbrev Offer : Type 0
-  Offer = walk.Offer N
+  Offer = offer.Offer N
 
   abbrev In : N → List ℕ → List Offer → Type 0
-  In n w os = walk.In N n w os
+  In n w os = offer.In N n w os
 
   abbrev Recorded : Type 0
   Recorded = N → Option (List ℕ)

@@ -7,11 +7,11 @@ use Rattle.std.proofs.lemmas.List.{length-take}
 use Rattle.std.proofs.lemmas.List.Sums.{sum_by-cons}
 use Rattle.regex_lite_engine.specs.Graph.Parts.{IsOwnPart, IsWithin, row_of}
 use Rattle.regex_lite_engine.specs.Graph.Places.{Place}
-use Rattle.regex_lite_engine.specs.Pikevm.InStep.{Offer}
+use Rattle.regex_lite_engine.specs.Search.Offers.{Offer, Node}
 use Rattle.regex_lite_engine.specs.Search.NumberedAnswer.{numbered_step, is_end}
 use Rattle.regex_lite_engine.specs.Search.NumberedList.{StartsOf}
 use Rattle.regex_lite_engine.specs.Pikevm.Room.{left_of}
-use Rattle.regex_lite_engine.specs.Pikevm.Walking.{Node, InStep, SearchAt}
+use Rattle.regex_lite_engine.specs.Pikevm.Walking.{InStep, SearchAt}
 use Rattle.regex_lite_engine.proofs.laws.search.NumberedWayLemmas.{leads_within}
 use Rattle.regex_lite_engine.proofs.laws.search.RecordedWayLemmas.{traced}
 

@@ -8,11 +8,11 @@ use Rattle.regex_lite_engine.specs.Graph.Parts.{IsOwnPart, row_of}
 use Rattle.regex_lite_engine.specs.Graph.Places.{Place}
 use Rattle.regex_lite_engine.specs.Graph.Renumbered.{arrows_of}
 use Rattle.regex_lite_engine.specs.Search.Bounds.{IsBoundedBy}
-use Rattle.regex_lite_engine.specs.Pikevm.Outcomes.{IsFresh}
+use Rattle.regex_lite_engine.specs.Pikevm.Searching.{IsFresh}
 use Rattle.regex_lite_engine.specs.Pikevm.Machine.{Thread}
 use Rattle.regex_lite_engine.specs.Pikevm.Passing.{GoesOnAt, IsUnderWay}
 use Rattle.regex_lite_engine.specs.Pikevm.Turns.{IsComing}
-use Rattle.regex_lite_engine.specs.Pikevm.Walking.{Best}
+use Rattle.regex_lite_engine.specs.Search.NumberedOutcomes.{Best}
 use Rattle.regex_lite_engine.specs.declared.search.here.Here.{Here}
 use Rattle.regex_lite_engine.specs.Search.Standing.{IsHere}
 use Rattle.regex_lite_engine.proofs.pikevm.EndLemmas.{bound_more}

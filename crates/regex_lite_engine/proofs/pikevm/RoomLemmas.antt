@@ -12,7 +12,7 @@ use Rattle.regex_lite_syntax.specs.declared.class.ClassRange.{ClassRange}
 use Rattle.regex_lite_syntax.specs.Ranges.{in_ranges}
 use Rattle.regex_lite_syntax.specs.Sets.{Set, just}
 use Rattle.regex_lite_syntax.specs.Tree.Looks.{holds_between}
-use Rattle.regex_lite_engine.specs.Pikevm.Beginnings.{Told}
+use Rattle.regex_lite_engine.specs.Search.Beginnings.{Told}
 use Rattle.regex_lite_engine.specs.declared.nfa.place.Place as code
 use Rattle.regex_lite_engine.specs.declared.nfa.place.Place.TheVariants as stored
 use Rattle.regex_lite_engine.specs.declared.search.here.Here.{Here}
@@ -28,6 +28,7 @@ use Rattle.regex_lite_engine.specs.Pikevm.Room.{left_of, explores, FramesBelow, 
 use Rattle.regex_lite_engine.proofs.pikevm.EnterLemmas.{reads_none}
 use Rattle.regex_lite_engine.proofs.OptionLemmas.{not_there, same_some}
 use Rattle.regex_lite_engine.proofs.pikevm.ThreadLemmas.{at_end, at_front}
+use Rattle.regex_lite_engine.proofs.search.CountLemmas.{test_most}
 
 test_same : (n x : ℕ) → (if n == n then 0 else x) ≡ 0
 test_same n x = go (n == n) (search (rules, nat_tests))
@@ -42,10 +43,6 @@ test_other r n x d = go (r == n) (grind (arith, nat_tests))
     go : (b : Bool) → b ≡ false → (if b then 0 else x) ≡ x
     go true e = cc
     go false e = refl
-
-pub test_most : (b : Bool) (x : ℕ) → (if b then 0 else x) ≤ x
-test_most true x = omega arith
-test_most false x = omega arith
 
 pub left_enter : (f : Place ℕ → ℕ) (now : ℕ) (rounds : List ℕ) (table : List (Place ℕ)) (q : ℕ)
     (x : Place ℕ)

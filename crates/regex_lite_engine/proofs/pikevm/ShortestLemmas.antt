@@ -11,22 +11,23 @@ use Rattle.regex_lite_engine.specs.Graph.Places.{with_arrows, free, holding, rea
 use Rattle.regex_lite_engine.specs.Graph.Places.{behind, arrived, arrow_taken, step_from}
 use Rattle.regex_lite_engine.specs.Graph.Ways.{Leads, NoneTwice}
 use Rattle.regex_lite_engine.specs.Search.Offsets.{offset}
-use Rattle.regex_lite_engine.specs.Pikevm.Beginnings.{Told}
+use Rattle.regex_lite_engine.specs.Search.Beginnings.{Told}
 use Rattle.regex_lite_engine.specs.Search.Explored.{IsAnswered, IsDead}
 use Rattle.regex_lite_engine.specs.Search.NumberedList.{IsEntry, StartsOf, IsMatchOfAny}
 use Rattle.regex_lite_engine.specs.Search.NumberedAnswer.{place_with, numbered_step}
 use Rattle.regex_lite_engine.specs.Search.NumberedAnswer.{is_end, IsNumberedMatch}
-use Rattle.regex_lite_engine.specs.Pikevm.InStep.{Offer, In}
-use Rattle.regex_lite_engine.specs.Pikevm.Machine.{Row, Thread}
-use Rattle.regex_lite_engine.specs.Pikevm.Outcomes.{IsNumberedEnd, IsNumberedEndOf}
+use Rattle.regex_lite_engine.specs.Search.Offers.{Offer, In, Node}
+use Rattle.regex_lite_engine.specs.Pikevm.Machine.{Thread}
+use Rattle.regex_lite_engine.specs.Search.Rows.{Row}
+use Rattle.regex_lite_engine.specs.Search.NumberedOutcomes.{IsNumberedEnd, IsNumberedEndOf, Best}
 use Rattle.regex_lite_engine.specs.Pikevm.Turns.{IsComing, EndsAt}
-use Rattle.regex_lite_engine.specs.Pikevm.Walking.{Node, Best, BestHolds, InStep}
+use Rattle.regex_lite_engine.specs.Pikevm.Walking.{BestHolds, InStep}
 use Rattle.regex_lite_engine.proofs.laws.several.OverListLemmas.{differ}
 use Rattle.regex_lite_engine.proofs.laws.search.RecordedWayLemmas.{traced, recorded_once}
 use Rattle.regex_lite_engine.proofs.pikevm.EndLemmas.{step_in_text}
 use Rattle.regex_lite_engine.proofs.search.OneStartLemmas.{only_entry}
 use Rattle.regex_lite_engine.proofs.OptionLemmas.{not_there, same_some}
-use Rattle.regex_lite_engine.proofs.search.here.OffsetLemmas.{same_position}
+use Rattle.regex_lite_engine.proofs.PositionLemmas.{same_position}
 
 -- no arrow leads back to an earlier position
 taken_on : (haystack : Text) (a : Condition) (i j : ℕ) → taken haystack a i ≡ Some j → i ≤ j

@@ -3,8 +3,9 @@ use Rattle.std.proofs.Common.{◌≡◌, ℕ, zero, suc, ◌-◌, ◌<◌, ◌�
 use Rattle.std.proofs.Common.{None, [], ◌∷◌, ◌++◌, length, replicate, refl, sym, ap, ◌∙◌}
 use Rattle.std.proofs.Common.{arith}
 use Rattle.regex_lite_engine.specs.declared.search.patterns.Start.{Start}
-use Rattle.regex_lite_engine.specs.Pikevm.Beginnings.{Told}
-use Rattle.regex_lite_engine.specs.Pikevm.Machine.{Row, State, Thread, thread_at}
+use Rattle.regex_lite_engine.specs.Search.Beginnings.{Told}
+use Rattle.regex_lite_engine.specs.Pikevm.Machine.{State, Thread, thread_at}
+use Rattle.regex_lite_engine.specs.Search.Rows.{Row}
 use Rattle.regex_lite_engine.specs.Pikevm.Turns.{begun}
 use Rattle.regex_lite_engine.proofs.OptionLemmas.{not_there, same_some}
 

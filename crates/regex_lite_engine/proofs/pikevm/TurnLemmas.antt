@@ -1,5 +1,5 @@
 -- From one position to the next.
-use Rattle.std.proofs.Common.{◌≡◌, ℕ, zero, suc, ◌+◌, ◌-◌, ◌^◌, ◌<◌, ◌≤◌, ◌⊎◌, inl, inr}
+use Rattle.std.proofs.Common.{◌≡◌, ℕ, suc, ◌+◌, ◌-◌, ◌^◌, ◌<◌, ◌≤◌, ◌⊎◌, inl, inr}
 use Rattle.std.proofs.Common.{List, [], ◌∷◌, ◌++◌, length}
 use Rattle.std.proofs.Common.{replicate, slice_index, slice_index_or, sum_by, Option}
 use Rattle.std.proofs.Common.{Some, None, refl, sym, ap, subst, ◌∙◌, arith, length-append}
@@ -15,30 +15,34 @@ use Rattle.regex_lite_engine.specs.Graph.Parts.{IsOwnPart, IsWithin}
 use Rattle.regex_lite_engine.specs.Graph.Renumbered.{arrow_count, arrows_of}
 use Rattle.regex_lite_engine.specs.Search.Preference.{IsPreferred}
 use Rattle.regex_lite_engine.specs.Search.Explored.{IsDead}
-use Rattle.regex_lite_engine.specs.Pikevm.InStep as walk
-use Rattle.regex_lite_engine.specs.Pikevm.InStep.{Offer, StartsBelow}
+use Rattle.regex_lite_engine.specs.Search.Offers as offer
+use Rattle.regex_lite_engine.specs.Search.Offers.{Offer, StartsBelow, Node}
 use Rattle.regex_lite_engine.specs.Search.NumberedList.{IsEntry, StartsOf}
-use Rattle.regex_lite_engine.specs.Pikevm.Machine.{BestState, Row, Thread, thread_at, State}
+use Rattle.regex_lite_engine.specs.Pikevm.Machine.{BestState, Thread, thread_at, State}
+use Rattle.regex_lite_engine.specs.Search.Rows.{Row, IsBlank}
 use Rattle.regex_lite_engine.specs.Search.NumberedAnswer.{numbered_step, is_end}
 use Rattle.regex_lite_engine.specs.declared.search.patterns.Start.{Start}
-use Rattle.regex_lite_engine.specs.Pikevm.Beginnings.{Told, TellsStart}
+use Rattle.regex_lite_engine.specs.Search.Beginnings.{Told, TellsStart}
 use Rattle.regex_lite_engine.specs.Search.Standing.{IsHere}
-use Rattle.regex_lite_engine.specs.Pikevm.Room.{HasRoom, ThreadsBelow, lone}
+use Rattle.regex_lite_engine.specs.Pikevm.Room.{HasRoom, ThreadsBelow}
+use Rattle.regex_lite_engine.specs.Search.Counting.{lone}
 use Rattle.regex_lite_engine.specs.Pikevm.Turns.{begun, with_starts}
 use Rattle.regex_lite_engine.specs.Search.Starts.{IsAmong, AreFrom}
 use Rattle.regex_lite_engine.specs.Pikevm.Turns.{Between, StepsTo, IsComing}
 use Rattle.regex_lite_engine.specs.Search.Starts.{AreStartsAt}
-use Rattle.regex_lite_engine.specs.Pikevm.Turns.{Begun, FromIs, IsBlank, IsReady}
+use Rattle.regex_lite_engine.specs.Pikevm.Turns.{Begun, FromIs, IsReady}
 use Rattle.regex_lite_engine.specs.Search.Starts.{IsDeadAt}
-use Rattle.regex_lite_engine.specs.Pikevm.Walking.{Node, Best, SearchAt}
+use Rattle.regex_lite_engine.specs.Pikevm.Walking.{SearchAt}
+use Rattle.regex_lite_engine.specs.Search.NumberedOutcomes.{Best}
 use Rattle.regex_lite_engine.specs.Pikevm.Walking.{ThreadsHold, InStep}
-use Rattle.regex_lite_engine.proofs.OptionLemmas.{not_there, same_some}
+use Rattle.regex_lite_engine.proofs.OptionLemmas.{not_there}
 use Rattle.regex_lite_engine.proofs.pikevm.OwnPartLemmas.{recorded_within}
-use Rattle.regex_lite_engine.proofs.search.PositionLemmas as deep
+use Rattle.regex_lite_engine.proofs.pikevm.InStepNextLemmas as deep
 use Rattle.regex_lite_engine.proofs.pikevm.RoomLemmas.{left_most}
 use Rattle.regex_lite_engine.proofs.pikevm.StateLemmas.{BeginsRound}
 use Rattle.regex_lite_engine.proofs.pikevm.ThreadLemmas.{at_front, at_back, begun_at, begun_length}
 use Rattle.regex_lite_engine.proofs.pikevm.WalkLemmas.{held_append, none_held}
+use Rattle.regex_lite_engine.proofs.search.MarkLemmas.{blank_row}
 
 pub sum_lone : (table : List (Place ℕ)) → sum_by lone table ≡ length table
 sum_lone [] = refl
@@ -150,7 +154,7 @@ module _ (table : List (Place ℕ)) (at : SearchAt) where
 
   -- the offers of a position's starts
   begun_own_way : (from : ℕ) (starts : List Start) → AreFrom s from starts → first ≤ p → p ≤ last
-      → (m : Node) (v : List ℕ) → walk.In Node m v (begun_offers p starts) →
+      → (m : Node) (v : List ℕ) → offer.In Node m v (begun_offers p starts) →
       StartsOf s first last v m × (m.1 ≡ p) × ((rest : List ℕ) × (v ≡ p ∷ rest))
       × ((number : ℕ) × (from ≤ number) × (v ≡ p ∷ (number ∷ [])))
   begun_own_way from [] are low high m v i = absurd i
@@ -166,7 +170,7 @@ module _ (table : List (Place ℕ)) (at : SearchAt) where
       (r.0, r.1, r.2, (r.3.0, omega (arith, le, r.3.1), r.3.2))
 
   begun_ordered : (from : ℕ) (starts : List Start) → AreFrom s from starts → first ≤ p → p ≤ last
-      → walk.Ordered Node (begun_offers p starts)
+      → offer.Ordered Node (begun_offers p starts)
   begun_ordered from [] are low high = tt
   begun_ordered from (start ∷ starts) are low high = (
     λ m v i. (let r = begun_own_way (suc start.number) starts are.2 low high m v i in
@@ -176,7 +180,7 @@ module _ (table : List (Place ℕ)) (at : SearchAt) where
   )
 
   among_offers : (number entry : ℕ) (starts : List Start) → IsAmong number entry starts
-      → walk.In Node (entry, p) (p ∷ (number ∷ [])) (begun_offers p starts)
+      → offer.In Node (entry, p) (p ∷ (number ∷ [])) (begun_offers p starts)
   among_offers number entry [] is = absurd is
   among_offers number entry (start ∷ starts) (inl e) =
       inl ((λ t. (e.1 t, p)), (λ t. p ∷ (e.0 t ∷ [])))
@@ -291,7 +295,7 @@ module _ (table : List (Place ℕ)) (at : SearchAt) (here : Here) (cur : List Th
     where
       offered : (front : List ℕ) (n : Node) → StartsOf s first last front n
           → StartsBelow (suc p) front → StartsBelow p front
-          ⊎ (walk.In Node n front (begun_offers p turn.starts) ⊎ Dead n)
+          ⊎ (offer.In Node n front (begun_offers p turn.starts) ⊎ Dead n)
       offered front n (i, number, entry, low, high, is, e, f) below = elim (cases_lt i p) [
         | inl less ↦ inl (subst (StartsBelow p) (sym e) less)
         | inr le ↦
@@ -301,11 +305,11 @@ module _ (table : List (Place ℕ)) (at : SearchAt) (here : Here) (cur : List Th
       ]
         where
           by_each : i ≡ p → IsAmong number entry turn.starts ⊎ IsDeadAt table h entry p
-              → walk.In Node n front (begun_offers p turn.starts) ⊎ Dead n
+              → offer.In Node n front (begun_offers p turn.starts) ⊎ Dead n
           by_each same (inl among) =
-              inl (subst (λ z. walk.In Node z front (begun_offers p turn.starts))
+              inl (subst (λ z. offer.In Node z front (begun_offers p turn.starts))
               (sym (f ∙ ap (λ z. (entry, z)) same))
-              (subst (λ z. walk.In Node (entry, p) z (begun_offers p turn.starts))
+              (subst (λ z. offer.In Node (entry, p) z (begun_offers p turn.starts))
               (sym (e ∙ ap (λ z. z ∷ (number ∷ [])) same))
               (among_offers table at number entry turn.starts among)))
           by_each same (inr gone) = inr (subst Dead (sym (f ∙ ap (λ z. (entry, z)) same)) gone)
@@ -407,11 +411,6 @@ begun_below c best starts at cur cur' inside below (inl (none, (blank, blanks, p
         (inside (k - length cur) none few)
 begun_below c best starts at cur cur' inside below (inr (some, same)) =
     subst (λ (t : List Thread). ThreadsBelow c t) (sym same) below
-
-pub blank_row : (w : ℕ) → IsBlank (replicate w None)
-blank_row zero k slot e = absurd (not_there e)
-blank_row (suc w) zero slot e = sym (same_some e)
-blank_row (suc w) (suc k) slot e = blank_row w k slot e
 
 pub start_begun : (starts : List Start) (at : ℕ → Told) (w : ℕ) (best : Best) (ts : List Thread)
     → Begun starts at best ts (with_starts starts at best w ts)

@@ -1,123 +1,71 @@
 -- The steps of a walk over one position of a haystack.
-use Rattle.std.proofs.Common.{◌≡◌, ℕ, zero, suc, ◌<◌, ◌≤◌, ◌⊎◌, inl, inr, IsTrue, List}
+use Rattle.std.proofs.Common.{◌≡◌, ℕ, suc, ◌<◌, ◌⊎◌, inl, inr, IsTrue, List}
 use Rattle.std.proofs.Common.{[], ◌∷◌, ◌++◌, length, slice_set, slice_index, Option, Some}
 use Rattle.std.proofs.Common.{None, refl, sym, ap, subst, ◌∙◌, arith, append_assoc, length-set}
-use Rattle.std.proofs.lemmas.Option.{slice_get_past}
 use Rattle.std.proofs.lemmas.List.{get_or-set_same, get_or-set_other}
 use Rattle.std.proofs.lemmas.Bool.{cases_eq}
 use Rattle.regex_lite_syntax.specs.Text.{Text}
-use Rattle.regex_lite_engine.specs.Pikevm.Beginnings.{Told}
-use Rattle.regex_lite_engine.specs.Graph.Places.{Place, complete, with_arrows}
-use Rattle.regex_lite_engine.specs.Graph.Places.{arrow_taken, step_from}
-use Rattle.regex_lite_engine.specs.Graph.Renumbered.{arrow_count}
+use Rattle.regex_lite_engine.specs.Search.Beginnings.{Told}
+use Rattle.regex_lite_engine.specs.Graph.Places.{Place}
 use Rattle.regex_lite_engine.specs.Search.Marks.{Marks, marked, over, mark_of, marks_along}
 use Rattle.regex_lite_engine.specs.Search.NumberedList.{StartsOf}
-use Rattle.regex_lite_engine.specs.Pikevm.InStep.{Offer}
-use Rattle.regex_lite_engine.specs.Pikevm.Machine.{Row, Frame, explore, Thread, State}
-use Rattle.regex_lite_engine.specs.Search.NumberedAnswer.{place_with, is_complete}
+use Rattle.regex_lite_engine.specs.Search.Offers.{Offer, Node}
+use Rattle.regex_lite_engine.specs.Pikevm.Machine.{Frame, explore, Thread, State}
+use Rattle.regex_lite_engine.specs.Search.Rows.{Row}
+use Rattle.regex_lite_engine.specs.Search.NumberedAnswer.{place_with}
 use Rattle.regex_lite_engine.specs.Search.NumberedAnswer.{numbered_step, is_end}
 use Rattle.regex_lite_engine.specs.Search.Offsets.{offset, HasSlots}
-use Rattle.regex_lite_engine.specs.Pikevm.Walking.{Node, WayTold, FramesHold}
-use Rattle.regex_lite_engine.specs.Pikevm.Walking.{ThreadsHold, InStep, Best, SearchAt, IsWalking}
+use Rattle.regex_lite_engine.specs.Pikevm.Walking.{WayTold, FramesHold}
+use Rattle.regex_lite_engine.specs.Pikevm.Walking.{ThreadsHold, InStep, SearchAt, IsWalking}
+use Rattle.regex_lite_engine.specs.Search.NumberedOutcomes.{Best}
 use Rattle.regex_lite_engine.proofs.laws.LeadsLemmas.{leads_append}
 use Rattle.regex_lite_engine.proofs.pikevm.InStepLemmas as deep
 use Rattle.regex_lite_engine.proofs.pikevm.InStepMatchLemmas as at_match
 use Rattle.regex_lite_engine.proofs.search.MarkLemmas.{marks_append, same_slots}
-use Rattle.regex_lite_engine.proofs.search.OfferLemmas as order
+use Rattle.regex_lite_engine.proofs.search.PlaceLemmas.{wide, no_more, no_arrow_at}
+use Rattle.regex_lite_engine.proofs.search.PlaceLemmas.{offered_by, offers_listed}
 use Rattle.regex_lite_engine.proofs.search.RecordLemmas as records
+use Rattle.regex_lite_engine.proofs.search.RecordLemmas.{same_node, none_or}
 
-pub same_node : (x y : Node) → (x ≡ y) ⊎ (x ≡ y → ⊥)
-same_node (a, b) (c, d) = go (cases_eq a c) (cases_eq b d)
-  where
-    go : (a ≡ c) ⊎ (a ≡ c → ⊥) → (b ≡ d) ⊎ (b ≡ d → ⊥)
-        → (◌≡◌ {A = Node} (a, b) (c, d)) ⊎ (◌≡◌ {A = Node} (a, b) (c, d) → ⊥)
-    go (inl e) (inl f) = inl cc
-    go (inr e) f = inr (λ g. e (ap (λ (z : Node). z.0) g))
-    go (inl e) (inr f) = inr (λ g. f (ap (λ (z : Node). z.1) g))
-
-pub none_or : (o : Option (List ℕ)) → ((v : List ℕ) → o ≡ Some v → ⊥) → o ≡ None
-none_or None f = refl
-none_or (Some v) f = absurd (f v refl)
-
-module _ (table : List (Place ℕ)) (h : Text) where
-  abbrev pub wide : Node → ℕ
-  wide n = arrow_count (place_with table n.0)
-
-  no_more_at : (x : Place ℕ) (i k : ℕ) → arrow_count x ≤ k → step_from h x i k ≡ None
-  no_more_at complete i k le = refl
-  no_more_at (with_arrows arrows) i k le = ap (arrow_taken h i) (slice_get_past arrows k le)
-
-  pub no_more : (n : Node) (k : ℕ) → wide n ≤ k → numbered_step table h n k ≡ None
-  no_more n k le = no_more_at (place_with table n.0) n.1 k le
-
-  pub no_arrow_at : (x : Place ℕ) (i k : ℕ) → IsTrue (is_complete x) → step_from h x i k ≡ None
-  no_arrow_at complete i k e = refl
-  no_arrow_at (with_arrows arrows) i k e = cc
-
-  abbrev pub one : Option Node → List ℕ → List (Offer Node)
-  one None w = []
-  one (Some m) w = (m, w) ∷ []
-
-  -- what a place offers
-  abbrev pub offered_by : Place ℕ → ℕ → List ℕ → ℕ → ℕ → List (Offer Node)
-  offered_by x p w zero k = []
-  offered_by x p w (suc c) k = one (step_from h x p k) (w ++ k ∷ []) ++ offered_by x p w c (suc k)
-
-  -- the place's arrows, one by one
-  pub offers_listed : (q p : ℕ) (w : List ℕ) (c j : ℕ)
-      → order.offers Node (numbered_step table h) (q, p) w c j
-      ≡ offered_by (place_with table q) p w c j
-  offers_listed q p w zero j = refl
-  offers_listed q p w (suc c) j =
-      by_first (step_from h (place_with table q) p j) (offers_listed q p w c (suc j))
+module _ (table : List (Place ℕ)) (h : Text) (s : List ℕ) where
+  pub holds_on : (i : Told) (row row' : Row) (n : Node) (w : List ℕ) (a : ℕ) (l : Node)
+      → WayTold table h s i row n w → numbered_step table h n a ≡ Some l →
+      ((ms : Marks) → HasSlots h row ms
+      → HasSlots h row' (over (marked (mark_of (place_with table n.0) a) n.1) ms))
+      → WayTold table h s i row' l (w ++ a ∷ [])
+  holds_on i row row' n w a l (j, number, x, ks, eb, is, e, path, has) hops f = (
+    j,
+    number,
+    x,
+    ks ++ a ∷ [],
+    eb,
+    is,
+    ap (λ z. z ++ a ∷ []) e,
+    leads_append (numbered_step table h) ks (a ∷ []) (x, j) n l path (l, hops, refl),
+    same_slots h row'
+        (over (marked (mark_of (place_with table n.0) a) n.1) (marks (Some (x, j)) ks))
+        (marks (Some (x, j)) (ks ++ a ∷ []))
+        (λ slot. sym (marks_append h (place_with table) ks (x, j) n a slot path))
+        (f (marks (Some (x, j)) ks) has),
+  )
     where
-      by_first : (o : Option Node) → order.offers Node (numbered_step table h) (q, p) w c (suc j)
-          ≡ offered_by (place_with table q) p w c (suc j)
-          → order.one_offer Node (numbered_step table h) o (w ++ j ∷ [])
-          ++ order.offers Node (numbered_step table h) (q, p) w c (suc j)
-          ≡ one o (w ++ j ∷ []) ++ offered_by (place_with table q) p w c (suc j)
-      by_first None e = e
-      by_first (Some m) e = ap (λ z. (m, w ++ j ∷ []) ∷ z) e
+      marks : Option Node → List ℕ → Marks
+      marks = marks_along h (place_with table)
 
-  module _ (s : List ℕ) where
-    pub holds_on : (i : Told) (row row' : Row) (n : Node) (w : List ℕ) (a : ℕ) (l : Node)
-        → WayTold table h s i row n w → numbered_step table h n a ≡ Some l →
-        ((ms : Marks) → HasSlots h row ms
-        → HasSlots h row' (over (marked (mark_of (place_with table n.0) a) n.1) ms))
-        → WayTold table h s i row' l (w ++ a ∷ [])
-    holds_on i row row' n w a l (j, number, x, ks, eb, is, e, path, has) hops f = (
-      j,
-      number,
-      x,
-      ks ++ a ∷ [],
-      eb,
-      is,
-      ap (λ z. z ++ a ∷ []) e,
-      leads_append (numbered_step table h) ks (a ∷ []) (x, j) n l path (l, hops, refl),
-      same_slots h row'
-          (over (marked (mark_of (place_with table n.0) a) n.1) (marks (Some (x, j)) ks))
-          (marks (Some (x, j)) (ks ++ a ∷ []))
-          (λ slot. sym (marks_append h (place_with table) ks (x, j) n a slot path))
-          (f (marks (Some (x, j)) ks) has),
-    )
-      where
-        marks : Option Node → List ℕ → Marks
-        marks = marks_along h (place_with table)
+  -- threads after others hold their offers after those of the others
+  pub held_append : (p : ℕ) (ts us : List Thread) (os ps : List (Offer Node))
+      → ThreadsHold table h s p ts os → ThreadsHold table h s p us ps
+      → ThreadsHold table h s p (ts ++ us) (os ++ ps)
+  held_append p [] us [] ps a b = b
+  held_append p [] us (o ∷ os) ps a b = absurd a
+  held_append p (t ∷ ts) us [] ps a b = absurd a
+  held_append p (t ∷ ts) us (o ∷ os) ps (at, holds, rest) b =
+      (at, holds, held_append p ts us os ps rest b)
 
-    -- threads after others hold their offers after those of the others
-    pub held_append : (p : ℕ) (ts us : List Thread) (os ps : List (Offer Node))
-        → ThreadsHold table h s p ts os → ThreadsHold table h s p us ps
-        → ThreadsHold table h s p (ts ++ us) (os ++ ps)
-    held_append p [] us [] ps a b = b
-    held_append p [] us (o ∷ os) ps a b = absurd a
-    held_append p (t ∷ ts) us [] ps a b = absurd a
-    held_append p (t ∷ ts) us (o ∷ os) ps (at, holds, rest) b =
-        (at, holds, held_append p ts us os ps rest b)
-
-    -- without threads there are no offers
-    pub none_held : (p : ℕ) (os : List (Offer Node)) → ThreadsHold table h s p [] os → os ≡ []
-    none_held p [] a = refl
-    none_held p (o ∷ os) a = absurd a
+  -- without threads there are no offers
+  pub none_held : (p : ℕ) (os : List (Offer Node)) → ThreadsHold table h s p [] os → os ≡ []
+  none_held p [] a = refl
+  none_held p (o ∷ os) a = absurd a
 
 -- the place is among those that were entered
 abbrev pub marked_in : State → (q : ℕ) → State

@@ -1,11 +1,11 @@
 -- A frame was taken off: the memory still suffices, and the counts stay within what is left.
-use Rattle.std.proofs.Common.{◌≡◌, ℕ, zero, suc, ◌+◌, ◌<◌, ◌≤◌, ◌⊎◌, inl, inr, Bool}
-use Rattle.std.proofs.Common.{true, false, List, [], ◌∷◌, length, set, map, slice_get}
+use Rattle.std.proofs.Common.{◌≡◌, ℕ, ◌+◌, ◌<◌, ◌≤◌, ◌⊎◌, inl, inr, Bool}
+use Rattle.std.proofs.Common.{true, false, List, [], ◌∷◌, length, set, slice_get}
 use Rattle.std.proofs.Common.{slice_set, slice_index, if◌then◌else◌, Option, Some}
 use Rattle.std.proofs.Common.{unwrap_or, refl, sym, ap, subst, ◌∙◌, arith, length-set}
 use Rattle.std.proofs.lemmas.List.{set-get_or, get_or-set_same, get_or-set_other}
 use Rattle.std.proofs.lemmas.Bool.{cases_eq}
-use Rattle.regex_lite_engine.specs.Pikevm.Beginnings.{Told}
+use Rattle.regex_lite_engine.specs.Search.Beginnings.{Told}
 use Rattle.regex_lite_engine.specs.declared.nfa.place.Place as code
 use Rattle.regex_lite_engine.specs.declared.pikevm.enter.Onward.{Onward}
 use Rattle.regex_lite_engine.specs.declared.pikevm.enter.Onward.TheVariants as onward
@@ -16,14 +16,15 @@ use Rattle.regex_lite_engine.specs.Graph.Renumbered.{arrow_count}
 use Rattle.regex_lite_engine.specs.Graph.Stored.{LeadsBelow, place_of}
 use Rattle.regex_lite_engine.specs.Pikevm.Again.{state_retold}
 use Rattle.regex_lite_engine.specs.Pikevm.Entering.{completes, Enters}
-use Rattle.regex_lite_engine.specs.Pikevm.Machine.{Row, Frame, explore, restore}
+use Rattle.regex_lite_engine.specs.Pikevm.Machine.{Frame, explore, restore}
+use Rattle.regex_lite_engine.specs.Search.Rows.{Row}
 use Rattle.regex_lite_engine.specs.Pikevm.Machine.{State, unwound}
-use Rattle.regex_lite_engine.specs.Pikevm.Room.{lone, weight, explores, work, FramesBelow}
+use Rattle.regex_lite_engine.specs.Pikevm.Room.{explores, work, FramesBelow}
+use Rattle.regex_lite_engine.specs.Search.Counting.{lone, weight}
 use Rattle.regex_lite_engine.specs.Pikevm.Room.{IsFit, GoesOn, Went, HasRoom, with_frames}
 use Rattle.regex_lite_engine.specs.Search.Bounds.{StepCounts}
 use Rattle.regex_lite_engine.proofs.pikevm.AgainLemmas.{entered_again}
 use Rattle.regex_lite_engine.proofs.pikevm.EnterLemmas.{walk_enters}
-use Rattle.regex_lite_engine.proofs.OptionLemmas.{not_there, same_some}
 use Rattle.regex_lite_engine.proofs.pikevm.WalkLemmas.{marked_in, walk_framed, walk_seen}
 use Rattle.regex_lite_engine.proofs.pikevm.RoomLemmas.{left_enter, enters_adds}
 
@@ -274,12 +275,6 @@ module _ (table : List (Place ℕ)) (here : Here) (i : Told) {S : Type 0} where
       subst (IsBack w)
       (ap (back_at w) is ∙ sym (ap (λ (z : Walk S). with_frames z left) (walk_is x em ec)))
       (went_back w w.memory.frames fit)
-
-pub got_place : (spots : List code.Place) (q : ℕ) (x : code.Place) → slice_get spots q ≡ Some x
-    → slice_get (map (λ s. place_of s) spots) q ≡ Some (place_of x)
-got_place [] q x e = absurd (not_there e)
-got_place (y ∷ spots) zero x e = ap (λ z. Some (place_of z)) (same_some e)
-got_place (y ∷ spots) (suc q) x e = got_place spots q x e
 
 pub was_met : (a b : ℕ) (r : Bool) → r ≡ false → ((a ≡ b → ⊥) → r ≡ true) → a ≡ b
 was_met a b r e f = go (cases_eq a b)

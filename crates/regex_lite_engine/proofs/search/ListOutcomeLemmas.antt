@@ -21,9 +21,9 @@ use Rattle.regex_lite_engine.specs.Search.Offsets.{position_at, search_start}
 use Rattle.regex_lite_engine.specs.Search.Outcomes.{HasCostOfList, IsOutcomeOfList}
 use Rattle.regex_lite_engine.specs.Search.Outcomes.{IsSpanOutcomeOfList}
 use Rattle.regex_lite_engine.specs.Search.NumberedList.{IsEntry, IsMatchOfAny, IsNumberedAnswerOf}
-use Rattle.regex_lite_engine.specs.Pikevm.Outcomes.{IsBestOutcomeOf, IsNumberedEndOf}
-use Rattle.regex_lite_engine.specs.Pikevm.Outcomes.{numbered_at, numbered_told, with_origin_kept}
-use Rattle.regex_lite_engine.specs.Pikevm.Walking.{Best}
+use Rattle.regex_lite_engine.specs.Search.NumberedOutcomes.{IsBestOutcomeOf, IsNumberedEndOf}
+use Rattle.regex_lite_engine.specs.Search.NumberedOutcomes.{numbered_at, numbered_told}
+use Rattle.regex_lite_engine.specs.Search.NumberedOutcomes.{with_origin_kept, Best}
 use Rattle.regex_lite_engine.proofs.laws.several.NumberedListLemmas.{any_numbered, any_of_numbers}
 use Rattle.regex_lite_engine.proofs.laws.several.NumberedListLemmas.{list_answer_of_numbers}
 use Rattle.regex_lite_engine.proofs.OptionLemmas.{same_some}

@@ -17,7 +17,7 @@ use Rattle.regex_lite_engine.specs.Search.Starts.{AreListHeadsOf, PassesTo}
 use Rattle.regex_lite_engine.specs.Search.Starts.{AreDeadAt}
 use Rattle.regex_lite_engine.proofs.search.SkipLemmas.{ascii_there, begins_later}
 use Rattle.regex_lite_engine.proofs.search.SkipLemmas.{first_byte, inside, next_at, there}
-use Rattle.regex_lite_engine.proofs.search.here.OffsetLemmas.{offset_less}
+use Rattle.regex_lite_engine.proofs.OffsetLemmas.{offset_less}
 
 module _ (table : List (Place ℕ)) (entries : List ℕ) (heads : ListHeads)
     (w : AreListHeadsOf table entries heads) (bs : List ℕ) (u : IsUtf8 bs) where

@@ -1,6 +1,6 @@
 -- Rows of slots, and the marks that they hold.
 use Rattle.std.proofs.Common.{rules, ◌≡◌, ℕ, zero, suc, ◌≤◌, ◌⊎◌, inl, inr, Bool, true, false}
-use Rattle.std.proofs.Common.{List, [], ◌∷◌, ◌++◌, length, set, slice_get, if◌then◌else◌}
+use Rattle.std.proofs.Common.{List, [], ◌∷◌, ◌++◌, length, set, slice_get, if◌then◌else◌, replicate}
 use Rattle.std.proofs.Common.{◌==◌, Option, Some, None, option_map, refl, sym, ap, ◌∙◌, arith}
 use Rattle.std.specs.Option.{option_or}
 use Rattle.std.proofs.lemmas.Option.{slice_get_within}
@@ -9,7 +9,7 @@ use Rattle.regex_lite_syntax.specs.Text.{Text}
 use Rattle.regex_lite_engine.specs.Graph.Places.{Place, step}
 use Rattle.regex_lite_engine.specs.Graph.Ways.{Leads}
 use Rattle.regex_lite_engine.specs.Search.Marks.{Marks, marked, over, mark_of, marks_along}
-use Rattle.regex_lite_engine.specs.Pikevm.Machine.{Row}
+use Rattle.regex_lite_engine.specs.Search.Rows.{Row, IsBlank}
 use Rattle.regex_lite_engine.specs.Search.Offsets.{offset, HasSlots}
 use Rattle.regex_lite_engine.proofs.OptionLemmas.{not_there, same_some}
 
@@ -102,3 +102,9 @@ marks_append haystack place (j ∷ ks) n m a k (l, s, rest) =
     grouped : (x y z : Option ℕ) → option_or (option_or x y) z ≡ option_or x (option_or y z)
     grouped None y z = refl
     grouped (Some v) y z = refl
+
+-- a row without marks
+pub blank_row : (w : ℕ) → IsBlank (replicate w None)
+blank_row zero k slot e = absurd (not_there e)
+blank_row (suc w) zero slot e = sym (same_some e)
+blank_row (suc w) (suc k) slot e = blank_row w k slot e

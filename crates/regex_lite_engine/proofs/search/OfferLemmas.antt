@@ -4,8 +4,8 @@ use Rattle.std.proofs.Common.{◌∷◌, ◌++◌, Option, Some, None, refl, sym
 use Rattle.std.proofs.lemmas.Bool.{cases_lt, cases_order}
 use Rattle.regex_lite_engine.specs.Search.Preference.{IsPreferred}
 use Rattle.regex_lite_engine.specs.Search.Explored.{Before}
-use Rattle.regex_lite_engine.specs.Pikevm.InStep as walk
-use Rattle.regex_lite_engine.specs.Pikevm.InStep.{StartsBelow}
+use Rattle.regex_lite_engine.specs.Search.Offers as offer
+use Rattle.regex_lite_engine.specs.Search.Offers.{StartsBelow}
 use Rattle.regex_lite_engine.proofs.OptionLemmas.{not_there}
 
 pub preferred_before : (a b : List ℕ) → IsPreferred a b → Before a b
@@ -48,13 +48,13 @@ below_up from from' (i ∷ v) le h = omega (arith, h, le)
 
 module _ (N : Type 0) (step : N → ℕ → Option N) where
   abbrev pub Offer : Type 0
-  Offer = walk.Offer N
+  Offer = offer.Offer N
 
   abbrev pub In : N → List ℕ → List Offer → Type 0
-  In n w os = walk.In N n w os
+  In n w os = offer.In N n w os
 
   abbrev pub Ordered : List Offer → Type 0
-  Ordered os = walk.Ordered N os
+  Ordered os = offer.Ordered N os
 
   pub in_left : (n : N) (w : List ℕ) (os ps : List Offer) → In n w os → In n w (os ++ ps)
   in_left n w [] ps i = absurd i

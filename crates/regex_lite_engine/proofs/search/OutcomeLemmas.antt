@@ -16,10 +16,9 @@ use Rattle.regex_lite_engine.specs.Search.Bounds.{IsBounded, characters_left}
 use Rattle.regex_lite_engine.specs.Search.Answer.{IsAnswer, IsShortest}
 use Rattle.regex_lite_engine.specs.Search.Offsets.{position_at, search_start}
 use Rattle.regex_lite_engine.specs.Search.Outcomes.{IsSpanOutcome, IsOutcome, IsEndOutcome}
-use Rattle.regex_lite_engine.specs.Pikevm.Outcomes.{IsNumberedOutcome, IsNumberedEnd}
-use Rattle.regex_lite_engine.specs.Pikevm.Outcomes.{IsCountable, CanCount, match_told}
-use Rattle.regex_lite_engine.specs.Pikevm.Turns.{best_at}
-use Rattle.regex_lite_engine.specs.Pikevm.Walking.{Best}
+use Rattle.regex_lite_engine.specs.Search.NumberedOutcomes.{IsNumberedOutcome, IsNumberedEnd}
+use Rattle.regex_lite_engine.specs.Search.NumberedOutcomes.{match_told, best_at, Best}
+use Rattle.regex_lite_engine.specs.Search.Counting.{IsCountable, CanCount}
 use Rattle.regex_lite_engine.proofs.laws.search.NumberedAnswerLemmas.{
   answer_of_numbers,
   shortest_of_numbers,

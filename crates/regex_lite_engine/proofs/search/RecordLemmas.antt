@@ -1,13 +1,28 @@
 -- The ways that a walk has recorded, and one more.
 use Rattle.std.proofs.Common.{◌≡◌, ℕ, ◌⊎◌, inl, inr, Bool, List, Option}
 use Rattle.std.proofs.Common.{Some, None, refl, sym, ap, subst, ◌∙◌}
+use Rattle.std.proofs.lemmas.Bool.{cases_eq}
 use Rattle.regex_lite_engine.specs.Search.Explored.{IsGrown}
+use Rattle.regex_lite_engine.specs.Search.Offers.{Node}
 use Rattle.regex_lite_engine.proofs.OptionLemmas.{not_there, same_some}
 
 -- what is answered otherwise, or dead
 pub or_dead : {A B D : Type 0} → (A → B) → A ⊎ D → B ⊎ D
 or_dead f (inl a) = inl (f a)
 or_dead f (inr d) = inr d
+
+pub same_node : (x y : Node) → (x ≡ y) ⊎ (x ≡ y → ⊥)
+same_node (a, b) (c, d) = go (cases_eq a c) (cases_eq b d)
+  where
+    go : (a ≡ c) ⊎ (a ≡ c → ⊥) → (b ≡ d) ⊎ (b ≡ d → ⊥)
+        → (◌≡◌ {A = Node} (a, b) (c, d)) ⊎ (◌≡◌ {A = Node} (a, b) (c, d) → ⊥)
+    go (inl e) (inl f) = inl cc
+    go (inr e) f = inr (λ g. e (ap (λ (z : Node). z.0) g))
+    go (inl e) (inr f) = inr (λ g. f (ap (λ (z : Node). z.1) g))
+
+pub none_or : (o : Option (List ℕ)) → ((v : List ℕ) → o ≡ Some v → ⊥) → o ≡ None
+none_or None f = refl
+none_or (Some v) f = absurd (f v refl)
 
 module _ (N : Type 0) (same : (x y : N) → (x ≡ y) ⊎ (x ≡ y → ⊥)) where
   abbrev Recorded : Type 0

@@ -23,23 +23,8 @@ use Rattle.regex_lite_engine.specs.Search.Offsets.{offset}
 use Rattle.regex_lite_engine.specs.Search.Standing.{IsHere}
 use Rattle.regex_lite_engine.specs.Search.Starts.{PassesTo}
 use Rattle.regex_lite_engine.proofs.OptionLemmas.{not_there, same_some}
-use Rattle.regex_lite_engine.proofs.search.here.OffsetLemmas.{length_encodes, offset_next}
-use Rattle.regex_lite_engine.proofs.search.here.OffsetLemmas.{offset_less, offset_most}
-use Rattle.regex_lite_engine.proofs.search.here.OffsetLemmas.{rest_at, boundary_at}
-
-never_both : (a : Bool) → (a && false) ≡ true → ⊥
-never_both true e = cc
-never_both false e = cc
-
--- a byte inside of a character stops no scan
-stops_outside : (s : Starts) (byte : ℕ) → byte < 192 → 128 ≤ byte → stops_at s byte ≡ true → ⊥
-stops_outside s byte below above e =
-    let ascii : nat_lt byte 128 ≡ false = grind (arith, nat_tests) in
-    let inside : nat_lt byte 192 ≡ true = grind (arith, nat_tests) in
-    let by_ascii = ap (λ z. s.any && (if z then slice_index_or s.ascii byte true
-    else (if nat_lt byte 192 then false else s.others))) ascii in
-    let by_inside = ap (λ z. s.any && (if z then false else s.others)) inside in
-    never_both s.any (sym (by_ascii ∙ by_inside) ∙ e)
+use Rattle.regex_lite_engine.proofs.OffsetLemmas.{length_encodes, offset_next, offset_less}
+use Rattle.regex_lite_engine.proofs.OffsetLemmas.{offset_most, rest_at, boundary_at}
 
 first_of : (i : ℕ) (cs : List ℕ) (c : ℕ) → slice_get cs i ≡ Some c
     → drop i cs ≡ c ∷ drop (suc i) cs

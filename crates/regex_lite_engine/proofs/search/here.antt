@@ -1,1 +1,1 @@
-pub mod OffsetLemmas
+pub mod HereLemmas

@@ -4,7 +4,7 @@
 use Rattle.std.specs.Prelude.{◌≡◌, ◌<◌, ◌≤◌, ◌⊎◌, ℕ, Bool, IsTrue}
 use Rattle.std.specs.Prelude.{List, [], ◌∷◌, ◌++◌, Option, Some, None}
 use Rattle.regex_lite_engine.specs.Search.Explored.{NotAfter, StartsAt, IsAnswered, IsGrown, IsDead}
-use Rattle.regex_lite_engine.specs.Pikevm.InStep.{Offer, In, Ordered, StartsBelow}
+use Rattle.regex_lite_engine.specs.Search.Offers.{Offer, In, Ordered, StartsBelow}
 
 module _ (N : Type 0) (step : N → ℕ → Option N) (start : ℕ → N) (is_end : N → Bool)
     (first last : ℕ) where

@@ -5,7 +5,7 @@ use Rattle.regex_lite_engine.specs.declared.backtrack.frame.Frame as code
 use Rattle.regex_lite_engine.specs.declared.backtrack.frame.Frame.TheVariants as stored
 use Rattle.regex_lite_engine.specs.declared.backtrack.enter.Onward.{Onward}
 use Rattle.regex_lite_engine.specs.declared.backtrack.enter.Onward.TheVariants.{To, Back, Complete}
-use Rattle.regex_lite_engine.specs.Pikevm.Machine.{Row}
+use Rattle.regex_lite_engine.specs.Search.Rows.{Row}
 
 -- What is left to do: to explore a place at an offset, or to restore what a slot held
 pub data Frame : Type 0 where

@@ -10,8 +10,8 @@ use Rattle.regex_lite_engine.specs.Graph.Places.{Place, kept_back_with}
 use Rattle.regex_lite_engine.specs.Graph.Renumbered.{arrow_count}
 use Rattle.regex_lite_engine.specs.Search.Bounds.{characters_left}
 use Rattle.regex_lite_engine.specs.Search.Offsets.{offset, position_at}
-use Rattle.regex_lite_engine.specs.Pikevm.Outcomes.{IsNumberedOutcome}
-use Rattle.regex_lite_engine.specs.Pikevm.Room.{lone, weight}
+use Rattle.regex_lite_engine.specs.Search.NumberedOutcomes.{IsNumberedOutcome}
+use Rattle.regex_lite_engine.specs.Search.Counting.{lone, weight}
 
 -- the sum over the places that were not entered, whose pairs have the numbers from `pair` on
 abbrev pub left_in : (Place ℕ → ℕ) → (entered : List Bool) → (pair : ℕ) → List (Place ℕ) → ℕ

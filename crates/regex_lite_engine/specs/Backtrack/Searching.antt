@@ -10,8 +10,7 @@ use Rattle.regex_lite_engine.specs.Graph.Places.{Place, kept_back_with}
 use Rattle.regex_lite_engine.specs.Graph.Renumbered.{arrows_of}
 use Rattle.regex_lite_engine.specs.Search.Bounds.{characters_left}
 use Rattle.regex_lite_engine.specs.Search.Offsets.{position_at}
-use Rattle.regex_lite_engine.specs.Pikevm.Machine.{Row}
-use Rattle.regex_lite_engine.specs.Pikevm.Turns.{IsBlank}
+use Rattle.regex_lite_engine.specs.Search.Rows.{Row, IsBlank}
 
 -- each slot that a frame restores lies in a row of this width
 abbrev pub SlotsBelow : (width : ℕ) → List Frame → Type 0

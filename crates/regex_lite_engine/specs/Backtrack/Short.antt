@@ -3,7 +3,7 @@ use Rattle.std.specs.Prelude.{◌*◌, ◌≤◌, length, sum_by}
 use Rattle.regex_lite_engine.specs.declared.backtrack.short.ShortSearcher.{ShortSearcher}
 use Rattle.regex_lite_engine.specs.Graph.Places.{kept_back_with}
 use Rattle.regex_lite_engine.specs.Graph.Stored.{StoredGraph, table_of}
-use Rattle.regex_lite_engine.specs.Pikevm.Outcomes.{IsCountable}
+use Rattle.regex_lite_engine.specs.Search.Counting.{IsCountable}
 
 -- there is room for a search of the graph over as many offsets as may be searched
 pub record SearchesShort (graph : StoredGraph) (searcher : ShortSearcher) : Type 0 where

@@ -7,7 +7,7 @@ use Rattle.regex_lite_engine.specs.declared.pikevm.cache.Cache.{Cache}
 use Rattle.regex_lite_engine.specs.Graph.Places.{Place}
 use Rattle.regex_lite_engine.specs.LazyDfa.Automaton.{Automaton, State, Suits, ways_of}
 use Rattle.regex_lite_engine.specs.LazyDfa.Intervals.{side_of}
-use Rattle.regex_lite_engine.specs.Pikevm.Beginnings.{Told, TellsStart}
+use Rattle.regex_lite_engine.specs.Search.Beginnings.{Told, TellsStart}
 use Rattle.regex_lite_engine.specs.Pikevm.Machine.{Thread}
 use Rattle.regex_lite_engine.specs.Pikevm.Searching.{IsHit, TurnsAgain}
 use Rattle.regex_lite_engine.specs.Search.Standing.{IsHere}

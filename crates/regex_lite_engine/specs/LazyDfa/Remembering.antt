@@ -10,7 +10,8 @@ use Rattle.regex_lite_engine.specs.Graph.Stored.{StoredGraph, table_of}
 use Rattle.regex_lite_engine.specs.LazyDfa.Automaton.{Automaton, Remembers}
 use Rattle.regex_lite_engine.specs.LazyDfa.Scanning.{best_told}
 use Rattle.regex_lite_engine.specs.Search.NumberedAnswer.{IsNumberedMatch}
-use Rattle.regex_lite_engine.specs.Pikevm.Outcomes.{IsBestOutcomeOf, IsCountable}
+use Rattle.regex_lite_engine.specs.Search.NumberedOutcomes.{IsBestOutcomeOf}
+use Rattle.regex_lite_engine.specs.Search.Counting.{IsCountable}
 use Rattle.regex_lite_engine.specs.Pikevm.Searching.{IsBetween}
 
 -- all turns are those of searches in this graph

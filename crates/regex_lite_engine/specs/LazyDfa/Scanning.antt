@@ -11,12 +11,11 @@ use Rattle.regex_lite_engine.specs.declared.search.here.Here.{Here}
 use Rattle.regex_lite_engine.specs.Graph.Places.{Place}
 use Rattle.regex_lite_engine.specs.LazyDfa.Automaton.{Automaton, State, Suits, threads_of}
 use Rattle.regex_lite_engine.specs.LazyDfa.Intervals.{side_of}
-use Rattle.regex_lite_engine.specs.Pikevm.Beginnings.{untold}
-use Rattle.regex_lite_engine.specs.Pikevm.Outcomes.{IsBestOutcomeOf, IsNumberedEndOf}
-use Rattle.regex_lite_engine.specs.Pikevm.Outcomes.{with_start_kept}
+use Rattle.regex_lite_engine.specs.Search.Beginnings.{untold}
+use Rattle.regex_lite_engine.specs.Search.NumberedOutcomes.{IsBestOutcomeOf, IsNumberedEndOf}
+use Rattle.regex_lite_engine.specs.Search.NumberedOutcomes.{with_start_kept, best_at, Best}
 use Rattle.regex_lite_engine.specs.Search.Standing.{IsHere}
-use Rattle.regex_lite_engine.specs.Pikevm.Turns.{best_at, IsComing}
-use Rattle.regex_lite_engine.specs.Pikevm.Walking.{Best}
+use Rattle.regex_lite_engine.specs.Pikevm.Turns.{IsComing}
 
 -- the match with this span, without slots
 abbrev pub best_told : Option (ℕ × ℕ) → Best

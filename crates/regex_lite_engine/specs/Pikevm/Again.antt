@@ -6,10 +6,10 @@ use Rattle.regex_lite_syntax.specs.Tree.Looks.{holds_between}
 use Rattle.regex_lite_engine.specs.declared.search.here.Here.{Here}
 use Rattle.regex_lite_engine.specs.Graph.Places.{Arrow, Condition, free, holding}
 use Rattle.regex_lite_engine.specs.Graph.Places.{reading, Place, complete, with_arrows}
-use Rattle.regex_lite_engine.specs.Pikevm.Beginnings.{Told}
+use Rattle.regex_lite_engine.specs.Search.Beginnings.{Told}
 use Rattle.regex_lite_engine.specs.Pikevm.Entering.{reads}
 use Rattle.regex_lite_engine.specs.Pikevm.Machine.{State, Thread}
-use Rattle.regex_lite_engine.specs.Pikevm.Walking.{Best}
+use Rattle.regex_lite_engine.specs.Search.NumberedOutcomes.{Best}
 
 -- the condition is met between these neighbours
 abbrev pub is_met : Condition → (before after : Option ℕ) → Bool

@@ -1,15 +1,17 @@
 -- How the working memory of a search lies in its cells and rows.
 use Rattle.std.specs.Prelude.{◌≡◌, Bool, true, ◌+◌, ◌-◌, ◌*◌, ◌≤◌, ◌<◌, ℕ}
 use Rattle.std.specs.Prelude.{List, [], ◌++◌, take, drop, reverse, replicate}
-use Rattle.std.specs.Prelude.{length, map, None, slice_index, slice_index_or}
+use Rattle.std.specs.Prelude.{length, map, None, slice_index, slice_index_or, vec_capacity}
+use Rattle.std.specs.Global.{Vec}
 use Rattle.std.specs.List.{range_with_len}
 use Rattle.regex_lite_engine.specs.declared.pikevm.cell.Cell.{Cell}
 use Rattle.regex_lite_engine.specs.declared.pikevm.cell.Frame as code
 use Rattle.regex_lite_engine.specs.declared.pikevm.cell.Frame.TheVariants as stored
 use Rattle.regex_lite_engine.specs.declared.pikevm.cell.Side.{Side}
 use Rattle.regex_lite_engine.specs.declared.pikevm.cell.Side.TheVariants.{First, Second}
-use Rattle.regex_lite_engine.specs.Pikevm.Beginnings.{Told, untold}
-use Rattle.regex_lite_engine.specs.Pikevm.Machine.{Row, Frame, explore, restore, Thread}
+use Rattle.regex_lite_engine.specs.Search.Beginnings.{Told, untold}
+use Rattle.regex_lite_engine.specs.Pikevm.Machine.{Frame, explore, restore, Thread}
+use Rattle.regex_lite_engine.specs.Search.Rows.{Row}
 
 -- row k of rows of one width that lie one after the other
 abbrev pub row_at : (slots : Row) → (width k : ℕ) → Row
@@ -116,3 +118,7 @@ pub record MakesReady {S : Type 0} (low : ℕ) (cells : List (Cell S)) (new_low 
     (new_cells : List (Cell S)) : Type 0 where
   pub rounds : rounds_in new_low new_cells ≡ rounds_in low cells
   pub kept : take (length cells) (map without_round new_cells) ≡ map without_round cells
+
+-- there is room for at least as many as before
+abbrev pub KeepsCapacity : {X : Type 0} → (before after : Vec X) → Type 0
+KeepsCapacity before after = vec_capacity before ≤ vec_capacity after

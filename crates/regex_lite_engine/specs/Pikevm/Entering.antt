@@ -5,7 +5,7 @@ use Rattle.std.specs.Prelude.{map, Option, Some, None, slice_set, slice_index_or
 use Rattle.regex_lite_syntax.specs.Ranges.{in_ranges}
 use Rattle.regex_lite_syntax.specs.Sets.{Set, just}
 use Rattle.regex_lite_syntax.specs.Tree.Looks.{holds_between}
-use Rattle.regex_lite_engine.specs.Pikevm.Beginnings.{Told}
+use Rattle.regex_lite_engine.specs.Search.Beginnings.{Told}
 use Rattle.regex_lite_engine.specs.declared.nfa.place.Place.{Place}
 use Rattle.regex_lite_engine.specs.declared.nfa.place.Place.TheVariants as stored
 use Rattle.regex_lite_engine.specs.declared.pikevm.enter.Onward as code

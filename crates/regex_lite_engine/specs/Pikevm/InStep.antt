@@ -1,28 +1,10 @@
 -- A walk over a graph that goes from position to position: what it has recorded, and the ways that
 -- it has still to follow. Nodes stand at positions, and a way has its start in front.
-use Rattle.std.specs.Prelude.{◌≡◌, ◌<◌, ◌≤◌, ◌⊎◌, ℕ, suc, Bool, IsTrue}
+use Rattle.std.specs.Prelude.{◌≡◌, ◌≤◌, ◌⊎◌, ℕ, suc, Bool, IsTrue}
 use Rattle.std.specs.Prelude.{List, [], ◌∷◌, ◌++◌, Option, Some}
 use Rattle.regex_lite_engine.specs.Search.Preference.{IsPreferred}
 use Rattle.regex_lite_engine.specs.Search.Explored.{NotAfter, IsAnswered, IsGrown, IsDead}
-
--- a node, and a way to it
-abbrev pub Offer : Type 0 → Type 0
-Offer N = N × List ℕ
-
--- the way starts below this position
-abbrev pub StartsBelow : ℕ → List ℕ → Type 0
-StartsBelow from [] = ⊥
-StartsBelow from (i ∷ ks) = i < from
-
-module _ (N : Type 0) where
-  abbrev pub In : N → List ℕ → List (Offer N) → Type 0
-  In n w [] = ⊥
-  In n w (o ∷ os) = ((n ≡ o.0) × (w ≡ o.1)) ⊎ In n w os
-
-  -- each way is preferred to those after it
-  abbrev pub Ordered : List (Offer N) → Type 0
-  Ordered [] = Unit {0}
-  Ordered (o ∷ os) = ((n : N) (w : List ℕ) → In n w os → IsPreferred o.1 w) × Ordered os
+use Rattle.regex_lite_engine.specs.Search.Offers.{Offer, In, Ordered, StartsBelow}
 
 module _ (N : Type 0) (step : N → ℕ → Option N) (IsStart : (front : List ℕ) → N → Type 0)
     (is_end : N → Bool) (position : N → ℕ) where

@@ -1,10 +1,7 @@
 -- What a search keeps while it goes over one position.
 use Rattle.std.specs.Prelude.{ℕ, Bool, List, [], ◌∷◌, Option, slice_index_or, slice_set}
-use Rattle.regex_lite_engine.specs.Pikevm.Beginnings.{Told, untold}
-
--- the offset that each slot holds
-abbrev pub Row : Type 0
-Row = List (Option ℕ)
+use Rattle.regex_lite_engine.specs.Search.Beginnings.{Told, untold}
+use Rattle.regex_lite_engine.specs.Search.Rows.{Row}
 
 -- What is left to do: to explore a place, or to restore what a slot held
 pub data Frame : Type 0 where

@@ -11,7 +11,7 @@ use Rattle.regex_lite_engine.specs.Search.Standing.{IsHere}
 use Rattle.regex_lite_engine.specs.Search.Starts.{AreDeadAt, PassesTo}
 use Rattle.regex_lite_engine.specs.Pikevm.Machine.{Thread}
 use Rattle.regex_lite_engine.specs.Pikevm.Turns.{best_of, IsComing, EndsAt}
-use Rattle.regex_lite_engine.specs.Pikevm.Walking.{Best}
+use Rattle.regex_lite_engine.specs.Search.NumberedOutcomes.{Best}
 
 -- A search goes on here from position p. Where there is neither a thread nor a match it passes over
 -- positions at which no match can start

@@ -2,7 +2,7 @@
 -- counts.
 use Rattle.std.specs.Prelude.{◌≡◌, ◌+◌, ◌^◌, ◌≤◌, ◌<◌, ◌==◌, ℕ, Bool, true, false}
 use Rattle.std.specs.Prelude.{List, [], ◌∷◌, length, Some, slice_index, if◌then◌else◌}
-use Rattle.regex_lite_engine.specs.Pikevm.Beginnings.{Told}
+use Rattle.regex_lite_engine.specs.Search.Beginnings.{Told}
 use Rattle.regex_lite_engine.specs.declared.search.here.Here.{Here}
 use Rattle.regex_lite_engine.specs.declared.pikevm.walk.Walk.{Walk}
 use Rattle.regex_lite_engine.specs.Graph.Places.{Place, kept_back, reading_count, reading_of}
@@ -10,8 +10,10 @@ use Rattle.regex_lite_engine.specs.Graph.Renumbered.{arrow_count}
 use Rattle.regex_lite_engine.specs.Pikevm.Again.{AreAlike, state_retold}
 use Rattle.regex_lite_engine.specs.Pikevm.Machine.{Frame, explore, restore}
 use Rattle.regex_lite_engine.specs.Pikevm.Machine.{Thread, thread_at, State}
+use Rattle.regex_lite_engine.specs.Search.Counting.{lone, weight}
 use Rattle.regex_lite_engine.specs.Search.Standing.{IsHere}
-use Rattle.regex_lite_engine.specs.Pikevm.Walking.{Best, SearchAt, IsWalking}
+use Rattle.regex_lite_engine.specs.Pikevm.Walking.{SearchAt, IsWalking}
+use Rattle.regex_lite_engine.specs.Search.NumberedOutcomes.{Best}
 
 -- the sum over the places that were not entered in this round
 abbrev pub left_of : (Place ℕ → ℕ) → (now : ℕ) → (rounds : List ℕ) → List (Place ℕ) → ℕ
@@ -19,13 +21,6 @@ left_of f now [] table = 0
 left_of f now (round ∷ rounds) [] = 0
 left_of f now (round ∷ rounds) (place ∷ table) =
     (if round == now then 0 else f place) + left_of f now rounds table
-
-abbrev pub lone : Place ℕ → ℕ
-lone place = 1
-
--- more than the frames that entering a place puts on the stack
-abbrev pub weight : Place ℕ → ℕ
-weight place = arrow_count place + 1
 
 abbrev pub explores : List Frame → ℕ
 explores [] = 0

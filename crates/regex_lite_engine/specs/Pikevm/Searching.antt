@@ -7,15 +7,17 @@ use Rattle.regex_lite_engine.specs.declared.pikevm.cache.Cache.{Cache}
 use Rattle.regex_lite_engine.specs.Graph.Parts.{row_of}
 use Rattle.regex_lite_engine.specs.Graph.Places.{Place, kept_back_of}
 use Rattle.regex_lite_engine.specs.Graph.Renumbered.{arrows_of}
+use Rattle.regex_lite_engine.specs.Graph.StoredList.{StoredList, table_of_list}
 use Rattle.regex_lite_engine.specs.Pikevm.Again.{AreAlike, all_retold, state_retold, best_again}
-use Rattle.regex_lite_engine.specs.Pikevm.Beginnings.{Told, TellsStart}
+use Rattle.regex_lite_engine.specs.Search.Beginnings.{Told, TellsStart}
 use Rattle.regex_lite_engine.specs.Pikevm.Machine.{Thread}
 use Rattle.regex_lite_engine.specs.Pikevm.Room.{KeepsPosition, ThreadsBelow, due_tries, due_entries}
+use Rattle.regex_lite_engine.specs.Search.Counting.{IsCountable}
 use Rattle.regex_lite_engine.specs.Search.Standing.{IsHere}
 use Rattle.regex_lite_engine.specs.Pikevm.Turns.{best_of, with_starts}
 use Rattle.regex_lite_engine.specs.Search.Starts.{AreStartsAt}
 use Rattle.regex_lite_engine.specs.Pikevm.Turns.{IsComing, StepsTo, IsReady}
-use Rattle.regex_lite_engine.specs.Pikevm.Walking.{Best}
+use Rattle.regex_lite_engine.specs.Search.NumberedOutcomes.{Best}
 
 -- the ways that are followed at a position: its threads, and its own starts
 abbrev pub ways_at : {S : Type 0} → List Start → (told : ℕ → Told) → Cache S → List Thread
@@ -84,3 +86,18 @@ module _ (table : List (Place ℕ)) where
         ≤ cache.walk.steps.tried + length cache.walk.memory.threads
         + (arrows_of (row_of table low len) + starts)
     pub entries : cache'.walk.steps.entered ≤ cache.walk.steps.entered + len
+
+-- a search from position s on has not begun. There may have been rounds of others
+pub record IsFresh {S : Type 0} (table : List (Place ℕ)) (cache : Cache S) : Type 0 where
+  pub between : IsBetween table cache
+  pub none : best_of cache.best ≡ None
+  pub no_threads : cache.walk.memory.threads ≡ []
+  pub few_rounds : cache.walk.memory.now < 2 ^ 63
+  pub no_tries : cache.walk.steps.tried ≡ 0
+  pub no_entries : cache.walk.steps.entered ≡ 0
+
+-- searches for the patterns of the graph go on in this cache. Without a pattern none is begun
+abbrev pub GoesOnIn : {S : Type 0} → StoredList → Cache S → Type 0
+GoesOnIn list cache =
+    0 < length list.entries
+    → IsBetween (table_of_list list) cache × IsCountable (table_of_list list)

@@ -1,30 +1,24 @@
 -- The threads of one position, and from one position to the next.
 use Rattle.std.specs.Prelude.{◌≡◌, ◌≤◌, ◌<◌, ◌⊎◌, ℕ, List, [], ◌∷◌, ◌++◌, length}
-use Rattle.std.specs.Prelude.{replicate, slice_get, slice_index, Option, Some, None}
+use Rattle.std.specs.Prelude.{replicate, slice_index, Option, Some, None}
 use Rattle.regex_lite_syntax.specs.Text.{Text}
 use Rattle.regex_lite_engine.specs.declared.search.here.Here.{Here}
 use Rattle.regex_lite_engine.specs.declared.search.patterns.Start.{Start}
-use Rattle.regex_lite_engine.specs.Pikevm.Beginnings.{Told, untold}
+use Rattle.regex_lite_engine.specs.Search.Beginnings.{Told, untold}
 use Rattle.regex_lite_engine.specs.Graph.Places.{Place, kept_back_of, reading_of}
 use Rattle.regex_lite_engine.specs.Search.Bounds.{StepCounts}
-use Rattle.regex_lite_engine.specs.Pikevm.InStep.{Offer}
-use Rattle.regex_lite_engine.specs.Pikevm.Machine.{Row, Thread, State, BestState}
+use Rattle.regex_lite_engine.specs.Search.Offers.{Offer, Node}
+use Rattle.regex_lite_engine.specs.Pikevm.Machine.{Thread, State, BestState}
+use Rattle.regex_lite_engine.specs.Search.Rows.{Row, IsBlank}
 use Rattle.regex_lite_engine.specs.Search.Standing.{IsHere}
-use Rattle.regex_lite_engine.specs.Pikevm.Walking.{Node, Best, SearchAt, ThreadsHold}
+use Rattle.regex_lite_engine.specs.Search.NumberedOutcomes.{Best, best_at}
+use Rattle.regex_lite_engine.specs.Pikevm.Walking.{SearchAt, ThreadsHold}
 use Rattle.regex_lite_engine.specs.Pikevm.Walking.{BestHolds, InStep, IsWalking}
 use Rattle.regex_lite_engine.specs.Pikevm.Room.{ThreadsBelow}
-
-abbrev pub best_at : {X : Type 0} → Option (X × ℕ) → Row → Option (X × ℕ × Row)
-best_at None row = None
-best_at (Some found) row = Some (found.0, found.1, row)
 
 -- the match that is stored
 abbrev pub best_of : BestState → Best
 best_of best = best_at best.found best.row
-
--- no slot of the row is marked
-abbrev pub IsBlank : Row → Type 0
-IsBlank row = (k : ℕ) (slot : Option ℕ) → slice_get row k ≡ Some slot → slot ≡ None
 
 -- at a later position each way starts below it, as long as there is no match
 abbrev pub FromIs : (p from : ℕ) → Best → Type 0

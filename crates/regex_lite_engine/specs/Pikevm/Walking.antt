@@ -8,17 +8,12 @@ use Rattle.regex_lite_engine.specs.Search.Marks.{marks_along}
 use Rattle.regex_lite_engine.specs.Search.NumberedAnswer.{place_with, numbered_step, is_end}
 use Rattle.regex_lite_engine.specs.Search.NumberedList.{IsEntry, StartsOf}
 use Rattle.regex_lite_engine.specs.Search.Offsets.{offset, HasSlots}
-use Rattle.regex_lite_engine.specs.Pikevm.Beginnings.{Told, TellsStart}
-use Rattle.regex_lite_engine.specs.Pikevm.Machine.{Row, Frame, explore, restore, Thread, State}
-use Rattle.regex_lite_engine.specs.Pikevm.InStep.{Offer, IsInStep}
-
--- a place at a position
-abbrev pub Node : Type 0
-Node = ℕ × ℕ
-
--- the best match so far: what is kept of its start, the offset of its end, and its row
-abbrev pub Best : Type 0
-Best = Option (Told × ℕ × Row)
+use Rattle.regex_lite_engine.specs.Search.Beginnings.{Told, TellsStart}
+use Rattle.regex_lite_engine.specs.Pikevm.Machine.{Frame, explore, restore, Thread, State}
+use Rattle.regex_lite_engine.specs.Search.Rows.{Row}
+use Rattle.regex_lite_engine.specs.Pikevm.InStep.{IsInStep}
+use Rattle.regex_lite_engine.specs.Search.NumberedOutcomes.{Best}
+use Rattle.regex_lite_engine.specs.Search.Offers.{Offer, Node}
 
 module _ (table : List (Place ℕ)) (haystack : Text) where
   module _ (s : List ℕ) where

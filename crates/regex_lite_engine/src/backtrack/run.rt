@@ -5,8 +5,8 @@ ghost use Rattle.regex_lite_engine.specs.Graph.Renumbered.{arrows_of};
 ghost use Rattle.regex_lite_engine.specs.Graph.Stored.{table_of};
 ghost use Rattle.regex_lite_engine.specs.Search.Bounds.{IsBounded, StaysCounted, characters_left};
 ghost use Rattle.regex_lite_engine.specs.Search.Offsets.{position_at};
-ghost use Rattle.regex_lite_engine.specs.Pikevm.Outcomes.{IsNumberedOutcome, CanCount};
-ghost use Rattle.regex_lite_engine.specs.Pikevm.Turns.{best_at};
+ghost use Rattle.regex_lite_engine.specs.Search.NumberedOutcomes.{IsNumberedOutcome, best_at};
+ghost use Rattle.regex_lite_engine.specs.Search.Counting.{CanCount};
 
 use crate::Graph;
 use crate::backtrack::walk::Walk;

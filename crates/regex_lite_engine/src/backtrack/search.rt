@@ -6,8 +6,8 @@ ghost use Rattle.regex_lite_engine.specs.Backtrack.Searching.{IsFresh};
 ghost use Rattle.regex_lite_engine.specs.Graph.Renumbered.{IsGraphOf};
 ghost use Rattle.regex_lite_engine.specs.Graph.Stored.{table_of};
 ghost use Rattle.regex_lite_engine.specs.Search.Outcomes.{IsOutcome, HasCost};
-ghost use Rattle.regex_lite_engine.specs.Pikevm.Outcomes.{IsCountable, match_told};
-ghost use Rattle.regex_lite_engine.specs.Pikevm.Turns.{best_at};
+ghost use Rattle.regex_lite_engine.specs.Search.Counting.{IsCountable};
+ghost use Rattle.regex_lite_engine.specs.Search.NumberedOutcomes.{match_told, best_at};
 
 use crate::Graph;
 use crate::backtrack::run::run;

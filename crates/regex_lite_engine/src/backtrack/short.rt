@@ -6,8 +6,7 @@ ghost use Rattle.regex_lite_engine.specs.Graph.Renumbered.{arrows_of};
 ghost use Rattle.regex_lite_engine.specs.Graph.Stored.{table_of};
 ghost use Rattle.regex_lite_engine.specs.Search.Bounds.{IsBounded};
 ghost use Rattle.regex_lite_engine.specs.Search.Offsets.{position_at};
-ghost use Rattle.regex_lite_engine.specs.Pikevm.Outcomes.{IsNumberedOutcome};
-ghost use Rattle.regex_lite_engine.specs.Pikevm.Turns.{best_at};
+ghost use Rattle.regex_lite_engine.specs.Search.NumberedOutcomes.{IsNumberedOutcome, best_at};
 
 use crate::Graph;
 use crate::backtrack::run::run;

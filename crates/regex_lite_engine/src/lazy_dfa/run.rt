@@ -10,8 +10,8 @@ ghost use Rattle.regex_lite_engine.specs.LazyDfa.Running.{GoesOnWith, IsOnItsWay
 ghost use Rattle.regex_lite_engine.specs.LazyDfa.Running.{Stands, started_at};
 ghost use Rattle.regex_lite_engine.specs.Search.Bounds.{characters_left};
 ghost use Rattle.regex_lite_engine.specs.Search.Offsets.{position_at};
-ghost use Rattle.regex_lite_engine.specs.Pikevm.Outcomes.{CanCount, IsFresh};
-ghost use Rattle.regex_lite_engine.specs.Pikevm.Searching.{IsHit, TurnsAgain};
+ghost use Rattle.regex_lite_engine.specs.Search.Counting.{CanCount};
+ghost use Rattle.regex_lite_engine.specs.Pikevm.Searching.{IsFresh, IsHit, TurnsAgain};
 ghost use Rattle.regex_lite_engine.specs.Search.Standing.{IsHere};
 ghost use Rattle.regex_lite_engine.specs.Pikevm.Turns.{EndsAt, best_of};
 

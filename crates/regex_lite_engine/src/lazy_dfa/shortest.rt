@@ -10,7 +10,9 @@ ghost use Rattle.regex_lite_engine.specs.LazyDfa.Scanning.{EndsOrLeads, IsScanni
 ghost use Rattle.regex_lite_engine.specs.LazyDfa.Scanning.{ScansToEnd, end_told};
 ghost use Rattle.regex_lite_engine.specs.Search.Bounds.{IsBoundedBy, characters_left};
 ghost use Rattle.regex_lite_engine.specs.Search.Offsets.{position_at};
-ghost use Rattle.regex_lite_engine.specs.Pikevm.Outcomes.{CanCount, IsFresh, IsNumberedEndOf};
+ghost use Rattle.regex_lite_engine.specs.Search.Counting.{CanCount};
+ghost use Rattle.regex_lite_engine.specs.Pikevm.Searching.{IsFresh};
+ghost use Rattle.regex_lite_engine.specs.Search.NumberedOutcomes.{IsNumberedEndOf};
 ghost use Rattle.regex_lite_engine.specs.Pikevm.Turns.{best_of};
 
 use crate::Graph;

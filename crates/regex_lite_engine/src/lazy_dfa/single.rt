@@ -9,9 +9,10 @@ ghost use Rattle.regex_lite_engine.specs.LazyDfa.Scanning.{best_told, end_told};
 ghost use Rattle.regex_lite_engine.specs.Search.Bounds.{IsBoundedBy, characters_left};
 ghost use Rattle.regex_lite_engine.specs.Search.Offsets.{position_at};
 ghost use Rattle.regex_lite_engine.specs.Search.Outcomes.{HasCost, IsEndOutcome, IsOutcome};
-ghost use Rattle.regex_lite_engine.specs.Pikevm.Outcomes.{CanCount, IsBestOutcomeOf, IsFresh};
-ghost use Rattle.regex_lite_engine.specs.Pikevm.Outcomes.{IsNumberedEndOf, match_told};
-ghost use Rattle.regex_lite_engine.specs.Pikevm.Turns.{best_at};
+ghost use Rattle.regex_lite_engine.specs.Search.Counting.{CanCount};
+ghost use Rattle.regex_lite_engine.specs.Search.NumberedOutcomes.{IsBestOutcomeOf, IsNumberedEndOf};
+ghost use Rattle.regex_lite_engine.specs.Search.NumberedOutcomes.{match_told, best_at};
+ghost use Rattle.regex_lite_engine.specs.Pikevm.Searching.{IsFresh};
 
 use crate::Graph;
 use crate::lazy_dfa::automaton::LazyDfa;

@@ -9,8 +9,8 @@ ghost use Rattle.regex_lite_engine.specs.LazyDfa.Remembering.{NoneStartsBefore, 
 ghost use Rattle.regex_lite_engine.specs.LazyDfa.Scanning.{best_told};
 ghost use Rattle.regex_lite_engine.specs.Search.Offsets.{position_at};
 ghost use Rattle.regex_lite_engine.specs.Search.NumberedAnswer.{IsNumberedAnswer};
-ghost use Rattle.regex_lite_engine.specs.Pikevm.Outcomes.{IsBestOutcomeOf, IsNumberedOutcome};
-ghost use Rattle.regex_lite_engine.specs.Pikevm.Turns.{best_at, best_of};
+ghost use Rattle.regex_lite_engine.specs.Search.NumberedOutcomes.{IsBestOutcomeOf};
+ghost use Rattle.regex_lite_engine.specs.Search.NumberedOutcomes.{IsNumberedOutcome, best_at};
 ghost use Rattle.regex_lite_engine.specs.Backtrack.Short.{SearchesShort};
 
 use crate::Graph;

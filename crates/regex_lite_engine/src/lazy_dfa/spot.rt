@@ -9,7 +9,7 @@ ghost use Rattle.regex_lite_engine.specs.LazyDfa.Spots.{IsTurn, Takes, TakesToNo
 ghost use Rattle.regex_lite_engine.specs.LazyDfa.Stored.{hit_in};
 ghost use Rattle.regex_lite_engine.specs.Search.Offsets.{position_at};
 ghost use Rattle.regex_lite_engine.specs.Search.Standing.{IsHere};
-ghost use Rattle.regex_lite_engine.specs.Pikevm.Outcomes.{IsBestOutcomeOf};
+ghost use Rattle.regex_lite_engine.specs.Search.NumberedOutcomes.{IsBestOutcomeOf};
 
 use crate::Graph;
 use crate::lazy_dfa::automaton::{LazyDfa, UNKNOWN};

@@ -4,8 +4,8 @@ ghost use Rattle.regex_lite_engine.specs.Graph.Stored.{table_of};
 ghost use Rattle.regex_lite_engine.specs.LazyDfa.Automaton.{Automaton};
 ghost use Rattle.regex_lite_engine.specs.LazyDfa.Running.{IsOnItsWay, Stands};
 ghost use Rattle.regex_lite_engine.specs.Search.Bounds.{characters_left};
-ghost use Rattle.regex_lite_engine.specs.Pikevm.Outcomes.{CanCount, IsBestOutcomeOf};
-ghost use Rattle.regex_lite_engine.specs.Pikevm.Outcomes.{IsNumberedEndOf};
+ghost use Rattle.regex_lite_engine.specs.Search.Counting.{CanCount};
+ghost use Rattle.regex_lite_engine.specs.Search.NumberedOutcomes.{IsBestOutcomeOf, IsNumberedEndOf};
 ghost use Rattle.regex_lite_engine.specs.Pikevm.Turns.{best_of};
 
 use crate::Graph;

@@ -11,7 +11,7 @@ ghost use Rattle.regex_lite_engine.specs.Graph.SideBySide.{HasTree};
 ghost use Rattle.regex_lite_engine.specs.Search.Bounds.{IsBoundedBy};
 ghost use Rattle.regex_lite_engine.specs.Search.Offsets.{position_at, search_start};
 ghost use Rattle.regex_lite_engine.specs.Search.Outcomes.{HasCostOfList};
-ghost use Rattle.regex_lite_engine.specs.Pikevm.Outcomes.{IsCountable};
+ghost use Rattle.regex_lite_engine.specs.Search.Counting.{IsCountable};
 ghost use Rattle.regex_lite_engine.specs.Pikevm.Searching.{IsBetween};
 
 use crate::nfa::list::GraphList;

@@ -4,7 +4,7 @@ ghost use Rattle.regex_lite_syntax.specs.Tree.{Tree};
 ghost use Rattle.regex_lite_engine.specs.Graph.SideBySide.{AreRegular};
 ghost use Rattle.regex_lite_engine.specs.Graph.StoredList.{IsGraphOfList};
 ghost use Rattle.regex_lite_engine.specs.Search.Outcomes.{IsSpanOutcomeOfList};
-ghost use Rattle.regex_lite_engine.specs.Pikevm.Outcomes.{GoesOnIn};
+ghost use Rattle.regex_lite_engine.specs.Pikevm.Searching.{GoesOnIn};
 
 use crate::nfa::list::GraphList;
 use crate::pikevm::beginning::Origin;
@@ -31,7 +31,7 @@ impl<'g> Model for ListSearcher<'g> {
     ghost use Rattle.std.specs.Prelude.{◌≡◌};
     ghost use Rattle.regex_lite_engine.specs.Graph.StoredList.{table_of_list};
     ghost use Rattle.regex_lite_engine.specs.Search.Searching.{ListSearching};
-    ghost use Rattle.regex_lite_engine.specs.Pikevm.Outcomes.{GoesOnIn};
+    ghost use Rattle.regex_lite_engine.specs.Pikevm.Searching.{GoesOnIn};
 
     ghost Value = { ListSearching };
 

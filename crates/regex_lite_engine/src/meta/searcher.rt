@@ -6,7 +6,6 @@ ghost use Rattle.regex_lite_engine.specs.Graph.Places.{Place};
 ghost use Rattle.regex_lite_engine.specs.Graph.Renumbered.{IsGraphOf};
 ghost use Rattle.regex_lite_engine.specs.LazyDfa.Remembering.{RemembersAll};
 ghost use Rattle.regex_lite_engine.specs.Search.Outcomes.{IsSpanOutcome};
-ghost use Rattle.regex_lite_engine.specs.Pikevm.Outcomes.{IsFresh};
 ghost use Rattle.regex_lite_engine.specs.Pikevm.Searching.{IsBetween};
 
 use crate::Graph;
@@ -37,7 +36,7 @@ impl<'g> Model for Searcher<'g> {
     ghost use Rattle.regex_lite_engine.specs.Graph.Stored.{table_of};
     ghost use Rattle.regex_lite_engine.specs.LazyDfa.Remembering.{FindsSpansIn, IsRemembering};
     ghost use Rattle.regex_lite_engine.specs.Search.Searching.{Searching};
-    ghost use Rattle.regex_lite_engine.specs.Pikevm.Outcomes.{IsCountable};
+    ghost use Rattle.regex_lite_engine.specs.Search.Counting.{IsCountable};
     ghost use Rattle.regex_lite_engine.specs.Pikevm.Searching.{IsBetween};
 
     ghost Value = { Searching };

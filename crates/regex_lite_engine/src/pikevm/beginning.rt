@@ -1,6 +1,6 @@
 //! What a search keeps of where a way began.
 ghost use Rattle.std.specs.Prelude.{◌≡◌, ℕ, Some, None};
-ghost use Rattle.regex_lite_engine.specs.Pikevm.Beginnings.{Told, TellsStart, untold};
+ghost use Rattle.regex_lite_engine.specs.Search.Beginnings.{Told, TellsStart, untold};
 
 /// What is kept with a thread of where its way began: the offset, with or without the number of the
 /// pattern, or nothing in a search that is asked only for an end.

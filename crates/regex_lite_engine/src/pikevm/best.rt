@@ -16,7 +16,7 @@ pub struct Best<S: Beginning> {
 
 impl<S: Beginning> Model for Best<S> {
     ghost use Rattle.regex_lite_engine.specs.Pikevm.Machine.{BestState};
-    ghost use Rattle.regex_lite_engine.specs.Pikevm.Beginnings.{found_told};
+    ghost use Rattle.regex_lite_engine.specs.Search.Beginnings.{found_told};
 
     ghost Value = { BestState };
 
@@ -90,8 +90,9 @@ impl<S: Beginning> Best<S> {
 }
 
 impl Best<usize> {
-    ghost use Rattle.regex_lite_engine.specs.Pikevm.Turns.{best_at, best_of};
-    ghost use Rattle.regex_lite_engine.specs.Pikevm.Outcomes.{match_told, with_start_kept};
+    ghost use Rattle.regex_lite_engine.specs.Pikevm.Turns.{best_of};
+    ghost use Rattle.regex_lite_engine.specs.Search.NumberedOutcomes.{best_at, match_told};
+    ghost use Rattle.regex_lite_engine.specs.Search.NumberedOutcomes.{with_start_kept};
 
     /// Where it starts and where it ends.
     pub fn span(&self) -> Option<(usize, usize)>
@@ -118,8 +119,8 @@ impl Best<usize> {
 }
 
 impl Best<Origin> {
-    ghost use Rattle.regex_lite_engine.specs.Pikevm.Outcomes.{numbered_at, numbered_told};
-    ghost use Rattle.regex_lite_engine.specs.Pikevm.Outcomes.{with_origin_kept};
+    ghost use Rattle.regex_lite_engine.specs.Search.NumberedOutcomes.{numbered_at, numbered_told};
+    ghost use Rattle.regex_lite_engine.specs.Search.NumberedOutcomes.{with_origin_kept};
     ghost use Rattle.regex_lite_engine.specs.Pikevm.Turns.{best_of};
 
     /// The number of its pattern, and where it starts and where it ends.

@@ -2,8 +2,8 @@
 ghost use Rattle.std.specs.Prelude.{◌≡◌, ◌<◌, List, ℕ, IfOk, length};
 ghost use Rattle.regex_lite_engine.specs.Graph.Places.{Place};
 ghost use Rattle.regex_lite_engine.specs.Graph.Stored.{places_of};
-ghost use Rattle.regex_lite_engine.specs.Pikevm.Outcomes.{IsCountable, IsFresh};
-ghost use Rattle.regex_lite_engine.specs.Pikevm.Searching.{IsBetween};
+ghost use Rattle.regex_lite_engine.specs.Search.Counting.{IsCountable};
+ghost use Rattle.regex_lite_engine.specs.Pikevm.Searching.{IsFresh, IsBetween};
 
 use crate::nfa::table::Table;
 use crate::pikevm::beginning::Beginning;

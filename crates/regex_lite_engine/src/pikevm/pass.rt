@@ -1,7 +1,7 @@
 //! From position to position, past those at which no match can start.
 ghost use Rattle.std.specs.Prelude.{◌≡◌, ℕ, chars, length};
 ghost use Rattle.regex_lite_engine.specs.Search.Bounds.{StaysCounted, characters_left};
-ghost use Rattle.regex_lite_engine.specs.Pikevm.Outcomes.{CanCount};
+ghost use Rattle.regex_lite_engine.specs.Search.Counting.{CanCount};
 ghost use Rattle.regex_lite_engine.specs.Pikevm.Passing.{IsUnderWay, Passes};
 ghost use Rattle.regex_lite_engine.specs.Search.Standing.{IsHere};
 ghost use Rattle.regex_lite_engine.specs.Pikevm.Passing.{GoesOnAt};

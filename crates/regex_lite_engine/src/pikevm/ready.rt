@@ -1,7 +1,8 @@
 //! Cells are made ready when a search first reaches them.
 ghost use Rattle.std.specs.Prelude.{◌≡◌, ◌+◌, ◌-◌, ◌≤◌, ◌<◌, ◌++◌, length, map};
 ghost use Rattle.std.specs.Prelude.{take, drop, replicate, true, vec_capacity};
-ghost use Rattle.regex_lite_engine.specs.Pikevm.Cells.{round_in, without_round, MakesReady};
+ghost use Rattle.regex_lite_engine.specs.Pikevm.Cells.{round_in, without_round};
+ghost use Rattle.regex_lite_engine.specs.Pikevm.Cells.{KeepsCapacity, MakesReady};
 
 use crate::pikevm::beginning::Beginning;
 use crate::pikevm::cell::Cell;
@@ -23,7 +24,7 @@ pub(super) fn is_rest_ready<S: Beginning>(
     requires room { low.old + length cells.old.items ≤ vec_capacity cells.old }
     ensures made { MakesReady low.old cells.old.items low.new cells.new.items }
     ensures ready { result ≡ true → low.new ≡ 0 }
-    ensures capacity { vec_capacity cells.old ≤ vec_capacity cells.new }
+    ensures capacity { KeepsCapacity cells.old cells.new }
 {
     if *low as u64 > rounds.saturating_mul(FEW_A_ROUND) {
         return false;
@@ -45,7 +46,7 @@ pub(super) fn reach<S: Beginning, const READY: bool>(
     requires ready { READY ≡ true → low.old ≡ 0 }
     ensures made { MakesReady low.old cells.old.items low.new cells.new.items }
     ensures number { low.new + result ≡ place }
-    ensures capacity { vec_capacity cells.old ≤ vec_capacity cells.new }
+    ensures capacity { KeepsCapacity cells.old cells.new }
 {
     if READY {
         return place;
@@ -60,7 +61,7 @@ fn reach_place<S: Beginning>(cells: &mut Vec<Cell<S>>, low: &mut usize, place: u
     requires room { low.old + length cells.old.items ≤ vec_capacity cells.old }
     ensures made { MakesReady low.old cells.old.items low.new cells.new.items }
     ensures ready { low.new ≤ place }
-    ensures capacity { vec_capacity cells.old ≤ vec_capacity cells.new }
+    ensures capacity { KeepsCapacity cells.old cells.new }
 {
     if place < *low {
         *low = make_ready(cells, *low, *low + cells.len() - place);
@@ -79,7 +80,7 @@ pub(super) fn provide<S: Beginning, const READY: bool>(
     requires ready { READY ≡ true → low.old ≡ 0 }
     ensures made { MakesReady low.old cells.old.items low.new cells.new.items }
     ensures ready { k < length cells.new.items }
-    ensures capacity { vec_capacity cells.old ≤ vec_capacity cells.new }
+    ensures capacity { KeepsCapacity cells.old cells.new }
 {
     if !READY && k == cells.len() {
         *low = make_ready(cells, *low, k + 1);
@@ -96,7 +97,7 @@ fn make_ready<S: Beginning>(cells: &mut Vec<Cell<S>>, low: usize, count: usize) 
     requires room { low + length cells.old.items ≤ vec_capacity cells.old }
     ensures made { MakesReady low cells.old.items result cells.new.items }
     ensures ready { count ≤ length cells.new.items }
-    ensures capacity { vec_capacity cells.old ≤ vec_capacity cells.new }
+    ensures capacity { KeepsCapacity cells.old cells.new }
 {
     let ready = cells.len();
     let all = low + ready;
@@ -112,7 +113,7 @@ fn fill<S: Beginning>(cells: &mut Vec<Cell<S>>, count: usize, blank: Cell<S>)
     requires room { count ≤ vec_capacity cells.old }
     ensures filled { cells.new.items
         ≡ cells.old.items ++ replicate (count - length cells.old.items) blank }
-    ensures capacity { vec_capacity cells.old ≤ vec_capacity cells.new }
+    ensures capacity { KeepsCapacity cells.old cells.new }
 {
     let _ = cells.resize(count, blank);
 }

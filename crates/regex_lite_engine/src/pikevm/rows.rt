@@ -20,7 +20,7 @@ pub struct Rows {
 
 impl Model for Rows {
     ghost use Rattle.std.specs.Prelude.{◌*◌, List, vec_capacity};
-    ghost use Rattle.regex_lite_engine.specs.Pikevm.Machine.{Row};
+    ghost use Rattle.regex_lite_engine.specs.Search.Rows.{Row};
     ghost use Rattle.regex_lite_engine.specs.Pikevm.Cells.{rows_in, padded, AreRows};
 
     ghost Value = { List Row };

@@ -3,7 +3,7 @@ ghost use Rattle.std.specs.Prelude.{◌≡◌, ◌+◌, ◌^◌, ◌≤◌, ◌<
 ghost use Rattle.std.specs.Prelude.{List, ℕ, All, None, length, true};
 ghost use Rattle.regex_lite_engine.specs.Graph.Renumbered.{arrows_of};
 ghost use Rattle.regex_lite_engine.specs.Search.Bounds.{StaysCounted};
-ghost use Rattle.regex_lite_engine.specs.Pikevm.Beginnings.{Told};
+ghost use Rattle.regex_lite_engine.specs.Search.Beginnings.{Told};
 ghost use Rattle.regex_lite_engine.specs.Pikevm.Turns.{best_of};
 
 use crate::pikevm::beginning::Beginning;

@@ -12,7 +12,8 @@ use Rattle.regex_lite_engine.specs.declared.pikevm.cell.Side.{Side}
 use Rattle.regex_lite_engine.specs.declared.pikevm.cell.Side.TheVariants.{First, Second}
 use Rattle.regex_lite_engine.specs.Pikevm.Cells.{round_in, frame_in, frames_in, other}
 use Rattle.regex_lite_engine.specs.Pikevm.Cells.{place_on, start_on, with_thread, row_on}
-use Rattle.regex_lite_engine.specs.Pikevm.Machine.{Row, Frame, Thread, State}
+use Rattle.regex_lite_engine.specs.Pikevm.Machine.{Frame, Thread, State}
+use Rattle.regex_lite_engine.specs.Search.Rows.{Row}
 
 -- a cell with a thread more
 module _ {S : Type 0} (place : ℕ) (start : S) (x : Cell S) where

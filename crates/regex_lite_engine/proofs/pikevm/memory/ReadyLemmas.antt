@@ -7,12 +7,13 @@ use Rattle.std.proofs.lemmas.List.{length-take, map-set, set-append_right, take-
 use Rattle.regex_lite_engine.specs.declared.pikevm.cell.Cell.{Cell}
 use Rattle.regex_lite_engine.specs.declared.pikevm.cell.Side.{Side}
 use Rattle.regex_lite_engine.specs.declared.pikevm.cell.Side.TheVariants.{First, Second}
-use Rattle.regex_lite_engine.specs.Pikevm.Beginnings.{Told, untold}
+use Rattle.regex_lite_engine.specs.Search.Beginnings.{Told, untold}
 use Rattle.regex_lite_engine.specs.Pikevm.Cells.{round_in, frame_in, frames_in, place_on, start_on}
 use Rattle.regex_lite_engine.specs.Pikevm.Cells.{start_told, thread_on, threads_on, without_round}
 use Rattle.regex_lite_engine.specs.Pikevm.Cells.{nth_row, other, rounds_in, HoldTogether}
 use Rattle.regex_lite_engine.specs.Pikevm.Cells.{MakesReady}
-use Rattle.regex_lite_engine.specs.Pikevm.Machine.{Row, State}
+use Rattle.regex_lite_engine.specs.Pikevm.Machine.{State}
+use Rattle.regex_lite_engine.specs.Search.Rows.{Row}
 use Rattle.regex_lite_engine.proofs.pikevm.memory.CellLemmas.{state_is, told_at}
 use Rattle.regex_lite_engine.proofs.pikevm.rows.RowLemmas.{listed_alike}
 

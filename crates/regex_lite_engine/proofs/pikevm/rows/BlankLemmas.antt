@@ -4,7 +4,7 @@ use Rattle.std.proofs.Common.{drop, replicate, set, Option, None, sym, ap, â—Œâˆ
 use Rattle.std.proofs.Common.{slice_index_or, [], length-append, length-drop, length-set}
 use Rattle.std.proofs.lemmas.List.{append_assoc, drop-append-le, take-append-le, length-take-le}
 use Rattle.std.proofs.lemmas.List.{length-replicate, replicate-append-replicate, set-append_left}
-use Rattle.regex_lite_engine.specs.Pikevm.Machine.{Row}
+use Rattle.regex_lite_engine.specs.Search.Rows.{Row}
 use Rattle.regex_lite_engine.specs.Pikevm.Cells.{rows_in, padded, AreRows}
 use Rattle.regex_lite_engine.proofs.pikevm.rows.RowLemmas.{inside_slots, row_of_view}
 use Rattle.regex_lite_engine.proofs.pikevm.rows.RowLemmas.{row_of_view_long, view_over}

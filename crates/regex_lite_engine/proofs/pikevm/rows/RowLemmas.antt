@@ -9,7 +9,7 @@ use Rattle.std.proofs.lemmas.List.FromFn.{get_or-map-range_with_len, length-map-
 use Rattle.std.proofs.lemmas.Bool.{cases_lt, cases_eq}
 use Rattle.std.proofs.Math.Nat.{mul-le-mul_right, suc-mul}
 use Rattle.std.proofs.Math.Seq.{take-set-lt, drop-append-add, take-append_seam}
-use Rattle.regex_lite_engine.specs.Pikevm.Machine.{Row}
+use Rattle.regex_lite_engine.specs.Search.Rows.{Row}
 use Rattle.regex_lite_engine.specs.Pikevm.Cells.{row_at, rows_in}
 
 -- lists that are determined by the numbers of what they hold

@@ -1,6 +1,6 @@
 use Rattle.std.proofs.Common.{◌+◌, ap, sym, ◌∙◌}
 use Rattle.regex_lite_engine.specs.Search.Offsets.{position_at}
-use Rattle.regex_lite_engine.proofs.search.here.OffsetLemmas.{after_at, position_is}
+use Rattle.regex_lite_engine.proofs.PositionLemmas.{after_at, position_is}
 use Rattle.regex_lite_engine.proofs.backtrack.enter.next_char.Goals as goal
 
 pub returns-in-None : goal.returns-in-None

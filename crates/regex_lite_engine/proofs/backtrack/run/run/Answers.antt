@@ -7,8 +7,8 @@ use Rattle.regex_lite_engine.specs.Search.Offsets.{position_at}
 use Rattle.regex_lite_engine.proofs.backtrack.LeadsLemmas.{start_matches}
 use Rattle.regex_lite_engine.proofs.backtrack.RunLemmas.{begun, over_here, start_fits, went_on}
 use Rattle.regex_lite_engine.proofs.backtrack.WalkLemmas.{walk_over}
-use Rattle.regex_lite_engine.proofs.pikevm.CountLemmas.{counted_at_first, still_counted}
-use Rattle.regex_lite_engine.proofs.search.here.OffsetLemmas.{less_left}
+use Rattle.regex_lite_engine.proofs.search.CountLemmas.{counted_at_first, still_counted}
+use Rattle.regex_lite_engine.proofs.search.here.HereLemmas.{less_left}
 use Rattle.regex_lite_engine.proofs.backtrack.run.run.Goals as goal
 
 pub starts-init : goal.starts-init

@@ -6,7 +6,7 @@ use Rattle.regex_lite_engine.specs.LazyDfa.Scanning.{best_told}
 use Rattle.regex_lite_engine.specs.Search.Answer.{Found}
 use Rattle.regex_lite_engine.specs.Search.Offsets.{position_at, IsOffset}
 use Rattle.regex_lite_engine.specs.Search.NumberedAnswer.{IsNumberedFound}
-use Rattle.regex_lite_engine.specs.Pikevm.Outcomes.{IsBestOutcomeOf}
+use Rattle.regex_lite_engine.specs.Search.NumberedOutcomes.{IsBestOutcomeOf}
 use Rattle.regex_lite_engine.proofs.PositionLemmas.{position_of}
 use Rattle.regex_lite_engine.proofs.OffsetLemmas.{boundary_at}
 use Rattle.regex_lite_engine.proofs.pikevm.EndLemmas.{one_best}

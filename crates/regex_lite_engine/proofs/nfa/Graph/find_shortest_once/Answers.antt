@@ -3,7 +3,7 @@ use Rattle.std.specs.Prelude.{chars}
 use Rattle.regex_lite_engine.specs.Graph.Stored.{table_of}
 use Rattle.regex_lite_engine.specs.Search.Offsets.{position_at}
 use Rattle.regex_lite_engine.specs.LazyDfa.Scanning.{end_told}
-use Rattle.regex_lite_engine.specs.Pikevm.Outcomes.{IsNumberedEndOf}
+use Rattle.regex_lite_engine.specs.Search.NumberedOutcomes.{IsNumberedEndOf}
 use Rattle.regex_lite_engine.specs.Pikevm.Turns.{best_of}
 use Rattle.regex_lite_engine.proofs.lazy_dfa.OnceLemmas.{empty, known_stands}
 use Rattle.regex_lite_engine.proofs.lazy_dfa.RunLemmas.{bounded_on, end_counted}

@@ -3,7 +3,9 @@ use Rattle.std.specs.Prelude.{chars}
 use Rattle.regex_lite_engine.specs.Graph.Stored.{places_of, table_of}
 use Rattle.regex_lite_engine.specs.LazyDfa.Scanning.{best_told}
 use Rattle.regex_lite_engine.specs.Search.Offsets.{position_at}
-use Rattle.regex_lite_engine.specs.Pikevm.Outcomes.{IsCountable, IsFresh, IsNumberedOutcome}
+use Rattle.regex_lite_engine.specs.Search.Counting.{IsCountable}
+use Rattle.regex_lite_engine.specs.Pikevm.Searching.{IsFresh}
+use Rattle.regex_lite_engine.specs.Search.NumberedOutcomes.{IsNumberedOutcome}
 use Rattle.regex_lite_engine.proofs.pikevm.EndLemmas.{one_best}
 use Rattle.regex_lite_engine.proofs.search.OutcomeLemmas.{answer_told, can_count, cost_told}
 use Rattle.regex_lite_engine.proofs.nfa.Graph.search_remembering.Goals as goal

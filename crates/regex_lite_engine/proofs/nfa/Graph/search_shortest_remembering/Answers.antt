@@ -4,7 +4,8 @@ use Rattle.regex_lite_engine.specs.Graph.Stored.{places_of, table_of}
 use Rattle.regex_lite_engine.specs.LazyDfa.Scanning.{end_told}
 use Rattle.regex_lite_engine.specs.Search.Offsets.{position_at}
 use Rattle.regex_lite_engine.specs.Search.Outcomes.{IsEndOutcome}
-use Rattle.regex_lite_engine.specs.Pikevm.Outcomes.{IsCountable, IsFresh}
+use Rattle.regex_lite_engine.specs.Search.Counting.{IsCountable}
+use Rattle.regex_lite_engine.specs.Pikevm.Searching.{IsFresh}
 use Rattle.regex_lite_engine.proofs.lazy_dfa.ScanLemmas.{end_back}
 use Rattle.regex_lite_engine.proofs.search.OutcomeLemmas as outcome
 use Rattle.regex_lite_engine.proofs.search.OutcomeLemmas.{can_count, cost_told}

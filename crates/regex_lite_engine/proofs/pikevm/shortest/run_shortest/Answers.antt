@@ -2,12 +2,12 @@ use Rattle.std.proofs.Common.{rules, refl, sym, subst, ◌∙◌, ℕ, length, �
 use Rattle.std.specs.Prelude.{chars}
 use Rattle.regex_lite_engine.specs.Search.Bounds.{characters_left}
 use Rattle.regex_lite_engine.specs.Search.Offsets.{position_at}
-use Rattle.regex_lite_engine.specs.Pikevm.Outcomes.{CanCount}
+use Rattle.regex_lite_engine.specs.Search.Counting.{CanCount}
 use Rattle.regex_lite_engine.specs.Pikevm.Passing.{Passes}
 use Rattle.regex_lite_engine.specs.Pikevm.Turns.{best_of}
-use Rattle.regex_lite_engine.proofs.search.here.OffsetLemmas.{less_left}
-use Rattle.regex_lite_engine.proofs.pikevm.CountLemmas.{counted_at_first, still_counted}
-use Rattle.regex_lite_engine.proofs.pikevm.EndLemmas.{over_at, some_after}
+use Rattle.regex_lite_engine.proofs.search.here.HereLemmas.{less_left, over_at}
+use Rattle.regex_lite_engine.proofs.search.CountLemmas.{counted_at_first, still_counted}
+use Rattle.regex_lite_engine.proofs.pikevm.EndLemmas.{some_after}
 use Rattle.regex_lite_engine.proofs.pikevm.PassLemmas.{begun, bounded, bounded_within}
 use Rattle.regex_lite_engine.proofs.pikevm.ShortestLemmas.{shortest_known, not_true}
 use Rattle.regex_lite_engine.proofs.pikevm.shortest.run_shortest.Given as given

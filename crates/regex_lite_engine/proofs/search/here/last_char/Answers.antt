@@ -1,6 +1,6 @@
 use Rattle.std.proofs.Common.{rules}
 use Rattle.std.specs.Char.{IsScalar}
-use Rattle.regex_lite_engine.proofs.search.here.OffsetLemmas.{none_before, some_before}
+use Rattle.regex_lite_engine.proofs.search.here.HereLemmas.{none_before, some_before}
 use Rattle.regex_lite_engine.proofs.search.here.last_char.Goals as goal
 
 pub returns-in-None : goal.returns-in-None

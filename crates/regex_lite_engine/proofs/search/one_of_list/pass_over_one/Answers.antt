@@ -3,7 +3,7 @@ use Rattle.std.specs.Prelude.{chars}
 use Rattle.std.proofs.lemmas.Bool.{cases_lt}
 use Rattle.regex_lite_engine.specs.Graph.StoredList.{table_of_list}
 use Rattle.regex_lite_engine.specs.Search.Starts.{IsDeadAt}
-use Rattle.regex_lite_engine.proofs.search.here.OffsetLemmas.{less_left}
+use Rattle.regex_lite_engine.proofs.search.here.HereLemmas.{less_left}
 use Rattle.regex_lite_engine.proofs.search.one_of_list.pass_over_one.Goals as goal
 
 pub passed-smaller : goal.passed-smaller

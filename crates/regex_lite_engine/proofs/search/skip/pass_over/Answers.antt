@@ -6,7 +6,7 @@ use Rattle.regex_lite_engine.specs.Prefilter.Heads.{IsCutOff, IsPassed, NeverBeg
 use Rattle.regex_lite_engine.specs.Prefilter.Starts.{may_begin, stops_at}
 use Rattle.regex_lite_engine.specs.Search.Offsets.{position_at}
 use Rattle.regex_lite_engine.specs.Search.Starts.{PassesTo}
-use Rattle.regex_lite_engine.proofs.search.here.OffsetLemmas.{at_most}
+use Rattle.regex_lite_engine.proofs.search.here.HereLemmas.{at_most}
 use Rattle.regex_lite_engine.proofs.search.SkipLemmas.{cut_off_here, never_at}
 use Rattle.regex_lite_engine.proofs.search.SkipLemmas.{passes_between, stopped}
 use Rattle.regex_lite_engine.proofs.search.skip.pass_over.Goals as goal

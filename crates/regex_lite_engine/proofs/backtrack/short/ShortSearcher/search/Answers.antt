@@ -6,8 +6,8 @@ use Rattle.std.proofs.Math.Nat.{mul-le-mul_left}
 use Rattle.regex_lite_engine.specs.Graph.Places.{kept_back_with}
 use Rattle.regex_lite_engine.specs.Graph.Stored.{place_of, table_of}
 use Rattle.regex_lite_engine.specs.Search.Offsets.{position_at}
-use Rattle.regex_lite_engine.specs.Pikevm.Turns.{IsBlank}
-use Rattle.regex_lite_engine.proofs.pikevm.TurnLemmas.{blank_row}
+use Rattle.regex_lite_engine.specs.Search.Rows.{IsBlank}
+use Rattle.regex_lite_engine.proofs.search.MarkLemmas.{blank_row}
 use Rattle.regex_lite_engine.proofs.search.OutcomeLemmas.{can_count}
 use Rattle.regex_lite_engine.proofs.backtrack.short.ShortSearcher.search.Goals as goal
 

@@ -11,8 +11,8 @@ use Rattle.regex_lite_engine.proofs.backtrack.LeftLemmas.{pair_inside}
 use Rattle.regex_lite_engine.proofs.backtrack.WentLemmas.{enter_room, entered_again}
 use Rattle.regex_lite_engine.proofs.backtrack.WentLemmas.{same_walk, was_old}
 use Rattle.regex_lite_engine.proofs.backtrack.WentLemmas.{went_entered, went_passed}
-use Rattle.regex_lite_engine.proofs.pikevm.CountLemmas.{counted_all}
-use Rattle.regex_lite_engine.proofs.pikevm.WentLemmas.{got_place}
+use Rattle.regex_lite_engine.proofs.search.CountLemmas.{counted_all}
+use Rattle.regex_lite_engine.proofs.search.PlaceLemmas.{got_place}
 use Rattle.regex_lite_engine.proofs.backtrack.walk.Walk.come_to.Goals as goal
 
 pub returns-then-not-insert-clause-taken : goal.returns-then-not-insert-clause-taken

@@ -7,7 +7,7 @@ use Rattle.regex_lite_engine.specs.Graph.Stored.{table_of}
 use Rattle.regex_lite_engine.specs.Search.Bounds.{StaysCounted}
 use Rattle.regex_lite_engine.proofs.backtrack.ExploreLemmas.{ended, found, goes_further, went_back}
 use Rattle.regex_lite_engine.proofs.backtrack.UnwindLemmas.{slots_below}
-use Rattle.regex_lite_engine.proofs.pikevm.CountLemmas.{still_counted}
+use Rattle.regex_lite_engine.proofs.search.CountLemmas.{still_counted}
 use Rattle.regex_lite_engine.proofs.backtrack.walk.Walk.explore.Goals as goal
 
 pub returns-in-Complete-clause-explored : goal.returns-in-Complete-clause-explored

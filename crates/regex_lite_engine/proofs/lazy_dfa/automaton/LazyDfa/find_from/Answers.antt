@@ -4,11 +4,12 @@ use Rattle.std.proofs.lemmas.List.{nil_from_length}
 use Rattle.regex_lite_engine.specs.Graph.Renumbered.{arrows_of}
 use Rattle.regex_lite_engine.specs.Graph.Stored.{table_of}
 use Rattle.regex_lite_engine.specs.Search.Bounds.{IsBoundedBy}
-use Rattle.regex_lite_engine.specs.Pikevm.Outcomes.{IsBestOutcomeOf, with_start_kept}
-use Rattle.regex_lite_engine.specs.Pikevm.Turns.{best_at, best_of}
+use Rattle.regex_lite_engine.specs.Search.NumberedOutcomes.{IsBestOutcomeOf, with_start_kept}
+use Rattle.regex_lite_engine.specs.Search.NumberedOutcomes.{best_at}
+use Rattle.regex_lite_engine.specs.Pikevm.Turns.{best_of}
 use Rattle.regex_lite_engine.proofs.lazy_dfa.RunLemmas.{bounded_on, match_counted, turned_from}
-use Rattle.regex_lite_engine.proofs.pikevm.EndLemmas.{ended_all, over_at}
-use Rattle.regex_lite_engine.proofs.search.here.OffsetLemmas.{at_most}
+use Rattle.regex_lite_engine.proofs.pikevm.EndLemmas.{ended_all}
+use Rattle.regex_lite_engine.proofs.search.here.HereLemmas.{over_at, at_most}
 use Rattle.regex_lite_engine.proofs.lazy_dfa.automaton.LazyDfa.find_from.Goals as goal
 
 pub positions-init : goal.positions-init

@@ -4,13 +4,12 @@ use Rattle.regex_lite_engine.specs.Graph.Renumbered.{arrows_of}
 use Rattle.regex_lite_engine.specs.Graph.Stored.{table_of}
 use Rattle.regex_lite_engine.specs.Search.Bounds.{IsBoundedBy}
 use Rattle.regex_lite_engine.specs.LazyDfa.Scanning.{end_told}
-use Rattle.regex_lite_engine.specs.Pikevm.Outcomes.{IsNumberedEndOf}
+use Rattle.regex_lite_engine.specs.Search.NumberedOutcomes.{IsNumberedEndOf}
 use Rattle.regex_lite_engine.specs.Pikevm.Turns.{best_of}
 use Rattle.regex_lite_engine.proofs.lazy_dfa.RunLemmas.{bounded_on, end_counted, turned_from}
 use Rattle.regex_lite_engine.proofs.lazy_dfa.ScanLemmas.{end_alone}
-use Rattle.regex_lite_engine.proofs.pikevm.EndLemmas.{over_at}
+use Rattle.regex_lite_engine.proofs.search.here.HereLemmas.{over_at, at_most}
 use Rattle.regex_lite_engine.proofs.pikevm.ShortestLemmas.{shortest_known}
-use Rattle.regex_lite_engine.proofs.search.here.OffsetLemmas.{at_most}
 use Rattle.regex_lite_engine.proofs.lazy_dfa.automaton.LazyDfa.find_shortest_from.Goals as goal
 
 pub positions-init : goal.positions-init

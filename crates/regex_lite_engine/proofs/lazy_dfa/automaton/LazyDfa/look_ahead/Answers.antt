@@ -4,8 +4,7 @@ use Rattle.std.proofs.lemmas.List.{nil_from_length}
 use Rattle.std.proofs.lemmas.Option.{slice_get_within}
 use Rattle.regex_lite_engine.specs.Graph.Stored.{table_of}
 use Rattle.regex_lite_engine.specs.LazyDfa.Learning.{IsIn}
-use Rattle.regex_lite_engine.specs.Pikevm.Outcomes.{with_start_kept}
-use Rattle.regex_lite_engine.specs.Pikevm.Turns.{best_at}
+use Rattle.regex_lite_engine.specs.Search.NumberedOutcomes.{with_start_kept, best_at}
 use Rattle.regex_lite_engine.proofs.lazy_dfa.ResumeLemmas.{scanning_from}
 use Rattle.regex_lite_engine.proofs.lazy_dfa.automaton.LazyDfa.look_ahead.Goals as goal
 

@@ -6,7 +6,7 @@ use Rattle.regex_lite_engine.specs.Graph.Stored.{table_of}
 use Rattle.regex_lite_engine.specs.LazyDfa.Scanning.{IsScanning, IsSince}
 use Rattle.regex_lite_engine.proofs.lazy_dfa.RunLemmas.{at_later}
 use Rattle.regex_lite_engine.proofs.lazy_dfa.SpotLemmas.{since_on}
-use Rattle.regex_lite_engine.proofs.search.here.OffsetLemmas.{at_most}
+use Rattle.regex_lite_engine.proofs.search.here.HereLemmas.{at_most}
 use Rattle.regex_lite_engine.proofs.lazy_dfa.automaton.LazyDfa.run_on_to_match.Goals as goal
 
 pub leaps-init : goal.leaps-init

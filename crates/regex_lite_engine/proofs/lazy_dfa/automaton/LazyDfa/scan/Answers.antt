@@ -7,7 +7,7 @@ use Rattle.regex_lite_engine.proofs.lazy_dfa.SpotLemmas.{since_edge, since_idle,
 use Rattle.regex_lite_engine.proofs.lazy_dfa.SpotLemmas.{since_on}
 use Rattle.regex_lite_engine.proofs.lazy_dfa.ScanLemmas.{scan_over, scanned_on}
 use Rattle.regex_lite_engine.proofs.pikevm.EndLemmas.{some_after}
-use Rattle.regex_lite_engine.proofs.search.here.OffsetLemmas.{less_left}
+use Rattle.regex_lite_engine.proofs.search.here.HereLemmas.{less_left}
 use Rattle.regex_lite_engine.proofs.lazy_dfa.automaton.LazyDfa.scan.Goals as goal
 
 pub run_on-requires-clause-scanning : goal.run_on-requires-clause-scanning

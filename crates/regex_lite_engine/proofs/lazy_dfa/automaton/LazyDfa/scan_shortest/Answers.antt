@@ -9,7 +9,7 @@ use Rattle.regex_lite_engine.proofs.lazy_dfa.SpotLemmas.{since_edge, since_idle,
 use Rattle.regex_lite_engine.proofs.lazy_dfa.SpotLemmas.{since_on}
 use Rattle.regex_lite_engine.proofs.lazy_dfa.ResumeLemmas.{none_by, some_by}
 use Rattle.regex_lite_engine.proofs.lazy_dfa.ScanLemmas.{end_none, scanned_on}
-use Rattle.regex_lite_engine.proofs.search.here.OffsetLemmas.{less_left}
+use Rattle.regex_lite_engine.proofs.search.here.HereLemmas.{less_left}
 use Rattle.regex_lite_engine.proofs.lazy_dfa.automaton.LazyDfa.scan_shortest.Goals as goal
 
 pub run_on_to_match-requires-clause-scanning : goal.run_on_to_match-requires-clause-scanning

@@ -9,7 +9,7 @@ use Rattle.regex_lite_engine.specs.LazyDfa.Automaton.{Automaton, best_left}
 use Rattle.regex_lite_engine.specs.LazyDfa.Intervals.{class_of}
 use Rattle.regex_lite_engine.specs.LazyDfa.Scanning.{IsScanning, best_told}
 use Rattle.regex_lite_engine.specs.LazyDfa.Stored.{hit_in, state_in}
-use Rattle.regex_lite_engine.specs.Pikevm.Outcomes.{IsNumberedEndOf}
+use Rattle.regex_lite_engine.specs.Search.NumberedOutcomes.{IsNumberedEndOf}
 use Rattle.regex_lite_engine.proofs.lazy_dfa.AutomatonLemmas.{known_turn, stored_turn}
 use Rattle.regex_lite_engine.proofs.lazy_dfa.AutomatonLemmas.{stored_within}
 use Rattle.regex_lite_engine.proofs.lazy_dfa.ScanLemmas.{end_led, led_step}

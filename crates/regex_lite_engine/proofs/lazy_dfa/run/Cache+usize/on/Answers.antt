@@ -3,7 +3,7 @@ use Rattle.std.specs.Prelude.{chars}
 use Rattle.std.proofs.lemmas.List.{nil_from_length}
 use Rattle.regex_lite_engine.proofs.lazy_dfa.RunLemmas.{other_first, own_first, state_from}
 use Rattle.regex_lite_engine.proofs.lazy_dfa.ScanLemmas.{next_before}
-use Rattle.regex_lite_engine.proofs.search.here.OffsetLemmas.{offset_less}
+use Rattle.regex_lite_engine.proofs.OffsetLemmas.{offset_less}
 use Rattle.regex_lite_engine.proofs.lazy_dfa.run.Cache+usize.on.Goals as goal
 
 pub returns-then-threads-eq0-clause-stands : goal.returns-then-threads-eq0-clause-stands

@@ -2,8 +2,8 @@ use Rattle.std.proofs.Common.{rules, ◌+◌, ◌∷◌, [], arith}
 use Rattle.std.specs.Prelude.{chars}
 use Rattle.regex_lite_engine.specs.Graph.Stored.{table_of}
 use Rattle.regex_lite_engine.specs.Pikevm.Turns.{best_of}
-use Rattle.regex_lite_engine.proofs.pikevm.EndLemmas.{ended_all, over_at}
-use Rattle.regex_lite_engine.proofs.search.here.OffsetLemmas.{at_most}
+use Rattle.regex_lite_engine.proofs.pikevm.EndLemmas.{ended_all}
+use Rattle.regex_lite_engine.proofs.search.here.HereLemmas.{over_at, at_most}
 use Rattle.regex_lite_engine.proofs.lazy_dfa.turns.Cache+usize.take_turns.Goals as goal
 
 pub positions-init : goal.positions-init

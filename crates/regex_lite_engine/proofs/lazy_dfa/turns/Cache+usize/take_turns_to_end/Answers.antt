@@ -2,9 +2,8 @@ use Rattle.std.proofs.Common.{rules, ◌+◌, ◌∷◌, [], arith}
 use Rattle.std.specs.Prelude.{chars}
 use Rattle.regex_lite_engine.specs.Graph.Stored.{table_of}
 use Rattle.regex_lite_engine.specs.Pikevm.Turns.{best_of}
-use Rattle.regex_lite_engine.proofs.pikevm.EndLemmas.{over_at}
+use Rattle.regex_lite_engine.proofs.search.here.HereLemmas.{over_at, at_most}
 use Rattle.regex_lite_engine.proofs.pikevm.ShortestLemmas.{shortest_known}
-use Rattle.regex_lite_engine.proofs.search.here.OffsetLemmas.{at_most}
 use Rattle.regex_lite_engine.proofs.lazy_dfa.turns.Cache+usize.take_turns_to_end.Goals as goal
 
 pub positions-init : goal.positions-init

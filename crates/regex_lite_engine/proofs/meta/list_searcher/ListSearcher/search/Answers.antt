@@ -4,7 +4,8 @@ use Rattle.regex_lite_engine.specs.Graph.StoredList.{IsGraphOfList, table_of_lis
 use Rattle.regex_lite_engine.specs.Search.Bounds.{characters_left}
 use Rattle.regex_lite_engine.specs.Search.Offsets.{position_at}
 use Rattle.regex_lite_engine.specs.Search.Searching.{ListSearching}
-use Rattle.regex_lite_engine.specs.Pikevm.Outcomes.{CanCount, IsBestOutcomeOf}
+use Rattle.regex_lite_engine.specs.Search.Counting.{CanCount}
+use Rattle.regex_lite_engine.specs.Search.NumberedOutcomes.{IsBestOutcomeOf}
 use Rattle.regex_lite_engine.specs.Pikevm.Turns.{best_of}
 use Rattle.regex_lite_engine.proofs.search.ListOutcomeLemmas.{list_span_told}
 use Rattle.regex_lite_engine.proofs.search.OutcomeLemmas.{can_count}

@@ -11,9 +11,9 @@ use Rattle.regex_lite_engine.specs.LazyDfa.Remembering.{NoneStartsBefore}
 use Rattle.regex_lite_engine.specs.LazyDfa.Scanning.{best_told}
 use Rattle.regex_lite_engine.specs.Search.Outcomes.{IsSpanOutcome}
 use Rattle.regex_lite_engine.specs.Search.Searching.{Searching}
-use Rattle.regex_lite_engine.specs.Pikevm.Outcomes.{IsBestOutcome, with_start_kept}
-use Rattle.regex_lite_engine.specs.Pikevm.Turns.{best_at, best_of}
-use Rattle.regex_lite_engine.specs.Pikevm.Walking.{Best}
+use Rattle.regex_lite_engine.specs.Search.NumberedOutcomes.{IsBestOutcome, with_start_kept, best_at}
+use Rattle.regex_lite_engine.specs.Search.NumberedOutcomes.{Best}
+use Rattle.regex_lite_engine.specs.Pikevm.Turns.{best_of}
 use Rattle.regex_lite_engine.proofs.pikevm.EndLemmas.{one_best}
 use Rattle.regex_lite_engine.proofs.search.OutcomeLemmas.{can_count, span_told}
 use Rattle.regex_lite_engine.proofs.meta.searcher.Searcher.search.Goals as goal

@@ -5,7 +5,9 @@ use Rattle.regex_lite_engine.specs.Graph.Stored.{places_of}
 use Rattle.regex_lite_engine.specs.Graph.StoredList.{StoredList, table_of_list}
 use Rattle.regex_lite_engine.specs.Search.Bounds.{IsBoundedBy, characters_left}
 use Rattle.regex_lite_engine.specs.Search.Offsets.{position_at}
-use Rattle.regex_lite_engine.specs.Pikevm.Outcomes.{IsBestOutcomeOf, IsCountable, IsFresh, CanCount}
+use Rattle.regex_lite_engine.specs.Search.NumberedOutcomes.{IsBestOutcomeOf}
+use Rattle.regex_lite_engine.specs.Search.Counting.{IsCountable, CanCount}
+use Rattle.regex_lite_engine.specs.Pikevm.Searching.{IsFresh}
 use Rattle.regex_lite_engine.specs.Pikevm.Turns.{best_of}
 use Rattle.regex_lite_engine.proofs.search.ListOutcomeLemmas.{cost_of_list, outcome_told}
 use Rattle.regex_lite_engine.proofs.search.OutcomeLemmas.{can_count}

@@ -6,7 +6,9 @@ use Rattle.regex_lite_engine.specs.Graph.StoredList.{StoredList, table_of_list}
 use Rattle.regex_lite_engine.specs.Search.Bounds.{IsBoundedBy, characters_left}
 use Rattle.regex_lite_engine.specs.Search.AnswerOfList.{AnyMatchesFrom}
 use Rattle.regex_lite_engine.specs.Search.Offsets.{position_at, search_start}
-use Rattle.regex_lite_engine.specs.Pikevm.Outcomes.{IsNumberedEndOf, IsCountable, IsFresh, CanCount}
+use Rattle.regex_lite_engine.specs.Search.NumberedOutcomes.{IsNumberedEndOf}
+use Rattle.regex_lite_engine.specs.Search.Counting.{IsCountable, CanCount}
+use Rattle.regex_lite_engine.specs.Pikevm.Searching.{IsFresh}
 use Rattle.regex_lite_engine.specs.Pikevm.Turns.{best_of}
 use Rattle.regex_lite_engine.proofs.search.ListOutcomeLemmas.{cost_of_list, any_told}
 use Rattle.regex_lite_engine.proofs.search.OutcomeLemmas.{can_count}

@@ -9,7 +9,8 @@ use Rattle.regex_lite_engine.specs.Graph.StoredList.{StoredList, table_of_list}
 use Rattle.regex_lite_engine.specs.Search.Answer.{HasMatchFrom}
 use Rattle.regex_lite_engine.specs.Search.Bounds.{IsBoundedBy, characters_left}
 use Rattle.regex_lite_engine.specs.Search.Offsets.{position_at}
-use Rattle.regex_lite_engine.specs.Pikevm.Outcomes.{CanCount, IsNumberedEndOf}
+use Rattle.regex_lite_engine.specs.Search.Counting.{CanCount}
+use Rattle.regex_lite_engine.specs.Search.NumberedOutcomes.{IsNumberedEndOf}
 use Rattle.regex_lite_engine.specs.Pikevm.Turns.{best_of}
 use Rattle.regex_lite_engine.proofs.search.ListOutcomeLemmas.{one_told}
 use Rattle.regex_lite_engine.proofs.search.OutcomeLemmas.{can_count}

@@ -6,13 +6,14 @@ use Rattle.std.proofs.Math.Seq.{drop-cons}
 use Rattle.regex_lite_engine.specs.declared.search.patterns.Start.{Start}
 use Rattle.regex_lite_engine.specs.Search.Bounds.{StaysCounted}
 use Rattle.regex_lite_engine.specs.Pikevm.Again.{all_retold, best_again, retold, state_retold}
-use Rattle.regex_lite_engine.specs.Pikevm.Beginnings.{Told, untold}
-use Rattle.regex_lite_engine.specs.Pikevm.Machine.{Row, State, BestState, Thread, thread_at}
+use Rattle.regex_lite_engine.specs.Search.Beginnings.{Told, untold}
+use Rattle.regex_lite_engine.specs.Pikevm.Machine.{State, BestState, Thread, thread_at}
+use Rattle.regex_lite_engine.specs.Search.Rows.{Row}
 use Rattle.regex_lite_engine.specs.Pikevm.Room.{explores, KeepsPosition}
 use Rattle.regex_lite_engine.specs.Pikevm.Searching.{ways_at}
 use Rattle.regex_lite_engine.specs.Pikevm.Turns.{begun, best_of, with_starts, Between, StepsTo}
-use Rattle.regex_lite_engine.specs.Pikevm.Walking.{Best}
-use Rattle.regex_lite_engine.proofs.pikevm.CountLemmas.{still_counted}
+use Rattle.regex_lite_engine.specs.Search.NumberedOutcomes.{Best}
+use Rattle.regex_lite_engine.proofs.search.CountLemmas.{still_counted}
 use Rattle.regex_lite_engine.proofs.pikevm.StateLemmas.{takes_up}
 use Rattle.regex_lite_engine.proofs.pikevm.StepLemmas.{goes_up, room_pushed, stepped}
 use Rattle.regex_lite_engine.proofs.pikevm.TurnLemmas.{begun_below, start_begun, start_taken}

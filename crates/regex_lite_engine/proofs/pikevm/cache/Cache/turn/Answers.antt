@@ -2,8 +2,9 @@ use Rattle.std.proofs.Common.{◌≡◌, ℕ, List, ◌+◌, length, sym, ap, su
 use Rattle.regex_lite_engine.specs.Graph.Parts.{row_of}
 use Rattle.regex_lite_engine.specs.Graph.Renumbered.{arrow_count}
 use Rattle.regex_lite_engine.specs.Pikevm.Again.{all_retold, best_again, state_retold}
-use Rattle.regex_lite_engine.specs.Pikevm.Beginnings.{Told}
-use Rattle.regex_lite_engine.specs.Pikevm.Room.{explores, lone, ThreadsBelow}
+use Rattle.regex_lite_engine.specs.Search.Beginnings.{Told}
+use Rattle.regex_lite_engine.specs.Pikevm.Room.{explores, ThreadsBelow}
+use Rattle.regex_lite_engine.specs.Search.Counting.{lone}
 use Rattle.regex_lite_engine.specs.Pikevm.Turns.{best_of, with_starts, Begun, IsComing}
 use Rattle.regex_lite_engine.specs.Pikevm.Walking.{SearchAt}
 use Rattle.regex_lite_syntax.specs.Text.{Text}

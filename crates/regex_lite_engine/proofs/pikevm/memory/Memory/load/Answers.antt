@@ -1,6 +1,6 @@
 use Rattle.std.proofs.Common.{◌≡◌, ◌<◌, length, map, slice_index}
 use Rattle.std.proofs.Common.{slice_index_or, refl, ap, sym, ◌∙◌, arith, length-set}
-use Rattle.regex_lite_engine.specs.Pikevm.Beginnings.{untold}
+use Rattle.regex_lite_engine.specs.Search.Beginnings.{untold}
 use Rattle.regex_lite_engine.specs.Pikevm.Cells.{nth_row, other, row_on}
 use Rattle.regex_lite_engine.specs.Pikevm.Cells.{place_on, start_on, start_told}
 use Rattle.regex_lite_engine.specs.Pikevm.Machine.{State, thread_at}

@@ -1,7 +1,7 @@
 use Rattle.std.proofs.Common.{rules, ◌≡◌, ℕ, [], ◌∷◌, length, set, slice_index_or}
 use Rattle.std.proofs.Common.{vec_capacity, refl, ap, sym, ◌∙◌, arith}
 use Rattle.std.proofs.lemmas.List.{set-get_or}
-use Rattle.regex_lite_engine.specs.Pikevm.Machine.{Row}
+use Rattle.regex_lite_engine.specs.Search.Rows.{Row}
 use Rattle.regex_lite_engine.proofs.pikevm.rows.BlankLemmas.{row_wide}
 use Rattle.regex_lite_engine.proofs.pikevm.rows.Rows.copy.Goals as goal
 

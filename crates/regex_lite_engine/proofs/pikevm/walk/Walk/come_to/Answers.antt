@@ -7,11 +7,12 @@ use Rattle.regex_lite_engine.specs.declared.pikevm.enter.Onward as code
 use Rattle.regex_lite_engine.specs.Pikevm.Entering.{completes, onto, Enters}
 use Rattle.regex_lite_engine.specs.Pikevm.Machine.{explore, State}
 use Rattle.regex_lite_engine.specs.Pikevm.Room.{TakesFrame}
-use Rattle.regex_lite_engine.proofs.pikevm.CountLemmas.{counted_all}
+use Rattle.regex_lite_engine.proofs.search.CountLemmas.{counted_all}
 use Rattle.regex_lite_engine.proofs.pikevm.RoomLemmas.{left_room}
 use Rattle.regex_lite_engine.proofs.pikevm.StateLemmas.{later_same, still_fits}
 use Rattle.regex_lite_engine.proofs.pikevm.WalkLemmas.{marked_in}
-use Rattle.regex_lite_engine.proofs.pikevm.WentLemmas.{goes_on, got_place, was_met}
+use Rattle.regex_lite_engine.proofs.pikevm.WentLemmas.{goes_on, was_met}
+use Rattle.regex_lite_engine.proofs.search.PlaceLemmas.{got_place}
 use Rattle.regex_lite_engine.proofs.pikevm.WentLemmas.{went_entered, went_seen}
 use Rattle.regex_lite_engine.proofs.pikevm.walk.Walk.come_to.Goals as goal
 

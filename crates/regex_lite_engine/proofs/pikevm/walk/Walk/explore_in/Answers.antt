@@ -2,7 +2,7 @@ use Rattle.std.proofs.Common.{List, [], ◌∷◌, false, true, refl, subst, ◌
 use Rattle.regex_lite_engine.specs.Graph.Stored.{places_of}
 use Rattle.regex_lite_engine.specs.Pikevm.Machine.{explore, Frame}
 use Rattle.regex_lite_engine.specs.Pikevm.Room.{with_frames, GoesOn}
-use Rattle.regex_lite_engine.proofs.pikevm.CountLemmas.{still_counted}
+use Rattle.regex_lite_engine.proofs.search.CountLemmas.{still_counted}
 use Rattle.regex_lite_engine.proofs.pikevm.StateLemmas.{keeps_threads}
 use Rattle.regex_lite_engine.proofs.pikevm.WentLemmas.{back_to, goes_further}
 use Rattle.regex_lite_engine.proofs.pikevm.walk.Walk.explore_in.Goals as goal

@@ -1,5 +1,5 @@
 use Rattle.std.proofs.Common.{refl}
-use Rattle.regex_lite_engine.proofs.search.here.OffsetLemmas.{here_begins}
+use Rattle.regex_lite_engine.proofs.search.here.HereLemmas.{here_begins}
 use Rattle.regex_lite_engine.proofs.search.here.Here.at.Goals as goal
 
 pub returns-clause-here : goal.returns-clause-here

@@ -1,6 +1,7 @@
 use Rattle.std.proofs.Common.{rules, ◌+◌, chars, suc, refl, sym, ap, subst}
 use Rattle.regex_lite_engine.specs.Search.Offsets.{IsOffset}
-use Rattle.regex_lite_engine.proofs.search.here.OffsetLemmas.{moved, here_next, boundary_at}
+use Rattle.regex_lite_engine.proofs.search.here.HereLemmas.{moved, here_next}
+use Rattle.regex_lite_engine.proofs.OffsetLemmas.{boundary_at}
 use Rattle.regex_lite_engine.proofs.search.here.Here.next.Goals as goal
 
 pub overflow_add-at : goal.overflow_add-at

@@ -1,84 +1,22 @@
--- Positions and offsets.
+-- Where a search stands in the haystack, and the characters beside it.
 use Rattle.std.proofs.Common.{◌≡◌, ℕ, zero, suc, ◌+◌, ◌-◌, ◌<◌, ◌≤◌, ◌⊎◌, inl, inr, List, []}
-use Rattle.std.proofs.Common.{◌∷◌, ◌++◌, length, take, drop, sum_by, slice_get, Some, None}
+use Rattle.std.proofs.Common.{◌∷◌, ◌++◌, length, take, drop, slice_get, Some, None}
 use Rattle.std.proofs.Common.{refl, sym, ap, subst, ◌∙◌, arith, length-append, append-nil}
 use Rattle.std.specs.Prelude.{IsUtf8, IsCharBoundary, chars}
 use Rattle.std.specs.Char.{len_utf8, IsScalar}
-use Rattle.regex_lite_engine.specs.declared.search.here.Here.{Here}
-use lib.Utf8.{encode, encodes}
-use Rattle.std.proofs.lemmas.List.{take-append-drop, length-take-le}
+use lib.Utf8.{encode}
+use Rattle.std.proofs.lemmas.Bool.{cases_lt}
+use Rattle.std.proofs.lemmas.List.{length-take-le}
 use Rattle.std.proofs.lemmas.Option.{slice_get_within}
 use Rattle.std.proofs.lemmas.Str.{encodes-chars, chars-append, IsUtf8-take, IsCharBoundary-at_seam}
-use Rattle.std.proofs.lemmas.Str.{IsUtf8-encode, chars-nil, chars_from_encodes, chars_past_char}
-use Rattle.regex_lite_syntax.specs.Text.{before, after}
+use Rattle.std.proofs.lemmas.Str.{IsUtf8-encode, chars-nil, chars_past_char}
+use Rattle.regex_lite_syntax.specs.Text.{Text, before}
+use Rattle.regex_lite_engine.specs.declared.search.here.Here.{Here}
 use Rattle.regex_lite_engine.specs.Search.Offsets.{offset, position_at, IsOffset}
 use Rattle.regex_lite_engine.specs.Search.Standing.{IsHere}
-use Rattle.std.proofs.lemmas.Bool.{cases_order}
-pub use Rattle.regex_lite_engine.proofs.OffsetLemmas.{length_encodes, offset_next, offset_less}
-pub use Rattle.regex_lite_engine.proofs.OffsetLemmas.{offset_most, rest_at, utf8_rest, boundary_at}
-
--- the characters that follow a place
-pub chars_at : (bs : List ℕ) (p at : ℕ) → IsUtf8 bs → IsOffset (chars bs) p at
-    → chars (drop at bs) ≡ drop p (chars bs)
-chars_at bs p at u (le, e) =
-    let same : encodes (chars bs) ≡ bs = encodes-chars bs u in
-    let cut : encodes (drop p (chars bs)) ≡ drop at bs =
-    sym (rest_at (chars bs) p) ∙ ap (drop (offset (chars bs) p)) same
-    ∙ ap (λ z. drop z bs) (sym e) in
-    sym (chars_from_encodes (drop p (chars bs)) (drop at bs)
-    (subst IsUtf8 cut (utf8_rest (chars bs) p (subst IsUtf8 (sym same) u))) cut)
-
-pub chars_cut : (bs : List ℕ) (at : ℕ) → IsUtf8 bs → IsCharBoundary bs at
-    → chars bs ≡ chars (take at bs) ++ chars (drop at bs)
-chars_cut bs at u b =
-    ap chars (sym (take-append-drop at bs))
-    ∙ chars-append (take at bs) (drop at bs) (IsUtf8-take bs at u b)
-
-pub position_is : (bs : List ℕ) (at : ℕ) → IsUtf8 bs → IsCharBoundary bs at
-    → IsOffset (chars bs) (position_at bs at) at
-position_is bs at u b = (within, spans)
-  where
-    xs : List ℕ
-    xs = chars (take at bs)
-
-    ys : List ℕ
-    ys = chars (drop at bs)
-
-    both : chars bs ≡ xs ++ ys
-    both = chars_cut bs at u b
-
-    within : position_at bs at ≤ length (chars bs)
-    within = omega (arith, ap length both, length-append xs ys)
-
-    front : (us cs : List ℕ) → take (length us) (us ++ cs) ≡ us
-    front [] cs = refl
-    front (a ∷ us) cs = ap (λ z. a ∷ z) (front us cs)
-
-    spans : at ≡ offset (chars bs) (position_at bs at)
-    spans =
-        sym (length-take-le at bs b.0)
-        ∙ ap length (sym (encodes-chars (take at bs) (IsUtf8-take bs at u b))) ∙ length_encodes xs
-        ∙ ap (sum_by len_utf8) (sym (front xs ys))
-        ∙ ap (λ z. sum_by len_utf8 (take (length xs) z)) (sym both)
-
--- an offset has one position
-pub same_position : (cs : List ℕ) (p q : ℕ) → p ≤ length cs → q ≤ length cs
-    → offset cs p ≡ offset cs q → p ≡ q
-same_position cs p q lp lq e = go (cases_order p q)
-  where
-    go : (p ≡ q) ⊎ ((p < q) ⊎ (q < p)) → p ≡ q
-    go (inl d) = d
-    go (inr (inl lt)) = let less = offset_less cs p q lt lq in absurd (omega (arith, less, e))
-    go (inr (inr lt)) = let less = offset_less cs q p lt lp in absurd (omega (arith, less, e))
-
-get_drop : (p : ℕ) (cs : List ℕ) → slice_get (drop p cs) 0 ≡ slice_get cs p
-get_drop zero cs = refl
-get_drop (suc p) [] = refl
-get_drop (suc p) (c ∷ cs) = get_drop p cs
-
-pub after_at : (bs : List ℕ) (p at : ℕ) → IsUtf8 bs → IsOffset (chars bs) p at
-    → slice_get (chars (drop at bs)) 0 ≡ after (chars bs) p
-after_at bs p at u is = ap (λ z. slice_get z 0) (chars_at bs p at u is) ∙ get_drop p (chars bs)
+use Rattle.regex_lite_engine.proofs.OffsetLemmas.{offset_less, offset_most, offset_next}
+use Rattle.regex_lite_engine.proofs.OptionLemmas.{not_there}
+use Rattle.regex_lite_engine.proofs.PositionLemmas.{after_at, chars_cut, position_is, same_position}
 
 pub none_before : (bs : List ℕ) (p at : ℕ) → at ≤ length bs → IsOffset (chars bs) p at
     → length (take at bs) ≡ 0 → None ≡ before (chars bs) p
@@ -176,3 +114,18 @@ at_most bs p x u is = let a = is.bytes in
     let most : offset (chars bs) p ≤ length bs =
     subst (λ z. offset (chars bs) p ≤ length z) (encodes-chars bs u) (offset_most (chars bs) p) in
     omega (arith, a, most)
+
+-- at the end of the text
+pub over_at : {Q : Type 0} (h : Text) (p : ℕ) (x : Here) → IsHere h p x → (x.after ≡ None) ⊎ Q
+    → (p ≡ length h) ⊎ Q
+over_at h p x is (inr q) = inr q
+over_at h p x is (inl e) = inl (go (cases_lt p (length h)))
+  where
+    there : (cs : List ℕ) (q : ℕ) → q < length cs → slice_get cs q ≡ None → ⊥
+    there [] q lt e = omega (arith, lt)
+    there (c ∷ cs) zero lt e = not_there (sym e)
+    there (c ∷ cs) (suc q) lt e = there cs q (omega (arith, lt)) e
+
+    go : (p < length h) ⊎ (length h ≤ p) → p ≡ length h
+    go (inl lt) = absurd (there h p lt (sym is.ahead ∙ e))
+    go (inr le) = let within = is.inside in omega (arith, le, within)

@@ -1,5 +1,6 @@
--- What was counted stays counted, from one step to the next.
-use Rattle.std.proofs.Common.{◌≡◌, ◌+◌, ap, ◌∙◌, arith}
+-- What was counted stays counted, from one step to the next, and what counts if a test fails.
+use Rattle.std.proofs.Common.{◌≡◌, ◌≤◌, ◌+◌, ℕ, Bool, true, false, if◌then◌else◌}
+use Rattle.std.proofs.Common.{ap, ◌∙◌, arith}
 use Rattle.regex_lite_engine.specs.Search.Bounds.{StepCounts, StaysCounted}
 
 pub counted_at_first : (steps : StepCounts) → StaysCounted steps steps
@@ -34,3 +35,8 @@ counted_all w tried entered looked one two three =
     three
     ∙ ap (λ (c : StepCounts). record c { looked = c.looked + 1 })
     (two ∙ ap (λ (c : StepCounts). record c { entered = c.entered + 1 }) one)
+
+-- what counts only if a test fails
+pub test_most : (b : Bool) (x : ℕ) → (if b then 0 else x) ≤ x
+test_most true x = omega arith
+test_most false x = omega arith

@@ -1,20 +1,23 @@
 -- What a search over a table of numbered places returns, by offsets.
-use Rattle.std.specs.Prelude.{◌≡◌, ◌+◌, ◌*◌, ◌^◌, ◌<◌, ℕ, List, [], Option, length, Some, None}
+use Rattle.std.specs.Prelude.{◌≡◌, ℕ, List, Option, Some, None}
 use Rattle.regex_lite_syntax.specs.Text.{Text}
 use Rattle.regex_lite_engine.specs.declared.search.outcome.Outcome.{Outcome}
-use Rattle.regex_lite_engine.specs.declared.pikevm.cache.Cache.{Cache}
 use Rattle.regex_lite_engine.specs.Graph.Places.{Place}
-use Rattle.regex_lite_engine.specs.Graph.Renumbered.{arrows_of}
-use Rattle.regex_lite_engine.specs.Graph.StoredList.{StoredList, table_of_list}
 use Rattle.regex_lite_engine.specs.Search.Answer.{Found}
-use Rattle.regex_lite_engine.specs.Pikevm.Beginnings.{IsTold, TellsStart}
-use Rattle.regex_lite_engine.specs.Pikevm.Machine.{Row}
+use Rattle.regex_lite_engine.specs.Search.Beginnings.{Told, IsTold, TellsStart}
 use Rattle.regex_lite_engine.specs.Search.NumberedAnswer.{IsNumberedAnswer, IsNumberedShortest}
 use Rattle.regex_lite_engine.specs.Search.NumberedList.{IsNumberedAnswerOf, IsNumberedShortestOf}
 use Rattle.regex_lite_engine.specs.Search.Offsets.{offset, HasSlots}
-use Rattle.regex_lite_engine.specs.Pikevm.Walking.{Best}
-use Rattle.regex_lite_engine.specs.Pikevm.Turns.{best_of}
-use Rattle.regex_lite_engine.specs.Pikevm.Searching.{IsBetween}
+use Rattle.regex_lite_engine.specs.Search.Rows.{Row}
+
+-- the best match so far: what is kept of its start, the offset of its end, and its row
+abbrev pub Best : Type 0
+Best = Option (Told × ℕ × Row)
+
+-- the match with this span and row
+abbrev pub best_at : {X : Type 0} → Option (X × ℕ) → Row → Option (X × ℕ × Row)
+best_at None row = None
+best_at (Some found) row = Some (found.0, found.1, row)
 
 -- the match that is returned
 abbrev pub match_told : Option Outcome → Option (ℕ × ℕ × Row)
@@ -79,29 +82,3 @@ IsNumberedEndOf table haystack entries s None = IsNumberedAnswerOf table haystac
 IsNumberedEndOf table haystack entries s (Some best) =
     (end : ℕ) × IsNumberedShortestOf table haystack entries s end
     × (best.1 ≡ offset haystack end)
-
--- a search from position s on has not begun. There may have been rounds of others
-pub record IsFresh {S : Type 0} (table : List (Place ℕ)) (cache : Cache S) : Type 0 where
-  pub between : IsBetween table cache
-  pub none : best_of cache.best ≡ None
-  pub no_threads : cache.walk.memory.threads ≡ []
-  pub few_rounds : cache.walk.memory.now < 2 ^ 63
-  pub no_tries : cache.walk.steps.tried ≡ 0
-  pub no_entries : cache.walk.steps.entered ≡ 0
-
--- its places and its arrows can be numbered
-pub record IsCountable (table : List (Place ℕ)) : Type 0 where
-  pub few_places : length table < 2 ^ 32
-  pub few_arrows : arrows_of table < 2 ^ 34
-
--- searches for the patterns of the graph go on in this cache. Without a pattern none is begun
-abbrev pub GoesOnIn : {S : Type 0} → StoredList → Cache S → Type 0
-GoesOnIn list cache =
-    0 < length list.entries
-    → IsBetween (table_of_list list) cache × IsCountable (table_of_list list)
-
--- the counts of a search for this many patterns over this many characters fit
-pub record CanCount (table : List (Place ℕ)) (patterns characters : ℕ) : Type 0 where
-  pub tries : (arrows_of table + patterns) * (characters + 1) < 2 ^ 127
-  pub entries : length table * (characters + 1) < 2 ^ 127
-  pub rounds : characters < 2 ^ 63

@@ -1,16 +1,66 @@
--- What a place offers, by its arrows.
-use Rattle.std.proofs.Common.{◌≡◌, ℕ, zero, suc, ◌+◌, IsTrue, List, [], ◌∷◌, ◌++◌, map}
+-- The places of a table, and what each offers, by its arrows.
+use Rattle.std.proofs.Common.{◌≡◌, ℕ, zero, suc, ◌+◌, ◌≤◌, IsTrue, List, [], ◌∷◌, ◌++◌, map}
 use Rattle.std.proofs.Common.{slice_get, Option, Some, None, refl, ap, subst, ◌∙◌, arith}
+use Rattle.std.proofs.lemmas.Option.{slice_get_past}
 use Rattle.regex_lite_syntax.specs.Text.{Text}
-use Rattle.regex_lite_engine.specs.Graph.Places.{Arrow, Place, with_arrows, go}
+use Rattle.regex_lite_engine.specs.declared.nfa.place.Place as code
+use Rattle.regex_lite_engine.specs.Graph.Places.{Arrow, Place, complete, with_arrows, go}
 use Rattle.regex_lite_engine.specs.Graph.Places.{arrow_taken, step_from}
 use Rattle.regex_lite_engine.specs.Graph.Renumbered.{arrow_count}
+use Rattle.regex_lite_engine.specs.Graph.Stored.{place_of}
 use Rattle.regex_lite_engine.specs.Search.Marks.{mark_of}
 use Rattle.regex_lite_engine.specs.Search.NumberedAnswer.{place_with, is_complete}
 use Rattle.regex_lite_engine.specs.Search.NumberedAnswer.{numbered_step, is_end}
-use Rattle.regex_lite_engine.specs.Pikevm.Walking.{Node}
+use Rattle.regex_lite_engine.specs.Search.Offers.{Offer, Node}
 use Rattle.regex_lite_engine.proofs.OptionLemmas.{not_there, same_some}
-use Rattle.regex_lite_engine.proofs.pikevm.WalkLemmas.{one, wide, no_more, offered_by}
+use Rattle.regex_lite_engine.proofs.search.OfferLemmas as order
+
+-- the place with this number
+pub got_place : (spots : List code.Place) (q : ℕ) (x : code.Place) → slice_get spots q ≡ Some x
+    → slice_get (map (λ s. place_of s) spots) q ≡ Some (place_of x)
+got_place [] q x e = absurd (not_there e)
+got_place (y ∷ spots) zero x e = ap (λ z. Some (place_of z)) (same_some e)
+got_place (y ∷ spots) (suc q) x e = got_place spots q x e
+
+module _ (table : List (Place ℕ)) (h : Text) where
+  abbrev pub wide : Node → ℕ
+  wide n = arrow_count (place_with table n.0)
+
+  no_more_at : (x : Place ℕ) (i k : ℕ) → arrow_count x ≤ k → step_from h x i k ≡ None
+  no_more_at complete i k le = refl
+  no_more_at (with_arrows arrows) i k le = ap (arrow_taken h i) (slice_get_past arrows k le)
+
+  pub no_more : (n : Node) (k : ℕ) → wide n ≤ k → numbered_step table h n k ≡ None
+  no_more n k le = no_more_at (place_with table n.0) n.1 k le
+
+  pub no_arrow_at : (x : Place ℕ) (i k : ℕ) → IsTrue (is_complete x) → step_from h x i k ≡ None
+  no_arrow_at complete i k e = refl
+  no_arrow_at (with_arrows arrows) i k e = cc
+
+  abbrev pub one : Option Node → List ℕ → List (Offer Node)
+  one None w = []
+  one (Some m) w = (m, w) ∷ []
+
+  -- what a place offers
+  abbrev pub offered_by : Place ℕ → ℕ → List ℕ → ℕ → ℕ → List (Offer Node)
+  offered_by x p w zero k = []
+  offered_by x p w (suc c) k = one (step_from h x p k) (w ++ k ∷ []) ++ offered_by x p w c (suc k)
+
+  -- the place's arrows, one by one
+  pub offers_listed : (q p : ℕ) (w : List ℕ) (c j : ℕ)
+      → order.offers Node (numbered_step table h) (q, p) w c j
+      ≡ offered_by (place_with table q) p w c j
+  offers_listed q p w zero j = refl
+  offers_listed q p w (suc c) j =
+      by_first (step_from h (place_with table q) p j) (offers_listed q p w c (suc j))
+    where
+      by_first : (o : Option Node) → order.offers Node (numbered_step table h) (q, p) w c (suc j)
+          ≡ offered_by (place_with table q) p w c (suc j)
+          → order.one_offer Node (numbered_step table h) o (w ++ j ∷ [])
+          ++ order.offers Node (numbered_step table h) (q, p) w c (suc j)
+          ≡ one o (w ++ j ∷ []) ++ offered_by (place_with table q) p w c (suc j)
+      by_first None e = e
+      by_first (Some m) e = ap (λ z. (m, w ++ j ∷ []) ∷ z) e
 
 got_map : (qs : List ℕ) (t l : ℕ) → slice_get qs t ≡ Some l → slice_get (map go qs) t ≡ Some (go l)
 got_map [] t l e = absurd (not_there e)
