@@ -11,6 +11,7 @@ pub mod ResumeLemmas
 pub mod RunLemmas
 pub mod ScanLemmas
 pub mod SpotLemmas
+pub mod StoredChangeLemmas
+pub mod StoredStateLemmas
 pub mod AlikeLemmas
-pub mod AutomatonLemmas
 pub mod OnceLemmas

@@ -1,14 +1,17 @@
 -- lemmas that several proofs here share
 pub mod AgainLemmas
 pub mod BoundLemmas
+pub mod ComingLemmas
 pub mod EnterLemmas
 pub mod EndLemmas
 pub mod InStepLemmas
 pub mod InStepMatchLemmas
 pub mod InStepNextLemmas
+pub mod InStepPassedLemmas
 pub mod OwnPartLemmas
 pub mod PassLemmas
 pub mod RoomLemmas
+pub mod RoundLemmas
 pub mod ShortestLemmas
 pub mod StateLemmas
 pub mod StepLemmas

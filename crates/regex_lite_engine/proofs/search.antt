@@ -1,6 +1,7 @@
 -- lemmas that several proofs here share
 pub mod BlockLemmas
 pub mod CountLemmas
+pub mod FirstByteLemmas
 pub mod ListSkipLemmas
 pub mod MarkLemmas
 pub mod OfferLemmas

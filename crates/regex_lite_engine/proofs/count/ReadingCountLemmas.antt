@@ -1,18 +1,22 @@
--- As many places in the layout of a tree read a character as in the tree.
+-- As many places in the layout of a tree read a character as in the tree, and no table has more
+-- places that read than arrows.
 use Rattle.std.proofs.Common.{◌≡◌, ◌≤◌, refl, ap, arith, ℕ, zero, suc, ◌*◌, List, [], ◌∷◌, map}
-use Rattle.std.proofs.Common.{replicate}
+use Rattle.std.proofs.Common.{replicate, length}
 use Rattle.std.proofs.Math.Nat.{mul-le-mul_left}
+use Rattle.std.proofs.lemmas.List.Sums.{sum_by-cons}
 use Rattle.regex_lite_syntax.specs.declared.class.ClassRange.{ClassRange}
 use Rattle.regex_lite_syntax.specs.Tree.{Tree, Trees, empty, character, class, look, repetition}
 use Rattle.regex_lite_syntax.specs.Tree.{capture, concat, alternation, none, more}
 use Rattle.regex_lite_engine.specs.Graph.Places.{Place, with_arrows, go, one_of, reading_arrows}
 use Rattle.regex_lite_engine.specs.Graph.Places.{reading_count, reading_of, complete, Arrow}
-use Rattle.regex_lite_engine.specs.Graph.Places.{renamed_arrow}
+use Rattle.regex_lite_engine.specs.Graph.Places.{renamed_arrow, Condition, condition_reads, free}
+use Rattle.regex_lite_engine.specs.Graph.Places.{holding, reading}
+use Rattle.regex_lite_engine.specs.Graph.Renumbered.{arrow_count, arrows_of}
 use Rattle.regex_lite_engine.specs.Graph.PlaceCounts.{count, copies, class_arrows, places}
 use Rattle.regex_lite_engine.specs.Graph.PlaceCounts.{places_in, reading_places, reading_places_in}
 use Rattle.regex_lite_engine.specs.Nfa.Layout.{pattern_table, whole_table}
-use Rattle.regex_lite_engine.proofs.count.MeasureLemmas.{unnumbered, forget, measured}
-use Rattle.regex_lite_engine.proofs.count.MeasureLemmas.{measured_in, sum_pattern}
+use Rattle.regex_lite_engine.proofs.count.MeasureLemmas.{unnumbered, forget, measured, measured_in}
+use Rattle.regex_lite_engine.proofs.count.MeasureLemmas.{sum_pattern}
 
 arrows_read_alike : (arrows : List (Arrow ℕ))
     → reading_arrows arrows ≡ reading_arrows (map (renamed_arrow forget) arrows)
@@ -77,3 +81,24 @@ mutual
   reading_in_few : (trees : Trees) → reading_places_in trees ≤ places_in trees
   reading_in_few none = omega arith
   reading_in_few (more a rest) = omega (arith, reading_few a, reading_in_few rest)
+
+-- fewer places read than there are arrows
+reads_of : (arrows : List (Arrow ℕ)) → reading_arrows arrows ≤ length arrows
+reads_of [] = omega arith
+reads_of (arrow ∷ arrows) =
+    let one = at_most_one arrow.condition in let rest = reads_of arrows in omega (arith, one, rest)
+  where
+    at_most_one : (condition : Condition) → condition_reads condition ≤ 1
+    at_most_one free = omega arith
+    at_most_one (holding test) = omega arith
+    at_most_one (reading set) = omega arith
+
+reads_at : (place : Place ℕ) → reading_count place ≤ arrow_count place
+reads_at complete = omega arith
+reads_at (with_arrows arrows) = reads_of arrows
+
+pub reads_within : (table : List (Place ℕ)) → reading_of table ≤ arrows_of table
+reads_within [] = omega arith
+reads_within (place ∷ table) =
+    let a = sum_by-cons reading_count place table in let b = sum_by-cons arrow_count place table in
+    omega (arith, a, b, reads_at place, reads_within table)

@@ -9,7 +9,7 @@ use Rattle.std.proofs.lemmas.List.{take_all}
 use Rattle.std.proofs.lemmas.Str.{encodes-chars}
 use Rattle.regex_lite_engine.specs.Search.Offsets.{offset, position_at, IsOffset}
 use Rattle.regex_lite_engine.proofs.PositionLemmas.{position_is, after_at}
-use Rattle.regex_lite_engine.proofs.search.SkipLemmas.{ascii_there}
+use Rattle.regex_lite_engine.proofs.search.FirstByteLemmas.{ascii_there}
 use Rattle.regex_lite_engine.proofs.OffsetLemmas.{length_encodes}
 
 -- a position before the end of the bytes is before that of the characters

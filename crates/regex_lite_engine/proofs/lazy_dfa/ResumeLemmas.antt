@@ -1,23 +1,18 @@
 -- A search that is taken up where remembered turns end.
-use Rattle.std.proofs.Common.{◌≡◌, ◌==◌, ℕ, zero, suc, ◌<◌, ◌≤◌, ◌⊎◌, inl, inr, All, Bool}
-use Rattle.std.proofs.Common.{true, false, List, [], ◌∷◌, length, map, slice_get, Option, Some}
-use Rattle.std.proofs.Common.{None, is_some, IsSome, not, refl, sym, ap, subst, ◌∙◌, arith}
-use Rattle.std.proofs.Common.{true≢false}
+use Rattle.std.proofs.Common.{◌≡◌, ◌==◌, ℕ, zero, suc, ◌<◌, ◌≤◌, ◌⊎◌, inl, inr, All, Bool, true}
+use Rattle.std.proofs.Common.{false, List, [], ◌∷◌, length, map, slice_get, Option, Some, None}
+use Rattle.std.proofs.Common.{is_some, IsSome, not, refl, sym, ap, subst, ◌∙◌, arith, true≢false}
 use Rattle.std.proofs.lemmas.Bool.Decides.{nat_tests}
 use Rattle.std.proofs.lemmas.List.{length-map}
-use Rattle.std.proofs.lemmas.List.Sums.{sum_by-cons}
 use Rattle.regex_lite_syntax.specs.Text.{Text}
 use Rattle.regex_lite_engine.specs.declared.lazy_dfa.scan.Standing.{Standing}
 use Rattle.regex_lite_engine.specs.declared.lazy_dfa.state.StoredWay.{StoredWay}
 use Rattle.regex_lite_engine.specs.declared.search.here.Here.{Here}
 use Rattle.regex_lite_engine.specs.declared.pikevm.cache.Cache.{Cache}
-use Rattle.regex_lite_engine.specs.Graph.Places.{Arrow, Condition, Place, complete, condition_reads}
-use Rattle.regex_lite_engine.specs.Graph.Places.{free, holding, reading, reading_arrows}
-use Rattle.regex_lite_engine.specs.Graph.Places.{reading_count, reading_of, with_arrows}
-use Rattle.regex_lite_engine.specs.Graph.Renumbered.{arrow_count, arrows_of}
-use Rattle.regex_lite_engine.specs.LazyDfa.Automaton.{Automaton, FitsTable, Suits, Way}
-use Rattle.regex_lite_engine.specs.LazyDfa.Automaton.{began, origin_of, threads_of}
-use Rattle.regex_lite_engine.specs.LazyDfa.Automaton.{told_by, told_if, ways_of}
+use Rattle.regex_lite_engine.specs.Graph.Places.{Place, reading_of}
+use Rattle.regex_lite_engine.specs.LazyDfa.Automaton.{Automaton, FitsTable, Suits, Way, began}
+use Rattle.regex_lite_engine.specs.LazyDfa.Automaton.{origin_of, threads_of, told_by, told_if}
+use Rattle.regex_lite_engine.specs.LazyDfa.Automaton.{ways_of}
 use Rattle.regex_lite_engine.specs.LazyDfa.Learning.{IsFirstStart, IsIn}
 use Rattle.regex_lite_engine.specs.LazyDfa.Running.{GoesOnWith, IsOnItsWay, started_at}
 use Rattle.regex_lite_engine.specs.LazyDfa.Scanning.{best_told, IsIdleAt, IsScanning}
@@ -36,6 +31,7 @@ use Rattle.regex_lite_engine.specs.Pikevm.Walking.{ThreadsHold, WayTold}
 use Rattle.regex_lite_engine.specs.Search.NumberedOutcomes.{Best}
 use Rattle.regex_lite_engine.proofs.lazy_dfa.RunLemmas.{moved_on}
 use Rattle.regex_lite_engine.proofs.OptionLemmas.{not_there}
+use Rattle.regex_lite_engine.proofs.count.ReadingCountLemmas.{reads_within}
 
 eq_there : (a b : ℕ) → (a == b) ≡ true → a ≡ b
 eq_there a b e = grind (arith, nat_tests)
@@ -159,27 +155,6 @@ module _ (first : ℕ) where
       (way_first w (all 0 w (omega arith)))
       ∙ ap (λ (xs : List Way). way_in w ∷ xs)
       (ways_first ws (λ k d lt. all (suc k) d (omega (arith, lt))))
-
--- fewer places read than there are arrows
-reads_of : (arrows : List (Arrow ℕ)) → reading_arrows arrows ≤ length arrows
-reads_of [] = omega arith
-reads_of (arrow ∷ arrows) =
-    let one = at_most_one arrow.condition in let rest = reads_of arrows in omega (arith, one, rest)
-  where
-    at_most_one : (condition : Condition) → condition_reads condition ≤ 1
-    at_most_one free = omega arith
-    at_most_one (holding test) = omega arith
-    at_most_one (reading set) = omega arith
-
-reads_at : (place : Place ℕ) → reading_count place ≤ arrow_count place
-reads_at complete = omega arith
-reads_at (with_arrows arrows) = reads_of arrows
-
-pub reads_within : (table : List (Place ℕ)) → reading_of table ≤ arrows_of table
-reads_within [] = omega arith
-reads_within (place ∷ table) =
-    let a = sum_by-cons reading_count place table in let b = sum_by-cons arrow_count place table in
-    omega (arith, a, b, reads_at place, reads_within table)
 
 below_at : (n first : ℕ) (ws : List StoredWay) (ways : List Way) → map way_in ws ≡ ways
     → ((k : ℕ) (way : Way) → slice_get ways k ≡ Some way → way.place < n) → (k : ℕ)

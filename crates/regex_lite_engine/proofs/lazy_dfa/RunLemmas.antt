@@ -27,7 +27,7 @@ use Rattle.regex_lite_engine.specs.Pikevm.Turns.{best_of, IsComing}
 use Rattle.regex_lite_engine.proofs.OffsetLemmas.{offset_less}
 use Rattle.regex_lite_engine.proofs.OptionLemmas.{not_there, same_some}
 use Rattle.regex_lite_engine.proofs.pikevm.PassLemmas.{begun}
-use Rattle.regex_lite_engine.proofs.pikevm.TurnLemmas.{jumped}
+use Rattle.regex_lite_engine.proofs.pikevm.ComingLemmas.{jumped}
 
 -- the only pattern may always start
 pub one_start : (table : List (Place ℕ)) (h : Text) (s p : ℕ)

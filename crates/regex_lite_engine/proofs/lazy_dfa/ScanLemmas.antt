@@ -21,7 +21,7 @@ use Rattle.regex_lite_engine.proofs.pikevm.EndLemmas.{ended_all}
 use Rattle.regex_lite_engine.proofs.search.here.HereLemmas.{over_at}
 use Rattle.regex_lite_engine.proofs.OptionLemmas.{not_there, same_some}
 use Rattle.regex_lite_engine.proofs.pikevm.ShortestLemmas.{shortest_known}
-use Rattle.regex_lite_engine.proofs.pikevm.TurnLemmas.{jumped}
+use Rattle.regex_lite_engine.proofs.pikevm.ComingLemmas.{jumped}
 
 still_suits : (hit : Option Origin) (searching : Bool) (i at : ℕ) (best : Best)
     → Suits searching best → Suits (searching_after hit searching) (best_left hit i at best)

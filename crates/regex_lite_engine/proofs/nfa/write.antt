@@ -8,4 +8,6 @@ pub mod NumberingLemmas
 pub mod RenumberingLemmas
 pub mod RoomLemmas
 pub mod SeveralLemmas
+pub mod SeveralNameLemmas
+pub mod SeveralRowLemmas
 pub mod WrittenOverLemmas

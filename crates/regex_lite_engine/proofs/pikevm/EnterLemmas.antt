@@ -1,11 +1,11 @@
 -- Entering a place, by what stands there.
-use Rattle.std.proofs.Common.{◌≡◌, ℕ, zero, suc, ◌+◌, ◌<◌, inl, inr, Bool, true, false}
-use Rattle.std.proofs.Common.{IsTrue, List, [], ◌∷◌, ◌++◌, length, set, map, slice_get}
-use Rattle.std.proofs.Common.{slice_set, slice_index, slice_index_or, if◌then◌else◌, Option}
-use Rattle.std.proofs.Common.{Some, None, refl, sym, ap, subst, ◌∙◌, arith}
+use Rattle.std.proofs.Common.{◌≡◌, ℕ, zero, suc, ◌+◌, ◌<◌, inl, inr, Bool, true, false, IsTrue}
+use Rattle.std.proofs.Common.{List, [], ◌∷◌, ◌++◌, length, set, map, slice_get, slice_set}
+use Rattle.std.proofs.Common.{slice_index, slice_index_or, if◌then◌else◌, Option, Some, None, refl}
+use Rattle.std.proofs.Common.{sym, ap, subst, ◌∙◌, arith}
 use Rattle.std.proofs.lemmas.List.{length-map, set-set, set-get_or}
 use Rattle.regex_lite_syntax.specs.declared.class.ClassRange.{ClassRange}
-use Rattle.regex_lite_syntax.specs.Text.{Text, after}
+use Rattle.regex_lite_syntax.specs.Text.{after}
 use Rattle.regex_lite_syntax.specs.Ranges.{in_ranges}
 use Rattle.regex_lite_syntax.specs.Sets.{Set, just}
 use Rattle.regex_lite_syntax.specs.Tree.Looks.{holds_between}
@@ -14,8 +14,8 @@ use Rattle.regex_lite_engine.specs.declared.nfa.place.Place as code
 use Rattle.regex_lite_engine.specs.declared.nfa.place.Place.TheVariants as stored
 use Rattle.regex_lite_engine.specs.declared.search.here.Here.{Here}
 use Rattle.regex_lite_engine.specs.Graph.Places.{Arrow, Place, with_arrows, go, go_holding}
-use Rattle.regex_lite_engine.specs.Graph.Places.{go_marking, go_reading, one_of, arrived}
-use Rattle.regex_lite_engine.specs.Graph.Places.{behind, step_from}
+use Rattle.regex_lite_engine.specs.Graph.Places.{go_marking, go_reading, one_of, arrived, behind}
+use Rattle.regex_lite_engine.specs.Graph.Places.{step_from}
 use Rattle.regex_lite_engine.specs.Graph.Renumbered.{arrow_count}
 use Rattle.regex_lite_engine.specs.Graph.Stored.{place_of}
 use Rattle.regex_lite_engine.specs.Search.Marks.{Marks, marked, over, mark_of}
@@ -23,8 +23,7 @@ use Rattle.regex_lite_engine.specs.Pikevm.Entering.{Enters, pushing, reading_on,
 use Rattle.regex_lite_engine.specs.Search.Offers.{Offer, Node}
 use Rattle.regex_lite_engine.specs.Pikevm.Machine.{Frame, explore, restore, Thread, State}
 use Rattle.regex_lite_engine.specs.Search.Rows.{Row}
-use Rattle.regex_lite_engine.specs.Search.NumberedAnswer.{place_with, is_complete}
-use Rattle.regex_lite_engine.specs.Search.NumberedAnswer.{numbered_step}
+use Rattle.regex_lite_engine.specs.Search.NumberedAnswer.{place_with, is_complete, numbered_step}
 use Rattle.regex_lite_engine.specs.Search.Standing.{IsHere}
 use Rattle.regex_lite_engine.specs.Search.Offsets.{HasSlots}
 use Rattle.regex_lite_engine.specs.Pikevm.Walking.{WayTold, FramesHold}
@@ -32,17 +31,11 @@ use Rattle.regex_lite_engine.specs.Search.NumberedOutcomes.{Best}
 use Rattle.regex_lite_engine.specs.Pikevm.Walking.{ThreadsHold, SearchAt, IsWalking}
 use Rattle.regex_lite_engine.proofs.search.MarkLemmas.{slots_set, slots_past}
 use Rattle.regex_lite_engine.proofs.OptionLemmas.{not_there, same_some}
-use Rattle.regex_lite_engine.proofs.search.PlaceLemmas.{free_marks, hops, no_second, none_offered}
-use Rattle.regex_lite_engine.proofs.search.PlaceLemmas.{one_blocked, open_at, one, wide}
-use Rattle.regex_lite_engine.proofs.search.PlaceLemmas.{offered_by}
+use Rattle.regex_lite_engine.proofs.search.PlaceLemmas.{free_stays, free_marks, hops, no_second}
+use Rattle.regex_lite_engine.proofs.search.PlaceLemmas.{none_offered, one_blocked, open_at, one}
+use Rattle.regex_lite_engine.proofs.search.PlaceLemmas.{wide, offered_by}
 use Rattle.regex_lite_engine.proofs.pikevm.WalkLemmas.{marked_in, holds_on, held_append}
 use Rattle.regex_lite_engine.proofs.pikevm.WalkLemmas.{walk_entered, walk_read, walk_complete}
-
-free_stays : (h : Text) (qs : List ℕ) (p a : ℕ) (l : Node)
-    → step_from h (with_arrows (map go qs)) p a ≡ Some l → l.1 ≡ p
-free_stays h [] p a l e = absurd (not_there e)
-free_stays h (q ∷ qs) p zero l e = sym (ap (λ (z : Node). z.1) (same_some e))
-free_stays h (q ∷ qs) p (suc a) l e = free_stays h qs p a l e
 
 -- nothing is read of the empty set
 pub reads_none : (o : Option ℕ) → reads (in_ranges []) o ≡ false
@@ -51,7 +44,7 @@ reads_none (Some c) = refl
 
 module _ (table : List (Place ℕ)) (at : SearchAt) (m : State) (i : Told) (ways : List Thread)
     (best : Best) (q : ℕ) (short : q < length m.rounds)
-    (u : IsWalking table at (record m { frames = explore q ∷ m.frames }) i ways best)
+    (walking : IsWalking table at (record m { frames = explore q ∷ m.frames }) i ways best)
     (new : slice_index m.rounds q ≡ m.now → ⊥) where
   open at use {haystack as h, p}
 
@@ -78,7 +71,7 @@ module _ (table : List (Place ℕ)) (at : SearchAt) (m : State) (i : Told) (ways
   walk_blocked : (arrows : List (Arrow ℕ)) → place_with table q ≡ with_arrows arrows
       → ((a : ℕ) → step a ≡ None) → Walks n
   walk_blocked arrows e blocked =
-      walk_entered table at m i ways best q short u new m.row m.frames
+      walk_entered table at m i ways best q short walking new m.row m.frames
       (open_at table h q p arrows e)
       (λ a l hops. absurd (not_there (sym (blocked a) ∙ hops)))
       (λ w rest held waits. subst (λ z. Frames_hold m.row m.frames (z ++ rest))
@@ -88,7 +81,7 @@ module _ (table : List (Place ℕ)) (at : SearchAt) (m : State) (i : Told) (ways
   walk_choice : (to : List ℕ) → place_with table q ≡ with_arrows (map go to)
       → Walks (pushing n (map (λ l. explore l) to))
   walk_choice to e =
-      walk_entered table at m i ways best q short u new m.row
+      walk_entered table at m i ways best q short walking new m.row
       (map (λ l. explore l) to ++ m.frames) (open_at table h q p (map go to) e)
       (λ a l hops. free_stays h to p a l (sym (ap (λ x. step_from h x p a) e) ∙ hops))
       (λ w rest held waits.
@@ -130,7 +123,7 @@ module _ (table : List (Place ℕ)) (at : SearchAt) (m : State) (i : Told) (ways
       ((os : List (Offer Node)) → Frames_hold m.row m.frames os → Frames_hold row frames os) →
       Walks (record n { row = row; frames = explore to ∷ frames })
   walk_single a to row frames e here marks waits' =
-      walk_entered table at m i ways best q short u new row (explore to ∷ frames)
+      walk_entered table at m i ways best q short walking new row (explore to ∷ frames)
       (open_at table h q p (a ∷ []) e) stays
       (λ w rest held waits. subst (λ c. Frames_hold row (explore to ∷ frames) (listed w c ++ rest))
       (sym (ap arrow_count e))
@@ -152,7 +145,7 @@ module _ (table : List (Place ℕ)) (at : SearchAt) (m : State) (i : Told) (ways
       → step 0 ≡ Some (to, suc p) → mark_of (place_with table q) 0 ≡ None
       → Walks (reading_on true n (to, i, m.row))
   walk_reads a to e here unmarked =
-      walk_read table at m i ways best q short u new (m.next ++ (to, i, m.row) ∷ [])
+      walk_read table at m i ways best q short walking new (m.next ++ (to, i, m.row) ∷ [])
       (open_at table h q p (a ∷ []) e) moves
       (λ w coming held all_held. held_append table h at.entries (suc p) m.next
       ((to, i, m.row) ∷ []) coming (listed w (wide table h (q, p))) all_held
@@ -298,5 +291,5 @@ module _ (table : List (Place ℕ)) (at : SearchAt) (m : State) (i : Told) (ways
         subst (Entered e) (sym ed) (subst (λ z. Entered z true) (sym same)
         (subst (λ z. IsWalking table at (record n { frames = [] }) i [] (Some (i, z, m.row)))
         (sym is.bytes)
-        (walk_complete table at m i ways best q short u new
+        (walk_complete table at m i ways best q short walking new
         (subst (λ x. IsTrue (is_complete x)) (sym here_at) refl))))

@@ -1,7 +1,6 @@
--- What a walk keeps true when it passes over a node, or enters one.
-use Rattle.std.proofs.Common.{◌≡◌, ℕ, suc, ◌≤◌, ◌⊎◌, inl, inr, ⊎_elim, Bool}
-use Rattle.std.proofs.Common.{IsTrue, List, [], ◌∷◌, ◌++◌, Option, Some, None}
-use Rattle.std.proofs.Common.{refl, sym, ap, subst, ◌∙◌, arith, append-nil}
+-- What a walk keeps true when it enters a node.
+use Rattle.std.proofs.Common.{◌≡◌, ℕ, suc, ◌≤◌, ◌⊎◌, inl, inr, Bool, IsTrue, List, [], ◌∷◌, ◌++◌}
+use Rattle.std.proofs.Common.{Option, Some, None, refl, sym, ap, subst, ◌∙◌, arith}
 use Rattle.regex_lite_engine.specs.Search.Preference.{IsPreferred}
 use Rattle.regex_lite_engine.specs.Search.Explored.{NotAfter, IsAnswered, IsGrown}
 use Rattle.regex_lite_engine.specs.Pikevm.InStep as walk
@@ -23,9 +22,6 @@ module _ (N : Type 0) (step : N → ℕ → Option N) (same : (x y : N) → (x �
   abbrev In : N → List ℕ → List Offer → Type 0
   In n w os = offer.In N n w os
 
-  abbrev Ordered : List Offer → Type 0
-  Ordered os = offer.Ordered N os
-
   abbrev pub Recorded : Type 0
   Recorded = N → Option (List ℕ)
 
@@ -36,49 +32,9 @@ module _ (N : Type 0) (step : N → ℕ → Option N) (same : (x y : N) → (x �
   IsInStep p from recorded now next best =
       walk.IsInStep N step IsStart is_end position p from recorded now next best
 
-  pub in_step_passed : (p from : ℕ) (recorded : Recorded) (n : N) (w v : List ℕ)
-      (rest next : List Offer) (best : Option (List ℕ))
-      → recorded n ≡ Some v →
-      IsInStep p from recorded ((n, w) ∷ rest) next best → IsInStep p from recorded rest next best
-  in_step_passed p from recorded n w v rest next best r u = record {
-    grown = u.grown;
-    now_grown = λ m x i. u.now_grown m x (inr i);
-    next_grown = u.next_grown;
-    starts = λ front m is below. or_dead (settle m front) (u.starts front m is below);
-    arrows = λ m x k l s t. settle l (x ++ k ∷ []) (u.arrows m x k l s t);
-    best_ends = u.best_ends;
-    best_least = u.best_least;
-    now_ordered = u.now_ordered.1;
-    next_ordered = u.next_ordered;
-    behind = λ m x l y i j. u.behind m x l y i (inr j);
-    ahead = λ m x l y i s q. u.ahead m x l y (inr i) s q;
-    now_stands = λ m x i. u.now_stands m x (inr i);
-    next_stands = u.next_stands;
-    past = u.past;
-    now_below = λ m x i. u.now_below m x (inr i);
-    next_below = u.next_below;
-    best_below = u.best_below;
-    now_better = λ m x b i e. u.now_better m x b (inr i) e;
-    next_better = u.next_better;
-  }
-    where
-      settle : (m : N) (x : List ℕ)
-          → IsAnswered N step is_end IsStart recorded best m x
-          ⊎ (In m x ((n, w) ∷ rest) ⊎ In m x next) →
-          IsAnswered N step is_end IsStart recorded best m x ⊎ (In m x rest ⊎ In m x next)
-      settle m x (inl a) = inl a
-      settle m x (inr (inr i)) = inr (inr i)
-      settle m x (inr (inl (inr i))) = inr (inl i)
-      settle m x (inr (inl (inl e))) = inl (inl (
-        v,
-        ap recorded e.0 ∙ r,
-        subst (λ z. NotAfter v z) (sym e.1)
-            (u.ahead n w n v (inl (refl, refl)) r (u.now_stands n w (inl (refl, refl)))),
-      ))
-
   module _ (p from : ℕ) (recorded : Recorded) (n : N) (w : List ℕ) (fresh : recorded n ≡ None)
       (rest next : List Offer) (best : Option (List ℕ))
-      (u : IsInStep p from recorded ((n, w) ∷ rest) next best) where
+      (known : IsInStep p from recorded ((n, w) ∷ rest) next best) where
     abbrev extended : Recorded
     extended = records.extended N same recorded n w
 
@@ -101,8 +57,8 @@ module _ (N : Type 0) (step : N → ℕ → Option N) (same : (x y : N) → (x �
     grown_extended : (m : N) (v : List ℕ) → extended m ≡ Some v
         → IsGrown N step is_end IsStart extended best m v
     grown_extended =
-        records.grown_extended N same recorded n w fresh step is_end IsStart best u.grown
-        (u.now_grown n w here)
+        records.grown_extended N same recorded n w fresh step is_end IsStart best known.grown
+        (known.now_grown n w here)
 
     -- the record of n stands for the offer at n
     settle_on : (rest' next' : List Offer) → ((m : N) (x : List ℕ) → In m x rest → In m x rest')
@@ -127,9 +83,9 @@ module _ (N : Type 0) (step : N → ℕ → Option N) (same : (x y : N) → (x �
       where
         by_case : ((m ≡ n) × (v ≡ w)) ⊎ (recorded m ≡ Some v) → position m ≤ p
         by_case (inl e) =
-            let same_pos : position m ≡ p = ap position e.0 ∙ u.now_stands n w here in
+            let same_pos : position m ≡ p = ap position e.0 ∙ known.now_stands n w here in
             omega (arith, same_pos)
-        by_case (inr q) = u.past m v q
+        by_case (inr q) = known.past m v q
 
     not_ended : (IsTrue (is_end n) → ⊥) → (m : N) (v : List ℕ) → IsTrue (is_end m)
         → extended m ≡ Some v → (b : List ℕ) × (best ≡ Some b) × NotAfter b v
@@ -138,11 +94,11 @@ module _ (N : Type 0) (step : N → ℕ → Option N) (same : (x y : N) → (x �
         by_case : ((m ≡ n) × (v ≡ w)) ⊎ (recorded m ≡ Some v)
             → (b : List ℕ) × (best ≡ Some b) × NotAfter b v
         by_case (inl f) = absurd (open_still (subst (λ z. IsTrue (is_end z)) f.0 e))
-        by_case (inr q) = u.best_least m v e q
+        by_case (inr q) = known.best_least m v e q
 
     best_ends_now : (b : List ℕ) → best ≡ Some b
         → (m : N) × IsTrue (is_end m) × (extended m ≡ Some b)
-    best_ends_now b e = let r = u.best_ends b e in (r.0, r.1, kept r.0 b r.2)
+    best_ends_now b e = let r = known.best_ends b e in (r.0, r.1, kept r.0 b r.2)
 
     arrows_settled : (rest' next' : List Offer)
         → ((m : N) (x : List ℕ) → In m x rest → In m x rest')
@@ -157,7 +113,7 @@ module _ (N : Type 0) (step : N → ℕ → Option N) (same : (x y : N) → (x �
         by_case : ((m ≡ n) × (v ≡ w)) ⊎ (recorded m ≡ Some v) →
             IsAnswered N step is_end IsStart extended best l (v ++ k ∷ [])
             ⊎ (In l (v ++ k ∷ []) rest' ⊎ In l (v ++ k ∷ []) next')
-        by_case (inr q) = settle_on rest' next' f g l (v ++ k ∷ []) (u.arrows m v k l q s)
+        by_case (inr q) = settle_on rest' next' f g l (v ++ k ∷ []) (known.arrows m v k l q s)
         by_case (inl e) =
             inr (subst (λ z. In l (z ++ k ∷ []) rest' ⊎ In l (z ++ k ∷ []) next') (sym e.1)
             (new k l (ap (λ z. step z k) (sym e.0) ∙ s)))
@@ -170,11 +126,11 @@ module _ (N : Type 0) (step : N → ℕ → Option N) (same : (x y : N) → (x �
       grown = grown_extended;
       now_grown = λ m v i.
           by_now_grown m v (order.in_either N step m v (offers n w (width n) 0) rest i);
-      next_grown = λ m v i. grown_still m v (u.next_grown m v i);
+      next_grown = λ m v i. grown_still m v (known.next_grown m v i);
       starts = λ front m is below.
           or_dead (settle_on (offers n w (width n) 0 ++ rest) next
           (λ m v j. order.in_right N step m v (offers n w (width n) 0) rest j) (λ m v j. j) m front)
-          (u.starts front m is below);
+          (known.starts front m is below);
       arrows =
           arrows_settled (offers n w (width n) 0 ++ rest) next
           (λ m v j. order.in_right N step m v (offers n w (width n) 0) rest j) (λ m v j. j)
@@ -183,38 +139,38 @@ module _ (N : Type 0) (step : N → ℕ → Option N) (same : (x y : N) → (x �
       best_ends = best_ends_now;
       best_least = not_ended open_still;
       now_ordered =
-          order.offers_ordered N step n w (width n) 0 rest u.now_ordered.1 u.now_ordered.0;
-      next_ordered = u.next_ordered;
+          order.offers_ordered N step n w (width n) 0 rest known.now_ordered.1 known.now_ordered.0;
+      next_ordered = known.next_ordered;
       behind = λ m v l x i j.
           by_behind m v l x i (order.in_either N step l x (offers n w (width n) 0) rest j);
       ahead = λ m v l x i r q.
           by_ahead m v l x q (order.in_either N step m v (offers n w (width n) 0) rest i)
           (back l x r);
       now_stands = λ m v i. by_pos m v (order.in_either N step m v (offers n w (width n) 0) rest i);
-      next_stands = u.next_stands;
+      next_stands = known.next_stands;
       past = past_now;
       now_below = λ m v i.
           by_first m v (order.in_either N step m v (offers n w (width n) 0) rest i);
-      next_below = u.next_below;
-      best_below = u.best_below;
+      next_below = known.next_below;
+      best_below = known.best_below;
       now_better = λ m v b i e.
           by_better m v b e (order.in_either N step m v (offers n w (width n) 0) rest i);
-      next_better = u.next_better;
+      next_better = known.next_better;
     }
       where
         by_now_grown : (m : N) (v : List ℕ) → In m v (offers n w (width n) 0) ⊎ In m v rest
             → IsGrown N step is_end IsStart extended best m v
-        by_now_grown m v (inr i) = grown_still m v (u.now_grown m v (inr i))
+        by_now_grown m v (inr i) = grown_still m v (known.now_grown m v (inr i))
         by_now_grown m v (inl i) =
             let r = order.offered N step n w (width n) 0 m v i in
             inr (n, w, r.0, extended_here, r.2, r.3)
 
         by_behind : (m : N) (v : List ℕ) (l : N) (x : List ℕ) → In m v next
             → In l x (offers n w (width n) 0) ⊎ In l x rest → IsPreferred v x
-        by_behind m v l x i (inr j) = u.behind m v l x i (inr j)
+        by_behind m v l x i (inr j) = known.behind m v l x i (inr j)
         by_behind m v l x i (inl j) = let r = order.offered N step n w (width n) 0 l x j in
             subst (λ z. IsPreferred v z) (sym r.3)
-            (preferred_longer v w (r.0 ∷ []) (u.behind m v n w i here))
+            (preferred_longer v w (r.0 ∷ []) (known.behind m v n w i here))
 
         by_ahead : (m : N) (v : List ℕ) (l : N) (x : List ℕ) → position l ≡ p
             → In m v (offers n w (width n) 0) ⊎ In m v rest
@@ -224,31 +180,32 @@ module _ (N : Type 0) (step : N → ℕ → Option N) (same : (x y : N) → (x �
             (subst (λ y. NotAfter w y) (sym r.3) (NotAfter-append w (r.0 ∷ [])))
         by_ahead m v l x z (inl i) (inr q) = let r = order.offered N step n w (width n) 0 m v i in
             subst (λ y. NotAfter x y) (sym r.3) (NotAfter-trans x w (w ++ r.0 ∷ [])
-            (u.ahead n w l x here q z) (NotAfter-append w (r.0 ∷ [])))
+            (known.ahead n w l x here q z) (NotAfter-append w (r.0 ∷ [])))
         by_ahead m v l x z (inr i) (inl e) =
-            subst (λ y. NotAfter y v) (sym e.1) (inr (preferred_before w v (u.now_ordered.0 m v i)))
-        by_ahead m v l x z (inr i) (inr q) = u.ahead m v l x (inr i) q z
+            subst (λ y. NotAfter y v) (sym e.1)
+            (inr (preferred_before w v (known.now_ordered.0 m v i)))
+        by_ahead m v l x z (inr i) (inr q) = known.ahead m v l x (inr i) q z
 
         by_pos : (m : N) (v : List ℕ) → In m v (offers n w (width n) 0) ⊎ In m v rest
             → position m ≡ p
-        by_pos m v (inr i) = u.now_stands m v (inr i)
+        by_pos m v (inr i) = known.now_stands m v (inr i)
         by_pos m v (inl i) =
             let r = order.offered N step n w (width n) 0 m v i in
-            stays r.0 m r.2 ∙ u.now_stands n w here
+            stays r.0 m r.2 ∙ known.now_stands n w here
 
         by_first : (m : N) (v : List ℕ) → In m v (offers n w (width n) 0) ⊎ In m v rest
             → StartsBelow from v
-        by_first m v (inr i) = u.now_below m v (inr i)
+        by_first m v (inr i) = known.now_below m v (inr i)
         by_first m v (inl i) =
             let r = order.offered N step n w (width n) 0 m v i in subst (λ z. StartsBelow from z)
-            (sym r.3) (below_append from w (r.0 ∷ []) (u.now_below n w here))
+            (sym r.3) (below_append from w (r.0 ∷ []) (known.now_below n w here))
 
         by_better : (m : N) (v b : List ℕ) → best ≡ Some b
             → In m v (offers n w (width n) 0) ⊎ In m v rest → IsPreferred v b
-        by_better m v b e (inr i) = u.now_better m v b (inr i) e
+        by_better m v b e (inr i) = known.now_better m v b (inr i) e
         by_better m v b e (inl i) = let r = order.offered N step n w (width n) 0 m v i in
             subst (λ z. IsPreferred z b) (sym r.3)
-            (preferred_append w b (r.0 ∷ []) (u.now_better n w b here e))
+            (preferred_append w b (r.0 ∷ []) (known.now_better n w b here e))
 
     -- where all arrows lead to the next position, they come last there
     pub in_step_read : (IsTrue (is_end n) → ⊥)
@@ -256,13 +213,13 @@ module _ (N : Type 0) (step : N → ℕ → Option N) (same : (x y : N) → (x �
         IsInStep p from extended rest (next ++ offers n w (width n) 0) best
     in_step_read open_still moves = record {
       grown = grown_extended;
-      now_grown = λ m v i. grown_still m v (u.now_grown m v (inr i));
+      now_grown = λ m v i. grown_still m v (known.now_grown m v (inr i));
       next_grown = λ m v i.
           by_next_grown m v (order.in_either N step m v next (offers n w (width n) 0) i);
       starts = λ front m is below.
           or_dead (settle_on rest (next ++ offers n w (width n) 0) (λ m v j. j)
           (λ m v j. order.in_left N step m v next (offers n w (width n) 0) j) m front)
-          (u.starts front m is below);
+          (known.starts front m is below);
       arrows =
           arrows_settled rest (next ++ offers n w (width n) 0) (λ m v j. j)
           (λ m v j. order.in_left N step m v next (offers n w (width n) 0) j)
@@ -270,80 +227,64 @@ module _ (N : Type 0) (step : N → ℕ → Option N) (same : (x y : N) → (x �
           (arrow_offered k l s)));
       best_ends = best_ends_now;
       best_least = not_ended open_still;
-      now_ordered = u.now_ordered.1;
-      next_ordered = joined next u.next_ordered (λ m v i. u.behind m v n w i here);
+      now_ordered = known.now_ordered.1;
+      next_ordered =
+          order.offers_after N step n w (width n) next known.next_ordered
+          (λ m v i. known.behind m v n w i here);
       behind = λ m v l x i j.
           by_behind m v l x j (order.in_either N step m v next (offers n w (width n) 0) i);
       ahead = λ m v l x i r q. by_ahead m v l x q i (back l x r);
-      now_stands = λ m v i. u.now_stands m v (inr i);
+      now_stands = λ m v i. known.now_stands m v (inr i);
       next_stands = λ m v i.
           by_pos m v (order.in_either N step m v next (offers n w (width n) 0) i);
       past = past_now;
-      now_below = λ m v i. u.now_below m v (inr i);
+      now_below = λ m v i. known.now_below m v (inr i);
       next_below = λ m v i.
           by_first m v (order.in_either N step m v next (offers n w (width n) 0) i);
-      best_below = u.best_below;
-      now_better = λ m v b i e. u.now_better m v b (inr i) e;
+      best_below = known.best_below;
+      now_better = λ m v b i e. known.now_better m v b (inr i) e;
       next_better = λ m v b i e.
           by_better m v b e (order.in_either N step m v next (offers n w (width n) 0) i);
     }
       where
         by_next_grown : (m : N) (v : List ℕ) → In m v next ⊎ In m v (offers n w (width n) 0)
             → IsGrown N step is_end IsStart extended best m v
-        by_next_grown m v (inl i) = grown_still m v (u.next_grown m v i)
+        by_next_grown m v (inl i) = grown_still m v (known.next_grown m v i)
         by_next_grown m v (inr i) =
             let r = order.offered N step n w (width n) 0 m v i in
             inr (n, w, r.0, extended_here, r.2, r.3)
 
-        -- the offers of n, as a list that is in order by itself
-        alone : Ordered (offers n w (width n) 0)
-        alone =
-            subst Ordered (append-nil (offers n w (width n) 0))
-            (order.offers_ordered N step n w (width n) 0 [] tt (λ m v i. absurd i))
-
-        joined : (os : List Offer) → Ordered os
-            → ((m : N) (v : List ℕ) → In m v os → IsPreferred v w)
-            → Ordered (os ++ offers n w (width n) 0)
-        joined [] o f = alone
-        joined (a ∷ os) o f = (
-          (λ m v i.
-              ⊎_elim (λ j. o.0 m v j) (λ j. (let r = order.offered N step n w (width n) 0 m v j in
-              subst (λ z. IsPreferred a.1 z) (sym r.3)
-              (preferred_longer a.1 w (r.0 ∷ []) (f a.0 a.1 (inl (refl, refl))))))
-              (order.in_either N step m v os (offers n w (width n) 0) i)),
-          joined os o.1 (λ m v i. f m v (inr i)),
-        )
-
         by_behind : (m : N) (v : List ℕ) (l : N) (x : List ℕ) → In l x rest
             → In m v next ⊎ In m v (offers n w (width n) 0) → IsPreferred v x
-        by_behind m v l x j (inl i) = u.behind m v l x i (inr j)
+        by_behind m v l x j (inl i) = known.behind m v l x i (inr j)
         by_behind m v l x j (inr i) = let r = order.offered N step n w (width n) 0 m v i in
             subst (λ z. IsPreferred z x) (sym r.3)
-            (preferred_append w x (r.0 ∷ []) (u.now_ordered.0 l x j))
+            (preferred_append w x (r.0 ∷ []) (known.now_ordered.0 l x j))
 
         by_ahead : (m : N) (v : List ℕ) (l : N) (x : List ℕ) → position l ≡ p → In m v rest
             → ((l ≡ n) × (x ≡ w)) ⊎ (recorded l ≡ Some x) → NotAfter x v
         by_ahead m v l x z i (inl e) =
-            subst (λ y. NotAfter y v) (sym e.1) (inr (preferred_before w v (u.now_ordered.0 m v i)))
-        by_ahead m v l x z i (inr q) = u.ahead m v l x (inr i) q z
+            subst (λ y. NotAfter y v) (sym e.1)
+            (inr (preferred_before w v (known.now_ordered.0 m v i)))
+        by_ahead m v l x z i (inr q) = known.ahead m v l x (inr i) q z
 
         by_pos : (m : N) (v : List ℕ) → In m v next ⊎ In m v (offers n w (width n) 0)
             → position m ≡ suc p
-        by_pos m v (inl i) = u.next_stands m v i
+        by_pos m v (inl i) = known.next_stands m v i
         by_pos m v (inr i) =
             let r = order.offered N step n w (width n) 0 m v i in
-            moves r.0 m r.2 ∙ ap suc (u.now_stands n w here)
+            moves r.0 m r.2 ∙ ap suc (known.now_stands n w here)
 
         by_first : (m : N) (v : List ℕ) → In m v next ⊎ In m v (offers n w (width n) 0)
             → StartsBelow from v
-        by_first m v (inl i) = u.next_below m v i
+        by_first m v (inl i) = known.next_below m v i
         by_first m v (inr i) =
             let r = order.offered N step n w (width n) 0 m v i in subst (λ z. StartsBelow from z)
-            (sym r.3) (below_append from w (r.0 ∷ []) (u.now_below n w here))
+            (sym r.3) (below_append from w (r.0 ∷ []) (known.now_below n w here))
 
         by_better : (m : N) (v b : List ℕ) → best ≡ Some b
             → In m v next ⊎ In m v (offers n w (width n) 0) → IsPreferred v b
-        by_better m v b e (inl i) = u.next_better m v b i e
+        by_better m v b e (inl i) = known.next_better m v b i e
         by_better m v b e (inr i) = let r = order.offered N step n w (width n) 0 m v i in
             subst (λ z. IsPreferred z b) (sym r.3)
-            (preferred_append w b (r.0 ∷ []) (u.now_better n w b here e))
+            (preferred_append w b (r.0 ∷ []) (known.now_better n w b here e))

@@ -17,7 +17,7 @@ use Rattle.regex_lite_engine.specs.declared.search.here.Here.{Here}
 use Rattle.regex_lite_engine.specs.Search.Standing.{IsHere}
 use Rattle.regex_lite_engine.proofs.pikevm.EndLemmas.{bound_more}
 use Rattle.regex_lite_engine.proofs.search.SkipLemmas.{bound_later}
-use Rattle.regex_lite_engine.proofs.pikevm.TurnLemmas.{jumped, none_coming}
+use Rattle.regex_lite_engine.proofs.pikevm.ComingLemmas.{jumped, none_coming}
 
 module _ (table : List (Place ℕ)) (haystack : Text) (entries : List ℕ) (s : ℕ) where
   -- a search that has not begun

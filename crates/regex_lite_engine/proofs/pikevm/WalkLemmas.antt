@@ -20,6 +20,7 @@ use Rattle.regex_lite_engine.specs.Pikevm.Walking.{ThreadsHold, InStep, SearchAt
 use Rattle.regex_lite_engine.specs.Search.NumberedOutcomes.{Best}
 use Rattle.regex_lite_engine.proofs.laws.LeadsLemmas.{leads_append}
 use Rattle.regex_lite_engine.proofs.pikevm.InStepLemmas as deep
+use Rattle.regex_lite_engine.proofs.pikevm.InStepPassedLemmas.{in_step_passed}
 use Rattle.regex_lite_engine.proofs.pikevm.InStepMatchLemmas as at_match
 use Rattle.regex_lite_engine.proofs.search.MarkLemmas.{marks_append, same_slots}
 use Rattle.regex_lite_engine.proofs.search.PlaceLemmas.{wide, no_more, no_arrow_at}
@@ -124,9 +125,8 @@ module _ (table : List (Place ℕ)) (at : SearchAt) (m : State) (i : Told) (ways
           coming = u.coming;
           way = u.way;
           in_step =
-              deep.in_step_passed Node step same_node width (no_more table h)
-              (StartsOf s first last) (is_end table h) (λ x. x.1) p from u.recorded (q, p) w v
-              (rest ++ u.later) u.coming u.way r
+              in_step_passed Node step (StartsOf s first last) (is_end table h) (λ x. x.1) p from
+              u.recorded (q, p) w v (rest ++ u.later) u.coming u.way r
               (subst (λ z. In_step u.recorded (z ++ u.later) u.coming u.way) e u.in_step);
           seen = u.seen;
           met = u.met;

@@ -15,8 +15,8 @@ use Rattle.regex_lite_engine.specs.Search.Offsets.{offset}
 use Rattle.regex_lite_engine.specs.Search.Standing.{IsHere}
 use Rattle.regex_lite_engine.specs.Search.Starts.{AreListHeadsOf, PassesTo}
 use Rattle.regex_lite_engine.specs.Search.Starts.{AreDeadAt}
-use Rattle.regex_lite_engine.proofs.search.SkipLemmas.{ascii_there, begins_later}
-use Rattle.regex_lite_engine.proofs.search.SkipLemmas.{first_byte, inside, next_at, there}
+use Rattle.regex_lite_engine.proofs.search.FirstByteLemmas.{ascii_there, begins_later, first_byte}
+use Rattle.regex_lite_engine.proofs.search.FirstByteLemmas.{inside, next_at, there}
 use Rattle.regex_lite_engine.proofs.OffsetLemmas.{offset_less}
 
 module _ (table : List (Place ℕ)) (entries : List ℕ) (heads : ListHeads)

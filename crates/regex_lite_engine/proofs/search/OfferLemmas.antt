@@ -1,6 +1,7 @@
 -- The order of ways, and the ways that are still to be followed.
 use Rattle.std.proofs.Common.{◌≡◌, ℕ, zero, suc, ◌+◌, ◌<◌, ◌≤◌, ◌⊎◌, inl, inr, ⊎_elim, List, []}
 use Rattle.std.proofs.Common.{◌∷◌, ◌++◌, Option, Some, None, refl, sym, ap, subst, ◌∙◌, arith}
+use Rattle.std.proofs.Common.{append-nil}
 use Rattle.std.proofs.lemmas.Bool.{cases_lt, cases_order}
 use Rattle.regex_lite_engine.specs.Search.Preference.{IsPreferred}
 use Rattle.regex_lite_engine.specs.Search.Explored.{Before}
@@ -156,3 +157,17 @@ module _ (N : Type 0) (step : N → ℕ → Option N) where
           → Ordered ((one_offer x (w ++ k ∷ []) ++ offers n w c (suc k)) ++ rest)
       by_first None h = h
       by_first (Some q) h = (later, h)
+
+  -- offers that come last after a list in order, each of which is preferred to them
+  pub offers_after : (n : N) (w : List ℕ) (c : ℕ) (os : List Offer) → Ordered os
+      → ((m : N) (v : List ℕ) → In m v os → IsPreferred v w) → Ordered (os ++ offers n w c 0)
+  offers_after n w c [] o f =
+      subst Ordered (append-nil (offers n w c 0)) (offers_ordered n w c 0 [] tt (λ m v i. absurd i))
+  offers_after n w c (a ∷ os) o f = (
+    (λ m v i.
+        ⊎_elim (λ j. o.0 m v j) (λ j. (let r = offered n w c 0 m v j in
+        subst (λ z. IsPreferred a.1 z) (sym r.3)
+        (preferred_longer a.1 w (r.0 ∷ []) (f a.0 a.1 (inl (refl, refl))))))
+        (in_either m v os (offers n w c 0) i)),
+    offers_after n w c os o.1 (λ m v i. f m v (inr i)),
+  )

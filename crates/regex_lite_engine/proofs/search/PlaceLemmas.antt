@@ -1,6 +1,6 @@
 -- The places of a table, and what each offers, by its arrows.
 use Rattle.std.proofs.Common.{◌≡◌, ℕ, zero, suc, ◌+◌, ◌≤◌, IsTrue, List, [], ◌∷◌, ◌++◌, map}
-use Rattle.std.proofs.Common.{slice_get, Option, Some, None, refl, ap, subst, ◌∙◌, arith}
+use Rattle.std.proofs.Common.{slice_get, Option, Some, None, refl, sym, ap, subst, ◌∙◌, arith}
 use Rattle.std.proofs.lemmas.Option.{slice_get_past}
 use Rattle.regex_lite_syntax.specs.Text.{Text}
 use Rattle.regex_lite_engine.specs.declared.nfa.place.Place as code
@@ -9,8 +9,8 @@ use Rattle.regex_lite_engine.specs.Graph.Places.{arrow_taken, step_from}
 use Rattle.regex_lite_engine.specs.Graph.Renumbered.{arrow_count}
 use Rattle.regex_lite_engine.specs.Graph.Stored.{place_of}
 use Rattle.regex_lite_engine.specs.Search.Marks.{mark_of}
-use Rattle.regex_lite_engine.specs.Search.NumberedAnswer.{place_with, is_complete}
-use Rattle.regex_lite_engine.specs.Search.NumberedAnswer.{numbered_step, is_end}
+use Rattle.regex_lite_engine.specs.Search.NumberedAnswer.{place_with, is_complete, numbered_step}
+use Rattle.regex_lite_engine.specs.Search.NumberedAnswer.{is_end}
 use Rattle.regex_lite_engine.specs.Search.Offers.{Offer, Node}
 use Rattle.regex_lite_engine.proofs.OptionLemmas.{not_there, same_some}
 use Rattle.regex_lite_engine.proofs.search.OfferLemmas as order
@@ -109,3 +109,10 @@ module _ (table : List (Place ℕ)) (h : Text) (q p : ℕ) where
       → numbered_step table h (q, p) 0 ≡ None → (k : ℕ) → numbered_step table h (q, p) k ≡ None
   one_blocked arrow e none zero = none
   one_blocked arrow e none (suc k) = no_second arrow e k
+
+-- free arrows stay at the position
+pub free_stays : (h : Text) (qs : List ℕ) (p a : ℕ) (l : Node)
+    → step_from h (with_arrows (map go qs)) p a ≡ Some l → l.1 ≡ p
+free_stays h [] p a l e = absurd (not_there e)
+free_stays h (q ∷ qs) p zero l e = sym (ap (λ (z : Node). z.1) (same_some e))
+free_stays h (q ∷ qs) p (suc a) l e = free_stays h qs p a l e

@@ -20,9 +20,10 @@ use Rattle.regex_lite_engine.specs.Nfa.Totals.{reading_of_all}
 use Rattle.regex_lite_engine.proofs.count.KeptBackLemmas.{kept_back_pattern}
 use Rattle.regex_lite_engine.proofs.count.ReadingCountLemmas.{reading_pattern}
 use Rattle.regex_lite_engine.proofs.count.TotalLemmas.{arrows_all_few, reading_all_few}
-use Rattle.regex_lite_engine.proofs.nfa.write.SeveralLemmas.{places_add_up, name_of_patterns}
-use Rattle.regex_lite_engine.proofs.nfa.write.SeveralLemmas.{side_by_side_renumbered}
-use Rattle.regex_lite_engine.proofs.nfa.write.SeveralLemmas.{are_entries, own_parts}
+use Rattle.regex_lite_engine.proofs.nfa.write.SeveralLemmas.{side_by_side_renumbered, are_entries}
+use Rattle.regex_lite_engine.proofs.nfa.write.SeveralLemmas.{own_parts}
+use Rattle.regex_lite_engine.proofs.nfa.write.SeveralNameLemmas.{name_of_patterns}
+use Rattle.regex_lite_engine.proofs.nfa.write.SeveralRowLemmas.{places_add_up}
 
 -- as many places read a character as in all patterns
 reading_adds_up : (trees : List Tree) (base : ℕ)

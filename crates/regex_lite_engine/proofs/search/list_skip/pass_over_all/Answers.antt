@@ -7,7 +7,7 @@ use Rattle.regex_lite_engine.specs.Prefilter.Starts.{MayBegin}
 use Rattle.regex_lite_engine.specs.Search.Offsets.{position_at}
 use Rattle.regex_lite_engine.proofs.search.here.HereLemmas.{at_most}
 use Rattle.regex_lite_engine.proofs.search.ListSkipLemmas.{passes_to}
-use Rattle.regex_lite_engine.proofs.search.SkipLemmas.{never_at}
+use Rattle.regex_lite_engine.proofs.search.FirstByteLemmas.{never_at}
 use Rattle.regex_lite_engine.proofs.search.list_skip.pass_over_all.Goals as goal
 use Rattle.regex_lite_engine.proofs.search.list_skip.pass_over_all.Goals.{
   else-is_none-via-then-is_none+else-may_begin,

@@ -7,8 +7,8 @@ use Rattle.regex_lite_engine.specs.Prefilter.Starts.{may_begin, stops_at}
 use Rattle.regex_lite_engine.specs.Search.Offsets.{position_at}
 use Rattle.regex_lite_engine.specs.Search.Starts.{PassesTo}
 use Rattle.regex_lite_engine.proofs.search.here.HereLemmas.{at_most}
-use Rattle.regex_lite_engine.proofs.search.SkipLemmas.{cut_off_here, never_at}
-use Rattle.regex_lite_engine.proofs.search.SkipLemmas.{passes_between, stopped}
+use Rattle.regex_lite_engine.proofs.search.FirstByteLemmas.{never_at, stopped}
+use Rattle.regex_lite_engine.proofs.search.SkipLemmas.{cut_off_here, passes_between}
 use Rattle.regex_lite_engine.proofs.search.skip.pass_over.Goals as goal
 
 pub can_begin-requires : goal.can_begin-requires

@@ -2,8 +2,9 @@ use Rattle.std.proofs.Common.{rules, ◌≡◌, ◌-◌, ◌∷◌, [], ◌++◌
 use Rattle.std.specs.Vec.{vec_len}
 use Rattle.regex_lite_engine.specs.LazyDfa.Automaton.{Automaton, State, unknown}
 use Rattle.regex_lite_engine.specs.LazyDfa.Stored.{hit_in}
-use Rattle.regex_lite_engine.proofs.lazy_dfa.AutomatonLemmas.{added_extends, added_is}
-use Rattle.regex_lite_engine.proofs.lazy_dfa.AutomatonLemmas.{blank_row, seen, seen_added}
+use Rattle.regex_lite_engine.proofs.lazy_dfa.StoredChangeLemmas.{added_extends, added_is, blank_row}
+use Rattle.regex_lite_engine.proofs.lazy_dfa.StoredChangeLemmas.{seen_added}
+use Rattle.regex_lite_engine.proofs.lazy_dfa.StoredStateLemmas.{seen}
 use Rattle.regex_lite_engine.proofs.lazy_dfa.automaton.LazyDfa.add.Goals as goal
 
 pub returns-in-Ok-clause-state : goal.returns-in-Ok-clause-state

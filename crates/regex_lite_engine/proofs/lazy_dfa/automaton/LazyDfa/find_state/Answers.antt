@@ -2,7 +2,7 @@ use Rattle.std.proofs.Common.{rules, ◌≡◌, ap, sym, ◌∙◌, map, slice_g
 use Rattle.regex_lite_engine.specs.declared.lazy_dfa.state.StoredState.{StoredState}
 use Rattle.regex_lite_engine.specs.LazyDfa.Automaton.{Automaton}
 use Rattle.regex_lite_engine.specs.LazyDfa.Stored.{hit_in, state_in, way_in}
-use Rattle.regex_lite_engine.proofs.lazy_dfa.AutomatonLemmas.{state_at}
+use Rattle.regex_lite_engine.proofs.lazy_dfa.StoredStateLemmas.{state_at}
 use Rattle.regex_lite_engine.proofs.lazy_dfa.automaton.LazyDfa.find_state.Goals as goal
 
 pub returns-then-are_same : goal.returns-then-are_same

@@ -2,7 +2,8 @@ use Rattle.std.proofs.Common.{◌∷◌, [], ◌++◌, drop, map, ap, sym, ◌�
 use Rattle.regex_lite_engine.specs.declared.lazy_dfa.state.StoredWay.{StoredWay}
 use Rattle.regex_lite_engine.specs.LazyDfa.Automaton.{Automaton}
 use Rattle.regex_lite_engine.specs.LazyDfa.Stored.{way_in}
-use Rattle.regex_lite_engine.proofs.lazy_dfa.AutomatonLemmas.{seen, seen_pushed}
+use Rattle.regex_lite_engine.proofs.lazy_dfa.StoredChangeLemmas.{seen_pushed}
+use Rattle.regex_lite_engine.proofs.lazy_dfa.StoredStateLemmas.{seen}
 use Rattle.regex_lite_engine.proofs.lazy_dfa.automaton.LazyDfa.push_way.Goals as goal
 use Rattle.regex_lite_engine.proofs.lazy_dfa.automaton.LazyDfa.push_way.Goals.{in-Ok, in-Err}
 

@@ -6,7 +6,8 @@ use Rattle.regex_lite_engine.specs.LazyDfa.Automaton.{Automaton, State, best_lef
 use Rattle.regex_lite_engine.specs.LazyDfa.Intervals.{class_of}
 use Rattle.regex_lite_engine.specs.LazyDfa.Scanning.{best_told}
 use Rattle.regex_lite_engine.specs.LazyDfa.Stored.{hit_in, state_in}
-use Rattle.regex_lite_engine.proofs.lazy_dfa.AutomatonLemmas.{is_stored, known_turn, stored_within}
+use Rattle.regex_lite_engine.proofs.lazy_dfa.StoredStateLemmas.{is_stored, known_turn}
+use Rattle.regex_lite_engine.proofs.lazy_dfa.StoredStateLemmas.{stored_within}
 use Rattle.regex_lite_engine.proofs.lazy_dfa.ScanLemmas.{led_step}
 use Rattle.regex_lite_engine.proofs.OptionLemmas.{same_some}
 use Rattle.regex_lite_engine.proofs.lazy_dfa.automaton.LazyDfa.step.Goals as goal

@@ -10,8 +10,8 @@ use Rattle.regex_lite_engine.specs.LazyDfa.Intervals.{class_of}
 use Rattle.regex_lite_engine.specs.LazyDfa.Scanning.{IsScanning, best_told}
 use Rattle.regex_lite_engine.specs.LazyDfa.Stored.{hit_in, state_in}
 use Rattle.regex_lite_engine.specs.Search.NumberedOutcomes.{IsNumberedEndOf}
-use Rattle.regex_lite_engine.proofs.lazy_dfa.AutomatonLemmas.{known_turn, stored_turn}
-use Rattle.regex_lite_engine.proofs.lazy_dfa.AutomatonLemmas.{stored_within}
+use Rattle.regex_lite_engine.proofs.lazy_dfa.StoredStateLemmas.{known_turn, stored_turn}
+use Rattle.regex_lite_engine.proofs.lazy_dfa.StoredStateLemmas.{stored_within}
 use Rattle.regex_lite_engine.proofs.lazy_dfa.ScanLemmas.{end_led, led_step}
 use Rattle.regex_lite_engine.proofs.OptionLemmas.{not_there}
 use Rattle.regex_lite_engine.proofs.lazy_dfa.automaton.LazyDfa.step_shortest.Goals as goal

@@ -3,7 +3,7 @@ use Rattle.regex_lite_engine.specs.declared.lazy_dfa.state.StoredState.{StoredSt
 use Rattle.regex_lite_engine.specs.LazyDfa.Automaton.{Automaton}
 use Rattle.regex_lite_engine.specs.LazyDfa.Intervals.{IsAhead}
 use Rattle.regex_lite_engine.specs.LazyDfa.Stored.{state_in}
-use Rattle.regex_lite_engine.proofs.lazy_dfa.AutomatonLemmas.{is_stored, known_turn}
+use Rattle.regex_lite_engine.proofs.lazy_dfa.StoredStateLemmas.{is_stored, known_turn}
 use Rattle.regex_lite_engine.proofs.lazy_dfa.automaton.LazyDfa.turn.Goals as goal
 
 pub returns-clause-turn : goal.returns-clause-turn

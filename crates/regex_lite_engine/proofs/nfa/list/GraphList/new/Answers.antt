@@ -8,7 +8,7 @@ use Rattle.regex_lite_engine.proofs.nfa.list.TableLemmas.{closed, name, written,
 use Rattle.regex_lite_engine.proofs.nfa.list.TableLemmas.{entries_inside, parted}
 use Rattle.regex_lite_engine.proofs.nfa.list.TableLemmas.{entry_for_each, few_entries}
 use Rattle.regex_lite_engine.proofs.nfa.WayLemmas.{listed_heads}
-use Rattle.regex_lite_engine.proofs.nfa.write.SeveralLemmas.{arrows_add_up}
+use Rattle.regex_lite_engine.proofs.nfa.write.SeveralRowLemmas.{arrows_add_up}
 use Rattle.regex_lite_engine.proofs.nfa.list.GraphList.new.Goals as goal
 
 pub write_all-requires-clause-slots : goal.write_all-requires-clause-slots

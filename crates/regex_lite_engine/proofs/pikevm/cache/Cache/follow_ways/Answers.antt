@@ -16,7 +16,7 @@ use Rattle.regex_lite_engine.specs.Search.NumberedOutcomes.{Best}
 use Rattle.regex_lite_engine.proofs.search.CountLemmas.{still_counted}
 use Rattle.regex_lite_engine.proofs.pikevm.StateLemmas.{takes_up}
 use Rattle.regex_lite_engine.proofs.pikevm.StepLemmas.{goes_up, room_pushed, stepped}
-use Rattle.regex_lite_engine.proofs.pikevm.TurnLemmas.{begun_below, start_begun, start_taken}
+use Rattle.regex_lite_engine.proofs.pikevm.RoundLemmas.{begun_below, start_begun, start_taken}
 use Rattle.regex_lite_engine.proofs.pikevm.cache.Cache.follow_ways.Goals as goal
 
 -- the best match with a row that is the same

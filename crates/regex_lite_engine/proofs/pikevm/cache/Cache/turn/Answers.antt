@@ -12,9 +12,9 @@ use Rattle.regex_lite_engine.proofs.pikevm.AgainLemmas.{best_kept, start_retold}
 use Rattle.regex_lite_engine.proofs.pikevm.OwnPartLemmas.{left_outside, length_row}
 use Rattle.regex_lite_engine.proofs.pikevm.RoomLemmas.{left_most}
 use Rattle.regex_lite_engine.proofs.pikevm.StateLemmas.{begins_round, turns_over}
-use Rattle.regex_lite_engine.proofs.pikevm.TurnLemmas.{begins_with, fit_first, none_entered}
+use Rattle.regex_lite_engine.proofs.pikevm.RoundLemmas.{begins_with, fit_first, none_entered}
+use Rattle.regex_lite_engine.proofs.pikevm.RoundLemmas.{sum_lone, begun_len, start_begun}
 use Rattle.regex_lite_engine.proofs.pikevm.TurnLemmas.{turned_all, turned_within}
-use Rattle.regex_lite_engine.proofs.pikevm.TurnLemmas.{sum_lone, begun_len, start_begun}
 use Rattle.regex_lite_engine.proofs.pikevm.cache.Cache.turn.Goals as goal
 
 -- a search at the position, before any start is offered there

@@ -5,7 +5,7 @@ use Rattle.regex_lite_engine.specs.Graph.Stored.{place_of, table_of}
 use Rattle.regex_lite_engine.specs.Prefilter.Heads.{NeverBegins}
 use Rattle.regex_lite_engine.proofs.search.OneStartLemmas.{one_inside, one_at_most}
 use Rattle.regex_lite_engine.proofs.search.OneStartLemmas.{one_starts}
-use Rattle.regex_lite_engine.proofs.search.SkipLemmas.{never_at}
+use Rattle.regex_lite_engine.proofs.search.FirstByteLemmas.{never_at}
 use Rattle.regex_lite_engine.proofs.search.one_pattern.OnePatternPatterns.come_to.Goals as goal
 
 pub returns-clause-inside : goal.returns-clause-inside

@@ -1,0 +1,132 @@
+-- What a round begins with: the room that it needs, and the threads and starts that are followed.
+use Rattle.std.proofs.Common.{◌≡◌, ℕ, ◌+◌, ◌-◌, ◌^◌, ◌<◌, ◌≤◌, ◌⊎◌, inl, inr, List, [], ◌∷◌, ◌++◌}
+use Rattle.std.proofs.Common.{length, replicate, slice_index, slice_index_or, sum_by, Some, None}
+use Rattle.std.proofs.Common.{refl, sym, ap, subst, ◌∙◌, arith, length-append}
+use Rattle.std.specs.List.{All}
+use Rattle.std.proofs.lemmas.Bool.{cases_lt}
+use Rattle.std.proofs.lemmas.List.Sums.{sum_by-cons}
+use Rattle.std.proofs.lemmas.Option.{slice_get-get_or}
+use Rattle.regex_lite_engine.specs.declared.pikevm.walk.Walk.{Walk}
+use Rattle.regex_lite_engine.specs.Graph.Places.{Place, kept_back, reading_count}
+use Rattle.regex_lite_engine.specs.Graph.Renumbered.{arrow_count, arrows_of}
+use Rattle.regex_lite_engine.specs.Pikevm.Machine.{BestState, Thread, thread_at, State}
+use Rattle.regex_lite_engine.specs.declared.search.patterns.Start.{Start}
+use Rattle.regex_lite_engine.specs.Search.Beginnings.{Told}
+use Rattle.regex_lite_engine.specs.Pikevm.Room.{HasRoom, ThreadsBelow}
+use Rattle.regex_lite_engine.specs.Search.Counting.{lone}
+use Rattle.regex_lite_engine.specs.Pikevm.Turns.{begun, with_starts, Begun, IsReady}
+use Rattle.regex_lite_engine.specs.Search.NumberedOutcomes.{Best}
+use Rattle.regex_lite_engine.proofs.OptionLemmas.{not_there}
+use Rattle.regex_lite_engine.proofs.pikevm.RoomLemmas.{left_most}
+use Rattle.regex_lite_engine.proofs.pikevm.StateLemmas.{BeginsRound}
+use Rattle.regex_lite_engine.proofs.pikevm.ThreadLemmas.{at_front, at_back, begun_at, begun_length}
+use Rattle.regex_lite_engine.proofs.search.MarkLemmas.{blank_row}
+
+pub sum_lone : (table : List (Place ℕ)) → sum_by lone table ≡ length table
+sum_lone [] = refl
+sum_lone (x ∷ table) = let more = sum_lone table in omega (arith, more, sum_by-cons lone x table)
+
+pub fit_first : (table : List (Place ℕ)) {S : Type 0} (walk : Walk S) (memory : State)
+    (best : BestState) → IsReady table walk.memory best walk.steps
+    → memory ≡ record walk.memory { now = walk.memory.now + 1; ready = memory.ready }
+    → walk.steps.tried + arrows_of table < 2 ^ 127 → walk.steps.entered + length table < 2 ^ 127
+    → HasRoom table (record walk { memory = memory }) []
+fit_first table walk memory best ready em few fewe =
+    let m = walk.memory in let now = m.now + 1 in
+    let a = left_most kept_back now m.rounds table in let b = left_most lone now m.rounds table in
+    let c = left_most arrow_count now m.rounds table in let d = sum_lone table in
+    let g = left_most reading_count now m.rounds table in
+    let e = ready.stack_room in let cap = ready.cap in
+    let z : length m.next ≡ 0 = ap length ready.none_next in
+    subst (λ (n : State). HasRoom table (record walk { memory = n }) []) (sym em) (record {
+      all_seen = ready.all_seen;
+      old_rounds = λ r. (let le = ready.old_rounds r in omega (arith, le));
+      frames_below = tt;
+      threads_below = λ k lt. absurd (omega (arith, lt, z));
+      stack_room = omega (arith, a, e);
+      next_room = omega (arith, g, z);
+      next_cap = cap;
+      few_tries = omega (arith, c, few, z);
+      few_entries = omega (arith, b, d, fewe);
+      entered_tried = ready.entered_tried;
+      looked_entered = ready.looked_entered;
+    })
+
+pub begun_len : (best : Best) (starts : List Start) (at : ℕ → Told) (cur cur' : List Thread)
+    → Begun starts at best cur cur' → (length cur') ≤ length cur + length starts
+begun_len best starts at cur cur' (inl (none, (blank, blanks, pushed))) =
+    let e = ap length pushed ∙ length-append cur (begun at blank starts) in
+    let f = begun_length at blank starts in omega (arith, e, f)
+begun_len best starts at cur cur' (inr (some, same)) =
+    let e : (length cur') ≡ length cur = ap (λ (t : List Thread). length t) same in omega (arith, e)
+
+pub begun_below : (c : ℕ) (best : Best) (starts : List Start) (at : ℕ → Told)
+    (cur cur' : List Thread)
+    → All (λ start. start.place < c) starts → ThreadsBelow c cur → Begun starts at best cur cur'
+    → ThreadsBelow c cur'
+begun_below c best starts at cur cur' inside below (inl (none, (blank, blanks, pushed))) =
+    subst (λ (t : List Thread). ThreadsBelow c t) (sym pushed)
+    (λ k lt. by_place k lt (cases_lt k (length cur)))
+  where
+    by_place : (k : ℕ) → k < length (cur ++ begun at blank starts)
+        → (k < length cur) ⊎ (length cur ≤ k) → (thread_at (cur ++ begun at blank starts) k).0 < c
+    by_place k lt (inl less) =
+        subst (λ (t : Thread). t.0 < c) (sym (at_front cur (begun at blank starts) k less))
+        (below k less)
+    by_place k lt (inr le) =
+        let few : k - length cur < length starts =
+        omega
+        (arith, lt, le, length-append cur (begun at blank starts), begun_length at blank starts) in
+        let none : Start = record { number = 0; place = 0 } in
+        let there = slice_get-get_or starts (k - length cur) none few in
+        subst (λ (t : Thread). t.0 < c)
+        (sym (at_back cur (begun at blank starts) k le
+        ∙ begun_at at blank starts (k - length cur)
+        (slice_index_or starts (k - length cur) none) there))
+        (inside (k - length cur) none few)
+begun_below c best starts at cur cur' inside below (inr (some, same)) =
+    subst (λ (t : List Thread). ThreadsBelow c t) (sym same) below
+
+pub start_begun : (starts : List Start) (at : ℕ → Told) (w : ℕ) (best : Best) (ts : List Thread)
+    → Begun starts at best ts (with_starts starts at best w ts)
+start_begun starts at w None ts = inl (refl, (replicate w None, blank_row w, refl))
+start_begun starts at w (Some b) ts = inr ((λ e. not_there (sym e)), refl)
+
+-- the ways of a round that begins
+pub begins_with : (m n : State) (starts : List Start) (told : ℕ → Told) (best : Best)
+    → BeginsRound m n
+    → Begun starts told best m.threads (with_starts starts told best (length n.row) n.threads)
+begins_with m n starts told best round =
+    subst (λ ts. Begun starts told best ts (with_starts starts told best (length n.row) n.threads))
+    round.threads (start_begun starts told (length n.row) best n.threads)
+
+-- no place was entered in it
+pub none_entered : (m n : State) → ((q : ℕ) → slice_index m.rounds q ≤ m.now) → BeginsRound m n
+    → (q : ℕ) → slice_index n.rounds q ≡ n.now → ⊥
+none_entered m n old round q e =
+    let le = old q in let now = round.now in
+    let same = ap (λ x. slice_index x q) round.rounds in
+    omega (arith, le, same, now, e)
+
+-- a thread, or a start after them
+abbrev IsTakenUp : (starts : List Start) (at : ℕ → Told) (w : ℕ) (ts ways : List Thread) (k : ℕ)
+    → Type 0
+IsTakenUp starts at w ts ways k =
+    (k < length ts + length starts)
+    × (thread_at ways k ≡ thread_at (ts ++ begun at (replicate w None) starts) k)
+
+pub start_taken : (starts : List Start) (at : ℕ → Told) (w : ℕ) (best : Best) (ts : List Thread)
+    (k : ℕ)
+    → k < length (with_starts starts at best w ts)
+    → IsTakenUp starts at w ts (with_starts starts at best w ts) k
+start_taken starts at w None ts k lt = (
+  omega (
+    arith,
+    lt,
+    length-append ts (begun at (replicate w None) starts),
+    begun_length at (replicate w None) starts,
+  ),
+  refl,
+)
+start_taken starts at w (Some b) ts k lt =
+    (omega (arith, lt), sym (at_front ts (begun at (replicate w None) starts) k lt))
