@@ -1,2 +1,4 @@
 -- lemmas that the proofs of walks over groups share
+pub mod AnswerLemmas
 pub mod GroupWalkLemmas
+pub mod StageLemmas

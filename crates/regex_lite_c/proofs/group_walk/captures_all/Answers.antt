@@ -5,27 +5,24 @@ use Rattle.regex_lite_c.specs.GroupWalks.{IsFilled, IsGroupWalkAnswer}
 use Rattle.regex_lite_c.specs.Walks.{ended_of}
 use Rattle.regex_lite_c.specs.declared.types.Span.{Span}
 use Rattle.regex_lite_c.specs.declared.types.Walk.{Walk}
-use Rattle.regex_lite_c.proofs.group_walk.GroupWalkLemmas.{not_four, not_three, one_of_more}
+use Rattle.regex_lite_c.proofs.group_walk.AnswerLemmas.{nothing_refused, one_of_more}
 use Rattle.regex_lite_c.proofs.group_walk.captures_all.Goals as goal
 
 -- with a text that can be searched from there on, what was filled is the answer
-told : (re : Expression) (bytes : List ℕ) (old_walk walk : Walk) (old new : List Span)
-    (count answer : ℕ)
-    → IsUtf8 bytes → IsCharBoundary bytes (unwrap_or (ended_of old_walk) 0)
-    → IsFilled (after re bytes (ended_of old_walk)) old_walk walk old new count answer
-    → IsGroupWalkAnswer re bytes old_walk walk old new count answer
-told re bytes old_walk walk old new count answer utf8 boundary is = record {
-  found = is.found;
-  none = is.none;
-  no_room = is.no_room;
-  same = is.same;
-  refused = record {
-    not_text = (λ wrong. absurd (not_three answer is.one_of wrong), λ wrong. absurd (wrong utf8));
-    bad_offset =
-        (λ wrong. absurd (not_four answer is.one_of wrong), λ wrong. absurd (wrong.1 boundary));
-  };
-  one_of = one_of_more answer is.one_of;
-}
+module _ {re : Expression} {bytes : List ℕ} {old_walk walk : Walk} {old new : List Span}
+    {count answer : ℕ} where
+  told : IsUtf8 bytes → IsCharBoundary bytes (unwrap_or (ended_of old_walk) 0)
+      → IsFilled (after re bytes (ended_of old_walk)) old_walk walk old new count answer
+      → IsGroupWalkAnswer re bytes old_walk walk old new count answer
+  told utf8 boundary is = record {
+    found = is.found;
+    none = is.none;
+    no_room = is.no_room;
+    same = is.same;
+    refused = nothing_refused bytes (unwrap_or (ended_of old_walk) 0) answer utf8 boundary
+        is.one_of;
+    one_of = one_of_more answer is.one_of;
+  }
 
 pub returns-in-Ok-captures_iter_after : goal.returns-in-Ok-captures_iter_after
 returns-in-Ok-captures_iter_after c =
@@ -35,8 +32,7 @@ returns-in-Ok-captures_iter_after c =
     let text = c.in-Ok.ensures in
     let is = c.in-Ok-captures_iter_after.ensures.ahead
     ∙ ap (λ b. after re b c.ended-ended.result) text.0 ∙ ap (after re bytes) ended in
-    told re bytes c.args.walk.now c.fill_groups.new.walk c.args.spans.now c.fill_groups.new.spans
-    c.fill_groups.new.count c.fill_groups.result text.1
+    told text.1
     (subst (IsCharBoundary bytes) (c.unwrap_or.ensures ∙ ap (λ e. unwrap_or e 0) ended) text.2)
     (subst (λ a. IsFilled a c.args.walk.now c.fill_groups.new.walk c.args.spans.now
     c.fill_groups.new.spans c.fill_groups.new.count c.fill_groups.result) is c.fill_groups.ensures)

@@ -6,29 +6,26 @@ use Rattle.regex_lite_c.specs.Walks.{ended_of}
 use Rattle.regex_lite_c.specs.declared.list.types.ListGroups.{ListGroups}
 use Rattle.regex_lite_c.specs.declared.types.Span.{Span}
 use Rattle.regex_lite_c.specs.declared.types.Walk.{Walk}
-use Rattle.regex_lite_c.proofs.group_walk.GroupWalkLemmas.{not_four, not_three, one_of_more}
+use Rattle.regex_lite_c.proofs.group_walk.AnswerLemmas.{nothing_refused, one_of_more}
 use Rattle.regex_lite_c.proofs.list.group_walk.captures_all.Goals as goal
 
 -- with a text that can be searched from there on, what was filled is the answer
-walk_told : (list : List Expression) (bytes : List ℕ) (old_walk walk : Walk)
-    (old_told told : List ListGroups) (old new : List Span) (count answer : ℕ)
-    → IsUtf8 bytes → IsCharBoundary bytes (unwrap_or (ended_of old_walk) 0)
-    → IsListFilled (list_after list bytes (ended_of old_walk)) old_walk walk old_told told old new
-    count answer
-    → IsListGroupWalkAnswer list bytes old_walk walk old_told told old new count answer
-walk_told list bytes old_walk walk old_told told old new count answer utf8 boundary is = record {
-  found = is.found;
-  none = is.none;
-  no_room = is.no_room;
-  same = is.same;
-  no_count = is.no_count;
-  refused = record {
-    not_text = (λ wrong. absurd (not_three answer is.one_of wrong), λ wrong. absurd (wrong utf8));
-    bad_offset =
-        (λ wrong. absurd (not_four answer is.one_of wrong), λ wrong. absurd (wrong.1 boundary));
-  };
-  one_of = one_of_more answer is.one_of;
-}
+module _ {list : List Expression} {bytes : List ℕ} {old_walk walk : Walk}
+    {old_told told : List ListGroups} {old new : List Span} {count answer : ℕ} where
+  walk_told : IsUtf8 bytes → IsCharBoundary bytes (unwrap_or (ended_of old_walk) 0)
+      → IsListFilled (list_after list bytes (ended_of old_walk)) old_walk walk old_told told old
+      new count answer
+      → IsListGroupWalkAnswer list bytes old_walk walk old_told told old new count answer
+  walk_told utf8 boundary is = record {
+    found = is.found;
+    none = is.none;
+    no_room = is.no_room;
+    same = is.same;
+    no_count = is.no_count;
+    refused = nothing_refused bytes (unwrap_or (ended_of old_walk) 0) answer utf8 boundary
+        is.one_of;
+    one_of = one_of_more answer is.one_of;
+  }
 
 pub returns-in-Ok-captures_iter_after : goal.returns-in-Ok-captures_iter_after
 returns-in-Ok-captures_iter_after c =
@@ -38,9 +35,7 @@ returns-in-Ok-captures_iter_after c =
     let text = c.in-Ok.ensures in
     let is = c.in-Ok-captures_iter_after.ensures.ahead
     ∙ ap (λ b. list_after list b c.ended-ended.result) text.0 ∙ ap (list_after list bytes) ended in
-    walk_told list bytes c.args.walk.now c.fill_groups.new.walk c.args.told.now
-    c.fill_groups.new.told
-    c.args.spans.now c.fill_groups.new.spans c.fill_groups.new.count c.fill_groups.result text.1
+    walk_told text.1
     (subst (IsCharBoundary bytes) (c.unwrap_or.ensures ∙ ap (λ e. unwrap_or e 0) ended) text.2)
     (subst (λ a. IsListFilled a c.args.walk.now c.fill_groups.new.walk c.args.told.now
     c.fill_groups.new.told c.args.spans.now c.fill_groups.new.spans c.fill_groups.new.count

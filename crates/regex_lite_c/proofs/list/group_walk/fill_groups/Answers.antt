@@ -1,55 +1,83 @@
-use Rattle.std.proofs.Common.{◌∙◌, ◌+◌, Some, ap, arith, inl, inr, refl, slice_set, subst, sym}
+use Rattle.std.proofs.Common.{◌∙◌, ◌+◌, List, Some, ap, arith, inl, inr, refl, slice_set, subst}
+use Rattle.std.proofs.Common.{sym}
+use Rattle.regex_lite.specs.Expression.{Expression}
 use Rattle.regex_lite.specs.ListAhead.{list_ahead_of}
 use Rattle.regex_lite.specs.Groups.{group_span}
 use Rattle.regex_lite.specs.MatchList.{IsAnswerOfPatterns}
 use Rattle.regex_lite_c.specs.declared.list.types.ListGroups.{ListGroups}
 use Rattle.regex_lite_c.proofs.walk.WalkLemmas.{comes_none}
 use Rattle.regex_lite_c.proofs.group_walk.GroupWalkLemmas.{end_of_span}
-use Rattle.regex_lite_c.proofs.list.group_walk.ListGroupWalkLemmas.{IsListSoFar, found_in, full}
-use Rattle.regex_lite_c.proofs.list.group_walk.ListGroupWalkLemmas.{nothing_yet, one_more, over}
+use Rattle.regex_lite_c.proofs.group_walk.StageLemmas.{Stage}
+use Rattle.regex_lite_c.proofs.list.group_walk.ListGroupWalkLemmas.{IsListSoFar, ListStage}
+use Rattle.regex_lite_c.proofs.list.group_walk.ListGroupWalkLemmas.{found_in, full, nothing_yet}
+use Rattle.regex_lite_c.proofs.list.group_walk.ListGroupWalkLemmas.{one_more, over}
 use Rattle.regex_lite_c.proofs.list.group_walk.ListGroupWalkLemmas.{some_list_groups}
 use Rattle.regex_lite_c.proofs.list.group_walk.fill_groups.Goals as goal
 use Rattle.regex_lite_c.proofs.list.group_walk.fill_groups.Goals.{
+  After-next,
   then-count-told-via-then-count-told,
   then-count-told-via-else-count-told+then-spans-used,
 }
 
+-- where the walk begins
+abbrev start_of : (c : After-next) → ListStage
+start_of c = record {
+  stage = record {
+    ahead = list_ahead_of c.args.items;
+    walk = c.args.walk.now;
+    spans = c.args.spans.now;
+    used = 0;
+    count = c.args.count.now;
+  };
+  told = c.args.told.now;
+}
+
+-- where it stands when the next match is looked for
+abbrev now_of : (c : After-next) → ListStage
+now_of c = record {
+  stage = record {
+    ahead = list_ahead_of c.loop-item.item-iterator;
+    walk = c.loop-item.walk;
+    spans = c.loop-item.spans;
+    used = c.loop-item.used;
+    count = c.loop-item.count;
+  };
+  told = c.loop-item.told;
+}
+
 pub loop-item-init : goal.loop-item-init
 loop-item-init c =
-    let start = list_ahead_of c.args.items in
-    let walk = c.args.walk.now in
-    let told = c.args.told.now in
-    let spans = c.args.spans.now in
+    let begun : Stage (List Expression) = record {
+      ahead = list_ahead_of c.args.items;
+      walk = c.args.walk.now;
+      spans = c.args.spans.now;
+      used = 0;
+      count = c.args.count.now;
+    } in
+    let start : ListStage = record { stage = begun; told = c.args.told.now } in
     record {
       can = tt;
       finite = tt;
       so_far =
-          subst (λ n. IsListSoFar start (list_ahead_of c.into_iter-item-iterator.result) walk
-          walk told told spans spans 0 n) (sym c.requires.none)
-          (subst (λ it. IsListSoFar start (list_ahead_of it) walk walk told told spans spans
-          0 0)
+          subst (λ it. IsListSoFar start
+          (record start { stage = record begun { ahead = list_ahead_of it } }))
           (sym c.into_iter-item-iterator.ensures.into_iter_gives)
-          (nothing_yet start walk told spans c.requires.all));
+          (nothing_yet start c.requires.all refl c.requires.none);
     }
 
 pub returns-in_default : goal.returns-in_default
 returns-in_default c =
-    over (list_ahead_of c.args.items) (list_ahead_of c.loop-item.item-iterator)
-    c.args.walk.now c.loop-item.walk c.args.told.now c.loop-item.told c.args.spans.now
-    c.loop-item.spans c.loop-item.used c.loop-item.count c.or_yes.result 6
-    c.loop-item.invariant.so_far c.or_yes.ensures.some c.or_yes.ensures.none (inr refl)
+    let here = (goal.at.returns-in_default c).After-next in
+    over (start_of here) (now_of here) c.or_yes.result 6 c.loop-item.invariant.so_far
+    c.or_yes.ensures.some c.or_yes.ensures.none (inr refl)
 
 pub returns-then-count-told : goal.returns-then-count-told
 returns-then-count-told c =
-    let now = list_ahead_of c.loop-item.item-iterator in
+    let here = (goal.at.returns-then-count-told c).After-next in
     let step = rw c.in-Ok.is at c.in-Some.ensures.steps in
-    let told = c.loop-item.told in
-    let spans = c.loop-item.spans in
-    full (list_ahead_of c.args.items) now c.args.walk.now c.loop-item.walk c.args.told.now
-    told c.args.spans.now spans c.loop-item.used c.loop-item.count c.or_need.new.count
-    c.len-then-count-told.result c.or_need.result c.loop-item.invariant.so_far
-    c.or_need.ensures.some c.or_need.ensures.none
-    (λ none zero_used. (
+    full (start_of here) (now_of here) c.or_need.new.count c.len-then-count-told.result
+    c.or_need.result c.loop-item.invariant.so_far c.or_need.ensures.some c.or_need.ensures.none
+    (λ none none_used. (
       (c.in-Ok.number, step.0),
       c.in-Ok.caps,
       step.4.comes,
@@ -59,7 +87,7 @@ returns-then-count-told c =
         | then-count-told-via-then-count-told w ↦ inl (omega (arith, none, w.if-count-told.true))
         | then-count-told-via-else-count-told+then-spans-used w ↦ inr (omega (
           arith,
-          zero_used,
+          none_used,
           w.if-spans-used.true,
           w.len.ensures,
           c.len-then-count-told.ensures,
@@ -69,44 +97,59 @@ returns-then-count-told c =
 
 pub loop-item-preserved : goal.loop-item-preserved
 loop-item-preserved c =
-    let so = c.loop-item.invariant.so_far in
-    let start = list_ahead_of c.args.items in
-    let now = list_ahead_of c.loop-item.item-iterator in
-    let next = list_ahead_of c.next.new.self in
+    let here = (goal.at.loop-item-preserved c).After-next in
+    let sofar = c.loop-item.invariant.so_far in
+    let now = now_of here in
     let own = c.in-Ok.caps in
     let step = rw c.in-Ok.is at c.in-Some.ensures.steps in
-    let some = some_list_groups now.sought now.haystack c.in-Ok.number step.0 own step.1 in
-    let used = c.loop-item.used in
-    let count = c.loop-item.count in
+    let some =
+    some_list_groups now.stage.ahead.sought now.stage.ahead.haystack c.in-Ok.number step.0 own
+    step.1 in
     let one : ListGroups =
     record { number = c.in-Ok.number; count = c.len-in-loop-item.result } in
-    let end = c.after.ensures ∙ ap Some (end_of_span c.of_group.result (group_span own 0)
-    (c.of_group.ensures ∙ c.get.ensures.span) some.1) in
+    let passed : Stage (List Expression) = record {
+      ahead = list_ahead_of c.next.new.self;
+      walk = c.after.result;
+      spans = c.put_groups.new.spans;
+      used = c.loop-item.used + c.len-used.result;
+      count = c.loop-item.count + 1;
+    } in
+    let next : ListStage =
+    record { stage = passed; told = slice_set c.loop-item.told c.loop-item.count one } in
     record {
       can = tt;
       finite = tt;
-      so_far =
-          subst (λ n. IsListSoFar start next c.args.walk.now c.after.result c.args.told.now
-          (slice_set c.loop-item.told count one) c.args.spans.now c.put_groups.new.spans (used + n)
-          (count + 1)) (sym c.len-used.ensures)
-          (one_more start now next c.args.walk.now c.loop-item.walk c.after.result
-          c.args.told.now c.loop-item.told c.args.spans.now c.loop-item.spans
-          c.put_groups.new.spans used count (c.in-Ok.number, step.0) own one so step.4 step.1
-          c.put_groups.ensures c.put_groups.auto.spans
-          (omega (arith, c.if-spans-used.false, so.so.fits, c.len.ensures)) some.0 end
-          (omega (arith, so.within, c.if-count-told.false))
-          (ap (λ n. (c.in-Ok.number, n)) c.len-in-loop-item.ensures));
+      so_far = one_more (start_of here) now next sofar (record {
+        more = record {
+          answer = (c.in-Ok.number, step.0);
+          own = own;
+          passes = step.4;
+          are = step.1;
+          written = c.put_groups.ensures;
+          same = c.put_groups.auto.spans;
+          room = omega (arith, c.if-spans-used.false, sofar.so.fits, c.len.ensures);
+          some = some.0;
+          end = c.after.ensures ∙ ap Some (end_of_span c.of_group.result (group_span own 0)
+              (c.of_group.ensures ∙ c.get.ensures.span) some.1);
+          used = ap (λ n. c.loop-item.used + n) c.len-used.ensures;
+          count = refl;
+        };
+        one = one;
+        told = refl;
+        below = omega (arith, sofar.within, c.if-count-told.false);
+        counts = ap (λ n. (c.in-Ok.number, n)) c.len-in-loop-item.ensures;
+      });
     }
 
 pub returns : goal.returns
 returns c =
-    let now = list_ahead_of c.loop-item.item-iterator in
-    let so = c.loop-item.invariant.so_far in
-    over (list_ahead_of c.args.items) now c.args.walk.now c.loop-item.walk c.args.told.now
-    c.loop-item.told c.args.spans.now c.loop-item.spans c.loop-item.used c.loop-item.count
-    c.or_yes-2.result 0 so c.or_yes-2.ensures.some c.or_yes-2.ensures.none
+    let here = (goal.at.returns c).After-next in
+    let now = now_of here in
+    let sofar = c.loop-item.invariant.so_far in
+    over (start_of here) now c.or_yes-2.result 0 sofar c.or_yes-2.ensures.some
+    c.or_yes-2.ensures.none
     (inl (
       refl,
-      comes_none found_in IsAnswerOfPatterns now (so.so.lists 0).limit
+      comes_none found_in IsAnswerOfPatterns now.stage.ahead (sofar.so.lists 0).limit
           c.in-None.ensures.steps.over,
     ))

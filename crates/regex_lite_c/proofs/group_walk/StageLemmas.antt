@@ -1,0 +1,165 @@
+-- How far a walk has written the groups of matches, whatever is searched for, a regex or several
+-- patterns.
+use Rattle.std.proofs.Common.{◌≡◌, ◌∙◌, ◌+◌, ◌-◌, ◌++◌, ◌<◌, ◌≤◌, ℕ, suc, List}
+use Rattle.std.proofs.Common.{[], ◌∷◌, Option, None, Some, ap, append-nil, arith, inl, inr}
+use Rattle.std.proofs.Common.{length, length-append, option_map, refl, slice_get, subst, sym}
+use Rattle.std.proofs.lemmas.Bool.{cases_lt}
+use Rattle.std.proofs.lemmas.Grind.{flat_map-append}
+use Rattle.regex_lite_syntax.specs.Text.{Text}
+use Rattle.regex_lite_engine.specs.Search.Answer.{Found}
+use Rattle.regex_lite.specs.Ahead.{AheadOf, PassesAnswer}
+use Rattle.regex_lite.specs.Groups.{Groups, whole_span}
+use Rattle.regex_lite_c.specs.GroupWalks.{spans_of_all}
+use Rattle.regex_lite_c.specs.Spans.{AreWritten, AreWrittenAt, span_of}
+use Rattle.regex_lite_c.specs.Walks.{ended_of}
+use Rattle.regex_lite_c.specs.declared.types.Span.{Span}
+use Rattle.regex_lite_c.specs.declared.types.Walk.{Walk}
+use Rattle.regex_lite_c.proofs.walk.WalkLemmas.{ListsAnswers, get_before, lists_more, lists_none}
+
+-- what is searched for: what was found is a part of each answer, and the groups of a match, and of
+-- each match of a list, are related to it
+pub record Searched (S A : Type 0) : Type 1 where
+  pub found_of : A → Found
+  pub IsAnswerTo : S → Text → (s : ℕ) → Option A → Type 0
+  pub AreFound : S → (haystack : List ℕ) → A → Groups → Type 0
+  pub AreOfEach : S → (haystack : List ℕ) → List A → List Groups → Type 0
+  pub none : (sought : S) (haystack : List ℕ) → AreOfEach sought haystack [] []
+  pub more : (sought : S) (haystack : List ℕ) (list : List A) (groups : List Groups) (answer : A)
+      (own : Groups)
+      → AreOfEach sought haystack list groups → AreFound sought haystack answer own
+      → AreOfEach sought haystack (list ++ (answer ∷ [])) (groups ++ (own ∷ []))
+
+-- where a walk stands: what is ahead, where the caller goes on, what the room holds, and how many
+-- of its spans are used, for how many matches
+pub record Stage (S : Type 0) : Type 0 where
+  pub ahead : AheadOf S
+  pub walk : Walk
+  pub spans : List Span
+  pub used : ℕ
+  pub count : ℕ
+
+-- the groups end with those of the match after which the walk goes on
+pub record EndsWith (groups : List Groups) (walk : Walk) : Type 0 where
+  pub front : List Groups
+  pub last : Groups
+  pub is : groups ≡ front ++ (last ∷ [])
+  pub end : ended_of walk ≡ Some (whole_span last).1
+
+-- what is written after these comes next to them
+pub written_after : (told more : List (Option (ℕ × ℕ))) (old now new : List Span)
+    → AreWritten told old now → AreWrittenAt (length told) more now new
+    → AreWritten (told ++ more) old new
+written_after told more old now new before is =
+    let n = length told in
+    let longer = length-append told more in
+    record {
+      each = λ k lt. elim (cases_lt k n) [
+        | inl left ↦
+            ap (option_map span_of) (is.rest k (inl left)) ∙ before.each k left
+            ∙ sym (get_before told more k left)
+        | inr right ↦
+            let j = k - n in
+            let at : k ≡ n + j = omega (arith, right) in
+            subst (λ m. option_map span_of (slice_get new m) ≡ slice_get (told ++ more) m) (sym at)
+            (is.each j (omega (arith, lt, longer, at)) ∙ sym (get_after told more j))
+      ];
+      rest = λ k le.
+          is.rest k (inr (omega (arith, le, longer))) ∙ before.rest k (omega (arith, le, longer));
+    }
+  where
+    get_after : {X : Type 0} (xs ys : List X) (k : ℕ)
+        → slice_get (xs ++ ys) (length xs + k) ≡ slice_get ys k
+    get_after [] ys k = let e : 0 + k ≡ k = omega arith in ap (slice_get ys) e
+    get_after (x ∷ xs) ys k =
+        let e : length (x ∷ xs) + k ≡ suc (length xs + k) = omega arith in
+        ap (slice_get (x ∷ (xs ++ ys))) e ∙ get_after xs ys k
+
+module _ {S A : Type 0} (searched : Searched S A) where
+  -- the groups of these matches were written from the start on, one after another
+  pub record AreSoFar (start now : Stage S) : Type 0 where
+    pub list : List A
+    pub groups : List Groups
+    pub number : length list ≡ now.count
+    pub lists : (left : ℕ) → ListsAnswers searched.found_of searched.IsAnswerTo start.ahead
+        now.ahead (now.count + left) left list
+    pub each : searched.AreOfEach start.ahead.sought start.ahead.haystack list groups
+    pub written : AreWritten (spans_of_all groups) start.spans now.spans
+    pub used_is : length (spans_of_all groups) ≡ now.used
+    pub counted : now.count ≤ now.used
+    pub fits : now.used ≤ length now.spans
+    pub none : now.count ≡ 0 → (now.ahead ≡ start.ahead) × (now.walk ≡ start.walk)
+        × (now.spans ≡ start.spans) × (now.used ≡ 0)
+    pub some : 0 < now.count → EndsWith groups now.walk
+
+  -- at the start none were
+  unfoldable pub none_so_far : (start : Stage S) → start.ahead.limit ≡ None
+      → start.used ≡ 0 → start.count ≡ 0 → AreSoFar start start
+  none_so_far start limit none_used none_counted = record {
+    list = [];
+    groups = [];
+    number = sym none_counted;
+    lists = λ left.
+        subst (λ n. ListsAnswers searched.found_of searched.IsAnswerTo start.ahead start.ahead n
+        left []) (omega (arith, none_counted))
+        (lists_none searched.found_of searched.IsAnswerTo start.ahead left limit);
+    each = searched.none start.ahead.sought start.ahead.haystack;
+    written = record { each = λ k lt. absurd (omega (arith, lt)); rest = λ k le. refl };
+    used_is = sym none_used;
+    counted = omega (arith, none_counted);
+    fits = omega (arith, none_used);
+    none = λ _. (refl, refl, refl, none_used);
+    some = λ lt. absurd (omega (arith, lt, none_counted));
+  }
+
+  -- the groups of the next match are written, and the walk goes on after it
+  pub record IsOneMore (old new : Stage S) : Type 0 where
+    pub answer : A
+    pub own : Groups
+    pub passes : PassesAnswer searched.found_of searched.IsAnswerTo old.ahead answer new.ahead
+    pub are : searched.AreFound old.ahead.sought old.ahead.haystack answer own
+    pub written : AreWrittenAt old.used own.spans old.spans new.spans
+    pub same : length new.spans ≡ length old.spans
+    pub room : old.used + length own.spans ≤ length old.spans
+    pub some : 0 < length own.spans
+    pub end : ended_of new.walk ≡ Some (whole_span own).1
+    pub used : new.used ≡ old.used + length own.spans
+    pub count : new.count ≡ old.count + 1
+
+  -- so with those of one more match
+  unfoldable pub more_so_far : (start old new : Stage S) → AreSoFar start old → IsOneMore old new
+      → AreSoFar start new
+  more_so_far start old new so one =
+      let own = one.own in
+      let all = flat_map-append (λ g. g.spans) so.groups (own ∷ [])
+      ∙ ap (λ xs. spans_of_all so.groups ++ xs) (append-nil own.spans) in
+      let list = so.list ++ (one.answer ∷ []) in
+      let here = so.lists 0 in
+      let are : searched.AreFound start.ahead.sought start.ahead.haystack one.answer own =
+      subst (λ sought. searched.AreFound sought start.ahead.haystack one.answer own) here.sought
+      (subst (λ bytes. searched.AreFound old.ahead.sought bytes one.answer own) here.haystack
+      one.are) in
+      record {
+        list = list;
+        groups = so.groups ++ (own ∷ []);
+        number = omega (arith, length-append so.list (one.answer ∷ []), so.number, one.count);
+        lists = λ left.
+            subst (λ n. ListsAnswers searched.found_of searched.IsAnswerTo start.ahead new.ahead n
+            left list) (omega (arith, one.count))
+            (lists_more searched.found_of searched.IsAnswerTo start.ahead old.ahead new.ahead
+            (old.count + suc left) left so.list one.answer (so.lists (suc left)) one.passes);
+        each =
+            searched.more start.ahead.sought start.ahead.haystack so.list so.groups one.answer own
+            so.each are;
+        written = subst (λ told. AreWritten told start.spans new.spans) (sym all)
+            (written_after (spans_of_all so.groups) own.spans start.spans old.spans new.spans
+            so.written
+            (subst (λ n. AreWrittenAt n own.spans old.spans new.spans) (sym so.used_is)
+            one.written));
+        used_is =
+            ap length all ∙ length-append (spans_of_all so.groups) own.spans
+            ∙ ap (λ n. n + length own.spans) so.used_is ∙ sym one.used;
+        counted = omega (arith, so.counted, one.some, one.used, one.count);
+        fits = omega (arith, one.room, one.same, one.used);
+        none = λ wrong. absurd (omega (arith, wrong, one.count));
+        some = λ _. record { front = so.groups; last = own; is = refl; end = one.end };
+      }
