@@ -130,6 +130,7 @@ pub some_groups : (re : Expression) (haystack : List ℕ) (found : Found) (own :
     → AreGroupsFound re haystack found own → (0 < length own.spans) × IsSome (group_span own 0)
 some_groups re haystack found own are = (some_spans own.spans are.2.whole, are.2.whole)
   where
+    -- there are some where the first is there
     some_spans : (spans : List (Option (ℕ × ℕ))) → IsSome (span_at spans 0) → 0 < length spans
     some_spans [] some = absurd cc
     some_spans (span ∷ spans) some = omega arith
@@ -139,6 +140,7 @@ pub end_of_span : (s : Span) (span : Option (ℕ × ℕ)) → span_of s ≡ span
     → s.end ≡ (unwrap_or span (0, 0)).1
 end_of_span s span is some = end_of s.is_there s.start s.end span is some
   where
+    -- so whether there is a part or not
     end_of : (b : Bool) (start end : ℕ) (span : Option (ℕ × ℕ))
         → cond b (Some (start, end)) None ≡ span → IsSome span
         → end ≡ (unwrap_or span (0, 0)).1

@@ -67,6 +67,7 @@ written_after told more old now new before is =
           is.rest k (inr (omega (arith, le, longer))) ∙ before.rest k (omega (arith, le, longer));
     }
   where
+    -- an item after the first list is one of the second
     get_after : {X : Type 0} (xs ys : List X) (k : ℕ)
         → slice_get (xs ++ ys) (length xs + k) ≡ slice_get ys k
     get_after [] ys k = let e : 0 + k ≡ k = omega arith in ap (slice_get ys) e

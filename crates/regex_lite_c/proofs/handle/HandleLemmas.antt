@@ -1,29 +1,78 @@
 -- A handle by value: one pointer, and what is at it.
-use mathlib.Core.Path.{◌≡◌, refl}
+use mathlib.Core.Path.{◌≡◌, refl, subst, sym}
 use Prim.Native.Nat.{ℕ}
-use mathlib.Core.List.{List, ◌∷◌}
+use mathlib.Core.List.{List, [], ◌∷◌, ◌++◌}
 use seplogic.Ra.Ura.{Ura}
 use mir.Raw.{raw as bare}
-use base.Logic.{ent, via, snd∗, guard, guard_i}
+use mir.Syntax.{Sym, impl, tnil, dnil}
+use mir.Val.{Val, vptr, vcons, vnil}
+use base.Logic.{SProp, ent, emp, via, snd∗, guard, guard_i, id⊢}
 use base.Fml.{Fml}
 use base.Fraction.{full_share}
 use types.Logic.{Logic, sem}
-use types.Kit.{Item, Goal, Seq, ‵, given, ◌$◌, drop, use1, learn, fpick}
-use contract.Monad.{fact_use}
+use types.Kit.{Item, Goal, Seq, Step, step, ‵, raw, given, ◌$◌, drop, use0, use1, learn, fpick}
+use types.Kit.{move}
+use types.Match.{live}
+use contract.Monad.{fact, fact_i, fact_use}
 use denote.Memory.{lone}
+use denote.Param.{layout}
 use denote.RattleType.{RattleType}
 use denote.RawPtr.{Ptr, Testable, block_ptr, null_ptr, lies_at}
 use Rattle.std.specs.Prelude.{Option, None, Some}
 use Rattle.std.specs.Box.Ownership.{box_owns}
+use Rattle.std.specs.contracts.alloc.Global as Heap
+use Rattle.std.specs.contracts.impls.GlobalAllocator.TheImpl as HeapImpl
+use Rattle.std.specs.contracts.option.Option as Opt
 use Rattle.std.proofs.GlobalToken.{dealloc_token-Testable}
+use Rattle.std.proofs.RcSteps.{word, Some-of}
+use Rattle.std.proofs.alloc.Calls.{Al, handle_tells}
+use Rattle.std.proofs.alloc.Global.TheLaws as HeapLaws
+use Rattle.std.proofs.cell.Inside.{Good}
+use Rattle.regex_lite.proofs.PointerLemmas.{Word, word_had}
+use Rattle.regex_lite.proofs.UnboxedLemmas.{Unboxed, both, unboxed_made}
 use Rattle.regex_lite_c.specs.Handles.{frees, holds_of}
+
+-- the type of the allocator
+abbrev pub Z : RattleType
+Z = Heap.the_row
+
+-- and what its laws are
+abbrev al : Al
+al = record {
+  row = Z;
+  laws = HeapLaws.the_row_laws;
+  g = HeapImpl.ghosts;
+  d = impl [] tnil dnil;
+  drops = impl [] tnil dnil;
+}
+
+-- what is run with a value is run with what is equal to it
+pub run_with_one : {M : Type 1} (𝓤 : Ura M) (Run : List Val → SProp 𝓤) {us : List Val} {w : Val}
+    → us ≡ w ∷ [] → ent 𝓤 (Run (w ∷ [])) (Run (us ++ []))
+run_with_one 𝓤 Run {us} {w} eu =
+    subst (λ (ws : List Val). ent 𝓤 (Run (w ∷ [])) (Run (ws ++ []))) (sym eu)
+    (id⊢ 𝓤 (Run (w ∷ [])))
+
+-- so with two values
+pub run_with : {M : Type 1} (𝓤 : Ura M) (Run : List Val → SProp 𝓤) {us vs : List Val} {w h : Val}
+    → us ≡ w ∷ [] → vs ≡ h ∷ [] → ent 𝓤 (Run (w ∷ h ∷ [])) (Run (us ++ (vs ++ [])))
+run_with 𝓤 Run {us} {vs} {w} {h} eu ev =
+    subst (λ (ws : List Val). ent 𝓤 (Run (w ∷ h ∷ [])) (Run (ws ++ (vs ++ [])))) (sym eu)
+    (subst (λ (ws : List Val). ent 𝓤 (Run (w ∷ h ∷ [])) (Run (w ∷ (ws ++ [])))) (sym ev)
+    (id⊢ 𝓤 (Run (w ∷ h ∷ []))))
 
 -- what is held is of the type with this row
 module _ (R : RattleType) where
+  -- what is handed out is a box of it
+  abbrev pub Out : RattleType
+  Out = Unboxed R Z HeapLaws.the_row_laws HeapImpl.ghosts
+
+  -- what is owned where it lies
   abbrev pub boxed : Ptr → R.Denot → Fml
   boxed = box_owns frees R
 
   module _ {M : Type 1} {𝓤 : Ura M} (𝓛 : Logic 𝓤) where
+    -- a place that is owned can be tested for null
     tested : (p : Ptr) (x : R.Denot)
         → ent 𝓤 (sem 𝓛 (boxed p x)) (guard 𝓤 (Testable p) (sem 𝓛 (boxed p x)))
     tested p x =
@@ -49,3 +98,30 @@ module _ (R : RattleType) where
         use1 𝓛 (given (Testable (block_ptr b o)) (‵ (boxed (block_ptr b o) x)))
         (tested 𝓛 (block_ptr b o) x) $
         learn t (λ can. one b o x refl refl can)
+
+    -- the machine's values of a handle, which is a word, and of the allocator
+    pub had : K → (ν : Sym) (c : Ptr) (v : Option R.Denot) (a : Z.Denot) (us vs : List Val)
+        → ((h : Val) → us ≡ word c ∷ [] → vs ≡ h ∷ [] → Good (layout Z) h
+        → Seq K 𝓛 (‵ (holds_of R c v) ∷ ‵ (Z.own_val a (h ∷ [])) ∷ Γ) G)
+        → Seq K 𝓛 (‵ ((Word [] ν).own_val (c, tt) us) ∷ ‵ (holds_of R c v)
+        ∷ ‵ (Z.own_val a vs) ∷ Γ) G
+    had t ν c v a us vs next =
+        word_had [] ν c t us (λ eu. move t (1 ∷ []) $
+        handle_tells al t a vs (λ h ev fits. move t (1 ∷ []) $ next h eu ev fits))
+
+    -- a box is handed out beside the allocator
+    pub handed_out : K → (b o : ℕ) (h : Val) (a : Z.Denot) (x : R.Denot)
+        → Step K 𝓛 (‵ ((Opt.the_row Out).own_val
+        (Some (record { ptr = block_ptr b o; alloc = a; value = x }))
+        (live 1 (vcons (both (vptr b o) h) vnil) ∷ [])) ∷ Γ) G
+        (‵ (boxed (block_ptr b o) x) ∷ ‵ (Z.own_val a (h ∷ [])) ∷ Γ) G
+    handed_out t b o h a x = step (λ next.
+        let made : Val = both (vptr b o) h in
+        let out : Out.Denot = record { ptr = block_ptr b o; alloc = a; value = x } in
+        unboxed_made R Z HeapLaws.the_row_laws HeapImpl.ghosts t b o h a x $
+        use1 𝓛 (‵ ((Opt.the_row Out).own_val (Some out) (live 1 (vcons made vnil) ∷ [])))
+        (Some-of 𝓛 Out out made) $ next)
+
+    -- a fact is stated
+    pub stated : {P : Type 0} → P → Step K 𝓛 (raw (fact 𝓤 P) ∷ Γ) G Γ G
+    stated {P} p = step (λ next. use0 𝓛 (raw (fact 𝓤 P)) (fact_i 𝓤 P (emp 𝓤) p) $ next)

@@ -1,18 +1,17 @@
 -- `into_unboxed` tests the pointer, and hands on the box.
-use Rattle.std.proofs.Common.{◌≡◌, List, [], ◌∷◌, ◌++◌, refl, sym, ap, subst, lit<}
-use mir.Syntax.{Sym, impl, tnil, dnil}
+use Rattle.std.proofs.Common.{List, [], ◌∷◌, refl, ap, lit<}
+use mir.Syntax.{Sym}
 use mir.Val.{Val, vptr, vcons, vnil}
-use base.Logic.{SProp, ent, emp, id⊢}
+use base.Logic.{SProp}
 use base.Fml.{ftrue}
 use prog.Wp.{WpFn}
 use types.Kit.{‵, raw, ◌⊛◌, at_ret, ◌$◌, ◌∵◌, !, qed, by, move, keep}
-use types.Kit.{drop, split, fsplit, fjoin, suffices, use0, use1}
+use types.Kit.{drop, split, fsplit, fjoin, suffices, use0}
 use types.Run.{stop, fld, lit, bin, of_opd, no_more, and_then, first}
 use types.Run.{branches, skips, exec, returns, returns_within, enter}
 use types.ByLocal.{alloc_all, pass_all, free_all, look_at, get, get_in, sets, is, env}
 use types.Part.{agg, sub, whole}
 use types.Match.{live}
-use contract.Monad.{fact, fact_i}
 use contract.Running.{tables}
 use denote.Exit.{yes}
 use denote.RattleType.{RattleType, owns}
@@ -21,18 +20,16 @@ use denote.Param.{layout}
 use denote.RawPtr.{Ptr, block_ptr, ptr_val, tests_null}
 use denote.Steps.{nothing}
 use denote.Triple.Walked.{Stays, stay_dropped, walk_of, Goes-dropped}
-use Rattle.std.proofs.alloc.Calls.{Al, handle_tells}
 use Rattle.std.proofs.raw_atomic.Walks.{proved_at, leaves}
-use Rattle.std.proofs.RcSteps.{word, word-Good, some_Good, Some-of, none_of}
+use Rattle.std.proofs.RcSteps.{word, word-Good, some_Good, none_of}
 use Rattle.std.proofs.VecSteps.Shapes.{after}
 use Rattle.std.specs.Prelude.{Option, None, Some}
 use Rattle.std.specs.contracts.option.Option as Opt
-use Rattle.std.specs.contracts.alloc.Global as Heap
 use Rattle.std.specs.contracts.impls.GlobalAllocator.TheImpl as HeapImpl
 use Rattle.std.proofs.alloc.Global.TheLaws as HeapLaws
-use Rattle.regex_lite.proofs.UnboxedLemmas.{Unboxed, both, both_good, unboxed_made}
-use Rattle.regex_lite.proofs.PointerLemmas.{word_had}
-use Rattle.regex_lite_c.proofs.handle.HandleLemmas.{either}
+use Rattle.regex_lite.proofs.UnboxedLemmas.{both, both_good}
+use Rattle.regex_lite_c.proofs.handle.HandleLemmas.{Out, Z, either, had, handed_out}
+use Rattle.regex_lite_c.proofs.handle.HandleLemmas.{run_with, stated}
 use Rattle.regex_lite.specs.contracts.string.regex.Regex as stored
 use Rattle.regex_lite_c.specs.contracts.handle.Handle as handle
 use Rattle.regex_lite_c.specs.contracts.handle.Handle.into_unboxed as f
@@ -47,12 +44,6 @@ into_unboxed_spec 𝓤 𝓛 𝓜 𝓡 wired =
     let H = 𝓛.H in
     let 𝓣 = tables 𝓤 H 𝓜 𝓡 𝓡.env in
     let R : RattleType = stored.the_row in
-    let Z : RattleType = Heap.the_row in
-    let LZ = HeapLaws.the_row_laws in
-    let g = HeapImpl.ghosts in
-    let al : Al =
-    record { row = Z; laws = LZ; g = g; d = impl [] tnil dnil; drops = impl [] tnil dnil } in
-    let Out : RattleType = Unboxed R Z LZ g in
     let En = f.ended in
     let cl = f.clauses 𝓛 𝓜.mem 𝓡.returns in
     let fn = code.function in
@@ -72,14 +63,11 @@ into_unboxed_spec 𝓤 𝓛 𝓜 𝓡 wired =
     qed 𝓛 ((‵ ftrue ⊛ ‵ (owns (types_at En.signature.params z.0.0) z.0.3 z.0.4))
     ∷ raw ((cl z.0.0 z.0.3).requires z.1) ∷ []) ∵
     move ! (1 ∷ []) $ drop ! $ split ! $ move ! (1 ∷ []) $ fsplit ! $ fsplit ! $
-    word_had [] ν c ! us (λ eu.
-    -- [what is held; the allocator and nothing; nothing]
-    move ! (1 ∷ []) $ fsplit ! $ handle_tells al ! a vs (λ h ev fits. move ! (2 ∷ []) $
+    -- [the word; what is held; the allocator and nothing; nothing]
+    move ! (2 ∷ []) $ fsplit ! $ move ! (2 ∷ 3 ∷ 0 ∷ []) $
+    had R ! ν c v a us vs (λ h eu ev fits.
     -- [what is held; the allocator; nothing; nothing]
-    suffices ! (Run (word c ∷ h ∷ []))
-    (subst (λ (ws : List Val). ent 𝓤 (Run (word c ∷ h ∷ [])) (Run (ws ++ (vs ++ [])))) (sym eu)
-    (subst (λ (ws : List Val). ent 𝓤 (Run (word c ∷ h ∷ [])) (Run (word c ∷ (ws ++ [])))) (sym ev)
-    (id⊢ 𝓤 (Run (word c ∷ h ∷ []))))) $
+    suffices ! (Run (word c ∷ h ∷ [])) (run_with 𝓤 Run eu ev) $
     either R ! c v
     (λ e n. enter ! 𝓣.C 𝓣.Λ fn (word c ∷ h ∷ []) Post $
     alloc_all ! (λ l. pass_all ! refl (word-Good ν c, (fits, tt)) $
@@ -89,8 +77,8 @@ into_unboxed_spec 𝓤 𝓛 𝓜 𝓡 wired =
     sets ! (bin ! (get ! refl) (lit ! tt) tt) refl (tt, tt) $ first ! $ branches ! (get ! refl)
     (λ _.
     sets ! (agg ! (and_then ! (lit ! tt) (no_more !))) refl (tt, (record { fits = lit< tt }, tt)) $
-    use0 𝓛 (raw (fact 𝓤 (v ≡ None))) (fact_i 𝓤 (v ≡ None) (emp 𝓤) n) $
-    use0 𝓛 (‵ ((Opt.the_row Out).own_val None (live 0 vnil ∷ []))) (none_of 𝓛 Out) $
+    stated R n $
+    use0 𝓛 (‵ ((Opt.the_row (Out R)).own_val None (live 0 vnil ∷ []))) (none_of 𝓛 (Out R)) $
     nothing ! $ nothing ! $ fjoin ! $ nothing ! $ fjoin ! $
     returns_within ! Post refl (look_at ! 0 refl) $ free_all ! refl $ keep ! (5 ∷ 0 ∷ 1 ∷ 2 ∷ []) $
     by ! (leaves 𝓛 En hs cl z (live 0 vnil) None (tt, (tt, tt)) (tt, (tt, tt))))
@@ -99,8 +87,8 @@ into_unboxed_spec 𝓤 𝓛 𝓜 𝓡 wired =
     alloc_all ! (λ l. pass_all ! refl (word-Good ν c, (fits, tt)) $
     let Ev = env fn.locals l in
     let made : Val = both (vptr b o) h in
-    let typed = both_good R Z LZ g b o h fits in
-    let out : Out.Denot = record { ptr = block_ptr b o; alloc = a; value = x } in
+    let typed = both_good R Z HeapLaws.the_row_laws HeapImpl.ghosts b o h fits in
+    let out : (Out R).Denot = record { ptr = block_ptr b o; alloc = a; value = x } in
     sets !
     (is ! (of_opd ! (get_in ! (fld ! refl (stop !)) (sub ! 0 refl (whole !)))) (ap ptr_val e)) refl
     (tt, tt) $
@@ -111,13 +99,11 @@ into_unboxed_spec 𝓤 𝓛 𝓜 𝓡 wired =
     sets ! (of_opd ! (get ! refl)) refl (tt, tt) $
     sets ! (agg ! (and_then ! (get ! refl) (and_then ! (get ! refl) (no_more !)))) refl typed $
     sets ! (agg ! (and_then ! (lit ! tt) (and_then ! (get ! refl) (no_more !)))) refl
-    (some_Good (layout Out) made typed) $
-    unboxed_made R Z LZ g ! b o h a x $
-    use1 𝓛 (‵ ((Opt.the_row Out).own_val (Some out) (live 1 (vcons made vnil) ∷ [])))
-    (Some-of 𝓛 Out out made) $
-    use0 𝓛 (raw (fact 𝓤 (v ≡ Some x))) (fact_i 𝓤 (v ≡ Some x) (emp 𝓤) s) $
+    (some_Good (layout (Out R)) made typed) $
+    handed_out R ! b o h a x $
+    stated R s $
     nothing ! $ nothing ! $ fjoin ! $ nothing ! $ fjoin ! $
     -- [the two parameters; the fact; the result; nothing; nothing]
     returns ! (look_at ! 0 refl) $ free_all ! refl $ keep ! (4 ∷ 0 ∷ 2 ∷ 1 ∷ []) $
     by !
-    (leaves 𝓛 En hs cl z (live 1 (vcons made vnil)) (Some out) (tt, (tt, tt)) (tt, (tt, tt)))))))))
+    (leaves 𝓛 En hs cl z (live 1 (vcons made vnil)) (Some out) (tt, (tt, tt)) (tt, (tt, tt))))))))

@@ -2,12 +2,11 @@
 use Rattle.std.proofs.Common.{◌≡◌, [], ◌∷◌, refl, lit<}
 use mir.Syntax.{Sym}
 use mir.Val.{Val}
-use base.Logic.{SProp, emp}
-use types.Kit.{raw, ◌$◌, ◌∵◌, !, qed, by, drop, fjoin, use0}
+use base.Logic.{SProp}
+use types.Kit.{raw, ◌$◌, ◌∵◌, !, qed, by, drop, fjoin}
 use types.Run.{lit, of_opd, no_more, and_then, returns, enter}
 use types.ByLocal.{alloc_all, pass_all, free_all, look_at, get, sets}
 use types.Part.{agg}
-use contract.Monad.{fact, fact_i}
 use contract.Running.{tables}
 use denote.RawPtr.{null_ptr}
 use denote.Steps.{nothing}
@@ -17,6 +16,7 @@ use Rattle.std.proofs.raw_atomic.Walks.{proved_at, leaves}
 use Rattle.std.proofs.RcSteps.{word, word-Good}
 use Rattle.std.specs.Prelude.{Option, None}
 use Rattle.regex_lite.proofs.PointerLemmas.{word_made}
+use Rattle.regex_lite_c.proofs.handle.HandleLemmas.{stated}
 use Rattle.regex_lite.specs.contracts.string.list.RegexList as stored
 use Rattle.regex_lite_c.specs.contracts.list.handle.ListHandle as handle
 use Rattle.regex_lite_c.specs.contracts.list.handle.ListHandle.nothing as f
@@ -42,7 +42,7 @@ nothing_spec 𝓤 𝓛 𝓜 𝓡 wired =
     enter ! 𝓣.C 𝓣.Λ code.function [] Post $ alloc_all ! (λ l. pass_all ! refl tt $
     sets ! (of_opd ! (lit ! tt)) refl (tt, record { fits = lit< tt }) $
     sets ! (agg ! (and_then ! (get ! refl) (no_more !))) refl (word-Good ν null_ptr) $
-    use0 𝓛 (raw (fact 𝓤 (None' ≡ None'))) (fact_i 𝓤 (None' ≡ None') (emp 𝓤) refl) $
+    stated stored.the_row {P = None' ≡ None'} refl $
     nothing ! $ word_made [] ν null_ptr ! $ fjoin ! $ nothing ! $ nothing ! $
     returns ! (look_at ! 0 refl) $ free_all ! refl $
     by !

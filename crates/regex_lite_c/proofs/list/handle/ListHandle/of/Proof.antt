@@ -1,16 +1,15 @@
 -- `of` keeps the pointer.
-use Rattle.std.proofs.Common.{◌≡◌, List, [], ◌∷◌, ◌++◌, refl, sym, subst}
+use Rattle.std.proofs.Common.{◌≡◌, List, [], ◌∷◌, refl}
 use mir.Syntax.{Sym}
 use mir.Val.{Val, vptr}
-use base.Logic.{SProp, ent, emp, id⊢}
+use base.Logic.{SProp}
 use base.Fml.{ftrue}
 use prog.Wp.{WpFn}
 use types.Kit.{‵, raw, ◌⊛◌, ◌$◌, ◌∵◌, !, qed, by, move, keep}
-use types.Kit.{drop, split, fsplit, fjoin, suffices, use0}
+use types.Kit.{drop, split, fsplit, fjoin, suffices}
 use types.Run.{stop, fld, of_opd, no_more, and_then, returns, enter}
 use types.ByLocal.{alloc_all, pass_all, free_all, look_at, get, get_in, sets}
 use types.Part.{agg, sub, whole}
-use contract.Monad.{fact, fact_i}
 use contract.Running.{tables}
 use denote.Exit.{yes}
 use denote.RattleType.{RattleType, owns}
@@ -21,11 +20,11 @@ use denote.Triple.Walked.{Stays, stay_dropped, walk_of, Goes-dropped}
 use Rattle.std.proofs.raw_atomic.Walks.{proved_at, leaves}
 use Rattle.std.proofs.RcSteps.{word, word-Good}
 use Rattle.std.specs.Prelude.{Option, Some}
-use Rattle.std.specs.contracts.alloc.Global as Heap
 use Rattle.std.specs.contracts.impls.GlobalAllocator.TheImpl as HeapImpl
 use Rattle.std.proofs.alloc.Global.TheLaws as HeapLaws
-use Rattle.regex_lite.proofs.UnboxedLemmas.{Unboxed, both, both_good, unboxed_had}
+use Rattle.regex_lite.proofs.UnboxedLemmas.{both, both_good, unboxed_had}
 use Rattle.regex_lite.proofs.PointerLemmas.{word_made}
+use Rattle.regex_lite_c.proofs.handle.HandleLemmas.{Out, Z, run_with_one, stated}
 use Rattle.regex_lite.specs.contracts.string.list.RegexList as stored
 use Rattle.regex_lite_c.specs.contracts.list.handle.ListHandle as handle
 use Rattle.regex_lite_c.specs.contracts.list.handle.ListHandle.of as f
@@ -40,16 +39,15 @@ of_spec 𝓤 𝓛 𝓜 𝓡 wired =
     let H = 𝓛.H in
     let 𝓣 = tables 𝓤 H 𝓜 𝓡 𝓡.env in
     let R : RattleType = stored.the_row in
-    let Z : RattleType = Heap.the_row in
     let LZ = HeapLaws.the_row_laws in
     let g = HeapImpl.ghosts in
     let En = f.ended in
     let cl = f.clauses 𝓛 𝓜.mem 𝓡.returns in
     let fn = code.function in
     let hs : Stays En.signature.params En.kept =
-    (stay_dropped (plain (λ _. Unboxed R Z LZ g)) yes, tt) in
+    (stay_dropped (plain (λ _. Out R)) yes, tt) in
     proved_at 𝓛 En hs cl 𝓜 𝓡 (
-      Goes-dropped 𝓛 0 (plain (λ _. Unboxed R Z LZ g)) yes (λ κs x u. refl),
+      Goes-dropped 𝓛 0 (plain (λ _. Out R)) yes (λ κs x u. refl),
       tt,
     ) f.Key.name fn (code.unfolded 𝓤 H 𝓜 𝓡 wired) (λ z are.
     let v = z.0.3.0 in
@@ -64,14 +62,12 @@ of_spec 𝓤 𝓛 𝓜 𝓡 wired =
     let c : Ptr = block_ptr b o in
     let held : Option R.Denot = Some v.value in
     -- [the box; the allocator; nothing; nothing]
-    suffices ! (Run (w ∷ [])) (subst (λ (us : List Val). ent 𝓤 (Run (w ∷ [])) (Run us))
-    (sym (λ i. ws i ++ [])) (id⊢ 𝓤 (Run (w ∷ [])))) $
+    suffices ! (Run (w ∷ [])) (run_with_one 𝓤 Run ws) $
     enter ! 𝓣.C 𝓣.Λ fn (w ∷ []) Post $ alloc_all ! (λ l. pass_all ! refl (typed, tt) $
     sets ! (of_opd ! (get_in ! (fld ! refl (stop !)) (sub ! 0 refl (whole !)))) refl (tt, tt) $
     sets ! (of_opd ! (get ! refl)) refl (tt, tt) $
     sets ! (agg ! (and_then ! (get ! refl) (no_more !))) refl (word-Good ν c) $
     word_made [] ν c ! $ fjoin ! $
-    use0 𝓛 (raw (fact 𝓤 (held ≡ held))) (fact_i 𝓤 (held ≡ held) (emp 𝓤) refl) $ nothing ! $
-    nothing ! $ fjoin ! $
+    stated R {P = held ≡ held} refl $ nothing ! $ nothing ! $ fjoin ! $
     returns ! (look_at ! 0 refl) $ free_all ! refl $ keep ! (5 ∷ 0 ∷ 2 ∷ 1 ∷ []) $
     by ! (leaves 𝓛 En hs cl z (word c) (record { ptr = c; value = held }) (tt, tt) (tt, tt)))))
