@@ -10,11 +10,13 @@ pub mod FoundLemmas
 pub mod GroupLemmas
 pub mod GroupNameLemmas
 pub mod KeptLemmas
-pub mod ListBuildLemmas
 pub mod LawfulLemmas
+pub mod ListBuildLemmas
+pub mod ListGroupLemmas
 pub mod ListKeptLemmas
 pub mod ListLemmas
 pub mod ListScanLemmas
+pub mod ListSlotLemmas
 pub mod ListToldLemmas
 pub mod NextLemmas
 pub mod OneTreeLemmas

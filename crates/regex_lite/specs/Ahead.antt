@@ -1,20 +1,14 @@
 -- What an iterator over matches has ahead of it.
-use Rattle.std.specs.Prelude.{◌≡◌, ◌≢◌, ◌⊎◌, ◌≤◌, ◌<◌, ◌+◌, ◌-◌, ℕ, zero, List, Option, Some}
-use Rattle.std.specs.Prelude.{None, MatchOption, Result, MatchResult, option_map, chars, length}
+use Rattle.std.specs.Prelude.{◌≡◌, ◌≢◌, ◌⊎◌, ◌≤◌, ◌<◌, ◌+◌, ◌-◌, ℕ, zero, List, Option, Some, None}
+use Rattle.std.specs.Prelude.{option_map, chars, length}
 use Rattle.std.specs.Iterator.{Count, at_most}
-use Rattle.regex_lite_syntax.specs.declared.error.Error.{Error}
-use Rattle.regex_lite_syntax.specs.Errors.{out_of_memory}
 use Rattle.regex_lite_syntax.specs.Text.{Text}
 use Rattle.regex_lite_engine.specs.Search.Answer.{Found}
 use Rattle.regex_lite_engine.specs.Search.Offsets.{position_at}
-use Rattle.regex_lite.specs.declared.string.matches.Match.{Match}
-use Rattle.regex_lite.specs.Expression.{Expression, OfTree}
-use Rattle.regex_lite.specs.Groups.{Groups, whole_span}
-use Rattle.regex_lite.specs.MatchList.{AreSomeWithin, AreWithin, IsAnswerOf}
-use Rattle.regex_lite.specs.MatchList.{IsNext, IsNextAnswer, one_less}
-use Rattle.regex_lite.specs.MatchViews.{span_of_match}
-use Rattle.regex_lite.specs.Scanning.{IsMatchWithSlots, RegexSearching, Scanning}
-use Rattle.regex_lite.specs.Searches.{IsMatchOf, AreGroupsOf}
+use Rattle.regex_lite.specs.Expression.{Expression}
+use Rattle.regex_lite.specs.MatchList.{AreSomeWithin, AreWithin, IsAnswerOf, IsNext, IsNextAnswer}
+use Rattle.regex_lite.specs.MatchList.{one_less}
+use Rattle.regex_lite.specs.Scanning.{RegexSearching, Scanning}
 
 -- the matches of a haystack, which is given as its bytes, after one that ended at this position,
 -- up to a limit where there is one: those of what is searched for, a regex or several patterns
@@ -131,68 +125,3 @@ ahead_of it = ahead_by (λ own. own) it
 
 abbrev pub most_matches : {S : Type 0} → Scanning S → Count
 most_matches it = at_most (most_ahead it)
-
--- the next match came; or there was none, and none comes from then on
-abbrev pub GivesMatch : (old : Scanning Expression) → Option Match → (new : Scanning Expression)
-    → Type 0
-GivesMatch old item new =
-    MatchOption item (Ends (ahead_of old) (ahead_of new))
-    (λ m. (found : Found) × IsMatchOf old.haystack found m
-    × IsOnward old.ended (span_of_match m) × (new.ended ≡ Some (span_of_match m).1)
-    × Passes (ahead_of old) found (ahead_of new))
-
--- the same whatever finds it: it came with the number of its pattern, and its slots are kept
-module _ {F S A N : Type 0} (sought : F → S) (slots : F → List (Option ℕ)) (found_of : A → Found)
-    (number_of : A → N) (IsAnswerTo : S → Text → (s : ℕ) → Option A → Type 0) where
-  abbrev pub Came : (old : Scanning F) → N × Match → (new : Scanning F) → Type 0
-  Came old told new =
-      (answer : A)
-      × IsMatchWithSlots found_of number_of old.haystack (slots new.finder) answer told
-      × IsOnward old.ended (span_of_match told.1) × (new.ended ≡ Some (span_of_match told.1).1)
-      × PassesAnswer found_of IsAnswerTo (ahead_by sought old) answer (ahead_by sought new)
-
-  abbrev pub GivesNext : (old : Scanning F) → Option (N × Match) → (new : Scanning F) → Type 0
-  GivesNext old item new =
-      MatchOption item
-      (EndsAhead found_of IsAnswerTo (ahead_by sought old) (ahead_by sought new))
-      (λ told. Came old told new)
-
--- the groups of the next match came with the number of its pattern; or there was one and a growth
--- was refused, or there was none, and none comes from then on
-module _ {F S A N : Type 0} (sought : F → S) (found_of : A → Found) (number_of : A → N)
-    (IsAnswerTo : S → Text → (s : ℕ) → Option A → Type 0)
-    (AreFound : S → (haystack : List ℕ) → A → Groups → Type 0) where
-  abbrev pub GroupsCame : (old : Scanning F) → N × Groups → (new : Scanning F) → Type 0
-  GroupsCame old told new =
-      (answer : A) × (told.0 ≡ number_of answer)
-      × AreFound (sought old.finder) old.haystack answer told.1
-      × IsOnward old.ended (whole_span told.1) × (new.ended ≡ Some (whole_span told.1).1)
-      × PassesAnswer found_of IsAnswerTo (ahead_by sought old) answer (ahead_by sought new)
-
-  abbrev pub GivesNextGroups : (old : Scanning F) → Option (Result (N × Groups) Error)
-      → (new : Scanning F) → Type 0
-  GivesNextGroups old item new =
-      MatchOption item
-      (EndsAhead found_of IsAnswerTo (ahead_by sought old) (ahead_by sought new))
-      (λ answer. MatchResult answer (λ told. GroupsCame old told new)
-      (λ error. (error ≡ out_of_memory)
-      × (NoneIsAhead found_of IsAnswerTo (ahead_by sought old) → ⊥)
-      × (ahead_by sought new ≡ at_end (ahead_by sought old))))
-
--- the groups are those of what was found
-abbrev pub AreGroupsFound : Expression → (haystack : List ℕ) → Found → Groups → Type 0
-AreGroupsFound re haystack found groups =
-    OfTree re (λ tree. AreGroupsOf tree haystack found groups)
-
--- the groups of the next match came; or there was one and a growth was refused, or there was none,
--- and none comes from then on
-abbrev pub GivesGroups : (old : Scanning Expression) → Option (Result Groups Error)
-    → (new : Scanning Expression) → Type 0
-GivesGroups old item new =
-    MatchOption item (Ends (ahead_of old) (ahead_of new))
-    (λ answer. MatchResult answer
-    (λ groups. (found : Found) × AreGroupsFound old.finder old.haystack found groups
-    × IsOnward old.ended (whole_span groups) × (new.ended ≡ Some (whole_span groups).1)
-    × Passes (ahead_of old) found (ahead_of new))
-    (λ error. (error ≡ out_of_memory) × (IsOver (ahead_of old) → ⊥)
-    × (ahead_of new ≡ at_end (ahead_of old))))

@@ -13,6 +13,7 @@ pub mod RegexList
 pub mod RegexListSearches
 pub mod MatchList
 pub mod Ahead
+pub mod Items
 pub mod ListAhead
 pub mod Pieces
 pub mod Replacing

@@ -5,10 +5,11 @@ use Rattle.regex_lite_syntax.specs.declared.error.Error.{Error}
 use Rattle.regex_lite_syntax.specs.Errors.{out_of_memory}
 use Rattle.regex_lite_engine.specs.Search.Answer.{Found}
 use Rattle.regex_lite.specs.declared.string.matches.Match.{Match}
-use Rattle.regex_lite.specs.Ahead.{AheadOf, AreGroupsFound, EndsAhead, IsOnward, NoneIsAhead}
-use Rattle.regex_lite.specs.Ahead.{PassesAnswer, after, ahead_by, at_end, whole}
+use Rattle.regex_lite.specs.Ahead.{AheadOf, EndsAhead, IsOnward, NoneIsAhead, PassesAnswer, after}
+use Rattle.regex_lite.specs.Ahead.{ahead_by, at_end, whole}
 use Rattle.regex_lite.specs.Expression.{Expression}
 use Rattle.regex_lite.specs.Groups.{Groups, whole_span}
+use Rattle.regex_lite.specs.Items.{AreGroupsFound}
 use Rattle.regex_lite.specs.MatchList.{AreWithinOfList, IsAnswerOfPatterns, IsNextOfList}
 use Rattle.regex_lite.specs.MatchViews.{span_of_match}
 use Rattle.regex_lite.specs.Scanning.{Scanning}

@@ -4,8 +4,9 @@ use Rattle.std.specs.Prelude.{Some, None, Ok, Err, map, chars, drop, slice_range
 use Rattle.regex_lite_syntax.specs.declared.error.Error.{Error}
 use Rattle.regex_lite_engine.specs.Search.Answer.{Found}
 use Rattle.regex_lite.specs.Groups.{Groups, whole_span}
-use Rattle.regex_lite.specs.Ahead.{Ahead, AreAhead, AreFirstAhead, AreGroupsFound}
+use Rattle.regex_lite.specs.Ahead.{Ahead, AreAhead, AreFirstAhead}
 use Rattle.regex_lite.specs.Expression.{Expression}
+use Rattle.regex_lite.specs.Items.{AreGroupsFound}
 use Rattle.regex_lite.specs.Pieces.{found_span}
 use Rattle.regex_lite.specs.Replacing.{Answer}
 

@@ -2,9 +2,10 @@
 use Rattle.std.specs.Prelude.{◌≡◌, ◌≢◌, ◌⊎◌, ◌<◌, ◌≤◌, ◌++◌, ℕ, List, [], ◌∷◌, chars}
 use Rattle.std.specs.Prelude.{Option, Some, None, flat_map, length, unwrap_or}
 use Rattle.regex_lite_engine.specs.Search.Answer.{Found}
-use Rattle.regex_lite.specs.Ahead.{Ahead, AreGroupsFound, ComesNext, after}
+use Rattle.regex_lite.specs.Ahead.{Ahead, ComesNext, after}
 use Rattle.regex_lite.specs.Expression.{Expression}
 use Rattle.regex_lite.specs.Groups.{Groups, whole_span}
+use Rattle.regex_lite.specs.Items.{AreGroupsFound}
 use Rattle.regex_lite.specs.MatchList.{AreFirst}
 use Rattle.regex_lite.specs.Replacements.{AreGroupsOfEach}
 use Rattle.regex_lite_c.specs.Answers.{RefusesText}

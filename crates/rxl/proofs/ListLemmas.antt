@@ -4,9 +4,10 @@ use Rattle.std.proofs.Common.{Some, None, List, [], ◌∷◌, ◌++◌, map, fl
 use Rattle.std.proofs.Common.{refl, sym, ap, ◌∙◌, subst, inl, inr, arith, ◌||◌}
 use Rattle.std.proofs.lemmas.List.{append_assoc, append-nil}
 use Rattle.regex_lite.specs.Search.Answer.{Found}
-use Rattle.regex_lite.specs.Ahead.{Ahead, Passes, AreAhead, IsOver, AreGroupsFound, whole}
+use Rattle.regex_lite.specs.Ahead.{Ahead, Passes, AreAhead, IsOver, whole}
 use Rattle.regex_lite.specs.Expression.{Expression}
 use Rattle.regex_lite.specs.Groups.{Groups}
+use Rattle.regex_lite.specs.Items.{AreGroupsFound}
 use Rattle.regex_lite.specs.MatchList.{IsNext, AreFirst, AreWithin, one_less}
 use Rattle.regex_lite.specs.Pieces.{found_span}
 use Rattle.regex_lite.specs.Replacements.{AreGroupsOfEach}

@@ -10,9 +10,10 @@ use Rattle.regex_lite_engine.specs.Search.Answer.{Found}
 use Rattle.regex_lite_engine.specs.Search.Marks.{Marks, span}
 use Rattle.regex_lite_engine.specs.Search.Offsets.{offset}
 use Rattle.regex_lite_engine.proofs.laws.templates.OneTextLemmas.{one_text, plain_text}
-use Rattle.regex_lite.specs.Ahead.{Ahead, AreGroupsFound}
+use Rattle.regex_lite.specs.Ahead.{Ahead}
 use Rattle.regex_lite.specs.Expression.{Expression}
 use Rattle.regex_lite.specs.Groups.{Groups, group_span, group_text, span_at, text_at, whole_span}
+use Rattle.regex_lite.specs.Items.{AreGroupsFound}
 use Rattle.regex_lite.specs.MatchList.{AreWithin, one_less}
 use Rattle.regex_lite.specs.PieceLaws.{FixedTextIsTemplate, LentReplacersReplaceAlike}
 use Rattle.regex_lite.specs.PieceLaws.{TemplateAppends, TemplateFixed, WholeMatchesGiveHaystack}

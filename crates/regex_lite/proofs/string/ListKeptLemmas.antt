@@ -24,7 +24,7 @@ use Rattle.regex_lite.specs.Slots.{all_slots, kept_slots}
 use Rattle.regex_lite.proofs.string.CapturedLemmas.{held_all}
 use Rattle.regex_lite.proofs.string.FoundLemmas.{slots_told}
 use Rattle.regex_lite.proofs.string.ListBuildLemmas.{one_list, pattern_tree}
-use Rattle.regex_lite.proofs.string.ListToldLemmas.{enough_kept, in_whole}
+use Rattle.regex_lite.proofs.string.ListSlotLemmas.{enough_kept, in_whole}
 use Rattle.regex_lite.proofs.string.PairedLemmas.{paired_length}
 use Rattle.regex_lite.proofs.string.ToldLemmas.{same_some}
 

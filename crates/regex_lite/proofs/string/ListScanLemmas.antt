@@ -18,8 +18,9 @@ use Rattle.regex_lite.specs.Scanning.{AreSlotsForAllGroups, IsMatchOfPatterns, m
 use Rattle.regex_lite.specs.Searches.{offsets}
 use Rattle.regex_lite.specs.Slots.{all_slots, kept_slots}
 use Rattle.regex_lite.proofs.string.ListBuildLemmas.{one_list, own_tree}
-use Rattle.regex_lite.proofs.string.ListToldLemmas.{found_groups_are, found_groups_in_list}
-use Rattle.regex_lite.proofs.string.ListToldLemmas.{found_there, most_are}
+use Rattle.regex_lite.proofs.string.ListGroupLemmas.{found_groups_are, found_groups_in_list}
+use Rattle.regex_lite.proofs.string.ListGroupLemmas.{found_there}
+use Rattle.regex_lite.proofs.string.ListSlotLemmas.{most_are}
 use Rattle.regex_lite.proofs.string.ScanLemmas.{whole_of_groups}
 use Rattle.regex_lite.proofs.string.ToldLemmas.{same_some}
 

@@ -4,10 +4,11 @@ use Rattle.std.proofs.Common.{refl, sym, ap, ◌∙◌, subst, map, drop, slice_
 use Rattle.std.proofs.lemmas.List.{append_assoc}
 use Rattle.regex_lite_syntax.specs.declared.error.Error.{Error}
 use Rattle.regex_lite_engine.specs.Search.Answer.{Found}
-use Rattle.regex_lite.specs.Ahead.{Ahead, AreAhead, AreFirstAhead, AreGroupsFound, IsOver, Passes}
+use Rattle.regex_lite.specs.Ahead.{Ahead, AreAhead, AreFirstAhead, IsOver, Passes}
 use Rattle.regex_lite.specs.Compiled.{AreOfRegex}
 use Rattle.regex_lite.specs.Expression.{Expression}
 use Rattle.regex_lite.specs.Groups.{Groups, whole_span}
+use Rattle.regex_lite.specs.Items.{AreGroupsFound}
 use Rattle.regex_lite.specs.Pieces.{found_span}
 use Rattle.regex_lite.specs.Replacements.{AreGroupsOfEach, IsChain, IsRefused, IsRefusedAt}
 use Rattle.regex_lite.specs.Replacements.{IsReplacedBy, IsReplacedInTurn, replaced_by}

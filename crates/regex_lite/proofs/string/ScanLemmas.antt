@@ -13,11 +13,12 @@ use Rattle.regex_lite_engine.specs.Search.Offsets.{offset, position_at}
 use Rattle.regex_lite_engine.proofs.OffsetLemmas.{offset_less}
 use Rattle.regex_lite_engine.proofs.PositionLemmas.{position_of}
 use Rattle.regex_lite.specs.declared.string.matches.Match.{Match}
-use Rattle.regex_lite.specs.Ahead.{AheadOf, AreGroupsFound, Came, GroupsCame, IsOnward, ahead_by}
+use Rattle.regex_lite.specs.Ahead.{AheadOf, IsOnward, ahead_by}
 use Rattle.regex_lite.specs.Answers.{AreLawful, IsEmptyAnswerFrom, IsWithin}
 use Rattle.regex_lite.specs.Compiled.{AreOfRegex, SharesGroups, groups_of}
 use Rattle.regex_lite.specs.Expression.{Expression}
 use Rattle.regex_lite.specs.Groups.{Groups, AreGroups, span_at, whole_span}
+use Rattle.regex_lite.specs.Items.{AreGroupsFound, Came, GroupsCame}
 use Rattle.regex_lite.specs.MatchList.{IsAnswerOf}
 use Rattle.regex_lite.specs.MatchViews.{span_of_match}
 use Rattle.regex_lite.specs.Scanning.{AreSlotsForGroups, IsMatchOfRegex, IsMatchOfSearch, Scanning}

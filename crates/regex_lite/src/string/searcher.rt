@@ -76,9 +76,9 @@ impl<'r> Searcher<'r> {
 
 impl<'r> Finds for Searcher<'r> {
     ghost use Rattle.regex_lite_engine.specs.Search.Answer.{Found};
-    ghost use Rattle.regex_lite.specs.Ahead.{AreGroupsFound};
     ghost use Rattle.regex_lite.specs.Compiled.{AreOfRegex};
     ghost use Rattle.regex_lite.specs.Expression.{Expression};
+    ghost use Rattle.regex_lite.specs.Items.{AreGroupsFound};
     ghost use Rattle.regex_lite.specs.MatchList.{IsAnswerOf};
     ghost use Rattle.regex_lite.specs.Scanning.{AreSlotsForGroups};
 

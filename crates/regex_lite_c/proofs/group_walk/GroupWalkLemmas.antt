@@ -4,9 +4,10 @@ use Rattle.std.proofs.Common.{Some, None, ap, arith, chars, inl, inr, length, Is
 use Rattle.std.proofs.Common.{false, true, unwrap_or, subst, sym}
 use Rattle.std.proofs.lemmas.Bool.{cases_lt}
 use Rattle.regex_lite_engine.specs.Search.Answer.{Found}
-use Rattle.regex_lite.specs.Ahead.{AreGroupsFound, ComesNext}
+use Rattle.regex_lite.specs.Ahead.{ComesNext}
 use Rattle.regex_lite.specs.Expression.{Expression}
 use Rattle.regex_lite.specs.Groups.{Groups, group_span, span_at}
+use Rattle.regex_lite.specs.Items.{AreGroupsFound}
 use Rattle.regex_lite.specs.MatchList.{AreFirst, IsAnswerOf}
 use Rattle.regex_lite.specs.Replacements.{AreGroupsOfEach}
 use Rattle.regex_lite_c.specs.GroupWalks.{AreGroupsListed, IsFilled, IsWithoutRoom, spans_of_all}

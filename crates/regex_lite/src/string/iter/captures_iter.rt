@@ -106,7 +106,8 @@ impl<'r, 'h> CaptureMatches<'r, 'h> {
 }
 
 impl<'r, 'h> Iterator for CaptureMatches<'r, 'h> {
-    ghost use Rattle.regex_lite.specs.Ahead.{GivesGroups, most_matches};
+    ghost use Rattle.regex_lite.specs.Ahead.{most_matches};
+    ghost use Rattle.regex_lite.specs.Items.{GivesGroups};
 
     type Item = Result<Captures<'h>, Error>;
 

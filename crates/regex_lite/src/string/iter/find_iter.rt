@@ -119,7 +119,8 @@ impl<'r, 'h> Matches<'r, 'h> {
 }
 
 impl<'r, 'h> Iterator for Matches<'r, 'h> {
-    ghost use Rattle.regex_lite.specs.Ahead.{GivesMatch, most_matches};
+    ghost use Rattle.regex_lite.specs.Ahead.{most_matches};
+    ghost use Rattle.regex_lite.specs.Items.{GivesMatch};
 
     type Item = Match<'h>;
 

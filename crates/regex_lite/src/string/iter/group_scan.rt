@@ -1,6 +1,7 @@
 //! Goes over a haystack from match to match, with the groups of each.
 ghost use Rattle.std.specs.Prelude.{◌≡◌, ◌<◌, None, IfSome, IsCharBoundary, length, unwrap_or};
-ghost use Rattle.regex_lite.specs.Ahead.{GivesNextGroups, most_ahead};
+ghost use Rattle.regex_lite.specs.Ahead.{most_ahead};
+ghost use Rattle.regex_lite.specs.Items.{GivesNextGroups};
 
 use crate::string::captures::Captures;
 use crate::string::iter::finds::Finds;

@@ -2,9 +2,10 @@
 ghost use Rattle.std.specs.Prelude.{◌≡◌, ◌<◌, Some, None, IfSome};
 ghost use Rattle.std.specs.Prelude.{IsCharBoundary, chars, length, unwrap_or};
 ghost use Rattle.regex_lite_engine.specs.Search.Offsets.{search_start};
-ghost use Rattle.regex_lite.specs.Ahead.{GivesNext, most_ahead};
+ghost use Rattle.regex_lite.specs.Ahead.{most_ahead};
 ghost use Rattle.regex_lite.specs.Answers.{AreLawful, IsAnswerWhereEmpty};
 ghost use Rattle.regex_lite.specs.Answers.{IsEmptyAnswerFrom, TellsOfAnswer};
+ghost use Rattle.regex_lite.specs.Items.{GivesNext};
 ghost use Rattle.regex_lite.specs.NextMatch.{IsNextOffset, TellsNextMatch};
 ghost use Rattle.regex_lite.specs.Scanning.{IsAfterAnswer, IsMatchWithSlots};
 ghost use Rattle.regex_lite.specs.Searches.{CanStartAt};

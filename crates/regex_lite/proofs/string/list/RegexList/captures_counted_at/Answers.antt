@@ -6,9 +6,10 @@ use Rattle.regex_lite.specs.Compiled.{groups_of}
 use Rattle.regex_lite.specs.CompiledList.{groups_at}
 use Rattle.regex_lite.specs.Groups.{AreGroups}
 use Rattle.regex_lite.specs.RegexList.{AreTrees}
-use Rattle.regex_lite.proofs.string.ListToldLemmas.{kept_width, listed_groups_are}
-use Rattle.regex_lite.proofs.string.ListToldLemmas.{listed_groups_told}
-use Rattle.regex_lite.proofs.string.ListToldLemmas.{listed_of_pattern, outcome_of_list}
+use Rattle.regex_lite.proofs.string.ListGroupLemmas.{listed_groups_are, listed_groups_told}
+use Rattle.regex_lite.proofs.string.ListGroupLemmas.{listed_of_pattern}
+use Rattle.regex_lite.proofs.string.ListSlotLemmas.{kept_width}
+use Rattle.regex_lite.proofs.string.ListToldLemmas.{outcome_of_list}
 use Rattle.regex_lite.proofs.string.list.RegexList.captures_counted_at.Goals as goal
 
 pub new-caps-requires : goal.new-caps-requires

@@ -2,7 +2,7 @@ use Rattle.std.proofs.Common.{◌∙◌, ap}
 use Rattle.regex_lite.specs.declared.string.list.compiled.CompiledList.{CompiledList}
 use Rattle.regex_lite.specs.RegexList.{AreTrees}
 use Rattle.regex_lite.specs.Slots.{kept_slots}
-use Rattle.regex_lite.proofs.string.ListToldLemmas.{most_are}
+use Rattle.regex_lite.proofs.string.ListSlotLemmas.{most_are}
 use Rattle.regex_lite.proofs.string.list.RegexList.kept_slots.Goals as goal
 
 pub returns : goal.returns

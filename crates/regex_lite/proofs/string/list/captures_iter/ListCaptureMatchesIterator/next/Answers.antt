@@ -1,8 +1,8 @@
 use Rattle.std.proofs.Common.{ℕ, List, Option, Some, None, Result, Ok, Err, sym, subst}
 use Rattle.regex_lite_syntax.specs.declared.error.Error.{Error}
-use Rattle.regex_lite.specs.Ahead.{GivesNextGroups}
 use Rattle.regex_lite.specs.Expression.{Expression}
 use Rattle.regex_lite.specs.Groups.{Groups}
+use Rattle.regex_lite.specs.Items.{GivesNextGroups}
 use Rattle.regex_lite.specs.ListAhead.{AreGroupsFoundInList, GivesListGroups, ListPasses}
 use Rattle.regex_lite.specs.ListAhead.{list_ahead_of}
 use Rattle.regex_lite.specs.MatchList.{IsAnswerOfPatterns}

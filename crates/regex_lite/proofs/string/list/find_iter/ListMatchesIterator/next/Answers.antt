@@ -1,7 +1,7 @@
 use Rattle.std.proofs.Common.{ℕ, List, Option, Some, None, sym, subst}
 use Rattle.regex_lite.specs.declared.string.matches.Match.{Match}
-use Rattle.regex_lite.specs.Ahead.{GivesNext}
 use Rattle.regex_lite.specs.Expression.{Expression}
+use Rattle.regex_lite.specs.Items.{GivesNext}
 use Rattle.regex_lite.specs.ListAhead.{GivesListMatch, ListPasses, list_ahead_of}
 use Rattle.regex_lite.specs.MatchList.{IsAnswerOfPatterns}
 use Rattle.regex_lite.specs.Scanning.{ListSearching, Scanning, seen_by}

@@ -1,0 +1,176 @@
+-- The slots of an outcome determine the groups of what was found of several patterns.
+use Rattle.std.proofs.Common.{◌≡◌, ◌<◌, ◌*◌, ◌∙◌, refl, sym, ap, subst, ℕ, List, [], length, take}
+use Rattle.std.proofs.Common.{Option, Some, None, slice_get, chars, IsUtf8, arith}
+use Rattle.std.proofs.lemmas.List.{length-take-le}
+use Rattle.std.proofs.lemmas.Option.{slice_get-get_or, slice_get_within, unwrap_or-slice_get}
+use Rattle.regex_lite_syntax.specs.Tree.{Tree}
+use Rattle.regex_lite_engine.specs.declared.search.outcome.Outcome.{Outcome}
+use Rattle.regex_lite_engine.specs.WayLaws.{IsPatternTree}
+use Rattle.regex_lite_engine.specs.Graph.SideBySide.{HasTree}
+use Rattle.regex_lite_engine.specs.Graph.StoredList.{HasGroupsOfList, StoredGroups, StoredList}
+use Rattle.regex_lite_engine.specs.Graph.StoredList.{TellsGroupsOf}
+use Rattle.regex_lite_engine.specs.Search.Answer.{Found}
+use Rattle.regex_lite_engine.specs.Search.AnswerOfList.{IsFoundInList}
+use Rattle.regex_lite_engine.specs.Search.Offsets.{HasSlots, search_start}
+use Rattle.regex_lite_engine.specs.Search.Outcomes.{IsOutcomeOfList}
+use Rattle.regex_lite_engine.proofs.laws.PatternTreeLemmas.{regular_tree}
+use Rattle.regex_lite.specs.declared.string.list.compiled.CompiledList.{CompiledList}
+use Rattle.regex_lite.specs.Compiled.{NamesGroups, groups_of, names_of}
+use Rattle.regex_lite.specs.CompiledList.{IsBuiltList, groups_at}
+use Rattle.regex_lite.specs.Expression.{Expression}
+use Rattle.regex_lite.specs.Groups.{AreGroups, Groups}
+use Rattle.regex_lite.specs.ListAhead.{AreGroupsFoundInList}
+use Rattle.regex_lite.specs.RegexList.{AreTrees}
+use Rattle.regex_lite.specs.RegexListSearches.{AreOfPattern, TellsGroupsOfList}
+use Rattle.regex_lite.specs.Searches.{AreGroupsOf, offsets}
+use Rattle.regex_lite.specs.Slots.{all_slots, kept_slots, most_groups}
+use Rattle.regex_lite.proofs.string.CapturedLemmas.{AreAllSlots, captured, captured_of, held_all}
+use Rattle.regex_lite.proofs.string.GroupNameLemmas.{are_names}
+use Rattle.regex_lite.proofs.string.ListBuildLemmas.{own_tree, pattern_tree}
+use Rattle.regex_lite.proofs.string.ListSlotLemmas.{enough_kept, in_whole, most_at}
+use Rattle.regex_lite.proofs.string.ListToldLemmas.{of_pattern}
+use Rattle.regex_lite.proofs.string.ToldLemmas.{same_pair}
+
+-- what is stored of the groups of a pattern is so of its tree
+pub named_groups : (tree : Tree) (groups : StoredGroups) → IsPatternTree tree
+    → TellsGroupsOf tree groups
+    → NamesGroups tree (names_of groups) groups.static_captures_len
+named_groups tree groups given tells = record {
+  names_are = are_names _ groups.capture_names tree refl (regular_tree tree given) tells.captures
+      tells.names;
+  static_is = tells.static_captures;
+}
+
+-- the groups of a pattern that is there
+pub stored_at : (trees : List Tree) (graph : StoredList) (number : ℕ) (tree : Tree)
+    → HasGroupsOfList trees graph → HasTree trees number tree
+    → (number < length graph.groups) × TellsGroupsOf tree (groups_at graph.groups number)
+stored_at trees graph number tree groups there =
+    let less = slice_get_within trees number tree there in
+    let all = groups.all in
+    let within : number < length graph.groups = omega (arith, less, all) in
+    let own = slice_get-get_or graph.groups number no_groups within in (
+      within,
+      groups.each number tree (groups_at graph.groups number) there
+          (own ∙ ap Some (sym (unwrap_or-slice_get graph.groups number no_groups))),
+    )
+  where
+    no_groups : StoredGroups
+    no_groups = record { capture_names = []; static_captures_len = None }
+
+-- the groups of what is found of a pattern of the list
+module _ (bytes : List ℕ) (utf8 : IsUtf8 bytes) (list : List Expression) (compiled : CompiledList)
+    (built : IsBuiltList compiled) (given : AreTrees list built.trees) (s number : ℕ)
+    (found : Found) (answer : IsFoundInList built.trees (chars bytes) s number found)
+    (kept : List (Option ℕ)) (held : HasSlots (chars bytes) kept found.marks) (span : ℕ × ℕ)
+    (same : span ≡ offsets (chars bytes) (found.start, found.end))
+    (width : length kept ≡ compiled.kept_slots) (slots : List (Option ℕ)) where
+  abbrev stored : StoredGroups
+  stored = groups_at compiled.graph.groups number
+
+  abbrev tree : Tree
+  tree = answer.tree
+
+  own_grammar : IsPatternTree tree
+  own_grammar = pattern_tree list built.trees given number tree answer.numbered
+
+  -- the pattern is there
+  pub found_there : number < length compiled.graph.groups
+  found_there = (stored_at built.trees compiled.graph number tree built.groups answer.numbered).0
+
+  tells : TellsGroupsOf tree stored
+  tells = (stored_at built.trees compiled.graph number tree built.groups answer.numbered).1
+
+  module _ (filled : slots ≡ take (2 * length stored.capture_names) (all_slots kept span)) where
+    cut_held : AreAllSlots (chars bytes) tree found slots
+    cut_held =
+        let all = all_slots kept span in
+        let all_held = held_all (chars bytes) tree found.start found own_grammar answer.answer kept
+        span held same in
+        let few = most_at compiled.graph.groups number found_there in
+        let enough = enough_kept kept span (most_groups compiled.graph.groups)
+        (length stored.capture_names) (width ∙ built.slots) few in
+        let two = 2 * length stored.capture_names in
+        rw (filled) (
+          λ k slot there. all_held k slot (in_whole all two k slot there),
+          length-take-le two all enough ∙ ap (λ n. 2 * n) tells.captures,
+        )
+
+    -- all slots hold groups
+    pub found_groups_are : AreGroups (groups_of bytes slots stored)
+    found_groups_are =
+        captured bytes utf8 tree own_grammar found.start found answer.answer slots cut_held stored
+        (named_groups tree stored own_grammar tells)
+
+    -- which are those of what was found
+    pub found_groups : (groups : Groups) → groups ≡ groups_of bytes slots stored
+        → AreGroupsOf tree bytes found groups
+    found_groups groups are =
+        subst (λ g. AreGroupsOf tree bytes found g) (sym are)
+        (captured_of bytes utf8 tree own_grammar found.start found answer.answer slots cut_held
+        stored (named_groups tree stored own_grammar tells))
+
+    -- of the pattern with the number
+    pub found_groups_in_list : (groups : Groups) → groups ≡ groups_of bytes slots stored
+        → AreGroupsFoundInList list bytes number found groups
+    found_groups_in_list groups are =
+        let own = own_tree list built.trees number tree given answer.numbered in
+        (own.0, own.1, (tree, own.2, found_groups groups are))
+
+-- so of the outcome of a search
+module _ (bytes : List ℕ) (utf8 : IsUtf8 bytes) (start : ℕ) (list : List Expression)
+    (compiled : CompiledList) (built : IsBuiltList compiled) (given : AreTrees list built.trees)
+    (number : ℕ) (outcome : Outcome)
+    (own : IsOutcomeOfList built.trees bytes start (Some (number, outcome)))
+    (width : length outcome.slots.items ≡ compiled.kept_slots) (slots : List (Option ℕ)) where
+  abbrev own_span : ℕ × ℕ
+  own_span = (outcome.start, outcome.end)
+
+  own_span_is : own_span ≡ offsets (chars bytes) (own.0.start, own.0.end)
+  own_span_is = same_pair own.2.start own.2.end
+
+  -- the pattern is there
+  pub listed_there : number < length compiled.graph.groups
+  listed_there =
+      found_there bytes utf8 list compiled built given (search_start bytes start) number own.0 own.1
+      outcome.slots.items own.2.slots own_span own_span_is width slots
+
+  module _
+      (filled : slots ≡ take (2 * length (groups_at compiled.graph.groups number).capture_names)
+      (all_slots outcome.slots.items own_span)) where
+    -- all slots hold groups
+    pub listed_groups_are : AreGroups
+        (groups_of bytes slots (groups_at compiled.graph.groups number))
+    listed_groups_are =
+        found_groups_are bytes utf8 list compiled built given
+        (search_start bytes start) number own.0
+        own.1 outcome.slots.items own.2.slots own_span own_span_is width slots filled
+
+    -- which are what is returned
+    pub listed_groups_told : (groups : Groups)
+        → groups ≡ groups_of bytes slots (groups_at compiled.graph.groups number)
+        → TellsGroupsOfList list bytes start (Some (number, groups))
+    listed_groups_told groups are = (
+      built.trees,
+      given,
+      (
+        own.0,
+        own.1,
+        found_groups bytes utf8 list compiled built given (search_start bytes start) number own.0
+            own.1 outcome.slots.items own.2.slots own_span own_span_is width slots filled
+            groups are,
+      ),
+    )
+
+    -- they are those of a match of the pattern
+    pub listed_of_pattern : (groups : Groups)
+        → groups ≡ groups_of bytes slots (groups_at compiled.graph.groups number)
+        → AreOfPattern list (number, groups)
+    listed_of_pattern groups are =
+        let alone = of_pattern (λ tree. AreGroupsOf tree bytes) list bytes start number groups
+        (listed_groups_told groups are) in
+        record {
+          re = alone.0;
+          numbered = alone.1;
+          of_match = record { haystack = bytes; start = start; told = alone.2 };
+        }
