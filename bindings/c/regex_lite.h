@@ -52,7 +52,7 @@ typedef struct regex_lite_options {
     bool multi_line;           /* ^ and $ match at every line: m */
     bool dot_matches_new_line; /* . matches every character: s */
     bool crlf;                 /* a carriage return ends a line too: R */
-    bool swap_greed;           /* greedy and lazy operators change places: U */
+    bool swap_greed;           /* greedy and lazy operators are swapped: U */
     bool ignore_whitespace;    /* white space and comments are left out of the pattern: x */
     uint32_t nest_limit;       /* how deep the pattern may nest */
     size_t size_limit;         /* how large it may become, written out */
@@ -72,8 +72,8 @@ typedef struct regex_lite_span {
 /* Where in a pattern its first fault is, as offsets in bytes. */
 typedef struct regex_lite_fault {
     size_t start;      /* where the part begins that can't be read */
-    size_t end;        /* where it ends: no pattern that begins with what is before is accepted */
-    bool is_cut_short; /* whether the pattern ends too soon; then end is its length */
+    size_t end;        /* where it ends; of a pattern that is cut short, its length */
+    bool is_cut_short; /* whether some accepted pattern begins with this one */
 } regex_lite_fault;
 
 /* How far a walk over all matches of a text has come. */
@@ -170,12 +170,12 @@ uint32_t regex_lite_new(regex_lite *handle, const uint8_t *pattern, size_t patte
  *
  * The fault starts where the part begins that can't be read: a class, an escape, an operator, a
  * list of flags, a group with a bad name. If groups are open at the end of the pattern, it is where
- * the innermost of them begins. It ends where it shows that no accepted pattern begins like this;
- * an editor can mark it up to there. A pattern that ends too soon, as one with an open group or
- * class, is cut short: more of it may mend it, and an editor can wait.
+ * the innermost of them begins. It ends after the first character with which no accepted pattern
+ * begins any more; an editor can mark it up to there. If some accepted pattern begins with this
+ * one, as where a group or a class is open, it is cut short, and an editor can wait.
  *
- * A pattern that is no UTF-8 is REGEX_LITE_NOT_TEXT, and one with more groups than can be numbered
- * may be REGEX_LITE_GROUPS. */
+ * A pattern that isn't valid UTF-8 is REGEX_LITE_NOT_TEXT, and one with more groups than can be
+ * numbered may be REGEX_LITE_GROUPS. */
 uint32_t regex_lite_fault_at(const uint8_t *pattern, size_t pattern_len,
                              const regex_lite_options *options, regex_lite_fault *fault);
 
@@ -286,10 +286,10 @@ uint32_t regex_lite_escape(const uint8_t *text, size_t len, uint8_t *room, size_
  * no pattern, and a pattern may stand in a list twice.
  *
  * The lengths of the patterns have to add up to `len`, else the answer is REGEX_LITE_BAD_OFFSET.
- * With REGEX_LITE_NOT_TEXT, refusal->number is that of the first pattern that is no UTF-8. With any
- * other refusal it is that of the first pattern that is refused by itself, or how many patterns
- * there are where none is: where memory runs out, or where the patterns have more places together
- * than can be numbered. The message is as that of regex_lite_new. */
+ * With REGEX_LITE_NOT_TEXT, refusal->number is that of the first pattern that isn't valid UTF-8.
+ * With any other refusal it is that of the first pattern that is refused by itself, or how many
+ * patterns there are where none is: where memory runs out, or where the patterns have more places
+ * together than can be numbered. The message is as that of regex_lite_new. */
 uint32_t regex_lite_list_new(regex_lite_list *handle, const uint8_t *bytes, size_t len,
                              const regex_lite_list_pattern *patterns, size_t count,
                              uint8_t *message, size_t message_room,

@@ -83,7 +83,7 @@ class Browser:
                       windowsVirtualKeyCode=code, text=text if kind == 'keyDown' else '')
 
     def write(self, name: str, text: str) -> None:
-        """Writes into a field, in the place of what stands there."""
+        """Writes into a field, instead of what it holds."""
         self.value(f'document.getElementById("{name}").focus(); document.activeElement.select()')
         self.call('Input.insertText', text=text)
 

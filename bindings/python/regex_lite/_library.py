@@ -63,9 +63,9 @@ class error(Exception):
     """A pattern is refused. `msg` says why, and `number` is that of the library.
 
     Where the syntax is wrong, `pos` is where the part of the pattern begins that is at fault, and
-    `lineno` and `colno` are the line and the column of that place, both from 1 on. No pattern that
-    begins with what stands before `end` is accepted; it is None where the pattern ends too soon, so
-    that more of it may mend it. Where only a limit is passed, all four are None."""
+    `lineno` and `colno` are the line and the column of that place, both from 1 on. `end` is past the
+    first character with which no accepted pattern begins any more; it is None where some accepted
+    pattern begins with this one. Where only a limit is passed, all four are None."""
 
     def __init__(self, msg: str, pattern: str, number: int, pos: Optional[int] = None,
                  end: Optional[int] = None) -> None:

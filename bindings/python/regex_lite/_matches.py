@@ -76,7 +76,7 @@ class Match:
         return {name: default if text is None else text for name, text in texts.items()}
 
     def expand(self, template: str) -> str:
-        """The template with the texts of groups in the place of references as `\\1`."""
+        """The template with the texts of groups instead of references such as `\\1`."""
         return expanded(parts_of(template, self.re), self)
 
     def __repr__(self) -> str:

@@ -44,8 +44,8 @@ pub enum Error {
 pub struct Fault {
     /// Where the part of the pattern begins that can't be read.
     pub start: usize,
-    /// Where it ends: no pattern that begins with what stands before is accepted. There is none
-    /// where the pattern ends too soon, so that more of it may mend it.
+    /// Where it ends: after the first character with which no accepted pattern begins any more.
+    /// There is none where some accepted pattern begins with this one.
     pub end: Option<usize>,
 }
 
@@ -72,7 +72,7 @@ pub struct Options {
     pub dot_matches_new_line: bool,
     /// A carriage return ends a line too.
     pub crlf: bool,
-    /// Greedy and lazy operators change places.
+    /// Greedy and lazy operators are swapped.
     pub swap_greed: bool,
     /// White space and comments are left out of the pattern.
     pub ignore_whitespace: bool,

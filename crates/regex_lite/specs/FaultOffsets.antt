@@ -11,8 +11,8 @@ use Rattle.regex_lite.specs.Settings.{Settings}
 abbrev pub HasTreeUnder : Settings → Type 0
 HasTreeUnder settings = HasTree settings.flags (chars settings.pattern)
 
--- under these settings the first fault of the pattern starts at the one offset, in bytes, and no
--- accepted pattern begins with what stands up to the other, if there is one
+-- under these settings the first fault of the pattern starts at the one offset, in bytes, and ends
+-- at the other; it has no end where some accepted pattern begins with this one
 pub record IsFaultSpan (settings : Settings) (span : FaultSpan) : Type 0 where
   pub place : FaultPlace
   pub fault : IsPlaceOfFault settings.flags (chars settings.pattern) place

@@ -86,10 +86,10 @@ impl Span {
 pub struct Fault {
     /// The offset at which the part begins that can't be read.
     pub start: usize,
-    /// The offset at which it ends: what stands before it can begin no accepted pattern. Where the
-    /// pattern ends too soon, its length.
+    /// The offset at which it ends: the least one past the start before which stands the beginning
+    /// of no accepted pattern. Where the pattern is cut short, its length.
     pub end: usize,
-    /// Whether the pattern ends too soon, so that more of it could mend it.
+    /// Whether some accepted pattern begins with this one.
     pub is_cut_short: bool,
 }
 

@@ -1,6 +1,6 @@
 -- The characters of a text are Unicode scalar values.
 use Rattle.std.proofs.Common.{◌≡◌, refl, Bool, true, false, ◌&&◌, List}
-use Rattle.std.proofs.Common.{[], ◌∷◌, ℕ, zero, suc, take, chars, IsTrue, subst, arith}
+use Rattle.std.proofs.Common.{[], ◌∷◌, ◌++◌, ℕ, zero, suc, take, drop, chars, IsTrue, subst, arith}
 use Rattle.regex_lite_syntax.specs.Text.{Text}
 use Rattle.std.specs.Char.{IsScalar}
 use Rattle.std.specs.Str.{IsUtf8, all_scalars}
@@ -31,3 +31,19 @@ pub first_are : (n : ℕ) (t : Text) → AreCharacters t → AreCharacters (take
 first_are zero t are = tt
 first_are (suc n) [] are = tt
 first_are (suc n) (c ∷ t) are = (are.0, first_are n t are.1)
+
+-- the last of them are
+pub last_are : (t u : Text) → AreCharacters (t ++ u) → AreCharacters u
+last_are [] u are = are
+last_are (c ∷ t) u are = last_are t u are.1
+
+-- and so are all past them
+pub left_are : (n : ℕ) (t : Text) → AreCharacters t → AreCharacters (drop n t)
+left_are zero t are = are
+left_are (suc n) [] are = tt
+left_are (suc n) (c ∷ t) are = left_are n t are.1
+
+-- of two texts of characters the one and then the other are characters
+pub joined_are : (t u : Text) → AreCharacters t → AreCharacters u → AreCharacters (t ++ u)
+joined_are [] u are more = more
+joined_are (c ∷ t) u are more = (are.0, joined_are t u are.1 more)

@@ -1,9 +1,11 @@
 -- lemmas that several modules use
 pub mod CharacterLemmas
+pub mod CharacterSetLemmas
 pub mod LetterCaseLemmas
 pub mod ListLemmas
 pub mod NameTableLemmas
 pub mod RangeLemmas
+pub mod SetRunsLemmas
 pub mod TreeLemmas
 -- lemmas on what the grammar says, and on the parser as a machine
 pub mod grammar

@@ -1,6 +1,8 @@
 -- lemmas that several proofs here share
 pub mod AtomLemmas
+pub mod ClassCharacterLemmas
 pub mod ClassLemmas
+pub mod CompletedGapLemmas
 pub mod CountLemmas
 pub mod EscapeLemmas
 pub mod EscapedLemmas
@@ -14,13 +16,18 @@ pub mod LongerGapLemmas
 pub mod LongerHeadLemmas
 pub mod LongerNumberLemmas
 pub mod LongerOpeningLemmas
+pub mod MoreDigitsLemmas
 pub mod NameLemmas
 pub mod NameOpeningLemmas
 pub mod NameReadingLemmas
+pub mod NewNameLemmas
 pub mod NumberLemmas
 pub mod NumberedTreeLemmas
 pub mod NumberingLemmas
 pub mod OperatorLemmas
+pub mod ResumedCountLemmas
+pub mod ResumedGapLemmas
+pub mod ResumedNumberLemmas
 pub mod ScanLemmas
 pub mod SpacedLemmas
 pub mod WordLemmas

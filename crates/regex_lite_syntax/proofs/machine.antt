@@ -1,7 +1,11 @@
 -- lemmas that several proofs here share
 pub mod AskLemmas
 pub mod CompleteLemmas
+pub mod CompletedHeadLemmas
+pub mod CompletedRunLemmas
+pub mod CompletedStepLemmas
 pub mod DepthLemmas
+pub mod FaultEndLemmas
 pub mod FaultLemmas
 pub mod GrowthLemmas
 pub mod LongerRunLemmas
@@ -11,6 +15,7 @@ pub mod ReadHeadLemmas
 pub mod ReadOnLemmas
 pub mod ReadStepLemmas
 pub mod RegularLemmas
+pub mod ResumedOperatorLemmas
 pub mod RunLemmas
 pub mod SoundLemmas
 pub mod StateLemmas

@@ -1,3 +1,4 @@
 -- lemmas that several proofs here share
+pub mod CompletionLemmas
 pub mod DenialLemmas
 pub mod IndexLemmas

@@ -1,6 +1,6 @@
 -- How far the grammar reads a pattern, and where its first fault stands.
 use Rattle.std.specs.Prelude.{◌≡◌, ◌⊎◌, ℕ, ◌+◌, ◌<◌, ◌≤◌, List, [], ◌++◌, length, drop, take}
-use Rattle.std.specs.Prelude.{IfSome}
+use Rattle.std.specs.Prelude.{MatchOption}
 use Rattle.regex_lite_syntax.specs.declared.error.ErrorKind.{ErrorKind}
 use Rattle.regex_lite_syntax.specs.declared.error.ErrorKind.TheVariants.{Groups, Memory}
 use Rattle.regex_lite_syntax.specs.declared.flags.Flags.{Flags}
@@ -70,12 +70,24 @@ pub record IsFaultAt (flags : Flags) (pattern : Text) (k : ℕ) : Type 0 where
 abbrev pub BeginsNone : Flags → Text → Type 0
 BeginsNone flags text = (more : Text) → HasTree flags (text ++ more) → ⊥
 
--- the first fault of the pattern stands where the place begins, and no accepted pattern begins with
--- as many of its characters as stand before the place's end, if it has one
+-- under these flags some accepted pattern begins with the text
+abbrev pub BeginsSome : Flags → Text → Type 0
+BeginsSome flags text = (more : Text) × HasTree flags (text ++ more)
+
+-- past the pattern's first `start` characters, `end` is the least number of them with which no
+-- accepted pattern begins
+pub record IsEndOfFault (flags : Flags) (pattern : Text) (start end : ℕ) : Type 0 where
+  pub past : start < end
+  pub inside : end ≤ length pattern
+  pub none : BeginsNone flags (take end pattern)
+  pub least : (k : ℕ) → start < k → k < end → BeginsSome flags (take k pattern)
+
+-- the first fault of the pattern stands where the place begins. The place has an end where no
+-- accepted pattern begins with the pattern, and none where some does
 pub record IsPlaceOfFault (flags : Flags) (pattern : Text) (place : FaultPlace) : Type 0 where
   pub starts : IsFaultAt flags pattern place.start
-  pub past : IfSome place.end (λ k. (place.start < k) × (k ≤ length pattern))
-  pub ends : IfSome place.end (λ k. BeginsNone flags (take k pattern))
+  pub ends : MatchOption place.end (BeginsSome flags pattern)
+      (IsEndOfFault flags pattern place.start)
 
 -- what an error says by its kind where the fault can't be told. Memory may run out with any pattern
 abbrev pub IsUntold : Flags → Text → ErrorKind → Type 0

@@ -3,6 +3,7 @@ use Rattle.std.specs.Prelude.{◌≡◌, [], ◌++◌, IsTrue}
 use Rattle.regex_lite_syntax.specs.declared.error.syntax.SyntaxFault.{SyntaxFault}
 use Rattle.regex_lite_syntax.specs.Errors.{Refusal, syntax_error, too_deep, too_many_groups}
 use Rattle.regex_lite_syntax.specs.Errors.{passed_limit, out_of_memory, refused_replacement}
+use Rattle.regex_lite_syntax.specs.Characters.{AreCharacters}
 use Rattle.regex_lite_syntax.specs.CutShort.{is_cut_short}
 use Rattle.regex_lite_syntax.specs.Text.{Text}
 
@@ -29,3 +30,19 @@ Refuses refused_replacement syntax nesting groups = ⊥
 -- a reader that may want memory refuses: a syntax fault says that there is no such reading
 abbrev pub Denies : Refusal → (Reading : Text → Type 0) → Text → Type 0
 Denies error Reading t = Refuses error (λ fault. NoReading fault Reading t) ⊥ ⊥
+
+-- more of the pattern completes what the text begins: with these characters past it the text has
+-- such a reading up to what follows them, whatever that is
+pub record Completable (Reads : (t rest : Text) → Type 0) (t : Text) : Type 0 where
+  pub more : Text
+  pub characters : AreCharacters more
+  pub reads : (next : Text) → Reads (t ++ (more ++ next)) next
+
+-- where the fault is that the pattern is cut short, more of it completes what the text begins
+abbrev pub CanComplete : SyntaxFault → (Reads : (t rest : Text) → Type 0) → Text → Type 0
+CanComplete fault Reads t = IsTrue (is_cut_short fault) → Completable Reads t
+
+-- where the refusal is that the pattern is cut short, this holds
+abbrev pub IfCutShort : Refusal → Type 0 → Type 0
+IfCutShort (syntax_error fault) says = IsTrue (is_cut_short fault) → says
+IfCutShort _ says = Unit {0}

@@ -9,11 +9,13 @@ ghost use Rattle.regex_lite_syntax.specs.Errors.{too_deep, too_many_groups, pass
 ghost use Rattle.regex_lite_syntax.specs.Errors.{out_of_memory, refused_replacement};
 
 mod syntax;
+mod unexpected_eof;
 
 use std::alloc::{AllocError, AllocFailed};
 use std::fmt;
 use std::marker::Model;
 pub use syntax::SyntaxFault;
+pub use unexpected_eof::UnexpectedEof;
 
 /// What kind of refusal an [`Error`] is.
 #[derive(Clone, Copy, PartialEq, Eq, Debug)]

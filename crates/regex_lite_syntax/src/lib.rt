@@ -15,7 +15,7 @@ pub mod laws;
 mod parse;
 
 pub use class::{Class, ClassRange};
-pub use error::{Error, ErrorKind, LimitFault, SyntaxFault};
+pub use error::{Error, ErrorKind, LimitFault, SyntaxFault, UnexpectedEof};
 pub use flags::Flags;
 pub use hir::Hir;
 pub use hir::look::Look;

@@ -14,8 +14,8 @@ ghost use Rattle.regex_lite_syntax.specs.Limits.{IsAdmitted, IsDueToPattern, dep
 ghost use Rattle.regex_lite_syntax.specs.Tree.Regular.{IsRegular};
 ghost use Rattle.regex_lite_syntax.specs.Tree.Views.{tree_of};
 ghost use Rattle.regex_lite_syntax.specs.Parser.Machine.{first_state, BeginsAtom};
-ghost use Rattle.regex_lite_syntax.specs.Refusals.{Refuses, NoReading};
-ghost use Rattle.regex_lite_syntax.specs.Parser.States.{state, Advances, CanRead};
+ghost use Rattle.regex_lite_syntax.specs.Refusals.{Refuses, NoReading, IfCutShort};
+ghost use Rattle.regex_lite_syntax.specs.Parser.States.{state, Advances, CanRead, CanReadOn};
 ghost use Rattle.regex_lite_syntax.specs.Parser.States.{BeginsTooMany, EndsBranch, Adds};
 ghost use Rattle.regex_lite_syntax.specs.Parser.States.{Finishes, FinishesTooDeep};
 
@@ -33,7 +33,7 @@ mod name;
 mod operator;
 mod read;
 
-use crate::error::{Error, SyntaxFault};
+use crate::error::{Error, SyntaxFault, UnexpectedEof};
 use crate::flags::Flags;
 use crate::hir::Hir;
 use atom::read_atom;
@@ -157,10 +157,13 @@ impl Parser {
     fn step(&mut self, chars: &[char], at: usize) -> Result<usize, Error>
         requires inside { at < length chars.now }
         requires past_gap { EndsGap self.old.here.flags.ignore_whitespace (drop at chars.now) }
+        requires characters { AreCharacters chars.now }
         ensures ok { IfOk result (Advances self.old self.new chars.now at) }
         ensures refused { let t = drop at chars.now in IfErr result (λ error.
             Refuses error (λ fault. NoReading fault (CanRead self.old) t) ⊥
             (BeginsTooMany self.old t)) }
+        ensures completes { IfErr result (λ error.
+            IfCutShort error (CanReadOn self.old (drop at chars.now))) }
     {
         match chars[at] {
             '(' => self.read_group_head(chars, at),
@@ -187,7 +190,7 @@ impl Parser {
             (λ _. self.below.items ≢ []) (FinishesTooDeep self nest_limit) ⊥) }
     {
         if !self.below.is_empty() {
-            return Err(SyntaxFault::UnclosedGroup.into());
+            return Err(SyntaxFault::CutShort(UnexpectedEof::Group).into());
         }
         let hir = self.here.into_tree()?;
         if hir.is_deeper_than(nest_limit) {
@@ -201,10 +204,13 @@ impl Parser {
         requires inside { at < length chars.now }
         requires past_gap { EndsGap self.old.here.flags.ignore_whitespace (drop at chars.now) }
         requires begins { BeginsAtom (drop at chars.now) }
+        requires characters { AreCharacters chars.now }
         ensures ok { IfOk result (Advances self.old self.new chars.now at) }
         ensures refused { let t = drop at chars.now in IfErr result (λ error.
             Refuses error (λ fault. NoReading fault (CanRead self.old) t) ⊥
             (BeginsTooMany self.old t)) }
+        ensures completes { IfErr result (λ error.
+            IfCutShort error (CanReadOn self.old (drop at chars.now))) }
     {
         let (end, item) = read_atom(self.alloc, chars, at, self.here.flags)?;
         self.add(item)?;

@@ -15,8 +15,8 @@ use regex_lite_syntax::{Error, FaultPlace, fault_at};
 pub struct FaultSpan {
     /// Where the part of the pattern begins that can't be read.
     pub start: usize,
-    /// After this many bytes no accepted pattern can begin as this one does. `None` where the
-    /// pattern ends inside the part, so that there may be more to come.
+    /// The least number of bytes, past the start, with which no accepted pattern begins. `None` if
+    /// some accepted pattern begins with the whole pattern, so that there may be more to come.
     pub end: Option<usize>,
 }
 
@@ -26,9 +26,10 @@ impl RegexBuilder {
     ///
     /// The fault starts where the part of the pattern begins with which reading stops: a class, an
     /// escape, an operator, a directive, or a group with a faulty head. Of a pattern that ends with
-    /// groups open it is where the innermost of them begins. The fault ends where it shows that no
-    /// accepted pattern begins like this, and has no end where the pattern itself ends inside the
-    /// part. An editor can mark what stands between, and wait where it has no end.
+    /// groups open it is where the innermost of them begins. The fault ends after the first
+    /// character with which no accepted pattern begins any more, and has no end exactly if some
+    /// accepted pattern begins with this one. An editor can mark the text between the two offsets,
+    /// and wait if there is no end.
     ///
     /// ```
     /// let builder = RegexBuilder::new(alloc, r"sam|\qwise")?;

@@ -1,6 +1,6 @@
 //! A whole search that remembers its turns, and goes by those that it remembers.
 ghost use Rattle.std.specs.Prelude.{◌≡◌, ◌+◌, ◌<◌, ◌≤◌, ◌⊎◌, ◌∷◌, [], ℕ, List};
-ghost use Rattle.std.specs.Prelude.{All, IfSome, IsCharBoundary, IsSome, IsTrue};
+ghost use Rattle.std.specs.Prelude.{All, IfSome, IsCharBoundary};
 ghost use Rattle.std.specs.Prelude.{MatchOption, None, Some, chars, length, true};
 ghost use Rattle.regex_lite_syntax.specs.Text.{Text};
 ghost use Rattle.regex_lite_engine.specs.declared.lazy_dfa.scan.Scanned.TheVariants.{Stuck};
@@ -9,14 +9,13 @@ ghost use Rattle.regex_lite_engine.specs.Graph.Renumbered.{arrows_of};
 ghost use Rattle.regex_lite_engine.specs.Graph.Stored.{table_of};
 ghost use Rattle.regex_lite_engine.specs.LazyDfa.Automaton.{IsEmptyState, Remembers};
 ghost use Rattle.regex_lite_engine.specs.LazyDfa.Learning.{HasTurned, IsIn};
-ghost use Rattle.regex_lite_engine.specs.LazyDfa.Running.{IsOnItsWay, Stands};
+ghost use Rattle.regex_lite_engine.specs.LazyDfa.Running.{Stands};
 ghost use Rattle.regex_lite_engine.specs.LazyDfa.Scanning.{best_told, ScansTo};
 ghost use Rattle.regex_lite_engine.specs.Search.Bounds.{IsBoundedBy, characters_left};
 ghost use Rattle.regex_lite_engine.specs.Search.Offsets.{position_at};
 ghost use Rattle.regex_lite_engine.specs.Search.Counting.{CanCount};
 ghost use Rattle.regex_lite_engine.specs.Search.NumberedOutcomes.{IsBestOutcomeOf};
 ghost use Rattle.regex_lite_engine.specs.Pikevm.Searching.{IsFresh, IsBetween};
-ghost use Rattle.regex_lite_engine.specs.Search.Standing.{IsHere};
 ghost use Rattle.regex_lite_engine.specs.Pikevm.Turns.{best_of};
 
 use crate::Graph;

@@ -1,5 +1,5 @@
 //! Searches that remember their turns, and go by those that they remember.
-ghost use Rattle.std.specs.Prelude.{◌≡◌, ◌∷◌, [], ◌<◌, ◌≤◌, ◌^◌, ◌+◌, ℕ, List};
+ghost use Rattle.std.specs.Prelude.{◌≡◌, ◌∷◌, [], ◌<◌, ◌≤◌, ◌+◌, ℕ, List};
 ghost use Rattle.std.specs.Prelude.{IsCharBoundary, IsSome, MatchOption, None};
 ghost use Rattle.std.specs.Prelude.{Some, chars, length, map, slice_index, true};
 ghost use Rattle.regex_lite_engine.specs.Graph.Places.{Place};

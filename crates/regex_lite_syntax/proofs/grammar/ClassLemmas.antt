@@ -71,7 +71,7 @@ no_caret (c ∷ w) t r u s p e b =
     both_ways (is_lower c) (ap is_lower here)
     (and_parts _ _ (list_all-from_AllPass is_lower (c ∷ w) p)).0
 
-negation_once : (m n : Bool) (t u v : Text) → t ≡ (if m then the "^" ∷ u else u)
+pub negation_once : (m n : Bool) (t u v : Text) → t ≡ (if m then the "^" ∷ u else u)
     → t ≡ (if n then the "^" ∷ v else v)
     → (m ≡ false → Begins (the "^") t → ⊥) → (n ≡ false → Begins (the "^") t → ⊥)
     → (m ≡ n) × (u ≡ v)
@@ -80,7 +80,7 @@ negation_once true false t u v e f bare bare' = absurd (bare' refl (begins (the 
 negation_once false true t u v e f bare bare' = absurd (bare refl (begins (the "^") t v f))
 negation_once false false t u v e f bare bare' = (refl, sym e ∙ f)
 
-no_negation : (n : Bool) (t u w r v : Text) → t ≡ (if n then the "^" ∷ u else u) → u ≡ w ++ r
+pub no_negation : (n : Bool) (t u w r v : Text) → t ≡ (if n then the "^" ∷ u else u) → u ≡ w ++ r
     → AllPass is_lower w
     → r ≡ the ":" ∷ v → n ≡ false → Begins (the "^") t → ⊥
 no_negation true t u w r v e s p closes h b = cc h

@@ -5,6 +5,7 @@ use Rattle.regex_lite_syntax.specs.Text.{Text, Begins, the}
 use Rattle.regex_lite_syntax.specs.Grammar.Gaps.{Gap, WholeGap}
 use Rattle.regex_lite_syntax.specs.Grammar.Counted.{Number, EndsNumber, Limit, Counted}
 use Rattle.regex_lite_syntax.specs.Grammar.Counted.{exactly, at_least, between}
+use Rattle.regex_lite_syntax.specs.Parser.Readings.{IsNotBelow}
 use Rattle.regex_lite_syntax.proofs.ListLemmas.{same_head, same_tail}
 use Rattle.regex_lite_syntax.proofs.grammar.GapLemmas.{empty_gap, gap_once}
 use Rattle.regex_lite_syntax.proofs.grammar.SpacedLemmas.{printed_ends, whole_gap_leads}
@@ -54,7 +55,7 @@ limit_once verbose t r s (Some n) (Some n') a b =
 pub data PastMin (verbose : Bool) (u rest : Text) (least : ℕ) (most : Option ℕ) : Type 0 where
   closed : u ≡ the "}" ∷ rest → most ≡ Some least → PastMin verbose u rest least most
   limited : (past : Text) → u ≡ the "," ∷ past → Limit verbose past rest most
-      → ((n : ℕ) → most ≡ Some n → least ≤ n) → PastMin verbose u rest least most
+      → IsNotBelow least most → PastMin verbose u rest least most
 
 -- a counted operator from its first number on
 pub first_number : {verbose : Bool} {t rest : Text} {least : ℕ} {most : Option ℕ}
@@ -67,14 +68,14 @@ first_number {verbose} {t} {rest} {least} {most} (at_least past p closes is) = (
   p,
   inl refl,
   limited past refl (subst (λ m. Limit verbose past rest m) (sym is) closes)
-      (λ n some. cc (is, some)),
+      (subst (λ m. IsNotBelow least m) (sym is) tt),
 )
 first_number {verbose} {t} {rest} {least} {most} (between past n p q order is) = (
   the "," ∷ past,
   p,
   inl refl,
   limited past refl (subst (λ m. Limit verbose past rest m) (sym is) q)
-      (λ k some. let same : n ≡ k = cc (is, some) in omega (arith, order, same)),
+      (subst (λ m. IsNotBelow least m) (sym is) order),
 )
 
 -- where a number is the only one, a counted operator goes on from it
@@ -106,7 +107,7 @@ past_min_once verbose u r s n m m' (limited past e l order) (limited past' e' l'
 pub limit_past : {verbose : Bool} {rest : Text} {n : ℕ} {most : Option ℕ} (u past : Text) (c : ℕ)
     → u ≡ c ∷ past
     → c ≡ the "," → PastMin verbose u rest n most
-    → Limit verbose past rest most × ((k : ℕ) → most ≡ Some k → n ≤ k)
+    → Limit verbose past rest most × IsNotBelow n most
 limit_past {verbose} {rest} {n} {most} u past c here is (closed e all) =
     let clash = same_head (sym here ∙ e) in absurd (omega (arith, clash, is))
 limit_past {verbose} {rest} {n} {most} u past c here is (limited past' e limit order) =
@@ -115,14 +116,14 @@ limit_past {verbose} {rest} {n} {most} u past c here is (limited past' e limit o
 pub counted_to : {verbose : Bool} {t rest : Text} {least : ℕ} (most : Option ℕ)
     (u past : Text) (c : ℕ)
     → Number verbose t u least → u ≡ c ∷ past → c ≡ the "," → Limit verbose past rest most
-    → ((n : ℕ) → most ≡ Some n → least ≤ n) → Counted verbose t rest least most
+    → IsNotBelow least most → Counted verbose t rest least most
 counted_to {verbose} {t} {rest} {least} most u past c p here is limit order =
     go most (subst (λ v. Number verbose t v least) (cc (here, is)) p) limit order
   where
     go : (m : Option ℕ) → Number verbose t (the "," ∷ past) least → Limit verbose past rest m
-        → ((n : ℕ) → m ≡ Some n → least ≤ n) → Counted verbose t rest least m
+        → IsNotBelow least m → Counted verbose t rest least m
     go None q closes in_order = at_least past q closes refl
-    go (Some n) q number in_order = between past n q number (in_order n refl) refl
+    go (Some n) q number in_order = between past n q number in_order refl
 
 -- a counted operator ends at one place, and has one pair of bounds
 pub counted_once : (verbose : Bool) (t r s : Text) (l l' : ℕ) (m m' : Option ℕ)
@@ -142,4 +143,4 @@ counted_in_order {verbose} {t} {rest} {least} {most} {n} counted some = go (firs
   where
     go : {u : Text} → PastMin verbose u rest least most → least ≤ n
     go (closed e is) = let same : least ≡ n = cc (is, some) in omega (arith, same)
-    go (limited past e l order) = order n some
+    go (limited past e l order) = subst (λ m. IsNotBelow least m) some order

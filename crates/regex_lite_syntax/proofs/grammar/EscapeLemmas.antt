@@ -210,6 +210,17 @@ AsksForSome _ = Unit {0}
 pub asks_for_some : (c : ℕ) → AsksForSome (escape_kind c)
 asks_for_some c = search rules
 
+-- what may have a name in braces is `\b`
+abbrev IsBoundary : ℕ → EscapeKind → Type 0
+IsBoundary c word_boundary = c ≡ the "b"
+IsBoundary c _ = Unit {0}
+
+boundary_of : (c : ℕ) → IsBoundary c (escape_kind c)
+boundary_of c = search rules
+
+pub boundary_is_b : (c : ℕ) → word_boundary ≡ escape_kind c → c ≡ the "b"
+boundary_is_b c asked = subst (λ k. IsBoundary c k) (sym asked) (boundary_of c)
+
 escape_from_once : (kind : EscapeKind) (verbose : Bool) (t r s : Text) (p q : Primitive)
     → AsksForSome kind
     → EscapeFrom kind verbose t r p → EscapeFrom kind verbose t s q → (r ≡ s) × (p ≡ q)

@@ -50,7 +50,8 @@ module _ (more : Text) where
   element_longer verbose t rest p (literal c e plain w is) some =
       literal c (ap (λ u. u ++ more) e) plain w is
   element_longer verbose t rest p (escaped past e d) some =
-      escaped (past ++ more) (ap (λ u. u ++ more) e) (escape_longer more verbose past rest p d some)
+      escaped (past ++ more) (ap (λ u. u ++ more) e) (escape_longer more verbose past rest p d
+      (λ none. begins_longer more (the "{") rest none some))
 
   pub follows_longer : {verbose : Bool} {t last : Text} → RangeFollows verbose t last
       → RangeFollows verbose (t ++ more) (last ++ more)

@@ -1,7 +1,7 @@
 -- Escapes in a longer text that begins with the text.
-use Rattle.std.proofs.Common.{◌≢◌, sym, ◌∙◌, ap, ℕ, Bool, [], ◌++◌}
+use Rattle.std.proofs.Common.{sym, ap, subst, ℕ, Bool, ◌++◌}
 use Rattle.regex_lite_syntax.specs.declared.hir.look.Look.{Look}
-use Rattle.regex_lite_syntax.specs.Text.{Text, the}
+use Rattle.regex_lite_syntax.specs.Text.{Text, Begins, the}
 use Rattle.regex_lite_syntax.specs.Grammar.Escapes.{Primitive, EscapeKind, gives, word_boundary}
 use Rattle.regex_lite_syntax.specs.Grammar.Escapes.{hexadecimal, refused, escape_kind}
 use Rattle.regex_lite_syntax.specs.Grammar.Escapes.{FixedDigits, BracedDigits}
@@ -10,11 +10,15 @@ use Rattle.regex_lite_syntax.specs.Grammar.Escapes.{BoundaryName, BeginsCount}
 use Rattle.regex_lite_syntax.specs.Grammar.Escapes.{alone, before_count, named}
 use Rattle.regex_lite_syntax.specs.Grammar.Escapes.{EscapeFrom, Escape}
 use Rattle.regex_lite_syntax.proofs.grammar.LongerGapLemmas.{gap_before, spaced_longer}
-use Rattle.regex_lite_syntax.proofs.grammar.LongerGapLemmas.{begins_longer, no_gap_longer}
+use Rattle.regex_lite_syntax.proofs.grammar.LongerGapLemmas.{no_gap_longer}
 use Rattle.regex_lite_syntax.proofs.grammar.LongerGapLemmas.{goes_on_longer}
 use Rattle.regex_lite_syntax.proofs.grammar.SpacedLemmas.{boundary_characters_end}
 
 module _ (more : Text) where
+  -- no brace comes to stand past the text where none did
+  abbrev pub NoBraceComes : Text → Type 0
+  NoBraceComes t = (Begins (the "{") t → ⊥) → Begins (the "{") (t ++ more) → ⊥
+
   pub fixed_longer : {verbose : Bool} {n : ℕ} {t rest : Text} {c : ℕ}
       → FixedDigits verbose n t rest c → FixedDigits verbose n (t ++ more) (rest ++ more) c
   fixed_longer {verbose} {n} {t} {rest} d = record {
@@ -63,31 +67,30 @@ module _ (more : Text) where
   }
 
   pub boundary_longer : {verbose : Bool} {t rest : Text} {look : Look}
-      → WordBoundary verbose t rest look → rest ≢ []
+      → WordBoundary verbose t rest look → NoBraceComes rest
       → WordBoundary verbose (t ++ more) (rest ++ more) look
-  boundary_longer {t} (alone none e is) some =
-      alone (begins_longer more (the "{") t none (λ empty. some (sym e ∙ empty)))
-      (ap (λ u. u ++ more) e) is
-  boundary_longer (before_count opened e b k is) some =
+  boundary_longer (alone none e is) comes =
+      alone (subst NoBraceComes (sym e) comes none) (ap (λ u. u ++ more) e) is
+  boundary_longer (before_count opened e b k is) comes =
       before_count (opened ++ more) (ap (λ u. u ++ more) e) (count_longer b)
       (ap (λ u. u ++ more) k) is
-  boundary_longer (named opened e b) some =
+  boundary_longer (named opened e b) comes =
       named (opened ++ more) (ap (λ u. u ++ more) e) (name_longer b)
 
   from_longer : (k : EscapeKind) (verbose : Bool) (t rest : Text) (p : Primitive)
-      → EscapeFrom k verbose t rest p → rest ≢ []
+      → EscapeFrom k verbose t rest p → NoBraceComes rest
       → EscapeFrom k verbose (t ++ more) (rest ++ more) p
-  from_longer (gives q) verbose t rest p d some = (ap (λ u. u ++ more) d.0, d.1)
-  from_longer word_boundary verbose t rest p d some = (d.0, boundary_longer d.1 some, d.2)
-  from_longer (hexadecimal n) verbose t rest p d some = (d.0, hexadecimal_longer d.1, d.2)
-  from_longer refused verbose t rest p d some = absurd d
+  from_longer (gives q) verbose t rest p d comes = (ap (λ u. u ++ more) d.0, d.1)
+  from_longer word_boundary verbose t rest p d comes = (d.0, boundary_longer d.1 comes, d.2)
+  from_longer (hexadecimal n) verbose t rest p d comes = (d.0, hexadecimal_longer d.1, d.2)
+  from_longer refused verbose t rest p d comes = absurd d
 
-  -- where something is left past it
+  -- where no brace comes to stand past it
   pub escape_longer : (verbose : Bool) (t rest : Text) (p : Primitive)
-      → Escape verbose t rest p → rest ≢ [] → Escape verbose (t ++ more) (rest ++ more) p
-  escape_longer verbose t rest p d some = record {
+      → Escape verbose t rest p → NoBraceComes rest → Escape verbose (t ++ more) (rest ++ more) p
+  escape_longer verbose t rest p d comes = record {
     first = d.first;
     past_first = d.past_first ++ more;
     begins = ap (λ u. u ++ more) d.begins;
-    goes_on = from_longer (escape_kind d.first) verbose d.past_first rest p d.goes_on some;
+    goes_on = from_longer (escape_kind d.first) verbose d.past_first rest p d.goes_on comes;
   }

@@ -1,6 +1,6 @@
 -- Gaps, and characters with gaps between them, in a longer text that begins with the text.
 use Rattle.std.proofs.Common.{inl, inr, ◌≡◌, ◌≢◌, refl, sym, ◌∙◌, ap, subst, ℕ, Bool}
-use Rattle.std.proofs.Common.{true, false, ◌==◌, [], ◌∷◌, ◌++◌}
+use Rattle.std.proofs.Common.{true, false, ◌==◌, [], ◌∷◌, ◌++◌, arith}
 use Rattle.std.proofs.lemmas.Bool.{both_ways, eqb-true, not_from_false}
 use Rattle.std.proofs.lemmas.List.{append-nil}
 use Rattle.regex_lite_syntax.specs.Text.{Text, Begins, the}
@@ -9,11 +9,15 @@ use Rattle.regex_lite_syntax.specs.Grammar.Gaps.{Gap, EndsGap, WholeGap, Spaced}
 use Rattle.regex_lite_syntax.proofs.ListLemmas.{same_head}
 use Rattle.regex_lite_syntax.proofs.grammar.GapLemmas.{empty_gap, gap_to_end}
 use Rattle.regex_lite_syntax.proofs.grammar.ScanLemmas.{Scan, scan_of_spacing, spacing_of_scan}
-use Rattle.regex_lite_syntax.proofs.grammar.SpacedLemmas.{whole_gap_leads}
+use Rattle.regex_lite_syntax.proofs.grammar.SpacedLemmas.{whole_gap_leads, printed_ends}
 
 -- more than a gap is left
 abbrev pub GoesOn : (verbose : Bool) → Text → Type 0
 GoesOn verbose t = Gap verbose t [] → ⊥
+
+-- a `?` ends a gap
+pub question_ends : (t : Text) → EndsGap true (the "?" ∷ t)
+question_ends t = printed_ends (the "?") t (omega arith) (omega arith)
 
 -- then something is left
 pub some_left : (verbose : Bool) (t : Text) → GoesOn verbose t → t ≢ []
@@ -141,6 +145,23 @@ module _ (more : Text) where
   pub begins_longer : (c : ℕ) (t : Text) → (Begins c t → ⊥) → t ≢ [] → Begins c (t ++ more) → ⊥
   begins_longer c [] none some = absurd (some refl)
   begins_longer c (d ∷ t) none some = none
+
+  -- with what follows, neither a `?` nor a brace comes to stand past the text where none did
+  pub record Settles (verbose : Bool) (t : Text) : Type 0 where
+    pub question : (Begins (the "?") t → ⊥) → Begins (the "?") (t ++ more) → ⊥
+    pub brace : (Begins (the "{") t → ⊥) → Begins (the "{") (t ++ more) → ⊥
+    pub past_gap : ((first : Text) → Gap verbose t (the "?" ∷ first) → ⊥)
+        → (first : Text) → Gap verbose (t ++ more) (the "?" ∷ first) → ⊥
+
+  -- so it is where more than a gap is left
+  pub settled : (verbose : Bool) (t : Text) → GoesOn verbose t → Settles verbose t
+  settled verbose t goes =
+      let some = some_left verbose t goes in
+      record {
+        question = λ none. begins_longer (the "?") t none some;
+        brace = λ none. begins_longer (the "{") t none some;
+        past_gap = no_gap_longer verbose t (the "?") question_ends goes;
+      }
 
   pub spaced_longer : (verbose : Bool) (kind : ℕ → Bool) (cs t rest : Text)
       → Spaced verbose kind cs t rest

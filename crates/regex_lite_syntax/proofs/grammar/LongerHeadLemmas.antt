@@ -5,7 +5,7 @@ use Rattle.std.proofs.lemmas.List.{append_cancel_right}
 use Rattle.regex_lite_syntax.specs.declared.flags.Flags.{Flags}
 use Rattle.regex_lite_syntax.specs.Text.{Text, the}
 use Rattle.regex_lite_syntax.specs.Characters.{is_digit}
-use Rattle.regex_lite_syntax.specs.Grammar.Gaps.{EndsGap, Spaced}
+use Rattle.regex_lite_syntax.specs.Grammar.Gaps.{Spaced}
 use Rattle.regex_lite_syntax.specs.Grammar.Counted.{WhiteSpace, Side, Number, Counted}
 use Rattle.regex_lite_syntax.specs.Grammar.Counted.{exactly, at_least, between}
 use Rattle.regex_lite_syntax.specs.Grammar.Operators.{Operator, uncounted, uncounted_lazy}
@@ -16,14 +16,8 @@ use Rattle.regex_lite_syntax.specs.Grammar.GroupNames.{Named}
 use Rattle.regex_lite_syntax.specs.Grammar.Points.{Point, onward}
 use Rattle.regex_lite_syntax.specs.Grammar.Heads.{GroupKind, Head, numbered, named, plain}
 use Rattle.regex_lite_syntax.specs.Grammar.Heads.{Directive, sets}
-use Rattle.regex_lite_syntax.proofs.grammar.LongerGapLemmas.{GoesOn, some_gap, some_left}
-use Rattle.regex_lite_syntax.proofs.grammar.LongerGapLemmas.{gap_longer, gap_before, begins_longer}
-use Rattle.regex_lite_syntax.proofs.grammar.LongerGapLemmas.{no_gap_longer, spaced_longer}
-use Rattle.regex_lite_syntax.proofs.grammar.SpacedLemmas.{printed_ends}
-
--- a `?` ends a gap
-question_ends : (t : Text) → EndsGap true (the "?" ∷ t)
-question_ends t = printed_ends (the "?") t (omega arith) (omega arith)
+use Rattle.regex_lite_syntax.proofs.grammar.LongerGapLemmas.{Settles, some_gap}
+use Rattle.regex_lite_syntax.proofs.grammar.LongerGapLemmas.{gap_longer, gap_before, spaced_longer}
 
 -- the same point of a longer pattern
 abbrev pub longer : (more : Text) → Point → Point
@@ -71,20 +65,18 @@ module _ (more : Text) where
   counted_longer (between past n k m order e) =
       between (past ++ more) n (number_longer k (λ e. cc e)) (number_longer m (λ e. cc e)) order e
 
-  -- an operator, past which more than a gap is left
+  -- an operator, past which nothing comes to stand that would belong to it
   pub operator_longer : {flags : Flags} {t rest : Text} {least : ℕ} {most : Option ℕ}
       {greedy : Bool} → Operator flags t rest least most greedy
-      → GoesOn flags.ignore_whitespace rest
+      → Settles more flags.ignore_whitespace rest
       → Operator flags (t ++ more) (rest ++ more) least most greedy
-  operator_longer {flags} {rest} (uncounted c e b n g) goes =
-      uncounted c (ap (λ u. u ++ more) e) b
-      (begins_longer more (the "?") rest n (some_left flags.ignore_whitespace rest goes)) g
-  operator_longer (uncounted_lazy c e b g) goes =
+  operator_longer (uncounted c e b n g) settles =
+      uncounted c (ap (λ u. u ++ more) e) b (settles.question n) g
+  operator_longer (uncounted_lazy c e b g) settles =
       uncounted_lazy c (ap (λ u. u ++ more) e) b g
-  operator_longer {flags} {rest} (counted opened e k n g) goes =
-      counted (opened ++ more) (ap (λ u. u ++ more) e) (counted_longer k)
-      (no_gap_longer more flags.ignore_whitespace rest (the "?") question_ends goes n) g
-  operator_longer {flags} {rest} (counted_lazy opened past e k q g) goes =
+  operator_longer (counted opened e k n g) settles =
+      counted (opened ++ more) (ap (λ u. u ++ more) e) (counted_longer k) (settles.past_gap n) g
+  operator_longer {flags} {rest} (counted_lazy opened past e k q g) settles =
       counted_lazy (opened ++ more) (past ++ more) (ap (λ u. u ++ more) e) (counted_longer k)
       (gap_before more flags.ignore_whitespace past rest _ q) g
 
@@ -118,16 +110,15 @@ module _ (more : Text) where
     called = written_longer n.called;
   }
 
-  -- a head, past which more than a gap is left
+  -- a head, past which no `?` comes to stand
   pub head_longer : {level : ℕ} {p q : Point} {kind : GroupKind} → Head level p q kind
-      → GoesOn q.flags.ignore_whitespace q.rest
+      → Settles more q.flags.ignore_whitespace q.rest
       → Head level (longer more p) (longer more q) kind
-  head_longer {p} (numbered rest e none h k) goes =
-      let here = subst (λ (x : Point). GoesOn x.flags.ignore_whitespace x.rest) h goes in
-      numbered (rest ++ more) (ap (λ u. u ++ more) e)
-      (no_gap_longer more p.flags.ignore_whitespace rest (the "?") question_ends here none)
+  head_longer (numbered rest e none h k) settles =
+      let here = subst (λ (x : Point). Settles more x.flags.ignore_whitespace x.rest) h settles in
+      numbered (rest ++ more) (ap (λ u. u ++ more) e) (here.past_gap none)
       (ap (longer more) h) k
-  head_longer {p} (named opened first rest name e g n h k) goes =
+  head_longer {p} (named opened first rest name e g n h k) settles =
       let question = some_named n in
       named (opened ++ more) (first ++ more) (rest ++ more) name (ap (λ u. u ++ more) e)
       (gap_longer more p.flags.ignore_whitespace opened first g question) (named_longer n)
@@ -139,7 +130,7 @@ module _ (more : Text) where
 
       some_named : {t rest name : Text} → Named t rest name → t ≢ []
       some_named n = some_opening n.opens
-  head_longer {p} (plain opened first rest new e g letters h k) goes =
+  head_longer {p} (plain opened first rest new e g letters h k) settles =
       plain (opened ++ more) (first ++ more) (rest ++ more) new (ap (λ u. u ++ more) e)
       (gap_before more p.flags.ignore_whitespace opened first _ g) (letters_longer letters)
       (ap (longer more) h) k

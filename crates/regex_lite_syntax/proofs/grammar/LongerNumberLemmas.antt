@@ -37,7 +37,7 @@ left_goes_on verbose t rest whole some =
     some
 
 -- where digits stand, something is left
-spaced_some : (verbose : Bool) (ds t rest : Text) → 0 < length ds
+pub spaced_some : (verbose : Bool) (ds t rest : Text) → 0 < length ds
     → Spaced verbose is_digit ds t rest → t ≢ []
 spaced_some verbose [] t rest some s = absurd (omega (arith, some))
 spaced_some verbose (d ∷ ds) t rest some s = some_gap verbose t s.0 d s.1
@@ -49,7 +49,7 @@ module _ (more : Text) where
   white_longer (c ∷ t) rest (inl w) some = inl (ap (λ u. u ++ more) w)
   white_longer (c ∷ t) rest (inr w) some = inr (w.0, white_longer t rest w.1 some)
 
-  side_longer : (verbose : Bool) (t rest : Text) → Side verbose t rest → rest ≢ []
+  pub side_longer : (verbose : Bool) (t rest : Text) → Side verbose t rest → rest ≢ []
       → Side verbose (t ++ more) (rest ++ more)
   side_longer true t rest side some = gap_longer more true t rest side some
   side_longer false t rest side some = white_longer t rest side some
@@ -60,7 +60,7 @@ module _ (more : Text) where
   ends_side_longer true (c ∷ t) ends some = ends
   ends_side_longer false (c ∷ t) ends some = ends
 
-  whole_side_longer : (verbose : Bool) (t rest : Text) → WholeSide verbose t rest → rest ≢ []
+  pub whole_side_longer : (verbose : Bool) (t rest : Text) → WholeSide verbose t rest → rest ≢ []
       → WholeSide verbose (t ++ more) (rest ++ more)
   whole_side_longer verbose t rest whole some =
       (side_longer verbose t rest whole.0 some, ends_side_longer verbose rest whole.1 some)
@@ -76,7 +76,7 @@ module _ (more : Text) where
       let head = same_head same in
       none w.first w.rest w.gap.0 (subst (λ d. IsTrue (is_digit d)) (sym head) digit)
 
-  digits_longer : {verbose : Bool} {read n : ℕ} {t u : Text} → DigitsRead verbose read t u n
+  pub digits_longer : {verbose : Bool} {read n : ℕ} {t u : Text} → DigitsRead verbose read t u n
       → DigitsRead verbose read (t ++ more) (u ++ more) n
   digits_longer {verbose} {read} {n} {t} {u} d = record {
     digits = d.digits;

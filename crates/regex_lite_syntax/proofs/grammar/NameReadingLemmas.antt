@@ -112,7 +112,9 @@ name_goes_on name longer c is continues going n =
       is_a_name = still_name name c n.is_a_name continues;
     })
 
-range_spelled : (t : Text) (at end : ℕ) → at ≤ end → drop at t ≡ slice_range t at end ++ drop end t
+-- the characters from one index to another stand there
+pub range_spelled : (t : Text) (at end : ℕ) → at ≤ end
+    → drop at t ≡ slice_range t at end ++ drop end t
 range_spelled t at end inside =
     subst (λ i. drop at t ≡ slice_range t at end ++ drop i t) (omega arith)
     (subst (λ u. drop at t ≡ slice_range t at end ++ u) (drop-drop (end - at) at t)

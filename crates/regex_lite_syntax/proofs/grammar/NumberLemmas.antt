@@ -29,7 +29,7 @@ white_once (c ∷ t) u v (inr w) (inl x) ue ve =
     absurd (both_ways (is_white_space c) (not-true _ ends) w.0)
 white_once (c ∷ t) u v (inr w) (inr x) ue ve = white_once t u v w.1 x.1 ue ve
 
-empty_white : (t : Text) → WhiteSpace t t
+pub empty_white : (t : Text) → WhiteSpace t t
 empty_white [] = refl
 empty_white (c ∷ t) = inl refl
 
@@ -64,7 +64,8 @@ blank_on : (t u v : Text) → Spacing t u → Spacing u v → Spacing t v
 blank_on t u v (no_more e) d = subst (λ w. Spacing w v) (sym e) d
 blank_on t u v (further past piece more) d = further past piece (blank_on past u v more d)
 
-side_on : (verbose : Bool) (t u v : Text) → Side verbose t u → Gap verbose u v → Side verbose t v
+pub side_on : (verbose : Bool) (t u v : Text) → Side verbose t u → Gap verbose u v
+    → Side verbose t v
 side_on true t u v side gap = blank_on t u v side gap
 side_on false t u v side gap = subst (λ w. WhiteSpace t w) (sym gap) side
 
@@ -186,7 +187,8 @@ digit_read {verbose} {read} {read'} {n} {m} {v} {t} {u} {past} d (c, gap, digit,
 }
 
 -- a number begins with the digits that have been read
-number_begins : {verbose : Bool} {read n m : ℕ} {t first u rest : Text} → WholeSide verbose t first
+pub number_begins : {verbose : Bool} {read n m : ℕ} {t first u rest : Text}
+    → WholeSide verbose t first
     → DigitsRead verbose read first u n → (p : Number verbose t rest m) → EndsNumber rest
     → (more : Text) × Spaced verbose is_digit more u p.last
     × (m ≡ fold (λ n d. n * 10 + digit_value d) n more)
@@ -226,18 +228,20 @@ no_number {verbose} {m} {t} {rest} first whole none p =
 
 pub number_read : {verbose : Bool} {read n : ℕ} {t first u rest : Text} → WholeSide verbose t first
     → DigitsRead verbose read first u n → 0 < read → WholeSide verbose u rest → n < 2 ^ 32
-    → Number verbose t rest n
-number_read {verbose} {read} {n} {t} {first} {u} {rest} before d some after small = record {
-  first = first;
-  last = u;
-  digits = d.digits;
-  before = before.0;
-  written = d.written;
-  after = after.0;
-  some = d.some some;
-  value = d.value;
-  in_range = small;
-}
+    → (p : Number verbose t rest n) × (p.last ≡ u)
+number_read {verbose} {read} {n} {t} {first} {u} {rest} before d some after small =
+    let number : Number verbose t rest n = record {
+      first = first;
+      last = u;
+      digits = d.digits;
+      before = before.0;
+      written = d.written;
+      after = after.0;
+      some = d.some some;
+      value = d.value;
+      in_range = small;
+    } in
+    (number, refl)
 
 -- where all digits have been read, no other number stands there
 pub number_only : {verbose : Bool} {read n m : ℕ} {t first u rest rest' : Text}

@@ -31,7 +31,7 @@ use Rattle.regex_lite_syntax.specs.Parser.Starts.{Tracks}
 use Rattle.regex_lite_syntax.specs.Parser.States.{state, StepsTo, CanRead, BeginsTooMany}
 use Rattle.regex_lite_syntax.proofs.ListLemmas.{same_tail}
 use Rattle.regex_lite_syntax.proofs.grammar.GapLemmas.{whole_gap_once, gap_to_end}
-use Rattle.regex_lite_syntax.proofs.grammar.LongerGapLemmas.{whole_longer}
+use Rattle.regex_lite_syntax.proofs.grammar.LongerGapLemmas.{settled, whole_longer}
 use Rattle.regex_lite_syntax.proofs.machine.LongerRunLemmas.{leads_longer}
 use Rattle.regex_lite_syntax.proofs.machine.OneStepLemmas.{step_over_gap, step_past_gap}
 use Rattle.regex_lite_syntax.proofs.machine.OneStepLemmas.{leads_step}
@@ -238,7 +238,9 @@ stuck_for_good flags pattern p t u starts c whole some stuck more has =
     let longer = whole_longer more verbose t u whole some in
     let comes : Reaches flags c.deepest (pattern ++ more) p (t ++ more) = record {
       deepest = c.deepest;
-      leads = leads_longer more c.leads (λ gap. some (gap_to_end verbose t u whole gap));
+      leads =
+          leads_longer more c.leads
+          (settled more verbose t (λ gap. some (gap_to_end verbose t u whole gap)));
       within = omega arith;
       differ = c.differ;
       characters = has.1.2.characters;

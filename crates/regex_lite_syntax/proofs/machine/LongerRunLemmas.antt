@@ -13,8 +13,8 @@ use Rattle.regex_lite_syntax.specs.Parser.Machine.{with_items, Kind, stop, paren
 use Rattle.regex_lite_syntax.specs.Parser.Machine.{operator, atom, kind_at, Does, Step}
 use Rattle.regex_lite_syntax.specs.Parser.Machine.{LeadsOn, stay, go}
 use Rattle.regex_lite_syntax.proofs.grammar.LongerClassLemmas.{class_longer}
-use Rattle.regex_lite_syntax.proofs.grammar.LongerEscapeLemmas.{escape_longer}
-use Rattle.regex_lite_syntax.proofs.grammar.LongerGapLemmas.{GoesOn, some_left}
+use Rattle.regex_lite_syntax.proofs.grammar.LongerEscapeLemmas.{NoBraceComes, escape_longer}
+use Rattle.regex_lite_syntax.proofs.grammar.LongerGapLemmas.{GoesOn, Settles, settled}
 use Rattle.regex_lite_syntax.proofs.grammar.LongerGapLemmas.{whole_longer}
 use Rattle.regex_lite_syntax.proofs.grammar.LongerHeadLemmas.{longer, operator_longer}
 use Rattle.regex_lite_syntax.proofs.grammar.LongerHeadLemmas.{head_longer, directive_longer}
@@ -24,21 +24,22 @@ use Rattle.regex_lite_syntax.proofs.machine.SoundLemmas.{leads_keeps, stands_fir
 
 module _ (more : Text) where
   atom_from : (k : AtomKind) (flags : Flags) (t past rest : Text) (a : Tree)
-      → AtomFrom k flags t past rest a → rest ≢ []
+      → AtomFrom k flags t past rest a → NoBraceComes more rest
       → AtomFrom k flags (t ++ more) (past ++ more) (rest ++ more) a
-  atom_from (single p) flags t past rest a d some = (ap (λ u. u ++ more) d.0, d.1)
-  atom_from escape flags t past rest a d some =
-      (d.0, escape_longer more flags.ignore_whitespace past rest d.0 d.1 some, d.2)
-  atom_from bracketed flags t past rest a d some = (d.0, class_longer more d.1, d.2)
-  atom_from no_atom flags t past rest a d some = absurd d
+  atom_from (single p) flags t past rest a d comes = (ap (λ u. u ++ more) d.0, d.1)
+  atom_from escape flags t past rest a d comes =
+      (d.0, escape_longer more flags.ignore_whitespace past rest d.0 d.1 comes, d.2)
+  atom_from bracketed flags t past rest a d comes = (d.0, class_longer more d.1, d.2)
+  atom_from no_atom flags t past rest a d comes = absurd d
 
-  pub atom_longer : (flags : Flags) (t rest : Text) (a : Tree) → Atom flags t rest a → rest ≢ []
+  pub atom_longer : (flags : Flags) (t rest : Text) (a : Tree) → Atom flags t rest a
+      → NoBraceComes more rest
       → Atom flags (t ++ more) (rest ++ more) a
-  atom_longer flags t rest a d some = record {
+  atom_longer flags t rest a d comes = record {
     first = d.first;
     past_first = d.past_first ++ more;
     begins = ap (λ u. u ++ more) d.begins;
-    goes_on = atom_from (atom_kind flags d.first) flags t d.past_first rest a d.goes_on some;
+    goes_on = atom_from (atom_kind flags d.first) flags t d.past_first rest a d.goes_on comes;
   }
 
   -- the same state before a longer rest of the pattern
@@ -46,22 +47,24 @@ module _ (more : Text) where
   longer_state s = record s { point = longer more s.point }
 
   does_longer : (k : Kind) (s : State) (p : Point) (q : State) → Does k s p q
-      → GoesOn q.point.flags.ignore_whitespace q.point.rest
+      → Settles more q.point.flags.ignore_whitespace q.point.rest
       → Does k (longer_state s) (longer more p) (longer_state q)
   unfolding opened closed parted with_items
-  does_longer stop s p q d goes = absurd d
-  does_longer paren s p q (inl d) goes =
+  does_longer stop s p q d settles = absurd d
+  does_longer paren s p q (inl d) settles =
       let here =
-      subst (λ (x : State). GoesOn x.point.flags.ignore_whitespace x.point.rest) d.3 goes in
+      subst (λ (x : State). Settles more x.point.flags.ignore_whitespace x.point.rest) d.3
+      settles in
       inl (longer more d.0, d.1, head_longer more d.2 here, ap longer_state d.3)
-  does_longer paren s p q (inr d) goes =
+  does_longer paren s p q (inr d) settles =
       inr (longer more d.0, directive_longer more d.1, ap longer_state d.2)
-  does_longer closing s p q d goes =
+  does_longer closing s p q d settles =
       (d.0 ++ more, d.1, d.2, ap (λ u. u ++ more) d.3, d.4, ap longer_state d.5)
-  does_longer bar s p q d goes = (d.0 ++ more, ap (λ u. u ++ more) d.1, ap longer_state d.2)
-  does_longer operator s p q d goes =
+  does_longer bar s p q d settles = (d.0 ++ more, ap (λ u. u ++ more) d.1, ap longer_state d.2)
+  does_longer operator s p q d settles =
       let here =
-      subst (λ (x : State). GoesOn x.point.flags.ignore_whitespace x.point.rest) d.8 goes in (
+      subst (λ (x : State). Settles more x.point.flags.ignore_whitespace x.point.rest) d.8
+      settles in (
         d.0 ++ more,
         d.1,
         d.2,
@@ -72,12 +75,13 @@ module _ (more : Text) where
         operator_longer more d.7 here,
         ap longer_state d.8,
       )
-  does_longer atom s p q d goes =
+  does_longer atom s p q d settles =
       let here =
-      subst (λ (x : State). GoesOn x.point.flags.ignore_whitespace x.point.rest) d.3 goes in (
+      subst (λ (x : State). Settles more x.point.flags.ignore_whitespace x.point.rest) d.3
+      settles in (
         d.0 ++ more,
         d.1,
-        atom_longer p.flags p.rest d.0 d.1 d.2 (some_left p.flags.ignore_whitespace d.0 here),
+        atom_longer p.flags p.rest d.0 d.1 d.2 here.brace,
         ap longer_state d.3,
       )
 
@@ -85,10 +89,11 @@ module _ (more : Text) where
   kind_longer [] some = absurd (some refl)
   kind_longer (c ∷ t) some = refl
 
-  -- a step, past which more than a gap is left
-  pub step_longer : {s q : State} → Step s q → GoesOn q.point.flags.ignore_whitespace q.point.rest
+  -- a step, past which nothing comes to stand that would belong to it
+  pub step_longer : {s q : State} → Step s q
+      → Settles more q.point.flags.ignore_whitespace q.point.rest
       → Step (longer_state s) (longer_state q)
-  step_longer {s} {q} st goes =
+  step_longer {s} {q} st settles =
       let verbose = s.point.flags.ignore_whitespace in
       let p = st.past in
       let whole =
@@ -100,7 +105,7 @@ module _ (more : Text) where
         does =
             subst (λ k. Does k (longer_state s) (longer more p) (longer_state q))
             (sym (kind_longer p.rest (some_past st)))
-            (does_longer (kind_at p.rest) s p q st.does goes);
+            (does_longer (kind_at p.rest) s p q st.does settles);
       }
     where
       some_past : (st : Step s q) → st.past.rest ≢ []
@@ -111,17 +116,19 @@ module _ (more : Text) where
   goes_before {s} {q} st g = at_end s q g st
 
   pub leads_longer : {s q : State} → LeadsOn s q
-      → GoesOn q.point.flags.ignore_whitespace q.point.rest
+      → Settles more q.point.flags.ignore_whitespace q.point.rest
       → LeadsOn (longer_state s) (longer_state q)
-  leads_longer (stay e) goes = stay (ap longer_state e)
-  leads_longer {s} {q} (go m st l) goes =
-      go (longer_state m) (step_longer st (left l goes)) (leads_longer l goes)
+  leads_longer (stay e) settles = stay (ap longer_state e)
+  leads_longer {s} {q} (go m st l) settles =
+      go (longer_state m) (step_longer st (left l)) (leads_longer l settles)
     where
-      left : {m : State} → LeadsOn m q → GoesOn q.point.flags.ignore_whitespace q.point.rest
-          → GoesOn m.point.flags.ignore_whitespace m.point.rest
-      left (stay e) goes =
-          subst (λ (x : State). GoesOn x.point.flags.ignore_whitespace x.point.rest) (sym e) goes
-      left (go n st' l') goes = goes_before st'
+      left : {m : State} → LeadsOn m q
+          → Settles more m.point.flags.ignore_whitespace m.point.rest
+      left (stay e) =
+          subst (λ (x : State). Settles more x.point.flags.ignore_whitespace x.point.rest) (sym e)
+          settles
+      left {m} (go n st' l') =
+          settled more m.point.flags.ignore_whitespace m.point.rest (goes_before st')
 
 -- what is read of a pattern, but for more than a gap, is read of each that begins with it
 pub read_longer : (flags : Flags) (pattern more : Text) (q : Point) → IsReadTo flags pattern q
@@ -129,7 +136,7 @@ pub read_longer : (flags : Flags) (pattern more : Text) (q : Point) → IsReadTo
     → IsReadTo flags (pattern ++ more) (longer more q)
 read_longer flags pattern more q read goes =
     let r = runs_of read.reads in
-    let l = leads_longer more r.leads goes in
+    let l = leads_longer more r.leads (settled more q.flags.ignore_whitespace q.rest goes) in
     let begin = start flags (pattern ++ more) in
     let on = leads_keeps begin _ _ l [] (stands_first flags (pattern ++ more)) in
     record { level = _; reads = reads_of begin on.0 _ on.1; names_differ = read.names_differ }

@@ -36,7 +36,7 @@ use Rattle.regex_lite_syntax.specs.Grammar.GroupNames.{NameOpening, with_p, with
 abbrev pub parens : Text → ℕ
 parens t = count_by (λ c. c == the "(") t
 
-parens_more : (c : ℕ) (rest : Text)
+pub parens_more : (c : ℕ) (rest : Text)
     → parens (c ∷ rest) ≡ (if c == the "(" then 1 else 0) + parens rest
 parens_more c rest = sum_by-cons (λ d. if d == the "(" then 1 else 0) c rest
 
@@ -204,7 +204,8 @@ named_class_reads {t} {rest} {negated} n =
     (spelled_reads n.name n.begin n.end n.written) in
     then_read opens (then_read name (then_read (one_read n.closes) (past_first _ rest)))
 
-item_reads : {verbose : Bool} {t rest : Text} {s : Set} → ClassItem verbose t rest s → NoMore t rest
+pub item_reads : {verbose : Bool} {t rest : Text} {s : Set} → ClassItem verbose t rest s
+    → NoMore t rest
 item_reads (named_class negated set n is) = named_class_reads n
 item_reads {verbose} {t} {rest} (character c i p o is) = part_reads verbose t rest _ p
 item_reads {verbose} {t} {rest} (escaped_set set i p o is) = part_reads verbose t rest _ p
@@ -237,7 +238,7 @@ items_read verbose (s ∷ sets) t rest d =
     let first = then_read (item_reads d.2) (gap_reads verbose d.0 d.1 d.3.0) in
     then_read first (items_read verbose sets d.1 rest d.4)
 
-opening_read : {verbose : Bool} {t rest : Text} {negated dash bracket : Bool}
+pub opening_read : {verbose : Bool} {t rest : Text} {negated dash bracket : Bool}
     → ClassOpening verbose t rest negated dash bracket
     → NoMore t rest
 opening_read {verbose} {t} {rest} {negated} {dash} {bracket} o =

@@ -113,7 +113,7 @@ begins_named p t begun first rest name e whole named = (
 )
 
 -- before a `?`, and so before what opens a name, the gap of a longer text ends too
-longer_question : (more : Text) (verbose : Bool) (begun u first : Text)
+pub longer_question : (more : Text) (verbose : Bool) (begun u first : Text)
     → WholeGap verbose begun u → u ≡ the "?" ∷ first
     → WholeGap verbose (begun ++ more) (the "?" ∷ (first ++ more))
 longer_question more verbose begun u first whole e =

@@ -7,10 +7,7 @@ use Rattle.regex_lite_syntax.specs.declared.flags.Flags.{Flags}
 use Rattle.regex_lite_syntax.specs.Text.{Text}
 use Rattle.regex_lite_syntax.specs.Characters.{is_character, is_letter, AreCharacters}
 use Rattle.regex_lite_syntax.specs.Sets.{Set, just, case_closure}
-use Rattle.regex_lite_syntax.specs.Grammar.Escapes.{Primitive, one, some_of, look_at, EscapeKind}
-use Rattle.regex_lite_syntax.specs.Grammar.Escapes.{gives, word_boundary, hexadecimal, refused}
-use Rattle.regex_lite_syntax.specs.Grammar.Escapes.{escape_kind, Hexadecimal, fixed, braced}
-use Rattle.regex_lite_syntax.specs.Grammar.Escapes.{EscapeFrom, Escape}
+use Rattle.regex_lite_syntax.specs.Grammar.Escapes.{Primitive, one, some_of, look_at}
 use Rattle.regex_lite_syntax.specs.Tree.{Tree, character, trees, sequence_of, choice_of, repeated}
 use Rattle.regex_lite_syntax.specs.Grammar.Counted.{Counted}
 use Rattle.regex_lite_syntax.specs.Grammar.Operators.{times, Operator, uncounted}
@@ -25,6 +22,7 @@ use Rattle.regex_lite_syntax.specs.Grammar.{Item, atom, group, Branch, nothing, 
 use Rattle.regex_lite_syntax.specs.Grammar.{directive, Alternatives, only, further, Grammar}
 use Rattle.regex_lite_syntax.specs.Grammar.Branch.{operator}
 use Rattle.regex_lite_syntax.specs.Tree.Regular.{InOrder, IsRegular, AreRegular}
+use Rattle.regex_lite_syntax.proofs.grammar.ClassCharacterLemmas.{OfCharacters, escape_gives}
 use Rattle.regex_lite_syntax.proofs.grammar.CountLemmas.{counted_in_order}
 use Rattle.regex_lite_syntax.proofs.machine.ParenLemmas.{operator_reads, atom_reads}
 use Rattle.regex_lite_syntax.proofs.machine.GrowthLemmas.{head_takes, directive_reads}
@@ -135,37 +133,11 @@ primitive_regular flags (one c) a is of =
 primitive_regular flags (some_of s) a is of = class_regular s a of
 primitive_regular flags (look_at test) a is of = subst (λ x. IsRegular x) (sym of) tt
 
--- what an escape names is a character
-abbrev EscapeNames : EscapeKind → Type 0
-EscapeNames (gives p) = Names p
-EscapeNames word_boundary = Unit {0}
-EscapeNames (hexadecimal n) = Unit {0}
-EscapeNames refused = Unit {0}
-
-escape_kind_names : (c : ℕ) → IsTrue (is_character c) → EscapeNames (escape_kind c)
-escape_kind_names c is = search rules
-
-hexadecimal_names : {verbose : Bool} {n : ℕ} {t rest : Text} {c : ℕ}
-    → Hexadecimal verbose n t rest c
-    → IsTrue (is_character c)
-hexadecimal_names (fixed d) = subst (λ c. IsTrue (is_character c)) (sym d.value) d.scalar
-hexadecimal_names (braced opened g d) = subst (λ c. IsTrue (is_character c)) (sym d.value) d.scalar
-
-escape_from_names : (k : EscapeKind) (verbose : Bool) (t rest : Text) (p : Primitive)
-    → EscapeNames k
-    → EscapeFrom k verbose t rest p → Names p
-escape_from_names (gives q) verbose t rest p is d = subst (λ x. Names x) (sym d.1) is
-escape_from_names word_boundary verbose t rest p is d = subst (λ x. Names x) (sym d.2) tt
-escape_from_names (hexadecimal n) verbose t rest p is d =
-    subst (λ x. Names x) (sym d.2) (hexadecimal_names d.1)
-escape_from_names refused verbose t rest p is d = absurd d
-
-escape_names : (verbose : Bool) (t rest : Text) (p : Primitive) → AreCharacters t
-    → Escape verbose t rest p → Names p
-escape_names verbose t rest p all d =
-    let first = (subst (λ u. AreCharacters u) d.begins all).0 in
-    escape_from_names (escape_kind d.first) verbose d.past_first rest p
-    (escape_kind_names d.first first) d.goes_on
+-- one that stands for characters does
+names_one : (p : Primitive) → OfCharacters p → Names p
+names_one (one c) of = of
+names_one (some_of s) of = tt
+names_one (look_at test) of = tt
 
 -- what an item of one character names is a character
 abbrev AtomNames : AtomKind → Type 0
@@ -178,21 +150,20 @@ atom_kind_names : (flags : Flags) (c : ℕ) → IsTrue (is_character c) → Atom
 atom_kind_names flags c is = search rules
 
 atom_from_regular : (k : AtomKind) (flags : Flags) (t past rest : Text) (a : Tree) → AtomNames k
-    → AreCharacters past
     → AtomFrom k flags t past rest a → IsRegular a
-atom_from_regular (single p) flags t past rest a is all d = primitive_regular flags p a is d.1
-atom_from_regular escape flags t past rest a is all d =
-    primitive_regular flags d.0 a (escape_names flags.ignore_whitespace past rest d.0 all d.1) d.2
-atom_from_regular bracketed flags t past rest a is all d = class_regular d.0 a d.2
-atom_from_regular no_atom flags t past rest a is all d = absurd d
+atom_from_regular (single p) flags t past rest a is d = primitive_regular flags p a is d.1
+atom_from_regular escape flags t past rest a is d =
+    let gives = escape_gives flags.ignore_whitespace past rest d.0 d.1 in
+    primitive_regular flags d.0 a (names_one d.0 gives) d.2
+atom_from_regular bracketed flags t past rest a is d = class_regular d.0 a d.2
+atom_from_regular no_atom flags t past rest a is d = absurd d
 
 pub atom_regular : (flags : Flags) (t rest : Text) (a : Tree) → AreCharacters t
     → Atom flags t rest a → IsRegular a
 atom_regular flags t rest a all d =
-    let split = subst (λ u. AreCharacters u) d.begins all in
+    let first = (subst (λ u. AreCharacters u) d.begins all).0 in
     atom_from_regular (atom_kind flags d.first) flags t d.past_first rest a
-    (atom_kind_names flags d.first split.0)
-    split.1 d.goes_on
+    (atom_kind_names flags d.first first) d.goes_on
 
 -- the trees are regular, and what is left are characters
 abbrev RegularTo : List Tree → Point → Type 0

@@ -2,4 +2,8 @@
 pub mod ClassItemLemmas
 pub mod ClassOpeningLemmas
 pub mod ClassSetLemmas
+pub mod CompletedClassLemmas
+pub mod CompletedItemLemmas
+pub mod CompletedNameLemmas
 pub mod LongerItemLemmas
+pub mod SetNameLemmas

@@ -1,2 +1,7 @@
 -- lemmas that several proofs here share
 pub mod DigitLemmas
+pub mod ReachLemmas
+pub mod CompletedDigitLemmas
+pub mod EndLemmas
+pub mod NameEndLemmas
+pub mod BoundaryNameLemmas

@@ -1,4 +1,5 @@
 -- lemmas that several proofs here share
+pub mod CompletedFlagLemmas
 pub mod FlagRunLemmas
 pub mod SliceLemmas
 pub mod WholeFlagLemmas

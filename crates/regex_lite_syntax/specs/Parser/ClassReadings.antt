@@ -1,5 +1,6 @@
 -- What the readers of a class give, as what the grammar gives.
-use Rattle.std.specs.Prelude.{◌≡◌, ◌≤◌, ℕ, Bool, false, List, [], ◌∷◌, IsTrue, codes}
+use Rattle.std.specs.Prelude.{◌≡◌, ◌≤◌, ℕ, Bool, true, false, ◌&&◌, ◌==◌}
+use Rattle.std.specs.Prelude.{List, [], ◌∷◌, IsTrue, codes}
 use Rattle.regex_lite_syntax.specs.declared.class.named.NamedSet.{NamedSet}
 use Rattle.regex_lite_syntax.specs.declared.class.named.NamedSet.TheVariants.{Alnum, Alpha, Ascii}
 use Rattle.regex_lite_syntax.specs.declared.class.named.NamedSet.TheVariants.{Blank, Cntrl, Digit}
@@ -68,6 +69,12 @@ HasItems verbose t =
 abbrev pub Lacks : (kind : ℕ → Bool) → Text → Type 0
 Lacks kind [] = Unit {0}
 Lacks kind (c ∷ t) = kind c ≡ false
+
+-- the second text begins with the first
+abbrev pub is_beginning : Text → Text → Bool
+is_beginning [] u = true
+is_beginning (c ∷ t) (d ∷ u) = c == d && is_beginning t u
+is_beginning _ _ = false
 
 -- the name of each set that has one
 abbrev pub set_name : NamedSet → Text

@@ -1,5 +1,5 @@
 -- What the readers give, as what the grammar gives.
-use Rattle.std.specs.Prelude.{Bool, if◌then◌else◌}
+use Rattle.std.specs.Prelude.{ℕ, ◌≤◌, Bool, Option, Some, None, if◌then◌else◌}
 use Rattle.regex_lite_syntax.specs.declared.parse.escape.Primitive.{Primitive as Read}
 use Rattle.regex_lite_syntax.specs.declared.parse.escape.Primitive.TheVariants as read
 use Rattle.regex_lite_syntax.specs.declared.parse.escape.Meaning.{Meaning}
@@ -27,3 +27,13 @@ escape_kind_of (meaning.Gives primitive) = gives (primitive_of primitive)
 escape_kind_of meaning.WordBoundary = word_boundary
 escape_kind_of (meaning.Hexadecimal digits) = hexadecimal digits
 escape_kind_of meaning.Refused = refused
+
+-- a character from this one on, or no character
+abbrev pub ReachesTo : (least : ℕ) → Primitive → Type 0
+ReachesTo least (one c) = least ≤ c
+ReachesTo least _ = Unit {0}
+
+-- no limit, or one that is not below this number
+abbrev pub IsNotBelow : (least : ℕ) → (most : Option ℕ) → Type 0
+IsNotBelow least None = Unit {0}
+IsNotBelow least (Some n) = least ≤ n

@@ -10,7 +10,8 @@ use Rattle.regex_lite_syntax.specs.declared.parse.level.GroupKind.TheVariants.{
   Capturing,
 }
 use Rattle.regex_lite_syntax.specs.declared.parse.Parser.{Parser}
-use Rattle.regex_lite_syntax.specs.Text.{Text}
+use Rattle.regex_lite_syntax.specs.Text.{Text, the}
+use Rattle.regex_lite_syntax.specs.Characters.{AreCharacters}
 use Rattle.regex_lite_syntax.specs.Tree.{Tree, choice_of}
 use Rattle.regex_lite_syntax.specs.Grammar.GroupNames.{NamesDiffer}
 use Rattle.regex_lite_syntax.specs.Grammar.Points.{Point, onward}
@@ -68,6 +69,12 @@ pub record Advances (before after : Parser) (pattern : Text) (at next : ℕ) : T
 -- the machine has a step where the parser stands before t, after which no name stands twice
 abbrev pub CanRead : Parser → Text → Type 0
 CanRead p t = (d : ℕ) × (q : State) × Step (state p t d) q × NamesDiffer q.point.names
+
+-- with more of the pattern past t the machine has a step where the parser stands, past which a `_`
+-- alone is left
+abbrev pub CanReadOn : Parser → Text → Type 0
+CanReadOn p t = (d : ℕ) → (more : Text) × (q : State) × AreCharacters more
+    × FreshStep (state p (t ++ more) d) q × (q.point.rest ≡ the "_" ∷ [])
 
 -- a group that is numbered begins where the parser stands before t
 abbrev pub BeginsCapture : Parser → Text → Type 0

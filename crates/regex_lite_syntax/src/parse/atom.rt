@@ -1,7 +1,7 @@
 //! Items that are no groups.
 ghost use Rattle.std.specs.Prelude.{◌≡◌, ◌<◌, ◌≤◌, drop, length, IsTrue, IfOk, IfErr};
 ghost use Rattle.regex_lite_syntax.specs.Text.{Text};
-ghost use Rattle.regex_lite_syntax.specs.Characters.{is_letter};
+ghost use Rattle.regex_lite_syntax.specs.Characters.{is_letter, AreCharacters};
 ghost use Rattle.regex_lite_syntax.specs.Sets.{just, case_closure};
 ghost use Rattle.regex_lite_syntax.specs.Grammar.Gaps.{EndsGap};
 ghost use Rattle.regex_lite_syntax.specs.Ranges.{AreRunsOf};
@@ -9,7 +9,7 @@ ghost use Rattle.regex_lite_syntax.specs.Grammar.Escapes.{one};
 ghost use Rattle.regex_lite_syntax.specs.Tree.{Tree};
 ghost use Rattle.regex_lite_syntax.specs.Grammar.Atoms.{dot, anchor, PrimitiveTree, Atom};
 ghost use Rattle.regex_lite_syntax.specs.Parser.Machine.{BeginsAtom};
-ghost use Rattle.regex_lite_syntax.specs.Refusals.{Denies};
+ghost use Rattle.regex_lite_syntax.specs.Refusals.{Denies, Completable, IfCutShort};
 ghost use Rattle.regex_lite_syntax.specs.Parser.Readings.{primitive_of};
 ghost use Rattle.regex_lite_syntax.specs.Tree.Views.{tree_of};
 
@@ -33,11 +33,14 @@ pub(crate) fn read_atom(
     requires inside { at < length chars.now }
     requires past_gap { EndsGap flags.ignore_whitespace (drop at chars.now) }
     requires begins { BeginsAtom (drop at chars.now) }
+    requires characters { AreCharacters chars.now }
     ensures inside { IfOk result (λ r. (at < r.0) × (r.0 ≤ length chars.now)) }
     ensures ok { IfOk result (λ r.
         Atom flags (drop at chars.now) (drop r.0 chars.now) (tree_of r.1)) }
     ensures refused { IfErr result (λ error. Denies error
         (λ t. (rest : Text) × (a : Tree) × Atom flags t rest a) (drop at chars.now)) }
+    ensures completes { IfErr result (λ error. IfCutShort error (Completable
+        (λ t rest. (a : Tree) × Atom flags t rest a) (drop at chars.now))) }
 {
     let verbose = flags.ignore_whitespace;
     match chars[at] {
@@ -51,7 +54,7 @@ pub(crate) fn read_atom(
             Ok((at + 1, Hir::Look(look)))
         }
         '\\' => {
-            let (end, primitive) = read_escape(chars, at + 1, verbose)?;
+            let (end, primitive) = read_escape(chars, at + 1, verbose, '\0')?;
             Ok((end, piece_tree(alloc, flags, primitive)?))
         }
         '[' => {

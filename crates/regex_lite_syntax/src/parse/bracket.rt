@@ -6,7 +6,7 @@ ghost use Rattle.regex_lite_syntax.specs.Grammar.Gaps.{EndsGap};
 ghost use Rattle.regex_lite_syntax.specs.Sets.{Set, union};
 ghost use Rattle.regex_lite_syntax.specs.Ranges.{in_ranges, AreRuns};
 ghost use Rattle.regex_lite_syntax.specs.Grammar.Classes.{ClassItems, BracketedClass};
-ghost use Rattle.regex_lite_syntax.specs.Refusals.{Denies};
+ghost use Rattle.regex_lite_syntax.specs.Refusals.{Denies, Completable, IfCutShort};
 
 mod item;
 mod named;
@@ -14,7 +14,7 @@ mod opening;
 mod set;
 
 use crate::class::{Class, ClassRange};
-use crate::error::{Error, SyntaxFault};
+use crate::error::{Error, SyntaxFault, UnexpectedEof};
 use crate::parse::gap::skip_gap;
 use crate::parse::read::is_at;
 use item::read_item;
@@ -39,6 +39,9 @@ pub(crate) fn read_class(
     ensures refused { IfErr result (λ error. Denies error
         (λ t. (rest : Text) × (s : Set) × BracketedClass insensitive verbose t rest s)
         (drop at chars.now)) }
+    ensures completes { IfErr result (λ error. IfCutShort error (Completable
+        (λ t rest. (s : Set) × BracketedClass insensitive verbose t rest s)
+        (drop at chars.now))) }
 {
     let (start, opening) = read_opening(chars, at, verbose);
     if start == chars.len() {
@@ -69,11 +72,13 @@ fn read_items(
     ensures refused { IfErr result (λ error. Denies error
         (λ t. (rest : Text) × (sets : List Set) × ClassItems verbose sets t rest)
         (drop at chars.now)) }
+    ensures completes { IfErr result (λ error. IfCutShort error (Completable
+        (λ t rest. (sets : List Set) × ClassItems verbose sets t rest) (drop at chars.now))) }
 {
     let mut end = at;
     'items: while !is_at(chars, end, ']') {
         if end == chars.len() {
-            return Err(SyntaxFault::ClassUnclosed.into());
+            return Err(SyntaxFault::CutShort(UnexpectedEof::Class).into());
         }
         let (past, item) = read_item(chars, end, verbose)?;
         push_item(alloc, ranges, item)?;

@@ -1,14 +1,17 @@
 //! Counted operators: how often they repeat, in braces.
-ghost use Rattle.std.specs.Prelude.{◌≡◌, ℕ, ◌+◌, ◌*◌, ◌^◌, ◌<◌, ◌≤◌, [], ◌∷◌, ◌++◌, drop, length};
+ghost use Rattle.std.specs.Prelude.{◌≡◌, ◌↔◌, ℕ, ◌+◌, ◌-◌, ◌*◌, ◌^◌, ◌<◌, ◌≤◌};
+ghost use Rattle.std.specs.Prelude.{[], ◌∷◌, ◌++◌, drop, length};
 ghost use Rattle.std.specs.Prelude.{Option, IsTrue, IfOk, IfSome, IfNone, SomeIff, IfErr};
 ghost use Rattle.regex_lite_syntax.specs.Text.{Text};
 ghost use Rattle.regex_lite_syntax.specs.Characters.{is_digit, digit_value};
 ghost use Rattle.regex_lite_syntax.specs.Grammar.Gaps.{Gap};
 ghost use Rattle.regex_lite_syntax.specs.Grammar.Counted.{WholeSide, Number};
 ghost use Rattle.regex_lite_syntax.specs.Grammar.Counted.{EndsNumber, Limit, Counted};
-ghost use Rattle.regex_lite_syntax.specs.Refusals.{NoReading};
+ghost use Rattle.regex_lite_syntax.specs.Parser.Readings.{IsNotBelow};
+ghost use Rattle.regex_lite_syntax.specs.Parser.Numbers.{GrowsTo, Becomes, CanReach};
+ghost use Rattle.regex_lite_syntax.specs.Refusals.{NoReading, CanComplete};
 
-use crate::error::SyntaxFault;
+use crate::error::{SyntaxFault, UnexpectedEof};
 use crate::parse::gap::{is_white_space_char, skip_gap};
 use crate::parse::read::char_at;
 
@@ -17,6 +20,14 @@ use crate::parse::read::char_at;
 pub(crate) struct Times {
     pub(crate) least: u32,
     pub(crate) most: Option<u32>,
+}
+
+/// A number that was read: where its digits end, and where what stands past them ends.
+#[derive(Clone, Copy)]
+struct Decimal {
+    past_digits: usize,
+    end: usize,
+    value: u32,
 }
 
 /// Reads a counted operator from after its opening brace on, and returns the index after it.
@@ -32,69 +43,126 @@ pub(crate) fn read_counted(
     ensures refused { IfErr result (λ fault. NoReading fault
         (λ t. (rest : Text) × (least : ℕ) × (most : Option ℕ) × Counted verbose t rest least most)
         (drop at chars.now)) }
+    ensures completes { IfErr result (λ fault. CanComplete fault
+        (λ t rest. (least : ℕ) × (most : Option ℕ) × Counted verbose t rest least most)
+        (drop at chars.now)) }
 {
     let first = skip_gap(chars, at, verbose);
     if first == chars.len() {
-        return Err(SyntaxFault::CountedRepetitionUnclosed);
+        return Err(SyntaxFault::CutShort(UnexpectedEof::CountedRepetition));
     }
-    let (past_min, least) = read_number(chars, at, verbose)?;
+    let Decimal {
+        end: past_min,
+        value: least,
+        ..
+    } = read_number(chars, at, verbose)?;
     match char_at(chars, past_min) {
-        None => Err(SyntaxFault::CountedRepetitionMinUnclosed),
+        None => Err(SyntaxFault::CutShort(UnexpectedEof::CountedRepetitionMin)),
         Some('}') => {
             let most = Some(least);
             Ok((past_min + 1, Times { least, most }))
         }
         Some(',') => {
-            let (end, most) = read_limit(chars, past_min + 1, verbose)?;
-            match most {
-                Some(most) if most < least => Err(SyntaxFault::CountedRepetitionInvalidRange),
-                _ => Ok((end, Times { least, most })),
-            }
+            let (end, most) = read_limit(chars, past_min + 1, verbose, least)?;
+            Ok((end, Times { least, most }))
         }
         Some(_) => Err(SyntaxFault::CountedRepetitionInvalid),
     }
 }
 
-/// Reads the limit, if there is one, from after the comma on, and the brace that closes.
-fn read_limit(chars: &[char], at: usize, verbose: bool) -> Result<(usize, Option<u32>), SyntaxFault>
+/// Reads the limit, if there is one, from after the comma on, and the brace that closes. A limit
+/// that is below the least number is refused.
+fn read_limit(
+    chars: &[char],
+    at: usize,
+    verbose: bool,
+    least: u32,
+) -> Result<(usize, Option<u32>), SyntaxFault>
     requires { at ≤ length chars.now }
     ensures inside { IfOk result (λ r. (at < r.0) × (r.0 ≤ length chars.now)) }
-    ensures ok { IfOk result (λ r. Limit verbose (drop at chars.now) (drop r.0 chars.now) r.1) }
+    ensures ok { IfOk result (λ r.
+        Limit verbose (drop at chars.now) (drop r.0 chars.now) r.1 × IsNotBelow least r.1) }
     ensures refused { IfErr result (λ fault. NoReading fault
-        (λ t. (rest : Text) × (most : Option ℕ) × Limit verbose t rest most) (drop at chars.now)) }
+        (λ t. (rest : Text) × (most : Option ℕ) × Limit verbose t rest most × IsNotBelow least most)
+        (drop at chars.now)) }
+    ensures completes { IfErr result (λ fault. CanComplete fault
+        (λ t rest. (most : Option ℕ) × Limit verbose t rest most × IsNotBelow least most)
+        (drop at chars.now)) }
 {
     let first = skip_gap(chars, at, verbose);
     match char_at(chars, first) {
-        None => return Err(SyntaxFault::CountedRepetitionCommaUnclosed),
+        None => return Err(SyntaxFault::CutShort(UnexpectedEof::CountedRepetitionComma)),
         Some('}') => return Ok((first + 1, None)),
         Some(_) => {}
     }
-    let (end, most) = read_number(chars, at, verbose)?;
+    let Decimal {
+        past_digits,
+        end,
+        value: most,
+    } = read_number(chars, at, verbose)?;
     match char_at(chars, end) {
-        None => Err(SyntaxFault::CountedRepetitionMinMaxUnclosed),
+        None if can_become(chars, past_digits, verbose, most, least) => {
+            Err(SyntaxFault::CutShort(UnexpectedEof::CountedRepetitionMinMax))
+        }
+        None => Err(SyntaxFault::DeadEnd(UnexpectedEof::CountedRepetitionMinMax)),
+        Some('}') if most < least => Err(SyntaxFault::CountedRepetitionInvalidRange),
         Some('}') => Ok((end + 1, Some(most))),
         Some(_) => Err(SyntaxFault::CountedRepetitionInvalid),
     }
 }
 
+/// Whether a number with which the pattern ends, whose digits end at this index, is not below the
+/// least one, or is so with more digits, where those can follow.
+fn can_become(chars: &[char], past_digits: usize, verbose: bool, number: u32, least: u32) -> bool
+    requires { past_digits ≤ length chars.now }
+    ensures { IsTrue result ↔
+        CanReach least (Becomes verbose (drop past_digits chars.now) number) }
+{
+    if skip_gap(chars, past_digits, verbose) == chars.len() {
+        can_grow(number, least)
+    } else {
+        number >= least
+    }
+}
+
+/// Whether the number is not below the least one, or is so with more digits.
+fn can_grow(number: u32, least: u32) -> bool
+    ensures { IsTrue result ↔ CanReach least (GrowsTo number) }
+{
+    // With so many more digits the number is at least `low` and at most `high`.
+    let mut low = u64::from(number);
+    let mut high = low;
+    while high < u64::from(least) {
+        low *= 10;
+        high = high * 10 + 9;
+    }
+    low <= u64::from(u32::MAX)
+}
+
 /// Reads a number with what stands on its sides.
-fn read_number(chars: &[char], at: usize, verbose: bool) -> Result<(usize, u32), SyntaxFault>
+fn read_number(chars: &[char], at: usize, verbose: bool) -> Result<Decimal, SyntaxFault>
     requires { at ≤ length chars.now }
-    ensures inside { IfOk result (λ r. (at < r.0) × (r.0 ≤ length chars.now)) }
-    ensures ok { IfOk result (λ r. Number verbose (drop at chars.now) (drop r.0 chars.now) r.1) }
+    ensures inside { IfOk result (λ r.
+        (at < r.end) × (r.past_digits ≤ r.end) × (r.end ≤ length chars.now)) }
+    ensures ok { IfOk result (λ r.
+        (number : Number verbose (drop at chars.now) (drop r.end chars.now) r.value)
+        × (number.last ≡ drop r.past_digits chars.now)) }
     // No other number stands there that goes up to a comma or a brace, nor does one in a longer
     // text, if anything is left past the number.
     ensures only { IfOk result (λ r.
-        (more rest : Text) (n : ℕ) → (drop r.0 chars.now ≡ [] → more ≡ [])
+        (more rest : Text) (n : ℕ) → (drop r.end chars.now ≡ [] → more ≡ [])
         → Number verbose (drop at chars.now ++ more) rest n → EndsNumber rest
-        → (rest ≡ drop r.0 chars.now ++ more) × (n ≡ r.1)) }
+        → (rest ≡ drop r.end chars.now ++ more) × (n ≡ r.value)) }
     ensures refused { IfErr result (λ fault. NoReading fault
         (λ t. (rest : Text) × (n : ℕ) × Number verbose t rest n × EndsNumber rest)
         (drop at chars.now)) }
+    // Where none has begun, the greatest number of all can come.
+    ensures completes { IfErr result (λ fault. CanComplete fault
+        (λ t rest. Number verbose t rest (2 ^ 32 - 1)) (drop at chars.now)) }
 {
     let first = skip_side(chars, at, verbose);
     if first == chars.len() {
-        return Err(SyntaxFault::DecimalUnexpectedEof);
+        return Err(SyntaxFault::CutShort(UnexpectedEof::Decimal));
     }
     let mut end = first;
     let mut number = 0;
@@ -108,7 +176,11 @@ fn read_number(chars: &[char], at: usize, verbose: bool) -> Result<(usize, u32),
     if end == first {
         return Err(SyntaxFault::DecimalNoDigits);
     }
-    Ok((skip_side(chars, end, verbose), number))
+    Ok(Decimal {
+        past_digits: end,
+        end: skip_side(chars, end, verbose),
+        value: number,
+    })
 }
 
 /// Where what may stand on the side of a number ends.

@@ -1,20 +1,22 @@
 //! Escapes: what follows a backslash, and what it gives.
-ghost use Rattle.std.specs.Prelude.{◌≡◌, ◌<◌, ◌≤◌, drop, length, IfOk, if◌then◌else◌, IfErr};
-ghost use Rattle.regex_lite_syntax.specs.Text.{Text};
+ghost use Rattle.std.specs.Prelude.{◌≡◌, ◌<◌, ◌≤◌, ℕ, false, drop, length, IfOk, IfErr};
+ghost use Rattle.std.specs.Prelude.{if◌then◌else◌};
+ghost use Rattle.regex_lite_syntax.specs.Text.{Text, Begins, the};
 ghost use Rattle.regex_lite_syntax.specs.Sets.{complement};
 ghost use Rattle.regex_lite_syntax.specs.NamedSets.{members};
 ghost use Rattle.regex_lite_syntax.specs.Parser.SetNames.{name_of};
 ghost use Rattle.regex_lite_syntax.specs.Grammar.Escapes.{Primitive as Given, Escape};
 ghost use Rattle.regex_lite_syntax.specs.Grammar.Escapes.{one, some_of, gives, refused};
 ghost use Rattle.regex_lite_syntax.specs.Grammar.Escapes.{escape_kind, is_escapable};
-ghost use Rattle.regex_lite_syntax.specs.Parser.Readings.{primitive_of, escape_kind_of};
-ghost use Rattle.regex_lite_syntax.specs.Refusals.{NoReading};
+ghost use Rattle.regex_lite_syntax.specs.Parser.Readings.{primitive_of, escape_kind_of, ReachesTo};
+ghost use Rattle.regex_lite_syntax.specs.CutShort.{is_cut_short};
+ghost use Rattle.regex_lite_syntax.specs.Refusals.{NoReading, CanComplete};
 
 mod boundary;
 mod hexadecimal;
 
 use crate::class::named::NamedSet;
-use crate::error::SyntaxFault;
+use crate::error::{SyntaxFault, UnexpectedEof};
 use crate::hir::look::Look;
 use crate::parse::read::char_at;
 use boundary::read_word_boundary;
@@ -42,21 +44,30 @@ enum Meaning {
     Refused,
 }
 
-/// Reads an escape from after its backslash on, and returns the index after it.
+/// Reads an escape from after its backslash on, and returns the index after it. Where the pattern
+/// ends inside the number of a character, more of it completes the escape only if that can give a
+/// character from `least` on.
 pub(crate) fn read_escape(
     chars: &[char],
     at: usize,
     verbose: bool,
+    least: char,
 ) -> Result<(usize, Primitive), SyntaxFault>
     requires { at ≤ length chars.now }
     ensures inside { IfOk result (λ r. (at < r.0) × (r.0 ≤ length chars.now)) }
     ensures ok { IfOk result (λ r.
         Escape verbose (drop at chars.now) (drop r.0 chars.now) (primitive_of r.1)) }
     ensures refused { IfErr result (λ fault. NoReading fault
-        (λ t. (rest : Text) × (p : Given) × Escape verbose t rest p) (drop at chars.now)) }
+        (λ t. (rest : Text) × (p : Given) × Escape verbose t rest p × ReachesTo least p)
+        (drop at chars.now)) }
+    ensures completes { IfErr result (λ fault. CanComplete fault
+        (λ t rest. (p : Given) × Escape verbose t rest p) (drop at chars.now)) }
+    ensures reaches { IfErr result (λ fault. (Begins (the "b") (drop at chars.now) → ⊥)
+        → CanComplete fault (λ t rest. (c : ℕ) × Escape verbose t rest (one c) × (least ≤ c))
+        (drop at chars.now)) }
 {
     let Some(c) = char_at(chars, at) else {
-        return Err(SyntaxFault::EscapeUnexpectedEof);
+        return Err(SyntaxFault::CutShort(UnexpectedEof::Escape));
     };
     match meaning_of(c) {
         Meaning::Gives(primitive) => Ok((at + 1, primitive)),
@@ -65,7 +76,7 @@ pub(crate) fn read_escape(
             Ok((end, Primitive::Look(look)))
         }
         Meaning::Hexadecimal(digits) => {
-            let (end, scalar) = read_hexadecimal(chars, at + 1, verbose, digits)?;
+            let (end, scalar) = read_hexadecimal(chars, at + 1, verbose, digits, least)?;
             Ok((end, Primitive::Char(scalar)))
         }
         Meaning::Refused => Err(refusal_of(c)),
@@ -131,10 +142,23 @@ fn other_meaning(c: char) -> Meaning
 }
 
 /// Why a character is refused after a backslash.
-fn refusal_of(c: char) -> SyntaxFault {
+fn refusal_of(c: char) -> SyntaxFault
+    ensures { is_cut_short result ≡ false }
+{
     match c {
         '0'..='9' => SyntaxFault::BackreferenceUnsupported,
         'p' | 'P' => SyntaxFault::UnicodeClassUnsupported,
         _ => SyntaxFault::EscapeUnrecognized,
+    }
+}
+
+/// What is wrong where the pattern ends inside this part, by whether more of it could complete it.
+fn fault_at_end(part: UnexpectedEof, goes_on: bool) -> SyntaxFault
+    ensures { is_cut_short result ≡ goes_on }
+{
+    if goes_on {
+        SyntaxFault::CutShort(part)
+    } else {
+        SyntaxFault::DeadEnd(part)
     }
 }

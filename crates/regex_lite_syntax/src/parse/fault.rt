@@ -1,17 +1,18 @@
 //! Where in a pattern its first fault stands.
-ghost use Rattle.std.specs.Prelude.{◌≡◌, ◌≢◌, ◌<◌, ◌≤◌, ◌+◌, chars as chars_of, take, length};
-ghost use Rattle.std.specs.Prelude.{IsTrue, IfOk, IfErr, IfSome, OnOk, MatchOption, Some, true};
-ghost use Rattle.std.specs.Prelude.{false, option_map};
-ghost use Rattle.regex_lite_syntax.specs.declared.error.ErrorKind.TheVariants.{Syntax, Memory};
+ghost use Rattle.std.specs.Prelude.{◌≡◌, ◌≢◌, ◌<◌, ◌≤◌, chars as chars_of, take, length};
+ghost use Rattle.std.specs.Prelude.{IfOk, IfErr, IfSome, OnOk, MatchOption, MatchBool, Some, true};
+ghost use Rattle.std.specs.Prelude.{option_map};
+ghost use Rattle.regex_lite_syntax.specs.declared.error.ErrorKind.TheVariants.{Syntax};
 ghost use Rattle.regex_lite_syntax.specs.Errors.{kind_of, syntax_error};
 ghost use Rattle.regex_lite_syntax.specs.Characters.{AreCharacters};
 ghost use Rattle.regex_lite_syntax.specs.CutShort.{is_cut_short};
 ghost use Rattle.regex_lite_syntax.specs.FaultPlaces.{IsFaultAt, IsUntold, IsPlaceOfFault};
-ghost use Rattle.regex_lite_syntax.specs.FaultPlaces.{BeginsNone};
+ghost use Rattle.regex_lite_syntax.specs.FaultPlaces.{BeginsNone, BeginsSome, IsEndOfFault};
 ghost use Rattle.regex_lite_syntax.specs.Grammar.{HasTree};
+ghost use Rattle.regex_lite_syntax.specs.Parser.FaultEnds.{IsRefusedUnread, IsEndAbove};
 ghost use Rattle.regex_lite_syntax.specs.Parser.Starts.{Tracks};
 
-use crate::error::{Error, ErrorKind, SyntaxFault};
+use crate::error::{Error, SyntaxFault};
 use crate::flags::Flags;
 use crate::parse::{Parser, characters};
 use std::alloc::{AllocError, Global};
@@ -21,8 +22,9 @@ use std::alloc::{AllocError, Global};
 pub struct FaultPlace {
     /// This number of characters stands before the part that can't be read.
     pub start: usize,
-    /// No accepted pattern begins with this number of the pattern's characters. `None` where the
-    /// pattern ends inside the part, so that there may be more to come.
+    /// The least number of the pattern's characters, past the start, with which no accepted pattern
+    /// begins. `None` where some accepted pattern begins with them all, so that there may be more
+    /// to come.
     pub end: Option<usize>,
 }
 
@@ -31,7 +33,7 @@ pub struct FaultPlace {
 struct Stop {
     /// This number of characters stands before the part that it can't read.
     start: usize,
-    /// Whether the pattern ends inside that part.
+    /// Whether the pattern ends inside that part, and more of it could complete the part.
     is_cut_short: bool,
 }
 
@@ -60,9 +62,10 @@ fn first_stop(alloc: Global, flags: Flags, chars: &[char]) -> Result<Option<Stop
     requires { AreCharacters chars.now }
     ensures found { IfOk result (λ found. MatchOption found (HasTree flags chars.now)
         (λ stop. IsFaultAt flags chars.now stop.start × (HasTree flags chars.now → ⊥))) }
-    ensures for_good { IfOk result (λ found. IfSome found (λ stop.
-        stop.is_cut_short ≡ false → BeginsNone flags chars.now)) }
+    ensures goes_on { IfOk result (λ found. IfSome found (λ stop. MatchBool stop.is_cut_short
+        (BeginsSome flags chars.now) (BeginsNone flags chars.now))) }
     ensures refused { IfErr result (λ error. IsUntold flags chars.now (kind_of error)) }
+    ensures unread { IfErr result (λ error. IsRefusedUnread chars.now (kind_of error)) }
 {
     let mut parser = Parser::new(alloc, flags);
     // Where the groups begin that are open, the innermost last.
@@ -124,9 +127,10 @@ fn track(starts: &mut Vec<usize>, count: usize, here: usize) -> Result<(), Alloc
 fn place_of(alloc: Global, flags: Flags, chars: &[char], stop: Stop) -> Result<FaultPlace, Error>
     requires characters { AreCharacters chars.now }
     requires fault { IsFaultAt flags chars.now stop.start }
-    requires for_good { stop.is_cut_short ≡ false → BeginsNone flags chars.now }
+    requires goes_on { MatchBool stop.is_cut_short
+        (BeginsSome flags chars.now) (BeginsNone flags chars.now) }
     ensures place { IfOk result (IsPlaceOfFault flags chars.now) }
-    ensures refused { IfErr result (λ error. kind_of error ≡ Memory) }
+    ensures refused { IfErr result (λ error. IsUntold flags chars.now (kind_of error)) }
 {
     let start = stop.start;
     if stop.is_cut_short {
@@ -139,22 +143,21 @@ fn place_of(alloc: Global, flags: Flags, chars: &[char], stop: Stop) -> Result<F
     })
 }
 
-/// How many characters it takes to show the fault of a pattern with which no accepted pattern
-/// begins. The parser stops reading it after `start` of them.
+/// The least number of characters, above `start`, that begin no accepted pattern, if all of them
+/// begin none.
 fn end_of_fault(alloc: Global, flags: Flags, chars: &[char], start: usize) -> Result<usize, Error>
     requires characters { AreCharacters chars.now }
     requires inside { start < length chars.now }
-    requires for_good { BeginsNone flags chars.now }
-    ensures past { IfOk result (λ end. (start < end) × (end ≤ length chars.now)) }
-    ensures for_good { IfOk result (λ end. BeginsNone flags (take end chars.now)) }
-    ensures refused { IfErr result (λ error. kind_of error ≡ Memory) }
+    requires none { BeginsNone flags chars.now }
+    ensures end { IfOk result (IsEndOfFault flags chars.now start) }
+    ensures refused { IfErr result (λ error. IsRefusedUnread chars.now (kind_of error)) }
 {
     let mut low = start;
     // Twice as many characters each time, so that all is read about twice.
     let mut width: usize = 1;
     loop {
         let high = low.saturating_add(width).min(chars.len());
-        if high == chars.len() || is_refused(alloc, flags, &chars[..high])? {
+        if high == chars.len() || begins_none(alloc, flags, &chars[..high])? {
             return least_refused(alloc, flags, chars, low, high);
         }
         low = high;
@@ -162,8 +165,8 @@ fn end_of_fault(alloc: Global, flags: Flags, chars: &[char], start: usize) -> Re
     }
 }
 
-/// The least number of characters, above `low` and up to `high`, with which the parser refuses the
-/// pattern for good, if it does so with `high` of them.
+/// A number of characters, above `low` and up to `high`, that begin no accepted pattern, though one
+/// character fewer do or are just `low`, if `high` of them begin none.
 fn least_refused(
     alloc: Global,
     flags: Flags,
@@ -173,16 +176,15 @@ fn least_refused(
 ) -> Result<usize, Error>
     requires characters { AreCharacters chars.now }
     requires inside { (low < high) × (high ≤ length chars.now) }
-    requires for_good { BeginsNone flags (take high chars.now) }
-    ensures past { IfOk result (λ end. (low < end) × (end ≤ high)) }
-    ensures for_good { IfOk result (λ end. BeginsNone flags (take end chars.now)) }
-    ensures refused { IfErr result (λ error. kind_of error ≡ Memory) }
+    requires none { BeginsNone flags (take high chars.now) }
+    ensures end { IfOk result (IsEndAbove flags chars.now low high) }
+    ensures refused { IfErr result (λ error. IsRefusedUnread chars.now (kind_of error)) }
 {
     let mut below = low;
     let mut end = high;
     while end - below > 1 {
         let middle = below + (end - below) / 2;
-        if is_refused(alloc, flags, &chars[..middle])? {
+        if begins_none(alloc, flags, &chars[..middle])? {
             end = middle;
         } else {
             below = middle;
@@ -191,16 +193,15 @@ fn least_refused(
     Ok(end)
 }
 
-/// Whether the parser refuses the pattern with these characters, and each that begins with it.
-fn is_refused(alloc: Global, flags: Flags, chars: &[char]) -> Result<bool, Error>
+/// Whether no accepted pattern begins with these characters.
+fn begins_none(alloc: Global, flags: Flags, chars: &[char]) -> Result<bool, Error>
     requires { AreCharacters chars.now }
-    ensures for_good { IfOk result (λ is. IsTrue is → BeginsNone flags chars.now) }
-    ensures refused { IfErr result (λ error. kind_of error ≡ Memory) }
+    ensures told { IfOk result (λ is. MatchBool is
+        (BeginsNone flags chars.now) (BeginsSome flags chars.now)) }
+    ensures refused { IfErr result (λ error. IsRefusedUnread chars.now (kind_of error)) }
 {
-    match first_stop(alloc, flags, chars) {
-        Ok(Some(stop)) => Ok(!stop.is_cut_short),
-        Ok(None) => Ok(false),
-        Err(error) if error.kind() == ErrorKind::Memory => Err(error),
-        Err(_) => Ok(false),
+    match first_stop(alloc, flags, chars)? {
+        None => Ok(false),
+        Some(stop) => Ok(!stop.is_cut_short),
     }
 }

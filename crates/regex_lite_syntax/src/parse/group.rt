@@ -7,8 +7,9 @@ ghost use Rattle.regex_lite_syntax.specs.Grammar.Gaps.{WholeGap};
 ghost use Rattle.regex_lite_syntax.specs.Grammar.GroupNames.{NameOpening};
 ghost use Rattle.regex_lite_syntax.specs.Tree.Views.{text_of_name};
 ghost use Rattle.regex_lite_syntax.specs.Parser.NameOpenings.{Unnamed};
-ghost use Rattle.regex_lite_syntax.specs.Refusals.{Refuses, NoReading};
+ghost use Rattle.regex_lite_syntax.specs.Refusals.{Refuses, NoReading, IfCutShort};
 ghost use Rattle.regex_lite_syntax.specs.Parser.States.{group_kind, Advances, CanRead};
+ghost use Rattle.regex_lite_syntax.specs.Parser.States.{CanReadOn};
 ghost use Rattle.regex_lite_syntax.specs.Parser.States.{BeginsTooMany, OpensGroup};
 ghost use Rattle.regex_lite_syntax.specs.Parser.States.{OpensCapture, Closes, Directs};
 
@@ -32,6 +33,8 @@ impl Parser {
         ensures refused { let t = drop at chars.now in IfErr result (λ error.
             Refuses error (λ fault. NoReading fault (CanRead self.old) t) ⊥
             (BeginsTooMany self.old t)) }
+        ensures completes { IfErr result (λ error.
+            IfCutShort error (CanReadOn self.old (drop at chars.now))) }
     {
         let first = self.skip_gap(chars, at + 1);
         if !is_at(chars, first, '?') {
@@ -61,6 +64,8 @@ impl Parser {
         ensures refused { let t = drop at chars.now in IfErr result (λ error.
             Refuses error (λ fault. NoReading fault (CanRead self.old) t) ⊥
             (BeginsTooMany self.old t)) }
+        ensures completes { IfErr result (λ error.
+            IfCutShort error (CanReadOn self.old (drop at chars.now))) }
     {
         let end = read_name(chars, start)?;
         let name = name_of(self.alloc, &chars[start..end - 1])?;
@@ -89,6 +94,8 @@ impl Parser {
         ensures refused { let t = drop at chars.now in IfErr result (λ error.
             Refuses error (λ fault. NoReading fault (CanRead self.old) t) ⊥
             (BeginsTooMany self.old t)) }
+        ensures completes { IfErr result (λ error.
+            IfCutShort error (CanReadOn self.old (drop at chars.now))) }
     {
         if is_at(chars, question + 1, ')') {
             return Err(SyntaxFault::EmptyFlags.into());
@@ -110,6 +117,8 @@ impl Parser {
         ensures refused { let t = drop at chars.now in IfErr result (λ error.
             Refuses error (λ fault. NoReading fault (CanRead self.old) t) ⊥
             (BeginsTooMany self.old t)) }
+        ensures completes { IfErr result (λ error.
+            IfCutShort error (CanReadOn self.old (drop at chars.now))) }
     {
         if !self.close()? {
             return Err(SyntaxFault::UnopenedGroup.into());

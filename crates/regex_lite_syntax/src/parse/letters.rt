@@ -1,6 +1,8 @@
 //! Flags that are written in a pattern.
-ghost use Rattle.std.specs.Prelude.{◌≡◌, ◌<◌, ◌≤◌, ◌∷◌, ◌++◌, IsTrue, true, false, drop};
-ghost use Rattle.std.specs.Prelude.{length, slice_range, codes, IfOk, IfErr, IfSome, IfNone};
+ghost use Rattle.std.specs.Prelude.{◌≡◌, ◌⊎◌, ◌<◌, ◌≤◌, ℕ, [], ◌∷◌, ◌++◌, IsTrue, true, false};
+ghost use Rattle.std.specs.Prelude.{drop, length, slice_range, codes};
+ghost use Rattle.std.specs.Prelude.{IfOk, IfErr, IfSome, IfNone};
+ghost use Rattle.std.specs.List.{AllPass, list_all};
 ghost use Rattle.regex_lite_syntax.specs.declared.error.syntax.SyntaxFault.TheVariants.{
   FlagUnrecognized,
 };
@@ -12,9 +14,9 @@ ghost use Rattle.regex_lite_syntax.specs.Grammar.FlagLetters.{with_flags, all_di
 ghost use Rattle.regex_lite_syntax.specs.Parser.FlagRuns.{EndedFlags, LetterRun};
 ghost use Rattle.regex_lite_syntax.specs.Parser.NameOpenings.{EndsInOpening};
 ghost use Rattle.regex_lite_syntax.specs.CutShort.{is_cut_short};
-ghost use Rattle.regex_lite_syntax.specs.Refusals.{NoReading};
+ghost use Rattle.regex_lite_syntax.specs.Refusals.{NoReading, Completable, CanComplete};
 
-use crate::error::SyntaxFault;
+use crate::error::{SyntaxFault, UnexpectedEof};
 use crate::flags::Flags;
 use crate::parse::read::{char_at, is_at};
 
@@ -32,6 +34,10 @@ pub(crate) fn read_head(
         (λ t. (rest : Text) × (new : Flags) × EndedFlags old t rest new) (drop at chars.now)) }
     ensures cut_short { IfErr result (λ fault.
         EndsInOpening (the "?" ∷ drop at chars.now) → IsTrue (is_cut_short fault)) }
+    // What opens a name may go on where the pattern ends inside it, and else flags do, up to a `:`.
+    ensures completes { let t = drop at chars.now in IfErr result (λ fault.
+        IsTrue (is_cut_short fault) → EndsInOpening (the "?" ∷ t) ⊎ Completable
+        (λ t rest. (new : Flags) × EndedFlags old t (the ":" ∷ rest) new) t) }
 {
     match other_head(chars, at) {
         Some(fault) => Err(fault),
@@ -47,12 +53,16 @@ fn other_head(chars: &[char], at: usize) -> Option<SyntaxFault>
         (λ t. (rest : Text) × (new : Flags) × EndedFlags old t rest new) (drop at chars.now)) }
     ensures cut_short { IfSome result (λ fault.
         EndsInOpening (the "?" ∷ drop at chars.now) → IsTrue (is_cut_short fault)) }
+    ensures completes { IfSome result (λ fault.
+        IsTrue (is_cut_short fault) → EndsInOpening (the "?" ∷ drop at chars.now)) }
     ensures goes_on { IfNone result (EndsInOpening (the "?" ∷ drop at chars.now) → ⊥) }
 {
     match char_at(chars, at) {
-        None => Some(SyntaxFault::UnclosedGroupQuestion),
+        None => Some(SyntaxFault::CutShort(UnexpectedEof::GroupQuestion)),
         Some('=' | '!') => Some(SyntaxFault::LookUnsupported),
-        Some('P') if at + 1 == chars.len() => Some(SyntaxFault::FlagOrNameUnexpectedEof),
+        Some('P') if at + 1 == chars.len() => Some(SyntaxFault::CutShort(
+            UnexpectedEof::FlagOrName,
+        )),
         Some(_) => None,
     }
 }
@@ -65,13 +75,19 @@ fn read_flags(chars: &[char], at: usize, old: Flags) -> Result<(usize, Flags), S
     ensures ok { IfOk result (λ r. EndedFlags old (drop at chars.now) (drop r.0 chars.now) r.1) }
     ensures refused { IfErr result (λ fault. NoReading fault
         (λ t. (rest : Text) × (new : Flags) × EndedFlags old t rest new) (drop at chars.now)) }
+    ensures completes { IfErr result (λ fault. CanComplete fault
+        (λ t rest. (new : Flags) × EndedFlags old t (the ":" ∷ rest) new) (drop at chars.now)) }
 {
     let (middle, set) = read_letters(chars, at, &[], true, old)?;
     if !is_at(chars, middle, '-') {
         return Ok((middle, set));
     }
     let begin = middle + 1;
-    let (end, new) = read_letters(chars, begin, &chars[at..middle], false, set)?;
+    let before = &chars[at..middle];
+    if is_out_of_letters(chars, begin, before) {
+        return Err(SyntaxFault::DeadEnd(UnexpectedEof::Flag));
+    }
+    let (end, new) = read_letters(chars, begin, before, false, set)?;
     if is_at(chars, end, '-') {
         return Err(SyntaxFault::FlagRepeatedNegation);
     }
@@ -79,6 +95,27 @@ fn read_flags(chars: &[char], at: usize, old: Flags) -> Result<(usize, Flags), S
         return Err(SyntaxFault::FlagDanglingNegation);
     }
     Ok((end, new))
+}
+
+/// Whether the pattern ends at the index, where a flag letter would have to stand, and none is left
+/// that doesn't stand before.
+fn is_out_of_letters(chars: &[char], at: usize, before: &[char]) -> bool
+    requires { at ≤ length chars.now }
+    ensures none_left { IsTrue result → (drop at chars.now ≡ [])
+        × ((c : ℕ) → IsTrue (is_flag_letter c) → IsTrue (is_one_of before.now c)) }
+    ensures some_left { result ≡ false → drop at chars.now ≡ []
+        → (c : ℕ) × IsTrue (is_flag_letter c) × (is_one_of before.now c ≡ false) }
+{
+    at == chars.len() && has_every_letter(before)
+}
+
+/// Whether all flag letters stand among these.
+fn has_every_letter(letters: &[char]) -> bool
+    ensures { result ≡ list_all (is_one_of letters.now) (codes "imsURxu") }
+{
+    ['i', 'm', 's', 'U', 'R', 'x', 'u']
+        .iter()
+        .all(|letter| letters.contains(letter))
 }
 
 /// Reads flag letters up to the `-`, `:` or `)` that ends them, where others stand before. Answers
@@ -99,6 +136,10 @@ fn read_letters(
     ensures refused { IfErr result (λ fault. NoReading fault
         (λ t. (letters : Text) × (rest : Text) × LetterRun before.now letters t rest)
         (drop at chars.now)) }
+    // Where the pattern is cut short, no more than such letters is left of it.
+    ensures at_end { let t = drop at chars.now in IfErr result (λ fault.
+        IsTrue (is_cut_short fault)
+        → AllPass is_flag_letter t × IsTrue (all_differ (before.now ++ t))) }
 {
     let mut flags = old;
     for end in at..chars.len() {
@@ -111,7 +152,7 @@ fn read_letters(
             return Err(SyntaxFault::FlagDuplicate);
         }
     }
-    Err(SyntaxFault::FlagUnexpectedEof)
+    Err(SyntaxFault::CutShort(UnexpectedEof::Flag))
 }
 
 /// Whether the character ends a run of flag letters.

@@ -1,14 +1,15 @@
 //! Names of capturing groups.
-ghost use Rattle.std.specs.Prelude.{◌≡◌, ◌<◌, ◌≤◌, ◌-◌, ◌↔◌, drop, length, chars as chars_of};
-ghost use Rattle.std.specs.Prelude.{slice_range, IsTrue, Contains, IfOk, IfSome, IfNone, IfErr};
+ghost use Rattle.std.specs.Prelude.{◌≡◌, ◌<◌, ◌≤◌, ◌-◌, ◌++◌, ◌∷◌, [], List, drop, length};
+ghost use Rattle.std.specs.Prelude.{slice_range, false, IfOk, IfSome, IfNone, IfErr};
 ghost use Rattle.regex_lite_syntax.specs.Text.{Text};
+ghost use Rattle.regex_lite_syntax.specs.CutShort.{is_cut_short};
 ghost use Rattle.regex_lite_syntax.specs.Grammar.GroupNames.{begins_name, continues_name};
-ghost use Rattle.regex_lite_syntax.specs.Grammar.GroupNames.{NameWritten, NameOpening};
-ghost use Rattle.regex_lite_syntax.specs.Tree.Views.{text_of_name, names_of};
+ghost use Rattle.regex_lite_syntax.specs.Grammar.GroupNames.{NameWritten, NameOpening, NamesDiffer};
+ghost use Rattle.regex_lite_syntax.specs.Tree.Views.{text_of_name};
 ghost use Rattle.regex_lite_syntax.specs.Parser.NameOpenings.{Unnamed};
-ghost use Rattle.regex_lite_syntax.specs.Refusals.{NoReading};
+ghost use Rattle.regex_lite_syntax.specs.Refusals.{NoReading, CanComplete};
 
-use crate::error::SyntaxFault;
+use crate::error::{SyntaxFault, UnexpectedEof};
 use crate::parse::read::{char_at, is_at};
 use std::alloc::{AllocError, Global};
 use std::rc::RcStr;
@@ -42,9 +43,13 @@ pub(crate) fn read_name(chars: &[char], at: usize) -> Result<usize, SyntaxFault>
         (slice_range chars.now at (end - 1))) }
     ensures refused { IfErr result (λ fault. NoReading fault
         (λ t. (rest : Text) × (name : Text) × NameWritten t rest name) (drop at chars.now)) }
+    // Whatever names there are before, more of the pattern makes this a new one.
+    ensures completes { IfErr result (λ fault. (names : List Text) → CanComplete fault
+        (λ t rest. (name : Text) × NameWritten t rest name
+        × (NamesDiffer names → NamesDiffer (names ++ name ∷ []))) (drop at chars.now)) }
 {
     match char_at(chars, at) {
-        None => return Err(SyntaxFault::MissingGroupName),
+        None => return Err(SyntaxFault::CutShort(UnexpectedEof::GroupName)),
         Some('>') => return Err(SyntaxFault::EmptyGroupName),
         Some(c) if !may_begin_name(c) => return Err(fault_of_start(chars, at)),
         Some(_) => {}
@@ -59,13 +64,14 @@ pub(crate) fn read_name(chars: &[char], at: usize) -> Result<usize, SyntaxFault>
         }
         end += 1;
     }
-    Err(SyntaxFault::UnclosedGroupName)
+    Err(SyntaxFault::CutShort(UnexpectedEof::GroupNameEnd))
 }
 
 /// The fault of what stands at the index in a name's place and begins none: `(?<=` and `(?<!` open
 /// a look-around, but nothing after `(?P<` does.
 fn fault_of_start(chars: &[char], at: usize) -> SyntaxFault
     requires { at ≤ length chars.now }
+    ensures { is_cut_short result ≡ false }
 {
     let may_be_look = at >= 2 && chars[at - 2] == '?';
     if may_be_look && (is_at(chars, at, '=') || is_at(chars, at, '!')) {

@@ -6,8 +6,9 @@ ghost use Rattle.regex_lite_syntax.specs.Text.{the};
 ghost use Rattle.regex_lite_syntax.specs.Tree.{repeated};
 ghost use Rattle.regex_lite_syntax.specs.Grammar.Operators.{times, greed};
 ghost use Rattle.regex_lite_syntax.specs.Tree.Views.{tree_of};
-ghost use Rattle.regex_lite_syntax.specs.Refusals.{Refuses, NoReading};
+ghost use Rattle.regex_lite_syntax.specs.Refusals.{Refuses, NoReading, IfCutShort};
 ghost use Rattle.regex_lite_syntax.specs.Parser.States.{Advances, CanRead, BeginsTooMany, Adds};
+ghost use Rattle.regex_lite_syntax.specs.Parser.States.{CanReadOn};
 
 use crate::error::{Error, SyntaxFault};
 use crate::hir::Hir;
@@ -32,6 +33,8 @@ impl Parser {
         ensures refused { let t = drop at chars.now in IfErr result (λ error.
             Refuses error (λ fault. NoReading fault (CanRead self.old) t) ⊥
             (BeginsTooMany self.old t)) }
+        ensures completes { IfErr result (λ error.
+            IfCutShort error (CanReadOn self.old (drop at chars.now))) }
     {
         let Some(item) = self.here.items.pop() else {
             return Err(SyntaxFault::UncountedRepetitionSubMissing.into());
@@ -53,6 +56,8 @@ impl Parser {
         ensures refused { let t = drop at chars.now in IfErr result (λ error.
             Refuses error (λ fault. NoReading fault (CanRead self.old) t) ⊥
             (BeginsTooMany self.old t)) }
+        ensures completes { IfErr result (λ error.
+            IfCutShort error (CanReadOn self.old (drop at chars.now))) }
     {
         let Some(item) = self.here.items.pop() else {
             return Err(SyntaxFault::CountedRepetitionSubMissing.into());

@@ -1,16 +1,13 @@
 -- Items of a class in a longer text that begins with the text, and what is refused in each.
 use Rattle.std.proofs.Common.{◌≡◌, ◌≢◌, refl, sym, ◌∙◌, ap, subst, ℕ, Bool, true, false}
-use Rattle.std.proofs.Common.{◌<◌, drop, length, [], ◌∷◌, ◌++◌, IsTrue, codes, if◌then◌else◌}
+use Rattle.std.proofs.Common.{◌<◌, drop, length, [], ◌∷◌, ◌++◌, codes, if◌then◌else◌}
 use Rattle.std.proofs.Common.{append_assoc}
-use Rattle.std.proofs.lemmas.Bool.{both_ways}
 use Rattle.std.proofs.lemmas.List.{append-nil}
 use Rattle.std.specs.List.{AllPass}
-use Rattle.regex_lite_syntax.specs.declared.error.syntax.SyntaxFault.{SyntaxFault}
 use Rattle.regex_lite_syntax.specs.declared.parse.bracket.item.Element.{Element}
 use Rattle.regex_lite_syntax.specs.declared.parse.bracket.item.Element.TheVariants as elements
 use Rattle.regex_lite_syntax.specs.Text.{Text, Begins, the}
 use Rattle.regex_lite_syntax.specs.Characters.{is_lower}
-use Rattle.regex_lite_syntax.specs.CutShort.{is_cut_short}
 use Rattle.regex_lite_syntax.specs.NamedSets.{SetName}
 use Rattle.regex_lite_syntax.specs.Sets.{Set}
 use Rattle.regex_lite_syntax.specs.Grammar.Gaps.{WholeGap}
@@ -20,8 +17,7 @@ use Rattle.regex_lite_syntax.specs.Grammar.Escapes.{escape_kind, EscapeFrom}
 use Rattle.regex_lite_syntax.specs.Grammar.Classes.{ClassElement, literal, escaped}
 use Rattle.regex_lite_syntax.specs.Grammar.Classes.{BeginsItem, NamedClass, RangeFollows, ClassItem}
 use Rattle.regex_lite_syntax.specs.Parser.ClassReadings.{IsNamedSet, BeginsOperator, RangeTo}
-use Rattle.regex_lite_syntax.specs.Parser.ClassReadings.{Lacks}
-use Rattle.regex_lite_syntax.specs.Refusals.{NoReading}
+use Rattle.regex_lite_syntax.specs.Parser.ClassReadings.{IsElement, Lacks}
 use Rattle.regex_lite_syntax.proofs.ListLemmas.{same_head, same_tail}
 use Rattle.regex_lite_syntax.proofs.grammar.ClassLemmas.{name_once}
 use Rattle.regex_lite_syntax.proofs.grammar.LongerGapLemmas.{whole_longer}
@@ -35,18 +31,6 @@ use Rattle.regex_lite_syntax.proofs.parse.bracket.ClassItemLemmas.{item_range}
 -- before the end something is left
 pub some_at : (xs : Text) (i : ℕ) → i < length xs → drop i xs ≢ []
 some_at xs i h e = let clash = sym (drop_at xs i h) ∙ e in cc clash
-
--- a fault that is found at the end of the text, where the character could still come, is that the
--- text is cut short
-pub cut_at_end : (fault : SyntaxFault) (c : ℕ) (t : Text) → t ≡ []
-    → NoReading fault (Begins c) t → IsTrue (is_cut_short fault)
-cut_at_end fault c t ends none = by_kind (is_cut_short fault) refl
-  where
-    by_kind : (short : Bool) → is_cut_short fault ≡ short → IsTrue (is_cut_short fault)
-    by_kind true e = e
-    by_kind false e =
-        absurd (none (c ∷ []) (λ short. absurd (both_ways _ e short))
-        (subst (λ u. Begins c (u ++ c ∷ [])) (sym ends) refl))
 
 -- sets by their names: where no sign of negation stood, none stands in a longer text, unless the
 -- text ends there
@@ -113,26 +97,49 @@ module _ (more : Text) where
       char_from (escape_kind d.first) verbose d.past_first past g.past_first rest p c d.goes_on
       (subst (λ a. EscapeFrom (escape_kind a) verbose g.past_first rest (one c)) first g.goes_on)
 
-  -- and a character of the text is one of the longer text, even where nothing is left past it
-  char_from_longer : (k : EscapeKind) (verbose : Bool) (t rest : Text) (c : ℕ)
-      → EscapeFrom k verbose t rest (one c)
-      → EscapeFrom k verbose (t ++ more) (rest ++ more) (one c)
-  char_from_longer (gives q) verbose t rest c d = (ap (λ u. u ++ more) d.0, d.1)
-  char_from_longer word_boundary verbose t rest c d = let clash = d.2 in cc clash
-  char_from_longer (hexadecimal n) verbose t rest c d = (d.0, hexadecimal_longer more d.1, d.2)
-  char_from_longer refused verbose t rest c d = absurd d
+  -- so is an element
+  element_from : (k : EscapeKind) (verbose : Bool) (t rest u past : Text) (p q : Primitive)
+      → EscapeFrom k verbose t rest p → EscapeFrom k verbose u past q → IsElement q → IsElement p
+  element_from (gives g) verbose t rest u past p q d e is =
+      subst (λ r. IsElement r) (e.1 ∙ sym d.1) is
+  element_from word_boundary verbose t rest u past p q d e is =
+      absurd (subst (λ r. IsElement r) e.2 is)
+  element_from (hexadecimal n) verbose t rest u past p q d e is =
+      subst (λ r. IsElement r) (sym d.2) tt
+  element_from refused verbose t rest u past p q d e is = absurd d
 
-  pub char_longer : (verbose : Bool) (t rest : Text) (c : ℕ) → ClassElement verbose t rest (one c)
-      → ClassElement verbose (t ++ more) (rest ++ more) (one c)
-  char_longer verbose t rest c (literal d e plain w is) =
+  pub element_before : (verbose : Bool) (t past rest : Text) (p q : Primitive)
+      → ClassElement verbose t past p → ClassElement verbose (t ++ more) rest q → IsElement q
+      → IsElement p
+  element_before verbose t past rest p q (literal d e plain w is) part element =
+      subst (λ r. IsElement r) (sym is) tt
+  element_before verbose t past rest p q (escaped u e d) (literal f g plain w is) element =
+      absurd (plain (same_head (sym g ∙ ap (λ v. v ++ more) e)))
+  element_before verbose t past rest p q (escaped u e d) (escaped v f g) element =
+      let same = same_tail (sym f ∙ ap (λ w. w ++ more) e) in
+      let first = same_head (sym g.begins ∙ same ∙ ap (λ w. w ++ more) d.begins) in
+      element_from (escape_kind d.first) verbose d.past_first past g.past_first rest p q d.goes_on
+      (subst (λ a. EscapeFrom (escape_kind a) verbose g.past_first rest q) first g.goes_on) element
+
+  -- and an element of the text is one of the longer text, even where nothing is left past it
+  from_longer : (k : EscapeKind) (verbose : Bool) (t rest : Text) (p : Primitive) → IsElement p
+      → EscapeFrom k verbose t rest p → EscapeFrom k verbose (t ++ more) (rest ++ more) p
+  from_longer (gives q) verbose t rest p is d = (ap (λ u. u ++ more) d.0, d.1)
+  from_longer word_boundary verbose t rest p is d = absurd (subst (λ r. IsElement r) d.2 is)
+  from_longer (hexadecimal n) verbose t rest p is d = (d.0, hexadecimal_longer more d.1, d.2)
+  from_longer refused verbose t rest p is d = absurd d
+
+  pub part_longer : (verbose : Bool) (t rest : Text) (p : Primitive) → IsElement p
+      → ClassElement verbose t rest p → ClassElement verbose (t ++ more) (rest ++ more) p
+  part_longer verbose t rest p element (literal d e plain w is) =
       literal d (ap (λ u. u ++ more) e) plain w is
-  char_longer verbose t rest c (escaped past e d) =
+  part_longer verbose t rest p element (escaped past e d) =
       escaped (past ++ more) (ap (λ u. u ++ more) e) (record {
         first = d.first;
         past_first = d.past_first ++ more;
         begins = ap (λ u. u ++ more) d.begins;
         goes_on =
-            char_from_longer (escape_kind d.first) verbose d.past_first rest c d.goes_on;
+            from_longer (escape_kind d.first) verbose d.past_first rest p element d.goes_on;
       })
 
   -- so is the end of a range, and the range
@@ -142,7 +149,7 @@ module _ (more : Text) where
     start = to.start;
     end = to.end;
     starts = to.starts;
-    ends = char_longer verbose t rest to.end to.ends;
+    ends = part_longer verbose t rest (one to.end) tt to.ends;
     ordered = to.ordered;
     set_is = to.set_is;
   }

@@ -1,6 +1,6 @@
 -- Hexadecimal digits that go on from a number that has been read.
 use Rattle.std.proofs.Common.{inl, inr, ◌≡◌, refl, sym, ◌∙◌, ap, subst, ℕ, ◌+◌, ◌*◌}
-use Rattle.std.proofs.Common.{◌<◌, ◌≤◌, length, Bool, [], ◌∷◌, ◌++◌, fold, IsTrue, arith}
+use Rattle.std.proofs.Common.{◌<◌, ◌≤◌, length, Bool, [], ◌∷◌, ◌++◌, IsTrue, arith}
 use Rattle.std.proofs.lemmas.Bool.{and_parts, ltb-true, or_cases}
 use Rattle.std.specs.Char.{OutOfScalarRange}
 use Rattle.regex_lite_syntax.specs.Text.{Text, Begins, the}
@@ -8,6 +8,7 @@ use Rattle.regex_lite_syntax.specs.Characters.{is_character, is_hex_digit, digit
 use Rattle.regex_lite_syntax.specs.Grammar.Gaps.{Gap, WholeGap, Spaced}
 use Rattle.regex_lite_syntax.specs.Grammar.Escapes.{FixedDigits}
 use Rattle.regex_lite_syntax.specs.Parser.ClassReadings.{Lacks}
+use Rattle.regex_lite_syntax.specs.Parser.FurtherDigits.{number_on}
 use Rattle.regex_lite_syntax.proofs.ListLemmas.{same_head}
 use Rattle.regex_lite_syntax.proofs.grammar.LongerGapLemmas.{whole_longer}
 use Rattle.regex_lite_syntax.proofs.grammar.SpacedLemmas.{hex_digits_end, brace_past}
@@ -40,10 +41,6 @@ still_digit_at {verbose} {t} {past} more at = record {
   value = at.value;
 }
 
--- the number to which these digits go on
-abbrev pub number_on : (number : ℕ) → (digits : Text) → ℕ
-number_on number digits = fold (λ n d. n * 16 + digit_value d) number digits
-
 -- further digits, and the character of the whole number
 pub record DigitsOn (verbose : Bool) (number : ℕ) (digits t last : Text) (c : ℕ) : Type 0 where
   pub written : Spaced verbose is_hex_digit digits t last
@@ -74,12 +71,12 @@ on_before verbose number v digits t past last c at on =
       value = same.value;
     }
 
-on_grows : (digits : Text) (number : ℕ) → number ≤ number_on number digits
+pub on_grows : (digits : Text) (number : ℕ) → number ≤ number_on number digits
 on_grows [] number = omega arith
 on_grows (d ∷ digits) number =
     let further = on_grows digits (number * 16 + digit_value d) in omega (arith, further)
 
-character_below : (c : ℕ) → IsTrue (is_character c) → c < 0x110000
+pub character_below : (c : ℕ) → IsTrue (is_character c) → c < 0x110000
 character_below c h =
     elim (or_cases _ _ h) [
       | inl low ↦ (let below = ltb-true c 0xD800 low in omega (arith, below))

@@ -15,14 +15,15 @@ use Rattle.regex_lite_syntax.specs.Parser.FlagRuns.{EndsRun, LetterRun}
 use Rattle.regex_lite_syntax.proofs.ListLemmas.{same_head, same_tail}
 use Rattle.regex_lite_syntax.proofs.grammar.FlagLetterLemmas.{word_once}
 
--- what is read with one more letter
-all_pass_middle : (kind : ℕ → Bool) (cs : Text) (c : ℕ) (ds : Text) → AllPass kind (cs ++ c ∷ ds)
-    → IsTrue (kind c)
+-- where all characters are of a kind, one between others is
+pub all_pass_middle : (kind : ℕ → Bool) (cs : Text) (c : ℕ) (ds : Text)
+    → AllPass kind (cs ++ c ∷ ds) → IsTrue (kind c)
 all_pass_middle kind cs c ds all =
     let both =
     sym (list_all-append kind cs (c ∷ ds)) ∙ list_all-from_AllPass kind (cs ++ c ∷ ds) all in
     (and_parts _ _ (and_parts _ _ both).1).0
 
+-- what is read with one more letter
 pub with_flags_more : (set : Bool) (cs : Text) (c : ℕ) (flags : Flags)
     → with_flags set (cs ++ c ∷ []) flags ≡ with_flag set c (with_flags set cs flags)
 with_flags_more set [] c flags = refl
@@ -36,7 +37,8 @@ one_of_both cs ds c = list_any-append (λ d. d == c) cs ds
 sym_false : (c d : ℕ) → (c == d) ≡ false → (d == c) ≡ false
 sym_false c d e = ne_eqb d c (λ h. eqb-false c d e (sym h))
 
-differ_one_more : (cs : Text) (c : ℕ) → IsTrue (all_differ cs) → is_one_of cs c ≡ false
+-- one more letter that is none of these
+pub differ_one_more : (cs : Text) (c : ℕ) → IsTrue (all_differ cs) → is_one_of cs c ≡ false
     → IsTrue (all_differ (cs ++ c ∷ []))
 differ_one_more [] c differ none = refl
 differ_one_more (d ∷ cs) c differ none =
@@ -56,7 +58,8 @@ differ_more before read c differ none none_read =
     rw (← append_assoc) (differ_one_more (before ++ read) c differ absent)
 
 -- and a character that stands again
-differ_middle : (cs ds : Text) (c : ℕ) → IsTrue (all_differ (cs ++ c ∷ ds)) → is_one_of cs c ≡ false
+pub differ_middle : (cs ds : Text) (c : ℕ) → IsTrue (all_differ (cs ++ c ∷ ds))
+    → is_one_of cs c ≡ false
 differ_middle [] ds c differ = refl
 differ_middle (d ∷ cs) ds c differ =
     let parts = and_parts _ _ differ in

@@ -1,15 +1,18 @@
 //! Sets that stand in a class by their names, as `[:alpha:]`.
-ghost use Rattle.std.specs.Prelude.{◌≡◌, ◌<◌, ◌≤◌, ◌+◌, ◌-◌, ◌∷◌, ◌++◌, drop, take};
-ghost use Rattle.std.specs.Prelude.{length, IfOk, IfErr, OnOk, find};
-ghost use Rattle.std.specs.List.{AllPass};
+ghost use Rattle.std.specs.Prelude.{◌≡◌, ◌<◌, ◌≤◌, ◌+◌, ◌-◌, ◌∷◌, ◌++◌, ◌&&◌, ◌==◌};
+ghost use Rattle.std.specs.Prelude.{drop, take, Bool, length, IfOk, IfErr, OnOk, find};
+ghost use Rattle.std.specs.List.{AllPass, list_any};
 ghost use Rattle.regex_lite_syntax.specs.Text.{Begins, is_text, the};
 ghost use Rattle.regex_lite_syntax.specs.Characters.{is_lower};
-ghost use Rattle.regex_lite_syntax.specs.Parser.ClassReadings.{set_name, Lacks};
+ghost use Rattle.regex_lite_syntax.specs.Parser.ClassReadings.{set_name, is_beginning, Lacks};
+ghost use Rattle.regex_lite_syntax.specs.NamedSets.{SetName};
+ghost use Rattle.regex_lite_syntax.specs.Grammar.Classes.{NamedClass};
 ghost use Rattle.regex_lite_syntax.specs.Parser.ClassReadings.{IsNamedSet, HasNamedSet};
-ghost use Rattle.regex_lite_syntax.specs.Refusals.{NoReading};
+ghost use Rattle.regex_lite_syntax.specs.Refusals.{NoReading, CanComplete};
+ghost use Rattle.regex_lite_syntax.specs.CutShort.{is_cut_short};
 
 use crate::class::named::NamedSet;
-use crate::error::SyntaxFault;
+use crate::error::{SyntaxFault, UnexpectedEof};
 use crate::parse::bracket::item::Element;
 use crate::parse::read::is_at;
 
@@ -20,28 +23,37 @@ pub(crate) fn read_named_set(chars: &[char], at: usize) -> Result<(usize, Elemen
     ensures inside { IfOk result (λ r. (at < r.0) × (r.0 ≤ length chars.now)) }
     ensures ok { IfOk result (λ r. IsNamedSet (drop at chars.now) (drop r.0 chars.now) r.1) }
     ensures refused { IfErr result (λ fault. NoReading fault HasNamedSet (drop at chars.now)) }
+    ensures completes { IfErr result (λ fault. CanComplete fault
+        (λ t rest. (negated : Bool) × (set : SetName) × NamedClass t rest negated set)
+        (drop at chars.now)) }
 {
-    expect(chars, at + 1, ':')?;
+    expect(chars, at + 1, ':', true)?;
     let negated = is_at(chars, at + 2, '^');
     let begin = if negated { at + 3 } else { at + 2 };
     let end = skip_lower(chars, begin);
-    expect(chars, end, ':')?;
-    expect(chars, end + 1, ']')?;
-    match set_with_name(&chars[begin..end]) {
+    let name = &chars[begin..end];
+    expect(chars, end, ':', begins_name(name))?;
+    let found = set_with_name(name);
+    expect(chars, end + 1, ']', found.is_some())?;
+    match found {
         None => Err(SyntaxFault::ClassNestUnsupported),
         Some(set) => Ok((end + 2, Element::Set { set, negated })),
     }
 }
 
-/// Refuses any other character than this at the index, and the pattern's end as cut short.
-fn expect(chars: &[char], at: usize, c: char) -> Result<(), SyntaxFault>
+/// Refuses any other character than this at the index, and the pattern's end, as cut short if what
+/// stands before it has `begun` a set with a name.
+fn expect(chars: &[char], at: usize, c: char, begun: bool) -> Result<(), SyntaxFault>
     requires { at ≤ length chars.now }
     ensures there { OnOk result
         ((at < length chars.now) × (drop at chars.now ≡ c ∷ drop (at + 1) chars.now)) }
-    ensures refused { IfErr result (λ fault. NoReading fault (Begins c) (drop at chars.now)) }
+    ensures absent { IfErr result (λ _. Begins c (drop at chars.now) → ⊥) }
+    ensures short { IfErr result
+        (λ fault. is_cut_short fault ≡ (begun && (at == length chars.now))) }
 {
     if at == chars.len() {
-        return Err(SyntaxFault::ClassNestUnexpectedEof);
+        let fault = SyntaxFault::CutShort(UnexpectedEof::ClassNest);
+        return Err(if begun { fault } else { fault.for_good() });
     }
     if is_at(chars, at, c) {
         Ok(())
@@ -93,6 +105,13 @@ fn set_with_name(name: &[char]) -> Option<NamedSet>
         .find(|set| is_word(name, name_of_set(*set)))
 }
 
+/// Whether some set has a name that begins with these characters.
+fn begins_name(chars: &[char]) -> bool
+    ensures { result ≡ list_any (λ set. is_beginning chars.now (set_name set)) ALL }
+{
+    ALL.iter().any(|set| begins_word(chars, name_of_set(*set)))
+}
+
 /// The name of the set.
 fn name_of_set(set: NamedSet) -> &'static str
     ensures { result.now ≡ set_name set }
@@ -124,6 +143,22 @@ fn is_word(chars: &[char], word: &str) -> bool
     }
     for (i, byte) in word.as_bytes().iter().enumerate() {
         if chars[i] != char::from(*byte) {
+            return false;
+        }
+    }
+    true
+}
+
+/// Whether an ASCII word begins with the characters.
+fn begins_word(chars: &[char], word: &str) -> bool
+    ensures { result ≡ is_beginning chars.now word.now }
+{
+    if chars.len() > word.len() {
+        return false;
+    }
+    let bytes = word.as_bytes();
+    for (i, c) in chars.iter().enumerate() {
+        if *c != char::from(bytes[i]) {
             return false;
         }
     }

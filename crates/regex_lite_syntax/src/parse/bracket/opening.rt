@@ -6,7 +6,7 @@ ghost use Rattle.regex_lite_syntax.specs.Grammar.Classes.{Takes, Dashes};
 ghost use Rattle.regex_lite_syntax.specs.Grammar.Classes.{FirstBracket, ClassOpening};
 ghost use Rattle.regex_lite_syntax.specs.CutShort.{is_cut_short};
 
-use crate::error::SyntaxFault;
+use crate::error::{SyntaxFault, UnexpectedEof};
 use crate::parse::gap::skip_gap;
 use crate::parse::read::is_at;
 
@@ -24,13 +24,13 @@ impl Opening {
         ensures { IsTrue (is_cut_short result) }
     {
         if self.dash {
-            SyntaxFault::ClassUnclosedAfterDash
+            SyntaxFault::CutShort(UnexpectedEof::ClassAfterDash)
         } else if self.bracket {
-            SyntaxFault::ClassUnclosedAfterClosing
+            SyntaxFault::CutShort(UnexpectedEof::ClassAfterClosing)
         } else if self.negated {
-            SyntaxFault::ClassUnclosedAfterNegation
+            SyntaxFault::CutShort(UnexpectedEof::ClassAfterNegation)
         } else {
-            SyntaxFault::ClassUnclosed
+            SyntaxFault::CutShort(UnexpectedEof::Class)
         }
     }
 }

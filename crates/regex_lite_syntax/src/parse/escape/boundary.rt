@@ -1,16 +1,19 @@
 //! Starts and ends of words: `\b`, and its forms with a name in braces.
-ghost use Rattle.std.specs.Prelude.{◌≡◌, ◌≤◌, [], ◌∷◌, ◌++◌, drop, length, IsTrue};
+ghost use Rattle.std.specs.Prelude.{◌≡◌, ◌≤◌, false, Some, ◌∷◌, ◌++◌, drop, length, IsTrue};
 ghost use Rattle.std.specs.Prelude.{IfOk, IfSome, IfNone, IfErr};
 ghost use Rattle.std.specs.List.{list_all};
 ghost use Rattle.regex_lite_syntax.specs.declared.hir.look.Look.{Look};
 ghost use Rattle.regex_lite_syntax.specs.Text.{Text, the};
 ghost use Rattle.regex_lite_syntax.specs.Grammar.Gaps.{Gap, Spaced};
 ghost use Rattle.regex_lite_syntax.specs.Grammar.Escapes.{is_boundary_character};
+ghost use Rattle.regex_lite_syntax.specs.Grammar.Escapes.{boundary_named};
 ghost use Rattle.regex_lite_syntax.specs.Grammar.Escapes.{BoundaryName, WordBoundary};
-ghost use Rattle.regex_lite_syntax.specs.CutShort.{is_cut_short};
+ghost use Rattle.regex_lite_syntax.specs.Parser.BoundaryNames.{EndsInName};
 ghost use Rattle.regex_lite_syntax.specs.Refusals.{MayFollow, NoReading};
+ghost use Rattle.regex_lite_syntax.specs.Refusals.{Completable, CanComplete};
 
-use crate::error::SyntaxFault;
+use super::fault_at_end;
+use crate::error::{SyntaxFault, UnexpectedEof};
 use crate::hir::look::Look;
 use crate::parse::gap::skip_gap;
 use crate::parse::read::{char_at, is_at};
@@ -29,13 +32,15 @@ pub(super) fn read_word_boundary(
     ensures refused { IfErr result (λ fault. NoReading fault
         (λ t. (rest : Text) × (look : Look) × WordBoundary verbose t rest look)
         (drop at chars.now)) }
+    ensures completes { IfErr result (λ fault. CanComplete fault
+        (λ t rest. (look : Look) × WordBoundary verbose t rest look) (drop at chars.now)) }
 {
     if !is_at(chars, at, '{') {
         return Ok((at, Look::Word));
     }
     let first = skip_gap(chars, at + 1, verbose);
     match char_at(chars, first) {
-        None => Err(SyntaxFault::SpecialWordOrRepetitionUnexpectedEof),
+        None => Err(SyntaxFault::CutShort(UnexpectedEof::SpecialWordOrRepetition)),
         Some(c) if is_name_char(c) => read_name(chars, at + 1, verbose),
         Some(_) => Ok((at, Look::Word)),
     }
@@ -50,6 +55,8 @@ fn read_name(chars: &[char], at: usize, verbose: bool) -> Result<(usize, Look), 
     ensures refused { IfErr result (λ fault. NoReading fault
         (λ t. (rest : Text) × (look : Look) × BoundaryName verbose t rest look)
         (drop at chars.now)) }
+    ensures completes { IfErr result (λ fault. CanComplete fault
+        (λ t rest. (look : Look) × BoundaryName verbose t rest look) (drop at chars.now)) }
 {
     if let Some(end) = skip_name(chars, at, verbose, "start") {
         return Ok((end, Look::WordStart));
@@ -98,9 +105,8 @@ fn skip_name(chars: &[char], at: usize, verbose: bool, name: &str) -> Option<usi
 /// is none of the names.
 fn fault_of_name(chars: &[char], at: usize, verbose: bool) -> SyntaxFault
     requires { at ≤ length chars.now }
-    ensures cut_short { IsTrue (is_cut_short result) → (letters : Text) × (last : Text)
-        × Spaced verbose is_boundary_character letters (drop at chars.now) last
-        × Gap verbose last [] }
+    ensures completes { CanComplete result
+        (λ t rest. (look : Look) × BoundaryName verbose t rest look) (drop at chars.now) }
     ensures stands { (more rest : Text) (look : Look) → MayFollow result more
         → BoundaryName verbose (drop at chars.now ++ more) rest look
         → (past : Text) × BoundaryName verbose (drop at chars.now) past look }
@@ -109,7 +115,8 @@ fn fault_of_name(chars: &[char], at: usize, verbose: bool) -> SyntaxFault
     loop {
         let next = skip_gap(chars, end, verbose);
         let Some(c) = char_at(chars, next) else {
-            return SyntaxFault::SpecialWordBoundaryUnexpectedEof;
+            let goes_on = ends_in_any_name(chars, at, verbose);
+            return fault_at_end(UnexpectedEof::SpecialWordBoundary, goes_on);
         };
         if c == '}' {
             return SyntaxFault::SpecialWordBoundaryUnrecognized;
@@ -119,6 +126,36 @@ fn fault_of_name(chars: &[char], at: usize, verbose: bool) -> SyntaxFault
         }
         end = next + 1;
     }
+}
+
+/// Whether the pattern ends inside one of the names.
+fn ends_in_any_name(chars: &[char], at: usize, verbose: bool) -> bool
+    requires { at ≤ length chars.now }
+    ensures completes { IsTrue result → Completable
+        (λ t rest. (look : Look) × BoundaryName verbose t rest look) (drop at chars.now) }
+    ensures absent { result ≡ false → (name : Text) (look : Look)
+        → boundary_named name ≡ Some look → EndsInName verbose name (drop at chars.now) → ⊥ }
+{
+    // these two begin with the others
+    ends_in_name(chars, at, verbose, "start-half") || ends_in_name(chars, at, verbose, "end-half")
+}
+
+/// Whether the pattern ends inside this name, or before the brace that would close it.
+fn ends_in_name(chars: &[char], at: usize, verbose: bool, name: &str) -> bool
+    requires inside { at ≤ length chars.now }
+    requires letters { IsTrue (list_all is_boundary_character name.now) }
+    ensures there { IsTrue result → EndsInName verbose name.now (drop at chars.now) }
+    ensures absent { result ≡ false → EndsInName verbose name.now (drop at chars.now) → ⊥ }
+{
+    let mut end = at;
+    for letter in name.as_bytes() {
+        let next = skip_gap(chars, end, verbose);
+        if !is_at(chars, next, char::from(*letter)) {
+            return next == chars.len();
+        }
+        end = next + 1;
+    }
+    skip_gap(chars, end, verbose) == chars.len()
 }
 
 /// Whether the character may stand in a name.

@@ -10,6 +10,7 @@ use Rattle.regex_lite_syntax.proofs.grammar.OperatorLemmas.{counted_greedy}
 use Rattle.regex_lite_syntax.proofs.machine.StateLemmas.{map_pushed, none_left}
 use Rattle.regex_lite_syntax.proofs.machine.ReadStepLemmas.{reads_repeated, reads_no_counted}
 use Rattle.regex_lite_syntax.proofs.machine.ReadStepLemmas.{reads_no_counts}
+use Rattle.regex_lite_syntax.proofs.machine.ResumedOperatorLemmas.{counts_read_on}
 use Rattle.regex_lite_syntax.proofs.parse.Parser.read_counted_operator.Goals as goal
 use Rattle.regex_lite_syntax.proofs.parse.Parser.read_counted_operator.Goals.{then-lazy, else-lazy}
 
@@ -28,6 +29,14 @@ returns-in_err-end-clause-refused c =
     (λ more follows. reads_no_counts c.args.self.now _ _ (ap (λ t. t ++ more) c.requires.begins)
     (λ past least most counted.
     c.in_err-end.ensures.refused more follows (past, least, most, counted)))
+
+pub returns-in_err-end-clause-completes : goal.returns-in_err-end-clause-completes
+returns-in_err-end-clause-completes c =
+    let left = err_from_is_err_and c.from_residual.result c.from_residual.ensures.1 in
+    let pushed = map_pushed tree_of _ _ _ c.in-Some.ensures.items in
+    rw (left.1, left.2)
+    (λ short. counts_read_on c.args.self.now _ _ _ _ c.requires.begins pushed
+    (c.in_err-end.ensures.completes short))
 
 pub returns-clause-ok : goal.returns-clause-ok
 unfolding state with_items

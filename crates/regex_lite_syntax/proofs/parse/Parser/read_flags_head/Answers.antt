@@ -7,7 +7,10 @@ use Rattle.regex_lite_syntax.specs.declared.error.syntax.SyntaxFault.TheVariants
 use Rattle.regex_lite_syntax.specs.Text.{Text, Begins, the}
 use Rattle.regex_lite_syntax.specs.Grammar.Gaps.{Gap, WholeGap}
 use Rattle.regex_lite_syntax.specs.Grammar.FlagLetters.{FlagLetters}
+use Rattle.regex_lite_syntax.specs.Parser.NameOpenings.{EndsInOpening}
 use Rattle.regex_lite_syntax.proofs.parse.IndexLemmas.{drop_begins}
+use Rattle.regex_lite_syntax.proofs.grammar.NewNameLemmas.{opening_completes}
+use Rattle.regex_lite_syntax.proofs.machine.CompletedHeadLemmas.{reads_on_name, reads_on_flags}
 use Rattle.regex_lite_syntax.proofs.machine.ReadHeadLemmas.{reads_head, reads_directive}
 use Rattle.regex_lite_syntax.proofs.machine.ReadHeadLemmas.{reads_no_flags, reads_no_empty}
 use Rattle.regex_lite_syntax.proofs.parse.Parser.read_flags_head.Goals as goal
@@ -24,6 +27,17 @@ returns-in_err-end-clause-refused c =
     rw (left.1, left.2) (reads_no_flags c.in_err-end.field-0.0 c.args.self.now _ _ _ _
     c.requires.begins c.requires.gap c.requires.question c.requires.unnamed
     c.in_err-end.ensures.cut_short c.in_err-end.ensures.refused)
+
+pub returns-in_err-end-clause-completes : goal.returns-in_err-end-clause-completes
+returns-in_err-end-clause-completes c =
+    let p = c.args.self.now in
+    let question = c.requires.question in
+    let left = err_from_is_err_and c.from_residual.result c.from_residual.ensures.1 in
+    rw (left.1, left.2) (λ short. elim (c.in_err-end.ensures.completes short) [
+      | inl inside ↦ reads_on_name p _ _ _ _ c.requires.begins c.requires.gap question
+          (opening_completes p.names _ (subst (λ t. EndsInOpening t) (sym question) inside))
+      | inr flags ↦ reads_on_flags p _ _ _ _ c.requires.begins c.requires.gap question flags
+    ])
 
 -- past the gap after the `(` stands the `?`
 gap_to : (verbose : Bool) (t u first : Text) → WholeGap verbose t u → u ≡ the "?" ∷ first

@@ -7,6 +7,9 @@ use Rattle.regex_lite_syntax.specs.Text.{Text}
 use Rattle.regex_lite_syntax.specs.Grammar.GroupNames.{NameOpening, NameWritten, Named}
 use Rattle.regex_lite_syntax.specs.Tree.Views.{text_of_name}
 use Rattle.regex_lite_syntax.proofs.parse.DenialLemmas.{number_refuses}
+use Rattle.regex_lite_syntax.proofs.grammar.NameOpeningLemmas.{opening_question}
+use Rattle.regex_lite_syntax.proofs.grammar.NewNameLemmas.{named_completes}
+use Rattle.regex_lite_syntax.proofs.machine.CompletedHeadLemmas.{reads_on_name}
 use Rattle.regex_lite_syntax.proofs.machine.ReadHeadLemmas.{reads_named, begins_named}
 use Rattle.regex_lite_syntax.proofs.machine.ReadHeadLemmas.{reads_no_name, reads_no_second}
 use Rattle.regex_lite_syntax.proofs.parse.Parser.read_named_head.Goals as goal
@@ -17,6 +20,15 @@ returns-in_err-end-clause-refused c =
     rw (left.1, left.2)
     (reads_no_name c.in_err-end.field-0.0 c.args.self.now _ _ _ _ c.requires.begins c.requires.gap
     c.requires.opens c.in_err-end.ensures.refused)
+
+pub returns-in_err-end-clause-completes : goal.returns-in_err-end-clause-completes
+returns-in_err-end-clause-completes c =
+    let p = c.args.self.now in
+    let question = opening_question _ _ c.requires.opens in
+    let left = err_from_is_err_and c.from_residual.result c.from_residual.ensures.1 in
+    rw (left.1, left.2) (λ short. reads_on_name p _ _ _ _ c.requires.begins c.requires.gap
+    question.1 (named_completes p.names _ _ c.requires.opens
+    (c.in_err-end.ensures.completes p.names short)))
 
 -- what opens a name and the name
 named_from : (t past rest name letters : Text) → NameOpening t past → NameWritten past rest letters

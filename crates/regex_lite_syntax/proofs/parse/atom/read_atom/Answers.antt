@@ -1,4 +1,4 @@
-use Rattle.std.proofs.Common.{refl, ◌∙◌, ap, arith, drop, ◌+◌, ◌∷◌, ◌++◌}
+use Rattle.std.proofs.Common.{rules, refl, ◌∙◌, ap, arith, drop, ◌+◌, ◌∷◌, ◌++◌}
 use Rattle.std.proofs.lemmas.Result.{err_from_is_err_and}
 use Rattle.regex_lite_syntax.specs.Text.{Text, the}
 use Rattle.regex_lite_syntax.specs.Sets.{Set}
@@ -6,8 +6,12 @@ use Rattle.regex_lite_syntax.specs.Grammar.Classes.{BracketedClass}
 use Rattle.regex_lite_syntax.specs.Grammar.Atoms.{bracketed, Atom}
 use Rattle.regex_lite_syntax.specs.Tree.{Tree}
 use Rattle.regex_lite_syntax.proofs.grammar.AtomLemmas.{by_kind, NoSign, no_escape}
+use Rattle.regex_lite_syntax.proofs.CharacterLemmas.{left_are}
 use Rattle.regex_lite_syntax.proofs.parse.DenialLemmas.{denies_part}
+use Rattle.regex_lite_syntax.proofs.parse.CompletionLemmas.{cut_short_says}
 use Rattle.regex_lite_syntax.proofs.parse.IndexLemmas.{drop_char}
+use Rattle.regex_lite_syntax.proofs.parse.atom.AtomCompletionLemmas.{completed_escape}
+use Rattle.regex_lite_syntax.proofs.parse.atom.AtomCompletionLemmas.{completed_class}
 use Rattle.regex_lite_syntax.proofs.parse.atom.LiteralLemmas.{other_atom}
 use Rattle.regex_lite_syntax.proofs.parse.atom.read_atom.Goals as goal
 
@@ -21,7 +25,8 @@ returns-in_err-end-in-92-clause-refused c =
     rw (left.1, left.2)
     (λ more follows (rest, a, atom).
     no_escape c.args.flags _ _ rest a (ap (λ u. u ++ more) backslash)
-    (λ past p escape. c.in_err-end-in-92.ensures.refused more follows (past, p, escape)) atom)
+    (λ past p escape.
+    c.in_err-end-in-92.ensures.refused more follows (past, p, escape, search rules)) atom)
 
 pub returns-in_err-end-in-91-clause-refused : goal.returns-in_err-end-in-91-clause-refused
 returns-in_err-end-in-91-clause-refused c =
@@ -53,3 +58,27 @@ returns-in_ok-char_tree-in_default-clause-ok c =
     } in
     other_atom c.args.flags _ _ _ _ here c.requires.past_gap c.requires.begins sign
     c.in_ok-char_tree-in_default.ensures
+
+pub returns-in_err-end-in-92-clause-completes : goal.returns-in_err-end-in-92-clause-completes
+returns-in_err-end-in-92-clause-completes c =
+    let xs = c.args.chars.now in
+    let here = drop_char xs c.args.at _ c.requires.inside c.index-chars-at.is in
+    let backslash = here ∙ ap (λ d. d ∷ drop (c.args.at + 1) xs) c.in-92.is in
+    let left = err_from_is_err_and c.from_residual-in_err-end-in-92.result
+    c.from_residual-in_err-end-in-92.ensures.1 in
+    rw (left.1, left.2)
+    (λ short. completed_escape c.args.flags (drop c.args.at xs) (drop (c.args.at + 1) xs) backslash
+    (c.in_err-end-in-92.ensures.completes short))
+
+pub returns-in_err-end-in-91-clause-completes : goal.returns-in_err-end-in-91-clause-completes
+returns-in_err-end-in-91-clause-completes c =
+    let xs = c.args.chars.now in
+    let here = drop_char xs c.args.at _ c.requires.inside c.index-chars-at.is in
+    let bracket = here ∙ ap (λ d. d ∷ drop (c.args.at + 1) xs) c.in-91.is in
+    let left = err_from_is_err_and c.from_residual-in_err-end-in-91.result
+    c.from_residual-in_err-end-in-91.ensures.1 in
+    let characters = left_are c.args.at xs c.requires.characters in
+    rw (left.1, left.2)
+    (cut_short_says c.in_err-end-in-91.field-0.0 _ _
+    (completed_class c.args.flags (drop c.args.at xs) (drop (c.args.at + 1) xs) bracket characters)
+    c.in_err-end-in-91.ensures.completes)

@@ -3,14 +3,18 @@ use Rattle.std.proofs.lemmas.Result.{err_from_is_err_and}
 use Rattle.regex_lite_syntax.specs.Text.{Text, the}
 use Rattle.regex_lite_syntax.specs.Sets.{Set, just, union}
 use Rattle.regex_lite_syntax.specs.Ranges.{in_ranges}
-use Rattle.regex_lite_syntax.specs.Grammar.Classes.{ClassItems, only_if, BracketedClass}
-use Rattle.regex_lite_syntax.specs.Refusals.{Denies}
+use Rattle.regex_lite_syntax.specs.Grammar.Classes.{ClassItems, ClassOpening, only_if}
+use Rattle.regex_lite_syntax.specs.Grammar.Classes.{BracketedClass}
+use Rattle.regex_lite_syntax.specs.Refusals.{Denies, Completable, IfCutShort}
 use Rattle.regex_lite_syntax.proofs.grammar.LongerClassLemmas.{opening_longer}
 use Rattle.regex_lite_syntax.proofs.parse.DenialLemmas.{none_at_end, denies_part}
 use Rattle.regex_lite_syntax.proofs.parse.IndexLemmas.{left_at_end}
 use Rattle.regex_lite_syntax.proofs.parse.bracket.ClassItemLemmas.{nothing_left}
 use Rattle.regex_lite_syntax.proofs.parse.bracket.ClassOpeningLemmas.{class_from, class_items}
 use Rattle.regex_lite_syntax.proofs.parse.bracket.ClassSetLemmas.{holds_all, class_as}
+use Rattle.regex_lite_syntax.proofs.parse.bracket.CompletedClassLemmas.{ClassTo}
+use Rattle.regex_lite_syntax.proofs.parse.bracket.CompletedClassLemmas.{completes_opening}
+use Rattle.regex_lite_syntax.proofs.parse.CompletionLemmas.{completes_part, cut_short_says}
 use Rattle.regex_lite_syntax.proofs.parse.bracket.LongerItemLemmas.{some_at}
 use Rattle.regex_lite_syntax.proofs.parse.bracket.read_class.Goals as goal
 use Rattle.regex_lite_syntax.proofs.parse.bracket.read_class.Goals.{In_ok-class}
@@ -54,6 +58,45 @@ returns-in_err-end-clause-refused c =
           (opening_longer more c.read_opening-start.ensures.opens some) found.2,
     ))
     c.in_err-end.ensures.refused)
+
+pub returns-then-start-chars-clause-completes : goal.returns-then-start-chars-clause-completes
+returns-then-start-chars-clause-completes c =
+    let insensitive = c.args.insensitive in
+    let verbose = c.args.verbose in
+    let xs = c.args.chars.now in
+    let t = drop c.args.at xs in
+    let start = c.read_opening-start.result.0 in
+    let opening = c.read_opening-start.result.1 in
+    subst (λ e. IfCutShort e (Completable
+    (λ t r. (s : Set) × BracketedClass insensitive verbose t r s) t))
+    (sym c.into.ensures)
+    (λ short. completes_opening insensitive verbose t opening.negated opening.dash opening.bracket
+    (subst (λ u. ClassOpening verbose t u opening.negated opening.dash opening.bracket)
+    (left_at_end xs start c.if-start-chars.true)
+    c.read_opening-start.ensures.opens))
+
+pub returns-in_err-end-clause-completes : goal.returns-in_err-end-clause-completes
+returns-in_err-end-clause-completes c =
+    let insensitive = c.args.insensitive in
+    let verbose = c.args.verbose in
+    let xs = c.args.chars.now in
+    let t = drop c.args.at xs in
+    let u = drop c.read_opening-start.result.0 xs in
+    let some = some_at xs c.read_opening-start.result.0
+    (omega (arith, c.if-start-chars.false, c.read_opening-start.ensures.inside)) in
+    let left =
+    err_from_is_err_and c.from_residual-in_err-end.result c.from_residual-in_err-end.ensures.1 in
+    rw (left.1, left.2) (cut_short_says _
+    (Completable (ClassTo verbose) u)
+    (Completable (λ t r. (s : Set) × BracketedClass insensitive verbose t r s) t)
+    (completes_part (ClassTo verbose)
+    (λ t r. (s : Set) × BracketedClass insensitive verbose t r s) u t
+    (λ more rest found. (
+      _,
+      class_from insensitive verbose (t ++ more) (u ++ more) rest _ _ _ found.0
+          (opening_longer more c.read_opening-start.ensures.opens some) found.1,
+    )))
+    c.in_err-end.ensures.completes)
 
 -- what the class is the union of
 dash_set : In_ok-class → Set

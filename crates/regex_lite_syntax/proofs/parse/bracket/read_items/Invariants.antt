@@ -4,6 +4,8 @@ use Rattle.regex_lite_syntax.specs.Grammar.Gaps.{EndsGap}
 use Rattle.regex_lite_syntax.specs.Sets.{Set, union}
 use Rattle.regex_lite_syntax.specs.Ranges.{in_ranges}
 use Rattle.regex_lite_syntax.specs.Grammar.Classes.{ClassItems}
+use Rattle.regex_lite_syntax.specs.Refusals.{Completable}
+use Rattle.regex_lite_syntax.proofs.parse.bracket.CompletedClassLemmas.{ClassTo}
 use Rattle.regex_lite_syntax.proofs.parse.bracket.read_items.Given as goal
 
 abbrev pub invariant-items : goal.invariant-items
@@ -14,13 +16,16 @@ invariant-items l = record {
   sets : List Set;
   holds : (c : ℕ)
       → in_ranges l.ranges.items c ≡ (in_ranges l.initial.ranges.items c || union sets c);
-  -- items from here on are items from the start on, and the other way round
-  goes : (more : List Set) (rest : Text) → ClassItems l.verbose more (drop l.end l.chars) rest
-      → ClassItems l.verbose (sets ++ more) (drop l.at l.chars) rest;
-  -- the latter in a longer text too, unless the text ends here
+  -- items from here on are items from the start on, and the other way round, and in a longer text
+  -- too, unless the text ends here
+  goes : (more : Text) → (drop l.end l.chars ≡ [] → more ≡ []) → (all : List Set) (rest : Text)
+      → ClassItems l.verbose all (drop l.end l.chars ++ more) rest
+      → ClassItems l.verbose (sets ++ all) (drop l.at l.chars ++ more) rest;
   back : (more : Text) → (drop l.end l.chars ≡ [] → more ≡ []) → (all : List Set) (rest : Text)
       → ClassItems l.verbose all (drop l.at l.chars ++ more) rest
       → (sets : List Set) × ClassItems l.verbose sets (drop l.end l.chars ++ more) rest;
+  -- where it ends here, more of the pattern completes the items
+  closes : drop l.end l.chars ≡ [] → Completable (ClassTo l.verbose) (drop l.at l.chars);
 }
 
 abbrev pub decreases-items : goal.decreases-items

@@ -1,10 +1,13 @@
-use Rattle.std.proofs.Common.{refl, subst, drop, arith}
+use Rattle.std.proofs.Common.{◌-◌, ◌^◌, codes, refl, subst, drop, arith}
 use Rattle.regex_lite_syntax.specs.Grammar.Counted.{WholeSide, Number}
 use Rattle.regex_lite_syntax.proofs.grammar.NumberLemmas.{NoDigit, digit_read, no_digits_read}
 use Rattle.regex_lite_syntax.proofs.grammar.NumberLemmas.{number_read, no_number_at_end}
 use Rattle.regex_lite_syntax.proofs.grammar.LongerNumberLemmas.{of_text, longer_too_large}
 use Rattle.regex_lite_syntax.proofs.grammar.LongerNumberLemmas.{longer_number_only}
 use Rattle.regex_lite_syntax.proofs.grammar.LongerNumberLemmas.{no_longer_number}
+use Rattle.regex_lite_syntax.proofs.grammar.ResumedNumberLemmas.{number_begun}
+use Rattle.regex_lite_syntax.proofs.grammar.ResumedNumberLemmas.{digits_are_characters}
+use Rattle.regex_lite_syntax.proofs.grammar.ResumedCountLemmas.{past_gap}
 use Rattle.regex_lite_syntax.proofs.parse.IndexLemmas.{left_at_end, some_at}
 use Rattle.regex_lite_syntax.proofs.parse.counted.read_number.Goals as goal
 
@@ -17,6 +20,19 @@ returns-then-first-chars-clause-refused c =
     λ more follows (rest, n, number, ends).
     no_number_at_end side
     (of_text (λ v. Number c.args.verbose v rest n) t more (follows refl) number)
+
+pub returns-then-first-chars-clause-completes :
+    goal.returns-then-first-chars-clause-completes
+returns-then-first-chars-clause-completes c =
+    let xs = c.args.chars.now in
+    let none = left_at_end xs c.skip_side-first.result c.if-first-chars.true in
+    let t = drop c.args.at xs in
+    let side = subst (λ u. WholeSide c.args.verbose t u) none c.skip_side-first.ensures.side in
+    λ short.
+    let greatest = codes "4294967295" in
+    past_gap c.args.verbose (λ v rest. Number c.args.verbose v rest (2 ^ 32 - 1)) t greatest
+    (digits_are_characters greatest refl)
+    (λ next. number_begun c.args.verbose t next greatest side.0 refl (omega arith) (omega arith))
 
 pub loop-next-init : goal.loop-next-init
 loop-next-init c = record {

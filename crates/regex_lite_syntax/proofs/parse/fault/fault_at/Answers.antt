@@ -1,6 +1,6 @@
-use Rattle.std.proofs.Common.{◌≡◌, ◌∙◌, sym, subst, IfSome, false}
+use Rattle.std.proofs.Common.{◌∙◌, sym, subst, IfSome, MatchBool}
 use Rattle.regex_lite_syntax.specs.declared.parse.fault.Stop.{Stop}
-use Rattle.regex_lite_syntax.specs.FaultPlaces.{BeginsNone}
+use Rattle.regex_lite_syntax.specs.FaultPlaces.{BeginsNone, BeginsSome}
 use Rattle.regex_lite_syntax.proofs.CharacterLemmas.{chars_are}
 use Rattle.regex_lite_syntax.proofs.parse.fault.fault_at.Goals as goal
 
@@ -13,10 +13,12 @@ place_of-requires-clause-characters c =
     rw (c.deref-in-Some.ensures.value ∙ c.in_ok-chars.ensures)
     (chars_are c.args.pattern.now c.utf8.pattern)
 
-pub place_of-requires-clause-for_good : goal.place_of-requires-clause-for_good
-place_of-requires-clause-for_good c =
+pub place_of-requires-clause-goes_on : goal.place_of-requires-clause-goes_on
+place_of-requires-clause-goes_on c =
+    let flags = c.args.flags in
+    let xs = c.deref.result.now in
     rw (c.deref-in-Some.ensures.value ∙ sym c.deref.ensures.value)
     (subst
     (λ found. IfSome found (λ (stop : Stop).
-    stop.is_cut_short ≡ false → BeginsNone c.args.flags c.deref.result.now))
-    c.in-Some.is c.in_ok-first_stop.ensures.for_good)
+    MatchBool stop.is_cut_short (BeginsSome flags xs) (BeginsNone flags xs)))
+    c.in-Some.is c.in_ok-first_stop.ensures.goes_on)

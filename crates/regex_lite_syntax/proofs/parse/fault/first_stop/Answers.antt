@@ -1,18 +1,22 @@
 use Rattle.std.proofs.Common.{inl, refl, sym, subst, arith, drop, length, ◌<◌, ◌≡◌, []}
 use Rattle.regex_lite_syntax.specs.declared.error.ErrorKind.TheVariants as kind
-use Rattle.std.proofs.Common.{◌≢◌, MatchOption, IfSome, false}
+use Rattle.std.proofs.Common.{◌≢◌, MatchOption, MatchBool, IfSome}
 use Rattle.std.proofs.lemmas.Result.{IfOk-weaker, IfErr-weaker}
-use Rattle.regex_lite_syntax.specs.FaultPlaces.{IsFaultAt, IsUntold, BeginsNone}
+use Rattle.regex_lite_syntax.specs.FaultPlaces.{IsFaultAt, IsUntold, BeginsNone, BeginsSome}
 use Rattle.regex_lite_syntax.specs.Grammar.{HasTree}
 use Rattle.regex_lite_syntax.specs.Errors.{kind_of}
 use Rattle.regex_lite_syntax.specs.Grammar.GroupNames.{NamesDiffer}
 use Rattle.regex_lite_syntax.specs.Grammar.Gaps.{Gap}
+use Rattle.regex_lite_syntax.specs.Parser.FaultEnds.{IsRefusedUnread}
 use Rattle.regex_lite_syntax.specs.Parser.Starts.{Tracks}
 use Rattle.regex_lite_syntax.specs.Parser.States.{CanRead}
 use Rattle.regex_lite_syntax.proofs.grammar.NameLemmas.{no_names_differ}
+use Rattle.regex_lite_syntax.proofs.machine.CompletedRunLemmas.{reads_on_at_end}
+use Rattle.regex_lite_syntax.proofs.machine.FaultEndLemmas.{goes_on_as, goes_on_open}
+use Rattle.regex_lite_syntax.proofs.machine.FaultEndLemmas.{refused_unread}
 use Rattle.regex_lite_syntax.proofs.machine.FaultLemmas.{comes_first, comes_next, stuck_at}
 use Rattle.regex_lite_syntax.proofs.machine.FaultLemmas.{end_found, syntax_says, other_says}
-use Rattle.regex_lite_syntax.proofs.machine.FaultLemmas.{says_for_good, stop_found}
+use Rattle.regex_lite_syntax.proofs.machine.FaultLemmas.{stop_found}
 use Rattle.regex_lite_syntax.proofs.parse.DenialLemmas.{none_now}
 use Rattle.regex_lite_syntax.proofs.parse.IndexLemmas.{drop_at, left_at_end}
 use Rattle.regex_lite_syntax.proofs.parse.fault.first_stop.Goals as goal
@@ -60,20 +64,34 @@ returns-in-Err-clause-found c =
     rw is (record { inside = inside; place = inl place.0 }, place.1))
     c.stop_or_error.ensures.stop
 
-pub returns-in-Err-clause-for_good : goal.returns-in-Err-clause-for_good
-returns-in-Err-clause-for_good c =
+pub returns-then-here-chars-clause-goes_on : goal.returns-then-here-chars-clause-goes_on
+returns-then-here-chars-clause-goes_on c =
+    let xs = c.args.chars.now in
+    let p = c.loop-starts.parser in
+    let t = drop c.loop-starts.at xs in
+    let none = left_at_end xs c.skip_gap-here.result c.if-here-chars.true in
+    let gap = subst (λ u. Gap p.here.flags.ignore_whitespace t u) none
+    c.skip_gap-here.ensures.gap.0 in
+    rw c.unclosed.ensures
+    (goes_on_open c.args.flags xs c.pop.result
+    (reads_on_at_end c.args.flags xs p t c.loop-starts.starts.items c.loop-starts.invariant.comes
+    gap))
+
+pub returns-in-Err-clause-goes_on : goal.returns-in-Err-clause-goes_on
+returns-in-Err-clause-goes_on c =
     let xs = c.args.chars.now in
     let here = c.skip_gap-here.result in
     let inside : here < length xs =
     omega (arith, c.if-here-chars.false, c.skip_gap-here.ensures.inside) in
     let more : drop here xs ≡ [] → ⊥ = λ e. cc (e, drop_at xs here inside) in
     IfOk-weaker c.stop_or_error.result _
-    (λ found. IfSome found (λ stop. stop.is_cut_short ≡ false → BeginsNone c.args.flags xs))
+    (λ found. IfSome found (λ stop.
+    MatchBool stop.is_cut_short (BeginsSome c.args.flags xs) (BeginsNone c.args.flags xs)))
     (λ found (fault, syntax, is).
     rw is
-    (says_for_good c.args.flags xs c.loop-starts.parser _ _ _ _ fault
+    (goes_on_as c.args.flags xs c.loop-starts.parser _ _ _ _ fault
     c.loop-starts.invariant.comes c.skip_gap-here.ensures.gap more c.in-Err.ensures.refused
-    syntax))
+    c.in-Err.ensures.completes syntax))
     c.stop_or_error.ensures.stop
 
 pub returns-in-Err-clause-refused : goal.returns-in-Err-clause-refused
@@ -101,3 +119,15 @@ loop-starts-preserved c =
           (subst (λ n. Tracks c.loop-starts.starts.items c.track.new.starts.items n here)
           c.open_groups.ensures c.in_ok-track.ensures);
     }
+
+pub returns-in-Err-clause-unread : goal.returns-in-Err-clause-unread
+returns-in-Err-clause-unread c =
+    let xs = c.args.chars.now in
+    IfErr-weaker c.stop_or_error.result
+    (λ e. (kind_of c.in-Err.error ≢ kind.Syntax) × (e ≡ c.in-Err.error))
+    (λ e. IsRefusedUnread xs (kind_of e))
+    (λ e (other, is).
+    rw is
+    (refused_unread c.args.flags xs c.loop-starts.parser _ _ _ _ c.loop-starts.invariant.comes
+    c.skip_gap-here.ensures.gap other c.in-Err.ensures.refused))
+    c.stop_or_error.ensures.other

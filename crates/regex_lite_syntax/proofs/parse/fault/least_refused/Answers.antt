@@ -1,14 +1,19 @@
-use Rattle.std.proofs.Common.{arith}
+use Rattle.std.proofs.Common.{subst, arith}
+use Rattle.regex_lite_syntax.specs.Parser.FaultEnds.{GoesOnFrom}
 use Rattle.regex_lite_syntax.proofs.CharacterLemmas.{first_are}
 use Rattle.regex_lite_syntax.proofs.parse.fault.least_refused.Goals as goal
 
-pub is_refused-requires : goal.is_refused-requires
-is_refused-requires c = first_are _ _ c.requires.characters
+pub begins_none-requires : goal.begins_none-requires
+begins_none-requires c = first_are _ _ c.requires.characters
 
-pub loop-end-preserved-then-branch : goal.loop-end-preserved-then-branch
-loop-end-preserved-then-branch c =
+pub returns-clause-end : goal.returns-clause-end
+returns-clause-end c =
     let inside = c.loop-end.invariant.inside in
     record {
-      inside = omega (arith, inside, c.loop-end-test.true);
-      for_good = c.in_ok-is_refused.ensures.for_good c.if-branch.true;
+      past = omega (arith, inside);
+      inside = inside.2;
+      none = c.loop-end.invariant.none;
+      before =
+          subst (GoesOnFrom c.args.flags c.args.chars.now c.args.low)
+          (omega (arith, inside, c.loop-end-test.false)) c.loop-end.invariant.goes_on;
     }

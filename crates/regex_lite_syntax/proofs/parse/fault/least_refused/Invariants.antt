@@ -1,11 +1,13 @@
 use Rattle.std.proofs.Common.{◌<◌, ◌≤◌, ◌-◌, take}
 use Rattle.regex_lite_syntax.specs.FaultPlaces.{BeginsNone}
+use Rattle.regex_lite_syntax.specs.Parser.FaultEnds.{GoesOnFrom}
 use Rattle.regex_lite_syntax.proofs.parse.fault.least_refused.Given as goal
 
 abbrev pub invariant-loop-end : goal.invariant-loop-end
 invariant-loop-end l = record {
   inside : (l.fn.low ≤ l.below) × (l.below < l.end) × (l.end ≤ l.fn.high);
-  for_good : BeginsNone l.fn.flags (take l.end l.chars);
+  none : BeginsNone l.fn.flags (take l.end l.chars);
+  goes_on : GoesOnFrom l.fn.flags l.chars l.fn.low l.below;
 }
 
 abbrev pub decreases-loop-end : goal.decreases-loop-end

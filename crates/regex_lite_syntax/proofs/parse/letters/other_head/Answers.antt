@@ -1,18 +1,22 @@
-use Rattle.std.proofs.Common.{inl, inr, ◌≡◌, ℕ, false, refl, ◌∙◌, ap}
-use Rattle.std.proofs.Common.{◌∷◌, ◌+◌, ◌++◌, codes, subst, arith}
+use Rattle.std.proofs.Common.{inl, inr, ◌≡◌, ℕ, false, refl, sym, ◌∙◌, ap}
+use Rattle.std.proofs.Common.{[], ◌∷◌, ◌+◌, ◌++◌, codes, subst, arith}
 use Rattle.regex_lite_syntax.specs.declared.error.syntax.SyntaxFault.{SyntaxFault}
 use Rattle.regex_lite_syntax.specs.declared.error.syntax.SyntaxFault.TheVariants.{
   LookUnsupported,
-  FlagOrNameUnexpectedEof,
+  CutShort,
+}
+use Rattle.regex_lite_syntax.specs.declared.error.unexpected_eof.UnexpectedEof.TheVariants.{
+  FlagOrName,
 }
 use Rattle.regex_lite_syntax.specs.declared.flags.Flags.{Flags}
 use Rattle.regex_lite_syntax.specs.Text.{Text, the}
 use Rattle.regex_lite_syntax.specs.Characters.{is_one_of}
 use Rattle.regex_lite_syntax.specs.Grammar.FlagLetters.{is_flag_letter}
+use Rattle.regex_lite_syntax.specs.Grammar.GroupNames.{with_p, without_p}
 use Rattle.regex_lite_syntax.specs.Parser.FlagRuns.{EndedFlags}
 use Rattle.regex_lite_syntax.specs.Refusals.{NoReading}
 use Rattle.regex_lite_syntax.specs.Parser.NameOpenings.{EndsInOpening}
-use Rattle.regex_lite_syntax.proofs.parse.IndexLemmas.{drop_at}
+use Rattle.regex_lite_syntax.proofs.parse.IndexLemmas.{drop_at, left_at_end}
 use Rattle.regex_lite_syntax.proofs.grammar.LongerOpeningLemmas.{not_inside}
 use Rattle.regex_lite_syntax.proofs.parse.letters.WholeFlagLemmas.{no_flags_other}
 use Rattle.regex_lite_syntax.proofs.parse.letters.other_head.Goals as goal
@@ -35,7 +39,7 @@ returns-in-Some-eq61-clause-refused c =
 
 pub returns-in-Some-P-clause-refused : goal.returns-in-Some-P-clause-refused
 returns-in-Some-P-clause-refused c =
-    no_flags_at FlagOrNameUnexpectedEof _ _ _ (the "P") c.in-Some-P.ensures.1
+    no_flags_at (CutShort FlagOrName) _ _ _ (the "P") c.in-Some-P.ensures.1
     c.in-Some-P.field-0-test refl refl
 
 pub returns-in-Some-clause-goes_on : goal.returns-in-Some-clause-goes_on
@@ -51,3 +55,25 @@ returns-in-Some-2-clause-goes_on c inside =
     let here = ap (λ t. (the "?") ∷ t) c.in-Some.ensures.1 in
     not_inside c.in-Some.field-0 _ (λ is_p none. c.in-Some.field-0-test.1 is_p)
     (subst (λ t. EndsInOpening t) here inside)
+
+-- a `?` and no more is a part of what opens a name
+question_opens : (t : Text) → t ≡ [] → EndsInOpening (the "?" ∷ t)
+question_opens t none =
+    subst (λ u. EndsInOpening (the "?" ∷ u)) (sym none)
+    (the "<" ∷ [], (λ e. cc e), without_p refl)
+
+pub returns-in-None-clause-completes : goal.returns-in-None-clause-completes
+returns-in-None-clause-completes c short = question_opens _ c.in-None.ensures
+
+-- and so is one before a `P`
+p_opens : (t past : Text) (c : ℕ) → t ≡ c ∷ past → c ≡ the "P" → past ≡ []
+    → EndsInOpening (the "?" ∷ t)
+p_opens t past c here is none =
+    subst (λ u. EndsInOpening (the "?" ∷ u))
+    (sym (here ∙ ap (λ d. d ∷ past) is ∙ ap (λ u. the "P" ∷ u) none))
+    (the "<" ∷ [], (λ e. cc e), with_p refl)
+
+pub returns-in-Some-P-clause-completes : goal.returns-in-Some-P-clause-completes
+returns-in-Some-P-clause-completes c short =
+    p_opens _ _ _ c.in-Some-P.ensures.1 c.in-Some-P.field-0-test
+    (left_at_end c.args.chars.now (c.args.at + 1) (omega (arith, c.if-at-chars.true)))

@@ -9,6 +9,8 @@ use Rattle.regex_lite_syntax.proofs.parse.letters.FlagRunLemmas.{run_longer}
 use Rattle.regex_lite_syntax.proofs.parse.letters.WholeFlagLemmas.{Cleared, first_run, second_run}
 use Rattle.regex_lite_syntax.proofs.parse.letters.WholeFlagLemmas.{no_second_dash, some_second}
 use Rattle.regex_lite_syntax.proofs.parse.letters.WholeFlagLemmas.{flags_set, flags_cleared}
+use Rattle.regex_lite_syntax.proofs.parse.letters.CompletedFlagLemmas.{set_completes}
+use Rattle.regex_lite_syntax.proofs.parse.letters.CompletedFlagLemmas.{dash_completes, none_clears}
 use Rattle.regex_lite_syntax.proofs.parse.letters.read_flags.Goals as goal
 
 pub returns-in_err-middle-clause-refused : goal.returns-in_err-middle-clause-refused
@@ -76,3 +78,29 @@ returns-clause-ok c =
     run.flags in
     flags_cleared c.args.old _ _ _ _ _ _ c.in_ok-end.new run.ok dashed run_off.ok
     (omega (arith, length_is, run_off.inside)) no_dash flags
+
+pub returns-in_err-middle-clause-completes : goal.returns-in_err-middle-clause-completes
+returns-in_err-middle-clause-completes c =
+    let left = err_from_is_err_and c.from_residual.result c.from_residual.ensures.1 in
+    rw (left.1, left.2) (λ short.
+    let ended = c.in_err-middle.ensures.at_end short in
+    set_completes c.args.old _ ended.0 ended.1)
+
+pub returns-then-is_out_of_letters-clause-refused :
+    goal.returns-then-is_out_of_letters-clause-refused
+returns-then-is_out_of_letters-clause-refused c =
+    let dashed = (c.is_at.ensures.there c.if-not-is_at.false).1 in
+    let every = (c.is_out_of_letters.ensures.none_left c.if-is_out_of_letters.true).1 in
+    λ more follows flags.
+    none_clears _ _ flags.0 every
+    (second_longer more _ _ _ _ _ _ _ c.in_ok-middle.ensures.ok dashed flags.2)
+
+pub returns-in_err-end-clause-completes : goal.returns-in_err-end-clause-completes
+returns-in_err-end-clause-completes c =
+    let dashed = (c.is_at.ensures.there c.if-not-is_at.false).1 in
+    let some_left = c.is_out_of_letters.ensures.some_left c.if-is_out_of_letters.false in
+    let left =
+    err_from_is_err_and c.from_residual-in_err-end.result c.from_residual-in_err-end.ensures.1 in
+    rw (left.1, left.2) (λ short.
+    let ended = c.in_err-end.ensures.at_end short in
+    dash_completes c.args.old _ _ _ _ c.in_ok-middle.ensures.ok dashed ended.0 ended.1 some_left)

@@ -12,9 +12,8 @@ use Rattle.regex_lite_syntax.specs.Parser.FlagRuns.{EndsRun, LetterRun}
 use Rattle.regex_lite_syntax.proofs.grammar.WordLemmas.{pass_push}
 use Rattle.regex_lite_syntax.proofs.parse.IndexLemmas.{drop_char}
 use Rattle.regex_lite_syntax.proofs.parse.DenialLemmas.{none_at_end}
-use Rattle.regex_lite_syntax.specs.declared.error.syntax.SyntaxFault.TheVariants.{
-  FlagUnexpectedEof,
-}
+use Rattle.regex_lite_syntax.specs.declared.error.syntax.SyntaxFault.TheVariants.{CutShort}
+use Rattle.regex_lite_syntax.specs.declared.error.unexpected_eof.UnexpectedEof.TheVariants.{Flag}
 use Rattle.regex_lite_syntax.proofs.parse.letters.SliceLemmas.{slice_spelled, slice_more}
 use Rattle.regex_lite_syntax.proofs.parse.letters.SliceLemmas.{spelled_longer}
 use Rattle.regex_lite_syntax.proofs.parse.letters.FlagRunLemmas.{with_flags_more}
@@ -102,6 +101,6 @@ returns-clause-refused c =
     let read = slice_range xs c.args.at end in
     let none = drop_all end xs (omega arith) in
     let written = slice_spelled xs c.args.at end (omega arith) in
-    none_at_end FlagUnexpectedEof
+    none_at_end (CutShort Flag)
     (λ t. (letters : Text) × (rest : Text) × LetterRun before letters t rest) _ refl
     (λ run. no_run_end before read run.0 _ _ run.1 written c.loop-end.invariant.all none run.2)

@@ -1,9 +1,13 @@
-use Rattle.std.proofs.Common.{refl, sym, ◌∙◌, ap, ◌++◌, arith}
+use Rattle.std.proofs.Common.{refl, sym, ◌∙◌, ap, subst, ◌++◌, slice_range, arith}
 use Rattle.std.proofs.lemmas.Bool.{both_ways}
+use Rattle.std.proofs.lemmas.List.{append-nil}
+use Rattle.regex_lite_syntax.specs.Refusals.{Completable}
 use Rattle.regex_lite_syntax.proofs.grammar.NameReadingLemmas.{first_of_name, name_begun}
 use Rattle.regex_lite_syntax.proofs.grammar.NameReadingLemmas.{name_goes_on, name_read}
 use Rattle.regex_lite_syntax.proofs.grammar.NameReadingLemmas.{next_of_name}
 use Rattle.regex_lite_syntax.proofs.grammar.NameReadingLemmas.{nothing_left_at_end, range_more}
+use Rattle.regex_lite_syntax.proofs.grammar.NameReadingLemmas.{range_spelled}
+use Rattle.regex_lite_syntax.proofs.grammar.NewNameLemmas.{NewName, name_completes, name_follows}
 use Rattle.regex_lite_syntax.proofs.parse.name.read_name.Goals as goal
 
 pub loop-c-init : goal.loop-c-init
@@ -50,3 +54,21 @@ returns-clause-refused c =
     λ more follows (rest, name, written).
     nothing_left_at_end (ap (λ v. v ++ more) c.in_default.ensures ∙ follows refl)
     (c.loop-c.invariant.back more rest name written)
+
+pub returns-in-None-clause-completes : goal.returns-in-None-clause-completes
+returns-in-None-clause-completes c names short =
+    subst (λ t. Completable (NewName names) t) (sym c.in-None.ensures) (name_follows names)
+
+pub returns-in-Some-clause-completes : goal.returns-in-Some-clause-completes
+returns-in-Some-clause-completes c names short =
+    absurd (both_ways _ c.fault_of_start.ensures short)
+
+pub returns-clause-completes : goal.returns-clause-completes
+returns-clause-completes c names short =
+    let xs = c.args.chars.now in
+    let read = slice_range xs c.args.at c.loop-c.end in
+    let spelled =
+    range_spelled xs c.args.at c.loop-c.end (omega arith)
+    ∙ ap (λ u. read ++ u) c.in_default.ensures ∙ append-nil read in
+    subst (λ t. Completable (NewName names) t) (sym spelled)
+    (name_completes names read c.loop-c.invariant.so_far)

@@ -1,12 +1,14 @@
-use Rattle.std.proofs.Common.{◌≢◌, refl, sym, ap, subst, ◌++◌, drop, []}
-use Rattle.std.proofs.lemmas.Result.{err_from_is_err_and, IfOk-weaker}
+use Rattle.std.proofs.Common.{◌≢◌, refl, sym, ap, subst, arith, ◌++◌, drop, []}
+use Rattle.std.proofs.lemmas.Bool.{both_ways}
+use Rattle.std.proofs.lemmas.Result.{err_from_is_err_and, IfOk-weaker, IfErr-weaker}
 use Rattle.regex_lite_syntax.specs.Text.{Text, Begins, the}
 use Rattle.regex_lite_syntax.specs.Sets.{Set}
 use Rattle.regex_lite_syntax.specs.Grammar.Classes.{BeginsItem, ClassElement, ClassItem}
-use Rattle.regex_lite_syntax.specs.Parser.Readings.{primitive_of}
-use Rattle.regex_lite_syntax.specs.Parser.ClassReadings.{IsElement, element_set, item_set}
+use Rattle.regex_lite_syntax.specs.Grammar.Escapes.{Primitive, one, some_of, look_at}
+use Rattle.regex_lite_syntax.specs.Parser.Readings.{primitive_of, ReachesTo}
+use Rattle.regex_lite_syntax.specs.Parser.ClassReadings.{element_set, item_set}
 use Rattle.regex_lite_syntax.specs.Parser.ClassReadings.{RangeTo, HasItems}
-use Rattle.regex_lite_syntax.proofs.grammar.ClassLemmas.{begins, part_once}
+use Rattle.regex_lite_syntax.proofs.grammar.ClassLemmas.{begins}
 use Rattle.regex_lite_syntax.proofs.grammar.LongerGapLemmas.{begins_longer}
 use Rattle.regex_lite_syntax.proofs.grammar.LongerClassLemmas.{element_longer, item_longer}
 use Rattle.regex_lite_syntax.proofs.grammar.LongerClassLemmas.{follows_longer}
@@ -17,13 +19,18 @@ use Rattle.regex_lite_syntax.proofs.parse.bracket.ClassItemLemmas.{item_part, it
 use Rattle.regex_lite_syntax.proofs.parse.bracket.ClassItemLemmas.{item_named, item_alone}
 use Rattle.regex_lite_syntax.proofs.parse.bracket.ClassItemLemmas.{item_range, item_range_to}
 use Rattle.regex_lite_syntax.proofs.parse.bracket.ClassItemLemmas.{open_items, some_past}
+use Rattle.regex_lite_syntax.proofs.parse.bracket.CompletedItemLemmas.{closed_named}
+use Rattle.regex_lite_syntax.proofs.parse.bracket.CompletedItemLemmas.{closed_escape, closed_range}
+use Rattle.regex_lite_syntax.proofs.parse.bracket.CompletedItemLemmas.{closed_ending}
 use Rattle.regex_lite_syntax.proofs.parse.bracket.LongerItemLemmas.{some_at, is_named_longer}
+use Rattle.regex_lite_syntax.proofs.parse.bracket.LongerItemLemmas.{element_before}
 use Rattle.regex_lite_syntax.proofs.parse.bracket.LongerItemLemmas.{no_operator, range_longer}
 use Rattle.regex_lite_syntax.proofs.parse.bracket.item.read_item.Goals as goal
 use Rattle.regex_lite_syntax.proofs.parse.bracket.item.read_item.Goals.{
   Else-is_at,
   In_ok-find_range_end,
   In-Some-element_of,
+  In-None,
 }
 
 pub returns-in_err-end-clause-refused : goal.returns-in_err-end-clause-refused
@@ -56,9 +63,15 @@ bare c more =
 pub returns-in-Some-clause-refused : goal.returns-in-Some-clause-refused
 returns-in-Some-clause-refused c more follows items =
     let t = drop c.args.at c.args.chars.now in
-    no_operator more t c.in-Some.ensures
+    no_operator more t c.in-Some.ensures.0
     (item_begins c.args.verbose (t ++ more) items.3.0 items.0
     (bare (goal.at.returns-in-Some-clause-refused c).Else-is_at more) items.3.2)
+
+-- every primitive reaches to the first character
+reaches_zero : (p : Primitive) → ReachesTo 0 p
+reaches_zero (one c) = omega arith
+reaches_zero (some_of set) = tt
+reaches_zero (look_at look) = tt
 
 pub returns-in_err-past-clause-refused : goal.returns-in_err-past-clause-refused
 returns-in_err-past-clause-refused c =
@@ -68,7 +81,8 @@ returns-in_err-past-clause-refused c =
     let none = bare (goal.at.returns-in_err-past-clause-refused c).Else-is_at in
     rw (left.1, left.2) (λ more follows items.
     let first = item_part c.args.verbose (t ++ more) _ _ (none more) items.3.2 in
-    c.in_err-past.ensures.refused more follows (first.0, first.1, first.3))
+    let zero_on = reaches_zero first.1 in
+    c.in_err-past.ensures.refused more follows (first.0, first.1, first.3, first.2, zero_on))
 
 pub returns-in_err-find_range_end-clause-refused : goal.returns-in_err-find_range_end-clause-refused
 returns-in_err-find_range_end-clause-refused c =
@@ -82,7 +96,7 @@ returns-in_err-find_range_end-clause-refused c =
     (open_items verbose t _ _ (c.if-is_at.ensures.absent refl) c.in_ok-past.ensures.ok refused.1))
 
 -- the item begins with its first part, past which something is left
-part_begins : (c : In_ok-find_range_end) → BeginsItem (drop c.args.at c.args.chars.now)
+part_begins : (c : In-Some-element_of) → BeginsItem (drop c.args.at c.args.chars.now)
 part_begins c =
     let xs = c.args.chars.now in
     begins_item (drop c.args.at xs) _ _ (drop_at xs c.args.at c.requires.inside) c.requires.goes_on
@@ -96,18 +110,16 @@ part_longer : (c : In_ok-find_range_end) (more : Text)
     (drop c.in_ok-past.past c.args.chars.now ++ more) (primitive_of c.in_ok-past.first)
 part_longer c more = element_longer more c.args.verbose _ _ _ c.in_ok-past.ensures.ok (goes_on c)
 
-pub returns-in-None-element_of-clause-refused : goal.returns-in-None-element_of-clause-refused
-returns-in-None-element_of-clause-refused c more follows items =
-    let verbose = c.args.verbose in
+pub returns-in_default-element_of-clause-refused : goal.returns-in_default-element_of-clause-refused
+returns-in_default-element_of-clause-refused c more follows items =
     let t = drop c.args.at c.args.chars.now in
-    let place = (goal.at.returns-in-None-element_of-clause-refused c).In_ok-find_range_end in
-    let none = bare (goal.at.returns-in-None-element_of-clause-refused c).Else-is_at more in
-    let first = item_part verbose (t ++ more) _ _ none items.3.2 in
-    let once = part_once verbose (t ++ more) _ first.0 _ first.1 (part_longer place more) first.3 in
-    c.in-None-element_of.ensures (subst (λ p. IsElement p) (sym once.1) first.2)
+    let none = bare (goal.at.returns-in_default-element_of-clause-refused c).Else-is_at more in
+    let first = item_part c.args.verbose (t ++ more) _ _ none items.3.2 in
+    c.in_default-element_of.ensures (element_before more c.args.verbose t _ first.0 _ first.1
+    c.in_ok-past.ensures.ok first.3 first.2)
 
 -- the item of one part alone
-alone : (c : In-Some-element_of) → BeginsItem (drop c.args.at c.args.chars.now)
+alone : (c : In-None) → BeginsItem (drop c.args.at c.args.chars.now)
     → ClassItem c.args.verbose (drop c.args.at c.args.chars.now)
     (drop c.in_ok-past.past c.args.chars.now)
     (element_set c.in-Some-element_of.element)
@@ -120,14 +132,15 @@ alone c begins =
     (sym c.in-Some-element_of.ensures) c.in_ok-past.ensures.ok in
     item_alone verbose t past c.in-Some-element_of.element begins part none
 
-pub returns-in-Some-element_of-clause-ok : goal.returns-in-Some-element_of-clause-ok
-returns-in-Some-element_of-clause-ok c =
-    alone c (part_begins (goal.at.returns-in-Some-element_of-clause-ok c).In_ok-find_range_end)
+pub returns-in-None-clause-ok : goal.returns-in-None-clause-ok
+returns-in-None-clause-ok c =
+    alone c (part_begins (goal.at.returns-in-None-clause-ok c).In-Some-element_of)
 
-pub returns-in-Some-element_of-clause-stays : goal.returns-in-Some-element_of-clause-stays
-returns-in-Some-element_of-clause-stays c more =
-    let place = (goal.at.returns-in-Some-element_of-clause-stays c).In_ok-find_range_end in
-    item_longer more (alone c (part_begins place)) (goes_on place)
+pub returns-in-None-clause-stays : goal.returns-in-None-clause-stays
+returns-in-None-clause-stays c more =
+    let place = goal.at.returns-in-None-clause-stays c in
+    item_longer more (alone c (part_begins place.In-Some-element_of))
+    (goes_on place.In_ok-find_range_end)
     c.in_ok-find_range_end.ensures.closed
 
 pub returns-in-Some-2-clause-ok : goal.returns-in-Some-2-clause-ok
@@ -138,7 +151,7 @@ returns-in-Some-2-clause-ok c =
     let first = primitive_of c.in_ok-past.first in
     let last = drop c.in-Some-2.last xs in
     let follows = rw c.in-Some-2.is at c.in_ok-find_range_end.ensures.ok in
-    let begins = part_begins (goal.at.returns-in-Some-2-clause-ok c).In_ok-find_range_end in
+    let begins = part_begins (goal.at.returns-in-Some-2-clause-ok c).In-Some-element_of in
     IfOk-weaker c.read_range.result
     (λ r. RangeTo verbose first last (drop r.0 xs) (item_set r.1))
     (λ r. ClassItem verbose t (drop r.0 xs) (item_set r.1))
@@ -154,12 +167,13 @@ returns-in-Some-2-clause-stays c =
     let first = primitive_of c.in_ok-past.first in
     let last = drop c.in-Some-2.last xs in
     let follows = rw c.in-Some-2.is at c.in_ok-find_range_end.ensures.ok in
-    let place = (goal.at.returns-in-Some-2-clause-stays c).In_ok-find_range_end in
+    let place = goal.at.returns-in-Some-2-clause-stays c in
     IfOk-weaker c.read_range.result
     (λ r. RangeTo verbose first last (drop r.0 xs) (item_set r.1))
     (λ r. (more : Text) → ClassItem verbose (t ++ more) (drop r.0 xs ++ more) (item_set r.1))
     (λ r to more. range_longer more verbose t (drop c.in_ok-past.past xs) last (drop r.0 xs) first _
-    (part_begins place) (goes_on place) c.in_ok-past.ensures.ok follows to)
+    (part_begins place.In-Some-element_of) (goes_on place.In_ok-find_range_end)
+    c.in_ok-past.ensures.ok follows to)
     c.read_range.ensures.ok
 
 pub returns-in-Some-2-clause-refused : goal.returns-in-Some-2-clause-refused
@@ -182,3 +196,53 @@ returns-in-Some-2-clause-refused c =
           (none more) (part_longer place more) (follows_longer more follows) items.3.2,
     ))
     c.read_range.ensures.refused
+
+pub returns-in_err-end-clause-completes : goal.returns-in_err-end-clause-completes
+returns-in_err-end-clause-completes c =
+    let left = err_from_is_err_and c.from_residual.result c.from_residual.ensures.1 in
+    rw (left.1, left.2) (λ short.
+    closed_named c.args.verbose (drop c.args.at c.args.chars.now)
+    (c.in_err-end.ensures.completes short))
+
+pub returns-in-Some-clause-completes : goal.returns-in-Some-clause-completes
+returns-in-Some-clause-completes c short = absurd (both_ways _ c.in-Some.ensures.1 short)
+
+pub returns-in_err-past-clause-completes : goal.returns-in_err-past-clause-completes
+returns-in_err-past-clause-completes c =
+    let left = err_from_is_err_and c.from_residual-in_err-past.result
+    c.from_residual-in_err-past.ensures.1 in
+    rw (left.1, left.2) (λ short.
+    closed_escape c.args.verbose (drop c.args.at c.args.chars.now)
+    c.in_err-past.ensures.escaped (c.in_err-past.ensures.completes short))
+
+pub returns-in_err-find_range_end-clause-completes :
+    goal.returns-in_err-find_range_end-clause-completes
+returns-in_err-find_range_end-clause-completes c =
+    let verbose = c.args.verbose in
+    let t = drop c.args.at c.args.chars.now in
+    let past = drop c.in_ok-past.past c.args.chars.now in
+    let element = c.in-Some-element_of.element in
+    let left = err_from_is_err_and c.from_residual-in_err-find_range_end.result
+    c.from_residual-in_err-find_range_end.ensures.1 in
+    let part = subst (λ p. ClassElement verbose t past p)
+    (sym c.in-Some-element_of.ensures) c.in_ok-past.ensures.ok in
+    rw (left.1, left.2) (λ short.
+    closed_ending verbose t past element
+    (part_begins (goal.at.returns-in_err-find_range_end-clause-completes c).In-Some-element_of)
+    part c.in_err-find_range_end.ensures.refused.1)
+
+pub returns-in-Some-2-clause-completes : goal.returns-in-Some-2-clause-completes
+returns-in-Some-2-clause-completes c =
+    let verbose = c.args.verbose in
+    let xs = c.args.chars.now in
+    let t = drop c.args.at xs in
+    let past = drop c.in_ok-past.past xs in
+    let first = primitive_of c.in_ok-past.first in
+    let last = drop c.in-Some-2.last xs in
+    let follows = rw c.in-Some-2.is at c.in_ok-find_range_end.ensures.ok in
+    let place = (goal.at.returns-in-Some-2-clause-completes c).In_ok-find_range_end in
+    IfErr-weaker c.read_range.result _ _
+    (λ fault completes short. closed_range verbose t past last first
+    (part_begins (goal.at.returns-in-Some-2-clause-completes c).In-Some-element_of)
+    (goes_on place) c.in_ok-past.ensures.ok follows (completes short))
+    c.read_range.ensures.completes

@@ -1,12 +1,15 @@
-use Rattle.std.proofs.Common.{◌≡◌, refl, ℕ, sym, ◌∙◌, ap, subst, ◌++◌, drop, arith}
+use Rattle.std.proofs.Common.{◌≡◌, refl, ℕ, ◌≤◌, sym, ◌∙◌, ap, subst, ◌++◌, drop, arith}
 use Rattle.std.proofs.lemmas.Result.{err_from_is_err_and}
 use Rattle.regex_lite_syntax.specs.declared.parse.escape.Primitive.{Primitive}
 use Rattle.regex_lite_syntax.specs.declared.parse.escape.Primitive.TheVariants as primitives
+use Rattle.regex_lite_syntax.specs.Sets.{Set, span}
 use Rattle.regex_lite_syntax.specs.Grammar.Escapes.{one}
 use Rattle.regex_lite_syntax.specs.Grammar.Classes.{ClassElement}
 use Rattle.regex_lite_syntax.specs.Parser.Readings.{primitive_of}
+use Rattle.regex_lite_syntax.specs.Parser.ClassReadings.{RangeTo}
 use Rattle.regex_lite_syntax.proofs.grammar.ClassLemmas.{one_same, part_once}
-use Rattle.regex_lite_syntax.proofs.parse.bracket.LongerItemLemmas.{char_before, char_longer}
+use Rattle.regex_lite_syntax.proofs.parse.CompletionLemmas.{completes_part}
+use Rattle.regex_lite_syntax.proofs.parse.bracket.LongerItemLemmas.{char_before, part_longer}
 use Rattle.regex_lite_syntax.proofs.parse.bracket.item.read_range.Goals as goal
 
 -- a primitive that is no character
@@ -21,7 +24,34 @@ returns-in_err-past-clause-refused c =
     let left = err_from_is_err_and c.from_residual.result c.from_residual.ensures.1 in
     rw (left.1, left.2)
     (λ more follows found.
-    c.in_err-past.ensures.refused more follows (found.0, one found.2.end, found.2.ends))
+    let starts = one_same _ _ (sym (ap primitive_of c.in-Char.is) ∙ found.2.starts) in
+    let reaches : c.in-Char.start ≤ found.2.end = omega (arith, starts, found.2.ordered) in
+    c.in_err-past.ensures.refused more follows
+    (found.0, one found.2.end, found.2.ends, tt, reaches))
+
+pub returns-in_err-past-clause-completes : goal.returns-in_err-past-clause-completes
+returns-in_err-past-clause-completes c =
+    let verbose = c.args.verbose in
+    let t = drop c.args.last c.args.chars.now in
+    let first = primitive_of c.args.first in
+    let start = c.in-Char.start in
+    let left = err_from_is_err_and c.from_residual.result c.from_residual.ensures.1 in
+    rw (left.1, left.2)
+    (λ short.
+    completes_part (λ u r. (d : ℕ) × ClassElement verbose u r (one d) × (start ≤ d))
+    (λ u r. (s : Set) × RangeTo verbose first u r s) t t
+    (λ more r found. (
+      span start found.0,
+      record {
+        start = start;
+        end = found.0;
+        starts = ap primitive_of c.in-Char.is;
+        ends = found.1;
+        ordered = found.2;
+        set_is = refl;
+      },
+    ))
+    (c.in_err-past.ensures.completes short))
 
 pub returns-then-start-end-clause-refused : goal.returns-then-start-end-clause-refused
 returns-then-start-end-clause-refused c =
@@ -32,7 +62,7 @@ returns-then-start-end-clause-refused c =
     c.in-Char-element.is c.in_ok-past.ensures.ok in
     λ more follows found.
     let starts = one_same _ _ (sym (ap primitive_of c.in-Char.is) ∙ found.2.starts) in
-    let longer = char_longer more verbose t (drop c.in_ok-past.past xs) _ part in
+    let longer = part_longer more verbose t (drop c.in_ok-past.past xs) _ tt part in
     let ends = one_same _ _ (part_once verbose (t ++ more) _ found.0 _ _ longer found.2.ends).1 in
     omega (arith, starts, ends, found.2.ordered, c.if-start-end.true)
 
@@ -51,6 +81,10 @@ returns-clause-ok c =
       ordered = c.if-start-end.false;
       set_is = refl;
     }
+
+pub returns-in_default-clause-refused : goal.returns-in_default-clause-refused
+returns-in_default-clause-refused c more follows found =
+    no_char c.args.first found.2.start c.in_default.not-Char found.2.starts
 
 pub returns-in_default-element-clause-refused : goal.returns-in_default-element-clause-refused
 returns-in_default-element-clause-refused c more follows found =

@@ -1,58 +1,36 @@
-use Rattle.std.proofs.Common.{◌≡◌, refl, sym, ◌∙◌, ap, ◌+◌, ◌-◌, ◌∷◌, drop, take, arith, ℕ}
-use Rattle.std.proofs.Common.{Bool, true, false, if◌then◌else◌, Some, None, codes, ◌++◌}
-use Rattle.std.specs.Prelude.{find, option_map, Option, []}
+use Rattle.std.proofs.Common.{◌≡◌, refl, sym, ◌∙◌, ap, subst, ◌+◌, ◌-◌, ◌≤◌, ◌∷◌, drop, take}
+use Rattle.std.proofs.Common.{length, arith, ℕ, Bool, true, false, ◌==◌, if◌then◌else◌, Some, None}
+use Rattle.std.proofs.Common.{codes, ◌++◌, append_assoc}
+use Rattle.std.specs.Prelude.{option_map, is_some, Option, []}
+use Rattle.std.specs.List.{list_any}
+use Rattle.std.proofs.lemmas.Bool.{and_from}
+use Rattle.std.proofs.lemmas.List.{append-nil}
+use Rattle.std.proofs.lemmas.List.Sums.{list_all-from_AllPass}
 use Rattle.std.proofs.lemmas.Result.{err_from_is_err_and}
 use Rattle.regex_lite_syntax.specs.declared.class.named.NamedSet.{NamedSet}
-use Rattle.regex_lite_syntax.specs.declared.class.named.NamedSet.TheVariants as sets
 use Rattle.regex_lite_syntax.specs.declared.parse.bracket.named.TheConstants.{ALL}
-use Rattle.regex_lite_syntax.specs.Text.{Text, is_text, the}
-use Rattle.regex_lite_syntax.specs.NamedSets.{SetName, set_named}
+use Rattle.regex_lite_syntax.specs.Text.{Text, the}
+use Rattle.regex_lite_syntax.specs.Characters.{is_lower}
+use Rattle.regex_lite_syntax.specs.NamedSets.{set_named}
 use Rattle.regex_lite_syntax.specs.Parser.SetNames.{name_of}
-use Rattle.regex_lite_syntax.specs.Parser.ClassReadings.{set_name, HasNamedSet}
+use Rattle.regex_lite_syntax.specs.Parser.ClassReadings.{set_name, is_beginning, HasNamedSet}
 use Rattle.regex_lite_syntax.proofs.ListLemmas.{same_tail}
 use Rattle.regex_lite_syntax.proofs.grammar.ClassLemmas.{begins}
-use Rattle.regex_lite_syntax.proofs.parse.bracket.LongerItemLemmas.{cut_at_end}
+use Rattle.regex_lite_syntax.proofs.CharacterLemmas.{joined_are}
+use Rattle.regex_lite_syntax.proofs.parse.bracket.CompletedNameLemmas.{name_starts}
+use Rattle.regex_lite_syntax.proofs.parse.bracket.CompletedNameLemmas.{completes_name}
+use Rattle.regex_lite_syntax.proofs.parse.bracket.CompletedNameLemmas.{completes_bracket}
+use Rattle.regex_lite_syntax.proofs.parse.bracket.CompletedNameLemmas.{begun_at_end, ends_short}
+use Rattle.regex_lite_syntax.proofs.parse.bracket.CompletedNameLemmas.{stops, by_answer}
 use Rattle.regex_lite_syntax.proofs.parse.bracket.LongerItemLemmas.{name_longer_once}
+use Rattle.regex_lite_syntax.proofs.parse.bracket.SetNameLemmas.{first_named, none_named}
+use Rattle.regex_lite_syntax.proofs.parse.bracket.SetNameLemmas.{none_begins, some_begins}
 use Rattle.regex_lite_syntax.proofs.parse.bracket.named.read_named_set.Goals as goal
 use Rattle.regex_lite_syntax.proofs.parse.bracket.named.read_named_set.Goals.{
   After-skip_lower-end,
   then-negated,
   else-negated,
 }
-
--- the name of a choice is a choice of names
-map_if : (b : Bool) (set : NamedSet) (others : Option NamedSet) (names : Option SetName)
-    → option_map name_of others ≡ names
-    → option_map name_of (if b then Some set else others)
-    ≡ (if b then Some (name_of set) else names)
-map_if true set others names e = refl
-map_if false set others names e = e
-
--- the first of all sets with the name is the one that the grammar names
-first_named : (w : Text) → option_map name_of (find (λ s. is_text w (set_name s)) ALL) ≡ set_named w
-first_named w =
-    let is : Text → Bool = is_text w in
-    map_if (is (set_name sets.Alnum)) sets.Alnum _ _ (
-    map_if (is (set_name sets.Alpha)) sets.Alpha _ _ (
-    map_if (is (set_name sets.Ascii)) sets.Ascii _ _ (
-    map_if (is (set_name sets.Blank)) sets.Blank _ _ (
-    map_if (is (set_name sets.Cntrl)) sets.Cntrl _ _ (
-    map_if (is (set_name sets.Digit)) sets.Digit _ _ (
-    map_if (is (set_name sets.Graph)) sets.Graph _ _ (
-    map_if (is (set_name sets.Lower)) sets.Lower _ _ (
-    map_if (is (set_name sets.Print)) sets.Print _ _ (
-    map_if (is (set_name sets.Punct)) sets.Punct _ _ (
-    map_if (is (set_name sets.Space)) sets.Space _ _ (
-    map_if (is (set_name sets.Upper)) sets.Upper _ _ (
-    map_if (is (set_name sets.Word)) sets.Word _ _ (
-    map_if (is (set_name sets.Xdigit)) sets.Xdigit None None refl)))))))))))))
-
-none_named : (w name : Text) (set : SetName) → None ≡ find (λ s. is_text w (set_name s)) ALL
-    → w ≡ name
-    → set_named name ≡ Some set → ⊥
-none_named w name set none same named =
-    let clash = ap (option_map name_of) none ∙ first_named w ∙ ap set_named same ∙ named in
-    cc clash
 
 -- two characters stand there
 two_at : (xs : Text) (at c d : ℕ) → drop at xs ≡ c ∷ drop (at + 1) xs
@@ -113,39 +91,167 @@ once c more follows has =
 goes_on : (t u more : Text) (c : ℕ) → t ≡ c ∷ u → t ≡ [] → more ≡ []
 goes_on t u more c e none = let clash = sym e ∙ none in cc clash
 
+-- the letters past the negation
+word_at : After-skip_lower-end → Text
+word_at c =
+    take (c.skip_lower-end.result - c.if-negated.begin)
+    (drop c.if-negated.begin c.args.chars.now)
+
+-- past which the text ends
+word_ends : (c : After-skip_lower-end) → drop c.skip_lower-end.result c.args.chars.now ≡ []
+    → drop c.if-negated.begin c.args.chars.now ≡ word_at c
+unfolding word_at
+word_ends c ends =
+    let w = word_at c in
+    c.skip_lower-end.ensures.spelled ∙ ap (λ r. w ++ r) ends ∙ append-nil w
+
+-- or goes on
+word_past : (c : After-skip_lower-end) (u : Text)
+    → drop c.skip_lower-end.result c.args.chars.now ≡ u
+    → drop c.if-negated.begin c.args.chars.now ≡ word_at c ++ u
+unfolding word_at
+word_past c u is =
+    let w = word_at c in c.skip_lower-end.ensures.spelled ∙ ap (λ r. w ++ r) is
+
+-- no name of a longer text begins with the letters, where the text ends past them and none does
+none_named_so : (c : After-skip_lower-end) (more : Text)
+    → drop c.skip_lower-end.result c.args.chars.now ≡ []
+    → false ≡ list_any (λ s. is_beginning (word_at c) (set_name s)) ALL
+    → HasNamedSet (drop c.args.at c.args.chars.now ++ more) → ⊥
+unfolding word_at
+none_named_so c more ends none has =
+    let w = word_at c in
+    let negated = c.is_at-negated.result in
+    let negation = subst (λ u. drop (c.args.at + 2) c.args.chars.now
+    ≡ (if negated then the "^" ∷ u else u)) (word_ends c ends) (negation_at c) in
+    let starts = name_starts more _ w negated negation c.skip_lower-end.ensures.letters _ has.0
+    has.1 has.2 (opens_at c) has.3 in
+    none_begins w starts.0 has.2 none (ap set_named (sym starts.1) ∙ has.3.named)
+
+pub returns-in_err-expect-clause-refused : goal.returns-in_err-expect-clause-refused
+returns-in_err-expect-clause-refused c =
+    let xs = c.args.chars.now in
+    let next = c.args.at + 1 in
+    let inside : next ≤ length xs = omega (arith, c.requires.inside) in
+    let left = err_from_is_err_and c.from_residual.result c.from_residual.ensures.1 in
+    rw (left.1, left.2) (λ more follows has.
+    let second = same_tail (sym (ap (λ u. u ++ more) c.requires.begins) ∙ has.3.opens) in
+    stops (the ":") (drop next xs) more c.in_err-expect.ensures.absent
+    (λ ends. follows (c.in_err-expect.ensures.short
+    ∙ and_from true (next == length xs) refl (ends_short xs next inside ends)))
+    (begins (the ":") _ _ second))
+
+pub returns-in_err-expect-clause-completes : goal.returns-in_err-expect-clause-completes
+returns-in_err-expect-clause-completes c =
+    let xs = c.args.chars.now in
+    let left = err_from_is_err_and c.from_residual.result c.from_residual.ensures.1 in
+    rw (left.1, left.2) (λ short.
+    let ends = begun_at_end xs (c.args.at + 1) true
+    (sym c.in_err-expect.ensures.short ∙ short) in
+    completes_bracket (drop c.args.at xs) (c.requires.begins ∙ ap (λ u. the "[" ∷ u) ends.1))
+
 pub returns-in_err-expect-2-clause-refused : goal.returns-in_err-expect-2-clause-refused
+unfolding word_at
 returns-in_err-expect-2-clause-refused c =
     let at_word = (goal.at.returns-in_err-expect-2-clause-refused c).After-skip_lower-end in
-    let fault = c.in_err-expect-2.field-0.0 in
+    let xs = c.args.chars.now in
+    let end = c.skip_lower-end.result in
+    let begun = c.begins_name.result in
     let left = err_from_is_err_and c.from_residual-in_err-expect-2.result
     c.from_residual-in_err-expect-2.ensures.1 in
-    let none = c.in_err-expect-2.ensures.refused in
     rw (left.1, left.2) (λ more follows has.
-    let past = drop c.skip_lower-end.result c.args.chars.now in
-    let same = once at_word more
-    (λ ends. follows (cut_at_end fault (the ":") past ends none)) has in
-    none more follows (begins (the ":") _ _ same.1))
+    let none : drop end xs ≡ [] → more ≡ [] =
+    λ ends. by_answer begun
+    (λ is. follows (c.in_err-expect-2.ensures.short
+    ∙ and_from begun (end == length xs) is
+    (ends_short xs end c.skip_lower-end.ensures.inside.1 ends)))
+    (λ is. absurd (none_named_so at_word more ends (sym is ∙ c.begins_name.ensures) has)) in
+    stops (the ":") (drop end xs) more c.in_err-expect-2.ensures.absent none
+    (begins (the ":") _ _ (once at_word more none has).1))
+
+pub returns-in_err-expect-2-clause-completes : goal.returns-in_err-expect-2-clause-completes
+unfolding word_at
+returns-in_err-expect-2-clause-completes c =
+    let at_word = (goal.at.returns-in_err-expect-2-clause-completes c).After-skip_lower-end in
+    let xs = c.args.chars.now in
+    let w = word_at at_word in
+    let left = err_from_is_err_and c.from_residual-in_err-expect-2.result
+    c.from_residual-in_err-expect-2.ensures.1 in
+    rw (left.1, left.2) (λ short.
+    let ends = begun_at_end xs c.skip_lower-end.result c.begins_name.result
+    (sym c.in_err-expect-2.ensures.short ∙ short) in
+    let name = some_begins w (sym ends.0 ∙ c.begins_name.ensures) in
+    completes_name (drop c.args.at xs) _ _ (w ++ name.left) (name.left ++ codes ":]") _ name.set
+    (opens_at at_word) (negation_at at_word)
+    (joined_are name.left (codes ":]") name.characters (refl, (refl, tt)))
+    (λ next. ap (λ u. u ++ ((name.left ++ codes ":]") ++ next)) (word_ends at_word ends.1)
+    ∙ ap (λ u. w ++ u) (append_assoc name.left (codes ":]") next)
+    ∙ sym (append_assoc w name.left (codes ":]" ++ next)))
+    name.letters name.named)
+
+-- whether there is a set
+none_of : (o : Option NamedSet) → is_some o ≡ false → o ≡ None
+none_of None is = refl
+none_of (Some set) is = cc is
+
+one_of : (o : Option NamedSet) → is_some o ≡ true → (set : NamedSet) × (o ≡ Some set)
+one_of None is = absurd (cc is)
+one_of (Some set) is = (set, refl)
 
 pub returns-in_err-expect-3-clause-refused : goal.returns-in_err-expect-3-clause-refused
+unfolding word_at
 returns-in_err-expect-3-clause-refused c =
     let at_word = (goal.at.returns-in_err-expect-3-clause-refused c).After-skip_lower-end in
+    let xs = c.args.chars.now in
+    let next = c.skip_lower-end.result + 1 in
+    let found = c.is_some.result in
     let colon = c.in_ok-expect-2.ensures.there.1 in
+    let inside : next ≤ length xs = omega (arith, c.in_ok-expect-2.ensures.there.0) in
     let left = err_from_is_err_and c.from_residual-in_err-expect-3.result
     c.from_residual-in_err-expect-3.ensures.1 in
     rw (left.1, left.2) (λ more follows has.
     let same = once at_word more (goes_on _ _ more _ colon) has in
-    let next = same_tail (sym (ap (λ u. u ++ more) colon) ∙ same.1) in
-    c.in_err-expect-3.ensures.refused more follows (begins (the "]") _ _ next))
+    let past = same_tail (sym (ap (λ u. u ++ more) colon) ∙ same.1) in
+    stops (the "]") (drop next xs) more c.in_err-expect-3.ensures.absent
+    (λ ends. by_answer found
+    (λ is. follows (c.in_err-expect-3.ensures.short
+    ∙ and_from found (next == length xs) is (ends_short xs next inside ends)))
+    (λ is. absurd (none_named (word_at at_word) has.3.name has.2
+    (sym (none_of _ (sym c.is_some.ensures ∙ is)) ∙ c.set_with_name-found.ensures)
+    same.0 has.3.named)))
+    (begins (the "]") _ _ past))
+
+pub returns-in_err-expect-3-clause-completes : goal.returns-in_err-expect-3-clause-completes
+unfolding word_at
+returns-in_err-expect-3-clause-completes c =
+    let at_word = (goal.at.returns-in_err-expect-3-clause-completes c).After-skip_lower-end in
+    let xs = c.args.chars.now in
+    let w = word_at at_word in
+    let left = err_from_is_err_and c.from_residual-in_err-expect-3.result
+    c.from_residual-in_err-expect-3.ensures.1 in
+    rw (left.1, left.2) (λ short.
+    let ends = begun_at_end xs (c.skip_lower-end.result + 1) c.is_some.result
+    (sym c.in_err-expect-3.ensures.short ∙ short) in
+    let found = one_of c.set_with_name-found.result (sym c.is_some.ensures ∙ ends.0) in
+    let colon = c.in_ok-expect-2.ensures.there.1 ∙ ap (λ u. the ":" ∷ u) ends.1 in
+    completes_name (drop c.args.at xs) _ _ w (codes "]") _ (name_of found.0)
+    (opens_at at_word) (negation_at at_word) (refl, tt)
+    (λ next. ap (λ u. u ++ (codes "]" ++ next)) (word_past at_word _ colon)
+    ∙ append_assoc w (codes ":") (codes "]" ++ next))
+    (list_all-from_AllPass is_lower w c.skip_lower-end.ensures.letters)
+    (sym (first_named w)
+    ∙ ap (option_map name_of) (sym c.set_with_name-found.ensures ∙ found.1)))
 
 pub returns-in-None-clause-refused : goal.returns-in-None-clause-refused
+unfolding word_at
 returns-in-None-clause-refused c more follows has =
     let at_word = (goal.at.returns-in-None-clause-refused c).After-skip_lower-end in
-    let begin = c.if-negated.begin in
-    let word = take (c.skip_lower-end.result - begin) (drop begin c.args.chars.now) in
     let same = once at_word more (goes_on _ _ more _ c.in_ok-expect-2.ensures.there.1) has in
-    none_named word has.3.name has.2 c.in-None.ensures same.0 has.3.named
+    none_named (word_at at_word) has.3.name has.2
+    (sym c.in-None.is ∙ c.set_with_name-found.ensures) same.0 has.3.named
 
 pub returns-in-Some-clause-ok : goal.returns-in-Some-clause-ok
+unfolding word_at
 returns-in-Some-clause-ok c =
     let xs = c.args.chars.now in
     let end = c.skip_lower-end.result in
@@ -154,13 +260,13 @@ returns-in-Some-clause-ok c =
       opened = drop (c.args.at + 2) xs;
       begin = drop c.if-negated.begin xs;
       end = drop end xs;
-      name = take (end - c.if-negated.begin) (drop c.if-negated.begin xs);
+      name = word_at at_word;
       opens = opens_at at_word;
       negation = negation_at at_word;
       written = c.skip_lower-end.ensures.spelled;
       letters = c.skip_lower-end.ensures.letters;
       closes = two_at xs end (the ":") (the "]") c.in_ok-expect-2.ensures.there.1
           c.in_ok-expect-3.ensures.there.1;
-      named = sym (first_named (take (end - c.if-negated.begin) (drop c.if-negated.begin xs)))
-          ∙ ap (option_map name_of) (sym c.in-Some.ensures);
+      named = sym (first_named (word_at at_word))
+          ∙ ap (option_map name_of) (sym c.set_with_name-found.ensures ∙ c.in-Some.is);
     }

@@ -1,4 +1,5 @@
-use Rattle.std.proofs.Common.{◌≡◌, ◌≢◌, refl, sym, ◌∙◌, ap, subst, ℕ, Bool, false, [], ◌∷◌, ◌++◌}
+use Rattle.std.proofs.Common.{inl, inr, ◌≡◌, ◌≢◌, refl, sym, ◌∙◌, ap, subst, ℕ, Bool, false}
+use Rattle.std.proofs.Common.{[], ◌∷◌, ◌++◌}
 use Rattle.std.proofs.Common.{◌+◌, drop, arith}
 use Rattle.regex_lite_syntax.specs.declared.hir.look.Look.{Look}
 use Rattle.regex_lite_syntax.specs.Text.{Text, the}
@@ -13,6 +14,9 @@ use Rattle.regex_lite_syntax.proofs.grammar.SpacedLemmas.{boundary_characters_en
 use Rattle.regex_lite_syntax.proofs.grammar.SpacedLemmas.{brace_or_other, brace_past}
 use Rattle.regex_lite_syntax.proofs.grammar.SpacedLemmas.{not_spaced, spaced_more}
 use Rattle.regex_lite_syntax.proofs.grammar.SpacedLemmas.{spaced_to_brace_once}
+use Rattle.regex_lite_syntax.proofs.grammar.LongerNumberLemmas.{of_text}
+use Rattle.regex_lite_syntax.proofs.parse.escape.EndLemmas.{at_end_or_never}
+use Rattle.regex_lite_syntax.proofs.parse.escape.NameEndLemmas.{ends_in_its_name}
 use Rattle.regex_lite_syntax.proofs.parse.escape.boundary.fault_of_name.Goals as goal
 
 -- where letters lead to another character than the brace that closes, no name stands
@@ -85,3 +89,21 @@ loop-c-preserved c =
             (sym c.is_name_char.ensures ∙ c.if-not-is_name_char.false),
       );
     }
+
+pub returns-in_default-clause-completes : goal.returns-in_default-clause-completes
+returns-in_default-clause-completes c short =
+    c.ends_in_any_name-goes_on.ensures.completes (sym c.fault_at_end.ensures ∙ short)
+
+-- where nothing could complete a name, none comes to stand
+pub returns-in_default-clause-stands : goal.returns-in_default-clause-stands
+returns-in_default-clause-stands c more rest look follows b =
+    let passed = c.loop-c.invariant.passed in
+    let ends = subst (λ u. Gap c.args.verbose (drop c.loop-c.end c.args.chars.now) u)
+    c.in_default.ensures c.skip_gap-next.ensures.gap.0 in
+    elim (at_end_or_never _ _ more c.fault_at_end.ensures follows) [
+      | inl nothing ↦
+          (rest, of_text (λ t. BoundaryName c.args.verbose t rest look) _ more nothing b)
+      | inr never ↦
+          absurd (c.ends_in_any_name-goes_on.ensures.absent never b.name look b.named
+          (ends_in_its_name _ passed.0 _ _ more rest look passed.1 ends b))
+    ]

@@ -1,46 +1,12 @@
-use Rattle.std.proofs.Common.{◌⊎◌, inl, inr, ◌≡◌, refl, subst, Bool, true}
-use Rattle.std.proofs.Common.{false, cond, [], ◌∷◌, IsTrue, Option, Some, codes}
-use Rattle.std.proofs.lemmas.Bool.{and_parts, eqb-true}
+use Rattle.std.proofs.Common.{◌≡◌, refl, subst, Bool}
+use Rattle.std.proofs.Common.{◌∷◌, codes}
 use Rattle.regex_lite_syntax.specs.declared.hir.look.Look.{Look}
-use Rattle.regex_lite_syntax.specs.Text.{Text, is_text, the}
+use Rattle.regex_lite_syntax.specs.Text.{Text, the}
 use Rattle.regex_lite_syntax.specs.Grammar.Gaps.{Gap, Spaced}
 use Rattle.regex_lite_syntax.specs.Grammar.Escapes.{is_boundary_character}
-use Rattle.regex_lite_syntax.specs.Grammar.Escapes.{boundary_named, BoundaryName}
+use Rattle.regex_lite_syntax.specs.Grammar.Escapes.{BoundaryName}
+use Rattle.regex_lite_syntax.proofs.parse.escape.BoundaryNameLemmas.{one_of_four}
 use Rattle.regex_lite_syntax.proofs.parse.escape.boundary.read_name.Goals as goal
-
-same_text : (t u : Text) → IsTrue (is_text t u) → t ≡ u
-same_text [] [] e = refl
-same_text [] (d ∷ u) e = cc
-same_text (c ∷ t) [] e = cc
-same_text (c ∷ t) (d ∷ u) e =
-    let parts = and_parts _ _ e in
-    let heads = eqb-true c d parts.0 in
-    let tails = same_text t u parts.1 in
-    cc
-
-first_or_later : (is_first : Bool) (look found : Look) (later : Option Look)
-    → cond is_first (Some look) later ≡ Some found → (is_first ≡ true) ⊎ (later ≡ Some found)
-first_or_later true look found later e = inl refl
-first_or_later false look found later e = inr e
-
--- no name but these four
-one_of_four : (name : Text) (look : Look) → boundary_named name ≡ Some look
-    → (name ≡ codes "start" → ⊥)
-    → (name ≡ codes "end" → ⊥) → (name ≡ codes "start-half" → ⊥) → (name ≡ codes "end-half" → ⊥) → ⊥
-one_of_four name look e a b c d =
-    elim (first_or_later (is_text name (codes "start")) _ look _ e) [
-      | inl is ↦ a (same_text name _ is)
-      | inr e' ↦ elim (first_or_later (is_text name (codes "end")) _ look _ e') [
-        | inl is ↦ b (same_text name _ is)
-        | inr e'' ↦ elim (first_or_later (is_text name (codes "start-half")) _ look _ e'') [
-          | inl is ↦ c (same_text name _ is)
-          | inr e''' ↦ elim (first_or_later (is_text name (codes "end-half")) _ look _ e''') [
-            | inl is ↦ d (same_text name _ is)
-            | inr none ↦ cc
-          ]
-        ]
-      ]
-    ]
 
 -- the name does not stand there
 abbrev Absent : (verbose : Bool) → (name t : Text) → Type 0

@@ -1,0 +1,71 @@
+-- Sets that hold characters alone.
+use Rattle.std.proofs.Common.{inl, inr, sym, subst, ℕ, Bool, true, false, IsTrue, arith}
+use Rattle.std.proofs.Common.{List, ◌∷◌, if◌then◌else◌}
+use Rattle.std.proofs.lemmas.Bool.{or_cases, and_parts, eqb-true}
+use Rattle.std.proofs.lemmas.Bool.Decides.{nat_tests}
+use Rattle.regex_lite_syntax.specs.Characters.{is_character, is_letter}
+use Rattle.regex_lite_syntax.specs.Sets.{Set, just, span, union, complement, case_closure}
+use Rattle.regex_lite_syntax.specs.NamedSets.{SetName, members, alnum, alpha, ascii, blank}
+use Rattle.regex_lite_syntax.specs.NamedSets.{cntrl, digit, graph, lower, print, punct, space}
+use Rattle.regex_lite_syntax.specs.NamedSets.{upper, word, xdigit}
+
+-- the set holds characters alone
+abbrev pub HoldsCharacters : Set → Type 0
+HoldsCharacters s = (c : ℕ) → IsTrue (s c) → IsTrue (is_character c)
+
+-- so does the set of one character
+pub just_character : (c : ℕ) → IsTrue (is_character c) → HoldsCharacters (just c)
+just_character c is d held =
+    subst (λ x. IsTrue (is_character x)) (sym (eqb-true d c held)) is
+
+-- that of a range
+pub span_characters : (start end : ℕ) → HoldsCharacters (span start end)
+span_characters start end c held = (and_parts _ _ held).0
+
+-- and what another set lacks
+pub complement_characters : (s : Set) → HoldsCharacters (complement s)
+complement_characters s c held = (and_parts _ _ held).0
+
+-- each set with a name holds ASCII characters
+pub named_characters : (name : SetName) → HoldsCharacters (members name)
+named_characters alnum c held = grind (arith, nat_tests)
+named_characters alpha c held = grind (arith, nat_tests)
+named_characters ascii c held = grind (arith, nat_tests)
+named_characters blank c held = grind (arith, nat_tests)
+named_characters cntrl c held = grind (arith, nat_tests)
+named_characters digit c held = grind (arith, nat_tests)
+named_characters graph c held = grind (arith, nat_tests)
+named_characters lower c held = grind (arith, nat_tests)
+named_characters print c held = grind (arith, nat_tests)
+named_characters punct c held = grind (arith, nat_tests)
+named_characters space c held = grind (arith, nat_tests)
+named_characters upper c held = grind (arith, nat_tests)
+named_characters word c held = grind (arith, nat_tests)
+named_characters xdigit c held = grind (arith, nat_tests)
+
+-- or all others
+pub named_or_others : (negated : Bool) (name : SetName)
+    → HoldsCharacters (if negated then complement (members name) else members name)
+named_or_others true name = complement_characters (members name)
+named_or_others false name = named_characters name
+
+-- the union of sets that do
+pub union_characters : (s : Set) (sets : List Set) → HoldsCharacters s
+    → HoldsCharacters (union sets) → HoldsCharacters (union (s ∷ sets))
+union_characters s sets first later c held =
+    elim (or_cases (s c) (union sets c) held) [
+      | inl h ↦ first c h
+      | inr h ↦ later c h
+    ]
+
+-- an ASCII letter is a character
+letter_character : (c : ℕ) → IsTrue (is_letter c) → IsTrue (is_character c)
+letter_character c letter = grind (arith, nat_tests)
+
+-- so the other cases of the letters are characters too
+pub closure_characters : (s : Set) → HoldsCharacters s → HoldsCharacters (case_closure s)
+closure_characters s all c held =
+    elim (or_cases (s c) _ held) [
+      | inl h ↦ all c h
+      | inr h ↦ letter_character c (and_parts _ _ h).0
+    ]

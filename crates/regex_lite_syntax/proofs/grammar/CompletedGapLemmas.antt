@@ -1,0 +1,59 @@
+-- What completes a part of a pattern that ends inside a gap.
+use Rattle.std.proofs.Common.{refl, sym, subst, ℕ, Bool, [], ◌∷◌, ◌++◌, IsTrue}
+use Rattle.std.proofs.Common.{append_assoc}
+use Rattle.std.specs.List.{list_all}
+use Rattle.std.proofs.lemmas.Bool.{and_parts}
+use Rattle.regex_lite_syntax.specs.Text.{Text}
+use Rattle.regex_lite_syntax.specs.Characters.{is_character, AreCharacters}
+use Rattle.regex_lite_syntax.specs.Grammar.Gaps.{Gap, Spaced}
+use Rattle.regex_lite_syntax.proofs.grammar.GapLemmas.{empty_gap}
+use Rattle.regex_lite_syntax.proofs.grammar.ResumedGapLemmas.{resumed, gap_resumed}
+
+-- characters that stand together
+pub spaced_together : (verbose : Bool) (kind : ℕ → Bool) (cs next : Text)
+    → IsTrue (list_all kind cs) → Spaced verbose kind cs (cs ++ next) next
+spaced_together verbose kind [] next all = refl
+spaced_together verbose kind (c ∷ cs) next all =
+    let parts = and_parts _ _ all in (
+      cs ++ next,
+      empty_gap verbose (c ∷ cs ++ next),
+      parts.0,
+      spaced_together verbose kind cs next parts.1,
+    )
+
+-- characters past a gap, and what follows them, past the gap where there are none of them
+pub spaced_on : (verbose : Bool) (kind : ℕ → Bool) (cs t next : Text)
+    → IsTrue (list_all kind cs) → Gap verbose t (cs ++ next)
+    → (last : Text) × Spaced verbose kind cs t last × Gap verbose last next
+spaced_on verbose kind [] t next all gap = (t, refl, gap)
+spaced_on verbose kind (c ∷ cs) t next all gap =
+    let parts = and_parts _ _ all in (
+      next,
+      (cs ++ next, gap, parts.0, spaced_together verbose kind cs next parts.1),
+      empty_gap verbose next,
+    )
+
+-- the same past a gap at the end of the pattern
+pub gap_completed : (verbose : Bool) (t more next : Text) → Gap verbose t []
+    → Gap verbose (t ++ ((resumed verbose ++ more) ++ next)) (more ++ next)
+gap_completed verbose t more next gap =
+    subst (λ u. Gap verbose (t ++ u) (more ++ next))
+    (sym (append_assoc (resumed verbose) more next)) (gap_resumed verbose t (more ++ next) gap)
+
+-- characters that go on with further ones
+pub spaced_further : (verbose : Bool) (kind : ℕ → Bool) (cs ds t u v : Text)
+    → Spaced verbose kind cs t u → Spaced verbose kind ds u v
+    → Spaced verbose kind (cs ++ ds) t v
+spaced_further verbose kind [] ds t u v a b =
+    subst (λ w. Spaced verbose kind ds w v) (sym a) b
+spaced_further verbose kind (c ∷ cs) ds t u v a b =
+    (a.0, a.1, a.2, spaced_further verbose kind cs ds a.0 u v a.3 b)
+
+-- characters of a kind, and what is put after them
+pub all_characters : (kind : ℕ → Bool) (cs more : Text)
+    → ((c : ℕ) → IsTrue (kind c) → IsTrue (is_character c)) → IsTrue (list_all kind cs)
+    → AreCharacters more → AreCharacters (cs ++ more)
+all_characters kind [] more is all are = are
+all_characters kind (c ∷ cs) more is all are =
+    let parts = and_parts _ _ all in
+    (is c parts.0, all_characters kind cs more is parts.1 are)

@@ -1,0 +1,159 @@
+-- Up to where a pattern begins accepted ones.
+use Rattle.std.proofs.Common.{inl, inr, ◌≡◌, ◌≢◌, refl, sym, ◌∙◌, ap, subst}
+use Rattle.std.proofs.Common.{ℕ, zero, suc, ◌-◌, ◌≤◌, Bool, true, false, MatchBool}
+use Rattle.std.proofs.Common.{Option, Some, None, IfSome, option_map}
+use Rattle.std.proofs.Common.{List, [], ◌∷◌, ◌++◌, take, drop, length, append_assoc, arith}
+use Rattle.std.proofs.lemmas.List.{append-nil}
+use Rattle.regex_lite_syntax.specs.declared.error.ErrorKind.{ErrorKind}
+use Rattle.regex_lite_syntax.specs.declared.error.ErrorKind.TheVariants as kind
+use Rattle.regex_lite_syntax.specs.declared.flags.Flags.{Flags}
+use Rattle.regex_lite_syntax.specs.declared.parse.Parser.{Parser}
+use Rattle.regex_lite_syntax.specs.Errors.{Refusal, kind_of, syntax_error, too_deep}
+use Rattle.regex_lite_syntax.specs.Errors.{too_many_groups, passed_limit, out_of_memory}
+use Rattle.regex_lite_syntax.specs.Errors.{refused_replacement}
+use Rattle.regex_lite_syntax.specs.FaultPlaces.{BeginsNone, BeginsSome, IsEndOfFault, IsUntold}
+use Rattle.regex_lite_syntax.specs.Grammar.{HasTree}
+use Rattle.regex_lite_syntax.specs.Grammar.Gaps.{WholeGap}
+use Rattle.regex_lite_syntax.specs.Limits.{openings}
+use Rattle.regex_lite_syntax.specs.Parser.FaultEnds.{IsRefusedUnread, GoesOnFrom, IsEndAbove}
+use Rattle.regex_lite_syntax.specs.Parser.States.{state, CanRead, CanReadOn, BeginsTooMany}
+use Rattle.regex_lite_syntax.specs.CutShort.{is_cut_short}
+use Rattle.regex_lite_syntax.specs.declared.error.syntax.SyntaxFault.{SyntaxFault}
+use Rattle.regex_lite_syntax.specs.declared.parse.fault.Stop.{Stop}
+use Rattle.regex_lite_syntax.specs.Refusals.{NoReading, Refuses, IfCutShort}
+use Rattle.regex_lite_syntax.specs.Text.{Text}
+use Rattle.regex_lite_syntax.proofs.machine.DepthLemmas.{head_opens}
+use Rattle.regex_lite_syntax.proofs.machine.CompletedRunLemmas.{reads_on}
+use Rattle.regex_lite_syntax.proofs.machine.FaultLemmas.{Comes, says_for_good}
+use Rattle.regex_lite_syntax.proofs.machine.GrowthLemmas.{more_parens}
+use Rattle.regex_lite_syntax.proofs.machine.ParenLemmas.{parens_more}
+
+-- the pattern begins an accepted one if it is one
+pub tree_goes_on : (flags : Flags) (pattern : Text) → HasTree flags pattern
+    → BeginsSome flags pattern
+tree_goes_on flags pattern has = ([], subst (λ t. HasTree flags t) (sym (append-nil pattern)) has)
+
+first_of_first : (j k : ℕ) (t : Text) → k ≤ j → take k t ++ drop k (take j t) ≡ take j t
+first_of_first zero zero t fits = refl
+first_of_first zero (suc k) t fits = absurd (omega (arith, fits))
+first_of_first (suc j) zero t fits = refl
+first_of_first (suc j) (suc k) [] fits = refl
+first_of_first (suc j) (suc k) (c ∷ t) fits =
+    ap (λ u. c ∷ u) (first_of_first j k t (omega (arith, fits)))
+
+-- what begins an accepted pattern is no longer than what does
+pub fewer_go_on : (flags : Flags) (t : Text) (j k : ℕ) → k ≤ j → BeginsSome flags (take j t)
+    → BeginsSome flags (take k t)
+fewer_go_on flags t j k fits some =
+    let longer = ap (λ u. u ++ some.0) (first_of_first j k t fits) in (
+      drop k (take j t) ++ some.0,
+      subst (λ u. HasTree flags u)
+          (sym longer ∙ append_assoc (take k t) (drop k (take j t)) some.0) some.1,
+    )
+
+-- from where the pattern goes on up to one number it goes on up to the next
+goes_on_past : (flags : Flags) (t : Text) (start low k : ℕ) → GoesOnFrom flags t start low
+    → GoesOnFrom flags t low k → GoesOnFrom flags t start k
+goes_on_past flags t start low k before (inl e) = subst (GoesOnFrom flags t start) (sym e) before
+goes_on_past flags t start low k before (inr some) = inr some
+
+-- an end above where the pattern goes on is that of the fault
+pub end_of_fault : (flags : Flags) (t : Text) (start low high end : ℕ) → start ≤ low
+    → high ≤ length t → GoesOnFrom flags t start low → IsEndAbove flags t low high end
+    → IsEndOfFault flags t start end
+end_of_fault flags t start low high end above inside goes_on e =
+    let past = e.past in
+    let fits = e.inside in
+    record {
+      past = omega (arith, above, past);
+      inside = omega (arith, inside, fits);
+      none = e.none;
+      least = λ k after before.
+          elim (goes_on_past flags t start low (end - 1) goes_on e.before) [
+            | inl same ↦ absurd (omega (arith, same, after, before))
+            | inr some ↦ fewer_go_on flags t (end - 1) k (omega (arith, before)) some
+          ];
+    }
+
+openings_of_first : (k : ℕ) (t : Text) → openings (take k t) ≤ openings t
+openings_of_first zero t = omega arith
+openings_of_first (suc k) [] = omega arith
+openings_of_first (suc k) (c ∷ t) =
+    let fewer = openings_of_first k t in
+    omega (arith, fewer, parens_more c (take k t), parens_more c t)
+
+-- what is refused unread at the pattern's beginning is refused in the pattern
+pub unread_longer : (k : ℕ) (t : Text) (e : ErrorKind) → IsRefusedUnread (take k t) e
+    → IsRefusedUnread t e
+unread_longer k t kind.Groups many = let fewer = openings_of_first k t in omega (arith, fewer, many)
+unread_longer k t kind.Memory says = tt
+unread_longer k t kind.Syntax says = absurd says
+unread_longer k t kind.Nesting says = absurd says
+unread_longer k t kind.Size says = absurd says
+unread_longer k t kind.Places says = absurd says
+unread_longer k t kind.Slots says = absurd says
+unread_longer k t kind.Replace says = absurd says
+
+-- and where the pattern begins no accepted one, the fault can't be told
+pub unread_untold : (flags : Flags) (t : Text) (e : ErrorKind) → BeginsNone flags t
+    → IsRefusedUnread t e → IsUntold flags t e
+unread_untold flags t kind.Groups none many = record {
+  with_tree = λ tree groups deepest g.
+      let some = tree_goes_on flags t (tree, (groups, deepest, g)) in absurd (none some.0 some.1);
+  without = λ no_tree. many;
+}
+unread_untold flags t kind.Memory none says = tt
+unread_untold flags t kind.Syntax none says = absurd says
+unread_untold flags t kind.Nesting none says = absurd says
+unread_untold flags t kind.Size none says = absurd says
+unread_untold flags t kind.Places none says = absurd says
+unread_untold flags t kind.Slots none says = absurd says
+unread_untold flags t kind.Replace none says = absurd says
+
+-- what a refusal to read on says that isn't a syntax fault
+pub refused_unread : (flags : Flags) (pattern : Text) (p : Parser) (t u : Text) (starts : List ℕ)
+    (e : Refusal) → Comes flags pattern p t starts → WholeGap p.here.flags.ignore_whitespace t u
+    → kind_of e ≢ kind.Syntax
+    → Refuses e (λ fault. NoReading fault (CanRead p) u) ⊥ (BeginsTooMany p u)
+    → IsRefusedUnread pattern (kind_of e)
+unfolding state
+refused_unread flags pattern p t u starts (syntax_error fault) c whole other says =
+    absurd (other refl)
+refused_unread flags pattern p t u starts too_many_groups c whole other says =
+    let s = state p t c.deepest in
+    let here = (state p u c.deepest).point in
+    let head = says.1.1 c.deepest in
+    let begun = head_opens head.1 in
+    let more = more_parens s here begun.0 c.leads (whole.0, refl) begun.1 in
+    let many = says.0 in
+    omega (arith, many, more.1)
+refused_unread flags pattern p t u starts out_of_memory c whole other says = tt
+refused_unread flags pattern p t u starts too_deep c whole other says = absurd says
+refused_unread flags pattern p t u starts (passed_limit limit) c whole other says = absurd says
+refused_unread flags pattern p t u starts refused_replacement c whole other says = absurd says
+
+-- whether the pattern goes on where the parser refuses to read on for a fault
+pub goes_on_as : (flags : Flags) (pattern : Text) (p : Parser) (t u : Text) (starts : List ℕ)
+    (e : Refusal) (fault : SyntaxFault)
+    → Comes flags pattern p t starts → WholeGap p.here.flags.ignore_whitespace t u
+    → (u ≡ [] → ⊥) → Refuses e (λ f. NoReading f (CanRead p) u) ⊥ (BeginsTooMany p u)
+    → IfCutShort e (CanReadOn p u) → e ≡ syntax_error fault
+    → MatchBool (is_cut_short fault) (BeginsSome flags pattern) (BeginsNone flags pattern)
+goes_on_as flags pattern p t u starts e fault c whole some says completes is =
+    of_cut (is_cut_short fault) refl
+  where
+    of_cut : (short : Bool) → is_cut_short fault ≡ short
+        → MatchBool short (BeginsSome flags pattern) (BeginsNone flags pattern)
+    of_cut true short =
+        reads_on flags pattern p t u starts c whole some
+        (subst (λ x. IfCutShort x (CanReadOn p u)) is completes short)
+    of_cut false short =
+        says_for_good flags pattern p t u starts e fault c whole some says is short
+
+-- and where it ends with a group open
+pub goes_on_open : (flags : Flags) (pattern : Text) (last : Option ℕ) → BeginsSome flags pattern
+    → IfSome (option_map (λ k. record { start = k; is_cut_short = true }) last)
+    (λ (stop : Stop).
+    MatchBool stop.is_cut_short (BeginsSome flags pattern) (BeginsNone flags pattern))
+goes_on_open flags pattern None some = tt
+goes_on_open flags pattern (Some k) some = some

@@ -1,0 +1,34 @@
+-- What completes one reading says of another.
+use Rattle.std.proofs.Common.{◌++◌, Result, Ok, Err, IfErr}
+use Rattle.regex_lite_syntax.specs.declared.error.syntax.SyntaxFault.{SyntaxFault}
+use Rattle.regex_lite_syntax.specs.Errors.{Refusal, syntax_error, too_deep, too_many_groups}
+use Rattle.regex_lite_syntax.specs.Errors.{passed_limit, out_of_memory, refused_replacement}
+use Rattle.regex_lite_syntax.specs.Text.{Text}
+use Rattle.regex_lite_syntax.specs.Refusals.{Completable, CanComplete, IfCutShort}
+
+-- what completes the one text completes each other whose reading follows
+pub completes_part : (R S : (t rest : Text) → Type 0) (t u : Text)
+    → ((more rest : Text) → R (t ++ more) rest → S (u ++ more) rest)
+    → Completable R t → Completable S u
+completes_part R S t u gives c = record {
+  more = c.more;
+  characters = c.characters;
+  reads = λ next. gives (c.more ++ next) next (c.reads next);
+}
+
+-- the same where a pure reader refuses
+pub completes_of : {T : Type 0} (r : Result T SyntaxFault) (R S : (t rest : Text) → Type 0)
+    (t u : Text) → ((more rest : Text) → R (t ++ more) rest → S (u ++ more) rest)
+    → IfErr r (λ fault. CanComplete fault R t) → IfErr r (λ fault. CanComplete fault S u)
+completes_of (Ok v) R S t u gives completes = tt
+completes_of (Err fault) R S t u gives completes =
+    λ short. completes_part R S t u gives (completes short)
+
+-- a refusal that says the one where the pattern is cut short says what follows from it
+pub cut_short_says : (e : Refusal) (A B : Type 0) → (A → B) → IfCutShort e A → IfCutShort e B
+cut_short_says (syntax_error fault) A B gives says = λ short. gives (says short)
+cut_short_says too_deep A B gives says = tt
+cut_short_says too_many_groups A B gives says = tt
+cut_short_says out_of_memory A B gives says = tt
+cut_short_says (passed_limit limit) A B gives says = tt
+cut_short_says refused_replacement A B gives says = tt

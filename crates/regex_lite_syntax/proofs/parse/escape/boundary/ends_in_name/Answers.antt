@@ -1,0 +1,90 @@
+use Rattle.std.proofs.Common.{◌≡◌, refl, sym, subst, ℕ, Bool, length, drop, [], ◌∷◌, IsTrue, arith}
+use Rattle.std.specs.List.{list_all}
+use Rattle.std.proofs.lemmas.Bool.{and_parts, eqb-true, eqb-false}
+use Rattle.std.proofs.lemmas.List.{drop_all, drop_more}
+use Rattle.regex_lite_syntax.specs.Text.{Text}
+use Rattle.regex_lite_syntax.specs.Grammar.Gaps.{Gap, WholeGap}
+use Rattle.regex_lite_syntax.specs.Grammar.Escapes.{is_boundary_character}
+use Rattle.regex_lite_syntax.specs.Parser.BoundaryNames.{EndsInName}
+use Rattle.regex_lite_syntax.proofs.grammar.GapLemmas.{gap_to_end}
+use Rattle.regex_lite_syntax.proofs.parse.IndexLemmas.{left_at_end, some_at}
+use Rattle.regex_lite_syntax.proofs.parse.escape.NameEndLemmas.{ends_at_start, ends_past_all}
+use Rattle.regex_lite_syntax.proofs.parse.escape.NameEndLemmas.{ends_after, ends_before}
+use Rattle.regex_lite_syntax.proofs.parse.escape.NameEndLemmas.{ends_elsewhere}
+use Rattle.regex_lite_syntax.proofs.parse.escape.boundary.ends_in_name.Goals as goal
+
+-- a gap leads to the end
+to_end : (verbose : Bool) (xs t : Text) (i : ℕ) → WholeGap verbose t (drop i xs)
+    → i ≡ length xs → Gap verbose t []
+to_end verbose xs t i whole e = subst (λ u. Gap verbose t u) (left_at_end xs i e) whole.0
+
+-- the first of the letters that are left
+first_left : (verbose : Bool) (left letters t : Text) (l c : ℕ) → left ≡ l ∷ letters → c ≡ l
+    → EndsInName verbose left t → EndsInName verbose (c ∷ letters) t
+first_left verbose left letters t l c all same e =
+    subst (λ d. EndsInName verbose (d ∷ letters) t) (sym same)
+    (subst (λ u. EndsInName verbose u t) all e)
+
+all_left : (verbose : Bool) (left letters t : Text) (l c : ℕ) → left ≡ l ∷ letters → c ≡ l
+    → EndsInName verbose (c ∷ letters) t → EndsInName verbose left t
+all_left verbose left letters t l c all same e =
+    subst (λ u. EndsInName verbose u t) (sym all)
+    (subst (λ d. EndsInName verbose (d ∷ letters) t) same e)
+
+allowed : (left letters : Text) (l c : ℕ) → left ≡ l ∷ letters → c ≡ l
+    → IsTrue (list_all is_boundary_character left)
+    → IsTrue (is_boundary_character c) × IsTrue (list_all is_boundary_character letters)
+allowed left letters l c all same are =
+    let parts =
+    and_parts _ _ (subst (λ ls. IsTrue (list_all is_boundary_character ls)) all are) in
+    (subst (λ d. IsTrue (is_boundary_character d)) (sym same) parts.0, parts.1)
+
+pub returns-then-not-is_at-clause-there : goal.returns-then-not-is_at-clause-there
+returns-then-not-is_at-clause-there c at_end =
+    c.loop-letter.invariant.goes
+    (ends_at_start _ _ _
+    (to_end _ _ _ _ c.skip_gap-next.ensures.gap (eqb-true _ _ at_end)))
+
+pub returns-then-not-is_at-clause-absent : goal.returns-then-not-is_at-clause-absent
+returns-then-not-is_at-clause-absent c goes_on e =
+    let left = drop_more c.as_bytes-letter-items.result.now c.loop-letter.letter-index 0
+    c.loop-letter-test.true in
+    let some = eqb-false _ _ goes_on in
+    ends_elsewhere _ _ _ _ _ c.skip_gap-next.ensures.gap
+    (some_at c.args.chars.now c.skip_gap-next.result (omega (arith, some)))
+    (c.if-not-is_at.ensures.absent refl)
+    (first_left _ _ _ _ _ _ left c.from.ensures (c.loop-letter.invariant.back e))
+
+pub loop-letter-preserved : goal.loop-letter-preserved
+loop-letter-preserved c =
+    let left = drop_more c.as_bytes-letter-items.result.now c.loop-letter.letter-index 0
+    c.loop-letter-test.true in
+    let here = c.if-not-is_at.ensures.there refl in
+    let whole = c.skip_gap-next.ensures.gap in
+    let before = c.loop-letter.invariant in
+    let are = allowed _ _ _ _ left c.from.ensures before.letters in
+    record {
+      inside = (omega arith, omega (arith, here.0));
+      letters = are.1;
+      goes = λ e.
+          before.goes
+          (all_left _ _ _ _ _ _ left c.from.ensures
+          (ends_before _ _ _ _ _ _ whole here.1 are.0 e));
+      back = λ e.
+          ends_after _ _ _ _ _ _ whole here.1
+          (first_left _ _ _ _ _ _ left c.from.ensures (before.back e));
+    }
+
+pub returns-clause-there : goal.returns-clause-there
+returns-clause-there c at_end =
+    c.loop-letter.invariant.goes
+    (ends_at_start _ _ _ (to_end _ _ _ _ c.skip_gap.ensures.gap (eqb-true _ _ at_end)))
+
+pub returns-clause-absent : goal.returns-clause-absent
+returns-clause-absent c goes_on e =
+    let none = drop_all c.loop-letter.letter-index c.as_bytes-letter-items.result.now
+    c.loop-letter-test.false in
+    let some = eqb-false _ _ goes_on in
+    some_at c.args.chars.now c.skip_gap.result (omega (arith, some))
+    (gap_to_end _ _ _ c.skip_gap.ensures.gap
+    (ends_past_all _ _ _ none (c.loop-letter.invariant.back e)))
