@@ -14,7 +14,7 @@ use Rattle.regex_lite_syntax.specs.Text.{Text}
 use Rattle.regex_lite_engine.specs.Graph.NoLooks.{HasNoLooks, RequiresNoLook}
 use Rattle.regex_lite_engine.specs.Graph.Places.{Place, with_arrows, step}
 use Rattle.regex_lite_engine.specs.Graph.Ways.{Leads}
-use Rattle.regex_lite_engine.specs.LazyDfa.Scanning.{best_told}
+use Rattle.regex_lite_engine.specs.LazyDfa.Scanning.{span_told}
 use Rattle.regex_lite_engine.specs.Search.Rows.{Row}
 use Rattle.regex_lite_engine.specs.Search.NumberedOutcomes.{IsBestOutcome, IsBestOutcomeOf}
 use Rattle.regex_lite_engine.specs.Search.NumberedOutcomes.{IsNumberedOutcome, with_start_kept}
@@ -205,10 +205,10 @@ module _ (table : List (Place ℕ)) (no_looks : HasNoLooks table) where
 
   -- the same of a match whose offsets are known
   module _ (bytes : List ℕ) (utf8 : IsUtf8 bytes) (start s from end : ℕ)
-      (known : IsBestOutcomeOf table (chars bytes) (start ∷ []) s (best_told (Some (from, end))))
+      (known : IsBestOutcomeOf table (chars bytes) (start ∷ []) s (span_told (Some (from, end))))
     where
-      abbrev outcome : IsBestOutcome table (chars bytes) start s (best_told (Some (from, end)))
-      outcome = one_best table (chars bytes) start s (best_told (Some (from, end))) known
+      abbrev outcome : IsBestOutcome table (chars bytes) start s (span_told (Some (from, end)))
+      outcome = one_best table (chars bytes) start s (span_told (Some (from, end))) known
 
       abbrev first : ℕ
       first = outcome.0.start

@@ -1,15 +1,13 @@
 -- A turn that is remembered when it has been taken.
 use Rattle.std.proofs.Common.{◌≡◌, ℕ, zero, suc, ◌<◌, ◌≤◌, inl, inr, Bool, true}
 use Rattle.std.proofs.Common.{false, Option, None, slice_set, List, [], ◌∷◌, ◌++◌, length}
-use Rattle.std.proofs.Common.{map, slice_get, Some, refl, sym, ap, subst, ◌∙◌, arith}
+use Rattle.std.proofs.Common.{slice_get, Some, refl, sym, ap, subst, ◌∙◌, arith}
 use Rattle.std.proofs.lemmas.Bool.{cases_eq}
 use Rattle.std.proofs.lemmas.List.{length-map}
-use Rattle.regex_lite_engine.specs.declared.nfa.place.Place as code
 use Rattle.regex_lite_engine.specs.declared.search.here.Here.{Here}
 use Rattle.regex_lite_engine.specs.declared.pikevm.cache.Cache.{Cache}
 use Rattle.regex_lite_engine.specs.Graph.Places.{Place, reading_of}
-use Rattle.regex_lite_engine.specs.Graph.Stored.{place_of}
-use Rattle.regex_lite_engine.specs.LazyDfa.Automaton.{Automaton, FitsTable, LeadsOn, Origin}
+use Rattle.regex_lite_engine.specs.LazyDfa.Automaton.{Automaton, FitsTable, LeadsOn, KeptOrigin}
 use Rattle.regex_lite_engine.specs.LazyDfa.Automaton.{Remembers, Sees, State, Suits, Way}
 use Rattle.regex_lite_engine.specs.LazyDfa.Automaton.{hit_of, searching_after, way_of, ways_of}
 use Rattle.regex_lite_engine.specs.LazyDfa.Extending.{Extends}
@@ -21,17 +19,17 @@ use Rattle.regex_lite_engine.specs.Pikevm.Room.{ThreadsBelow}
 use Rattle.regex_lite_engine.specs.Pikevm.Searching.{IsHit}
 use Rattle.regex_lite_engine.specs.Pikevm.Turns.{best_of}
 use Rattle.regex_lite_engine.specs.Search.NumberedOutcomes.{Best}
-use Rattle.regex_lite_engine.proofs.lazy_dfa.AlikeLemmas.{alike_at, same_side_of}
+use Rattle.regex_lite_engine.proofs.lazy_dfa.AlikeLemmas.{same_side_of}
 use Rattle.regex_lite_engine.proofs.lazy_dfa.RememberedLemmas.{remembered, set_other, set_there}
 use Rattle.regex_lite_engine.proofs.lazy_dfa.RememberedLemmas.{still_remembers}
 use Rattle.regex_lite_engine.proofs.OptionLemmas.{not_there, same_some}
 
 -- what is pending is none of it
-pub remembers_pending : (places : List code.Place) (entries : List ℕ) (automaton : Automaton)
+pub remembers_pending : (table : List (Place ℕ)) (entries : List ℕ) (automaton : Automaton)
     (pending : List Way)
-    → Remembers places entries automaton
-    → Remembers places entries (record automaton { pending = pending })
-remembers_pending places entries automaton pending remembers =
+    → Remembers table entries automaton
+    → Remembers table entries (record automaton { pending = pending })
+remembers_pending table entries automaton pending remembers =
     record { intervals = remembers.intervals; leads = remembers.leads; fit = remembers.fit }
 
 -- the ways of threads fit where the threads do
@@ -52,27 +50,27 @@ ways_fit table first threads below few = record {
         each ts (λ j lt. below (suc j) (omega (arith, lt))) k way at
 
 -- what is remembered stays so while the ways of the threads become those of a state
-pub remembers_settled : (places : List code.Place) (entries : List ℕ)
+pub remembers_settled : (table : List (Place ℕ)) (entries : List ℕ)
     (old gathered settled : Automaton) (first : ℕ) (threads : List Thread)
     → gathered ≡ record old { pending = old.pending ++ ways_of first threads } → old.pending ≡ []
-    → Remembers places entries old → ThreadsBelow (length (map place_of places)) threads
-    → length threads ≤ reading_of (map place_of places) → Extends gathered settled
-    → (gathered.pending ≡ ways_of first threads) × Remembers places entries settled
-remembers_settled places entries old gathered settled first threads all none remembers below few
+    → Remembers table entries old → ThreadsBelow (length table) threads
+    → length threads ≤ reading_of table → Extends gathered settled
+    → (gathered.pending ≡ ways_of first threads) × Remembers table entries settled
+remembers_settled table entries old gathered settled first threads all none remembers below few
     extends =
     let ways = ways_of first threads in
     let pending : gathered.pending ≡ ways =
     ap (λ (z : Automaton). z.pending) all ∙ ap (λ own. own ++ ways) none in (
       pending,
-      still_remembers places entries gathered settled
-          (subst (Remembers places entries) (sym all)
-          (remembers_pending places entries old (old.pending ++ ways) remembers)) extends
-          (subst (FitsTable (map place_of places)) (sym pending)
-          (ways_fit (map place_of places) first threads below few)),
+      still_remembers table entries gathered settled
+          (subst (Remembers table entries) (sym all)
+          (remembers_pending table entries old (old.pending ++ ways) remembers)) extends
+          (subst (FitsTable table) (sym pending)
+          (ways_fit table first threads below few)),
     )
 
 -- there is a match afterwards where none is searched for
-pub suits_after : (first : ℕ) (hit : Bool) (before now : Best) (last : Option Origin)
+pub suits_after : (first : ℕ) (hit : Bool) (before now : Best) (last : Option KeptOrigin)
     (searching : Bool)
     → IsHit hit before now → last ≡ hit_of first hit now → Suits searching before
     → Suits (searching_after last searching) now
@@ -118,26 +116,26 @@ still_in automaton x class z from at y first before cache is_in = elim (cases_eq
       }
 ]
 
-module _ (places : List code.Place) (entries : List ℕ) {S : Type 0} (old new : Automaton)
-    (same : new.intervals ≡ old.intervals) (remembers : Remembers places entries new) (x first : ℕ)
+module _ (table : List (Place ℕ)) (entries : List ℕ) {S : Type 0} (old new : Automaton)
+    (same : new.intervals ≡ old.intervals) (remembers : Remembers table entries new) (x first : ℕ)
     (here : Here) (hit : Bool) (now : Cache S)
-    (turned : HasTurned (map place_of places) entries old x first here hit now) (class : ℕ)
+    (turned : HasTurned table entries old x first here hit now) (class : ℕ)
     (is_class : class_of new.intervals.boundaries here.after ≡ class) (to : State)
     (ways : to.ways ≡ ways_of first now.walk.memory.threads)
     (is_hit : to.hit ≡ hit_of first hit (best_of now.best))
     (searching : to.searching ≡ searching_after to.hit turned.is_in.state.searching)
     (before : new.intervals.looks ≡ true → to.before ≡ side_of here.after) where
   alike : (there : Here) → Sees new.intervals turned.is_in.state.before class there
-      → AreAlike (map place_of places) here there
-  alike there sees = alike_at places new.intervals remembers.intervals here there (record {
+      → AreAlike table here there
+  alike there sees = remembers.intervals.alike here there (record {
     ahead = is_class ∙ sym sees.ahead;
     behind = λ looks.
         turned.is_in.sees (sym (ap (λ z. z.looks) same) ∙ looks) ∙ sym (sees.behind looks);
   })
 
-  pub learned : LeadsOn (map place_of places) entries new.intervals turned.is_in.state class to
+  pub learned : LeadsOn table entries new.intervals turned.is_in.state class to
   learned =
-      remembered (map place_of places) entries new.intervals turned.before now here hit first
+      remembered table entries new.intervals turned.before now here hit first
       turned.starts turned.told turned.is_in.state class to turned.again alike
       (λ there sees h p is. turned.suffice h p there is) turned.tells turned.is_first
       turned.is_in.ways turned.is_in.suits ways is_hit searching

@@ -6,6 +6,8 @@ use Rattle.regex_lite_engine.specs.declared.nfa.place.Place.TheVariants as store
 use Rattle.regex_lite_engine.specs.Graph.NoLooks.{HasNoLooks, RequiresNoLook}
 use Rattle.regex_lite_engine.specs.Graph.Stored.{place_of}
 use Rattle.regex_lite_engine.specs.LazyDfa.Intervals.{Intervals, AreIntervalsOf, IsBoundedPlace}
+use Rattle.regex_lite_engine.specs.LazyDfa.Automaton.{AreIntervalsFor}
+use Rattle.regex_lite_engine.proofs.lazy_dfa.AlikeLemmas.{alike_at}
 use Rattle.regex_lite_engine.proofs.OptionLemmas.{not_there, same_some}
 use Rattle.regex_lite_engine.proofs.laws.search.NoLookLemmas.{free_arrows}
 
@@ -35,6 +37,15 @@ module _ (intervals : Intervals) (none : intervals.looks ≡ false) where
   each_no_look (first ∷ places) each (suc q) place e =
       each_no_look places (λ r next at. each (suc r) next at) q place e
 
-pub no_looks : (places : List code.Place) (intervals : Intervals)
+no_looks : (places : List code.Place) (intervals : Intervals)
     → AreIntervalsOf places intervals → intervals.looks ≡ false → HasNoLooks (map place_of places)
 no_looks places intervals are none = each_no_look intervals none places are.each
+
+-- what no place distinguishes, the table doesn't
+pub intervals_for : (places : List code.Place) (intervals : Intervals)
+    → AreIntervalsOf places intervals → AreIntervalsFor (map place_of places) intervals
+intervals_for places intervals are = record {
+  alike = alike_at places intervals are;
+  sides = are.sides;
+  no_looks = no_looks places intervals are;
+}

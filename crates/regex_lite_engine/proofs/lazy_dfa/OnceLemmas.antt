@@ -1,16 +1,16 @@
 -- A search that gets an automaton on its way.
-use Rattle.std.proofs.Common.{◌≡◌, ℕ, List, [], Option, MatchOption, false, ap, sym, subst, ◌∙◌}
+use Rattle.std.proofs.Common.{◌≡◌, ℕ, List, [], Option, Some, None, MatchOption, false, ap, sym, subst, ◌∙◌}
 use Rattle.std.proofs.lemmas.List.{nil_from_length}
 use Rattle.regex_lite_syntax.specs.Text.{Text}
 use Rattle.regex_lite_engine.specs.declared.lazy_dfa.run.Progress.{Progress}
+use Rattle.regex_lite_engine.specs.declared.pikevm.beginning.Origin.{Origin}
 use Rattle.regex_lite_engine.specs.declared.pikevm.cache.Cache.{Cache}
 use Rattle.regex_lite_engine.specs.Graph.Places.{Place}
 use Rattle.regex_lite_engine.specs.LazyDfa.Automaton.{Automaton}
 use Rattle.regex_lite_engine.specs.LazyDfa.Learning.{IsIn}
 use Rattle.regex_lite_engine.specs.LazyDfa.Running.{IsOnItsWay, Stands}
-use Rattle.regex_lite_engine.specs.LazyDfa.Scanning.{best_told}
-use Rattle.regex_lite_engine.specs.Search.NumberedOutcomes.{IsBestOutcomeOf, with_start_kept}
-use Rattle.regex_lite_engine.specs.Search.NumberedOutcomes.{best_at}
+use Rattle.regex_lite_engine.specs.LazyDfa.Scanning.{best_told, span_told}
+use Rattle.regex_lite_engine.specs.Search.NumberedOutcomes.{IsBestOutcomeOf, best_kept, span_of}
 use Rattle.regex_lite_engine.specs.Pikevm.Turns.{best_of}
 
 -- one that remembers nothing
@@ -20,7 +20,7 @@ empty = record { intervals = record { boundaries = []; looks = false }; states =
 module _ (table : List (Place ℕ)) (h : Text) (entries : List ℕ) (s : ℕ) where
   -- where the search stands, its state is known
   pub known_stands : (other automaton : Automaton) (at known : Progress) (state : Option ℕ)
-      (cache : Cache ℕ)
+      (cache : Cache Origin)
       → Stands table h entries s other at cache → known ≡ record at { state = state } →
       MatchOption state (Unit {0}) (λ y. IsIn automaton y at.first at.here.before cache)
       → Stands table h entries s automaton known cache
@@ -34,13 +34,26 @@ module _ (table : List (Place ℕ)) (h : Text) (entries : List ℕ) (s : ℕ) wh
         state = state_known;
       })
 
-  -- the span is that of the best match
-  pub span_told : (p : ℕ) (cache : Cache ℕ) (span : Option (ℕ × ℕ))
+  -- what is known is the best match
+  pub found_told : (p : ℕ) (cache : Cache Origin) (known : Option (Origin × ℕ))
       → IsOnItsWay table h entries s p cache
-      → best_of cache.best ≡ with_start_kept (best_at span cache.best.row) →
+      → best_of cache.best ≡ best_kept known cache.best.row →
       IsBestOutcomeOf table h entries s (best_of cache.best)
-      → IsBestOutcomeOf table h entries s (best_told span)
-  span_told p cache span on is found =
+      → IsBestOutcomeOf table h entries s (best_told known)
+  found_told p cache known on is found =
       let row = nil_from_length cache.best.row (on.ready.best_width ∙ on.width) in
-      subst (IsBestOutcomeOf table h entries s)
-      (is ∙ ap (λ row. with_start_kept (best_at span row)) row) found
+      subst (IsBestOutcomeOf table h entries s) (is ∙ ap (best_kept known) row) found
+
+-- where the best match starts and ends, without the number of its pattern
+pub spanned : (table : List (Place ℕ)) (h : Text) (entries : List ℕ) (s : ℕ)
+    (found : Option (Origin × ℕ))
+    → IsBestOutcomeOf table h entries s (best_told found)
+    → IsBestOutcomeOf table h entries s (span_told (span_of found))
+spanned table h entries s None outcome = outcome
+spanned table h entries s (Some known) (number, found, answer, told, rest) = (
+  number,
+  found,
+  answer,
+  record { start_told = told.start_told; number_told = tt },
+  rest,
+)

@@ -1,24 +1,22 @@
 -- A turn that a search has taken may be remembered.
 use Rattle.std.proofs.Common.{◌≡◌, ◌==◌, ℕ, zero, suc, ◌+◌, ◌<◌, ◌≤◌, ◌⊎◌, inl, inr, Bool}
-use Rattle.std.proofs.Common.{true, false, List, [], ◌∷◌, map, slice_get, slice_index}
+use Rattle.std.proofs.Common.{true, false, List, [], ◌∷◌, slice_get, slice_index}
 use Rattle.std.proofs.Common.{slice_set, Option, Some, None, refl, sym, ap, subst, ◌∙◌, arith}
 use Rattle.std.proofs.lemmas.Bool.{cases_eq}
 use Rattle.std.proofs.lemmas.Bool.Decides.{nat_tests}
 use Rattle.regex_lite_syntax.specs.Text.{Text}
-use Rattle.regex_lite_engine.specs.declared.nfa.place.Place as code
 use Rattle.regex_lite_engine.specs.declared.search.here.Here.{Here}
 use Rattle.regex_lite_engine.specs.declared.search.patterns.Start.{Start}
 use Rattle.regex_lite_engine.specs.declared.pikevm.cache.Cache.{Cache}
 use Rattle.regex_lite_engine.specs.Graph.Places.{Place}
-use Rattle.regex_lite_engine.specs.Graph.Stored.{place_of}
-use Rattle.regex_lite_engine.specs.LazyDfa.Automaton.{Automaton, FitsTable, LeadsOn}
+use Rattle.regex_lite_engine.specs.LazyDfa.Automaton.{AreIntervalsFor, Automaton, FitsTable, LeadsOn}
 use Rattle.regex_lite_engine.specs.LazyDfa.Automaton.{Remembers, Sees, State, Suits, began}
 use Rattle.regex_lite_engine.specs.LazyDfa.Automaton.{best_left, hit_of, origin_of}
 use Rattle.regex_lite_engine.specs.LazyDfa.Automaton.{searching_after, threads_of, told_by}
 use Rattle.regex_lite_engine.specs.LazyDfa.Automaton.{most_classes, told_if, unknown, ways_of}
 use Rattle.regex_lite_engine.specs.LazyDfa.Extending.{Extends}
 use Rattle.regex_lite_engine.specs.LazyDfa.Learning.{IsFirstStart}
-use Rattle.regex_lite_engine.specs.LazyDfa.Intervals.{Intervals, AreIntervalsOf, class_of, side_of}
+use Rattle.regex_lite_engine.specs.LazyDfa.Intervals.{Intervals, class_of, side_of}
 use Rattle.regex_lite_engine.specs.Pikevm.Again.{AreAlike, retold, all_retold, best_again}
 use Rattle.regex_lite_engine.specs.Search.Beginnings.{Told, TellsStart, IsTold}
 use Rattle.regex_lite_engine.specs.Pikevm.Machine.{Thread}
@@ -178,12 +176,12 @@ led_to : (table : List (Place ℕ)) (entries : List ℕ) (intervals : Intervals)
 led_to table entries intervals x y class next leads =
     record { on = leads.on; searching = leads.searching; before = leads.before }
 
-module _ (places : List code.Place) (entries : List ℕ) where
+module _ (table : List (Place ℕ)) (entries : List ℕ) where
   -- with more states
-  pub still_remembers : (old new : Automaton) → Remembers places entries old → Extends old new
-      → FitsTable (map place_of places) old.pending → Remembers places entries new
+  pub still_remembers : (old new : Automaton) → Remembers table entries old → Extends old new
+      → FitsTable table old.pending → Remembers table entries new
   still_remembers old new remembers extends fits = record {
-    intervals = subst (λ z. AreIntervalsOf places z) (sym extends.intervals) remembers.intervals;
+    intervals = subst (λ z. AreIntervalsFor table z) (sym extends.intervals) remembers.intervals;
     leads = λ x from class at inside known.
         by_age x from class at inside known (slice_get old.states x) refl;
     fit = λ x state at. fit_by_age x state at (slice_get old.states x) refl;
@@ -193,13 +191,13 @@ module _ (places : List code.Place) (entries : List ℕ) where
           → class < most_classes → (slice_index from.next class ≡ unknown → ⊥) → (o : Option State)
           → slice_get old.states x ≡ o →
           (to : State) × (slice_get new.states (slice_index from.next class) ≡ Some to)
-          × LeadsOn (map place_of places) entries new.intervals from class to
+          × LeadsOn table entries new.intervals from class to
       by_age x from class at inside known (Some was) old_at =
           let same : was ≡ from = same_some (sym (extends.kept x was old_at) ∙ at) in
           let led = remembers.leads x from class (old_at ∙ ap Some same) inside known in (
             led.0,
             extends.kept (slice_index from.next class) led.0 led.1,
-            subst (λ z. LeadsOn (map place_of places) entries z from class led.0)
+            subst (λ z. LeadsOn table entries z from class led.0)
                 (sym extends.intervals) led.2,
           )
       by_age x from class at inside known None old_at =
@@ -208,20 +206,20 @@ module _ (places : List code.Place) (entries : List ℕ) where
 
       fit_by_age : (x : ℕ) (state : State) → slice_get new.states x ≡ Some state
           → (o : Option State) → slice_get old.states x ≡ o
-          → FitsTable (map place_of places) state.ways
+          → FitsTable table state.ways
       fit_by_age x state at (Some was) old_at =
           let same : was ≡ state = same_some (sym (extends.kept x was old_at) ∙ at) in
           remembers.fit x state (old_at ∙ ap Some same)
       fit_by_age x state at None old_at =
-          subst (FitsTable (map place_of places))
+          subst (FitsTable table)
           (sym (extends.fresh x state at (λ e. not_there (sym old_at ∙ e))).0) fits
 
   -- with one turn more
-  pub remembers_more : (old : Automaton) → Remembers places entries old
+  pub remembers_more : (old : Automaton) → Remembers table entries old
       → (x : ℕ) (from : State) (class y : ℕ) (to : State) → slice_get old.states x ≡ Some from
       → slice_get old.states y ≡ Some to →
-      LeadsOn (map place_of places) entries old.intervals from class to →
-      Remembers places entries
+      LeadsOn table entries old.intervals from class to →
+      Remembers table entries
       (record old {
         states = slice_set old.states x (record from { next = slice_set from.next class y });
       })
@@ -240,28 +238,28 @@ module _ (places : List code.Place) (entries : List ℕ) where
 
       fitting : (k : ℕ) (state : State)
           → ((k ≡ x) × (state ≡ now)) ⊎ (slice_get old.states k ≡ Some state)
-          → FitsTable (map place_of places) state.ways
+          → FitsTable table state.ways
       fitting k state (inl (e, f)) =
-          subst (λ (s : State). FitsTable (map place_of places) s.ways) (sym f)
+          subst (λ (s : State). FitsTable table s.ways) (sym f)
           (remembers.fit x from from_at)
       fitting k state (inr at) = remembers.fit k state at
 
       Led : State → ℕ → ℕ → Type 0
       Led was c z =
           (to : State) × (slice_get states z ≡ Some to)
-          × LeadsOn (map place_of places) entries old.intervals was c to
+          × LeadsOn table entries old.intervals was c to
 
       arrived : (was : State) (c z : ℕ) (there : State) → slice_get old.states z ≡ Some there
-          → LeadsOn (map place_of places) entries old.intervals was c there → Led was c z
+          → LeadsOn table entries old.intervals was c there → Led was c z
       arrived was c z there at leads = elim (cases_eq z x) [
         | inl same ↦
             let own : there ≡ from =
             same_some (sym at ∙ ap (slice_get old.states) same ∙ from_at) in (
               now,
               ap (slice_get states) same ∙ set_there old.states x from now from_at,
-              led_to (map place_of places) entries old.intervals was from c
+              led_to table entries old.intervals was from c
                   (slice_set from.next class y) (subst
-                  (λ s. LeadsOn (map place_of places) entries old.intervals was c s) own leads),
+                  (λ s. LeadsOn table entries old.intervals was c s) own leads),
             )
         | inr other ↦ (there, set_other old.states x now z there other at, leads)
       ]
@@ -282,11 +280,11 @@ module _ (places : List code.Place) (entries : List ℕ) where
               → (slice_index now.next c ≡ unknown → ⊥) → Led now c (slice_index now.next c)
           own (inl (ce, ye)) known =
               subst (λ z. Led now c z) (sym ye) (subst (λ c'. Led now c' y) (sym ce)
-              (arrived now class y to to_at (led_from (map place_of places) entries old.intervals
+              (arrived now class y to to_at (led_from table entries old.intervals
               from to class (slice_set from.next class y) leads)))
           own (inr same) known =
               let there = remembers.leads x from c from_at inside (λ e. known (same ∙ e)) in
               subst (λ z. Led now c z) (sym same)
               (arrived now c (slice_index from.next c) there.0 there.1
-              (led_from (map place_of places) entries old.intervals from there.0 c
+              (led_from table entries old.intervals from there.0 c
               (slice_set from.next class y) there.2))

@@ -7,6 +7,7 @@ use Rattle.std.proofs.lemmas.List.{length-map}
 use Rattle.regex_lite_syntax.specs.Text.{Text}
 use Rattle.regex_lite_engine.specs.declared.lazy_dfa.scan.Standing.{Standing}
 use Rattle.regex_lite_engine.specs.declared.lazy_dfa.state.StoredWay.{StoredWay}
+use Rattle.regex_lite_engine.specs.declared.pikevm.beginning.Origin.{Origin}
 use Rattle.regex_lite_engine.specs.declared.search.here.Here.{Here}
 use Rattle.regex_lite_engine.specs.declared.pikevm.cache.Cache.{Cache}
 use Rattle.regex_lite_engine.specs.Graph.Places.{Place, reading_of}
@@ -14,7 +15,7 @@ use Rattle.regex_lite_engine.specs.LazyDfa.Automaton.{Automaton, FitsTable, Suit
 use Rattle.regex_lite_engine.specs.LazyDfa.Automaton.{origin_of, threads_of, told_by, told_if}
 use Rattle.regex_lite_engine.specs.LazyDfa.Automaton.{ways_of}
 use Rattle.regex_lite_engine.specs.LazyDfa.Learning.{IsFirstStart, IsIn}
-use Rattle.regex_lite_engine.specs.LazyDfa.Running.{GoesOnWith, IsOnItsWay, started_at}
+use Rattle.regex_lite_engine.specs.LazyDfa.Running.{GoesOnWith, IsOnItsWay, thread_from}
 use Rattle.regex_lite_engine.specs.LazyDfa.Scanning.{best_told, IsIdleAt, IsScanning}
 use Rattle.regex_lite_engine.specs.LazyDfa.Stored.{way_in}
 use Rattle.regex_lite_engine.specs.Search.Bounds.{StepCounts}
@@ -91,7 +92,7 @@ module _ (first : ℕ) where
 
 -- a search whose state is known may go by remembered turns
 pub scanning_from : (table : List (Place ℕ)) (h : Text) (entries : List ℕ) (s p : ℕ) {S : Type 0}
-    (automaton : Automaton) (x first : ℕ) (here : Here) (cache : Cache S) (best : Option (ℕ × ℕ))
+    (automaton : Automaton) (x first : ℕ) (here : Here) (cache : Cache S) (best : Option (Origin × ℕ))
     → IsHere h p here →
     IsOnItsWay table h entries s p cache → IsIn automaton x first here.before cache
     → IsFirstStart first here.at cache.walk.memory.threads → best_of cache.best ≡ best_told best →
@@ -122,18 +123,18 @@ scanning_from table h entries s p automaton x first here cache best is on is_in 
 module _ (first : ℕ) where
   told_first : (w : StoredWay) → w.is_first ≡ true → (λ (b : Bool). ◌≡◌ {A = Thread} (
     w.place,
-    told_by first (record { first = b; number = None }),
+    told_by first (record { first = b; number = Some w.number }),
     [],
-  ) (started_at first w)) w.is_first
-  told_first w e = ap (λ b. (w.place, told_by first (record { first = b; number = None }), [])) e
+  ) (thread_from first w)) w.is_first
+  told_first w e = ap (λ b. (w.place, told_by first (record { first = b; number = Some w.number }), [])) e
 
   pub threads_first : (ws : List StoredWay) → All (λ way. way.is_first ≡ true) ws
-      → threads_of first (map way_in ws) ≡ map (started_at first) ws
+      → threads_of first (map way_in ws) ≡ map (thread_from first) ws
   threads_first [] all = refl
   threads_first (w ∷ ws) all =
       ap (λ (t : Thread). t ∷ threads_of first (map way_in ws))
       (told_first w (all 0 w (omega arith)))
-      ∙ ap (λ (ts : List Thread). started_at first w ∷ ts)
+      ∙ ap (λ (ts : List Thread). thread_from first w ∷ ts)
       (threads_first ws (λ k d lt. all (suc k) d (omega (arith, lt))))
 
   same_test : (first == first) ≡ true
@@ -141,24 +142,24 @@ module _ (first : ℕ) where
 
   way_first : (w : StoredWay) → w.is_first ≡ true
       → ◌≡◌ {A = Way}
-      (record { place = w.place; origin = record { first = first == first; number = None } })
+      (record { place = w.place; origin = record { first = first == first; number = Some w.number } })
       (way_in w)
   way_first w e =
-      ap (λ b. record { place = w.place; origin = record { first = b; number = None } })
+      ap (λ b. record { place = w.place; origin = record { first = b; number = Some w.number } })
       (same_test ∙ sym e)
 
   pub ways_first : (ws : List StoredWay) → All (λ way. way.is_first ≡ true) ws
-      → ways_of first (map (started_at first) ws) ≡ map way_in ws
+      → ways_of first (map (thread_from first) ws) ≡ map way_in ws
   ways_first [] all = refl
   ways_first (w ∷ ws) all =
-      ap (λ (x : Way). x ∷ ways_of first (map (started_at first) ws))
+      ap (λ (x : Way). x ∷ ways_of first (map (thread_from first) ws))
       (way_first w (all 0 w (omega arith)))
       ∙ ap (λ (xs : List Way). way_in w ∷ xs)
       (ways_first ws (λ k d lt. all (suc k) d (omega (arith, lt))))
 
 below_at : (n first : ℕ) (ws : List StoredWay) (ways : List Way) → map way_in ws ≡ ways
     → ((k : ℕ) (way : Way) → slice_get ways k ≡ Some way → way.place < n) → (k : ℕ)
-    → k < length (map (started_at first) ws) → (thread_at (map (started_at first) ws) k).0 < n
+    → k < length (map (thread_from first) ws) → (thread_at (map (thread_from first) ws) k).0 < n
 below_at n first ws ways e below =
     from_stored ws
     (subst (λ (all : List Way). (k : ℕ) (way : Way) → slice_get all k ≡ Some way → way.place < n)
@@ -166,7 +167,7 @@ below_at n first ws ways e below =
   where
     from_stored : (ws : List StoredWay)
         → ((k : ℕ) (way : Way) → slice_get (map way_in ws) k ≡ Some way → way.place < n) → (k : ℕ)
-        → k < length (map (started_at first) ws) → (thread_at (map (started_at first) ws) k).0 < n
+        → k < length (map (thread_from first) ws) → (thread_at (map (thread_from first) ws) k).0 < n
     from_stored [] below k lt = absurd (omega (arith, lt))
     from_stored (w ∷ ws) below zero lt = below 0 (way_in w) refl
     from_stored (w ∷ ws) below (suc k) lt =
@@ -199,11 +200,11 @@ module _ (table : List (Place ℕ)) (h : Text) (entries : List ℕ) (s p : ℕ) 
       (later : p < q) (ws : List StoredWay) (ways : map way_in ws ≡ scanning.state.ways)
       (all : All (λ way. way.is_first ≡ true) ws) (fits : FitsTable table scanning.state.ways)
       (no_best : stuck.best ≡ None)
-      (threads : new.walk.memory.threads ≡ map (started_at stuck.first) ws) where
+      (threads : new.walk.memory.threads ≡ map (thread_from stuck.first) ws) where
     few_threads : length new.walk.memory.threads ≤ reading_of table
     few_threads =
         let same = ap (λ (ts : List Thread). length ts) threads in
-        let n = length-map ws (started_at stuck.first) in let m = length-map ws way_in in
+        let n = length-map ws (thread_from stuck.first) in let m = length-map ws way_in in
         let w = ap (λ (xs : List Way). length xs) ways in let few = fits.few in
         omega (arith, same, n, m, w, few)
 
@@ -215,7 +216,7 @@ module _ (table : List (Place ℕ)) (h : Text) (entries : List ℕ) (s p : ℕ) 
         kept.steps kept.now later (let few = few_threads in let more = reads_within table in
         omega (arith, few, more)) kept.row
         (subst (λ ts. IsComing table h entries s (length h) q ts (best_of new.best)) (sym threads)
-        (subst (λ b. IsComing table h entries s (length h) q (map (started_at stuck.first) ws) b)
+        (subst (λ b. IsComing table h entries s (length h) q (map (thread_from stuck.first) ws) b)
         (sym none)
         (subst (λ ts. IsComing table h entries s (length h) q ts None)
         (threads_first stuck.first ws all)
@@ -241,7 +242,7 @@ module _ (table : List (Place ℕ)) (h : Text) (entries : List ℕ) (s p : ℕ) 
         let own = scanning.own (sym ways ∙ ap (map way_in) empty) in (
           omega (arith, own),
           subst (IsFirstStart stuck.first stuck.here.at)
-              (sym (threads ∙ ap (map (started_at stuck.first)) empty)) own,
+              (sym (threads ∙ ap (map (thread_from stuck.first)) empty)) own,
         )
     first_stuck (inr below) = (
       omega (arith, below),
@@ -249,7 +250,7 @@ module _ (table : List (Place ℕ)) (h : Text) (entries : List ℕ) (s p : ℕ) 
     )
       where
         by_ways : (vs : List StoredWay) → map way_in vs ≡ scanning.state.ways
-            → IsFirstStart stuck.first stuck.here.at (map (started_at stuck.first) vs)
+            → IsFirstStart stuck.first stuck.here.at (map (thread_from stuck.first) vs)
         by_ways [] e = scanning.own (sym e)
         by_ways (v ∷ vs) e = λ f. omega (arith, f, below)
 

@@ -1,31 +1,34 @@
 -- A search that goes on at the same position or at a later one.
 use Rattle.std.proofs.Common.{◌≡◌, ℕ, zero, suc, ◌+◌, ◌-◌, ◌*◌, ◌^◌, ◌<◌, ◌≤◌, ◌⊎◌, inl}
-use Rattle.std.proofs.Common.{inr, Bool, List, [], ◌∷◌, length, Option, Some, None, IfSome}
+use Rattle.std.proofs.Common.{true, inr, Bool, List, [], ◌∷◌, length, Option, Some, None, IfSome}
 use Rattle.std.proofs.Common.{option_map, MatchOption, refl, sym, ap, subst, ◌∙◌, arith}
 use Rattle.std.proofs.Math.Nat.{mul-le-mul_left, mul-suc}
 use Rattle.std.proofs.lemmas.Bool.{cases_lt}
 use Rattle.regex_lite_syntax.specs.Text.{Text}
+use Rattle.regex_lite_engine.specs.declared.pikevm.beginning.Origin.{Origin}
 use Rattle.regex_lite_engine.specs.declared.search.here.Here.{Here}
+use Rattle.regex_lite_engine.specs.declared.search.patterns.Start.{Start}
 use Rattle.regex_lite_engine.specs.declared.pikevm.cache.Cache.{Cache}
 use Rattle.regex_lite_engine.specs.Graph.Places.{Place}
 use Rattle.regex_lite_engine.specs.Graph.Renumbered.{arrows_of}
 use Rattle.regex_lite_engine.specs.LazyDfa.Automaton.{Automaton, IsEmptyState, Suits, ways_of}
 use Rattle.regex_lite_engine.specs.LazyDfa.Intervals.{side_of}
 use Rattle.regex_lite_engine.specs.LazyDfa.Learning.{HasTurned, IsFirstStart, IsIn}
-use Rattle.regex_lite_engine.specs.LazyDfa.Running.{IsOnItsWay}
+use Rattle.regex_lite_engine.specs.LazyDfa.Running.{IsOnItsWay, started_at}
 use Rattle.regex_lite_engine.specs.Search.Offsets.{offset}
 use Rattle.regex_lite_engine.specs.Search.Bounds.{IsBoundedBy, StepCounts}
 use Rattle.regex_lite_engine.specs.Pikevm.Machine.{Thread}
 use Rattle.regex_lite_engine.specs.Search.Rows.{Row}
 use Rattle.regex_lite_engine.specs.Search.NumberedList.{IsEntry}
 use Rattle.regex_lite_engine.specs.Pikevm.Searching.{IsFresh, IsBetween, IsHit, TurnsAgain}
-use Rattle.regex_lite_engine.specs.Search.NumberedOutcomes.{with_start_kept, best_at, Best}
+use Rattle.regex_lite_engine.specs.Search.NumberedOutcomes.{Best, best_kept}
 use Rattle.regex_lite_engine.specs.Search.Standing.{IsHere}
 use Rattle.regex_lite_engine.specs.Search.Starts.{PassesTo}
-use Rattle.regex_lite_engine.specs.Search.Starts.{AreDeadAt, AreStartsAt, IsAmong}
+use Rattle.regex_lite_engine.specs.Search.Starts.{AreAllStarts, AreDeadAt, AreStartsAt, IsAmong}
 use Rattle.regex_lite_engine.specs.Pikevm.Turns.{best_of, IsComing}
 use Rattle.regex_lite_engine.proofs.OffsetLemmas.{offset_less}
 use Rattle.regex_lite_engine.proofs.OptionLemmas.{not_there, same_some}
+use Rattle.regex_lite_engine.proofs.search.OneStartLemmas.{one_inside}
 use Rattle.regex_lite_engine.proofs.pikevm.PassLemmas.{begun}
 use Rattle.regex_lite_engine.proofs.pikevm.ComingLemmas.{jumped}
 
@@ -41,6 +44,15 @@ one_start table h s p = record {
         → IsAmong number entry (record { number = 0; place = s } ∷ [])
     among zero entry is = inl (refl, sym (same_some is))
     among (suc n) entry is = absurd (not_there is)
+
+pub all_of_one : (table : List (Place ℕ)) (s : ℕ) → s < length table
+    → AreAllStarts table (s ∷ []) (record { number = 0; place = s } ∷ [])
+all_of_one table s inside = record {
+  at_each = λ h p. one_start table h s p;
+  inside = one_inside (length table) (record { number = 0; place = s }) true inside;
+  few = omega arith;
+  countable = omega arith;
+}
 
 more_bound : (m p r s : ℕ) → s ≤ p → p < r → m * (p - s) + m ≤ m * (r - s)
 more_bound m p r s low later =
@@ -221,35 +233,38 @@ begun_on table h entries s cache fresh width =
     }
 
 -- a turn was taken from the state, if that was known
-pub turned_from : (table : List (Place ℕ)) (start : ℕ) (automaton : Automaton) (state : Option ℕ)
-    (first : ℕ) (here : Here) (hit : Bool) {S : Type 0} (before now : Cache S)
+pub turned_from : (table : List (Place ℕ)) (entries : List ℕ) (starts : List Start)
+    (automaton : Automaton) (state : Option ℕ) (first : ℕ) (here : Here) (hit : Bool) {S : Type 0}
+    (before now : Cache S)
+    → AreAllStarts table entries starts
     → MatchOption state (Unit {0}) (λ x. IsIn automaton x first here.before before) →
-    TurnsAgain table (record { number = 0; place = start } ∷ []) here
-    (λ _. record { at = Some here.at; number = None }) before now hit
+    TurnsAgain table starts here (started_at here.at) before now hit
     → IsHit hit (best_of before.best) (best_of now.best) →
     IsFirstStart first here.at before.walk.memory.threads
-    → MatchOption state (Unit {0})
-    (λ x. HasTurned table (start ∷ []) automaton x first here hit now)
-turned_from table start automaton None first here hit before now known again is_hit own = tt
-turned_from table start automaton (Some x) first here hit before now known again is_hit own =
+    → MatchOption state (Unit {0}) (λ x. HasTurned table entries automaton x first here hit now)
+turned_from table entries starts automaton None first here hit before now all known again is_hit
+    own =
+    tt
+turned_from table entries starts automaton (Some x) first here hit before now all known again is_hit
+    own =
     record {
       before = before;
-      starts = record { number = 0; place = start } ∷ [];
-      told = λ _. record { at = Some here.at; number = None };
+      starts = starts;
+      told = started_at here.at;
       is_in = known;
       again = again;
       is_hit = is_hit;
-      tells = λ number. record { start_told = refl; number_told = tt };
+      tells = λ number. record { start_told = refl; number_told = refl };
       is_first = own;
-      suffice = λ h p there is. one_start table h start p;
+      suffice = λ h p there is. all.at_each h p;
     }
 
 -- a match was not complete before a place was entered
-pub match_counted : (best : Best) (span : Option (ℕ × ℕ)) (row : Row) (entered least : ℕ)
-    → best ≡ with_start_kept (best_at span row) → ((best ≡ None → ⊥) → 0 < entered) → least ≤ 1
-    → IfSome span (λ _. least ≤ entered)
+pub match_counted : (best : Best) (found : Option (Origin × ℕ)) (row : Row) (entered least : ℕ)
+    → best ≡ best_kept found row → ((best ≡ None → ⊥) → 0 < entered) → least ≤ 1
+    → IfSome found (λ _. least ≤ entered)
 match_counted best None row entered least is some few = tt
-match_counted best (Some span) row entered least is some few =
+match_counted best (Some found) row entered least is some few =
     let one = some (λ e. not_there (sym e ∙ is)) in omega (arith, one, few)
 
 pub end_counted : (best : Best) (end : Option ℕ) (entered : ℕ) → end ≡ option_map (λ b. b.1) best

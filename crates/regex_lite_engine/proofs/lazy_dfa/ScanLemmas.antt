@@ -4,9 +4,10 @@ use Rattle.std.proofs.Common.{List, [], length, slice_get, Option, Some, None, i
 use Rattle.std.proofs.Common.{option_map, refl, sym, ap, subst, ◌∙◌, arith}
 use Rattle.regex_lite_syntax.specs.Text.{Text, before}
 use Rattle.regex_lite_engine.specs.declared.lazy_dfa.scan.Standing.{Standing}
+use Rattle.regex_lite_engine.specs.declared.pikevm.beginning.Origin.{Origin}
 use Rattle.regex_lite_engine.specs.declared.search.here.Here.{Here}
 use Rattle.regex_lite_engine.specs.Graph.Places.{Place}
-use Rattle.regex_lite_engine.specs.LazyDfa.Automaton.{Automaton, LeadsOn, Origin, State}
+use Rattle.regex_lite_engine.specs.LazyDfa.Automaton.{Automaton, LeadsOn, KeptOrigin, State}
 use Rattle.regex_lite_engine.specs.LazyDfa.Automaton.{Suits, Way, best_left}
 use Rattle.regex_lite_engine.specs.LazyDfa.Automaton.{searching_after, threads_of, told_by}
 use Rattle.regex_lite_engine.specs.LazyDfa.Intervals.{class_of, side_of}
@@ -23,7 +24,7 @@ use Rattle.regex_lite_engine.proofs.OptionLemmas.{not_there, same_some}
 use Rattle.regex_lite_engine.proofs.pikevm.ShortestLemmas.{shortest_known}
 use Rattle.regex_lite_engine.proofs.pikevm.ComingLemmas.{jumped}
 
-still_suits : (hit : Option Origin) (searching : Bool) (i at : ℕ) (best : Best)
+still_suits : (hit : Option KeptOrigin) (searching : Bool) (i at : ℕ) (best : Best)
     → Suits searching best → Suits (searching_after hit searching) (best_left hit i at best)
 still_suits None searching i at best s = s
 still_suits (Some origin) searching i at best s = λ e. not_there (sym e)
@@ -46,7 +47,7 @@ module _ (table : List (Place ℕ)) (entries : List ℕ) (h : Text) (low p : ℕ
     (at : Standing) (scanning : IsScanning table entries h low p automaton at) where
   pub led : (class y : ℕ) (to : State) → slice_get automaton.states y ≡ Some to
       → LeadsOn table entries automaton.intervals scanning.state class to →
-      class_of automaton.intervals.boundaries at.here.after ≡ class → (best : Option (ℕ × ℕ))
+      class_of automaton.intervals.boundaries at.here.after ≡ class → (best : Option (Origin × ℕ))
       → best_told best ≡ best_left to.hit at.first at.here.at (best_told at.best) →
       LedTo table entries h low p automaton at y best
   led class y to to_at leads class_is best left = record {
@@ -70,8 +71,8 @@ module _ (table : List (Place ℕ)) (entries : List ℕ) (h : Text) (low p : ℕ
   pub led_step : (class y : ℕ) (from to : State) → slice_get automaton.states at.state ≡ Some from
       → slice_get automaton.states y ≡ Some to
       → LeadsOn table entries automaton.intervals from class to →
-      class_of automaton.intervals.boundaries at.here.after ≡ class → (hit : Option Origin)
-      → to.hit ≡ hit → (best : Option (ℕ × ℕ))
+      class_of automaton.intervals.boundaries at.here.after ≡ class → (hit : Option KeptOrigin)
+      → to.hit ≡ hit → (best : Option (Origin × ℕ))
       → best_told best ≡ best_left hit at.first at.here.at (best_told at.best) →
       LedTo table entries h low p automaton at y best
   led_step class y from to from_at to_at leads class_is hit is_hit best left =
@@ -83,7 +84,7 @@ module _ (table : List (Place ℕ)) (entries : List ℕ) (h : Text) (low p : ℕ
   pub end_led : at.best ≡ None → (class y : ℕ) (from to : State)
       → slice_get automaton.states at.state ≡ Some from
       → LeadsOn table entries automaton.intervals from class to →
-      class_of automaton.intervals.boundaries at.here.after ≡ class → (hit : Option Origin)
+      class_of automaton.intervals.boundaries at.here.after ≡ class → (hit : Option KeptOrigin)
       → to.hit ≡ hit → ((p ≡ length h) ⊎ (best_left hit at.first at.here.at None ≡ None → ⊥)) →
       IsNumberedEndOf table h entries low (best_left hit at.first at.here.at None)
   end_led none class y from to from_at leads class_is hit is_hit over =
@@ -111,11 +112,11 @@ module _ (table : List (Place ℕ)) (entries : List ℕ) (h : Text) (low p : ℕ
       suits : Suits scanning.state.searching None
       suits = subst (λ b. Suits scanning.state.searching (best_told b)) none scanning.suits
 
-      ends : (hit : Option Origin) → EndsAt at.here.at None (best_left hit at.first at.here.at None)
+      ends : (hit : Option KeptOrigin) → EndsAt at.here.at None (best_left hit at.first at.here.at None)
       ends None = inl refl
       ends (Some origin) = inr (told_by at.first origin, [], refl)
 
-  module _ (y : ℕ) (best : Option (ℕ × ℕ))
+  module _ (y : ℕ) (best : Option (Origin × ℕ))
       (to : LedTo table entries h low p automaton at y best) where
     pub scanned_on : (next : Here) (first : ℕ) → IsHere h (p + 1) next
         → ((to.state.ways ≡ []) × (first ≡ next.at))
@@ -218,7 +219,7 @@ pub end_back : (end : Option ℕ) → option_map (λ b. b.1) (end_told end) ≡ 
 end_back None = refl
 end_back (Some end) = refl
 
-pub best_none : (best : Option (ℕ × ℕ)) (told : Bool) → told ≡ is_some best → told ≡ false
+pub best_none : (best : Option (Origin × ℕ)) (told : Bool) → told ≡ is_some best → told ≡ false
     → best_told best ≡ None
 best_none None told e f = refl
 best_none (Some b) told e f = absurd cc

@@ -10,6 +10,7 @@ use Rattle.regex_lite_engine.specs.declared.lazy_dfa.spot.Spot.{Spot}
 use Rattle.regex_lite_engine.specs.declared.lazy_dfa.spot.Step.{Step}
 use Rattle.regex_lite_engine.specs.declared.lazy_dfa.spot.Step.TheVariants.{On, Over, Stuck}
 use Rattle.regex_lite_engine.specs.declared.lazy_dfa.spot.Turn.{Turn}
+use Rattle.regex_lite_engine.specs.declared.pikevm.beginning.Origin.{Origin}
 use Rattle.regex_lite_engine.specs.declared.search.here.Here.{Here}
 use Rattle.regex_lite_engine.specs.Graph.Places.{Place}
 use Rattle.regex_lite_engine.specs.LazyDfa.Automaton.{Automaton, State, best_left, threads_of}
@@ -49,7 +50,7 @@ module _ (table : List (Place ℕ)) (entries : List ℕ) (h : Text) (low : ℕ) 
 
   -- after a turn
   pub since_led : (q : ℕ) (automaton : Automaton) (at : Standing) (to : ℕ)
-      (best : Option (ℕ × ℕ)) → (led : LedTo table entries h low q automaton at to best)
+      (best : Option (Origin × ℕ)) → (led : LedTo table entries h low q automaton at to best)
       → (next : Here) (first : ℕ) → IsHere h (q + 1) next → (led.state.ways ≡ [] → best ≡ None)
       → ((led.state.ways ≡ []) × (first ≡ next.at))
       ⊎ ((led.state.ways ≡ [] → ⊥) × (first ≡ at.first)) → IsSince table entries h low q at.first

@@ -4,8 +4,7 @@ use Rattle.std.proofs.Common.{slice_get, slice_index, slice_index_or, true, None
 use Rattle.std.proofs.Common.{ap, subst, ◌∙◌, arith}
 use Rattle.std.proofs.lemmas.List.{length-take-le, length-map, nil_from_length, length-drop}
 use Rattle.std.proofs.lemmas.Option.{slice_get_within}
-use Rattle.regex_lite_engine.specs.declared.nfa.place.Place as code
-use Rattle.regex_lite_engine.specs.Graph.Stored.{place_of}
+use Rattle.regex_lite_engine.specs.Graph.Places.{Place}
 use Rattle.regex_lite_engine.specs.declared.lazy_dfa.state.StoredState.{StoredState}
 use Rattle.regex_lite_engine.specs.declared.lazy_dfa.state.StoredWay.{StoredWay}
 use Rattle.regex_lite_engine.specs.LazyDfa.Automaton.{Automaton, LeadsOn, Remembers, State}
@@ -102,32 +101,32 @@ module _ (intervals : Intervals) (states : List StoredState) (used : ℕ) (ways 
       ∙ ap (λ s. Some (state_in ways s)) (sym stored)
 
   -- a turn that is remembered
-  pub known_turn : (places : List code.Place) (entries : List ℕ)
-      → Remembers places entries automaton → (x : ℕ) (found : StoredState)
+  pub known_turn : (table : List (Place ℕ)) (entries : List ℕ)
+      → Remembers table entries automaton → (x : ℕ) (found : StoredState)
       → found ≡ slice_index_or states x found → x < length automaton.states →
       (class : ℕ) → class < most_classes → (slice_index found.next class ≡ unknown → ⊥) →
       (to : State) × (slice_get automaton.states (slice_index found.next class) ≡ Some to)
-      × LeadsOn (map place_of places) entries automaton.intervals (state_in ways found) class to
-  known_turn places entries remembers x found stored inside class few known =
+      × LeadsOn table entries automaton.intervals (state_in ways found) class to
+  known_turn table entries remembers x found stored inside class few known =
       remembers.leads x (state_in ways found) class (is_stored x found stored inside) few known
 
   -- the states that it leads from and to are those that are stored
-  pub stored_turn : (places : List code.Place) (entries : List ℕ)
-      → Remembers places entries automaton → (x : ℕ) (found : StoredState)
+  pub stored_turn : (table : List (Place ℕ)) (entries : List ℕ)
+      → Remembers table entries automaton → (x : ℕ) (found : StoredState)
       → found ≡ slice_index_or states x found → x < length automaton.states →
       (class : ℕ) → class < most_classes → (slice_index found.next class ≡ unknown → ⊥) →
       (there : StoredState) → there ≡ slice_index_or states (slice_index found.next class) there →
       (slice_get automaton.states x ≡ Some (state_in ways found))
       × (slice_get automaton.states (slice_index found.next class) ≡ Some (state_in ways there))
-      × LeadsOn (map place_of places) entries automaton.intervals (state_in ways found) class
+      × LeadsOn table entries automaton.intervals (state_in ways found) class
       (state_in ways there)
-  stored_turn places entries remembers x found stored inside class few known there own =
+  stored_turn table entries remembers x found stored inside class few known there own =
       let y = slice_index found.next class in
-      let turn = known_turn places entries remembers x found stored inside class few known in
+      let turn = known_turn table entries remembers x found stored inside class few known in
       let at = is_stored y there own (slice_get_within automaton.states y turn.0 turn.1) in (
         is_stored x found stored inside,
         at,
         subst
-            (LeadsOn (map place_of places) entries automaton.intervals (state_in ways found) class)
+            (LeadsOn table entries automaton.intervals (state_in ways found) class)
             (same_some (sym turn.1 ∙ at)) turn.2,
       )

@@ -1,13 +1,14 @@
 -- The states of the lazy automaton, and the turns that lead from one to another.
-use Rattle.std.specs.Prelude.{◌≡◌, ◌+◌, ◌<◌, ◌≤◌, ◌==◌, ℕ, Bool, true, false, List, []}
+use Rattle.std.specs.Prelude.{◌≡◌, ◌+◌, ◌<◌, ◌≤◌, ◌==◌, ℕ, Bool, true, false, All, List, []}
 use Rattle.std.specs.Prelude.{map, length, slice_get, slice_index, Option, Some, None}
 use Rattle.regex_lite_syntax.specs.Text.{Text}
 use Rattle.regex_lite_engine.specs.declared.lazy_dfa.side.Side.{Side}
-use Rattle.regex_lite_engine.specs.declared.nfa.place.Place as code
 use Rattle.regex_lite_engine.specs.declared.search.here.Here.{Here}
 use Rattle.regex_lite_engine.specs.Graph.Places.{Place, reading_of}
-use Rattle.regex_lite_engine.specs.Graph.Stored.{place_of}
-use Rattle.regex_lite_engine.specs.LazyDfa.Intervals.{Intervals, AreIntervalsOf, class_of, side_of}
+use Rattle.regex_lite_engine.specs.Graph.NoLooks.{HasNoLooks}
+use Rattle.regex_lite_engine.specs.LazyDfa.Intervals.{Intervals, IsBoundary, LooksAlike}
+use Rattle.regex_lite_engine.specs.LazyDfa.Intervals.{class_of, look_bounds, side_of}
+use Rattle.regex_lite_engine.specs.Pikevm.Again.{AreAlike}
 use Rattle.regex_lite_engine.specs.Search.Beginnings.{Told}
 use Rattle.regex_lite_engine.specs.Pikevm.Machine.{Thread}
 use Rattle.regex_lite_engine.specs.Search.Standing.{IsHere}
@@ -15,14 +16,14 @@ use Rattle.regex_lite_engine.specs.Pikevm.Turns.{IsComing}
 use Rattle.regex_lite_engine.specs.Search.NumberedOutcomes.{Best}
 
 -- what is kept of where a way began: whether at the first start, and the number of its pattern
-pub record Origin : Type 0 where
+pub record KeptOrigin : Type 0 where
   pub first : Bool
   pub number : Option ℕ
 
 -- a place to go on from, with where the way to it began
 pub record Way : Type 0 where
   pub place : ℕ
-  pub origin : Origin
+  pub origin : KeptOrigin
 
 -- what a search goes on with between two characters, whatever the haystack
 pub record State : Type 0 where
@@ -33,7 +34,7 @@ pub record State : Type 0 where
   -- what looks see of the character before
   pub before : Side
   -- where the way began by which a match was complete at the last position
-  pub hit : Option Origin
+  pub hit : Option KeptOrigin
   -- the numbers of the states that turns lead to, by the class of the next character
   pub next : List ℕ
 
@@ -56,7 +57,7 @@ abbrev pub told_if : Bool → (i : ℕ) → Option ℕ
 told_if true i = Some i
 told_if false i = None
 
-abbrev pub told_by : (i : ℕ) → Origin → Told
+abbrev pub told_by : (i : ℕ) → KeptOrigin → Told
 told_by i origin = record { at = told_if origin.first i; number = origin.number }
 
 abbrev pub thread_of : (i : ℕ) → Way → Thread
@@ -71,7 +72,7 @@ abbrev pub began : (first : ℕ) → Option ℕ → Bool
 began first None = false
 began first (Some start) = start == first
 
-abbrev pub origin_of : (first : ℕ) → Told → Origin
+abbrev pub origin_of : (first : ℕ) → Told → KeptOrigin
 origin_of first told = record { first = began first told.at; number = told.number }
 
 abbrev pub way_of : (first : ℕ) → Thread → Way
@@ -81,18 +82,18 @@ abbrev pub ways_of : (first : ℕ) → List Thread → List Way
 ways_of first threads = map (way_of first) threads
 
 -- where the way began by which the match is complete, if one is
-abbrev pub hit_of : (first : ℕ) → (hit : Bool) → (found : Best) → Option Origin
+abbrev pub hit_of : (first : ℕ) → (hit : Bool) → (found : Best) → Option KeptOrigin
 hit_of first false found = None
 hit_of first true None = None
 hit_of first true (Some found) = Some (origin_of first found.0)
 
 -- the best match after a position where the first start is i
-abbrev pub best_left : Option Origin → (i at : ℕ) → Best → Best
+abbrev pub best_left : Option KeptOrigin → (i at : ℕ) → Best → Best
 best_left None i at best = best
 best_left (Some origin) i at best = Some (told_by i origin, at, [])
 
 -- own starts are added until there is a match
-abbrev pub searching_after : Option Origin → Bool → Bool
+abbrev pub searching_after : Option KeptOrigin → Bool → Bool
 searching_after None searching = searching
 searching_after (Some origin) searching = false
 
@@ -133,13 +134,20 @@ pub record FitsTable (table : List (Place ℕ)) (ways : List Way) : Type 0 where
   pub below : (k : ℕ) (way : Way) → slice_get ways k ≡ Some way → way.place < length table
   pub few : length ways ≤ reading_of table
 
--- all turns that are remembered are those of searches in these places
-pub record Remembers (places : List code.Place) (entries : List ℕ) (automaton : Automaton)
+-- the table doesn't distinguish characters between the same boundaries, and it has no looks unless
+-- that is known
+pub record AreIntervalsFor (table : List (Place ℕ)) (intervals : Intervals) : Type 0 where
+  pub alike : (here there : Here) → LooksAlike intervals here there → AreAlike table here there
+  pub sides : intervals.looks ≡ true → All (IsBoundary intervals.boundaries) look_bounds
+  pub no_looks : intervals.looks ≡ false → HasNoLooks table
+
+-- all turns that are remembered are those of searches in this table
+pub record Remembers (table : List (Place ℕ)) (entries : List ℕ) (automaton : Automaton)
     : Type 0 where
-  pub intervals : AreIntervalsOf places automaton.intervals
+  pub intervals : AreIntervalsFor table automaton.intervals
   pub leads : (x : ℕ) (from : State) (class : ℕ) → slice_get automaton.states x ≡ Some from
       → class < most_classes → (slice_index from.next class ≡ unknown → ⊥)
       → (to : State) × (slice_get automaton.states (slice_index from.next class) ≡ Some to)
-      × LeadsOn (map place_of places) entries automaton.intervals from class to
+      × LeadsOn table entries automaton.intervals from class to
   pub fit : (x : ℕ) (state : State) → slice_get automaton.states x ≡ Some state
-      → FitsTable (map place_of places) state.ways
+      → FitsTable table state.ways

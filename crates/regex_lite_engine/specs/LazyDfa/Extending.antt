@@ -1,12 +1,12 @@
 -- How the lazy automaton gets more states.
 use Rattle.std.specs.Prelude.{◌≡◌, ◌<◌, ℕ, Bool, List, Option, Some, slice_get, slice_index}
 use Rattle.regex_lite_engine.specs.declared.lazy_dfa.side.Side.{Side}
-use Rattle.regex_lite_engine.specs.LazyDfa.Automaton.{Automaton, Origin, State}
+use Rattle.regex_lite_engine.specs.LazyDfa.Automaton.{Automaton, KeptOrigin, State}
 use Rattle.regex_lite_engine.specs.LazyDfa.Automaton.{Way, most_classes, unknown}
 
 -- the state with this number has these ways and properties
 pub record IsState (automaton : Automaton) (y : ℕ) (all : List Way) (goes_on : Bool)
-    (side : Side) (last : Option Origin) : Type 0 where
+    (side : Side) (last : Option KeptOrigin) : Type 0 where
   pub state : State
   pub is : slice_get automaton.states y ≡ Some state
   pub ways : state.ways ≡ all

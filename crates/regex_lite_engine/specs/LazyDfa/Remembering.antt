@@ -8,7 +8,7 @@ use Rattle.regex_lite_engine.specs.Graph.NoLooks.{HasNoLooks}
 use Rattle.regex_lite_engine.specs.Graph.Places.{Place}
 use Rattle.regex_lite_engine.specs.Graph.Stored.{StoredGraph, table_of}
 use Rattle.regex_lite_engine.specs.LazyDfa.Automaton.{Automaton, Remembers}
-use Rattle.regex_lite_engine.specs.LazyDfa.Scanning.{best_told}
+use Rattle.regex_lite_engine.specs.LazyDfa.Scanning.{span_told}
 use Rattle.regex_lite_engine.specs.Search.NumberedAnswer.{IsNumberedMatch}
 use Rattle.regex_lite_engine.specs.Search.NumberedOutcomes.{IsBestOutcomeOf}
 use Rattle.regex_lite_engine.specs.Search.Counting.{IsCountable}
@@ -16,7 +16,7 @@ use Rattle.regex_lite_engine.specs.Pikevm.Searching.{IsBetween}
 
 -- all turns are those of searches in this graph
 pub record RemembersAll (graph : StoredGraph) (automaton : Automaton) : Type 0 where
-  pub remembers : Remembers graph.places (graph.start ∷ []) automaton
+  pub remembers : Remembers (table_of graph) (graph.start ∷ []) automaton
   pub none_pending : automaton.pending ≡ []
 
 -- if there is an automaton, then no slots are kept
@@ -46,4 +46,4 @@ pub record NoneStartsBefore (table : List (Place ℕ)) (haystack : Text) (start 
 abbrev pub IsKnown : (table : List (Place ℕ)) → Text → (start s : ℕ) → Passed → Type 0
 IsKnown table haystack start s passed =
     IfSome passed.end (λ end.
-    IsBestOutcomeOf table haystack (start ∷ []) s (best_told (Some (passed.from, end))))
+    IsBestOutcomeOf table haystack (start ∷ []) s (span_told (Some (passed.from, end))))

@@ -1,6 +1,6 @@
 -- A search that remembers its turns and goes by those that it remembers.
 use Rattle.std.specs.Prelude.{◌≡◌, ◌+◌, ◌-◌, ◌*◌, ◌^◌, ◌≤◌, ◌<◌, ℕ, List, []}
-use Rattle.std.specs.Prelude.{MatchOption, None, Some, length, slice_index}
+use Rattle.std.specs.Prelude.{MatchOption, Some, length, slice_index}
 use Rattle.regex_lite_syntax.specs.Text.{Text}
 use Rattle.regex_lite_engine.specs.declared.lazy_dfa.run.Progress.{Progress}
 use Rattle.regex_lite_engine.specs.declared.lazy_dfa.state.StoredWay.{StoredWay}
@@ -10,6 +10,7 @@ use Rattle.regex_lite_engine.specs.Graph.Places.{Place}
 use Rattle.regex_lite_engine.specs.Graph.Renumbered.{arrows_of}
 use Rattle.regex_lite_engine.specs.LazyDfa.Automaton.{Automaton, IsEmptyState}
 use Rattle.regex_lite_engine.specs.LazyDfa.Learning.{IsFirstStart, IsIn}
+use Rattle.regex_lite_engine.specs.Search.Beginnings.{Told}
 use Rattle.regex_lite_engine.specs.Pikevm.Machine.{Thread}
 use Rattle.regex_lite_engine.specs.Pikevm.Searching.{IsBetween}
 use Rattle.regex_lite_engine.specs.Search.Standing.{IsHere}
@@ -40,9 +41,13 @@ module _ (table : List (Place ℕ)) (haystack : Text) (entries : List ℕ) (s : 
     pub state : MatchOption at.state (Unit {0})
         (λ x. IsIn automaton x at.first at.here.before cache)
 
+-- what is kept of the way of this pattern that began at the offset
+abbrev pub started_at : (at number : ℕ) → Told
+started_at at number = record { at = Some at; number = Some number }
+
 -- the thread of a way that began at the first start
-abbrev pub started_at : (first : ℕ) → StoredWay → Thread
-started_at first way = (way.place, record { at = Some first; number = None }, [])
+abbrev pub thread_from : (first : ℕ) → StoredWay → Thread
+thread_from first way = (way.place, started_at first way.number, [])
 
 -- the memory and the counts are as before, but for what there is to go on from
 pub record GoesOnWith {S : Type 0} (old new : Cache S) : Type 0 where

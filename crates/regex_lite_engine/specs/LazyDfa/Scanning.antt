@@ -7,19 +7,25 @@ use Rattle.regex_lite_engine.specs.declared.lazy_dfa.scan.Scanned.TheVariants as
 use Rattle.regex_lite_engine.specs.declared.lazy_dfa.scan.Standing.{Standing}
 use Rattle.regex_lite_engine.specs.declared.lazy_dfa.shortest.ScannedEnd as code_end
 use Rattle.regex_lite_engine.specs.declared.lazy_dfa.shortest.ScannedEnd.TheVariants as stored_end
+use Rattle.regex_lite_engine.specs.declared.pikevm.beginning.Origin.{Origin}
 use Rattle.regex_lite_engine.specs.declared.search.here.Here.{Here}
 use Rattle.regex_lite_engine.specs.Graph.Places.{Place}
 use Rattle.regex_lite_engine.specs.LazyDfa.Automaton.{Automaton, State, Suits, threads_of}
 use Rattle.regex_lite_engine.specs.LazyDfa.Intervals.{side_of}
 use Rattle.regex_lite_engine.specs.Search.Beginnings.{untold}
 use Rattle.regex_lite_engine.specs.Search.NumberedOutcomes.{IsBestOutcomeOf, IsNumberedEndOf}
-use Rattle.regex_lite_engine.specs.Search.NumberedOutcomes.{with_start_kept, best_at, Best}
+use Rattle.regex_lite_engine.specs.Search.NumberedOutcomes.{Best, best_at, best_kept}
+use Rattle.regex_lite_engine.specs.Search.NumberedOutcomes.{with_start_kept}
 use Rattle.regex_lite_engine.specs.Search.Standing.{IsHere}
 use Rattle.regex_lite_engine.specs.Pikevm.Turns.{IsComing}
 
+-- the match of which this is known, without slots
+abbrev pub best_told : Option (Origin × ℕ) → Best
+best_told found = best_kept found []
+
 -- the match with this span, without slots
-abbrev pub best_told : Option (ℕ × ℕ) → Best
-best_told found = with_start_kept (best_at found [])
+abbrev pub span_told : Option (ℕ × ℕ) → Best
+span_told found = with_start_kept (best_at found [])
 
 -- a match that ends there, wherever it starts
 abbrev pub end_told : Option ℕ → Best
@@ -54,7 +60,7 @@ module _ (table : List (Place ℕ)) (entries : List ℕ) (haystack : Text) (low 
           (threads_of at.first state.ways) (best_told at.best)
 
     -- the turn from there leads to this state, and to this match
-    pub record LedTo (at : Standing) (to : ℕ) (best : Option (ℕ × ℕ)) : Type 0 where
+    pub record LedTo (at : Standing) (to : ℕ) (best : Option (Origin × ℕ)) : Type 0 where
       pub state : State
       pub is_state : slice_get automaton.states to ≡ Some state
       pub suits : Suits state.searching (best_told best)

@@ -5,18 +5,18 @@ use Rattle.regex_lite_engine.specs.declared.lazy_dfa.state.Hit as code
 use Rattle.regex_lite_engine.specs.declared.lazy_dfa.state.Hit.TheVariants as stored
 use Rattle.regex_lite_engine.specs.declared.lazy_dfa.state.StoredState.{StoredState}
 use Rattle.regex_lite_engine.specs.declared.lazy_dfa.state.StoredWay.{StoredWay}
-use Rattle.regex_lite_engine.specs.LazyDfa.Automaton.{Origin, Way, State}
+use Rattle.regex_lite_engine.specs.LazyDfa.Automaton.{KeptOrigin, Way, State}
 
 abbrev pub way_in : StoredWay → Way
 way_in way = record {
   place = way.place;
-  origin = record { first = way.is_first; number = None };
+  origin = record { first = way.is_first; number = Some way.number };
 }
 
-abbrev pub hit_in : code.Hit → Option Origin
+abbrev pub hit_in : code.Hit → Option KeptOrigin
 hit_in stored.Nowhere = None
-hit_in stored.AtFirst = Some (record { first = true; number = None })
-hit_in stored.AtLater = Some (record { first = false; number = None })
+hit_in (stored.AtFirst number) = Some (record { first = true; number = Some number })
+hit_in (stored.AtLater number) = Some (record { first = false; number = Some number })
 
 -- the state, whose ways lie among those of all
 abbrev pub state_in : List StoredWay → StoredState → State

@@ -1,6 +1,7 @@
 -- What a search over a table of numbered places returns, by offsets.
 use Rattle.std.specs.Prelude.{◌≡◌, ℕ, List, Option, Some, None}
 use Rattle.regex_lite_syntax.specs.Text.{Text}
+use Rattle.regex_lite_engine.specs.declared.pikevm.beginning.Origin.{Origin}
 use Rattle.regex_lite_engine.specs.declared.search.outcome.Outcome.{Outcome}
 use Rattle.regex_lite_engine.specs.Graph.Places.{Place}
 use Rattle.regex_lite_engine.specs.Search.Answer.{Found}
@@ -45,6 +46,17 @@ abbrev pub with_origin_kept : Option (ℕ × ℕ × ℕ × Row) → Best
 with_origin_kept None = None
 with_origin_kept (Some (number, start, end, row)) =
     Some (record { at = Some start; number = Some number }, end, row)
+
+-- the match of which this is kept of its start, and which ends there
+abbrev pub best_kept : Option (Origin × ℕ) → Row → Best
+best_kept None row = None
+best_kept (Some found) row =
+    Some (record { at = Some found.0.at; number = Some found.0.number }, found.1, row)
+
+-- where it starts and ends
+abbrev pub span_of : Option (Origin × ℕ) → Option (ℕ × ℕ)
+span_of None = None
+span_of (Some found) = Some (found.0.at, found.1)
 
 -- the best match has the offsets of the answer, its start if that is kept
 abbrev pub IsBestOutcome : List (Place ℕ) → Text → (start s : ℕ) → Best → Type 0

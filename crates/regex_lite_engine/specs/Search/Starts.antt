@@ -1,5 +1,5 @@
 -- Where a match can begin in a graph, and the positions that a search passes over.
-use Rattle.std.specs.Prelude.{◌≡◌, ◌≤◌, ◌<◌, ◌⊎◌, ℕ, suc, false}
+use Rattle.std.specs.Prelude.{◌≡◌, ◌≤◌, ◌<◌, ◌^◌, ◌⊎◌, ℕ, suc, false, All}
 use Rattle.std.specs.Prelude.{List, [], ◌∷◌, length, slice_index}
 use Rattle.regex_lite_syntax.specs.Text.{Text, after}
 use Rattle.regex_lite_engine.specs.declared.prefilter.heads.Heads.{Heads}
@@ -46,6 +46,14 @@ pub record AreStartsAt (table : List (Place ℕ)) (haystack : Text) (entries : L
   pub in_order : AreFrom entries 0 starts
   pub each : (number entry : ℕ) → IsEntry entries number entry
       → IsAmong number entry starts ⊎ IsDeadAt table haystack entry p
+
+-- wherever a match starts, it does by one of these
+pub record AreAllStarts (table : List (Place ℕ)) (entries : List ℕ) (starts : List Start) : Type 0
+  where
+    pub at_each : (haystack : Text) (p : ℕ) → AreStartsAt table haystack entries p starts
+    pub inside : All (λ start. start.place < length table) starts
+    pub few : length starts ≤ length entries
+    pub countable : length starts < 2 ^ 32
 
 -- no way from the start leads to a complete match where none can begin
 abbrev pub AreHeadsOf : List (Place ℕ) → (start : ℕ) → Heads → Type 0

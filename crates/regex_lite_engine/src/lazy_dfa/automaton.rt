@@ -15,7 +15,7 @@ use std::marker::Model;
 pub(super) const MOST_STATES: usize = 128;
 
 /// At most this many ways are kept, in all states together.
-const MOST_WAYS: usize = 3072;
+const MOST_WAYS: usize = 2304;
 
 /// Stands for a turn that isn't remembered.
 pub(super) const UNKNOWN: u16 = 0xFFFF;
@@ -76,17 +76,16 @@ impl LazyDfa {
     }
 
     /// Adds a pending way. Returns whether there was room.
-    pub(crate) fn push_way(&mut self, place: u32, is_first: bool) -> bool
+    pub(crate) fn push_way(&mut self, way: StoredWay) -> bool
         ensures pushed { result ≡ true → self.new ≡ record self.old {
-          pending = self.old.pending
-              ++ way_in (record { place = place; is_first = is_first }) ∷ [];
+          pending = self.old.pending ++ way_in way ∷ [];
         } }
         ensures same { self.new ≡ record self.old { pending = self.new.pending } }
     {
         if self.ways.len() >= MOST_WAYS {
             return false;
         }
-        match self.ways.push(StoredWay { place, is_first }) {
+        match self.ways.push(way) {
             Ok(()) => true,
             Err(_) => false,
         }

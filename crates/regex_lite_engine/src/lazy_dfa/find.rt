@@ -1,16 +1,16 @@
 //! A whole search that remembers its turns, and goes by those that it remembers.
-ghost use Rattle.std.specs.Prelude.{◌≡◌, ◌+◌, ◌<◌, ◌≤◌, ◌⊎◌, ◌∷◌, [], ℕ, List};
+ghost use Rattle.std.specs.Prelude.{◌≡◌, ◌+◌, ◌<◌, ◌≤◌, ◌⊎◌, [], ℕ, List};
 ghost use Rattle.std.specs.Prelude.{All, IfSome, IsCharBoundary};
 ghost use Rattle.std.specs.Prelude.{MatchOption, None, Some, chars, length, true};
 ghost use Rattle.regex_lite_syntax.specs.Text.{Text};
 ghost use Rattle.regex_lite_engine.specs.declared.lazy_dfa.scan.Scanned.TheVariants.{Stuck};
-ghost use Rattle.regex_lite_engine.specs.declared.nfa.place.Place.{Place};
+ghost use Rattle.regex_lite_engine.specs.Graph.Places.{Place};
 ghost use Rattle.regex_lite_engine.specs.Graph.Renumbered.{arrows_of};
-ghost use Rattle.regex_lite_engine.specs.Graph.Stored.{table_of};
 ghost use Rattle.regex_lite_engine.specs.LazyDfa.Automaton.{IsEmptyState, Remembers};
 ghost use Rattle.regex_lite_engine.specs.LazyDfa.Learning.{HasTurned, IsIn};
 ghost use Rattle.regex_lite_engine.specs.LazyDfa.Running.{Stands};
 ghost use Rattle.regex_lite_engine.specs.LazyDfa.Scanning.{best_told, ScansTo};
+ghost use Rattle.regex_lite_engine.specs.Search.Starts.{AreAllStarts};
 ghost use Rattle.regex_lite_engine.specs.Search.Bounds.{IsBoundedBy, characters_left};
 ghost use Rattle.regex_lite_engine.specs.Search.Offsets.{position_at};
 ghost use Rattle.regex_lite_engine.specs.Search.Counting.{CanCount};
@@ -18,15 +18,16 @@ ghost use Rattle.regex_lite_engine.specs.Search.NumberedOutcomes.{IsBestOutcomeO
 ghost use Rattle.regex_lite_engine.specs.Pikevm.Searching.{IsFresh, IsBetween};
 ghost use Rattle.regex_lite_engine.specs.Pikevm.Turns.{best_of};
 
-use crate::Graph;
 use crate::lazy_dfa::automaton::LazyDfa;
 use crate::lazy_dfa::learn::Taken;
 use crate::lazy_dfa::run::Progress;
 use crate::lazy_dfa::scan::{Scanned, Standing};
 use crate::lazy_dfa::state::{Hit, StoredWay};
+use crate::pikevm::beginning::Origin;
 use crate::pikevm::cache::Cache;
 use crate::pikevm::run::is_over;
 use crate::search::here::Here;
+use crate::search::patterns::Patterns;
 
 impl LazyDfa {
     /// Where the most preferred match starts and ends, from the least start at or after this
@@ -34,79 +35,83 @@ impl LazyDfa {
     /// before the first turn, a new automaton has none.
     // Not inlined, so that a search without an automaton costs no more than the test for it.
     #[inline(never)]
-    pub(crate) fn find(
+    pub(crate) fn find<P: Patterns>(
         &mut self,
-        graph: &Graph,
-        cache: &mut Cache<usize>,
+        patterns: &P,
+        cache: &mut Cache<Origin>,
         haystack: &str,
         start: usize,
         least: u128,
-    ) -> Option<(usize, usize)>
+    ) -> Option<(Origin, usize)>
+        requires all { AreAllStarts (P.table patterns.now) (P.entries patterns.now)
+            (P.starts patterns.now) }
         requires boundary { IsCharBoundary haystack.now start }
-        requires remembers { Remembers graph.now.places (graph.now.start ∷ []) self.old }
+        requires remembers { Remembers (P.table patterns.now) (P.entries patterns.now) self.old }
         requires none_pending { self.old.pending ≡ [] }
-        requires fresh { IsFresh (table_of graph.now) cache.old }
-        requires counts { CanCount (table_of graph.now) 1
+        requires fresh { IsFresh (P.table patterns.now) cache.old }
+        requires counts { CanCount (P.table patterns.now) (length (P.entries patterns.now))
             (characters_left (chars haystack.now) (position_at haystack.now start)) }
         requires width { length cache.old.walk.memory.row ≡ 0 }
         requires least { least ≤ 1 }
-        ensures found { IsBestOutcomeOf (table_of graph.now) (chars haystack.now)
-            (graph.now.start ∷ []) (position_at haystack.now start) (best_told result) }
-        ensures bounded { IsBoundedBy (length (table_of graph.now))
-            (arrows_of (table_of graph.now) + 1) (chars haystack.now)
+        ensures found { IsBestOutcomeOf (P.table patterns.now) (chars haystack.now)
+            (P.entries patterns.now) (position_at haystack.now start) (best_told result) }
+        ensures bounded { IsBoundedBy (length (P.table patterns.now))
+            (arrows_of (P.table patterns.now) + length (P.entries patterns.now)) (chars haystack.now)
             (position_at haystack.now start) cache.new.walk.steps.tried
             cache.new.walk.steps.entered cache.new.walk.steps.looked }
         ensures entered { IfSome result (λ _. least ≤ cache.new.walk.steps.entered) }
-        ensures remembers { Remembers graph.now.places (graph.now.start ∷ []) self.new }
+        ensures remembers { Remembers (P.table patterns.now) (P.entries patterns.now) self.new }
         ensures none_pending { self.new.pending ≡ [] }
-        ensures between { IsBetween (table_of graph.now) cache.new }
+        ensures between { IsBetween (P.table patterns.now) cache.new }
         ensures width { length cache.new.walk.memory.row ≡ 0 }
     {
         let at = Progress::begun(haystack, start);
-        self.find_from(graph, cache, haystack, at, least)
+        self.find_from(patterns, cache, haystack, at, least)
     }
 
     /// The same from where a search stands.
-    pub(super) fn find_from(
+    pub(super) fn find_from<P: Patterns>(
         &mut self,
-        graph: &Graph,
-        cache: &mut Cache<usize>,
+        patterns: &P,
+        cache: &mut Cache<Origin>,
         haystack: &str,
         from: Progress,
         least: u128,
-    ) -> Option<(usize, usize)>
-        requires remembers { Remembers graph.now.places (graph.now.start ∷ []) self.old }
+    ) -> Option<(Origin, usize)>
+        requires all { AreAllStarts (P.table patterns.now) (P.entries patterns.now)
+            (P.starts patterns.now) }
+        requires remembers { Remembers (P.table patterns.now) (P.entries patterns.now) self.old }
         requires none_pending { self.old.pending ≡ [] }
         requires stands { (s : ℕ)
-            × CanCount (table_of graph.now) 1 (characters_left (chars haystack.now) s)
-            × Stands (table_of graph.now) (chars haystack.now) (graph.now.start ∷ []) s self.old
+            × CanCount (P.table patterns.now) (length (P.entries patterns.now)) (characters_left (chars haystack.now) s)
+            × Stands (P.table patterns.now) (chars haystack.now) (P.entries patterns.now) s self.old
             from cache.old }
         requires least { least ≤ 1 }
-        ensures found { (s : ℕ) → Stands (table_of graph.now) (chars haystack.now)
-            (graph.now.start ∷ []) s self.old from cache.old
-            → IsBestOutcomeOf (table_of graph.now) (chars haystack.now) (graph.now.start ∷ []) s
+        ensures found { (s : ℕ) → Stands (P.table patterns.now) (chars haystack.now)
+            (P.entries patterns.now) s self.old from cache.old
+            → IsBestOutcomeOf (P.table patterns.now) (chars haystack.now) (P.entries patterns.now) s
             (best_told result) }
-        ensures bounded { (s : ℕ) → Stands (table_of graph.now) (chars haystack.now)
-            (graph.now.start ∷ []) s self.old from cache.old
-            → IsBoundedBy (length (table_of graph.now)) (arrows_of (table_of graph.now) + 1)
+        ensures bounded { (s : ℕ) → Stands (P.table patterns.now) (chars haystack.now)
+            (P.entries patterns.now) s self.old from cache.old
+            → IsBoundedBy (length (P.table patterns.now)) (arrows_of (P.table patterns.now) + length (P.entries patterns.now))
             (chars haystack.now) s cache.new.walk.steps.tried cache.new.walk.steps.entered
             cache.new.walk.steps.looked }
         ensures entered { IfSome result (λ _. least ≤ cache.new.walk.steps.entered) }
-        ensures remembers { Remembers graph.now.places (graph.now.start ∷ []) self.new }
+        ensures remembers { Remembers (P.table patterns.now) (P.entries patterns.now) self.new }
         ensures none_pending { self.new.pending ≡ [] }
-        ensures between { IsBetween (table_of graph.now) cache.new }
+        ensures between { IsBetween (P.table patterns.now) cache.new }
         ensures width { length cache.new.walk.memory.row ≡ 0 }
     {
         let mut at = from;
         'positions: loop {
-            at = self.at_idle(graph, cache, haystack, at);
-            if let Some(found) = self.look_ahead(graph, cache, haystack, &mut at, least) {
+            at = self.at_idle(patterns, cache, haystack, at);
+            if let Some(found) = self.look_ahead(patterns, cache, haystack, &mut at, least) {
                 return found;
             }
-            let hit = cache.go_over(graph, haystack, at.here);
-            at.state = self.learn_at(graph, cache, at, hit);
+            let hit = cache.go_over(patterns, haystack, at.here);
+            at.state = self.learn_at(patterns, cache, at, hit);
             if is_over(at.here, &cache.walk.memory, &cache.best) {
-                return cache.best.span();
+                return cache.best.found();
             }
             at = cache.on(haystack, at);
         }
@@ -114,19 +119,19 @@ impl LazyDfa {
 
     /// Remembers the turn, if the state from which it was taken is known. Returns the state that
     /// the search is in.
-    pub(super) fn learn_at(
+    pub(super) fn learn_at<P: Patterns>(
         &mut self,
-        graph: &Graph,
-        cache: &Cache<usize>,
+        patterns: &P,
+        cache: &Cache<Origin>,
         at: Progress,
         hit: bool,
     ) -> Option<u16>
-        requires remembers { Remembers graph.now.places (graph.now.start ∷ []) self.old }
+        requires remembers { Remembers (P.table patterns.now) (P.entries patterns.now) self.old }
         requires none_pending { self.old.pending ≡ [] }
-        requires turned { MatchOption at.state (Unit {0}) (λ x. HasTurned (table_of graph.now)
-            (graph.now.start ∷ []) self.old x at.first at.here hit cache.now) }
-        requires between { IsBetween (table_of graph.now) cache.now }
-        ensures remembers { Remembers graph.now.places (graph.now.start ∷ []) self.new }
+        requires turned { MatchOption at.state (Unit {0}) (λ x. HasTurned (P.table patterns.now)
+            (P.entries patterns.now) self.old x at.first at.here hit cache.now) }
+        requires between { IsBetween (P.table patterns.now) cache.now }
+        ensures remembers { Remembers (P.table patterns.now) (P.entries patterns.now) self.new }
         ensures none_pending { self.new.pending ≡ [] }
         ensures state { MatchOption result (Unit {0})
             (λ y. IsIn self.new y at.first at.here.after cache.now) }
@@ -137,37 +142,37 @@ impl LazyDfa {
             here: at.here,
             hit,
         };
-        self.learn(graph, taken, cache)
+        self.learn(patterns, taken, cache)
     }
 
     /// Where there is neither a thread nor a match, passes over positions at which no match can
     /// begin, unless turns are faster.
-    pub(super) fn at_idle(
+    pub(super) fn at_idle<P: Patterns>(
         &mut self,
-        graph: &Graph,
-        cache: &Cache<usize>,
+        patterns: &P,
+        cache: &Cache<Origin>,
         haystack: &str,
         at: Progress,
     ) -> Progress
-        requires remembers { Remembers graph.now.places (graph.now.start ∷ []) self.old }
+        requires remembers { Remembers (P.table patterns.now) (P.entries patterns.now) self.old }
         requires none_pending { self.old.pending ≡ [] }
-        requires stands { (s : ℕ) × Stands (table_of graph.now) (chars haystack.now)
-            (graph.now.start ∷ []) s self.old at cache.now }
-        ensures remembers { Remembers graph.now.places (graph.now.start ∷ []) self.new }
+        requires stands { (s : ℕ) × Stands (P.table patterns.now) (chars haystack.now)
+            (P.entries patterns.now) s self.old at cache.now }
+        ensures remembers { Remembers (P.table patterns.now) (P.entries patterns.now) self.new }
         ensures none_pending { self.new.pending ≡ [] }
-        ensures stands { (s : ℕ) → Stands (table_of graph.now) (chars haystack.now)
-            (graph.now.start ∷ []) s self.old at cache.now
-            → Stands (table_of graph.now) (chars haystack.now) (graph.now.start ∷ []) s self.new
+        ensures stands { (s : ℕ) → Stands (P.table patterns.now) (chars haystack.now)
+            (P.entries patterns.now) s self.old at cache.now
+            → Stands (P.table patterns.now) (chars haystack.now) (P.entries patterns.now) s self.new
             result cache.now }
         ensures later { at.here.at ≤ result.here.at }
     {
         if cache.walk.memory.threads() > 0 || !cache.best.is_none() {
             return at;
         }
-        if let Some(idle) = self.stay_idle(graph, at) {
+        if let Some(idle) = self.stay_idle(patterns, at) {
             return idle;
         }
-        let here = self.leave_idle(graph, haystack, at.here);
+        let here = self.leave_idle(patterns, haystack, at.here);
         let state = self.idle_state(here.before);
         Progress {
             here,
@@ -181,8 +186,8 @@ impl LazyDfa {
     /// room for it.
     fn idle_state(&mut self, before: Option<char>) -> Option<u16>
         requires none_pending { self.old.pending ≡ [] }
-        ensures remembers { (places : List Place) (entries : List ℕ)
-            → Remembers places entries self.old → Remembers places entries self.new }
+        ensures remembers { (table : List (Place ℕ)) (entries : List ℕ)
+            → Remembers table entries self.old → Remembers table entries self.new }
         ensures none_pending { self.new.pending ≡ [] }
         ensures state { MatchOption result (Unit {0}) (λ y. IsEmptyState self.new y before) }
     {
@@ -192,24 +197,24 @@ impl LazyDfa {
 
     /// Goes by turns that are remembered, if the search has entered this many places. Returns the
     /// answer where they lead to it. Else the search goes on where they end, or where it was.
-    fn look_ahead(
+    fn look_ahead<P: Patterns>(
         &self,
-        graph: &Graph,
-        cache: &mut Cache<usize>,
+        patterns: &P,
+        cache: &mut Cache<Origin>,
         haystack: &str,
         at: &mut Progress,
         least: u128,
-    ) -> Option<Option<(usize, usize)>>
-        requires remembers { Remembers graph.now.places (graph.now.start ∷ []) self.now }
-        requires stands { (s : ℕ) × Stands (table_of graph.now) (chars haystack.now)
-            (graph.now.start ∷ []) s self.now at.old cache.old }
-        ensures stands { (s : ℕ) → Stands (table_of graph.now) (chars haystack.now)
-            (graph.now.start ∷ []) s self.now at.old cache.old
-            → MatchOption result (Stands (table_of graph.now) (chars haystack.now)
-            (graph.now.start ∷ []) s self.now at.new cache.new)
-            (λ best. IsBestOutcomeOf (table_of graph.now) (chars haystack.now)
-            (graph.now.start ∷ []) s (best_told best)) }
-        ensures between { IsBetween (table_of graph.now) cache.new }
+    ) -> Option<Option<(Origin, usize)>>
+        requires remembers { Remembers (P.table patterns.now) (P.entries patterns.now) self.now }
+        requires stands { (s : ℕ) × Stands (P.table patterns.now) (chars haystack.now)
+            (P.entries patterns.now) s self.now at.old cache.old }
+        ensures stands { (s : ℕ) → Stands (P.table patterns.now) (chars haystack.now)
+            (P.entries patterns.now) s self.now at.old cache.old
+            → MatchOption result (Stands (P.table patterns.now) (chars haystack.now)
+            (P.entries patterns.now) s self.now at.new cache.new)
+            (λ best. IsBestOutcomeOf (P.table patterns.now) (chars haystack.now)
+            (P.entries patterns.now) s (best_told best)) }
+        ensures between { IsBetween (P.table patterns.now) cache.new }
         ensures width { length cache.new.walk.memory.row ≡ 0 }
         ensures later { at.old.here.at ≤ at.new.here.at }
         ensures entered { IfSome result (λ _. least ≤ cache.new.walk.steps.entered) }
@@ -225,12 +230,12 @@ impl LazyDfa {
             here: at.here,
             state,
             first: at.first,
-            best: cache.best.span(),
+            best: cache.best.found(),
         };
-        match self.scan(graph, haystack, from) {
+        match self.scan(patterns, haystack, from) {
             Scanned::Found(best) => Some(best),
             Scanned::Stuck { at: stuck, idle } => {
-                self.resume(graph, cache, at, stuck, idle);
+                self.resume(patterns, cache, at, stuck, idle);
                 None
             }
         }
@@ -238,26 +243,26 @@ impl LazyDfa {
 
     /// Goes on where remembered turns end, if all ways there began at the first start; otherwise
     /// after the last position at which there was nothing to go on from, or where the search was.
-    pub(super) fn resume(
+    pub(super) fn resume<P: Patterns>(
         &self,
-        graph: &Graph,
-        cache: &mut Cache<usize>,
+        patterns: &P,
+        cache: &mut Cache<Origin>,
         at: &mut Progress,
         stuck: Standing,
         idle: Option<Here>,
     )
-        requires remembers { Remembers graph.now.places (graph.now.start ∷ []) self.now }
+        requires remembers { Remembers (P.table patterns.now) (P.entries patterns.now) self.now }
         requires state { stuck.state < length self.now.states }
         requires stands { (haystack : Text) × (s : ℕ)
-            × (stands : Stands (table_of graph.now) haystack (graph.now.start ∷ []) s self.now
+            × (stands : Stands (P.table patterns.now) haystack (P.entries patterns.now) s self.now
             at.old cache.old)
-            × ScansTo (table_of graph.now) (graph.now.start ∷ []) haystack s stands.p self.now
+            × ScansTo (P.table patterns.now) (P.entries patterns.now) haystack s stands.p self.now
             (Stuck stuck idle) }
-        ensures stands { (haystack : Text) (s : ℕ) → (stands : Stands (table_of graph.now) haystack
-            (graph.now.start ∷ []) s self.now at.old cache.old)
-            → ScansTo (table_of graph.now) (graph.now.start ∷ []) haystack s stands.p self.now
+        ensures stands { (haystack : Text) (s : ℕ) → (stands : Stands (P.table patterns.now) haystack
+            (P.entries patterns.now) s self.now at.old cache.old)
+            → ScansTo (P.table patterns.now) (P.entries patterns.now) haystack s stands.p self.now
             (Stuck stuck idle)
-            → Stands (table_of graph.now) haystack (graph.now.start ∷ []) s self.now at.new
+            → Stands (P.table patterns.now) haystack (P.entries patterns.now) s self.now at.new
             cache.new }
         ensures none { best_of cache.old.best ≡ None → best_of cache.new.best ≡ None }
         ensures later { at.old.here.at ≤ at.new.here.at }

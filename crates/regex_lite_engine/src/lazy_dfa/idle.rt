@@ -1,8 +1,7 @@
 //! Positions at which there is nothing to go on from, and no match: a search goes on by turns, if
 //! they are known, or else passes over those at which no match can begin.
-ghost use Rattle.std.specs.Prelude.{◌≡◌, ◌<◌, ◌≤◌, ◌∷◌, [], ℕ, IfSome, None, Some, chars};
+ghost use Rattle.std.specs.Prelude.{◌≡◌, ◌<◌, ◌≤◌, [], ℕ, IfSome, None, Some, chars};
 ghost use Rattle.std.specs.Prelude.{false, length, slice_get, true};
-ghost use Rattle.regex_lite_engine.specs.Graph.Stored.{table_of};
 ghost use Rattle.regex_lite_engine.specs.LazyDfa.Automaton.{Remembers, State};
 ghost use Rattle.regex_lite_engine.specs.LazyDfa.Running.{StandsIdle};
 ghost use Rattle.regex_lite_engine.specs.LazyDfa.Scanning.{best_told, IsScanning, IsSince};
@@ -11,12 +10,10 @@ ghost use Rattle.regex_lite_engine.specs.Search.Standing.{IsHere};
 ghost use Rattle.regex_lite_engine.specs.Search.Starts.{PassesTo};
 ghost use Rattle.regex_lite_engine.specs.Search.Starts.{AreDeadAt};
 
-use crate::Graph;
 use crate::lazy_dfa::automaton::{LazyDfa, MOST_STATES, UNKNOWN};
 use crate::lazy_dfa::run::Progress;
 use crate::lazy_dfa::scan::Standing;
 use crate::search::here::Here;
-use crate::search::one_pattern::OnePattern;
 use crate::search::patterns::Patterns;
 
 /// Turns over no more bytes than these are faster than passing over them.
@@ -24,11 +21,11 @@ const NEAR: usize = 4;
 
 impl LazyDfa {
     /// The same position in the state without ways, if a turn from there is remembered.
-    pub(super) fn stay_idle(&self, graph: &Graph, at: Progress) -> Option<Progress>
+    pub(super) fn stay_idle<P: Patterns>(&self, patterns: &P, at: Progress) -> Option<Progress>
         ensures { IfSome result (StandsIdle self.now at.here) }
     {
         // A prefilter is faster than turns.
-        if graph.filter().prefilter().is_some() {
+        if patterns.has_prefilter() {
             return None;
         }
         let state = self.empty_state(at.here.before)?;
@@ -44,18 +41,14 @@ impl LazyDfa {
     }
 
     /// The next position at which a match can begin, or this one, if its turn is worth taking.
-    pub(super) fn leave_idle(&self, graph: &Graph, haystack: &str, here: Here) -> Here
+    pub(super) fn leave_idle<P: Patterns>(&self, patterns: &P, haystack: &str, here: Here) -> Here
         requires { (p : ℕ) × IsHere (chars haystack.now) p here }
         ensures { (p : ℕ) → IsHere (chars haystack.now) p here
-            → PassesTo (AreDeadAt (table_of graph.now) (chars haystack.now)
-            (graph.now.start ∷ [])) (chars haystack.now) p result }
+            → PassesTo (AreDeadAt (P.table patterns.now) (chars haystack.now)
+            (P.entries patterns.now)) (chars haystack.now) p result }
     {
-        let pattern = OnePattern {
-            graph,
-            may_start: false,
-        };
-        let next = pattern.pass_over(haystack, here);
-        if self.is_worth_a_turn(graph, here, next) {
+        let next = patterns.pass_over(haystack, here);
+        if self.is_worth_a_turn(patterns, here, next) {
             return here;
         }
         next
@@ -63,71 +56,71 @@ impl LazyDfa {
 
     /// Goes on by remembered turns, and over positions at which no match can begin. Returns whether
     /// nothing leads on from the last match, which is the answer then.
-    pub(super) fn run_on(&self, graph: &Graph, haystack: &str, at: &mut Standing) -> bool
-        requires remembers { Remembers graph.now.places (graph.now.start ∷ []) self.now }
-        requires scanning { (low p : ℕ) × IsScanning (table_of graph.now) (graph.now.start ∷ [])
+    pub(super) fn run_on<P: Patterns>(&self, patterns: &P, haystack: &str, at: &mut Standing) -> bool
+        requires remembers { Remembers (P.table patterns.now) (P.entries patterns.now) self.now }
+        requires scanning { (low p : ℕ) × IsScanning (P.table patterns.now) (P.entries patterns.now)
             (chars haystack.now) low p self.now at.old }
-        ensures over { result ≡ true → (low p : ℕ) → IsScanning (table_of graph.now)
-            (graph.now.start ∷ []) (chars haystack.now) low p self.now at.old
-            → IsBestOutcomeOf (table_of graph.now) (chars haystack.now) (graph.now.start ∷ []) low
+        ensures over { result ≡ true → (low p : ℕ) → IsScanning (P.table patterns.now)
+            (P.entries patterns.now) (chars haystack.now) low p self.now at.old
+            → IsBestOutcomeOf (P.table patterns.now) (chars haystack.now) (P.entries patterns.now) low
             (best_told at.new.best) }
-        ensures on { result ≡ false → (low p : ℕ) → IsScanning (table_of graph.now)
-            (graph.now.start ∷ []) (chars haystack.now) low p self.now at.old
-            → (q : ℕ) × (p ≤ q) × IsScanning (table_of graph.now) (graph.now.start ∷ [])
+        ensures on { result ≡ false → (low p : ℕ) → IsScanning (P.table patterns.now)
+            (P.entries patterns.now) (chars haystack.now) low p self.now at.old
+            → (q : ℕ) × (p ≤ q) × IsScanning (P.table patterns.now) (P.entries patterns.now)
             (chars haystack.now) low q self.now at.new
-            × IsSince (table_of graph.now) (graph.now.start ∷ []) (chars haystack.now) low p
+            × IsSince (P.table patterns.now) (P.entries patterns.now) (chars haystack.now) low p
             at.old.first at.new.first }
     {
-        if self.run(graph, haystack, at) {
+        if self.run(patterns, haystack, at) {
             return true;
         }
-        self.leap_on(graph, haystack, at)
+        self.leap_on(patterns, haystack, at)
     }
 
     /// Like `run_on`, but passes over positions first.
     // Not inlined, so that a search without a prefilter costs no more than the call.
     #[inline(never)]
-    fn leap_on(&self, graph: &Graph, haystack: &str, at: &mut Standing) -> bool
-        requires remembers { Remembers graph.now.places (graph.now.start ∷ []) self.now }
-        requires scanning { (low p : ℕ) × IsScanning (table_of graph.now) (graph.now.start ∷ [])
+    fn leap_on<P: Patterns>(&self, patterns: &P, haystack: &str, at: &mut Standing) -> bool
+        requires remembers { Remembers (P.table patterns.now) (P.entries patterns.now) self.now }
+        requires scanning { (low p : ℕ) × IsScanning (P.table patterns.now) (P.entries patterns.now)
             (chars haystack.now) low p self.now at.old }
-        ensures over { result ≡ true → (low p : ℕ) → IsScanning (table_of graph.now)
-            (graph.now.start ∷ []) (chars haystack.now) low p self.now at.old
-            → IsBestOutcomeOf (table_of graph.now) (chars haystack.now) (graph.now.start ∷ []) low
+        ensures over { result ≡ true → (low p : ℕ) → IsScanning (P.table patterns.now)
+            (P.entries patterns.now) (chars haystack.now) low p self.now at.old
+            → IsBestOutcomeOf (P.table patterns.now) (chars haystack.now) (P.entries patterns.now) low
             (best_told at.new.best) }
-        ensures on { result ≡ false → (low p : ℕ) → IsScanning (table_of graph.now)
-            (graph.now.start ∷ []) (chars haystack.now) low p self.now at.old
-            → (q : ℕ) × (p ≤ q) × IsScanning (table_of graph.now) (graph.now.start ∷ [])
+        ensures on { result ≡ false → (low p : ℕ) → IsScanning (P.table patterns.now)
+            (P.entries patterns.now) (chars haystack.now) low p self.now at.old
+            → (q : ℕ) × (p ≤ q) × IsScanning (P.table patterns.now) (P.entries patterns.now)
             (chars haystack.now) low q self.now at.new
-            × IsSince (table_of graph.now) (graph.now.start ∷ []) (chars haystack.now) low p
+            × IsSince (P.table patterns.now) (P.entries patterns.now) (chars haystack.now) low p
             at.old.first at.new.first }
     {
         'leaps: loop {
-            if !self.leap(graph, haystack, at) {
+            if !self.leap(patterns, haystack, at) {
                 return false;
             }
-            if self.run(graph, haystack, at) {
+            if self.run(patterns, haystack, at) {
                 return true;
             }
         }
     }
 
     /// Like `run_on`, up to the first match that ends, if there is none yet.
-    pub(super) fn run_on_to_match(&self, graph: &Graph, haystack: &str, at: &mut Standing)
-        requires remembers { Remembers graph.now.places (graph.now.start ∷ []) self.now }
-        requires scanning { (low p : ℕ) × IsScanning (table_of graph.now) (graph.now.start ∷ [])
+    pub(super) fn run_on_to_match<P: Patterns>(&self, patterns: &P, haystack: &str, at: &mut Standing)
+        requires remembers { Remembers (P.table patterns.now) (P.entries patterns.now) self.now }
+        requires scanning { (low p : ℕ) × IsScanning (P.table patterns.now) (P.entries patterns.now)
             (chars haystack.now) low p self.now at.old }
-        ensures on { (low p : ℕ) → IsScanning (table_of graph.now) (graph.now.start ∷ [])
+        ensures on { (low p : ℕ) → IsScanning (P.table patterns.now) (P.entries patterns.now)
             (chars haystack.now) low p self.now at.old
-            → (q : ℕ) × (p ≤ q) × IsScanning (table_of graph.now) (graph.now.start ∷ [])
+            → (q : ℕ) × (p ≤ q) × IsScanning (P.table patterns.now) (P.entries patterns.now)
             (chars haystack.now) low q self.now at.new
-            × IsSince (table_of graph.now) (graph.now.start ∷ []) (chars haystack.now) low p
+            × IsSince (P.table patterns.now) (P.entries patterns.now) (chars haystack.now) low p
             at.old.first at.new.first }
         ensures none { at.new.best ≡ at.old.best }
     {
         'leaps: loop {
-            self.run_to_match(graph, haystack, at);
-            if !self.leap(graph, haystack, at) {
+            self.run_to_match(patterns, haystack, at);
+            if !self.leap(patterns, haystack, at) {
                 return;
             }
         }
@@ -137,27 +130,23 @@ impl LazyDfa {
     /// the next position at which a match can begin. Returns whether that is a later one. It stays
     /// in the same state, so the graph has no looks.
     #[inline(always)]
-    fn leap(&self, graph: &Graph, haystack: &str, at: &mut Standing) -> bool
-        requires scanning { (low p : ℕ) × IsScanning (table_of graph.now) (graph.now.start ∷ [])
+    fn leap<P: Patterns>(&self, patterns: &P, haystack: &str, at: &mut Standing) -> bool
+        requires scanning { (low p : ℕ) × IsScanning (P.table patterns.now) (P.entries patterns.now)
             (chars haystack.now) low p self.now at.old }
-        ensures on { result ≡ true → (low p : ℕ) → IsScanning (table_of graph.now)
-            (graph.now.start ∷ []) (chars haystack.now) low p self.now at.old
-            → (q : ℕ) × (p ≤ q) × IsScanning (table_of graph.now) (graph.now.start ∷ [])
+        ensures on { result ≡ true → (low p : ℕ) → IsScanning (P.table patterns.now)
+            (P.entries patterns.now) (chars haystack.now) low p self.now at.old
+            → (q : ℕ) × (p ≤ q) × IsScanning (P.table patterns.now) (P.entries patterns.now)
             (chars haystack.now) low q self.now at.new
-            × IsSince (table_of graph.now) (graph.now.start ∷ []) (chars haystack.now) low p
+            × IsSince (P.table patterns.now) (P.entries patterns.now) (chars haystack.now) low p
             at.old.first at.new.first }
         ensures later { result ≡ true → at.old.here.at < at.new.here.at }
         ensures same { result ≡ false → at.new ≡ at.old }
         ensures none { at.new.best ≡ at.old.best }
     {
-        if !self.may_leap(graph, at) {
+        if !self.may_leap(patterns, at) {
             return false;
         }
-        let pattern = OnePattern {
-            graph,
-            may_start: false,
-        };
-        let next = pattern.pass_over(haystack, at.here);
+        let next = patterns.pass_over(haystack, at.here);
         if next.at <= at.here.at {
             return false;
         }
@@ -168,14 +157,14 @@ impl LazyDfa {
 
     /// Whether there is nothing to go on from and no match, a prefilter and no looks.
     #[inline(always)]
-    fn may_leap(&self, graph: &Graph, at: &Standing) -> bool
+    fn may_leap<P: Patterns>(&self, patterns: &P, at: &Standing) -> bool
         requires { at.now.state < length self.now.states }
         ensures looks { result ≡ true → self.now.intervals.looks ≡ false }
         ensures none { result ≡ true → at.now.best ≡ None }
         ensures empty { result ≡ true → (state : State)
             → slice_get self.now.states at.now.state ≡ Some state → state.ways ≡ [] }
     {
-        graph.filter().prefilter().is_some()
+        patterns.has_prefilter()
             && !self.has_looks()
             && at.best.is_none()
             && self.is_empty(at.state)
@@ -183,8 +172,8 @@ impl LazyDfa {
 
     /// Whether it pays to take the turns up to this position, so that they are remembered.
     #[inline(always)]
-    pub(super) fn is_worth_a_turn(&self, graph: &Graph, here: Here, next: Here) -> bool {
-        graph.filter().prefilter().is_none()
+    pub(super) fn is_worth_a_turn<P: Patterns>(&self, patterns: &P, here: Here, next: Here) -> bool {
+        !patterns.has_prefilter()
             && here.at < next.at
             && next.at - here.at <= NEAR
             && self.states.len() < MOST_STATES

@@ -1,7 +1,6 @@
 //! Turns of a search, remembered.
 ghost use Rattle.std.specs.Prelude.{◌≡◌, ◌∷◌, [], ◌<◌, ◌≤◌, ◌++◌, ℕ, IfSome};
 ghost use Rattle.std.specs.Prelude.{MatchOption, Some, length, map, slice_get, true};
-ghost use Rattle.regex_lite_engine.specs.Graph.Stored.{table_of};
 ghost use Rattle.regex_lite_engine.specs.LazyDfa.Automaton.{FitsTable, Remembers, State};
 ghost use Rattle.regex_lite_engine.specs.LazyDfa.Automaton.{hit_of, searching_after, ways_of};
 ghost use Rattle.regex_lite_engine.specs.LazyDfa.Intervals.{side_of};
@@ -10,14 +9,15 @@ ghost use Rattle.regex_lite_engine.specs.LazyDfa.Stored.{hit_in};
 ghost use Rattle.regex_lite_engine.specs.Pikevm.Searching.{IsBetween};
 ghost use Rattle.regex_lite_engine.specs.Pikevm.Turns.{best_of};
 
-use crate::Graph;
 use crate::lazy_dfa::automaton::LazyDfa;
 use crate::lazy_dfa::run::Progress;
 use crate::lazy_dfa::side::Side;
-use crate::lazy_dfa::state::Hit;
+use crate::lazy_dfa::state::{Hit, StoredWay};
+use crate::pikevm::beginning::Origin;
 use crate::pikevm::cache::Cache;
 use crate::pikevm::memory::Memory;
 use crate::search::here::Here;
+use crate::search::patterns::Patterns;
 
 /// A turn that a search has taken: from which state, with which first start, and where. A match
 /// was complete there, or not.
@@ -32,13 +32,13 @@ pub(crate) struct Taken {
 impl LazyDfa {
     /// Remembers the turn by which the search came to what the cache holds now. Returns the state
     /// that the search is in, if there is room for it.
-    pub(crate) fn learn(&mut self, graph: &Graph, taken: Taken, cache: &Cache<usize>) -> Option<u16>
-        requires remembers { Remembers graph.now.places (graph.now.start ∷ []) self.old }
-        requires turned { HasTurned (table_of graph.now) (graph.now.start ∷ []) self.old
+    pub(crate) fn learn<P: Patterns>(&mut self, patterns: &P, taken: Taken, cache: &Cache<Origin>) -> Option<u16>
+        requires remembers { Remembers (P.table patterns.now) (P.entries patterns.now) self.old }
+        requires turned { HasTurned (P.table patterns.now) (P.entries patterns.now) self.old
             taken.state taken.first taken.here taken.hit cache.now }
-        requires between { IsBetween (table_of graph.now) cache.now }
+        requires between { IsBetween (P.table patterns.now) cache.now }
         requires none_pending { self.old.pending ≡ [] }
-        ensures remembers { Remembers graph.now.places (graph.now.start ∷ []) self.new }
+        ensures remembers { Remembers (P.table patterns.now) (P.entries patterns.now) self.new }
         ensures state { IfSome result (λ y.
             IsIn self.new y taken.first taken.here.after cache.now) }
         ensures none_pending { self.new.pending ≡ [] }
@@ -57,16 +57,16 @@ impl LazyDfa {
     }
 
     /// The state in which the search stands, with this first start, if there is room for it.
-    pub(super) fn state_at(
+    pub(super) fn state_at<P: Patterns>(
         &mut self,
-        graph: &Graph,
+        patterns: &P,
         at: Progress,
-        cache: &Cache<usize>,
+        cache: &Cache<Origin>,
     ) -> Option<u16>
-        requires remembers { Remembers graph.now.places (graph.now.start ∷ []) self.old }
-        requires between { IsBetween (table_of graph.now) cache.now }
+        requires remembers { Remembers (P.table patterns.now) (P.entries patterns.now) self.old }
+        requires between { IsBetween (P.table patterns.now) cache.now }
         requires none_pending { self.old.pending ≡ [] }
-        ensures remembers { Remembers graph.now.places (graph.now.start ∷ []) self.new }
+        ensures remembers { Remembers (P.table patterns.now) (P.entries patterns.now) self.new }
         ensures state { MatchOption result (Unit {0})
             (λ y. IsIn self.new y at.first at.here.before cache.now) }
         ensures none_pending { self.new.pending ≡ [] }
@@ -80,7 +80,7 @@ impl LazyDfa {
     }
 
     /// Adds the threads of the position to the pending ways. Returns whether there was room.
-    fn gather(&mut self, memory: &Memory<usize>, first: usize) -> bool
+    fn gather(&mut self, memory: &Memory<Origin>, first: usize) -> bool
         ensures gathered { result ≡ true → self.new ≡ record self.old {
           pending = self.old.pending ++ ways_of first memory.now.threads;
         } }
@@ -88,7 +88,12 @@ impl LazyDfa {
     {
         'threads: for k in 0..memory.threads() {
             let (place, start) = memory.thread(k);
-            if !self.push_way(place, start == first) {
+            let way = StoredWay {
+                place,
+                number: start.number,
+                is_first: start.at == first,
+            };
+            if !self.push_way(way) {
                 return false;
             }
         }
@@ -103,7 +108,7 @@ impl LazyDfa {
     {
         match hit {
             Hit::Nowhere => self.states[x as usize].searching,
-            Hit::AtFirst | Hit::AtLater => false,
+            Hit::AtFirst(_) | Hit::AtLater(_) => false,
         }
     }
 
@@ -120,19 +125,19 @@ impl LazyDfa {
 }
 
 /// Where the way began by which the turn completed a match.
-fn hit_told(taken: Taken, cache: &Cache<usize>) -> Hit
+fn hit_told(taken: Taken, cache: &Cache<Origin>) -> Hit
     ensures { hit_in result ≡ hit_of taken.first taken.hit (best_of cache.now.best) }
 {
     if !taken.hit {
         return Hit::Nowhere;
     }
-    match cache.best.span() {
+    match cache.best.found() {
         None => Hit::Nowhere,
-        Some((start, _)) => {
-            if start == taken.first {
-                Hit::AtFirst
+        Some((origin, _)) => {
+            if origin.at == taken.first {
+                Hit::AtFirst(origin.number)
             } else {
-                Hit::AtLater
+                Hit::AtLater(origin.number)
             }
         }
     }

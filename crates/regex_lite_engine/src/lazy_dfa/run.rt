@@ -1,25 +1,25 @@
 //! Searches that remember their turns, and go by those that they remember.
-ghost use Rattle.std.specs.Prelude.{◌≡◌, ◌∷◌, [], ◌<◌, ◌≤◌, ◌+◌, ℕ, List};
+ghost use Rattle.std.specs.Prelude.{◌≡◌, [], ◌<◌, ◌≤◌, ◌+◌, ℕ, List};
 ghost use Rattle.std.specs.Prelude.{IsCharBoundary, IsSome, MatchOption, None};
-ghost use Rattle.std.specs.Prelude.{Some, chars, length, map, slice_index, true};
+ghost use Rattle.std.specs.Prelude.{chars, length, map, slice_index, true};
+ghost use Rattle.regex_lite_engine.specs.declared.pikevm.beginning.Origin.{Origin};
 ghost use Rattle.regex_lite_engine.specs.Graph.Places.{Place};
-ghost use Rattle.regex_lite_engine.specs.Graph.Stored.{table_of};
 ghost use Rattle.regex_lite_engine.specs.LazyDfa.Automaton.{Automaton};
 ghost use Rattle.regex_lite_engine.specs.LazyDfa.Learning.{IsIn};
 ghost use Rattle.regex_lite_engine.specs.LazyDfa.Running.{GoesOnWith, IsOnItsWay};
-ghost use Rattle.regex_lite_engine.specs.LazyDfa.Running.{Stands, started_at};
+ghost use Rattle.regex_lite_engine.specs.LazyDfa.Running.{Stands, started_at, thread_from};
 ghost use Rattle.regex_lite_engine.specs.Search.Bounds.{characters_left};
 ghost use Rattle.regex_lite_engine.specs.Search.Offsets.{position_at};
 ghost use Rattle.regex_lite_engine.specs.Search.Counting.{CanCount};
 ghost use Rattle.regex_lite_engine.specs.Pikevm.Searching.{IsFresh, IsHit, TurnsAgain};
+ghost use Rattle.regex_lite_engine.specs.Search.Starts.{AreAllStarts};
 ghost use Rattle.regex_lite_engine.specs.Search.Standing.{IsHere};
 ghost use Rattle.regex_lite_engine.specs.Pikevm.Turns.{EndsAt, best_of};
 
-use crate::Graph;
 use crate::lazy_dfa::state::StoredWay;
+use crate::pikevm::beginning::Origin;
 use crate::pikevm::cache::Cache;
 use crate::search::here::Here;
-use crate::search::one_pattern::OnePattern;
 use crate::search::patterns::Patterns;
 
 /// Where a search stands, and its state, if that is known.
@@ -38,7 +38,7 @@ impl Progress {
     pub(super) fn begun(haystack: &str, start: usize) -> Progress
         requires { IsCharBoundary haystack.now start }
         ensures { (table : List (Place ℕ)) (entries : List ℕ) (automaton : Automaton)
-            (cache : Cache ℕ) → IsFresh table cache → length cache.walk.memory.row ≡ 0
+            (cache : Cache Origin) → IsFresh table cache → length cache.walk.memory.row ≡ 0
             → Stands table (chars haystack.now) entries (position_at haystack.now start) automaton
             result cache }
     {
@@ -64,7 +64,7 @@ impl Progress {
     }
 }
 
-impl Cache<usize> {
+impl Cache<Origin> {
     /// Goes on to the next position. The state is the one that the search is in there.
     pub(super) fn on(&self, haystack: &str, at: Progress) -> Progress
         requires here { (p : ℕ) × IsHere (chars haystack.now) p at.here }
@@ -94,12 +94,12 @@ impl Cache<usize> {
 
     /// Where there is neither a thread nor a match, passes over positions at which no match can
     /// begin. The state isn't known then.
-    pub(super) fn pass_idle(&self, graph: &Graph, haystack: &str, at: Progress) -> Progress
-        requires { (s : ℕ) × (automaton : Automaton) × Stands (table_of graph.now)
-            (chars haystack.now) (graph.now.start ∷ []) s automaton at self.now }
-        ensures stands { (s : ℕ) (automaton : Automaton) → Stands (table_of graph.now)
-            (chars haystack.now) (graph.now.start ∷ []) s automaton at self.now
-            → Stands (table_of graph.now) (chars haystack.now) (graph.now.start ∷ []) s automaton
+    pub(super) fn pass_idle<P: Patterns>(&self, patterns: &P, haystack: &str, at: Progress) -> Progress
+        requires { (s : ℕ) × (automaton : Automaton) × Stands (P.table patterns.now)
+            (chars haystack.now) (P.entries patterns.now) s automaton at self.now }
+        ensures stands { (s : ℕ) (automaton : Automaton) → Stands (P.table patterns.now)
+            (chars haystack.now) (P.entries patterns.now) s automaton at self.now
+            → Stands (P.table patterns.now) (chars haystack.now) (P.entries patterns.now) s automaton
             result self.now }
         ensures unknown { result.state ≡ None }
         ensures later { at.here.at ≤ result.here.at }
@@ -112,11 +112,7 @@ impl Cache<usize> {
                 until: at.until,
             };
         }
-        let pattern = OnePattern {
-            graph,
-            may_start: false,
-        };
-        let here = pattern.pass_over(haystack, at.here);
+        let here = patterns.pass_over(haystack, at.here);
         Progress {
             here,
             state: None,
@@ -125,32 +121,29 @@ impl Cache<usize> {
         }
     }
 
-    /// Goes over the position, at which the pattern may start. Returns whether a match is complete
+    /// Goes over the position, at which each pattern may start. Returns whether a match is complete
     /// there.
-    pub(super) fn go_over(&mut self, graph: &Graph, haystack: &str, here: Here) -> bool
-        requires { (s p : ℕ) × IsHere (chars haystack.now) p here
-            × CanCount (table_of graph.now) 1 (characters_left (chars haystack.now) s)
-            × IsOnItsWay (table_of graph.now) (chars haystack.now) (graph.now.start ∷ []) s p
+    pub(super) fn go_over<P: Patterns>(&mut self, patterns: &P, haystack: &str, here: Here) -> bool
+        requires all { AreAllStarts (P.table patterns.now) (P.entries patterns.now)
+            (P.starts patterns.now) }
+        requires on { (s p : ℕ) × IsHere (chars haystack.now) p here
+            × CanCount (P.table patterns.now) (length (P.entries patterns.now))
+            (characters_left (chars haystack.now) s)
+            × IsOnItsWay (P.table patterns.now) (chars haystack.now) (P.entries patterns.now) s p
             self.old }
         ensures on { (s p : ℕ) → IsHere (chars haystack.now) p here
-            → IsOnItsWay (table_of graph.now) (chars haystack.now) (graph.now.start ∷ []) s p
+            → IsOnItsWay (P.table patterns.now) (chars haystack.now) (P.entries patterns.now) s p
             self.old
-            → IsOnItsWay (table_of graph.now) (chars haystack.now) (graph.now.start ∷ []) s (p + 1)
+            → IsOnItsWay (P.table patterns.now) (chars haystack.now) (P.entries patterns.now) s (p + 1)
             self.new }
-        ensures again { TurnsAgain (table_of graph.now)
-            (record { number = 0; place = graph.now.start } ∷ []) here
-            (λ _. record { at = Some here.at; number = None }) self.old self.new result }
+        ensures again { TurnsAgain (P.table patterns.now)
+            (P.starts patterns.now) here (started_at here.at) self.old self.new result }
         ensures hit { IsHit result (best_of self.old.best) (best_of self.new.best) }
         ensures ends { EndsAt here.at (best_of self.old.best) (best_of self.new.best) }
     {
-        let pattern = OnePattern {
-            graph,
-            may_start: true,
-        };
-        // There is room for one way more, and its place is one of the graph.
+        // There is room for more ways than there are patterns.
         let _threads = self.walk.memory.threads();
-        let _start = graph.start();
-        self.turn(&pattern, here)
+        self.turn(patterns, here)
     }
 
     /// Goes on from nothing: without a thread, and without a match.
@@ -171,13 +164,16 @@ impl Cache<usize> {
         requires width { length self.old.walk.memory.row ≡ 0 }
         requires old { (q : ℕ) → slice_index self.old.walk.memory.rounds q
             ≤ self.old.walk.memory.now }
-        ensures threads { self.new.walk.memory.threads ≡ map (started_at first) ways.now }
+        ensures threads { self.new.walk.memory.threads ≡ map (thread_from first) ways.now }
         ensures none { best_of self.new.best ≡ None }
         ensures kept { GoesOnWith self.old self.new }
     {
         self.let_go();
         for way in ways {
-            self.walk.memory.push_next::<false>(way.place, first);
+            self.walk.memory.push_next::<false>(way.place, Origin {
+                at: first,
+                number: way.number,
+            });
         }
         self.walk.memory.turn_over();
     }

@@ -1,9 +1,8 @@
 //! Searches that go on by remembered turns, without a try.
-ghost use Rattle.std.specs.Prelude.{◌≡◌, ◌↔◌, ◌+◌, ◌<◌, ◌≤◌, ◌⊎◌, ◌∷◌, [], ℕ, IfSome, IsSome};
+ghost use Rattle.std.specs.Prelude.{◌≡◌, ◌↔◌, ◌+◌, ◌<◌, ◌≤◌, ◌⊎◌, [], ℕ, IfSome, IsSome};
 ghost use Rattle.std.specs.Prelude.{IsCharBoundary, IsTrue, None, Some, chars, length, slice_get};
 ghost use Rattle.std.specs.Prelude.{true};
 ghost use Rattle.regex_lite_syntax.specs.Text.{Text};
-ghost use Rattle.regex_lite_engine.specs.Graph.Stored.{table_of};
 ghost use Rattle.regex_lite_engine.specs.LazyDfa.Automaton.{IsEmptyState, Remembers, State};
 ghost use Rattle.regex_lite_engine.specs.LazyDfa.Intervals.{side_of};
 ghost use Rattle.regex_lite_engine.specs.LazyDfa.Scanning.{best_told};
@@ -11,12 +10,11 @@ ghost use Rattle.regex_lite_engine.specs.LazyDfa.Scanning.{IsScanning, IsSince, 
 ghost use Rattle.regex_lite_engine.specs.Search.Offsets.{position_at};
 ghost use Rattle.regex_lite_engine.specs.Search.Standing.{IsHere};
 
-use crate::Graph;
 use crate::lazy_dfa::automaton::{LazyDfa, UNKNOWN};
 use crate::lazy_dfa::side::Side;
 use crate::lazy_dfa::state::Hit;
+use crate::pikevm::beginning::Origin;
 use crate::search::here::Here;
-use crate::search::one_pattern::OnePattern;
 use crate::search::patterns::Patterns;
 
 /// Where a search that goes by remembered turns stands.
@@ -27,14 +25,14 @@ pub(crate) struct Standing {
     /// The first start, where some ways of the state began.
     pub first: usize,
     /// Where the last match that was found starts and ends.
-    pub best: Option<(usize, usize)>,
+    pub best: Option<(Origin, usize)>,
 }
 
 /// How far remembered turns lead.
 #[derive(Clone, Copy)]
 pub(crate) enum Scanned {
     /// To the answer.
-    Found(Option<(usize, usize)>),
+    Found(Option<(Origin, usize)>),
     /// To a turn that isn't known, or that completes a match of which the start isn't known; and
     /// to the last position before it at which there was nothing to go on from.
     Stuck { at: Standing, idle: Option<Here> },
@@ -42,27 +40,27 @@ pub(crate) enum Scanned {
 
 impl LazyDfa {
     /// Goes on while turns are remembered.
-    pub(crate) fn scan(&self, graph: &Graph, haystack: &str, from: Standing) -> Scanned
-        requires remembers { Remembers graph.now.places (graph.now.start ∷ []) self.now }
-        requires scanning { (low p : ℕ) × IsScanning (table_of graph.now) (graph.now.start ∷ [])
+    pub(crate) fn scan<P: Patterns>(&self, patterns: &P, haystack: &str, from: Standing) -> Scanned
+        requires remembers { Remembers (P.table patterns.now) (P.entries patterns.now) self.now }
+        requires scanning { (low p : ℕ) × IsScanning (P.table patterns.now) (P.entries patterns.now)
             (chars haystack.now) low p self.now from }
-        ensures { (low p : ℕ) → IsScanning (table_of graph.now) (graph.now.start ∷ [])
+        ensures { (low p : ℕ) → IsScanning (P.table patterns.now) (P.entries patterns.now)
             (chars haystack.now) low p self.now from
-            → ScansTo (table_of graph.now) (graph.now.start ∷ []) (chars haystack.now) low p
+            → ScansTo (P.table patterns.now) (P.entries patterns.now) (chars haystack.now) low p
             self.now result }
     {
         let mut at = from;
         'positions: loop {
-            if self.run_on(graph, haystack, &mut at) {
+            if self.run_on(patterns, haystack, &mut at) {
                 return Scanned::Found(at.best);
             }
-            let Some(on) = self.skip(graph, haystack, at) else {
+            let Some(on) = self.skip(patterns, haystack, at) else {
                 return Scanned::Stuck {
                     at,
                     idle: idle_since(haystack, from.first, at.first),
                 };
             };
-            let Some((to, best)) = self.step(graph, on) else {
+            let Some((to, best)) = self.step(patterns, on) else {
                 return Scanned::Stuck {
                     at: on,
                     idle: idle_since(haystack, from.first, on.first),
@@ -79,49 +77,45 @@ impl LazyDfa {
     /// can begin. None where no state is known for that, or where turns would be faster.
     // Inlined, so that other positions cost no more than the test.
     #[inline(always)]
-    pub(super) fn skip(&self, graph: &Graph, haystack: &str, at: Standing) -> Option<Standing>
-        requires scanning { (low p : ℕ) × IsScanning (table_of graph.now) (graph.now.start ∷ [])
+    pub(super) fn skip<P: Patterns>(&self, patterns: &P, haystack: &str, at: Standing) -> Option<Standing>
+        requires scanning { (low p : ℕ) × IsScanning (P.table patterns.now) (P.entries patterns.now)
             (chars haystack.now) low p self.now at }
-        ensures on { (low p : ℕ) → IsScanning (table_of graph.now) (graph.now.start ∷ [])
+        ensures on { (low p : ℕ) → IsScanning (P.table patterns.now) (P.entries patterns.now)
             (chars haystack.now) low p self.now at
-            → IfSome result (λ on. (q : ℕ) × (p ≤ q) × IsScanning (table_of graph.now)
-            (graph.now.start ∷ []) (chars haystack.now) low q self.now on) }
-        ensures first { (low p : ℕ) → IsScanning (table_of graph.now) (graph.now.start ∷ [])
+            → IfSome result (λ on. (q : ℕ) × (p ≤ q) × IsScanning (P.table patterns.now)
+            (P.entries patterns.now) (chars haystack.now) low q self.now on) }
+        ensures first { (low p : ℕ) → IsScanning (P.table patterns.now) (P.entries patterns.now)
             (chars haystack.now) low p self.now at
-            → IfSome result (λ on. IsSince (table_of graph.now) (graph.now.start ∷ [])
+            → IfSome result (λ on. IsSince (P.table patterns.now) (P.entries patterns.now)
             (chars haystack.now) low p at.first on.first) }
         ensures none { at.best ≡ None → IfSome result (λ on. on.best ≡ None) }
     {
         if at.best.is_some() || !self.is_empty(at.state) {
             return Some(at);
         }
-        self.skip_idle(graph, haystack, at)
+        self.skip_idle(patterns, haystack, at)
     }
 
     /// The same where there is nothing to go on from and no match.
     #[inline(never)]
-    fn skip_idle(&self, graph: &Graph, haystack: &str, at: Standing) -> Option<Standing>
-        requires scanning { (low p : ℕ) × IsScanning (table_of graph.now) (graph.now.start ∷ [])
+    fn skip_idle<P: Patterns>(&self, patterns: &P, haystack: &str, at: Standing) -> Option<Standing>
+        requires scanning { (low p : ℕ) × IsScanning (P.table patterns.now) (P.entries patterns.now)
             (chars haystack.now) low p self.now at }
         requires none { best_told at.best ≡ None }
         requires empty { (state : State) → slice_get self.now.states at.state ≡ Some state
             → state.ways ≡ [] }
-        ensures on { (low p : ℕ) → IsScanning (table_of graph.now) (graph.now.start ∷ [])
+        ensures on { (low p : ℕ) → IsScanning (P.table patterns.now) (P.entries patterns.now)
             (chars haystack.now) low p self.now at
-            → IfSome result (λ on. (q : ℕ) × (p ≤ q) × IsScanning (table_of graph.now)
-            (graph.now.start ∷ []) (chars haystack.now) low q self.now on) }
-        ensures first { (low p : ℕ) → IsScanning (table_of graph.now) (graph.now.start ∷ [])
+            → IfSome result (λ on. (q : ℕ) × (p ≤ q) × IsScanning (P.table patterns.now)
+            (P.entries patterns.now) (chars haystack.now) low q self.now on) }
+        ensures first { (low p : ℕ) → IsScanning (P.table patterns.now) (P.entries patterns.now)
             (chars haystack.now) low p self.now at
-            → IfSome result (λ on. IsSince (table_of graph.now) (graph.now.start ∷ [])
+            → IfSome result (λ on. IsSince (P.table patterns.now) (P.entries patterns.now)
             (chars haystack.now) low p at.first on.first) }
         ensures none { IfSome result (λ on. on.best ≡ None) }
     {
-        let pattern = OnePattern {
-            graph,
-            may_start: false,
-        };
-        let here = pattern.pass_over(haystack, at.here);
-        if self.is_worth_a_turn(graph, at.here, here) && !self.knows(at.state, at.here.after) {
+        let here = patterns.pass_over(haystack, at.here);
+        if self.is_worth_a_turn(patterns, at.here, here) && !self.knows(at.state, at.here.after) {
             return None;
         }
         let state = self.empty_state(here.before)?;
@@ -165,12 +159,12 @@ impl LazyDfa {
 
     /// Where the turn from here leads, and the match that is the last then. None where that isn't
     /// known.
-    fn step(&self, graph: &Graph, at: Standing) -> Option<(u16, Option<(usize, usize)>)>
-        requires remembers { Remembers graph.now.places (graph.now.start ∷ []) self.now }
+    fn step<P: Patterns>(&self, patterns: &P, at: Standing) -> Option<(u16, Option<(Origin, usize)>)>
+        requires remembers { Remembers (P.table patterns.now) (P.entries patterns.now) self.now }
         requires state { at.state < length self.now.states }
-        ensures { (haystack : Text) (low p : ℕ) → IsScanning (table_of graph.now)
-            (graph.now.start ∷ []) haystack low p self.now at
-            → IfSome result (λ told. LedTo (table_of graph.now) (graph.now.start ∷ []) haystack low
+        ensures { (haystack : Text) (low p : ℕ) → IsScanning (P.table patterns.now)
+            (P.entries patterns.now) haystack low p self.now at
+            → IfSome result (λ told. LedTo (P.table patterns.now) (P.entries patterns.now) haystack low
             p self.now at told.0 told.1) }
     {
         let class = self.classes.class(at.here.after);
@@ -180,13 +174,19 @@ impl LazyDfa {
         }
         match self.states[to as usize].hit {
             Hit::Nowhere => Some((to, at.best)),
-            Hit::AtFirst => Some((to, Some((at.first, at.here.at)))),
-            Hit::AtLater => None,
+            Hit::AtFirst(number) => {
+                let origin = Origin {
+                    at: at.first,
+                    number,
+                };
+                Some((to, Some((origin, at.here.at))))
+            }
+            Hit::AtLater(_) => None,
         }
     }
 
     /// Whether nothing is left to do after the turn.
-    fn is_over(&self, here: Here, to: u16, best: Option<(usize, usize)>) -> bool
+    fn is_over(&self, here: Here, to: u16, best: Option<(Origin, usize)>) -> bool
         requires { to < length self.now.states }
         ensures over { (state : State) → slice_get self.now.states to ≡ Some state
             → IsTrue result → (here.after ≡ None)
@@ -207,7 +207,7 @@ impl LazyDfa {
         haystack: &str,
         at: Standing,
         to: u16,
-        best: Option<(usize, usize)>,
+        best: Option<(Origin, usize)>,
     ) -> Standing
         requires here { (p : ℕ) × IsHere (chars haystack.now) p at.here × IsSome at.here.after }
         requires state { to < length self.now.states }

@@ -1,13 +1,13 @@
 //! A search for the least end of any match that remembers its turns.
-ghost use Rattle.std.specs.Prelude.{◌≡◌, ◌+◌, ◌<◌, ◌≤◌, ◌∷◌, [], ℕ, IfSome};
+ghost use Rattle.std.specs.Prelude.{◌≡◌, ◌+◌, ◌<◌, ◌≤◌, [], ℕ, IfSome};
 ghost use Rattle.std.specs.Prelude.{IsCharBoundary, MatchOption, None, chars, length};
 ghost use Rattle.regex_lite_syntax.specs.Text.{Text};
 ghost use Rattle.regex_lite_engine.specs.Graph.Renumbered.{arrows_of};
-ghost use Rattle.regex_lite_engine.specs.Graph.Stored.{table_of};
 ghost use Rattle.regex_lite_engine.specs.LazyDfa.Automaton.{Remembers};
 ghost use Rattle.regex_lite_engine.specs.LazyDfa.Running.{Stands};
 ghost use Rattle.regex_lite_engine.specs.LazyDfa.Scanning.{EndsOrLeads, IsScanning};
 ghost use Rattle.regex_lite_engine.specs.LazyDfa.Scanning.{ScansToEnd, end_told};
+ghost use Rattle.regex_lite_engine.specs.Search.Starts.{AreAllStarts};
 ghost use Rattle.regex_lite_engine.specs.Search.Bounds.{IsBoundedBy, characters_left};
 ghost use Rattle.regex_lite_engine.specs.Search.Offsets.{position_at};
 ghost use Rattle.regex_lite_engine.specs.Search.Counting.{CanCount};
@@ -15,14 +15,15 @@ ghost use Rattle.regex_lite_engine.specs.Pikevm.Searching.{IsFresh};
 ghost use Rattle.regex_lite_engine.specs.Search.NumberedOutcomes.{IsNumberedEndOf};
 ghost use Rattle.regex_lite_engine.specs.Pikevm.Turns.{best_of};
 
-use crate::Graph;
 use crate::lazy_dfa::automaton::{LazyDfa, UNKNOWN};
 use crate::lazy_dfa::run::Progress;
 use crate::lazy_dfa::scan::{Standing, idle_since};
 use crate::lazy_dfa::state::Hit;
+use crate::pikevm::beginning::Origin;
 use crate::pikevm::cache::Cache;
 use crate::pikevm::shortest::is_known;
 use crate::search::here::Here;
+use crate::search::patterns::Patterns;
 
 /// How far remembered turns lead towards the first match that ends.
 #[derive(Clone, Copy)]
@@ -37,69 +38,73 @@ pub(crate) enum ScannedEnd {
 impl LazyDfa {
     /// The least end of any match that starts at or after this offset. It stops at the first match
     /// that it comes to.
-    pub(crate) fn find_shortest(
+    pub(crate) fn find_shortest<P: Patterns>(
         &mut self,
-        graph: &Graph,
-        cache: &mut Cache<usize>,
+        patterns: &P,
+        cache: &mut Cache<Origin>,
         haystack: &str,
         start: usize,
     ) -> Option<usize>
+        requires all { AreAllStarts (P.table patterns.now) (P.entries patterns.now)
+            (P.starts patterns.now) }
         requires boundary { IsCharBoundary haystack.now start }
-        requires remembers { Remembers graph.now.places (graph.now.start ∷ []) self.old }
+        requires remembers { Remembers (P.table patterns.now) (P.entries patterns.now) self.old }
         requires none_pending { self.old.pending ≡ [] }
-        requires fresh { IsFresh (table_of graph.now) cache.old }
-        requires counts { CanCount (table_of graph.now) 1
+        requires fresh { IsFresh (P.table patterns.now) cache.old }
+        requires counts { CanCount (P.table patterns.now) (length (P.entries patterns.now))
             (characters_left (chars haystack.now) (position_at haystack.now start)) }
         requires width { length cache.old.walk.memory.row ≡ 0 }
-        ensures found { IsNumberedEndOf (table_of graph.now) (chars haystack.now)
-            (graph.now.start ∷ []) (position_at haystack.now start) (end_told result) }
-        ensures bounded { IsBoundedBy (length (table_of graph.now))
-            (arrows_of (table_of graph.now) + 1) (chars haystack.now)
+        ensures found { IsNumberedEndOf (P.table patterns.now) (chars haystack.now)
+            (P.entries patterns.now) (position_at haystack.now start) (end_told result) }
+        ensures bounded { IsBoundedBy (length (P.table patterns.now))
+            (arrows_of (P.table patterns.now) + length (P.entries patterns.now)) (chars haystack.now)
             (position_at haystack.now start) cache.new.walk.steps.tried
             cache.new.walk.steps.entered cache.new.walk.steps.looked }
         ensures entered { IfSome result (λ _. 0 < cache.new.walk.steps.entered) }
     {
         let at = Progress::begun(haystack, start);
-        self.find_shortest_from(graph, cache, haystack, at)
+        self.find_shortest_from(patterns, cache, haystack, at)
     }
 
     /// The same from where a search stands that has no match yet.
-    pub(super) fn find_shortest_from(
+    pub(super) fn find_shortest_from<P: Patterns>(
         &mut self,
-        graph: &Graph,
-        cache: &mut Cache<usize>,
+        patterns: &P,
+        cache: &mut Cache<Origin>,
         haystack: &str,
         from: Progress,
     ) -> Option<usize>
-        requires remembers { Remembers graph.now.places (graph.now.start ∷ []) self.old }
+        requires all { AreAllStarts (P.table patterns.now) (P.entries patterns.now)
+            (P.starts patterns.now) }
+        requires remembers { Remembers (P.table patterns.now) (P.entries patterns.now) self.old }
         requires none_pending { self.old.pending ≡ [] }
         requires none { best_of cache.old.best ≡ None }
         requires stands { (s : ℕ)
-            × CanCount (table_of graph.now) 1 (characters_left (chars haystack.now) s)
-            × Stands (table_of graph.now) (chars haystack.now) (graph.now.start ∷ []) s self.old
+            × CanCount (P.table patterns.now) (length (P.entries patterns.now)) (characters_left (chars haystack.now) s)
+            × Stands (P.table patterns.now) (chars haystack.now) (P.entries patterns.now) s self.old
             from cache.old }
-        ensures found { (s : ℕ) → Stands (table_of graph.now) (chars haystack.now)
-            (graph.now.start ∷ []) s self.old from cache.old
-            → IsNumberedEndOf (table_of graph.now) (chars haystack.now) (graph.now.start ∷ []) s
+        ensures found { (s : ℕ) → Stands (P.table patterns.now) (chars haystack.now)
+            (P.entries patterns.now) s self.old from cache.old
+            → IsNumberedEndOf (P.table patterns.now) (chars haystack.now) (P.entries patterns.now) s
             (end_told result) }
-        ensures bounded { (s : ℕ) → Stands (table_of graph.now) (chars haystack.now)
-            (graph.now.start ∷ []) s self.old from cache.old
-            → IsBoundedBy (length (table_of graph.now)) (arrows_of (table_of graph.now) + 1)
+        ensures bounded { (s : ℕ) → Stands (P.table patterns.now) (chars haystack.now)
+            (P.entries patterns.now) s self.old from cache.old
+            → IsBoundedBy (length (P.table patterns.now)) (arrows_of (P.table patterns.now) + length (P.entries patterns.now))
             (chars haystack.now) s cache.new.walk.steps.tried cache.new.walk.steps.entered
             cache.new.walk.steps.looked }
         ensures entered { IfSome result (λ _. 0 < cache.new.walk.steps.entered) }
     {
         let mut at = from;
         'positions: loop {
-            at = self.at_idle(graph, cache, haystack, at);
-            if let Some(end) = self.look_for_end(graph, cache, haystack, &mut at) {
+            at = self.at_idle(patterns, cache, haystack, at);
+            if let Some(end) = self.look_for_end(patterns, cache, haystack, &mut at) {
                 return end;
             }
-            let hit = cache.go_over(graph, haystack, at.here);
+            let hit = cache.go_over(patterns, haystack, at.here);
             if is_known(at.here, &cache.best) {
                 return cache.best.end();
             }
-            at.state = self.learn_at(graph, cache, at, hit);
+            at.state = self.learn_at(patterns, cache, at, hit);
             at = cache.on(haystack, at);
         }
     }
@@ -107,23 +112,23 @@ impl LazyDfa {
     /// Goes by turns that are remembered, once a place was entered: a new automaton has none
     /// before. Returns the end where they lead to one. Else the search goes on where they end, or
     /// where it was.
-    fn look_for_end(
+    fn look_for_end<P: Patterns>(
         &self,
-        graph: &Graph,
-        cache: &mut Cache<usize>,
+        patterns: &P,
+        cache: &mut Cache<Origin>,
         haystack: &str,
         at: &mut Progress,
     ) -> Option<Option<usize>>
-        requires remembers { Remembers graph.now.places (graph.now.start ∷ []) self.now }
+        requires remembers { Remembers (P.table patterns.now) (P.entries patterns.now) self.now }
         requires none { best_of cache.old.best ≡ None }
-        requires stands { (s : ℕ) × Stands (table_of graph.now) (chars haystack.now)
-            (graph.now.start ∷ []) s self.now at.old cache.old }
-        ensures stands { (s : ℕ) → Stands (table_of graph.now) (chars haystack.now)
-            (graph.now.start ∷ []) s self.now at.old cache.old
-            → MatchOption result (Stands (table_of graph.now) (chars haystack.now)
-            (graph.now.start ∷ []) s self.now at.new cache.new)
-            (λ end. IsNumberedEndOf (table_of graph.now) (chars haystack.now)
-            (graph.now.start ∷ []) s (end_told end)) }
+        requires stands { (s : ℕ) × Stands (P.table patterns.now) (chars haystack.now)
+            (P.entries patterns.now) s self.now at.old cache.old }
+        ensures stands { (s : ℕ) → Stands (P.table patterns.now) (chars haystack.now)
+            (P.entries patterns.now) s self.now at.old cache.old
+            → MatchOption result (Stands (P.table patterns.now) (chars haystack.now)
+            (P.entries patterns.now) s self.now at.new cache.new)
+            (λ end. IsNumberedEndOf (P.table patterns.now) (chars haystack.now)
+            (P.entries patterns.now) s (end_told end)) }
         ensures none { best_of cache.new.best ≡ None }
         ensures later { at.old.here.at ≤ at.new.here.at }
         ensures entered { IfSome result (λ _. 0 < cache.new.walk.steps.entered) }
@@ -141,36 +146,36 @@ impl LazyDfa {
             first: at.first,
             best: None,
         };
-        match self.scan_shortest(graph, haystack, from) {
+        match self.scan_shortest(patterns, haystack, from) {
             ScannedEnd::Known(end) => Some(end),
             ScannedEnd::Unknown { at: stuck, idle } => {
-                self.resume(graph, cache, at, stuck, idle);
+                self.resume(patterns, cache, at, stuck, idle);
                 None
             }
         }
     }
 
     /// Goes on while turns are remembered, up to the first that completes a match.
-    fn scan_shortest(&self, graph: &Graph, haystack: &str, from: Standing) -> ScannedEnd
-        requires remembers { Remembers graph.now.places (graph.now.start ∷ []) self.now }
+    fn scan_shortest<P: Patterns>(&self, patterns: &P, haystack: &str, from: Standing) -> ScannedEnd
+        requires remembers { Remembers (P.table patterns.now) (P.entries patterns.now) self.now }
         requires none { from.best ≡ None }
-        requires scanning { (low p : ℕ) × IsScanning (table_of graph.now) (graph.now.start ∷ [])
+        requires scanning { (low p : ℕ) × IsScanning (P.table patterns.now) (P.entries patterns.now)
             (chars haystack.now) low p self.now from }
-        ensures { (low p : ℕ) → IsScanning (table_of graph.now) (graph.now.start ∷ [])
+        ensures { (low p : ℕ) → IsScanning (P.table patterns.now) (P.entries patterns.now)
             (chars haystack.now) low p self.now from
-            → ScansToEnd (table_of graph.now) (graph.now.start ∷ []) (chars haystack.now) low p
+            → ScansToEnd (P.table patterns.now) (P.entries patterns.now) (chars haystack.now) low p
             self.now result }
     {
         let mut at = from;
         'positions: loop {
-            self.run_on_to_match(graph, haystack, &mut at);
-            let Some(on) = self.skip(graph, haystack, at) else {
+            self.run_on_to_match(patterns, haystack, &mut at);
+            let Some(on) = self.skip(patterns, haystack, at) else {
                 return ScannedEnd::Unknown {
                     at,
                     idle: idle_since(haystack, from.first, at.first),
                 };
             };
-            let Some((to, hit)) = self.step_shortest(graph, on) else {
+            let Some((to, hit)) = self.step_shortest(patterns, on) else {
                 return ScannedEnd::Unknown {
                     at: on,
                     idle: idle_since(haystack, from.first, on.first),
@@ -188,13 +193,13 @@ impl LazyDfa {
 
     /// Where the turn from here leads, and whether it completes a match. None where that isn't
     /// known.
-    fn step_shortest(&self, graph: &Graph, at: Standing) -> Option<(u16, bool)>
-        requires remembers { Remembers graph.now.places (graph.now.start ∷ []) self.now }
+    fn step_shortest<P: Patterns>(&self, patterns: &P, at: Standing) -> Option<(u16, bool)>
+        requires remembers { Remembers (P.table patterns.now) (P.entries patterns.now) self.now }
         requires none { at.best ≡ None }
         requires state { at.state < length self.now.states }
-        ensures { (haystack : Text) (low p : ℕ) → IsScanning (table_of graph.now)
-            (graph.now.start ∷ []) haystack low p self.now at
-            → IfSome result (λ told. EndsOrLeads (table_of graph.now) (graph.now.start ∷ [])
+        ensures { (haystack : Text) (low p : ℕ) → IsScanning (P.table patterns.now)
+            (P.entries patterns.now) haystack low p self.now at
+            → IfSome result (λ told. EndsOrLeads (P.table patterns.now) (P.entries patterns.now)
             haystack low p self.now at told.0 told.1) }
     {
         let class = self.classes.class(at.here.after);
@@ -204,8 +209,8 @@ impl LazyDfa {
         }
         match self.states[to as usize].hit {
             Hit::Nowhere => Some((to, false)),
-            Hit::AtFirst => Some((to, true)),
-            Hit::AtLater => Some((to, true)),
+            Hit::AtFirst(_) => Some((to, true)),
+            Hit::AtLater(_) => Some((to, true)),
         }
     }
 }

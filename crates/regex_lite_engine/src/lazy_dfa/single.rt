@@ -11,13 +11,15 @@ ghost use Rattle.regex_lite_engine.specs.Search.Offsets.{position_at};
 ghost use Rattle.regex_lite_engine.specs.Search.Outcomes.{HasCost, IsEndOutcome, IsOutcome};
 ghost use Rattle.regex_lite_engine.specs.Search.Counting.{CanCount};
 ghost use Rattle.regex_lite_engine.specs.Search.NumberedOutcomes.{IsBestOutcomeOf, IsNumberedEndOf};
-ghost use Rattle.regex_lite_engine.specs.Search.NumberedOutcomes.{match_told, best_at};
+ghost use Rattle.regex_lite_engine.specs.Search.NumberedOutcomes.{best_at, match_told, span_of};
 ghost use Rattle.regex_lite_engine.specs.Pikevm.Searching.{IsFresh};
 
 use crate::Graph;
 use crate::lazy_dfa::automaton::LazyDfa;
 use crate::lazy_dfa::run::Progress;
+use crate::pikevm::beginning::Origin;
 use crate::pikevm::cache::{Cache, cache_for};
+use crate::search::one_pattern::OnePattern;
 use crate::search::outcome::Outcome;
 use crate::steps::Steps;
 use std::alloc::{AllocError, Global};
@@ -46,10 +48,10 @@ impl Graph {
             → HasCost tree haystack.now start told.1) }
         ensures entered { IfOk result (λ told. IfSome told.0 (λ _. 0 < told.1.entered)) }
     {
-        let mut cache = cache_for::<usize>(alloc, self.table(), 0)?;
-        let span = self.find_once(alloc, &mut cache, haystack, start);
+        let mut cache = cache_for::<Origin>(alloc, self.table(), 0)?;
+        let found = self.find_once(alloc, &mut cache, haystack, start);
         let Cache { walk, .. } = cache;
-        Ok((without_slots(alloc, span), walk.steps))
+        Ok((without_slots(alloc, found), walk.steps))
     }
 
     /// What [`Graph::search_shortest`] returns, by an automaton if it isn't over soon.
@@ -66,7 +68,7 @@ impl Graph {
             → HasCost tree haystack.now start told.1) }
         ensures entered { IfOk result (λ told. IfSome told.0 (λ _. 0 < told.1.entered)) }
     {
-        let mut cache = cache_for::<usize>(alloc, self.table(), 0)?;
+        let mut cache = cache_for::<Origin>(alloc, self.table(), 0)?;
         let end = self.find_shortest_once(alloc, &mut cache, haystack, start);
         let Cache { walk, .. } = cache;
         Ok((end, walk.steps))
@@ -77,10 +79,10 @@ impl Graph {
     fn find_once(
         &self,
         alloc: Global,
-        cache: &mut Cache<usize>,
+        cache: &mut Cache<Origin>,
         haystack: &str,
         start: usize,
-    ) -> Option<(usize, usize)>
+    ) -> Option<(Origin, usize)>
         requires boundary { IsCharBoundary haystack.now start }
         requires fresh { IsFresh (table_of self.now) cache.old }
         requires counts { CanCount (table_of self.now) 1
@@ -94,17 +96,23 @@ impl Graph {
             cache.new.walk.steps.entered cache.new.walk.steps.looked }
         ensures entered { IfSome result (λ _. 0 < cache.new.walk.steps.entered) }
     {
+        // Its place is one of the graph.
+        let _start = self.start();
+        let pattern = OnePattern {
+            graph: self,
+            may_start: true,
+        };
         let begun = Progress::begun(haystack, start);
-        let Some(at) = cache.take_turns(self, haystack, begun, Some(TURNS_WITHOUT)) else {
-            return cache.best.span();
+        let Some(at) = cache.take_turns(&pattern, haystack, begun, Some(TURNS_WITHOUT)) else {
+            return cache.best.found();
         };
         let Some(mut dfa) = LazyDfa::for_graph(alloc, self) else {
-            cache.take_turns(self, haystack, at, None);
-            return cache.best.span();
+            cache.take_turns(&pattern, haystack, at, None);
+            return cache.best.found();
         };
-        let state = dfa.state_at(self, at, cache);
+        let state = dfa.state_at(&pattern, at, cache);
         let known = at.with_state(state);
-        dfa.find_from(self, cache, haystack, known, 1)
+        dfa.find_from(&pattern, cache, haystack, known, 1)
     }
 
     /// The end of the first match that a search by itself comes to. The search gets an automaton if
@@ -112,7 +120,7 @@ impl Graph {
     fn find_shortest_once(
         &self,
         alloc: Global,
-        cache: &mut Cache<usize>,
+        cache: &mut Cache<Origin>,
         haystack: &str,
         start: usize,
     ) -> Option<usize>
@@ -129,27 +137,33 @@ impl Graph {
             cache.new.walk.steps.entered cache.new.walk.steps.looked }
         ensures entered { IfSome result (λ _. 0 < cache.new.walk.steps.entered) }
     {
+        // Its place is one of the graph.
+        let _start = self.start();
+        let pattern = OnePattern {
+            graph: self,
+            may_start: true,
+        };
         let begun = Progress::begun(haystack, start);
-        let Some(at) = cache.take_turns_to_end(self, haystack, begun, Some(TURNS_WITHOUT)) else {
+        let Some(at) = cache.take_turns_to_end(&pattern, haystack, begun, Some(TURNS_WITHOUT)) else {
             return cache.best.end();
         };
         let Some(mut dfa) = LazyDfa::for_graph(alloc, self) else {
-            cache.take_turns_to_end(self, haystack, at, None);
+            cache.take_turns_to_end(&pattern, haystack, at, None);
             return cache.best.end();
         };
-        let state = dfa.state_at(self, at, cache);
+        let state = dfa.state_at(&pattern, at, cache);
         let known = at.with_state(state);
-        dfa.find_shortest_from(self, cache, haystack, known)
+        dfa.find_shortest_from(&pattern, cache, haystack, known)
     }
 }
 
-/// The match with this span.
-fn without_slots(alloc: Global, span: Option<(usize, usize)>) -> Option<Outcome>
-    ensures told { match_told result ≡ best_at span [] }
+/// The match that starts and ends there.
+fn without_slots(alloc: Global, found: Option<(Origin, usize)>) -> Option<Outcome>
+    ensures told { match_told result ≡ best_at (span_of found) [] }
 {
-    let (start, end) = span?;
+    let (origin, end) = found?;
     Some(Outcome {
-        start,
+        start: origin.at,
         end,
         slots: Vec::new(alloc),
     })

@@ -6,7 +6,7 @@ ghost use Rattle.regex_lite_engine.specs.Graph.Stored.{StoredGraph, table_of};
 ghost use Rattle.regex_lite_engine.specs.Graph.NoLooks.{HasNoLooks};
 ghost use Rattle.regex_lite_engine.specs.LazyDfa.Remembering.{FindsSpansIn, IsKnown};
 ghost use Rattle.regex_lite_engine.specs.LazyDfa.Remembering.{NoneStartsBefore, RemembersAll};
-ghost use Rattle.regex_lite_engine.specs.LazyDfa.Scanning.{best_told};
+ghost use Rattle.regex_lite_engine.specs.LazyDfa.Scanning.{span_told};
 ghost use Rattle.regex_lite_engine.specs.Search.Offsets.{position_at};
 ghost use Rattle.regex_lite_engine.specs.Search.NumberedAnswer.{IsNumberedAnswer};
 ghost use Rattle.regex_lite_engine.specs.Search.NumberedOutcomes.{IsBestOutcomeOf};
@@ -18,15 +18,17 @@ use crate::backtrack::short::ShortSearcher;
 use crate::lazy_dfa::automaton::LazyDfa;
 use crate::lazy_dfa::remembering::begins_rarely;
 use crate::lazy_dfa::trial::Trial;
-use crate::pikevm::best::Best;
+use crate::pikevm::beginning::Origin;
+use crate::pikevm::best::{Best, span_of};
 use crate::pikevm::cache::{Cache, cache_for, restart};
+use crate::search::one_pattern::OnePattern;
 use std::alloc::Global;
 
 /// An automaton, and the memory of the searches whose turns it remembers.
 #[derive(Drop)]
 pub(crate) struct SpanSearcher {
     dfa: LazyDfa,
-    cache: Cache<usize>,
+    cache: Cache<Origin>,
     trial: Trial,
     /// Finds the slots of short matches, if the graph has no looks.
     short: Option<ShortSearcher>,
@@ -70,12 +72,18 @@ impl SpanSearcher {
         requires boundary { IsCharBoundary haystack.now start }
         requires finds { (slots : ℕ) × FindsSpansIn graph.now slots self.old }
         ensures found { IsBestOutcomeOf (table_of graph.now) (chars haystack.now)
-            (graph.now.start ∷ []) (position_at haystack.now start) (best_told result) }
+            (graph.now.start ∷ []) (position_at haystack.now start) (span_told result) }
         ensures finds { (slots : ℕ) → FindsSpansIn graph.now slots self.old
             → FindsSpansIn graph.now slots self.new }
     {
         restart(&mut self.cache);
-        self.dfa.find(graph, &mut self.cache, haystack, start, 0)
+        // Its place is one of the graph.
+        let _start = graph.start();
+        let pattern = OnePattern {
+            graph,
+            may_start: true,
+        };
+        span_of(self.dfa.find(&pattern, &mut self.cache, haystack, start, 0))
     }
 
     /// Sets the row to the slots of the match between these offsets, if they can be found depth
@@ -85,14 +93,14 @@ impl SpanSearcher {
         graph: &Graph,
         haystack: &str,
         span: (usize, usize),
-        best: &mut Best<usize>,
+        best: &mut Best<Origin>,
     ) -> Option<((usize, usize), u128)>
         requires finds { FindsSpansIn graph.now (length best.old.row) self.old }
         requires known { (s : ℕ) × IsBestOutcomeOf (table_of graph.now) (chars haystack.now)
-            (graph.now.start ∷ []) s (best_told (Some span)) }
+            (graph.now.start ∷ []) s (span_told (Some span)) }
         ensures finds { FindsSpansIn graph.now (length best.new.row) self.new }
         ensures found { (s : ℕ) → IsBestOutcomeOf (table_of graph.now) (chars haystack.now)
-            (graph.now.start ∷ []) s (best_told (Some span))
+            (graph.now.start ∷ []) s (span_told (Some span))
             → IfSome result (λ told. IsNumberedOutcome (table_of graph.now)
             (chars haystack.now) graph.now.start s (best_at (Some told.0) best.new.row)) }
         ensures same { best.new ≡ record best.old { row = best.new.row } }
@@ -168,7 +176,7 @@ pub(crate) fn find_slots(
     graph: &Graph,
     haystack: &str,
     passed: Passed,
-    best: &mut Best<usize>,
+    best: &mut Best<Origin>,
 ) -> Option<((usize, usize), u128)>
     requires finds { IfSome spans.old
         (λ boxed. FindsSpansIn graph.now (length best.old.row) boxed.value) }
@@ -198,17 +206,17 @@ fn find_short(
     graph: &Graph,
     haystack: &str,
     span: (usize, usize),
-    best: &mut Best<usize>,
+    best: &mut Best<Origin>,
 ) -> Option<((usize, usize), u128)>
     requires searches { SearchesShort graph.now short.old }
     requires width { length short.old.walk.stack.row ≡ length best.old.row }
     requires no_looks { HasNoLooks (table_of graph.now) }
     requires known { (s : ℕ) × IsBestOutcomeOf (table_of graph.now) (chars haystack.now)
-        (graph.now.start ∷ []) s (best_told (Some span)) }
+        (graph.now.start ∷ []) s (span_told (Some span)) }
     ensures searches { SearchesShort graph.now short.new }
     ensures row { length short.new.walk.stack.row ≡ length short.old.walk.stack.row }
     ensures found { (s : ℕ) → IsBestOutcomeOf (table_of graph.now) (chars haystack.now)
-        (graph.now.start ∷ []) s (best_told (Some span))
+        (graph.now.start ∷ []) s (span_told (Some span))
         → IfSome result (λ told. IsNumberedOutcome (table_of graph.now)
         (chars haystack.now) graph.now.start s (best_at (Some told.0) best.new.row)) }
     ensures same { best.new ≡ record best.old { row = best.new.row } }

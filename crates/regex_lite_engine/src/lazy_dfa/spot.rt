@@ -1,7 +1,6 @@
 //! Scans that go by offsets, without the characters beside them.
-ghost use Rattle.std.specs.Prelude.{◌≡◌, ◌+◌, ◌<◌, ◌≤◌, ◌∷◌, [], ℕ, IfSome, IsCharBoundary, IsTrue};
+ghost use Rattle.std.specs.Prelude.{◌≡◌, ◌+◌, ◌<◌, ◌≤◌, [], ℕ, IfSome, IsCharBoundary, IsTrue};
 ghost use Rattle.std.specs.Prelude.{None, Some, chars, false, true, length, slice_get};
-ghost use Rattle.regex_lite_engine.specs.Graph.Stored.{table_of};
 ghost use Rattle.regex_lite_engine.specs.LazyDfa.Automaton.{Remembers, State};
 ghost use Rattle.regex_lite_engine.specs.LazyDfa.Intervals.{IsInterval};
 ghost use Rattle.regex_lite_engine.specs.LazyDfa.Scanning.{best_told, IsScanning, IsSince};
@@ -11,13 +10,14 @@ ghost use Rattle.regex_lite_engine.specs.Search.Offsets.{position_at};
 ghost use Rattle.regex_lite_engine.specs.Search.Standing.{IsHere};
 ghost use Rattle.regex_lite_engine.specs.Search.NumberedOutcomes.{IsBestOutcomeOf};
 
-use crate::Graph;
 use crate::lazy_dfa::automaton::{LazyDfa, UNKNOWN};
 use crate::lazy_dfa::classes::Ahead;
 use crate::lazy_dfa::interval::Interval;
 use crate::lazy_dfa::scan::Standing;
 use crate::lazy_dfa::state::Hit;
+use crate::pikevm::beginning::Origin;
 use crate::search::here::Here;
+use crate::search::patterns::Patterns;
 
 /// Where a scan stands between two turns. What changes less often is left in its [`Standing`], so
 /// that a turn moves little.
@@ -56,24 +56,24 @@ impl LazyDfa {
     /// Returns whether nothing leads on from the last match, which is the answer then.
     // Not inlined, since what an inlined one needs is cleared each time.
     #[inline(never)]
-    pub(super) fn run(&self, graph: &Graph, haystack: &str, at: &mut Standing) -> bool
-        requires remembers { Remembers graph.now.places (graph.now.start ∷ []) self.now }
-        requires scanning { (low p : ℕ) × IsScanning (table_of graph.now) (graph.now.start ∷ [])
+    pub(super) fn run<P: Patterns>(&self, patterns: &P, haystack: &str, at: &mut Standing) -> bool
+        requires remembers { Remembers (P.table patterns.now) (P.entries patterns.now) self.now }
+        requires scanning { (low p : ℕ) × IsScanning (P.table patterns.now) (P.entries patterns.now)
             (chars haystack.now) low p self.now at.old }
-        ensures over { result ≡ true → (low p : ℕ) → IsScanning (table_of graph.now)
-            (graph.now.start ∷ []) (chars haystack.now) low p self.now at.old
-            → IsBestOutcomeOf (table_of graph.now) (chars haystack.now) (graph.now.start ∷ []) low
+        ensures over { result ≡ true → (low p : ℕ) → IsScanning (P.table patterns.now)
+            (P.entries patterns.now) (chars haystack.now) low p self.now at.old
+            → IsBestOutcomeOf (P.table patterns.now) (chars haystack.now) (P.entries patterns.now) low
             (best_told at.new.best) }
-        ensures on { result ≡ false → (low p : ℕ) → IsScanning (table_of graph.now)
-            (graph.now.start ∷ []) (chars haystack.now) low p self.now at.old
-            → (q : ℕ) × (p ≤ q) × IsScanning (table_of graph.now) (graph.now.start ∷ [])
+        ensures on { result ≡ false → (low p : ℕ) → IsScanning (P.table patterns.now)
+            (P.entries patterns.now) (chars haystack.now) low p self.now at.old
+            → (q : ℕ) × (p ≤ q) × IsScanning (P.table patterns.now) (P.entries patterns.now)
             (chars haystack.now) low q self.now at.new
-            × IsSince (table_of graph.now) (graph.now.start ∷ []) (chars haystack.now) low p
+            × IsSince (P.table patterns.now) (P.entries patterns.now) (chars haystack.now) low p
             at.old.first at.new.first }
     {
         let mut near = Interval::none();
         let mut spot = Spot::of(at);
-        'turns: while let Some(turn) = self.turn(graph, haystack, spot, &mut near) {
+        'turns: while let Some(turn) = self.turn(patterns, haystack, spot, &mut near) {
             match self.take(spot, turn, at) {
                 Step::On(on) => spot = on,
                 Step::Over => return true,
@@ -87,21 +87,21 @@ impl LazyDfa {
     /// Like `run`, up to the first match that ends, if there is none yet.
     // Not inlined, since what an inlined one needs is cleared each time.
     #[inline(never)]
-    pub(super) fn run_to_match(&self, graph: &Graph, haystack: &str, at: &mut Standing)
-        requires remembers { Remembers graph.now.places (graph.now.start ∷ []) self.now }
-        requires scanning { (low p : ℕ) × IsScanning (table_of graph.now) (graph.now.start ∷ [])
+    pub(super) fn run_to_match<P: Patterns>(&self, patterns: &P, haystack: &str, at: &mut Standing)
+        requires remembers { Remembers (P.table patterns.now) (P.entries patterns.now) self.now }
+        requires scanning { (low p : ℕ) × IsScanning (P.table patterns.now) (P.entries patterns.now)
             (chars haystack.now) low p self.now at.old }
-        ensures on { (low p : ℕ) → IsScanning (table_of graph.now) (graph.now.start ∷ [])
+        ensures on { (low p : ℕ) → IsScanning (P.table patterns.now) (P.entries patterns.now)
             (chars haystack.now) low p self.now at.old
-            → (q : ℕ) × (p ≤ q) × IsScanning (table_of graph.now) (graph.now.start ∷ [])
+            → (q : ℕ) × (p ≤ q) × IsScanning (P.table patterns.now) (P.entries patterns.now)
             (chars haystack.now) low q self.now at.new
-            × IsSince (table_of graph.now) (graph.now.start ∷ []) (chars haystack.now) low p
+            × IsSince (P.table patterns.now) (P.entries patterns.now) (chars haystack.now) low p
             at.old.first at.new.first }
         ensures none { at.new.best ≡ at.old.best }
     {
         let mut near = Interval::none();
         let mut spot = Spot::of(at);
-        'turns: while let Some(turn) = self.turn(graph, haystack, spot, &mut near) {
+        'turns: while let Some(turn) = self.turn(patterns, haystack, spot, &mut near) {
             if self.is_hit(turn.to) {
                 break;
             }
@@ -115,12 +115,12 @@ impl LazyDfa {
 
     /// The turn from there, if it is remembered. None at the end of the haystack.
     #[inline(always)]
-    fn turn(&self, graph: &Graph, haystack: &str, spot: Spot, near: &mut Interval) -> Option<Turn>
-        requires remembers { Remembers graph.now.places (graph.now.start ∷ []) self.now }
+    fn turn<P: Patterns>(&self, patterns: &P, haystack: &str, spot: Spot, near: &mut Interval) -> Option<Turn>
+        requires remembers { Remembers (P.table patterns.now) (P.entries patterns.now) self.now }
         requires boundary { IsCharBoundary haystack.now spot.at }
         requires state { spot.state < length self.now.states }
         requires near { IsInterval self.now.intervals.boundaries near.old }
-        ensures turn { IfSome result (IsTurn (table_of graph.now) (graph.now.start ∷ []) self.now
+        ensures turn { IfSome result (IsTurn (P.table patterns.now) (P.entries patterns.now) self.now
             haystack.now spot.at spot.state) }
         ensures near { IsInterval self.now.intervals.boundaries near.new }
     {
@@ -155,11 +155,15 @@ impl LazyDfa {
             });
         }
         let hit = self.hit(to);
-        if let Hit::AtLater = hit {
+        if let Hit::AtLater(_) = hit {
             return Step::Stuck;
         }
-        if let Hit::AtFirst = hit {
-            at.best = Some((at.first, spot.at));
+        if let Hit::AtFirst(number) = hit {
+            let origin = Origin {
+                at: at.first,
+                number,
+            };
+            at.best = Some((origin, spot.at));
         }
         if self.is_empty(to) {
             return self.take_to_nothing(spot, turn, at);
@@ -237,7 +241,7 @@ impl LazyDfa {
     {
         match self.hit(x) {
             Hit::Nowhere => false,
-            Hit::AtFirst | Hit::AtLater => true,
+            Hit::AtFirst(_) | Hit::AtLater(_) => true,
         }
     }
 }

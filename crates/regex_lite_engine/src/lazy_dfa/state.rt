@@ -4,20 +4,22 @@ ghost use Rattle.regex_lite_engine.specs.LazyDfa.Stored.{way_in};
 
 use crate::lazy_dfa::side::Side;
 
-/// A place to go on from, and whether the way to it began at the first start.
+/// A place to go on from, whether the way to it began at the first start, and the number of its
+/// pattern.
 #[derive(Clone, Copy)]
 pub(crate) struct StoredWay {
     pub place: u32,
+    pub number: u32,
     pub is_first: bool,
 }
 
-/// Where the way began by which a match was complete.
+/// Where the way began by which a match was complete, with the number of its pattern.
 #[derive(Clone, Copy)]
 pub(crate) enum Hit {
     /// None was.
     Nowhere,
-    AtFirst,
-    AtLater,
+    AtFirst(u32),
+    AtLater(u32),
 }
 
 /// What a search goes on with between two characters, whatever the haystack.
@@ -46,11 +48,22 @@ pub(crate) fn are_same(ways: &[StoredWay], others: &[StoredWay]) -> bool
         return false;
     }
     'ways: for k in 0..ways.len() {
-        if ways[k].place != others[k].place || ways[k].is_first != others[k].is_first {
+        if !ways[k].is(others[k]) {
             return false;
         }
     }
     true
+}
+
+impl StoredWay {
+    /// Whether they are the same.
+    fn is(self, other: StoredWay) -> bool
+        ensures { result ≡ true → self ≡ other }
+    {
+        self.place == other.place
+            && self.number == other.number
+            && self.is_first == other.is_first
+    }
 }
 
 impl StoredState {
@@ -71,8 +84,14 @@ impl Hit {
     {
         match self {
             Hit::Nowhere => matches!(other, Hit::Nowhere),
-            Hit::AtFirst => matches!(other, Hit::AtFirst),
-            Hit::AtLater => matches!(other, Hit::AtLater),
+            Hit::AtFirst(number) => match other {
+                Hit::AtFirst(of_other) => number == of_other,
+                _ => false,
+            },
+            Hit::AtLater(number) => match other {
+                Hit::AtLater(of_other) => number == of_other,
+                _ => false,
+            },
         }
     }
 }

@@ -11,7 +11,8 @@ use crate::Graph;
 use crate::lazy_dfa::automaton::LazyDfa;
 use crate::lazy_dfa::remembering::{pays, pays_with_slots};
 use crate::lazy_dfa::spans::{SpanSearcher, find_slots, pass_to_match, weigh};
-use crate::pikevm::beginning::Beginning;
+use crate::pikevm::beginning::Origin;
+use crate::pikevm::best::span_of;
 use crate::pikevm::cache::{Cache, cache_for, restart};
 use crate::pikevm::run::run;
 use crate::search::one_pattern::OnePattern;
@@ -23,7 +24,7 @@ use std::marker::Model;
 #[derive(Drop)]
 pub struct Searcher<'g> {
     graph: &'g Graph,
-    cache: Cache<usize>,
+    cache: Cache<Origin>,
     /// What is remembered of the turns of earlier searches, if no slots are kept and it pays.
     dfa: Option<Box<LazyDfa>>,
     /// What passes over the text before a match, if slots are kept and it pays.
@@ -106,7 +107,13 @@ impl<'g> Searcher<'g> {
         }
         restart(&mut self.cache);
         if let Some(dfa) = &mut self.dfa {
-            return dfa.find(self.graph, &mut self.cache, haystack, start, 0);
+            // Its place is one of the graph.
+            let _start = self.graph.start();
+            let pattern = OnePattern {
+                graph: self.graph,
+                may_start: true,
+            };
+            return span_of(dfa.find(&pattern, &mut self.cache, haystack, start, 0));
         }
         let passed = pass_to_match(&mut self.spans, self.graph, haystack, start)?;
         let best = &mut self.cache.best;
@@ -125,7 +132,7 @@ impl<'g> Searcher<'g> {
             may_start: false,
         };
         run(&mut self.cache, &mut pattern, haystack, passed.from);
-        let found = self.cache.best.span();
+        let found = span_of(self.cache.best.found());
         weigh(&mut self.spans, found, self.cache.walk.steps.tried());
         found
     }

@@ -1,5 +1,6 @@
 //! The best match that a search has found so far.
 ghost use Rattle.std.specs.Prelude.{◌≡◌, ◌↔◌, IfOk, IfSome, IsTrue, None, Some, length, option_map};
+ghost use Rattle.regex_lite_engine.specs.Search.NumberedOutcomes.{span_of};
 
 use crate::pikevm::beginning::{Beginning, Origin};
 use crate::pikevm::slot::Slot;
@@ -91,15 +92,8 @@ impl<S: Beginning> Best<S> {
 
 impl Best<usize> {
     ghost use Rattle.regex_lite_engine.specs.Pikevm.Turns.{best_of};
-    ghost use Rattle.regex_lite_engine.specs.Search.NumberedOutcomes.{best_at, match_told};
+    ghost use Rattle.regex_lite_engine.specs.Search.NumberedOutcomes.{match_told};
     ghost use Rattle.regex_lite_engine.specs.Search.NumberedOutcomes.{with_start_kept};
-
-    /// Where it starts and where it ends.
-    pub fn span(&self) -> Option<(usize, usize)>
-        ensures { best_of self.now ≡ with_start_kept (best_at result self.now.row) }
-    {
-        self.found
-    }
 
     /// The match by itself, with its row.
     pub fn into_outcome(self) -> Option<Outcome>
@@ -119,9 +113,17 @@ impl Best<usize> {
 }
 
 impl Best<Origin> {
+    ghost use Rattle.regex_lite_engine.specs.Search.NumberedOutcomes.{best_kept};
     ghost use Rattle.regex_lite_engine.specs.Search.NumberedOutcomes.{numbered_at, numbered_told};
     ghost use Rattle.regex_lite_engine.specs.Search.NumberedOutcomes.{with_origin_kept};
     ghost use Rattle.regex_lite_engine.specs.Pikevm.Turns.{best_of};
+
+    /// Where it starts, with the number of its pattern, and where it ends.
+    pub fn found(&self) -> Option<(Origin, usize)>
+        ensures { best_of self.now ≡ best_kept result self.now.row }
+    {
+        self.found
+    }
 
     /// The number of its pattern, and where it starts and where it ends.
     pub fn numbered_span(&self) -> Option<(usize, (usize, usize))>
@@ -146,6 +148,14 @@ impl Best<Origin> {
         };
         Some((origin.number as usize, outcome))
     }
+}
+
+/// Where the match starts and where it ends.
+pub(crate) fn span_of(found: Option<(Origin, usize)>) -> Option<(usize, usize)>
+    ensures { result ≡ span_of found }
+{
+    let (origin, end) = found?;
+    Some((origin.at, end))
 }
 
 /// Writes what each slot holds.

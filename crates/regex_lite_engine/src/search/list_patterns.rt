@@ -64,6 +64,10 @@ impl<'g> Patterns for ListPatterns<'g> {
         pass_over_all(self.list, haystack, here)
     }
 
+    fn has_prefilter(&self) -> bool {
+        false
+    }
+
     fn come_to(&mut self, haystack: &str, here: Here) {
         // Each has a number of 32 bits, since there are no more.
         let _entries = self.list.entries();

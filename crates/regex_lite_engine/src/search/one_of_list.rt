@@ -55,6 +55,10 @@ impl<'g> Patterns for OneOfList<'g> {
         pass_over_one(self.list, self.number, haystack, here)
     }
 
+    fn has_prefilter(&self) -> bool {
+        false
+    }
+
     fn come_to(&mut self, haystack: &str, here: Here) {
         self.may_start = may_start(self.list, self.number, haystack, here);
     }

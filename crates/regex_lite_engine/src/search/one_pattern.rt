@@ -33,6 +33,10 @@ impl<'g> Patterns for OnePattern<'g> {
         pass_over(self.graph.filter(), haystack, here)
     }
 
+    fn has_prefilter(&self) -> bool {
+        self.graph.filter().prefilter().is_some()
+    }
+
     fn come_to(&mut self, _: &str, here: Here) {
         let heads = self.graph.filter().heads();
         self.may_start = heads.first.may_begin(here.before, here.after);

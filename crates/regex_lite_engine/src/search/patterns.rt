@@ -42,6 +42,9 @@ pub trait Patterns {
             → PassesTo (AreDeadAt (table self.now) (chars haystack.now) (entries self.now))
             (chars haystack.now) p result };
 
+    /// Whether the positions that are passed over are found many bytes at a time.
+    fn has_prefilter(&self) -> bool;
+
     /// Comes to a position: finds the patterns that may start there.
     fn come_to(&mut self, haystack: &str, here: Here)
         requires { (p : ℕ) × IsHere (chars haystack.now) p here }

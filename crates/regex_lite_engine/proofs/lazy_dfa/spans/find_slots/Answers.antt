@@ -1,7 +1,7 @@
 use Rattle.std.proofs.Common.{◌∷◌, [], ℕ, Option, Some, subst}
 use Rattle.std.specs.Prelude.{IfSome, chars}
 use Rattle.regex_lite_engine.specs.Graph.Stored.{table_of}
-use Rattle.regex_lite_engine.specs.LazyDfa.Scanning.{best_told}
+use Rattle.regex_lite_engine.specs.LazyDfa.Scanning.{span_told}
 use Rattle.regex_lite_engine.specs.Search.NumberedOutcomes.{IsBestOutcomeOf}
 use Rattle.regex_lite_engine.proofs.lazy_dfa.spans.find_slots.Goals as goal
 
@@ -11,4 +11,4 @@ returns-in-Some-spans-clause-found c = λ s known.
     c.find_known.ensures.found s
     (subst (λ (to : Option ℕ). IfSome to (λ end.
     IsBestOutcomeOf (table_of graph) (chars c.args.haystack.now) (graph.start ∷ []) s
-    (best_told (Some (c.args.passed.from, end))))) c.in-Some.is known)
+    (span_told (Some (c.args.passed.from, end))))) c.in-Some.is known)

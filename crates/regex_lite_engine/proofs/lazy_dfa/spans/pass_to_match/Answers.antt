@@ -2,7 +2,7 @@ use Rattle.std.proofs.Common.{ℕ, List, [], ◌∷◌, Some, None, sym, subst}
 use Rattle.std.specs.Prelude.{IsCharBoundary, IsUtf8, chars}
 use Rattle.regex_lite_engine.specs.Graph.Stored.{StoredGraph, table_of}
 use Rattle.regex_lite_engine.specs.LazyDfa.Remembering.{NoneStartsBefore}
-use Rattle.regex_lite_engine.specs.LazyDfa.Scanning.{best_told}
+use Rattle.regex_lite_engine.specs.LazyDfa.Scanning.{span_told}
 use Rattle.regex_lite_engine.specs.Search.Answer.{Found}
 use Rattle.regex_lite_engine.specs.Search.Offsets.{position_at, IsOffset}
 use Rattle.regex_lite_engine.specs.Search.NumberedAnswer.{IsNumberedFound}
@@ -15,13 +15,13 @@ use Rattle.regex_lite_engine.proofs.lazy_dfa.spans.pass_to_match.Goals as goal
 module _ (graph : StoredGraph) (haystack : List ℕ) (utf8 : IsUtf8 haystack) (s : ℕ)
     (span : ℕ × ℕ)
     (is : IsBestOutcomeOf (table_of graph) (chars haystack) (graph.start ∷ []) s
-    (best_told (Some span))) where
+    (span_told (Some span))) where
   -- what is found begins at the span's start
   found_at : (found : Found) × IsNumberedFound (table_of graph) (chars haystack) graph.start s found
       × IsOffset (chars haystack) found.start span.0
   found_at =
       let best =
-      one_best (table_of graph) (chars haystack) graph.start s (best_told (Some span)) is in
+      one_best (table_of graph) (chars haystack) graph.start s (span_told (Some span)) is in
       (best.0, best.1, (best.1.inside, best.2))
 
   boundary : IsCharBoundary haystack span.0

@@ -2,7 +2,6 @@ use Rattle.std.proofs.Common.{rules, ◌≡◌, false, Option, None, Some}
 use Rattle.std.specs.Prelude.{IfSome}
 use Rattle.regex_lite_engine.specs.Graph.NoLooks.{HasNoLooks}
 use Rattle.regex_lite_engine.specs.Graph.Stored.{table_of}
-use Rattle.regex_lite_engine.proofs.lazy_dfa.NoLookLemmas.{no_looks}
 use Rattle.regex_lite_engine.proofs.lazy_dfa.spans.short_for.Goals as goal
 
 whatever : {A P : Type 0} (found : Option A) → P → IfSome found (λ _. P)
@@ -13,5 +12,5 @@ pub returns-in-Ok-clause-no_looks : goal.returns-in-Ok-clause-no_looks
 returns-in-Ok-clause-no_looks c =
     let none : c.args.dfa.now.intervals.looks ≡ false = search rules in
     let known : HasNoLooks (table_of c.args.graph.now) =
-    no_looks c.args.graph.now.places c.args.dfa.now.intervals c.requires.remembers.intervals none in
+    c.requires.remembers.intervals.no_looks none in
     whatever c.in-Ok.made known

@@ -3,7 +3,7 @@ use Rattle.std.specs.Prelude.{chars}
 use Rattle.regex_lite_engine.specs.Graph.Stored.{table_of}
 use Rattle.regex_lite_engine.specs.Search.Offsets.{position_at}
 use Rattle.regex_lite_engine.specs.Pikevm.Turns.{best_of}
-use Rattle.regex_lite_engine.proofs.lazy_dfa.OnceLemmas.{empty, known_stands, span_told}
+use Rattle.regex_lite_engine.proofs.lazy_dfa.OnceLemmas.{empty, found_told, known_stands}
 use Rattle.regex_lite_engine.proofs.lazy_dfa.RunLemmas.{bounded_on, match_counted}
 use Rattle.regex_lite_engine.proofs.nfa.Graph.find_once.Goals as goal
 
@@ -12,7 +12,7 @@ take_turns-requires c =
     let s = position_at c.args.haystack.now c.args.start in
     let begun = c.begun-begun.ensures (table_of c.args.self.now)
     (c.args.self.now.start ∷ []) empty c.args.cache.now c.requires.fresh c.requires.width in
-    record { stands = (s, empty, c.requires.counts, begun) }
+    record { all = all_of_one table start inside; stands = (s, empty, c.requires.counts, begun) }
 
 pub returns-in_default : goal.returns-in_default
 returns-in_default c =
@@ -28,12 +28,12 @@ returns-in_default c =
     let last = begun.is.inside in
     record {
       found =
-          span_told table h entries s on.0 now c.span.result on.2 c.span.ensures
+          found_told table h entries s on.0 now c.found.result on.2 c.found.ensures
           (c.in_default.ensures.over s empty begun refl);
       bounded = bounded_on table h entries s on.0 now (omega (arith, first, last)) on.1 on.2;
       entered =
-          match_counted (best_of now.best) c.span.result now.best.row now.walk.steps.entered 1
-          c.span.ensures on.2.ready.match_entered (omega arith);
+          match_counted (best_of now.best) c.found.result now.best.row now.walk.steps.entered 1
+          c.found.ensures on.2.ready.match_entered (omega arith);
     }
 
 pub take_turns-requires-in_default-for_graph : goal.take_turns-requires-in_default-for_graph
@@ -42,7 +42,7 @@ take_turns-requires-in_default-for_graph c =
     let begun = c.begun-begun.ensures (table_of c.args.self.now)
     (c.args.self.now.start ∷ []) empty c.args.cache.now c.requires.fresh c.requires.width in
     let stands = c.in-Some.ensures.stands s empty begun in
-    record { stands = (s, empty, c.requires.counts, stands) }
+    record { all = all_of_one table start inside; stands = (s, empty, c.requires.counts, stands) }
 
 pub returns-in_default-for_graph : goal.returns-in_default-for_graph
 returns-in_default-for_graph c =
@@ -55,13 +55,13 @@ returns-in_default-for_graph c =
     let stands = c.in-Some.ensures.stands s empty begun in
     let turns = c.take_turns-in_default-for_graph.ensures in
     let now = c.take_turns-in_default-for_graph.new.self in
-    let span = c.span-in_default-for_graph in
+    let span = c.found-in_default-for_graph in
     let on = turns.on s empty stands in
     let first = begun.on.low in
     let last = begun.is.inside in
     record {
       found =
-          span_told table h entries s on.0 now span.result on.2 span.ensures
+          found_told table h entries s on.0 now span.result on.2 span.ensures
           (turns.over s empty stands (turns.all refl));
       bounded = bounded_on table h entries s on.0 now (omega (arith, first, last)) on.1 on.2;
       entered =

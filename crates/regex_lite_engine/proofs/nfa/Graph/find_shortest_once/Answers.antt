@@ -15,7 +15,7 @@ take_turns_to_end-requires c =
     let s = position_at c.args.haystack.now c.args.start in
     let begun = c.begun-begun.ensures (table_of c.args.self.now)
     (c.args.self.now.start ∷ []) empty c.args.cache.now c.requires.fresh c.requires.width in
-    record { stands = (s, empty, c.requires.counts, begun); none = c.requires.fresh.none }
+    record { all = all_of_one table start inside; stands = (s, empty, c.requires.counts, begun); none = c.requires.fresh.none }
 
 pub returns-in_default : goal.returns-in_default
 returns-in_default c =

@@ -1,7 +1,6 @@
-use Rattle.std.proofs.Common.{rules, ◌≡◌, ◌∷◌, [], None, sym, subst, arith}
+use Rattle.std.proofs.Common.{rules, ◌≡◌, None, sym, subst, arith}
 use Rattle.std.specs.Prelude.{chars}
 use Rattle.std.proofs.lemmas.List.{nil_from_length}
-use Rattle.regex_lite_engine.specs.Graph.Stored.{table_of}
 use Rattle.regex_lite_engine.specs.LazyDfa.Learning.{IsFirstStart}
 use Rattle.regex_lite_engine.specs.Search.Standing.{IsHere}
 use Rattle.regex_lite_engine.specs.Pikevm.Turns.{best_of}
@@ -10,12 +9,12 @@ use Rattle.regex_lite_engine.proofs.lazy_dfa.RunLemmas.{own_first, passed_over}
 use Rattle.regex_lite_engine.proofs.lazy_dfa.automaton.LazyDfa.at_idle.Goals as goal
 
 pub returns-clause-remembers : goal.returns-clause-remembers
-returns-clause-remembers c =
-    c.idle_state-state.ensures.remembers c.args.graph.now.places
-    (c.args.graph.now.start ∷ []) c.requires.remembers
+returns-clause-remembers g c =
+    c.idle_state-state.ensures.remembers (g.P.Patterns.table c.args.patterns.now)
+    (g.P.Patterns.entries c.args.patterns.now) c.requires.remembers
 
 pub returns-in-Some-clause-stands : goal.returns-in-Some-clause-stands
-returns-in-Some-clause-stands c = λ s stands.
+returns-in-Some-clause-stands g c = λ s stands.
     let a = c.args in
     let few = c.if-threads-gt0.false in
     let same = c.threads.ensures.same in
@@ -37,7 +36,7 @@ returns-in-Some-clause-stands c = λ s stands.
     }
 
 pub returns-clause-stands : goal.returns-clause-stands
-returns-clause-stands c = λ s stands.
+returns-clause-stands g c = λ s stands.
     let a = c.args in
     let passes = c.leave_idle-here.ensures stands.p stands.is in
     let few = c.if-threads-gt0.false in
@@ -48,8 +47,8 @@ returns-clause-stands c = λ s stands.
       p = passes.q;
       is = passes.is;
       on =
-          passed_over (table_of c.args.graph.now) (chars c.args.haystack.now)
-          (c.args.graph.now.start ∷ []) s stands.p a.cache.now c.leave_idle-here.result stands.on
+          passed_over (g.P.Patterns.table c.args.patterns.now) (chars c.args.haystack.now)
+          (g.P.Patterns.entries c.args.patterns.now) s stands.p a.cache.now c.leave_idle-here.result stands.on
           none no_match passes;
       first = omega arith;
       own = own_first c.leave_idle-here.result.at a.cache.now.walk.memory.threads none;
@@ -60,7 +59,7 @@ returns-clause-stands c = λ s stands.
     }
 
 pub returns-clause-later : goal.returns-clause-later
-returns-clause-later c =
+returns-clause-later g c =
     let stands = c.requires.stands.1 in
     let passes = c.leave_idle-here.ensures stands.p stands.is in
     at_later (chars c.args.haystack.now) stands.p passes.q c.args.at.here c.leave_idle-here.result

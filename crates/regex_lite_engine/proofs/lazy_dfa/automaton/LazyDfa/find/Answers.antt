@@ -1,23 +1,21 @@
-use Rattle.std.proofs.Common.{◌∷◌, []}
-use Rattle.regex_lite_engine.specs.Graph.Stored.{table_of}
 use Rattle.regex_lite_engine.specs.Search.Offsets.{position_at}
 use Rattle.regex_lite_engine.proofs.lazy_dfa.automaton.LazyDfa.find.Goals as goal
 
 pub find_from-requires-clause-stands : goal.find_from-requires-clause-stands
-find_from-requires-clause-stands c = (
+find_from-requires-clause-stands g c = (
   position_at c.args.haystack.now c.args.start,
   c.requires.counts,
-  c.begun-at.ensures (table_of c.args.graph.now) (c.args.graph.now.start ∷ []) c.args.self.now
+  c.begun-at.ensures (g.P.Patterns.table c.args.patterns.now) (g.P.Patterns.entries c.args.patterns.now) c.args.self.now
       c.args.cache.now c.requires.fresh c.requires.width,
 )
 
 pub returns-clause-found : goal.returns-clause-found
-returns-clause-found c = c.find_from.ensures.found (position_at c.args.haystack.now c.args.start)
-    (c.begun-at.ensures (table_of c.args.graph.now) (c.args.graph.now.start ∷ []) c.args.self.now
+returns-clause-found g c = c.find_from.ensures.found (position_at c.args.haystack.now c.args.start)
+    (c.begun-at.ensures (g.P.Patterns.table c.args.patterns.now) (g.P.Patterns.entries c.args.patterns.now) c.args.self.now
     c.args.cache.now c.requires.fresh c.requires.width)
 
 pub returns-clause-bounded : goal.returns-clause-bounded
-returns-clause-bounded c =
+returns-clause-bounded g c =
     c.find_from.ensures.bounded (position_at c.args.haystack.now c.args.start)
-    (c.begun-at.ensures (table_of c.args.graph.now) (c.args.graph.now.start ∷ []) c.args.self.now
+    (c.begun-at.ensures (g.P.Patterns.table c.args.patterns.now) (g.P.Patterns.entries c.args.patterns.now) c.args.self.now
     c.args.cache.now c.requires.fresh c.requires.width)

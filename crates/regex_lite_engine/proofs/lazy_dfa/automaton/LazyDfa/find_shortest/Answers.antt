@@ -1,27 +1,25 @@
-use Rattle.std.proofs.Common.{◌∷◌, []}
-use Rattle.regex_lite_engine.specs.Graph.Stored.{table_of}
 use Rattle.regex_lite_engine.specs.Search.Offsets.{position_at}
 use Rattle.regex_lite_engine.proofs.lazy_dfa.automaton.LazyDfa.find_shortest.Goals as goal
 
 pub find_shortest_from-requires-clause-stands : goal.find_shortest_from-requires-clause-stands
-find_shortest_from-requires-clause-stands c = (
+find_shortest_from-requires-clause-stands g c = (
   position_at c.args.haystack.now c.args.start,
   c.requires.counts,
-  c.begun-at.ensures (table_of c.args.graph.now) (c.args.graph.now.start ∷ []) c.args.self.now
+  c.begun-at.ensures (g.P.Patterns.table c.args.patterns.now) (g.P.Patterns.entries c.args.patterns.now) c.args.self.now
       c.args.cache.now c.requires.fresh c.requires.width,
 )
 
 pub returns-clause-found : goal.returns-clause-found
-returns-clause-found c =
+returns-clause-found g c =
     c.find_shortest_from.ensures.found (position_at c.args.haystack.now c.args.start)
-    (c.begun-at.ensures (table_of c.args.graph.now) (c.args.graph.now.start ∷ []) c.args.self.now
+    (c.begun-at.ensures (g.P.Patterns.table c.args.patterns.now) (g.P.Patterns.entries c.args.patterns.now) c.args.self.now
     c.args.cache.now c.requires.fresh c.requires.width)
 
 pub returns-clause-bounded : goal.returns-clause-bounded
-returns-clause-bounded c =
+returns-clause-bounded g c =
     c.find_shortest_from.ensures.bounded (position_at c.args.haystack.now c.args.start)
-    (c.begun-at.ensures (table_of c.args.graph.now) (c.args.graph.now.start ∷ []) c.args.self.now
+    (c.begun-at.ensures (g.P.Patterns.table c.args.patterns.now) (g.P.Patterns.entries c.args.patterns.now) c.args.self.now
     c.args.cache.now c.requires.fresh c.requires.width)
 
 pub find_shortest_from-requires-clause-none : goal.find_shortest_from-requires-clause-none
-find_shortest_from-requires-clause-none c = c.requires.fresh.none
+find_shortest_from-requires-clause-none g c = c.requires.fresh.none

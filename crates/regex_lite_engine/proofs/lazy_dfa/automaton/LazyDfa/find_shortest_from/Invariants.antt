@@ -1,21 +1,20 @@
-use Rattle.std.proofs.Common.{◌≡◌, ℕ, ◌∷◌, [], ◌-◌, None, length}
+use Rattle.std.proofs.Common.{◌≡◌, ℕ, [], ◌-◌, None, length}
 use Rattle.std.specs.Prelude.{chars}
-use Rattle.regex_lite_engine.specs.Graph.Stored.{table_of}
 use Rattle.regex_lite_engine.specs.LazyDfa.Automaton.{Remembers}
 use Rattle.regex_lite_engine.specs.LazyDfa.Running.{Stands}
 use Rattle.regex_lite_engine.specs.Pikevm.Turns.{best_of}
 use Rattle.regex_lite_engine.proofs.lazy_dfa.automaton.LazyDfa.find_shortest_from.Given as goal
 
 abbrev pub invariant-positions : goal.invariant-positions
-invariant-positions l = record {
-  remembers : Remembers l.graph.places (l.graph.start ∷ []) l.self;
+invariant-positions g l = record {
+  remembers : Remembers (g.P.Patterns.table l.patterns) (g.P.Patterns.entries l.patterns) l.self;
   none_pending : l.self.pending ≡ [];
   stands : (s : ℕ)
-      → Stands (table_of l.graph) (chars l.haystack) (l.graph.start ∷ []) s l.initial.self l.fn.from
+      → Stands (g.P.Patterns.table l.patterns) (chars l.haystack) (g.P.Patterns.entries l.patterns) s l.initial.self l.fn.from
       l.initial.cache
-      → Stands (table_of l.graph) (chars l.haystack) (l.graph.start ∷ []) s l.self l.at l.cache;
+      → Stands (g.P.Patterns.table l.patterns) (chars l.haystack) (g.P.Patterns.entries l.patterns) s l.self l.at l.cache;
   none : best_of l.cache.best ≡ None;
 }
 
 abbrev pub decreases-positions : goal.decreases-positions
-decreases-positions l = length l.haystack - l.at.here.at
+decreases-positions g l = length l.haystack - l.at.here.at

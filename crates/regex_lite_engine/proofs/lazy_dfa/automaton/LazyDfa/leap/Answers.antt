@@ -1,22 +1,21 @@
-use Rattle.std.proofs.Common.{rules, ◌≡◌, ◌∷◌, [], true}
+use Rattle.std.proofs.Common.{rules, ◌≡◌, true}
 use Rattle.std.specs.Prelude.{chars}
 use Rattle.std.proofs.lemmas.Option.{slice_get_within}
-use Rattle.regex_lite_engine.specs.Graph.Stored.{table_of}
 use Rattle.regex_lite_engine.proofs.lazy_dfa.LeapLemmas.{leapt, leapt_since}
 use Rattle.regex_lite_engine.proofs.lazy_dfa.automaton.LazyDfa.leap.Goals as goal
 
 pub may_leap-requires : goal.may_leap-requires
-may_leap-requires c =
+may_leap-requires g c =
     let is = c.requires.scanning.2 in
     slice_get_within c.args.self.now.states c.args.at.now.state is.state is.is_state
 
 pub pass_over-next-requires : goal.pass_over-next-requires
-pass_over-next-requires c = let from = c.requires.scanning in (from.1, from.2.is)
+pass_over-next-requires g c = let from = c.requires.scanning in (from.1, from.2.is)
 
 pub returns-clause-on : goal.returns-clause-on
-returns-clause-on c = λ _ low p is.
-    let table = table_of c.args.graph.now in
-    let entries = c.args.graph.now.start ∷ [] in
+returns-clause-on g c = λ _ low p is.
+    let table = g.P.Patterns.table c.args.patterns.now in
+    let entries = g.P.Patterns.entries c.args.patterns.now in
     let h = chars c.args.haystack.now in
     let now = c.args.self.now in
     let at = c.args.at.now in

@@ -1,7 +1,6 @@
-use Rattle.std.proofs.Common.{rules, ◌≡◌, true, false, ◌≤◌, ◌∷◌, [], ℕ, inl, sym, subst, arith}
+use Rattle.std.proofs.Common.{rules, ◌≡◌, true, false, ◌≤◌, ℕ, inl, sym, subst, arith}
 use Rattle.std.specs.Prelude.{chars}
 use Rattle.regex_lite_engine.specs.declared.lazy_dfa.scan.Standing.{Standing}
-use Rattle.regex_lite_engine.specs.Graph.Stored.{table_of}
 use Rattle.regex_lite_engine.specs.LazyDfa.Scanning.{IsScanning, IsSince}
 use Rattle.regex_lite_engine.proofs.lazy_dfa.RunLemmas.{at_later}
 use Rattle.regex_lite_engine.proofs.lazy_dfa.SpotLemmas.{since_on}
@@ -10,17 +9,17 @@ use Rattle.regex_lite_engine.proofs.lazy_dfa.automaton.LazyDfa.leap_on.Goals as 
 use Rattle.std.proofs.Common.{refl}
 
 pub leaps-init : goal.leaps-init
-leaps-init c = λ low p from. (p, omega arith, from, inl refl)
+leaps-init g c = λ low p from. (p, omega arith, from, inl refl)
 
 pub leap-requires : goal.leap-requires
-leap-requires c =
+leap-requires g c =
     let from = c.requires.scanning in
     let v = c.leaps.invariant from.0 from.1 from.2 in record { scanning = (from.0, v.0, v.2) }
 
 pub returns-then-not-leap-clause-on : goal.returns-then-not-leap-clause-on
-returns-then-not-leap-clause-on c = λ _ low p from.
-    let table = table_of c.args.graph.now in
-    let entries = c.args.graph.now.start ∷ [] in
+returns-then-not-leap-clause-on g c = λ _ low p from.
+    let table = g.P.Patterns.table c.args.patterns.now in
+    let entries = g.P.Patterns.entries c.args.patterns.now in
     let h = chars c.args.haystack.now in
     let stays : c.leap.result ≡ false = search rules in
     subst
@@ -29,21 +28,21 @@ returns-then-not-leap-clause-on c = λ _ low p from.
     (c.leaps.invariant low p from)
 
 pub run-requires-clause-scanning : goal.run-requires-clause-scanning
-run-requires-clause-scanning c =
+run-requires-clause-scanning g c =
     let from = c.requires.scanning in
     let v = c.leaps.invariant from.0 from.1 from.2 in
     let leaps : c.leap.result ≡ true = search rules in
     let on = c.leap.ensures.on leaps from.0 v.0 v.2 in (from.0, on.0, on.2)
 
 pub returns-then-run-clause-over : goal.returns-then-run-clause-over
-returns-then-run-clause-over c = λ _ low p from.
+returns-then-run-clause-over g c = λ _ low p from.
     let v = c.leaps.invariant low p from in
     let leaps : c.leap.result ≡ true = search rules in
     let on = c.leap.ensures.on leaps low v.0 v.2 in
     c.run.ensures.over c.if-run.true low on.0 on.2
 
 pub leaps-smaller : goal.leaps-smaller
-leaps-smaller c =
+leaps-smaller g c =
     let bs = c.args.haystack.now in
     let from = c.requires.scanning in
     let v = c.leaps.invariant from.0 from.1 from.2 in
@@ -56,9 +55,9 @@ leaps-smaller c =
     omega (arith, le, later, inside)
 
 pub leaps-preserved : goal.leaps-preserved
-leaps-preserved c = λ low p from.
-    let table = table_of c.args.graph.now in
-    let entries = c.args.graph.now.start ∷ [] in
+leaps-preserved g c = λ low p from.
+    let table = g.P.Patterns.table c.args.patterns.now in
+    let entries = g.P.Patterns.entries c.args.patterns.now in
     let h = chars c.args.haystack.now in
     let v = c.leaps.invariant low p from in
     let leaps : c.leap.result ≡ true = search rules in

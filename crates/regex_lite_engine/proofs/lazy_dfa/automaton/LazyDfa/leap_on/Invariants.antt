@@ -1,17 +1,16 @@
-use Rattle.std.proofs.Common.{◌≤◌, ◌-◌, ◌∷◌, [], ℕ, length}
+use Rattle.std.proofs.Common.{◌≤◌, ◌-◌, ℕ, length}
 use Rattle.std.specs.Prelude.{chars}
-use Rattle.regex_lite_engine.specs.Graph.Stored.{table_of}
 use Rattle.regex_lite_engine.specs.LazyDfa.Scanning.{IsScanning, IsSince}
 use Rattle.regex_lite_engine.proofs.lazy_dfa.automaton.LazyDfa.leap_on.Given as goal
 
 abbrev pub invariant-leaps : goal.invariant-leaps
-invariant-leaps l = (low p : ℕ)
-    → IsScanning (table_of l.graph) (l.graph.start ∷ []) (chars l.haystack) low p l.self
+invariant-leaps g l = (low p : ℕ)
+    → IsScanning (g.P.Patterns.table l.patterns) (g.P.Patterns.entries l.patterns) (chars l.haystack) low p l.self
     l.initial.at
     → (q : ℕ) × (p ≤ q)
-    × IsScanning (table_of l.graph) (l.graph.start ∷ []) (chars l.haystack) low q l.self l.at
-    × IsSince (table_of l.graph) (l.graph.start ∷ []) (chars l.haystack) low p
+    × IsScanning (g.P.Patterns.table l.patterns) (g.P.Patterns.entries l.patterns) (chars l.haystack) low q l.self l.at
+    × IsSince (g.P.Patterns.table l.patterns) (g.P.Patterns.entries l.patterns) (chars l.haystack) low p
     l.initial.at.first l.at.first
 
 abbrev pub decreases-leaps : goal.decreases-leaps
-decreases-leaps l = length l.haystack - l.at.here.at
+decreases-leaps g l = length l.haystack - l.at.here.at

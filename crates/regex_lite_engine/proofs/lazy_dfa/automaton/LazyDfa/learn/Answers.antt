@@ -1,4 +1,4 @@
-use Rattle.std.proofs.Common.{◌≡◌, true, ◌∷◌, [], Some, refl, slice_get, ap, sym, subst, ◌∙◌}
+use Rattle.std.proofs.Common.{◌≡◌, true, Some, refl, slice_get, ap, sym, subst, ◌∙◌}
 use Rattle.std.proofs.lemmas.Option.{slice_get_within}
 use Rattle.regex_lite_engine.specs.LazyDfa.Automaton.{Automaton, Remembers}
 use Rattle.regex_lite_engine.specs.LazyDfa.Automaton.{Suits, searching_after, ways_of}
@@ -8,56 +8,57 @@ use Rattle.regex_lite_engine.specs.Pikevm.Turns.{best_of}
 use Rattle.regex_lite_engine.proofs.lazy_dfa.LearnLemmas.{learned, remembers_settled}
 use Rattle.regex_lite_engine.proofs.lazy_dfa.LearnLemmas.{still_in, suits_after}
 use Rattle.regex_lite_engine.proofs.lazy_dfa.RememberedLemmas.{remembers_more}
+use Rattle.regex_lite_engine.proofs.lazy_dfa.automaton.LazyDfa.learn.Given as given
 use Rattle.regex_lite_engine.proofs.lazy_dfa.automaton.LazyDfa.learn.Goals as goal
 use Rattle.regex_lite_engine.proofs.lazy_dfa.automaton.LazyDfa.learn.Goals.{After-settle}
 use Rattle.regex_lite_engine.proofs.lazy_dfa.automaton.LazyDfa.learn.Goals.{Else-not-gather}
 
 -- the state that the turn was taken from is there once the ways are gathered
-own_state : (c : Else-not-gather) →
+own_state : (g : given.Over) (c : Else-not-gather g) →
     slice_get c.gather.new.self.states c.args.taken.state ≡ Some c.requires.turned.is_in.state
-own_state c =
+own_state g c =
     ap (λ (z : Automaton). slice_get z.states c.args.taken.state)
     (c.if-not-gather.ensures.gathered refl)
     ∙ c.requires.turned.is_in.is_state
 
 -- what is remembered once the state that is come to has its place
-settled : (c : After-settle) →
+settled : (g : given.Over) (c : After-settle g) →
     (c.gather.new.self.pending ≡ ways_of c.args.taken.first c.args.cache.now.walk.memory.threads)
-    × Remembers c.args.graph.now.places (c.args.graph.now.start ∷ []) c.settle.new.self
-settled c =
+    × Remembers (g.P.Patterns.table c.args.patterns.now) (g.P.Patterns.entries c.args.patterns.now) c.settle.new.self
+settled g c =
     let a = c.args in
-    let graph = a.graph.now in
+    let patterns = a.patterns.now in
     let between = c.requires.between in
-    remembers_settled graph.places (graph.start ∷ []) a.self.now c.gather.new.self
+    remembers_settled (g.P.Patterns.table patterns) (g.P.Patterns.entries patterns) a.self.now c.gather.new.self
     c.settle.new.self a.taken.first a.cache.now.walk.memory.threads
     (c.if-not-gather.ensures.gathered refl) c.requires.none_pending c.requires.remembers
     between.below between.few c.settle.ensures.extends
 
 pub searching_after-searching-requires : goal.searching_after-searching-requires
-searching_after-searching-requires c =
-    let own = own_state (goal.at.searching_after-searching-requires c).Else-not-gather in
+searching_after-searching-requires g c =
+    let own = own_state g (goal.at.searching_after-searching-requires g c).Else-not-gather in
     slice_get_within c.gather.new.self.states c.args.taken.state c.requires.turned.is_in.state own
 
 pub returns-in_err-y-clause-remembers : goal.returns-in_err-y-clause-remembers
-returns-in_err-y-clause-remembers c =
-    (settled (goal.at.returns-in_err-y-clause-remembers c).After-settle).1
+returns-in_err-y-clause-remembers g c =
+    (settled g (goal.at.returns-in_err-y-clause-remembers g c).After-settle).1
 
 pub remember-requires-clause-state : goal.remember-requires-clause-state
-remember-requires-clause-state c =
+remember-requires-clause-state g c =
     let from = c.requires.turned.is_in.state in
-    let own = own_state (goal.at.remember-requires-clause-state c).Else-not-gather in
+    let own = own_state g (goal.at.remember-requires-clause-state g c).Else-not-gather in
     slice_get_within c.settle.new.self.states c.args.taken.state from
     (c.settle.ensures.extends.kept c.args.taken.state from own)
 
 pub returns : goal.returns
-returns c =
+returns g c =
     let a = c.args in
     let x = a.taken.state in
-    let entries = a.graph.now.start ∷ [] in
+    let entries = g.P.Patterns.entries a.patterns.now in
     let now = c.settle.new.self in
     let extends = c.settle.ensures.extends in
-    let whole = settled (goal.at.returns c).After-settle in
-    let own = own_state (goal.at.returns c).Else-not-gather in
+    let whole = settled g (goal.at.returns g c).After-settle in
+    let own = own_state g (goal.at.returns g c).Else-not-gather in
     let turned = c.requires.turned in
     let from = turned.is_in.state in
     let at : slice_get now.states x ≡ Some from = extends.kept x from own in
@@ -78,10 +79,10 @@ returns c =
     to.before ∙ c.side-before.ensures (sym (ap (λ z. z.looks) extends.intervals) ∙ looks) in
     record {
       remembers =
-          subst (Remembers a.graph.now.places entries) (sym kept)
-          (remembers_more a.graph.now.places entries now whole.1 x from class c.in_ok-y.y to.state
+          subst (Remembers (g.P.Patterns.table a.patterns.now) entries) (sym kept)
+          (remembers_more (g.P.Patterns.table a.patterns.now) entries now whole.1 x from class c.in_ok-y.y to.state
           at to.is
-          (learned a.graph.now.places entries a.self.now now same whole.1 x a.taken.first
+          (learned (g.P.Patterns.table a.patterns.now) entries a.self.now now same whole.1 x a.taken.first
           a.taken.here a.taken.hit a.cache.now turned class is_class to.state
           (to.ways ∙ whole.0) is_hit searching before));
       state =

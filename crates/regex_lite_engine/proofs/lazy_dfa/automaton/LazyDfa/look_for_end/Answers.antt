@@ -1,46 +1,46 @@
-use Rattle.std.proofs.Common.{ℕ, ◌∷◌, [], None, MatchOption, subst}
+use Rattle.std.proofs.Common.{ℕ, None, MatchOption, subst}
 use Rattle.std.specs.Prelude.{chars}
 use Rattle.std.proofs.lemmas.Option.{slice_get_within}
-use Rattle.regex_lite_engine.specs.Graph.Stored.{table_of}
 use Rattle.regex_lite_engine.specs.LazyDfa.Learning.{IsIn}
 use Rattle.regex_lite_engine.specs.LazyDfa.Running.{Stands}
 use Rattle.regex_lite_engine.specs.LazyDfa.Scanning.{IsScanning}
 use Rattle.regex_lite_engine.proofs.lazy_dfa.ResumeLemmas.{scanning_from}
+use Rattle.regex_lite_engine.proofs.lazy_dfa.automaton.LazyDfa.look_for_end.Given as given
 use Rattle.regex_lite_engine.proofs.lazy_dfa.automaton.LazyDfa.look_for_end.Goals as goal
 use Rattle.regex_lite_engine.proofs.lazy_dfa.automaton.LazyDfa.look_for_end.Goals.{In-Some}
 
 -- from where the search stands, remembered turns are gone by
-scanning : (c : In-Some) (s : ℕ) (stands : Stands (table_of c.args.graph.now)
-    (chars c.args.haystack.now) (c.args.graph.now.start ∷ []) s c.args.self.now c.args.at.now
+scanning : (g : given.Over) (c : In-Some g) (s : ℕ) (stands : Stands (g.P.Patterns.table c.args.patterns.now)
+    (chars c.args.haystack.now) (g.P.Patterns.entries c.args.patterns.now) s c.args.self.now c.args.at.now
     c.args.cache.now)
-    → IsScanning (table_of c.args.graph.now) (c.args.graph.now.start ∷ [])
+    → IsScanning (g.P.Patterns.table c.args.patterns.now) (g.P.Patterns.entries c.args.patterns.now)
     (chars c.args.haystack.now) s stands.p c.args.self.now (record {
       here = c.args.at.now.here;
       state = c.in-Some.state;
       first = c.args.at.now.first;
       best = None;
     })
-scanning c s stands =
+scanning g c s stands =
     let is_in = subst (λ o. MatchOption o (Unit {0})
     (λ x. IsIn c.args.self.now x c.args.at.now.first c.args.at.now.here.before c.args.cache.now))
     c.in-Some.is stands.state in
-    scanning_from (table_of c.args.graph.now) (chars c.args.haystack.now)
-    (c.args.graph.now.start ∷ []) s stands.p c.args.self.now c.in-Some.state c.args.at.now.first
+    scanning_from (g.P.Patterns.table c.args.patterns.now) (chars c.args.haystack.now)
+    (g.P.Patterns.entries c.args.patterns.now) s stands.p c.args.self.now c.in-Some.state c.args.at.now.first
     c.args.at.now.here c.args.cache.now None stands.is stands.on is_in stands.own c.requires.none
 
 pub scan_shortest-requires-clause-scanning : goal.scan_shortest-requires-clause-scanning
-scan_shortest-requires-clause-scanning c =
+scan_shortest-requires-clause-scanning g c =
     let s = c.requires.stands.0 in
     let stands = c.requires.stands.1 in
-    let own = (goal.at.scan_shortest-requires-clause-scanning c).In-Some in
-    (s, stands.p, scanning own s stands)
+    let own = (goal.at.scan_shortest-requires-clause-scanning g c).In-Some in
+    (s, stands.p, scanning g own s stands)
 
 pub resume-requires : goal.resume-requires
-resume-requires c =
+resume-requires g c =
     let s = c.requires.stands.0 in
     let stands = c.requires.stands.1 in
-    let own = (goal.at.resume-requires c).In-Some in
-    let scanned = c.in-Unknown.ensures s stands.p (scanning own s stands) in
+    let own = (goal.at.resume-requires g c).In-Some in
+    let scanned = c.in-Unknown.ensures s stands.p (scanning g own s stands) in
     record {
       remembers = c.requires.remembers;
       state =
@@ -50,12 +50,12 @@ resume-requires c =
     }
 
 pub returns-in-Known-clause-stands : goal.returns-in-Known-clause-stands
-returns-in-Known-clause-stands c = λ s stands.
-    let own = (goal.at.returns-in-Known-clause-stands c).In-Some in
-    c.in-Known.ensures s stands.p (scanning own s stands)
+returns-in-Known-clause-stands g c = λ s stands.
+    let own = (goal.at.returns-in-Known-clause-stands g c).In-Some in
+    c.in-Known.ensures s stands.p (scanning g own s stands)
 
 pub returns-in-Unknown-clause-stands : goal.returns-in-Unknown-clause-stands
-returns-in-Unknown-clause-stands c = λ s stands.
-    let own = (goal.at.returns-in-Unknown-clause-stands c).In-Some in
+returns-in-Unknown-clause-stands g c = λ s stands.
+    let own = (goal.at.returns-in-Unknown-clause-stands g c).In-Some in
     c.resume.ensures.stands (chars c.args.haystack.now) s stands
-    (c.in-Unknown.ensures s stands.p (scanning own s stands))
+    (c.in-Unknown.ensures s stands.p (scanning g own s stands))

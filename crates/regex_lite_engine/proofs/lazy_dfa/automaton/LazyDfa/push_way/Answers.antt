@@ -11,7 +11,7 @@ pub returns-clause-pushed : goal.returns-clause-pushed
 returns-clause-pushed c = λ told.
     let i = c.self.inside in
     let v = c.self.invariant in
-    let way : StoredWay = record { place = c.args.place; is_first = c.args.is_first } in
+    let way : StoredWay = c.args.way in
     elim c.match-push.branch [
       | in-Ok w ↦
           seen_pushed i.classes i.states.items i.used i.ways.items v.0 v.1 way c.push.new.self.items
@@ -25,7 +25,7 @@ pub returns-clause-same : goal.returns-clause-same
 returns-clause-same c =
     let i = c.self.inside in
     let v = c.self.invariant in
-    let way : StoredWay = record { place = c.args.place; is_first = c.args.is_first } in
+    let way : StoredWay = c.args.way in
     elim c.match-push.branch [
       | in-Ok w ↦
           seen_pushed i.classes i.states.items i.used i.ways.items v.0 v.1 way c.push.new.self.items

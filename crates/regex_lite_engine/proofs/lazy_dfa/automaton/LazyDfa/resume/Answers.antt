@@ -1,6 +1,5 @@
-use Rattle.std.proofs.Common.{◌∷◌, [], IfSome, length, refl, ap, subst, arith}
+use Rattle.std.proofs.Common.{IfSome, length, refl, ap, subst, arith}
 use Rattle.std.proofs.lemmas.List.{length-map}
-use Rattle.regex_lite_engine.specs.Graph.Stored.{table_of}
 use Rattle.regex_lite_engine.specs.LazyDfa.Scanning.{IsIdleAt}
 use Rattle.regex_lite_engine.specs.LazyDfa.Stored.{way_in}
 use Rattle.regex_lite_engine.proofs.lazy_dfa.RunLemmas.{at_later, maybe_in_empty}
@@ -10,7 +9,7 @@ use Rattle.regex_lite_engine.proofs.lazy_dfa.ResumeLemmas.{let_gone, none_by, ta
 use Rattle.regex_lite_engine.proofs.lazy_dfa.automaton.LazyDfa.resume.Goals as goal
 
 pub take_up_ways-requires-clause-few : goal.take_up_ways-requires-clause-few
-take_up_ways-requires-clause-few c =
+take_up_ways-requires-clause-few g c =
     let stands = c.requires.stands.2 in
     let scanning = c.requires.stands.3.0.2 in
     let fits = c.requires.remembers.fit c.args.stuck.state scanning.state scanning.is_state in
@@ -20,7 +19,7 @@ take_up_ways-requires-clause-few c =
     omega (arith, few, cap, same, length-map c.ways-ways.result.now way_in)
 
 pub returns-then-may_take_up-clause-stands : goal.returns-then-may_take_up-clause-stands
-returns-then-may_take_up-clause-stands c = λ haystack s stands scanned.
+returns-then-may_take_up-clause-stands g c = λ haystack s stands scanned.
     let q = scanned.0.0 in
     let scanning = scanned.0.2 in
     let stuck = c.args.stuck in
@@ -34,26 +33,26 @@ returns-then-may_take_up-clause-stands c = λ haystack s stands scanned.
     let all = c.if-may_take_up.ensures.all refl in
     let fits = c.requires.remembers.fit stuck.state scanning.state scanning.is_state in
     let no_best = none_by stuck.best c.is_none.result c.is_none.ensures c.if-is_none.true in
-    let first = first_stuck (table_of c.args.graph.now) haystack (c.args.graph.now.start ∷ []) s
+    let first = first_stuck (g.P.Patterns.table c.args.patterns.now) haystack (g.P.Patterns.entries c.args.patterns.now) s
     stands.p c.args.self.now c.args.cache.now new stands.on kept none q stuck scanning later
     c.ways-ways.result.now ways all fits no_best threads (c.if-may_take_up.ensures.before refl) in
     record {
       p = q;
       is = scanning.is;
       on =
-          taken_up (table_of c.args.graph.now) haystack
-          (c.args.graph.now.start ∷ []) s stands.p c.args.self.now c.args.cache.now new stands.on
+          taken_up (g.P.Patterns.table c.args.patterns.now) haystack
+          (g.P.Patterns.entries c.args.patterns.now) s stands.p c.args.self.now c.args.cache.now new stands.on
           kept none q stuck scanning later c.ways-ways.result.now ways all fits no_best threads;
       first = first.0;
       own = first.1;
       state =
-          is_in_stuck (table_of c.args.graph.now) haystack
-          (c.args.graph.now.start ∷ []) s stands.p c.args.self.now c.args.cache.now new stands.on
+          is_in_stuck (g.P.Patterns.table c.args.patterns.now) haystack
+          (g.P.Patterns.entries c.args.patterns.now) s stands.p c.args.self.now c.args.cache.now new stands.on
           kept none q stuck scanning later c.ways-ways.result.now ways all fits no_best threads;
     }
 
 pub returns-then-may_take_up-clause-later : goal.returns-then-may_take_up-clause-later
-returns-then-may_take_up-clause-later c =
+returns-then-may_take_up-clause-later g c =
     let haystack = c.requires.stands.0 in
     let stands = c.requires.stands.2 in
     let scanned = c.requires.stands.3 in
@@ -61,11 +60,11 @@ returns-then-may_take_up-clause-later c =
     scanned.0.2.is scanned.0.1
 
 pub returns-then-here-at-clause-stands : goal.returns-then-here-at-clause-stands
-returns-then-here-at-clause-stands c = λ haystack s stands scanned.
+returns-then-here-at-clause-stands g c = λ haystack s stands scanned.
     let here = c.in-Some.here in
     let new = c.let_go.new.self in
     let idle = subst (λ o. IfSome o
-    (IsIdleAt (table_of c.args.graph.now) (c.args.graph.now.start ∷ []) haystack s stands.p))
+    (IsIdleAt (g.P.Patterns.table c.args.patterns.now) (g.P.Patterns.entries c.args.patterns.now) haystack s stands.p))
     c.in-Some.is scanned.1 in
     let more = c.if-here-at.true in
     let later =
@@ -75,8 +74,8 @@ returns-then-here-at-clause-stands c = λ haystack s stands scanned.
       p = idle.r;
       is = idle.is;
       on =
-          let_gone (table_of c.args.graph.now) haystack
-          (c.args.graph.now.start ∷ []) s stands.p c.args.self.now c.args.cache.now new stands.on
+          let_gone (g.P.Patterns.table c.args.patterns.now) haystack
+          (g.P.Patterns.entries c.args.patterns.now) s stands.p c.args.self.now c.args.cache.now new stands.on
           c.let_go.ensures.kept c.let_go.ensures.none here idle later c.let_go.ensures.threads;
       first = omega arith;
       own = own_first here.at new.walk.memory.threads c.let_go.ensures.threads;

@@ -1,60 +1,60 @@
-use Rattle.std.proofs.Common.{◌≡◌, ◌+◌, ◌^◌, ◌<◌, ◌∷◌, [], inl, length, refl, ap, ◌∙◌, arith}
+use Rattle.std.proofs.Common.{◌≡◌, ◌+◌, ◌^◌, ◌<◌, inl, length, refl, ap, ◌∙◌, arith}
 use Rattle.std.specs.Prelude.{chars}
 use Rattle.std.proofs.lemmas.Option.{slice_get_within}
 use Rattle.regex_lite_engine.specs.declared.lazy_dfa.scan.Standing.{Standing}
-use Rattle.regex_lite_engine.specs.Graph.Stored.{table_of}
 use Rattle.regex_lite_engine.proofs.lazy_dfa.SpotLemmas.{ran, since_on, spot_edge, spot_of}
 use Rattle.regex_lite_engine.proofs.lazy_dfa.SpotLemmas.{spot_on, spot_over, spot_since}
+use Rattle.regex_lite_engine.proofs.lazy_dfa.automaton.LazyDfa.run.Given as given
 use Rattle.regex_lite_engine.proofs.lazy_dfa.automaton.LazyDfa.run.Goals as goal
 use Rattle.regex_lite_engine.proofs.lazy_dfa.automaton.LazyDfa.run.Goals.{in_default}
 use Rattle.regex_lite_engine.proofs.lazy_dfa.automaton.LazyDfa.run.Goals.{in-Some+in-Stuck}
 
 pub turns-init : goal.turns-init
-turns-init c = record {
+turns-init g c = record {
   near = c.none-near.ensures c.args.self.now.intervals.boundaries;
   on = λ low p from. (
     p,
     omega arith,
-    spot_of (table_of c.args.graph.now) (c.args.graph.now.start ∷ []) (chars c.args.haystack.now)
+    spot_of (g.P.Patterns.table c.args.patterns.now) (g.P.Patterns.entries c.args.patterns.now) (chars c.args.haystack.now)
         low p c.args.self.now c.args.at.now c.of-spot.result from c.of-spot.ensures,
     inl refl,
   );
 }
 
 pub turn-requires-clause-boundary : goal.turn-requires-clause-boundary
-turn-requires-clause-boundary c =
+turn-requires-clause-boundary g c =
     let bs = c.args.haystack.now in
     let fits : length bs + 1 < 2 ^ 64 = omega arith in
     let from = c.requires.scanning in
     let v = c.turns.invariant.on from.0 from.1 from.2 in
-    spot_edge (table_of c.args.graph.now) (c.args.graph.now.start ∷ []) bs c.utf8.haystack fits
+    spot_edge (g.P.Patterns.table c.args.patterns.now) (g.P.Patterns.entries c.args.patterns.now) bs c.utf8.haystack fits
     from.0 v.0 c.args.self.now c.turns.spot c.turns.at v.2
 
 pub turn-requires-clause-state : goal.turn-requires-clause-state
-turn-requires-clause-state c =
+turn-requires-clause-state g c =
     let from = c.requires.scanning in
     let v = c.turns.invariant.on from.0 from.1 from.2 in
     slice_get_within c.args.self.now.states c.turns.spot.state v.2.scanning.state
     v.2.scanning.is_state
 
 pub take-requires-clause-from : goal.take-requires-clause-from
-take-requires-clause-from c =
+take-requires-clause-from g c =
     let from = c.requires.scanning in
     let v = c.turns.invariant.on from.0 from.1 from.2 in
     slice_get_within c.args.self.now.states c.turns.spot.state v.2.scanning.state
     v.2.scanning.is_state
 
 pub take-requires-clause-to : goal.take-requires-clause-to
-take-requires-clause-to c =
+take-requires-clause-to g c =
     let turn = c.in-Some.ensures.turn in
     slice_get_within c.args.self.now.states c.in-Some.turn.to turn.to turn.is_to
 
 pub turns-preserved : goal.turns-preserved
-turns-preserved c = record {
+turns-preserved g c = record {
   near = c.turn.ensures.near;
   on = λ low p from.
-      let table = table_of c.args.graph.now in
-      let entries = c.args.graph.now.start ∷ [] in
+      let table = g.P.Patterns.table c.args.patterns.now in
+      let entries = g.P.Patterns.entries c.args.patterns.now in
       let bs = c.args.haystack.now in
       let u = c.utf8.haystack in
       let fits : length bs + 1 < 2 ^ 64 = omega arith in
@@ -79,26 +79,26 @@ turns-preserved c = record {
 }
 
 pub returns-in-Over-clause-over : goal.returns-in-Over-clause-over
-returns-in-Over-clause-over c = λ _ low p from.
+returns-in-Over-clause-over g c = λ _ low p from.
     let bs = c.args.haystack.now in
     let fits : length bs + 1 < 2 ^ 64 = omega arith in
     let turn = c.in-Some.ensures.turn in
     let v = c.turns.invariant.on low p from in
-    spot_over (table_of c.args.graph.now) (c.args.graph.now.start ∷ []) bs c.utf8.haystack fits
+    spot_over (g.P.Patterns.table c.args.patterns.now) (g.P.Patterns.entries c.args.patterns.now) bs c.utf8.haystack fits
     low v.0 c.args.self.now c.turns.spot c.turns.at v.2 c.in-Some.turn turn c.take.new.at
     (c.in-Over.ensures.taken turn.to turn.is_to)
 
 pub settle-requires : goal.settle-requires
-settle-requires c =
+settle-requires g c =
     let bs = c.args.haystack.now in
     let fits : length bs + 1 < 2 ^ 64 = omega arith in
     let from = c.requires.scanning in
     let v = c.turns.invariant.on from.0 from.1 from.2 in
-    spot_edge (table_of c.args.graph.now) (c.args.graph.now.start ∷ []) bs c.utf8.haystack fits
+    spot_edge (g.P.Patterns.table c.args.patterns.now) (g.P.Patterns.entries c.args.patterns.now) bs c.utf8.haystack fits
     from.0 v.0 c.args.self.now c.turns.spot c.turns.at v.2
 
-stays : (c : goal.After-settle) → c.match-turn.at ≡ c.turns.at
-stays c = elim c.match-turn.branch [
+stays : (g : given.Over) (c : goal.After-settle g) → c.match-turn.at ≡ c.turns.at
+stays g c = elim c.match-turn.branch [
   | in-Some+in-Stuck w ↦
       let turn = w.in-Some.ensures.turn in
       w.at-is ∙ w.in-Stuck.ensures.taken turn.to turn.is_to
@@ -106,12 +106,12 @@ stays c = elim c.match-turn.branch [
 ]
 
 pub returns-clause-on : goal.returns-clause-on
-returns-clause-on c = λ _ low p from.
+returns-clause-on g c = λ _ low p from.
     let bs = c.args.haystack.now in
     let fits : length bs + 1 < 2 ^ 64 = omega arith in
-    ran (table_of c.args.graph.now) (c.args.graph.now.start ∷ []) bs c.utf8.haystack fits low p
+    ran (g.P.Patterns.table c.args.patterns.now) (g.P.Patterns.entries c.args.patterns.now) bs c.utf8.haystack fits low p
     c.args.at.now.first c.args.self.now c.turns.spot c.turns.at c.settle.new.self
     (c.turns.invariant.on low p from) c.settle.ensures.here
     (c.settle.ensures.same
     ∙ ap (λ (s : Standing). record s { here = c.settle.new.self.here; state = c.turns.spot.state })
-    (stays c))
+    (stays g c))

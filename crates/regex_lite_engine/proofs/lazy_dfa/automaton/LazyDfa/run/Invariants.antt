@@ -1,22 +1,21 @@
-use Rattle.std.proofs.Common.{◌≤◌, ◌-◌, ◌∷◌, [], ℕ, length}
+use Rattle.std.proofs.Common.{◌≤◌, ◌-◌, ℕ, length}
 use Rattle.std.specs.Prelude.{chars}
-use Rattle.regex_lite_engine.specs.Graph.Stored.{table_of}
 use Rattle.regex_lite_engine.specs.LazyDfa.Intervals.{IsInterval}
 use Rattle.regex_lite_engine.specs.LazyDfa.Scanning.{IsScanning, IsSince}
 use Rattle.regex_lite_engine.specs.LazyDfa.Spots.{IsSpotAt}
 use Rattle.regex_lite_engine.proofs.lazy_dfa.automaton.LazyDfa.run.Given as goal
 
 abbrev pub invariant-turns : goal.invariant-turns
-invariant-turns l = record {
+invariant-turns g l = record {
   near : IsInterval l.self.intervals.boundaries l.near;
   on : (low p : ℕ)
-      → IsScanning (table_of l.graph) (l.graph.start ∷ []) (chars l.haystack) low p l.self
+      → IsScanning (g.P.Patterns.table l.patterns) (g.P.Patterns.entries l.patterns) (chars l.haystack) low p l.self
       l.initial.at
       → (q : ℕ) × (p ≤ q)
-      × IsSpotAt (table_of l.graph) (l.graph.start ∷ []) (chars l.haystack) low q l.self l.spot l.at
-      × IsSince (table_of l.graph) (l.graph.start ∷ []) (chars l.haystack) low p
+      × IsSpotAt (g.P.Patterns.table l.patterns) (g.P.Patterns.entries l.patterns) (chars l.haystack) low q l.self l.spot l.at
+      × IsSince (g.P.Patterns.table l.patterns) (g.P.Patterns.entries l.patterns) (chars l.haystack) low p
       l.initial.at.first l.at.first;
 }
 
 abbrev pub decreases-turns : goal.decreases-turns
-decreases-turns l = length l.haystack - l.spot.at
+decreases-turns g l = length l.haystack - l.spot.at

@@ -1,8 +1,7 @@
-use Rattle.std.proofs.Common.{rules, ◌≡◌, true, false, ◌≤◌, ◌∷◌, [], ℕ, inl, refl, sym, subst}
+use Rattle.std.proofs.Common.{rules, ◌≡◌, true, false, ◌≤◌, ℕ, inl, refl, sym, subst}
 use Rattle.std.proofs.Common.{◌∙◌, arith}
 use Rattle.std.specs.Prelude.{chars}
 use Rattle.regex_lite_engine.specs.declared.lazy_dfa.scan.Standing.{Standing}
-use Rattle.regex_lite_engine.specs.Graph.Stored.{table_of}
 use Rattle.regex_lite_engine.specs.LazyDfa.Scanning.{IsScanning, IsSince}
 use Rattle.regex_lite_engine.proofs.lazy_dfa.RunLemmas.{at_later}
 use Rattle.regex_lite_engine.proofs.lazy_dfa.SpotLemmas.{since_on}
@@ -10,24 +9,24 @@ use Rattle.regex_lite_engine.proofs.search.here.HereLemmas.{at_most}
 use Rattle.regex_lite_engine.proofs.lazy_dfa.automaton.LazyDfa.run_on_to_match.Goals as goal
 
 pub leaps-init : goal.leaps-init
-leaps-init c = record { none = refl; on = λ low p from. (p, omega arith, from, inl refl) }
+leaps-init g c = record { none = refl; on = λ low p from. (p, omega arith, from, inl refl) }
 
 pub run_to_match-requires-clause-scanning : goal.run_to_match-requires-clause-scanning
-run_to_match-requires-clause-scanning c =
+run_to_match-requires-clause-scanning g c =
     let from = c.requires.scanning in
     let v = c.leaps.invariant.on from.0 from.1 from.2 in (from.0, v.0, v.2)
 
 pub leap-requires : goal.leap-requires
-leap-requires c =
+leap-requires g c =
     let from = c.requires.scanning in
     let v = c.leaps.invariant.on from.0 from.1 from.2 in
     let r = c.run_to_match.ensures.on from.0 v.0 v.2 in
     record { scanning = (from.0, r.0, r.2) }
 
 pub returns-then-not-leap-clause-on : goal.returns-then-not-leap-clause-on
-returns-then-not-leap-clause-on c = λ low p from.
-    let table = table_of c.args.graph.now in
-    let entries = c.args.graph.now.start ∷ [] in
+returns-then-not-leap-clause-on g c = λ low p from.
+    let table = g.P.Patterns.table c.args.patterns.now in
+    let entries = g.P.Patterns.entries c.args.patterns.now in
     let h = chars c.args.haystack.now in
     let v = c.leaps.invariant.on low p from in
     let r = c.run_to_match.ensures.on low v.0 v.2 in
@@ -46,7 +45,7 @@ returns-then-not-leap-clause-on c = λ low p from.
     )
 
 pub leaps-smaller : goal.leaps-smaller
-leaps-smaller c =
+leaps-smaller g c =
     let bs = c.args.haystack.now in
     let from = c.requires.scanning in
     let v = c.leaps.invariant.on from.0 from.1 from.2 in
@@ -60,11 +59,11 @@ leaps-smaller c =
     omega (arith, le, later, inside)
 
 pub leaps-preserved : goal.leaps-preserved
-leaps-preserved c = record {
+leaps-preserved g c = record {
   none = c.leap.ensures.none ∙ c.run_to_match.ensures.none ∙ c.leaps.invariant.none;
   on = λ low p from.
-      let table = table_of c.args.graph.now in
-      let entries = c.args.graph.now.start ∷ [] in
+      let table = g.P.Patterns.table c.args.patterns.now in
+      let entries = g.P.Patterns.entries c.args.patterns.now in
       let h = chars c.args.haystack.now in
       let v = c.leaps.invariant.on low p from in
       let r = c.run_to_match.ensures.on low v.0 v.2 in

@@ -1,10 +1,10 @@
-use Rattle.std.proofs.Common.{◌≡◌, ◌+◌, ◌^◌, ◌<◌, ◌∷◌, [], inl, length, refl, ap, ◌∙◌, arith}
+use Rattle.std.proofs.Common.{◌≡◌, ◌+◌, ◌^◌, ◌<◌, inl, length, refl, ap, ◌∙◌, arith}
 use Rattle.std.specs.Prelude.{chars}
 use Rattle.std.proofs.lemmas.Option.{slice_get_within}
 use Rattle.regex_lite_engine.specs.declared.lazy_dfa.scan.Standing.{Standing}
-use Rattle.regex_lite_engine.specs.Graph.Stored.{table_of}
 use Rattle.regex_lite_engine.proofs.lazy_dfa.SpotLemmas.{unmoved, ran, since_on, spot_edge, spot_of}
 use Rattle.regex_lite_engine.proofs.lazy_dfa.SpotLemmas.{spot_on, spot_since}
+use Rattle.regex_lite_engine.proofs.lazy_dfa.automaton.LazyDfa.run_to_match.Given as given
 use Rattle.regex_lite_engine.proofs.lazy_dfa.automaton.LazyDfa.run_to_match.Goals as goal
 use Rattle.regex_lite_engine.proofs.lazy_dfa.automaton.LazyDfa.run_to_match.Goals.{
   in_default,
@@ -13,48 +13,48 @@ use Rattle.regex_lite_engine.proofs.lazy_dfa.automaton.LazyDfa.run_to_match.Goal
 }
 
 pub turns-init : goal.turns-init
-turns-init c = record {
+turns-init g c = record {
   near = c.none-near.ensures c.args.self.now.intervals.boundaries;
   none = refl;
   on = λ low p from. (
     p,
     omega arith,
-    spot_of (table_of c.args.graph.now) (c.args.graph.now.start ∷ []) (chars c.args.haystack.now)
+    spot_of (g.P.Patterns.table c.args.patterns.now) (g.P.Patterns.entries c.args.patterns.now) (chars c.args.haystack.now)
         low p c.args.self.now c.args.at.now c.of-spot.result from c.of-spot.ensures,
     inl refl,
   );
 }
 
 pub turn-requires-clause-boundary : goal.turn-requires-clause-boundary
-turn-requires-clause-boundary c =
+turn-requires-clause-boundary g c =
     let bs = c.args.haystack.now in
     let fits : length bs + 1 < 2 ^ 64 = omega arith in
     let from = c.requires.scanning in
     let v = c.turns.invariant.on from.0 from.1 from.2 in
-    spot_edge (table_of c.args.graph.now) (c.args.graph.now.start ∷ []) bs c.utf8.haystack fits
+    spot_edge (g.P.Patterns.table c.args.patterns.now) (g.P.Patterns.entries c.args.patterns.now) bs c.utf8.haystack fits
     from.0 v.0 c.args.self.now c.turns.spot c.turns.at v.2
 
 pub turn-requires-clause-state : goal.turn-requires-clause-state
-turn-requires-clause-state c =
+turn-requires-clause-state g c =
     let from = c.requires.scanning in
     let v = c.turns.invariant.on from.0 from.1 from.2 in
     slice_get_within c.args.self.now.states c.turns.spot.state v.2.scanning.state
     v.2.scanning.is_state
 
 pub take-requires-clause-from : goal.take-requires-clause-from
-take-requires-clause-from c =
+take-requires-clause-from g c =
     let from = c.requires.scanning in
     let v = c.turns.invariant.on from.0 from.1 from.2 in
     slice_get_within c.args.self.now.states c.turns.spot.state v.2.scanning.state
     v.2.scanning.is_state
 
 pub take-requires-clause-to : goal.take-requires-clause-to
-take-requires-clause-to c =
+take-requires-clause-to g c =
     let turn = c.in-Some.ensures.turn in
     slice_get_within c.args.self.now.states c.in-Some.turn.to turn.to turn.is_to
 
 pub turns-preserved : goal.turns-preserved
-turns-preserved c = record {
+turns-preserved g c = record {
   near = c.turn.ensures.near;
   none =
       let turn = c.in-Some.ensures.turn in
@@ -62,8 +62,8 @@ turns-preserved c = record {
       (c.is_hit.ensures turn.to turn.is_to c.if-is_hit.false)
       ∙ c.turns.invariant.none;
   on = λ low p from.
-      let table = table_of c.args.graph.now in
-      let entries = c.args.graph.now.start ∷ [] in
+      let table = g.P.Patterns.table c.args.patterns.now in
+      let entries = g.P.Patterns.entries c.args.patterns.now in
       let bs = c.args.haystack.now in
       let u = c.utf8.haystack in
       let fits : length bs + 1 < 2 ^ 64 = omega arith in
@@ -88,16 +88,16 @@ turns-preserved c = record {
 }
 
 pub settle-requires : goal.settle-requires
-settle-requires c =
+settle-requires g c =
     let bs = c.args.haystack.now in
     let fits : length bs + 1 < 2 ^ 64 = omega arith in
     let from = c.requires.scanning in
     let v = c.turns.invariant.on from.0 from.1 from.2 in
-    spot_edge (table_of c.args.graph.now) (c.args.graph.now.start ∷ []) bs c.utf8.haystack fits
+    spot_edge (g.P.Patterns.table c.args.patterns.now) (g.P.Patterns.entries c.args.patterns.now) bs c.utf8.haystack fits
     from.0 v.0 c.args.self.now c.turns.spot c.turns.at v.2
 
-stays : (c : goal.After-settle) → c.match-turn.at ≡ c.turns.at
-stays c = elim c.match-turn.branch [
+stays : (g : given.Over) (c : goal.After-settle g) → c.match-turn.at ≡ c.turns.at
+stays g c = elim c.match-turn.branch [
   | in-Some+then-is_hit w ↦ w.at-is
   | in-Some+else-is_hit+in_default-take w ↦
       let turn = w.in-Some.ensures.turn in
@@ -110,17 +110,17 @@ stays c = elim c.match-turn.branch [
 ]
 
 pub returns-clause-on : goal.returns-clause-on
-returns-clause-on c = λ low p from.
+returns-clause-on g c = λ low p from.
     let bs = c.args.haystack.now in
     let fits : length bs + 1 < 2 ^ 64 = omega arith in
-    ran (table_of c.args.graph.now) (c.args.graph.now.start ∷ []) bs c.utf8.haystack fits low p
+    ran (g.P.Patterns.table c.args.patterns.now) (g.P.Patterns.entries c.args.patterns.now) bs c.utf8.haystack fits low p
     c.args.at.now.first c.args.self.now c.turns.spot c.turns.at c.settle.new.self
     (c.turns.invariant.on low p from) c.settle.ensures.here
     (c.settle.ensures.same
     ∙ ap (λ (s : Standing). record s { here = c.settle.new.self.here; state = c.turns.spot.state })
-    (stays c))
+    (stays g c))
 
 pub returns-clause-none : goal.returns-clause-none
-returns-clause-none c =
+returns-clause-none g c =
     ap (λ (s : Standing). s.best) c.settle.ensures.same
-    ∙ ap (λ (s : Standing). s.best) (stays c) ∙ c.turns.invariant.none
+    ∙ ap (λ (s : Standing). s.best) (stays g c) ∙ c.turns.invariant.none

@@ -1,7 +1,6 @@
-use Rattle.std.proofs.Common.{rules, ◌+◌, ◌^◌, ◌<◌, ◌∷◌, [], length, sym, subst, arith}
+use Rattle.std.proofs.Common.{rules, ◌+◌, ◌^◌, ◌<◌, length, sym, subst, arith}
 use Rattle.std.specs.Prelude.{chars}
 use Rattle.std.proofs.lemmas.Option.{slice_get_within}
-use Rattle.regex_lite_engine.specs.Graph.Stored.{table_of}
 use Rattle.regex_lite_engine.specs.LazyDfa.Scanning.{IsScanning}
 use Rattle.regex_lite_engine.proofs.lazy_dfa.SpotLemmas.{since_edge, since_idle, since_led}
 use Rattle.regex_lite_engine.proofs.lazy_dfa.SpotLemmas.{since_on}
@@ -11,21 +10,21 @@ use Rattle.regex_lite_engine.proofs.search.here.HereLemmas.{less_left}
 use Rattle.regex_lite_engine.proofs.lazy_dfa.automaton.LazyDfa.scan.Goals as goal
 
 pub run_on-requires-clause-scanning : goal.run_on-requires-clause-scanning
-run_on-requires-clause-scanning c =
+run_on-requires-clause-scanning g c =
     let from = c.requires.scanning in
     let v = c.positions.invariant from.0 from.1 from.2 in (from.0, v.0, v.2)
 
 pub skip-requires : goal.skip-requires
-skip-requires c =
+skip-requires g c =
     let from = c.requires.scanning in
     let v = c.positions.invariant from.0 from.1 from.2 in
     let r = c.run_on.ensures.on c.if-run_on.false from.0 v.0 v.2 in
     record { scanning = (from.0, r.0, r.2) }
 
 pub idle_since-requires : goal.idle_since-requires
-idle_since-requires c =
-    let table = table_of c.args.graph.now in
-    let entries = c.args.graph.now.start ∷ [] in
+idle_since-requires g c =
+    let table = g.P.Patterns.table c.args.patterns.now in
+    let entries = g.P.Patterns.entries c.args.patterns.now in
     let bs = c.args.haystack.now in
     let fits : length bs + 1 < 2 ^ 64 = omega arith in
     let from = c.requires.scanning in
@@ -37,9 +36,9 @@ idle_since-requires c =
     c.run_on.new.at.first v.1 v.3 r.3)
 
 pub returns-in_default : goal.returns-in_default
-returns-in_default c = λ low p from.
-    let table = table_of c.args.graph.now in
-    let entries = c.args.graph.now.start ∷ [] in
+returns-in_default g c = λ low p from.
+    let table = g.P.Patterns.table c.args.patterns.now in
+    let entries = g.P.Patterns.entries c.args.patterns.now in
     let bs = c.args.haystack.now in
     let fits : length bs + 1 < 2 ^ 64 = omega arith in
     let v = c.positions.invariant low p from in
@@ -55,7 +54,7 @@ returns-in_default c = λ low p from.
     )
 
 pub step-requires-clause-state : goal.step-requires-clause-state
-step-requires-clause-state c =
+step-requires-clause-state g c =
     let from = c.requires.scanning in
     let v = c.positions.invariant from.0 from.1 from.2 in
     let r = c.run_on.ensures.on c.if-run_on.false from.0 v.0 v.2 in
@@ -63,9 +62,9 @@ step-requires-clause-state c =
     slice_get_within c.args.self.now.states c.in-Some.on.state on.2.state on.2.is_state
 
 pub idle_since-requires-in_default-step : goal.idle_since-requires-in_default-step
-idle_since-requires-in_default-step c =
-    let table = table_of c.args.graph.now in
-    let entries = c.args.graph.now.start ∷ [] in
+idle_since-requires-in_default-step g c =
+    let table = g.P.Patterns.table c.args.patterns.now in
+    let entries = g.P.Patterns.entries c.args.patterns.now in
     let bs = c.args.haystack.now in
     let fits : length bs + 1 < 2 ^ 64 = omega arith in
     let from = c.requires.scanning in
@@ -80,9 +79,9 @@ idle_since-requires-in_default-step c =
     r.1 r.3 (c.in-Some.ensures.first from.0 r.0 r.2)))
 
 pub returns-in_default-step : goal.returns-in_default-step
-returns-in_default-step c = λ low p from.
-    let table = table_of c.args.graph.now in
-    let entries = c.args.graph.now.start ∷ [] in
+returns-in_default-step g c = λ low p from.
+    let table = g.P.Patterns.table c.args.patterns.now in
+    let entries = g.P.Patterns.entries c.args.patterns.now in
     let bs = c.args.haystack.now in
     let fits : length bs + 1 < 2 ^ 64 = omega arith in
     let v = c.positions.invariant low p from in
@@ -103,7 +102,7 @@ returns-in_default-step c = λ low p from.
     )
 
 pub is_over-requires : goal.is_over-requires
-is_over-requires c =
+is_over-requires g c =
     let from = c.requires.scanning in
     let v = c.positions.invariant from.0 from.1 from.2 in
     let r = c.run_on.ensures.on c.if-run_on.false from.0 v.0 v.2 in
@@ -112,17 +111,17 @@ is_over-requires c =
     slice_get_within c.args.self.now.states c.in-Some-step.to led.state led.is_state
 
 pub returns-then-is_over : goal.returns-then-is_over
-returns-then-is_over c = λ low p from.
+returns-then-is_over g c = λ low p from.
     let v = c.positions.invariant low p from in
     let r = c.run_on.ensures.on c.if-run_on.false low v.0 v.2 in
     let on = c.in-Some.ensures.on low r.0 r.2 in
     let led = c.in-Some-step.ensures (chars c.args.haystack.now) low on.0 on.2 in
-    scan_over (table_of c.args.graph.now) (c.args.graph.now.start ∷ []) (chars c.args.haystack.now)
+    scan_over (g.P.Patterns.table c.args.patterns.now) (g.P.Patterns.entries c.args.patterns.now) (chars c.args.haystack.now)
     low on.0 c.args.self.now c.in-Some.on on.2 c.in-Some-step.to c.in-Some-step.best led
     (c.if-is_over.ensures.over led.state led.is_state (search rules))
 
 pub go_on-at-requires-clause-here : goal.go_on-at-requires-clause-here
-go_on-at-requires-clause-here c =
+go_on-at-requires-clause-here g c =
     let from = c.requires.scanning in
     let v = c.positions.invariant from.0 from.1 from.2 in
     let r = c.run_on.ensures.on c.if-run_on.false from.0 v.0 v.2 in
@@ -134,7 +133,7 @@ go_on-at-requires-clause-here c =
     )
 
 pub go_on-at-requires-clause-state : goal.go_on-at-requires-clause-state
-go_on-at-requires-clause-state c =
+go_on-at-requires-clause-state g c =
     let from = c.requires.scanning in
     let v = c.positions.invariant from.0 from.1 from.2 in
     let r = c.run_on.ensures.on c.if-run_on.false from.0 v.0 v.2 in
@@ -143,7 +142,7 @@ go_on-at-requires-clause-state c =
     slice_get_within c.args.self.now.states c.in-Some-step.to led.state led.is_state
 
 pub positions-smaller : goal.positions-smaller
-positions-smaller c =
+positions-smaller g c =
     let from = c.requires.scanning in
     let v = c.positions.invariant from.0 from.1 from.2 in
     let r = c.run_on.ensures.on c.if-run_on.false from.0 v.0 v.2 in
@@ -154,9 +153,9 @@ positions-smaller c =
     c.utf8.haystack v.2.is (c.go_on-at.ensures.here on.0 on.2.is) (omega (arith, more, later))
 
 pub positions-preserved : goal.positions-preserved
-positions-preserved c = λ low p from.
-    let table = table_of c.args.graph.now in
-    let entries = c.args.graph.now.start ∷ [] in
+positions-preserved g c = λ low p from.
+    let table = g.P.Patterns.table c.args.patterns.now in
+    let entries = g.P.Patterns.entries c.args.patterns.now in
     let h = chars c.args.haystack.now in
     let now = c.args.self.now in
     let v = c.positions.invariant low p from in
@@ -190,5 +189,5 @@ positions-preserved c = λ low p from.
     )
 
 pub returns-then-run_on : goal.returns-then-run_on
-returns-then-run_on c = λ low p from.
+returns-then-run_on g c = λ low p from.
     let v = c.positions.invariant low p from in c.run_on.ensures.over c.if-run_on.true low v.0 v.2

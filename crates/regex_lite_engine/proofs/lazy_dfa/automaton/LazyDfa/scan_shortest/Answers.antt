@@ -1,9 +1,8 @@
-use Rattle.std.proofs.Common.{◌+◌, ◌^◌, ◌<◌, ◌∷◌, [], inl, None, length, refl, ap, sym, subst, ◌∙◌}
+use Rattle.std.proofs.Common.{◌+◌, ◌^◌, ◌<◌, inl, None, length, refl, ap, sym, subst, ◌∙◌}
 use Rattle.std.proofs.Common.{arith}
 use Rattle.std.specs.Prelude.{chars}
 use Rattle.std.proofs.lemmas.Option.{slice_get_within}
 use Rattle.regex_lite_engine.specs.declared.lazy_dfa.scan.Standing.{Standing}
-use Rattle.regex_lite_engine.specs.Graph.Stored.{table_of}
 use Rattle.regex_lite_engine.specs.LazyDfa.Scanning.{EndsOrLeads, IsScanning}
 use Rattle.regex_lite_engine.proofs.lazy_dfa.SpotLemmas.{since_edge, since_idle, since_led}
 use Rattle.regex_lite_engine.proofs.lazy_dfa.SpotLemmas.{since_on}
@@ -13,21 +12,21 @@ use Rattle.regex_lite_engine.proofs.search.here.HereLemmas.{less_left}
 use Rattle.regex_lite_engine.proofs.lazy_dfa.automaton.LazyDfa.scan_shortest.Goals as goal
 
 pub run_on_to_match-requires-clause-scanning : goal.run_on_to_match-requires-clause-scanning
-run_on_to_match-requires-clause-scanning c =
+run_on_to_match-requires-clause-scanning g c =
     let from = c.requires.scanning in
     let v = c.positions.invariant.on from.0 from.1 from.2 in (from.0, v.0, v.2)
 
 pub skip-requires : goal.skip-requires
-skip-requires c =
+skip-requires g c =
     let from = c.requires.scanning in
     let v = c.positions.invariant.on from.0 from.1 from.2 in
     let r = c.run_on_to_match.ensures.on from.0 v.0 v.2 in
     record { scanning = (from.0, r.0, r.2) }
 
 pub idle_since-requires : goal.idle_since-requires
-idle_since-requires c =
-    let table = table_of c.args.graph.now in
-    let entries = c.args.graph.now.start ∷ [] in
+idle_since-requires g c =
+    let table = g.P.Patterns.table c.args.patterns.now in
+    let entries = g.P.Patterns.entries c.args.patterns.now in
     let bs = c.args.haystack.now in
     let fits : length bs + 1 < 2 ^ 64 = omega arith in
     let from = c.requires.scanning in
@@ -39,9 +38,9 @@ idle_since-requires c =
     c.run_on_to_match.new.at.first v.1 v.3 r.3)
 
 pub returns-in_default : goal.returns-in_default
-returns-in_default c = λ low p from.
-    let table = table_of c.args.graph.now in
-    let entries = c.args.graph.now.start ∷ [] in
+returns-in_default g c = λ low p from.
+    let table = g.P.Patterns.table c.args.patterns.now in
+    let entries = g.P.Patterns.entries c.args.patterns.now in
     let bs = c.args.haystack.now in
     let fits : length bs + 1 < 2 ^ 64 = omega arith in
     let v = c.positions.invariant.on low p from in
@@ -57,7 +56,7 @@ returns-in_default c = λ low p from.
     )
 
 pub step_shortest-requires-clause-state : goal.step_shortest-requires-clause-state
-step_shortest-requires-clause-state c =
+step_shortest-requires-clause-state g c =
     let from = c.requires.scanning in
     let v = c.positions.invariant.on from.0 from.1 from.2 in
     let r = c.run_on_to_match.ensures.on from.0 v.0 v.2 in
@@ -65,9 +64,9 @@ step_shortest-requires-clause-state c =
     slice_get_within c.args.self.now.states c.in-Some.on.state on.2.state on.2.is_state
 
 pub idle_since-requires-in_default-step_shortest : goal.idle_since-requires-in_default-step_shortest
-idle_since-requires-in_default-step_shortest c =
-    let table = table_of c.args.graph.now in
-    let entries = c.args.graph.now.start ∷ [] in
+idle_since-requires-in_default-step_shortest g c =
+    let table = g.P.Patterns.table c.args.patterns.now in
+    let entries = g.P.Patterns.entries c.args.patterns.now in
     let bs = c.args.haystack.now in
     let fits : length bs + 1 < 2 ^ 64 = omega arith in
     let from = c.requires.scanning in
@@ -82,9 +81,9 @@ idle_since-requires-in_default-step_shortest c =
     r.1 r.3 (c.in-Some.ensures.first from.0 r.0 r.2)))
 
 pub returns-in_default-step_shortest : goal.returns-in_default-step_shortest
-returns-in_default-step_shortest c = λ low p from.
-    let table = table_of c.args.graph.now in
-    let entries = c.args.graph.now.start ∷ [] in
+returns-in_default-step_shortest g c = λ low p from.
+    let table = g.P.Patterns.table c.args.patterns.now in
+    let entries = g.P.Patterns.entries c.args.patterns.now in
     let bs = c.args.haystack.now in
     let fits : length bs + 1 < 2 ^ 64 = omega arith in
     let v = c.positions.invariant.on low p from in
@@ -105,9 +104,9 @@ returns-in_default-step_shortest c = λ low p from.
     )
 
 pub returns-then-hit : goal.returns-then-hit
-returns-then-hit c = λ low p from.
-    let table = table_of c.args.graph.now in
-    let entries = c.args.graph.now.start ∷ [] in
+returns-then-hit g c = λ low p from.
+    let table = g.P.Patterns.table c.args.patterns.now in
+    let entries = g.P.Patterns.entries c.args.patterns.now in
     let h = chars c.args.haystack.now in
     let v = c.positions.invariant.on low p from in
     let r = c.run_on_to_match.ensures.on low v.0 v.2 in
@@ -118,9 +117,9 @@ returns-then-hit c = λ low p from.
     (c.in-Some-step_shortest.ensures h low on.0 on.2)
 
 pub returns-then-is_none : goal.returns-then-is_none
-returns-then-is_none c = λ low p from.
-    let table = table_of c.args.graph.now in
-    let entries = c.args.graph.now.start ∷ [] in
+returns-then-is_none g c = λ low p from.
+    let table = g.P.Patterns.table c.args.patterns.now in
+    let entries = g.P.Patterns.entries c.args.patterns.now in
     let h = chars c.args.haystack.now in
     let v = c.positions.invariant.on low p from in
     let r = c.run_on_to_match.ensures.on low v.0 v.2 in
@@ -135,7 +134,7 @@ returns-then-is_none c = λ low p from.
     (none_by c.in-Some.on.here.after c.is_none.result c.is_none.ensures c.if-is_none.true)
 
 pub go_on-at-requires-clause-here : goal.go_on-at-requires-clause-here
-go_on-at-requires-clause-here c =
+go_on-at-requires-clause-here g c =
     let from = c.requires.scanning in
     let v = c.positions.invariant.on from.0 from.1 from.2 in
     let r = c.run_on_to_match.ensures.on from.0 v.0 v.2 in
@@ -146,9 +145,9 @@ go_on-at-requires-clause-here c =
     )
 
 pub go_on-at-requires-clause-state : goal.go_on-at-requires-clause-state
-go_on-at-requires-clause-state c =
-    let table = table_of c.args.graph.now in
-    let entries = c.args.graph.now.start ∷ [] in
+go_on-at-requires-clause-state g c =
+    let table = g.P.Patterns.table c.args.patterns.now in
+    let entries = g.P.Patterns.entries c.args.patterns.now in
     let h = chars c.args.haystack.now in
     let from = c.requires.scanning in
     let v = c.positions.invariant.on from.0 from.1 from.2 in
@@ -161,7 +160,7 @@ go_on-at-requires-clause-state c =
     slice_get_within c.args.self.now.states c.in-Some-step_shortest.to led.state led.is_state
 
 pub positions-smaller : goal.positions-smaller
-positions-smaller c =
+positions-smaller g c =
     let from = c.requires.scanning in
     let v = c.positions.invariant.on from.0 from.1 from.2 in
     let r = c.run_on_to_match.ensures.on from.0 v.0 v.2 in
@@ -172,9 +171,9 @@ positions-smaller c =
     c.utf8.haystack v.2.is (c.go_on-at.ensures.here on.0 on.2.is) (omega (arith, more, later))
 
 pub positions-preserved : goal.positions-preserved
-positions-preserved c =
-    let table = table_of c.args.graph.now in
-    let entries = c.args.graph.now.start ∷ [] in
+positions-preserved g c =
+    let table = g.P.Patterns.table c.args.patterns.now in
+    let entries = g.P.Patterns.entries c.args.patterns.now in
     let h = chars c.args.haystack.now in
     let now = c.args.self.now in
     let to = c.in-Some-step_shortest.to in
@@ -212,7 +211,7 @@ positions-preserved c =
     }
 
 pub positions-init : goal.positions-init
-positions-init c = record {
+positions-init g c = record {
   none = c.requires.none;
   on = λ low p from. (p, omega arith, from, inl refl);
 }

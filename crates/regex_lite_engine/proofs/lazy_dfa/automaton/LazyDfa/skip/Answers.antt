@@ -3,9 +3,9 @@ use Rattle.regex_lite_engine.proofs.lazy_dfa.ScanLemmas.{best_none}
 use Rattle.regex_lite_engine.proofs.lazy_dfa.automaton.LazyDfa.skip.Goals as goal
 
 pub skip_idle-requires-clause-none : goal.skip_idle-requires-clause-none
-skip_idle-requires-clause-none c =
+skip_idle-requires-clause-none g c =
     best_none c.args.at.best c.is_some.result c.is_some.ensures c.if-is_some.false
 
 pub skip_idle-requires-clause-empty : goal.skip_idle-requires-clause-empty
-skip_idle-requires-clause-empty c = λ state is.
+skip_idle-requires-clause-empty g c = λ state is.
     (c.if-not-is_empty.ensures state is).0 (search rules)

@@ -1,31 +1,30 @@
-use Rattle.std.proofs.Common.{◌∷◌, [], inr, refl}
+use Rattle.std.proofs.Common.{inr, refl}
 use Rattle.std.specs.Prelude.{chars}
-use Rattle.regex_lite_engine.specs.Graph.Stored.{table_of}
 use Rattle.regex_lite_engine.proofs.lazy_dfa.ScanLemmas.{is_idle, skipped}
 use Rattle.regex_lite_engine.proofs.lazy_dfa.automaton.LazyDfa.skip_idle.Goals as goal
 
 pub returns-clause-on : goal.returns-clause-on
-returns-clause-on c = λ low p scanning.
+returns-clause-on g c = λ low p scanning.
     let none = c.requires.none in
     let passes = c.pass_over-here.ensures p scanning.is in
     let idle = c.requires.empty scanning.state scanning.is_state in
     let found = c.in_ok-state.ensures in (
       passes.q,
       passes.later,
-      skipped (table_of c.args.graph.now) (c.args.graph.now.start ∷ []) (chars c.args.haystack.now)
+      skipped (g.P.Patterns.table c.args.patterns.now) (g.P.Patterns.entries c.args.patterns.now) (chars c.args.haystack.now)
           low p c.args.self.now c.args.at scanning c.pass_over-here.result passes idle none
           c.in_ok-state.state found.state found.is_state found.none found.searching found.sees,
     )
 
 pub returns-clause-first : goal.returns-clause-first
-returns-clause-first c = λ low p scanning.
+returns-clause-first g c = λ low p scanning.
     let none = c.requires.none in
     let passes = c.pass_over-here.ensures p scanning.is in
     let idle = c.requires.empty scanning.state scanning.is_state in
     inr (
       c.pass_over-here.result,
       refl,
-      is_idle (table_of c.args.graph.now) (c.args.graph.now.start ∷ [])
+      is_idle (g.P.Patterns.table c.args.patterns.now) (g.P.Patterns.entries c.args.patterns.now)
           (chars c.args.haystack.now) low p c.args.self.now c.args.at scanning
           c.pass_over-here.result passes idle none,
     )

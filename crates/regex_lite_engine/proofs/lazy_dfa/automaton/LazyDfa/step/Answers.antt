@@ -1,7 +1,6 @@
-use Rattle.std.proofs.Common.{rules, ◌∷◌, [], Some, slice_index, ap, sym, ◌∙◌}
+use Rattle.std.proofs.Common.{rules, Some, slice_index, ap, sym, ◌∙◌}
 use Rattle.std.proofs.lemmas.Option.{slice_get_within}
 use Rattle.regex_lite_engine.specs.declared.lazy_dfa.state.StoredState.{StoredState}
-use Rattle.regex_lite_engine.specs.Graph.Stored.{table_of}
 use Rattle.regex_lite_engine.specs.LazyDfa.Automaton.{Automaton, State, best_left}
 use Rattle.regex_lite_engine.specs.LazyDfa.Intervals.{class_of}
 use Rattle.regex_lite_engine.specs.LazyDfa.Scanning.{best_told}
@@ -13,14 +12,14 @@ use Rattle.regex_lite_engine.proofs.OptionLemmas.{same_some}
 use Rattle.regex_lite_engine.proofs.lazy_dfa.automaton.LazyDfa.step.Goals as goal
 
 pub index-requires-2 : goal.index-requires-2
-index-requires-2 c =
+index-requires-2 g c =
     let i = c.self.inside in
     let now = c.args.self.now in
     let x = c.args.at.state in
     let class = c.class-class.result in
     let found : StoredState = c.index.result.now in
     let turn = known_turn i.classes i.states.items i.used i.ways.items now c.self.view_is
-    c.args.graph.now.places (c.args.graph.now.start ∷ []) c.requires.remembers x found
+    (g.P.Patterns.table c.args.patterns.now) (g.P.Patterns.entries c.args.patterns.now) c.requires.remembers x found
     c.index.ensures c.requires.state class c.class-class.ensures.few c.if-to.false in
     let inside = stored_within i.classes i.states.items i.used i.ways.items now c.self.view_is
     (slice_index found.next class)
@@ -28,20 +27,20 @@ index-requires-2 c =
     search (inside, rules)
 
 pub returns-in-Nowhere : goal.returns-in-Nowhere
-returns-in-Nowhere c = λ haystack low p scanning.
+returns-in-Nowhere g c = λ haystack low p scanning.
     let i = c.self.inside in
     let now = c.args.self.now in
     let x = c.args.at.state in
     let class = c.class-class.result in
     let found : StoredState = c.index.result.now in
     let turn = known_turn i.classes i.states.items i.used i.ways.items now c.self.view_is
-    c.args.graph.now.places (c.args.graph.now.start ∷ []) c.requires.remembers x found
+    (g.P.Patterns.table c.args.patterns.now) (g.P.Patterns.entries c.args.patterns.now) c.requires.remembers x found
     c.index.ensures c.requires.state class c.class-class.ensures.few c.if-to.false in
     let y = slice_index found.next class in
     let there : StoredState = c.index-2.result.now in
     let own = is_stored i.classes i.states.items i.used i.ways.items now c.self.view_is y there
     c.index-2.ensures (slice_get_within now.states y turn.0 turn.1) in
-    led_step (table_of c.args.graph.now) (c.args.graph.now.start ∷ []) haystack low p now c.args.at
+    led_step (g.P.Patterns.table c.args.patterns.now) (g.P.Patterns.entries c.args.patterns.now) haystack low p now c.args.at
     scanning class y (state_in i.ways.items found) turn.0
     (is_stored i.classes i.states.items i.used i.ways.items now c.self.view_is x found
     c.index.ensures c.requires.state) turn.1 turn.2 (sym
@@ -52,26 +51,26 @@ returns-in-Nowhere c = λ haystack low p scanning.
     (best_told c.args.at.best)) c.in-Nowhere.is))
 
 pub returns-in-AtFirst : goal.returns-in-AtFirst
-returns-in-AtFirst c = λ haystack low p scanning.
+returns-in-AtFirst g c = λ haystack low p scanning.
     let i = c.self.inside in
     let now = c.args.self.now in
     let x = c.args.at.state in
     let class = c.class-class.result in
     let found : StoredState = c.index.result.now in
     let turn = known_turn i.classes i.states.items i.used i.ways.items now c.self.view_is
-    c.args.graph.now.places (c.args.graph.now.start ∷ []) c.requires.remembers x found
+    (g.P.Patterns.table c.args.patterns.now) (g.P.Patterns.entries c.args.patterns.now) c.requires.remembers x found
     c.index.ensures c.requires.state class c.class-class.ensures.few c.if-to.false in
     let y = slice_index found.next class in
     let there : StoredState = c.index-2.result.now in
     let own = is_stored i.classes i.states.items i.used i.ways.items now c.self.view_is y there
     c.index-2.ensures (slice_get_within now.states y turn.0 turn.1) in
-    led_step (table_of c.args.graph.now) (c.args.graph.now.start ∷ []) haystack low p now c.args.at
+    led_step (g.P.Patterns.table c.args.patterns.now) (g.P.Patterns.entries c.args.patterns.now) haystack low p now c.args.at
     scanning class y (state_in i.ways.items found) turn.0
     (is_stored i.classes i.states.items i.used i.ways.items now c.self.view_is x found
     c.index.ensures c.requires.state) turn.1 turn.2 (sym
     (ap (λ (z : Automaton). class_of z.intervals.boundaries c.args.at.here.after) c.self.view_is)
     ∙ sym c.class-class.ensures.same) (hit_in c.index-2.result.now.hit)
     (ap (λ (s : State). s.hit) (same_some (sym turn.1 ∙ own)))
-    (Some (c.args.at.first, c.args.at.here.at))
+    (Some (record { at = c.args.at.first; number = c.in-AtFirst.number }, c.args.at.here.at))
     (sym (ap (λ hit. best_left (hit_in hit) c.args.at.first c.args.at.here.at
     (best_told c.args.at.best)) c.in-AtFirst.is))

@@ -1,4 +1,4 @@
-use Rattle.std.proofs.Common.{◌∷◌, [], subst}
+use Rattle.std.proofs.Common.{subst}
 use Rattle.regex_lite_engine.specs.declared.lazy_dfa.state.StoredState.{StoredState}
 use Rattle.regex_lite_engine.specs.LazyDfa.Automaton.{Automaton}
 use Rattle.regex_lite_engine.specs.LazyDfa.Intervals.{IsAhead}
@@ -7,13 +7,13 @@ use Rattle.regex_lite_engine.proofs.lazy_dfa.StoredStateLemmas.{is_stored, known
 use Rattle.regex_lite_engine.proofs.lazy_dfa.automaton.LazyDfa.turn.Goals as goal
 
 pub returns-clause-turn : goal.returns-clause-turn
-returns-clause-turn c =
+returns-clause-turn g c =
     let i = c.self.inside in
     let now = c.args.self.now in
     let x = c.args.spot.state in
     let found : StoredState = c.index.result.now in
     let turn = known_turn i.classes i.states.items i.used i.ways.items now c.self.view_is
-    c.args.graph.now.places (c.args.graph.now.start ∷ []) c.requires.remembers x found
+    (g.P.Patterns.table c.args.patterns.now) (g.P.Patterns.entries c.args.patterns.now) c.requires.remembers x found
     c.index.ensures c.requires.state c.in-Some.field-0.class c.in-Some.ensures.few c.if-to.false in
     record {
       class = c.in-Some.field-0.class;

@@ -1,13 +1,12 @@
-use Rattle.std.proofs.Common.{rules, ◌≡◌, ◌∷◌, [], None, arith}
+use Rattle.std.proofs.Common.{rules, ◌≡◌, None, arith}
 use Rattle.std.specs.Prelude.{chars}
 use Rattle.std.proofs.lemmas.List.{nil_from_length}
-use Rattle.regex_lite_engine.specs.Graph.Stored.{table_of}
 use Rattle.regex_lite_engine.specs.Pikevm.Turns.{best_of}
 use Rattle.regex_lite_engine.proofs.lazy_dfa.RunLemmas.{at_later, own_first, passed_over}
-use Rattle.regex_lite_engine.proofs.lazy_dfa.run.Cache+usize.pass_idle.Goals as goal
+use Rattle.regex_lite_engine.proofs.lazy_dfa.run.Cache+Origin.pass_idle.Goals as goal
 
 pub returns-clause-stands : goal.returns-clause-stands
-returns-clause-stands c = λ s automaton stands.
+returns-clause-stands g c = λ s automaton stands.
     let a = c.args in
     let passes = c.pass_over-here.ensures stands.p stands.is in
     let few = c.if-threads-gt0.false in
@@ -18,8 +17,8 @@ returns-clause-stands c = λ s automaton stands.
       p = passes.q;
       is = passes.is;
       on =
-          passed_over (table_of c.args.graph.now) (chars c.args.haystack.now)
-          (c.args.graph.now.start ∷ []) s stands.p a.self.now c.pass_over-here.result stands.on none
+          passed_over (g.P.Patterns.table c.args.patterns.now) (chars c.args.haystack.now)
+          (g.P.Patterns.entries c.args.patterns.now) s stands.p a.self.now c.pass_over-here.result stands.on none
           no_match passes;
       first = omega arith;
       own = own_first c.pass_over-here.result.at a.self.now.walk.memory.threads none;
@@ -27,14 +26,14 @@ returns-clause-stands c = λ s automaton stands.
     }
 
 pub returns-clause-later : goal.returns-clause-later
-returns-clause-later c =
+returns-clause-later g c =
     let stands = c.requires.2 in
     let passes = c.pass_over-here.ensures stands.p stands.is in
     at_later (chars c.args.haystack.now) stands.p passes.q c.args.at.here c.pass_over-here.result
     stands.is passes.is passes.later
 
 pub returns-then-threads-gt0-clause-stands : goal.returns-then-threads-gt0-clause-stands
-returns-then-threads-gt0-clause-stands c = λ s automaton stands.
+returns-then-threads-gt0-clause-stands g c = λ s automaton stands.
     record {
       p = stands.p;
       is = stands.is;

@@ -1,33 +1,32 @@
-use Rattle.std.proofs.Common.{rules, ◌+◌, ◌∷◌, [], arith}
+use Rattle.std.proofs.Common.{rules, ◌+◌, arith}
 use Rattle.std.specs.Prelude.{chars}
-use Rattle.regex_lite_engine.specs.Graph.Stored.{table_of}
 use Rattle.regex_lite_engine.specs.Pikevm.Turns.{best_of}
 use Rattle.regex_lite_engine.proofs.search.here.HereLemmas.{over_at, at_most}
 use Rattle.regex_lite_engine.proofs.pikevm.ShortestLemmas.{shortest_known}
-use Rattle.regex_lite_engine.proofs.lazy_dfa.turns.Cache+usize.take_turns_to_end.Goals as goal
+use Rattle.regex_lite_engine.proofs.lazy_dfa.turns.Cache+Origin.take_turns_to_end.Goals as goal
 
 pub positions-init : goal.positions-init
-positions-init c =
+positions-init g c =
     record { stands = λ s automaton begun. begun; none = c.requires.none; all = λ none. none }
 
 pub pass_idle-at-requires : goal.pass_idle-at-requires
-pass_idle-at-requires c =
+pass_idle-at-requires g c =
     let s = c.requires.stands.0 in
     let automaton = c.requires.stands.1 in
     let begun = c.requires.stands.3 in
     (s, automaton, c.positions.invariant.stands s automaton begun)
 
 pub go_over-requires : goal.go_over-requires
-go_over-requires c =
+go_over-requires g c =
     let s = c.requires.stands.0 in
     let automaton = c.requires.stands.1 in
     let begun = c.requires.stands.3 in
     let stands =
     c.pass_idle-at.ensures.stands s automaton (c.positions.invariant.stands s automaton begun) in
-    (s, stands.p, stands.is, c.requires.stands.2, stands.on)
+    record { all = c.requires.all; on = (s, stands.p, stands.is, c.requires.stands.2, stands.on) }
 
 pub on-at-requires-clause-here : goal.on-at-requires-clause-here
-on-at-requires-clause-here c =
+on-at-requires-clause-here g c =
     let s = c.requires.stands.0 in
     let automaton = c.requires.stands.1 in
     let begun = c.requires.stands.3 in
@@ -37,7 +36,7 @@ on-at-requires-clause-here c =
     (stands.p, stands.is)
 
 pub on-at-requires-clause-first : goal.on-at-requires-clause-first
-on-at-requires-clause-first c =
+on-at-requires-clause-first g c =
     let s = c.requires.stands.0 in
     let automaton = c.requires.stands.1 in
     let begun = c.requires.stands.3 in
@@ -47,44 +46,44 @@ on-at-requires-clause-first c =
     stands.first
 
 pub positions-smaller : goal.positions-smaller
-positions-smaller c =
+positions-smaller g c =
     let s = c.requires.stands.0 in
     let automaton = c.requires.stands.1 in
     let begun = c.requires.stands.3 in
     let stands =
     c.pass_idle-at.ensures.stands s automaton (c.positions.invariant.stands s automaton begun) in
     let on = c.go_over.ensures.on s stands.p stands.is stands.on in
-    let next = c.on-at.ensures.stands (table_of c.args.graph.now)
-    (c.args.graph.now.start ∷ []) automaton s stands.p stands.is on (search rules) in
+    let next = c.on-at.ensures.stands (g.P.Patterns.table c.args.patterns.now)
+    (g.P.Patterns.entries c.args.patterns.now) automaton s stands.p stands.is on (search rules) in
     let most = at_most c.args.haystack.now next.p c.on-at.result.here c.utf8.haystack next.is in
     let later = c.on-at.ensures.later in
     let passed = c.pass_idle-at.ensures.later in
     omega (arith, most, later, passed)
 
 pub positions-preserved : goal.positions-preserved
-positions-preserved c = record {
+positions-preserved g c = record {
   stands = λ s automaton begun.
       let stands =
       c.pass_idle-at.ensures.stands s automaton (c.positions.invariant.stands s automaton begun) in
       let on = c.go_over.ensures.on s stands.p stands.is stands.on in
-      c.on-at.ensures.stands (table_of c.args.graph.now)
-      (c.args.graph.now.start ∷ []) automaton s stands.p stands.is on (search rules);
+      c.on-at.ensures.stands (g.P.Patterns.table c.args.patterns.now)
+      (g.P.Patterns.entries c.args.patterns.now) automaton s stands.p stands.is on (search rules);
   none = c.is_known.ensures.none_yet (search rules);
   all = λ none. (c.is_spent.ensures.all (c.positions.invariant.all none)).0;
 }
 
 pub returns-then-is_spent-clause-on : goal.returns-then-is_spent-clause-on
-returns-then-is_spent-clause-on c = λ s automaton begun.
+returns-then-is_spent-clause-on g c = λ s automaton begun.
     let stands = c.positions.invariant.stands s automaton begun in
     let inside = stands.is.inside in
     (stands.p, omega (arith, inside), stands.on)
 
 pub returns-then-is_spent-clause-stands : goal.returns-then-is_spent-clause-stands
-returns-then-is_spent-clause-stands c = λ s automaton begun.
+returns-then-is_spent-clause-stands g c = λ s automaton begun.
     c.positions.invariant.stands s automaton begun
 
 pub returns-then-is_known-clause-on : goal.returns-then-is_known-clause-on
-returns-then-is_known-clause-on c = λ s automaton begun.
+returns-then-is_known-clause-on g c = λ s automaton begun.
     let stands =
     c.pass_idle-at.ensures.stands s automaton (c.positions.invariant.stands s automaton begun) in
     let on = c.go_over.ensures.on s stands.p stands.is stands.on in
@@ -92,12 +91,12 @@ returns-then-is_known-clause-on c = λ s automaton begun.
     (stands.p + 1, omega (arith, inside), on)
 
 pub returns-then-is_known-clause-over : goal.returns-then-is_known-clause-over
-returns-then-is_known-clause-over c = λ s automaton begun none.
+returns-then-is_known-clause-over g c = λ s automaton begun none.
     let stands =
     c.pass_idle-at.ensures.stands s automaton (c.positions.invariant.stands s automaton begun) in
     let on = c.go_over.ensures.on s stands.p stands.is stands.on in
-    shortest_known (table_of c.args.graph.now) (chars c.args.haystack.now)
-    (c.args.graph.now.start ∷ []) s stands.p c.pass_idle-at.result.here.at
+    shortest_known (g.P.Patterns.table c.args.patterns.now) (chars c.args.haystack.now)
+    (g.P.Patterns.entries c.args.patterns.now) s stands.p c.pass_idle-at.result.here.at
     c.positions.self.walk.memory.threads c.go_over.new.self.walk.memory.threads
     (best_of c.positions.self.best) (best_of c.go_over.new.self.best) stands.on.low stands.is.inside
     c.positions.invariant.none stands.is.bytes c.go_over.ensures.ends

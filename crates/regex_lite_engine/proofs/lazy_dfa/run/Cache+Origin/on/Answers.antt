@@ -4,7 +4,7 @@ use Rattle.std.proofs.lemmas.List.{nil_from_length}
 use Rattle.regex_lite_engine.proofs.lazy_dfa.RunLemmas.{other_first, own_first, state_from}
 use Rattle.regex_lite_engine.proofs.lazy_dfa.ScanLemmas.{next_before}
 use Rattle.regex_lite_engine.proofs.OffsetLemmas.{offset_less}
-use Rattle.regex_lite_engine.proofs.lazy_dfa.run.Cache+usize.on.Goals as goal
+use Rattle.regex_lite_engine.proofs.lazy_dfa.run.Cache+Origin.on.Goals as goal
 
 pub returns-then-threads-eq0-clause-stands : goal.returns-then-threads-eq0-clause-stands
 returns-then-threads-eq0-clause-stands c = λ table entries automaton s p is on known.

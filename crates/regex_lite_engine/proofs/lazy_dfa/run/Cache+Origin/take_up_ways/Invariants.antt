@@ -1,11 +1,11 @@
 use Rattle.std.proofs.Common.{◌≡◌, [], None, map, take}
-use Rattle.regex_lite_engine.specs.LazyDfa.Running.{GoesOnWith, started_at}
+use Rattle.regex_lite_engine.specs.LazyDfa.Running.{GoesOnWith, thread_from}
 use Rattle.regex_lite_engine.specs.Pikevm.Turns.{best_of}
-use Rattle.regex_lite_engine.proofs.lazy_dfa.run.Cache+usize.take_up_ways.Given as goal
+use Rattle.regex_lite_engine.proofs.lazy_dfa.run.Cache+Origin.take_up_ways.Given as goal
 
 abbrev pub invariant-loop-way : goal.invariant-loop-way
 invariant-loop-way l = record {
-  next : l.self.walk.memory.next ≡ map (started_at l.first) (take l.way-index l.ways);
+  next : l.self.walk.memory.next ≡ map (thread_from l.first) (take l.way-index l.ways);
   none : best_of l.self.best ≡ None;
   threads : l.self.walk.memory.threads ≡ [];
   kept : GoesOnWith l.initial.self

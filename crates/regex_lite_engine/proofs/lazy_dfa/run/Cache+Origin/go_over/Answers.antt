@@ -1,0 +1,41 @@
+use Rattle.std.proofs.Common.{◌+◌, length, sym, ◌∙◌, arith}
+use Rattle.std.specs.Prelude.{chars}
+use Rattle.regex_lite_engine.specs.Graph.Renumbered.{arrows_of}
+use Rattle.regex_lite_engine.proofs.pikevm.PassLemmas.{bound_on}
+use Rattle.regex_lite_engine.proofs.lazy_dfa.run.Cache+Origin.go_over.Goals as goal
+
+pub turn-requires-clause-inside : goal.turn-requires-clause-inside
+turn-requires-clause-inside g c = c.requires.all.inside
+
+pub returns-clause-on : goal.returns-clause-on
+returns-clause-on g c = λ s p is on.
+    let a = c.args in
+    let table = g.P.Patterns.table a.patterns.now in
+    let entries = g.P.Patterns.entries a.patterns.now in
+    let h = chars a.haystack.now in
+    let old = a.self.now in
+    let new = c.turn.new.self in
+    let all = c.requires.all in
+    let low = on.low in
+    let now = c.turn.ensures.round in
+    let rounds = on.rounds in
+    let tries = c.turn.ensures.tries in
+    let few = all.few in
+    record {
+      low = omega (arith, low);
+      ready = c.turn.ensures.ready;
+      coming =
+          c.turn.ensures.comes h entries p s (length h) is low is.inside (all.at_each h p)
+          on.coming;
+      tries =
+          bound_on table h entries s (old.walk.steps.tried + length old.walk.memory.threads)
+          (new.walk.steps.tried + length new.walk.memory.threads) p p
+          (arrows_of table + length entries) low (omega arith) on.tries (omega (arith, tries, few));
+      entries_left =
+          bound_on table h entries s old.walk.steps.entered new.walk.steps.entered p p
+          (length table) low (omega arith) on.entries_left c.turn.ensures.entries;
+      rounds = omega (arith, rounds, now, low);
+      width =
+          sym c.turn.ensures.ready.best_width ∙ c.turn.ensures.width ∙ on.ready.best_width
+          ∙ on.width;
+    }

@@ -1,0 +1,19 @@
+use Rattle.std.proofs.Common.{◌≡◌, ◌-◌, ℕ, None, length}
+use Rattle.std.specs.Prelude.{chars}
+use Rattle.regex_lite_engine.specs.LazyDfa.Automaton.{Automaton}
+use Rattle.regex_lite_engine.specs.LazyDfa.Running.{Stands}
+use Rattle.regex_lite_engine.specs.Pikevm.Turns.{best_of}
+use Rattle.regex_lite_engine.proofs.lazy_dfa.turns.Cache+Origin.take_turns_to_end.Given as goal
+
+abbrev pub invariant-positions : goal.invariant-positions
+invariant-positions g l = record {
+  stands : (s : ℕ) (automaton : Automaton)
+      → Stands (g.P.Patterns.table l.patterns) (chars l.haystack) (g.P.Patterns.entries l.patterns) s automaton l.fn.from
+      l.initial.self
+      → Stands (g.P.Patterns.table l.patterns) (chars l.haystack) (g.P.Patterns.entries l.patterns) s automaton l.at l.self;
+  none : best_of l.self.best ≡ None;
+  all : l.fn.most ≡ None → l.left ≡ None;
+}
+
+abbrev pub decreases-positions : goal.decreases-positions
+decreases-positions g l = length l.haystack - l.at.here.at
