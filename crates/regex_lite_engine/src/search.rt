@@ -1,5 +1,6 @@
 //! What all searches share: a position with the characters beside it, what is searched for, the
 //! positions that are passed over, and the outcome.
+pub(crate) mod all_of_list;
 pub(crate) mod here;
 pub(crate) mod list_patterns;
 mod list_skip;

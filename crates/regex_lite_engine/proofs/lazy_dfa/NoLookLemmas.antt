@@ -1,12 +1,13 @@
 -- Where no place looks at its neighbours, no arrow requires a look.
 use Rattle.std.proofs.Common.{◌≡◌, ℕ, zero, suc, true, false, List, [], ◌∷◌, map, slice_get}
-use Rattle.std.proofs.Common.{Some, sym, subst, ◌∙◌}
+use Rattle.std.proofs.Common.{Some, ap, sym, subst, ◌∙◌}
 use Rattle.regex_lite_engine.specs.declared.nfa.place.Place as code
 use Rattle.regex_lite_engine.specs.declared.nfa.place.Place.TheVariants as stored
 use Rattle.regex_lite_engine.specs.Graph.NoLooks.{HasNoLooks, RequiresNoLook}
 use Rattle.regex_lite_engine.specs.Graph.Stored.{place_of}
 use Rattle.regex_lite_engine.specs.LazyDfa.Intervals.{Intervals, AreIntervalsOf, IsBoundedPlace}
-use Rattle.regex_lite_engine.specs.LazyDfa.Automaton.{AreIntervalsFor}
+use Rattle.regex_lite_engine.specs.LazyDfa.Automaton.{AreIntervalsFor, Automaton, State}
+use Rattle.regex_lite_engine.specs.LazyDfa.Remembering.{RemembersFor}
 use Rattle.regex_lite_engine.proofs.lazy_dfa.AlikeLemmas.{alike_at}
 use Rattle.regex_lite_engine.proofs.OptionLemmas.{not_there, same_some}
 use Rattle.regex_lite_engine.proofs.laws.search.NoLookLemmas.{free_arrows}
@@ -49,3 +50,19 @@ intervals_for places intervals are = record {
   sides = are.sides;
   no_looks = no_looks places intervals are;
 }
+
+-- an automaton without states remembers no turn that another search would not take
+pub remembers_none : (places : List code.Place) (automaton : Automaton)
+    → AreIntervalsOf places automaton.intervals → automaton.states ≡ [] → automaton.pending ≡ []
+    → (entries : List ℕ) → RemembersFor (map place_of places) entries automaton
+remembers_none places automaton are empty none entries = record {
+  remembers = record {
+    intervals = intervals_for places automaton.intervals are;
+    leads = λ x from class at. absurd (nothing x from at);
+    fit = λ x state at. absurd (nothing x state at);
+  };
+  none_pending = none;
+}
+  where
+    nothing : (x : ℕ) (state : State) → slice_get automaton.states x ≡ Some state → ⊥
+    nothing x state at = not_there (sym (ap (λ states. slice_get states x) empty) ∙ at)

@@ -9,8 +9,10 @@ use Rattle.regex_lite_engine.specs.Graph.Places.{Place}
 use Rattle.regex_lite_engine.specs.LazyDfa.Automaton.{Automaton}
 use Rattle.regex_lite_engine.specs.LazyDfa.Learning.{IsIn}
 use Rattle.regex_lite_engine.specs.LazyDfa.Running.{IsOnItsWay, Stands}
-use Rattle.regex_lite_engine.specs.LazyDfa.Scanning.{best_told, span_told}
-use Rattle.regex_lite_engine.specs.Search.NumberedOutcomes.{IsBestOutcomeOf, best_kept, span_of}
+use Rattle.regex_lite_engine.specs.LazyDfa.Scanning.{best_told}
+use Rattle.regex_lite_engine.specs.Search.NumberedOutcomes.{IsBestOutcomeOf, best_at, best_kept, span_of}
+use Rattle.regex_lite_engine.specs.Search.NumberedOutcomes.{with_start_kept}
+use Rattle.regex_lite_engine.specs.Search.Rows.{Row}
 use Rattle.regex_lite_engine.specs.Pikevm.Turns.{best_of}
 
 -- one that remembers nothing
@@ -46,14 +48,15 @@ module _ (table : List (Place ℕ)) (h : Text) (entries : List ℕ) (s : ℕ) wh
 
 -- where the best match starts and ends, without the number of its pattern
 pub spanned : (table : List (Place ℕ)) (h : Text) (entries : List ℕ) (s : ℕ)
-    (found : Option (Origin × ℕ))
-    → IsBestOutcomeOf table h entries s (best_told found)
-    → IsBestOutcomeOf table h entries s (span_told (span_of found))
-spanned table h entries s None outcome = outcome
-spanned table h entries s (Some known) (number, found, answer, told, rest) = (
+    (found : Option (Origin × ℕ)) (row : Row)
+    → IsBestOutcomeOf table h entries s (best_kept found row)
+    → IsBestOutcomeOf table h entries s (with_start_kept (best_at (span_of found) row))
+spanned table h entries s None row outcome = outcome
+spanned table h entries s (Some known) row (number, found, answer, told, end, rest) = (
   number,
   found,
   answer,
   record { start_told = told.start_told; number_told = tt },
+  end,
   rest,
 )

@@ -4,6 +4,7 @@ use Rattle.std.proofs.Common.{true, inr, Bool, List, [], ◌∷◌, length, Opti
 use Rattle.std.proofs.Common.{option_map, MatchOption, refl, sym, ap, subst, ◌∙◌, arith}
 use Rattle.std.proofs.Math.Nat.{mul-le-mul_left, mul-suc}
 use Rattle.std.proofs.lemmas.Bool.{cases_lt}
+use Rattle.std.proofs.lemmas.List.{length-map}
 use Rattle.regex_lite_syntax.specs.Text.{Text}
 use Rattle.regex_lite_engine.specs.declared.pikevm.beginning.Origin.{Origin}
 use Rattle.regex_lite_engine.specs.declared.search.here.Here.{Here}
@@ -11,6 +12,7 @@ use Rattle.regex_lite_engine.specs.declared.search.patterns.Start.{Start}
 use Rattle.regex_lite_engine.specs.declared.pikevm.cache.Cache.{Cache}
 use Rattle.regex_lite_engine.specs.Graph.Places.{Place}
 use Rattle.regex_lite_engine.specs.Graph.Renumbered.{arrows_of}
+use Rattle.regex_lite_engine.specs.Graph.Stored.{StoredGraph, place_of, table_of}
 use Rattle.regex_lite_engine.specs.LazyDfa.Automaton.{Automaton, IsEmptyState, Suits, ways_of}
 use Rattle.regex_lite_engine.specs.LazyDfa.Intervals.{side_of}
 use Rattle.regex_lite_engine.specs.LazyDfa.Learning.{HasTurned, IsFirstStart, IsIn}
@@ -45,11 +47,15 @@ one_start table h s p = record {
     among zero entry is = inl (refl, sym (same_some is))
     among (suc n) entry is = absurd (not_there is)
 
-pub all_of_one : (table : List (Place ℕ)) (s : ℕ) → s < length table
-    → AreAllStarts table (s ∷ []) (record { number = 0; place = s } ∷ [])
-all_of_one table s inside = record {
-  at_each = λ h p. one_start table h s p;
-  inside = one_inside (length table) (record { number = 0; place = s }) true inside;
+-- the pattern of a graph by itself may start anywhere
+pub all_of_one : (graph : StoredGraph) (start : ℕ) → start ≡ graph.start
+    → start < length graph.places → AreAllStarts (table_of graph) (graph.start ∷ [])
+    (record { number = 0; place = graph.start } ∷ [])
+all_of_one graph start is inside = record {
+  at_each = λ h p. one_start (table_of graph) h graph.start p;
+  inside =
+      one_inside (length (table_of graph)) (record { number = 0; place = graph.start }) true
+      (let same = length-map graph.places place_of in omega (arith, is, inside, same));
   few = omega arith;
   countable = omega arith;
 }

@@ -7,6 +7,7 @@ use Rattle.regex_lite_engine.specs.Backtrack.Short.{SearchesShort}
 use Rattle.regex_lite_engine.specs.Graph.NoLooks.{HasNoLooks}
 use Rattle.regex_lite_engine.specs.Graph.Places.{Place}
 use Rattle.regex_lite_engine.specs.Graph.Stored.{StoredGraph, table_of}
+use Rattle.regex_lite_engine.specs.Graph.StoredList.{StoredList, table_of_list}
 use Rattle.regex_lite_engine.specs.LazyDfa.Automaton.{Automaton, Remembers}
 use Rattle.regex_lite_engine.specs.LazyDfa.Scanning.{span_told}
 use Rattle.regex_lite_engine.specs.Search.NumberedAnswer.{IsNumberedMatch}
@@ -14,15 +15,26 @@ use Rattle.regex_lite_engine.specs.Search.NumberedOutcomes.{IsBestOutcomeOf}
 use Rattle.regex_lite_engine.specs.Search.Counting.{IsCountable}
 use Rattle.regex_lite_engine.specs.Pikevm.Searching.{IsBetween}
 
--- all turns are those of searches in this graph
-pub record RemembersAll (graph : StoredGraph) (automaton : Automaton) : Type 0 where
-  pub remembers : Remembers (table_of graph) (graph.start ∷ []) automaton
+-- all turns are those of searches for these entries of the table
+pub record RemembersFor (table : List (Place ℕ)) (entries : List ℕ) (automaton : Automaton)
+    : Type 0 where
+  pub remembers : Remembers table entries automaton
   pub none_pending : automaton.pending ≡ []
+
+-- all turns are those of searches in this graph
+abbrev pub RemembersAll : StoredGraph → Automaton → Type 0
+RemembersAll graph automaton = RemembersFor (table_of graph) (graph.start ∷ []) automaton
 
 -- if there is an automaton, then no slots are kept
 abbrev pub IsRemembering : StoredGraph → (slots : ℕ) → Option Automaton → Type 0
 IsRemembering graph slots automaton =
     IfSome automaton (λ automaton. RemembersAll graph automaton × (slots ≡ 0))
+
+-- the same of searches for all patterns of a list
+abbrev pub IsRememberingList : StoredList → (slots : ℕ) → Option Automaton → Type 0
+IsRememberingList list slots automaton =
+    IfSome automaton (λ automaton.
+    RemembersFor (table_of_list list) list.entries automaton × (slots ≡ 0))
 
 -- searches for matches of the graph go on in its memory, which has no slots, and searches for this
 -- many slots of a short match in the memory beside it

@@ -17,6 +17,9 @@ pub(super) const MOST_STATES: usize = 128;
 /// At most this many ways are kept, in all states together.
 const MOST_WAYS: usize = 2304;
 
+/// They do if of this number of bytes more than one turn finds no room.
+const BYTES_FOR_ONE: usize = 32;
+
 /// Stands for a turn that isn't remembered.
 pub(super) const UNKNOWN: u16 = 0xFFFF;
 
@@ -30,6 +33,10 @@ pub(crate) struct LazyDfa {
     ways: Vec<StoredWay>,
     /// How many of them belong to states.
     used: usize,
+    /// How many turns have found no room.
+    not_kept: usize,
+    /// Over this number of bytes searches may go without it.
+    spare: usize,
 }
 
 impl Model for LazyDfa {
@@ -52,8 +59,13 @@ impl Model for LazyDfa {
 }
 
 impl LazyDfa {
-    /// One that remembers nothing yet.
-    pub(crate) fn new(alloc: Global, classes: Classes) -> Result<LazyDfa, AllocError>
+    /// One that remembers nothing yet. Searches that go over this number of bytes don't give it
+    /// up.
+    pub(crate) fn new(
+        alloc: Global,
+        classes: Classes,
+        spare: usize,
+    ) -> Result<LazyDfa, AllocError>
         ensures intervals { IfOk result (λ dfa. dfa.intervals ≡ classes) }
         ensures states { IfOk result (λ dfa. dfa.states ≡ []) }
         ensures pending { IfOk result (λ dfa. dfa.pending ≡ []) }
@@ -65,7 +77,22 @@ impl LazyDfa {
             states,
             ways,
             used: 0,
+            not_kept: 0,
+            spare,
         })
+    }
+
+    /// Whether too many turns have found no room for a search that has gone over this number of
+    /// bytes.
+    pub(super) fn is_given_up(&self, went: usize) -> bool {
+        self.not_kept.saturating_mul(BYTES_FOR_ONE) > self.spare.saturating_add(went)
+    }
+
+    /// Counts the bytes that a search has gone over.
+    pub(crate) fn count_bytes(&mut self, went: usize)
+        ensures { self.new ≡ self.old }
+    {
+        self.spare = self.spare.saturating_add(went);
     }
 
     /// Whether the graph has looks. Then so does every search for its turns.
@@ -113,6 +140,7 @@ impl LazyDfa {
         let y = self.states.len();
         if y >= MOST_STATES || !self.add(searching, before, hit) {
             self.drop_pending();
+            self.not_kept = self.not_kept.saturating_add(1);
             return None;
         }
         Some(y as u16)

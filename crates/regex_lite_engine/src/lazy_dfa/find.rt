@@ -1,6 +1,6 @@
 //! A whole search that remembers its turns, and goes by those that it remembers.
 ghost use Rattle.std.specs.Prelude.{◌≡◌, ◌+◌, ◌<◌, ◌≤◌, ◌⊎◌, [], ℕ, List};
-ghost use Rattle.std.specs.Prelude.{All, IfSome, IsCharBoundary};
+ghost use Rattle.std.specs.Prelude.{All, IfErr, IfOk, IfSome, IsCharBoundary};
 ghost use Rattle.std.specs.Prelude.{MatchOption, None, Some, chars, length, true};
 ghost use Rattle.regex_lite_syntax.specs.Text.{Text};
 ghost use Rattle.regex_lite_engine.specs.declared.lazy_dfa.scan.Scanned.TheVariants.{Stuck};
@@ -102,16 +102,67 @@ impl LazyDfa {
         ensures between { IsBetween (P.table patterns.now) cache.new }
         ensures width { length cache.new.walk.memory.row ≡ 0 }
     {
+        match self.find_while_it_pays(patterns, cache, haystack, from, least) {
+            Ok(found) => found,
+            Err(at) => {
+                cache.take_turns(patterns, haystack, at, None);
+                cache.best.found()
+            }
+        }
+    }
+
+    /// The same, unless too many turns find no room: then it returns where the search stands.
+    pub(crate) fn find_while_it_pays<P: Patterns>(
+        &mut self,
+        patterns: &P,
+        cache: &mut Cache<Origin>,
+        haystack: &str,
+        from: Progress,
+        least: u128,
+    ) -> Result<Option<(Origin, usize)>, Progress>
+        requires all { AreAllStarts (P.table patterns.now) (P.entries patterns.now)
+            (P.starts patterns.now) }
+        requires remembers { Remembers (P.table patterns.now) (P.entries patterns.now) self.old }
+        requires none_pending { self.old.pending ≡ [] }
+        requires stands { (s : ℕ)
+            × CanCount (P.table patterns.now) (length (P.entries patterns.now)) (characters_left (chars haystack.now) s)
+            × Stands (P.table patterns.now) (chars haystack.now) (P.entries patterns.now) s self.old
+            from cache.old }
+        requires least { least ≤ 1 }
+        ensures found { (s : ℕ) → Stands (P.table patterns.now) (chars haystack.now)
+            (P.entries patterns.now) s self.old from cache.old
+            → IfOk result (λ found. IsBestOutcomeOf (P.table patterns.now) (chars haystack.now)
+            (P.entries patterns.now) s (best_told found)) }
+        ensures bounded { (s : ℕ) → Stands (P.table patterns.now) (chars haystack.now)
+            (P.entries patterns.now) s self.old from cache.old
+            → IfOk result (λ _. IsBoundedBy (length (P.table patterns.now))
+            (arrows_of (P.table patterns.now) + length (P.entries patterns.now))
+            (chars haystack.now) s cache.new.walk.steps.tried cache.new.walk.steps.entered
+            cache.new.walk.steps.looked) }
+        ensures entered { IfOk result (λ found. IfSome found
+            (λ _. least ≤ cache.new.walk.steps.entered)) }
+        ensures stands { (s : ℕ) → Stands (P.table patterns.now) (chars haystack.now)
+            (P.entries patterns.now) s self.old from cache.old
+            → IfErr result (λ at. Stands (P.table patterns.now) (chars haystack.now)
+            (P.entries patterns.now) s self.new at cache.new) }
+        ensures remembers { Remembers (P.table patterns.now) (P.entries patterns.now) self.new }
+        ensures none_pending { self.new.pending ≡ [] }
+        ensures between { IsBetween (P.table patterns.now) cache.new }
+        ensures width { length cache.new.walk.memory.row ≡ 0 }
+    {
         let mut at = from;
         'positions: loop {
             at = self.at_idle(patterns, cache, haystack, at);
             if let Some(found) = self.look_ahead(patterns, cache, haystack, &mut at, least) {
-                return found;
+                return Ok(found);
+            }
+            if self.is_given_up(at.here.at.saturating_sub(from.here.at)) {
+                return Err(at);
             }
             let hit = cache.go_over(patterns, haystack, at.here);
             at.state = self.learn_at(patterns, cache, at, hit);
             if is_over(at.here, &cache.walk.memory, &cache.best) {
-                return cache.best.found();
+                return Ok(cache.best.found());
             }
             at = cache.on(haystack, at);
         }

@@ -1,12 +1,15 @@
 //! Whether a searcher remembers its turns.
-ghost use Rattle.std.specs.Prelude.{◌≡◌, ◌∷◌, [], IfOk, IfSome};
-ghost use Rattle.regex_lite_engine.specs.LazyDfa.Automaton.{Remembers};
-ghost use Rattle.regex_lite_engine.specs.LazyDfa.Remembering.{RemembersAll};
+ghost use Rattle.std.specs.Prelude.{ℕ, List, IfOk, IfSome};
+ghost use Rattle.regex_lite_engine.specs.Graph.Stored.{places_of};
+ghost use Rattle.regex_lite_engine.specs.Graph.StoredList.{table_of_list};
+ghost use Rattle.regex_lite_engine.specs.LazyDfa.Remembering.{RemembersFor, RemembersAll};
 
 use crate::Graph;
 use crate::backtrack::MOST_PAIRS;
 use crate::lazy_dfa::automaton::LazyDfa;
 use crate::lazy_dfa::classes::Classes;
+use crate::nfa::list::GraphList;
+use crate::nfa::table::Table;
 use crate::prefilter::Prefilter;
 use std::alloc::{AllocError, Global};
 
@@ -15,6 +18,9 @@ const LONG: usize = 1000;
 
 /// From this number on it pays where most characters are passed over before a match begins.
 const LONG_BETWEEN_MATCHES: usize = 4096;
+
+/// Searches for the patterns of a list go over this number of bytes before they give it up.
+const SPARE: usize = 8192;
 
 /// In a graph of this number of places the memory of a search without slots takes at most 4 KB.
 const MOST_PLACES: usize = 85;
@@ -59,6 +65,12 @@ pub(crate) fn pays_with_slots(graph: &Graph, bytes: usize) -> bool {
     bytes >= LONG_BETWEEN_MATCHES && graph.places() <= MOST_PLACES
 }
 
+/// Whether it pays to remember the turns of searches for the patterns of this list. By measurement
+/// it doesn't where an index of the patterns rules most of them out at most positions.
+pub(crate) fn pays_for_list(list: &GraphList, bytes: usize) -> bool {
+    bytes >= LONG_BETWEEN_MATCHES && list.heads().begin_often()
+}
+
 /// Whether one of a few bytes begins each match. If slots are then searched for by ordered sets, an
 /// automaton doesn't pay: `\b(t\w+)\b` on sentences took 51 instructions a byte instead of 42. If
 /// they are searched for up to the match's end, it does: a URL with three groups took 50 instead of
@@ -71,24 +83,40 @@ pub(super) fn begins_rarely(graph: &Graph) -> bool {
 }
 
 impl LazyDfa {
-    /// One for this graph, which remembers nothing yet. None where there are too many classes, or
+    /// One for this table, which remembers nothing yet. None where there are too many classes, or
     /// if memory runs out: turns are then taken anew.
-    pub(crate) fn for_graph(alloc: Global, graph: &Graph) -> Option<LazyDfa>
-        ensures { IfSome result (RemembersAll graph.now) }
+    pub(crate) fn for_table(alloc: Global, table: &Table, spare: usize) -> Option<LazyDfa>
+        ensures { (entries : List ℕ) → IfSome result (RemembersFor (places_of table.now) entries) }
     {
-        match LazyDfa::of(alloc, graph) {
+        match LazyDfa::of(alloc, table, spare) {
             Ok(made) => made,
             Err(_) => None,
         }
     }
 
-    /// [`LazyDfa::for_graph`], or that memory ran out.
-    fn of(alloc: Global, graph: &Graph) -> Result<Option<LazyDfa>, AllocError>
-        ensures { IfOk result (λ made. IfSome made (RemembersAll graph.now)) }
+    /// [`LazyDfa::for_table`], or that memory ran out.
+    fn of(alloc: Global, table: &Table, spare: usize) -> Result<Option<LazyDfa>, AllocError>
+        ensures { (entries : List ℕ)
+            → IfOk result (λ made. IfSome made (RemembersFor (places_of table.now) entries)) }
     {
-        let Some(classes) = Classes::of(alloc, graph.table().all())? else {
+        let Some(classes) = Classes::of(alloc, table.all())? else {
             return Ok(None);
         };
-        Ok(Some(LazyDfa::new(alloc, classes)?))
+        Ok(Some(LazyDfa::new(alloc, classes, spare)?))
+    }
+
+    /// One for this graph. It is never given up, since a turn costs no more with it.
+    pub(crate) fn for_graph(alloc: Global, graph: &Graph) -> Option<LazyDfa>
+        ensures { IfSome result (RemembersAll graph.now) }
+    {
+        LazyDfa::for_table(alloc, graph.table(), usize::MAX)
+    }
+
+    /// One for all patterns of this list. It is given up if too many turns find no room: there each
+    /// pattern is tried, and without it those alone that may start.
+    pub(crate) fn for_list(alloc: Global, list: &GraphList) -> Option<LazyDfa>
+        ensures { IfSome result (RemembersFor (table_of_list list.now) list.now.entries) }
+    {
+        LazyDfa::for_table(alloc, list.table(), SPARE)
     }
 }

@@ -35,7 +35,7 @@ pub(crate) struct Progress {
 
 impl Progress {
     /// Where a search stands before its first turn.
-    pub(super) fn begun(haystack: &str, start: usize) -> Progress
+    pub(crate) fn begun(haystack: &str, start: usize) -> Progress
         requires { IsCharBoundary haystack.now start }
         ensures { (table : List (Place ℕ)) (entries : List ℕ) (automaton : Automaton)
             (cache : Cache Origin) → IsFresh table cache → length cache.walk.memory.row ≡ 0

@@ -1,18 +1,29 @@
 //! Searches for several patterns, one after another, in the same working memory.
-ghost use Rattle.std.specs.Prelude.{◌≡◌, ◌<◌, ◌⊎◌, List, IfOk, IsCharBoundary, length};
+ghost use Rattle.std.specs.Prelude.{◌≡◌, ◌<◌, ◌⊎◌, List, IfOk, IfSome, IsCharBoundary, None, chars};
+ghost use Rattle.std.specs.Prelude.{length, option_map};
 ghost use Rattle.regex_lite_syntax.specs.Tree.{Tree};
 ghost use Rattle.regex_lite_engine.specs.Graph.SideBySide.{AreRegular};
-ghost use Rattle.regex_lite_engine.specs.Graph.StoredList.{IsGraphOfList};
+ghost use Rattle.regex_lite_engine.specs.Graph.StoredList.{IsGraphOfList, table_of_list};
+ghost use Rattle.regex_lite_engine.specs.LazyDfa.Remembering.{IsRememberingList, RemembersFor};
+ghost use Rattle.regex_lite_engine.specs.LazyDfa.Scanning.{best_told};
+ghost use Rattle.regex_lite_engine.specs.Search.Bounds.{characters_left};
+ghost use Rattle.regex_lite_engine.specs.Search.Counting.{CanCount};
+ghost use Rattle.regex_lite_engine.specs.Search.NumberedOutcomes.{IsBestOutcomeOf};
+ghost use Rattle.regex_lite_engine.specs.Search.Offsets.{position_at};
 ghost use Rattle.regex_lite_engine.specs.Search.Outcomes.{IsSpanOutcomeOfList};
-ghost use Rattle.regex_lite_engine.specs.Pikevm.Searching.{GoesOnIn};
+ghost use Rattle.regex_lite_engine.specs.Pikevm.Searching.{GoesOnIn, IsBetween, IsFresh};
 
+use crate::lazy_dfa::automaton::LazyDfa;
+use crate::lazy_dfa::remembering::pays_for_list;
+use crate::lazy_dfa::run::Progress;
 use crate::nfa::list::GraphList;
 use crate::pikevm::beginning::Origin;
-use crate::pikevm::best::Best;
+use crate::pikevm::best::{Best, numbered};
 use crate::pikevm::cache::{Cache, cache_for, restart};
 use crate::pikevm::memory::Memory;
 use crate::pikevm::run::run;
 use crate::pikevm::walk::Walk;
+use crate::search::all_of_list::AllOfList;
 use crate::search::list_patterns::ListPatterns;
 use crate::steps::Steps;
 use std::alloc::{AllocError, Global};
@@ -25,11 +36,15 @@ pub struct ListSearcher<'g> {
     /// Those of the graph.
     patterns: ListPatterns<'g>,
     cache: Cache<Origin>,
+    /// What is remembered of the turns of earlier searches, if no slots are kept and it pays.
+    dfa: Option<Box<LazyDfa>>,
 }
 
 impl<'g> Model for ListSearcher<'g> {
     ghost use Rattle.std.specs.Prelude.{◌≡◌};
+    ghost use Rattle.std.specs.Prelude.{length, option_map};
     ghost use Rattle.regex_lite_engine.specs.Graph.StoredList.{table_of_list};
+    ghost use Rattle.regex_lite_engine.specs.LazyDfa.Remembering.{IsRememberingList};
     ghost use Rattle.regex_lite_engine.specs.Search.Searching.{ListSearching};
     ghost use Rattle.regex_lite_engine.specs.Pikevm.Searching.{GoesOnIn};
 
@@ -42,30 +57,41 @@ impl<'g> Model for ListSearcher<'g> {
 
     ghost invariant = { λ searcher. GoesOnIn searcher.graph.now searcher.cache
         × (table_of_list searcher.patterns.list.now ≡ table_of_list searcher.graph.now)
-        × (searcher.patterns.list.now.entries ≡ searcher.graph.now.entries) };
+        × (searcher.patterns.list.now.entries ≡ searcher.graph.now.entries)
+        × IsRememberingList searcher.graph.now (length searcher.cache.best.row)
+        (option_map (λ dfa. dfa.value) searcher.dfa) };
 }
 
 impl<'g> ListSearcher<'g> {
-    /// A searcher of this graph, whose matches have this number of slots. All the memory of its
-    /// searches is asked for here.
+    /// A searcher of this graph, whose matches have `slots` slots, for haystacks of about `bytes`
+    /// bytes. All the memory that its searches need is asked for here. In long haystacks its
+    /// searches may remember their turns, unless the memory for that is refused: the results are
+    /// the same.
     ///
     /// # Errors
     ///
-    /// If memory runs out.
+    /// If memory runs out without which it can't search.
     pub fn new(
         alloc: Global,
         graph: &'g GraphList,
         slots: usize,
+        bytes: usize,
     ) -> Result<ListSearcher<'g>, AllocError>
         ensures graph { IfOk result (λ searcher. searcher.graph ≡ graph.now) }
         ensures slots { IfOk result (λ searcher. length searcher.slots ≡ slots) }
     {
         let cache = list_cache(alloc, graph, slots)?;
         let patterns = ListPatterns::new(alloc, graph)?;
+        let dfa = if slots == 0 && pays_for_list(graph, bytes) {
+            automaton_for(alloc, graph)
+        } else {
+            None
+        };
         Ok(ListSearcher {
             graph,
             patterns,
             cache,
+            dfa,
         })
     }
 
@@ -86,6 +112,10 @@ impl<'g> ListSearcher<'g> {
             return None;
         }
         restart(&mut self.cache);
+        let dfa = &mut self.dfa;
+        if let Some(found) = find_remembering(dfa, self.graph, &mut self.cache, haystack, start) {
+            return numbered(found);
+        }
         run(&mut self.cache, &mut self.patterns, haystack, start);
         self.cache.best.numbered_span()
     }
@@ -96,6 +126,14 @@ impl<'g> ListSearcher<'g> {
         ensures { result.now ≡ self.now.slots }
     {
         self.cache.best.row()
+    }
+}
+
+/// Up to where a search has gone.
+fn went(found: Option<(Origin, usize)>, haystack: &str) -> usize {
+    match found {
+        Some((_, end)) => end,
+        None => haystack.len(),
     }
 }
 
@@ -115,4 +153,55 @@ fn list_cache(alloc: Global, graph: &GraphList, slots: usize) -> Result<Cache<Or
         },
         best: Best::with_width(alloc, slots)?,
     })
+}
+
+/// An automaton of this graph that remembers nothing yet, on the heap.
+#[inline(never)]
+fn automaton_for(alloc: Global, graph: &GraphList) -> Option<Box<LazyDfa>>
+    ensures { IfSome result (λ dfa. RemembersFor (table_of_list graph.now) graph.now.entries
+        dfa.value) }
+{
+    let dfa = LazyDfa::for_list(alloc, graph)?;
+    Box::new(alloc, dfa).ok()
+}
+
+/// What a search by remembered turns finds. None if there is no automaton, or if it is given up:
+/// then it is dropped, and no search has begun.
+fn find_remembering(
+    dfa: &mut Option<Box<LazyDfa>>,
+    graph: &GraphList,
+    cache: &mut Cache<Origin>,
+    haystack: &str,
+    start: usize,
+) -> Option<Option<(Origin, usize)>>
+    requires boundary { IsCharBoundary haystack.now start }
+    requires remembers { IsRememberingList graph.now (length cache.old.best.row)
+        (option_map (λ dfa. dfa.value) dfa.old) }
+    requires fresh { IsFresh (table_of_list graph.now) cache.old }
+    requires counts { CanCount (table_of_list graph.now) (length graph.now.entries)
+        (characters_left (chars haystack.now) (position_at haystack.now start)) }
+    ensures found { IfSome result (λ found. IsBestOutcomeOf (table_of_list graph.now)
+        (chars haystack.now) graph.now.entries (position_at haystack.now start)
+        (best_told found)) }
+    ensures remembers { IsRememberingList graph.now (length cache.new.best.row)
+        (option_map (λ dfa. dfa.value) dfa.new) }
+    ensures fresh { result ≡ None → IsFresh (table_of_list graph.now) cache.new }
+    ensures between { IsBetween (table_of_list graph.now) cache.new }
+    ensures without_slots { IfSome result (λ _. length cache.new.best.row ≡ 0) }
+    ensures width { length cache.new.best.row ≡ length cache.old.best.row }
+{
+    let Some(automaton) = dfa else {
+        return None;
+    };
+    // Each place is one of the graph.
+    let _entries = graph.entries();
+    let all = AllOfList { list: graph };
+    let begun = Progress::begun(haystack, start);
+    if let Ok(found) = automaton.find_while_it_pays(&all, cache, haystack, begun, 0) {
+        automaton.count_bytes(went(found, haystack).saturating_sub(start));
+        return Some(found);
+    }
+    restart(cache);
+    *dfa = None;
+    None
 }

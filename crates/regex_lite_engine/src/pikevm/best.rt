@@ -1,6 +1,8 @@
 //! The best match that a search has found so far.
 ghost use Rattle.std.specs.Prelude.{◌≡◌, ◌↔◌, IfOk, IfSome, IsTrue, None, Some, length, option_map};
-ghost use Rattle.regex_lite_engine.specs.Search.NumberedOutcomes.{span_of};
+ghost use Rattle.regex_lite_engine.specs.Search.NumberedOutcomes.{best_kept, numbered_at, span_of};
+ghost use Rattle.regex_lite_engine.specs.Search.NumberedOutcomes.{with_origin_kept};
+ghost use Rattle.regex_lite_engine.specs.Search.Rows.{Row};
 
 use crate::pikevm::beginning::{Beginning, Origin};
 use crate::pikevm::slot::Slot;
@@ -113,9 +115,7 @@ impl Best<usize> {
 }
 
 impl Best<Origin> {
-    ghost use Rattle.regex_lite_engine.specs.Search.NumberedOutcomes.{best_kept};
-    ghost use Rattle.regex_lite_engine.specs.Search.NumberedOutcomes.{numbered_at, numbered_told};
-    ghost use Rattle.regex_lite_engine.specs.Search.NumberedOutcomes.{with_origin_kept};
+    ghost use Rattle.regex_lite_engine.specs.Search.NumberedOutcomes.{numbered_told};
     ghost use Rattle.regex_lite_engine.specs.Pikevm.Turns.{best_of};
 
     /// Where it starts, with the number of its pattern, and where it ends.
@@ -129,8 +129,7 @@ impl Best<Origin> {
     pub fn numbered_span(&self) -> Option<(usize, (usize, usize))>
         ensures { best_of self.now ≡ with_origin_kept (numbered_at result self.now.row) }
     {
-        let (origin, end) = self.found?;
-        Some((origin.number as usize, (origin.at, end)))
+        numbered(self.found)
     }
 
     /// The match by itself, with its row and the number of its pattern.
@@ -156,6 +155,14 @@ pub(crate) fn span_of(found: Option<(Origin, usize)>) -> Option<(usize, usize)>
 {
     let (origin, end) = found?;
     Some((origin.at, end))
+}
+
+/// The number of the match's pattern, and where it starts and where it ends.
+pub(crate) fn numbered(found: Option<(Origin, usize)>) -> Option<(usize, (usize, usize))>
+    ensures { (row : Row) → best_kept found row ≡ with_origin_kept (numbered_at result row) }
+{
+    let (origin, end) = found?;
+    Some((origin.number as usize, (origin.at, end)))
 }
 
 /// Writes what each slot holds.

@@ -27,6 +27,9 @@ use rows::{AT_START, Rows, SECOND};
 use std::alloc::{AllocError, Global};
 use thirds::Thirds;
 
+/// How many small letters there are.
+const LETTERS: usize = 26;
+
 /// Which patterns may start at a position.
 #[derive(Drop)]
 pub(crate) struct ListHeads {
@@ -57,6 +60,17 @@ impl ListHeads {
         }
         let thirds = Thirds::of(alloc, hirs)?;
         Ok(ListHeads { thirds, ..heads })
+    }
+
+    /// Whether a pattern may begin with most pairs of letters.
+    pub(crate) fn begin_often(&self) -> bool {
+        let mut often = 0usize;
+        'firsts: for k in 0..self.pairs.len() {
+            if self.pairs[k].len() >= LETTERS {
+                often = often.saturating_add(1);
+            }
+        }
+        often >= LETTERS
     }
 
     /// Room for this number of patterns, none of which is known yet.

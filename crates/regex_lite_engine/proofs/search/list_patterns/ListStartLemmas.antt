@@ -1,11 +1,12 @@
 -- The patterns that may start at a position, as starts in the order of their numbers.
-use Rattle.std.proofs.Common.{◌≡◌, ℕ, zero, suc, refl, ◌+◌, ◌<◌, ◌≤◌, ◌⊎◌, inl, inr}
+use Rattle.std.proofs.Common.{◌^◌, ◌≡◌, ℕ, zero, suc, refl, ◌+◌, ◌<◌, ◌≤◌, ◌⊎◌, inl, inr}
 use Rattle.std.proofs.Common.{◌&&◌, Bool, true, false, cond, List, [], ◌∷◌, length}
 use Rattle.std.proofs.Common.{map, get_or, slice_index, ap, sym, subst, ◌∙◌, arith}
 use Rattle.std.specs.List.{All, filter, range_with_len}
 use Rattle.std.proofs.Math.ListN.{get_or-map}
 use Rattle.std.proofs.lemmas.Bool.{cases_lt, cases_eq}
 use Rattle.std.proofs.lemmas.List.{get_or_default, length-map}
+use Rattle.std.proofs.lemmas.List.FromFn.{length-map-range_with_len}
 use Rattle.std.proofs.lemmas.Option.{get_or_from_slice_get, slice_get-get_or, slice_get_within}
 use Rattle.regex_lite_syntax.specs.Text.{Text, after}
 use Rattle.regex_lite_engine.specs.declared.prefilter.list_heads.ListHeads.{ListHeads}
@@ -15,7 +16,7 @@ use Rattle.regex_lite_engine.specs.Prefilter.ListHeads.{is_candidate_at, may_sta
 use Rattle.regex_lite_engine.specs.Prefilter.Thirds.{may_go_on}
 use Rattle.regex_lite_engine.specs.Search.NumberedList.{IsEntry}
 use Rattle.regex_lite_engine.specs.Search.Starts.{start_numbered, AreListHeadsOf}
-use Rattle.regex_lite_engine.specs.Search.Starts.{AreFrom, AreStartsAt, IsAmong, IsDeadAt}
+use Rattle.regex_lite_engine.specs.Search.Starts.{AreAllStarts, AreFrom, AreStartsAt, IsAmong, IsDeadAt}
 
 from_lower : (entries : List ℕ) (a : ℕ) (starts : List Start) → AreFrom entries (a + 1) starts
     → AreFrom entries a starts
@@ -131,3 +132,40 @@ listed_start table haystack entries heads w p numbers listed =
     by_test number entry is false off =
         inr (by_part number entry is (may_start_at heads haystack p number)
         (may_go_on heads.thirds (after haystack (suc (suc p))) number) refl refl off)
+
+filter_all : (numbers : List ℕ) → filter (λ _. true) numbers ≡ numbers
+filter_all [] = refl
+filter_all (number ∷ numbers) = ap (λ rest. number ∷ rest) (filter_all numbers)
+
+-- all patterns may start anywhere
+pub all_start : (table : List (Place ℕ)) (entries : List ℕ)
+    → All (λ entry. entry < length table) entries → length entries < 2 ^ 32
+    → AreAllStarts table entries
+    (map (start_numbered entries) (range_with_len 0 (length entries)))
+all_start table entries inside few = record {
+  at_each = λ haystack p.
+      subst (λ z. AreStartsAt table haystack entries p (map (start_numbered entries) z)) same
+      (record {
+        in_order = in_order entries (λ _. true) 0 n (omega arith);
+        each = λ number entry is.
+            let within = slice_get_within entries number entry is in
+            inl (among entries (λ _. true) 0 n number entry (omega arith) (omega (arith, within))
+            refl (get_or_from_slice_get entries number entry 0 is));
+      });
+  inside = places_inside entries numbers (length table) inside
+      (subst (All (λ number. number < n)) same (all_below (λ _. true) 0 n n (omega arith)));
+  few = omega (arith, all);
+  countable = omega (arith, all, few);
+}
+  where
+    n : ℕ
+    n = length entries
+
+    numbers : List ℕ
+    numbers = range_with_len 0 n
+
+    same : filter (λ _. true) numbers ≡ numbers
+    same = filter_all numbers
+
+    all : length (map (start_numbered entries) numbers) ≡ n
+    all = length-map-range_with_len (start_numbered entries) 0 n

@@ -29,6 +29,11 @@ impl AsciiSet {
         }
     }
 
+    /// How many there are.
+    pub(crate) fn len(self) -> usize {
+        (self.words[0].count_ones() + self.words[1].count_ones()) as usize
+    }
+
     /// Those with which a match can begin.
     pub(crate) fn of(starts: &Starts) -> AsciiSet
         ensures { (code : ℕ) → code < 128 → in_set result code ≡ begins_with starts.now code }

@@ -4,7 +4,7 @@ use Rattle.regex_lite_engine.specs.Graph.Stored.{table_of}
 use Rattle.regex_lite_engine.specs.Search.Offsets.{position_at}
 use Rattle.regex_lite_engine.specs.Pikevm.Turns.{best_of}
 use Rattle.regex_lite_engine.proofs.lazy_dfa.OnceLemmas.{empty, found_told, known_stands}
-use Rattle.regex_lite_engine.proofs.lazy_dfa.RunLemmas.{bounded_on, match_counted}
+use Rattle.regex_lite_engine.proofs.lazy_dfa.RunLemmas.{all_of_one, bounded_on, match_counted}
 use Rattle.regex_lite_engine.proofs.nfa.Graph.find_once.Goals as goal
 
 pub take_turns-requires : goal.take_turns-requires
@@ -12,7 +12,8 @@ take_turns-requires c =
     let s = position_at c.args.haystack.now c.args.start in
     let begun = c.begun-begun.ensures (table_of c.args.self.now)
     (c.args.self.now.start ∷ []) empty c.args.cache.now c.requires.fresh c.requires.width in
-    record { all = all_of_one table start inside; stands = (s, empty, c.requires.counts, begun) }
+    record { all = all_of_one c.args.self.now c.start-start.result c.start-start.ensures.same
+    c.start-start.ensures.inside; stands = (s, empty, c.requires.counts, begun) }
 
 pub returns-in_default : goal.returns-in_default
 returns-in_default c =
@@ -42,7 +43,8 @@ take_turns-requires-in_default-for_graph c =
     let begun = c.begun-begun.ensures (table_of c.args.self.now)
     (c.args.self.now.start ∷ []) empty c.args.cache.now c.requires.fresh c.requires.width in
     let stands = c.in-Some.ensures.stands s empty begun in
-    record { all = all_of_one table start inside; stands = (s, empty, c.requires.counts, stands) }
+    record { all = all_of_one c.args.self.now c.start-start.result c.start-start.ensures.same
+    c.start-start.ensures.inside; stands = (s, empty, c.requires.counts, stands) }
 
 pub returns-in_default-for_graph : goal.returns-in_default-for_graph
 returns-in_default-for_graph c =

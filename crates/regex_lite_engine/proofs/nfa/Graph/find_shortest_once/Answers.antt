@@ -6,7 +6,7 @@ use Rattle.regex_lite_engine.specs.LazyDfa.Scanning.{end_told}
 use Rattle.regex_lite_engine.specs.Search.NumberedOutcomes.{IsNumberedEndOf}
 use Rattle.regex_lite_engine.specs.Pikevm.Turns.{best_of}
 use Rattle.regex_lite_engine.proofs.lazy_dfa.OnceLemmas.{empty, known_stands}
-use Rattle.regex_lite_engine.proofs.lazy_dfa.RunLemmas.{bounded_on, end_counted}
+use Rattle.regex_lite_engine.proofs.lazy_dfa.RunLemmas.{all_of_one, bounded_on, end_counted}
 use Rattle.regex_lite_engine.proofs.lazy_dfa.ScanLemmas.{end_alone}
 use Rattle.regex_lite_engine.proofs.nfa.Graph.find_shortest_once.Goals as goal
 
@@ -15,7 +15,8 @@ take_turns_to_end-requires c =
     let s = position_at c.args.haystack.now c.args.start in
     let begun = c.begun-begun.ensures (table_of c.args.self.now)
     (c.args.self.now.start ∷ []) empty c.args.cache.now c.requires.fresh c.requires.width in
-    record { all = all_of_one table start inside; stands = (s, empty, c.requires.counts, begun); none = c.requires.fresh.none }
+    record { all = all_of_one c.args.self.now c.start-start.result c.start-start.ensures.same
+    c.start-start.ensures.inside; stands = (s, empty, c.requires.counts, begun); none = c.requires.fresh.none }
 
 pub returns-in_default : goal.returns-in_default
 returns-in_default c =

@@ -1,22 +1,23 @@
-use Rattle.std.proofs.Common.{rules, length, ◌<◌, ◌^◌, ap, sym, subst, arith}
+use Rattle.std.proofs.Common.{rules, ◌∷◌, [], length, ◌<◌, ◌^◌, ap, sym, subst, arith}
 use Rattle.std.specs.Prelude.{chars}
 use Rattle.regex_lite_engine.specs.Graph.Stored.{places_of, table_of}
-use Rattle.regex_lite_engine.specs.LazyDfa.Scanning.{best_told}
+use Rattle.regex_lite_engine.specs.LazyDfa.Scanning.{span_told}
 use Rattle.regex_lite_engine.specs.Search.Offsets.{position_at}
 use Rattle.regex_lite_engine.specs.Search.Counting.{IsCountable}
 use Rattle.regex_lite_engine.specs.Pikevm.Searching.{IsFresh}
-use Rattle.regex_lite_engine.specs.Search.NumberedOutcomes.{IsNumberedOutcome}
+use Rattle.regex_lite_engine.specs.Search.NumberedOutcomes.{IsNumberedOutcome, span_of}
+use Rattle.regex_lite_engine.proofs.lazy_dfa.OnceLemmas.{spanned}
 use Rattle.regex_lite_engine.proofs.pikevm.EndLemmas.{one_best}
 use Rattle.regex_lite_engine.proofs.search.OutcomeLemmas.{answer_told, can_count, cost_told}
 use Rattle.regex_lite_engine.proofs.nfa.Graph.search_remembering.Goals as goal
 
-pub find_once-span-requires-clause-fresh : goal.find_once-span-requires-clause-fresh
-find_once-span-requires-clause-fresh c =
+pub find_once-found-requires-clause-fresh : goal.find_once-found-requires-clause-fresh
+find_once-found-requires-clause-fresh c =
     subst (λ table. IsFresh table c.in_ok-cache.cache) (ap places_of c.table.ensures.same)
     c.in_ok-cache.ensures.fresh
 
-pub find_once-span-requires-clause-counts : goal.find_once-span-requires-clause-counts
-find_once-span-requires-clause-counts c =
+pub find_once-found-requires-clause-counts : goal.find_once-found-requires-clause-counts
+find_once-found-requires-clause-counts c =
     let haystack = c.args.haystack.now in
     let short : length haystack < 2 ^ 63 = search rules in
     can_count (table_of c.args.self.now) haystack (position_at haystack c.args.start)
@@ -30,7 +31,10 @@ returns-clause-found c = λ tree regular is. (
     let haystack = c.args.haystack.now in
     let found = one_best (table_of graph) (chars haystack) graph.start
     (position_at haystack c.args.start)
-    (best_told c.find_once-span.result) c.find_once-span.ensures.found in
+    (span_told (span_of c.find_once-found.result))
+    (spanned (table_of graph) (chars haystack) (graph.start ∷ [])
+    (position_at haystack c.args.start) c.find_once-found.result []
+    c.find_once-found.ensures.found) in
     answer_told tree regular graph is haystack c.args.start c.requires.boundary.0
     c.without_slots.result
     (subst (λ z. IsNumberedOutcome (table_of graph) (chars haystack) graph.start
@@ -38,6 +42,6 @@ returns-clause-found c = λ tree regular is. (
 
 pub returns-clause-cost : goal.returns-clause-cost
 returns-clause-cost c = λ tree is.
-    let steps = c.find_once-span.new.cache.walk.steps in
+    let steps = c.find_once-found.new.cache.walk.steps in
     cost_told tree c.args.self.now is c.args.haystack.now c.args.start c.requires.boundary.0
-    steps.tried steps.entered steps.looked c.find_once-span.ensures.bounded
+    steps.tried steps.entered steps.looked c.find_once-found.ensures.bounded

@@ -1,6 +1,11 @@
-use Rattle.std.proofs.Common.{rules, length, ◌<◌, ◌^◌, arith}
+use Rattle.std.proofs.Common.{rules, ◌∷◌, [], length, ◌<◌, ◌^◌, sym, subst, arith}
+use Rattle.std.specs.Prelude.{chars}
 use Rattle.regex_lite_engine.specs.Graph.Stored.{table_of}
 use Rattle.regex_lite_engine.specs.Search.Offsets.{position_at}
+use Rattle.regex_lite_engine.specs.LazyDfa.Scanning.{span_told}
+use Rattle.regex_lite_engine.specs.Search.NumberedOutcomes.{IsBestOutcomeOf}
+use Rattle.regex_lite_engine.proofs.lazy_dfa.OnceLemmas.{spanned}
+use Rattle.regex_lite_engine.proofs.lazy_dfa.RunLemmas.{all_of_one}
 use Rattle.regex_lite_engine.proofs.search.OutcomeLemmas.{can_count}
 use Rattle.regex_lite_engine.proofs.lazy_dfa.spans.SpanSearcher.find.Goals as goal
 
@@ -10,3 +15,16 @@ find-requires-clause-counts c =
     let short : length haystack < 2 ^ 63 = search rules in
     can_count (table_of c.args.graph.now) haystack (position_at haystack c.args.start)
     c.utf8.haystack short c.requires.finds.1.countable 1 (omega arith)
+
+pub find-requires-clause-all : goal.find-requires-clause-all
+find-requires-clause-all c = all_of_one c.args.graph.now c.start-start.result c.start-start.ensures.same
+    c.start-start.ensures.inside
+
+pub returns-clause-found : goal.returns-clause-found
+returns-clause-found c =
+    let graph = c.args.graph.now in
+    let haystack = chars c.args.haystack.now in
+    let s = position_at c.args.haystack.now c.args.start in
+    subst (λ span. IsBestOutcomeOf (table_of graph) haystack (graph.start ∷ []) s (span_told span))
+    (sym c.span_of.ensures)
+    (spanned (table_of graph) haystack (graph.start ∷ []) s c.find.result [] c.find.ensures.found)

@@ -1,4 +1,4 @@
-use Rattle.std.proofs.Common.{rules, ℕ, List, [], None, Some, length}
+use Rattle.std.proofs.Common.{rules, ℕ, List, [], ◌∷◌, None, Some, length}
 use Rattle.std.proofs.Common.{◌<◌, ◌^◌, refl, sym, subst, ◌∙◌, arith}
 use Rattle.std.specs.Prelude.{chars}
 use Rattle.std.proofs.lemmas.List.{nil_from_length}
@@ -8,12 +8,12 @@ use Rattle.regex_lite_engine.specs.Graph.Renumbered.{IsGraphOf}
 use Rattle.regex_lite_engine.specs.Graph.Stored.{table_of}
 use Rattle.regex_lite_engine.specs.Search.Offsets.{position_at}
 use Rattle.regex_lite_engine.specs.LazyDfa.Remembering.{NoneStartsBefore}
-use Rattle.regex_lite_engine.specs.LazyDfa.Scanning.{best_told}
 use Rattle.regex_lite_engine.specs.Search.Outcomes.{IsSpanOutcome}
 use Rattle.regex_lite_engine.specs.Search.Searching.{Searching}
-use Rattle.regex_lite_engine.specs.Search.NumberedOutcomes.{IsBestOutcome, with_start_kept, best_at}
-use Rattle.regex_lite_engine.specs.Search.NumberedOutcomes.{Best}
-use Rattle.regex_lite_engine.specs.Pikevm.Turns.{best_of}
+use Rattle.regex_lite_engine.specs.Search.NumberedOutcomes.{Best, IsBestOutcome, IsBestOutcomeOf}
+use Rattle.regex_lite_engine.specs.Search.NumberedOutcomes.{best_at, span_of, with_start_kept}
+use Rattle.regex_lite_engine.proofs.lazy_dfa.OnceLemmas.{spanned}
+use Rattle.regex_lite_engine.proofs.lazy_dfa.RunLemmas.{all_of_one}
 use Rattle.regex_lite_engine.proofs.pikevm.EndLemmas.{one_best}
 use Rattle.regex_lite_engine.proofs.search.OutcomeLemmas.{can_count, span_told}
 use Rattle.regex_lite_engine.proofs.meta.searcher.Searcher.search.Goals as goal
@@ -67,11 +67,16 @@ returns-in-Some-clause-found c = λ tree regular is.
     let of_graph = subst (λ (z : Searching). IsGraphOf tree z.graph) (sym c.self.view_is) is in
     let row = nil_from_length c.find.new.cache.best.row
     (c.find.ensures.between.best_width ∙ c.find.ensures.width) in
-    subst (λ row. IsSpanOutcome tree haystack c.args.start row c.find.result) (sym row)
+    let s = position_at haystack c.args.start in
+    let span = span_of c.find.result in
+    subst (IsSpanOutcome tree haystack c.args.start c.find.new.cache.best.row)
+    (sym c.span_of.ensures)
+    (subst (λ row. IsSpanOutcome tree haystack c.args.start row span) (sym row)
     (span_told tree regular graph of_graph haystack c.args.start c.if-start-haystack.false
-    c.find.result []
-    (one_best (table_of graph) (chars haystack) graph.start (position_at haystack c.args.start)
-    (best_told c.find.result) c.find.ensures.found))
+    span []
+    (one_best (table_of graph) (chars haystack) graph.start s (with_start_kept (best_at span []))
+    (spanned (table_of graph) (chars haystack) (graph.start ∷ []) s c.find.result []
+    c.find.ensures.found))))
 
 pub returns-in_err-passed-clause-found : goal.returns-in_err-passed-clause-found
 returns-in_err-passed-clause-found c = λ tree regular is.
@@ -90,14 +95,15 @@ returns-clause-found c = λ tree regular is.
     let s = position_at haystack c.args.start in
     let m = position_at haystack c.in_ok-passed.passed.from in
     let row = c.run.new.cache.best.row in
-    span_told tree regular graph of_graph haystack c.args.start c.if-start-haystack.false
-    c.span-found.result row
+    let span = span_of c.found.result in
+    subst (IsSpanOutcome tree haystack c.args.start row) (sym c.span_of-found.ensures)
+    (span_told tree regular graph of_graph haystack c.args.start c.if-start-haystack.false span row
     (answer_from (table_of graph) (chars haystack) graph.start s m c.in_ok-passed.ensures.first
-    (with_start_kept (best_at c.span-found.result row))
-    (subst (λ z. IsBestOutcome (table_of graph) (chars haystack) graph.start m z)
-    c.span-found.ensures
-    (one_best (table_of graph) (chars haystack) graph.start m (best_of c.run.new.cache.best)
-    c.run.ensures.found)))
+    (with_start_kept (best_at span row))
+    (one_best (table_of graph) (chars haystack) graph.start m (with_start_kept (best_at span row))
+    (spanned (table_of graph) (chars haystack) (graph.start ∷ []) m c.found.result row
+    (subst (IsBestOutcomeOf (table_of graph) (chars haystack) (graph.start ∷ []) m)
+    c.found.ensures c.run.ensures.found)))))
 
 pub pass_to_match-requires-clause-finds : goal.pass_to_match-requires-clause-finds
 pass_to_match-requires-clause-finds c =
@@ -112,3 +118,7 @@ returns-in-Some-find_slots-clause-found c = λ tree regular is.
     (Some c.in-Some-find_slots.span) c.find_slots.new.best.row
     (c.in-Some-find_slots.ensures.found (position_at haystack c.args.start)
     c.in_ok-passed.ensures.known)
+
+pub find-requires-clause-all : goal.find-requires-clause-all
+find-requires-clause-all c = all_of_one c.self.inside.graph.now c.start-start.result c.start-start.ensures.same
+    c.start-start.ensures.inside
