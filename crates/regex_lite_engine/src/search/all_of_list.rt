@@ -51,9 +51,10 @@ impl<'g> Patterns for AllOfList<'g> {
     }
 
     fn start(&self, k: usize) -> Start {
+        let entries = self.list.entries();
         Start {
             number: k as u32,
-            place: self.list.entries()[k],
+            place: entries[k],
         }
     }
 }

@@ -12,6 +12,7 @@ use Rattle.regex_lite_syntax.specs.Text.{Text, after}
 use Rattle.regex_lite_engine.specs.declared.prefilter.list_heads.ListHeads.{ListHeads}
 use Rattle.regex_lite_engine.specs.declared.search.patterns.Start.{Start}
 use Rattle.regex_lite_engine.specs.Graph.Places.{Place}
+use Rattle.regex_lite_engine.specs.Graph.StoredList.{StoredList, table_of_list}
 use Rattle.regex_lite_engine.specs.Prefilter.ListHeads.{is_candidate_at, may_start_at}
 use Rattle.regex_lite_engine.specs.Prefilter.Thirds.{may_go_on}
 use Rattle.regex_lite_engine.specs.Search.NumberedList.{IsEntry}
@@ -138,7 +139,7 @@ filter_all [] = refl
 filter_all (number ∷ numbers) = ap (λ rest. number ∷ rest) (filter_all numbers)
 
 -- all patterns may start anywhere
-pub all_start : (table : List (Place ℕ)) (entries : List ℕ)
+all_start : (table : List (Place ℕ)) (entries : List ℕ)
     → All (λ entry. entry < length table) entries → length entries < 2 ^ 32
     → AreAllStarts table entries
     (map (start_numbered entries) (range_with_len 0 (length entries)))
@@ -169,3 +170,13 @@ all_start table entries inside few = record {
 
     all : length (map (start_numbered entries) numbers) ≡ n
     all = length-map-range_with_len (start_numbered entries) 0 n
+
+pub all_of_entries : (list : StoredList) (entries : List ℕ) → entries ≡ list.entries
+    → All (λ entry. entry < length (table_of_list list)) entries → length entries < 2 ^ 32
+    → AreAllStarts (table_of_list list) list.entries
+    (map (start_numbered list.entries) (range_with_len 0 (length list.entries)))
+all_of_entries list entries same inside few =
+    let size = ap length same in
+    all_start (table_of_list list) list.entries
+    (subst (All (λ entry. entry < length (table_of_list list))) same inside)
+    (omega (arith, size, few))

@@ -1,8 +1,10 @@
-use Rattle.std.proofs.Common.{rules, length, List, ℕ, ◌<◌, ◌^◌, sym, subst, arith}
+use Rattle.std.proofs.Common.{rules, length, List, [], ℕ, ◌<◌, ◌^◌, sym, subst, arith}
 use Rattle.std.specs.Prelude.{chars}
+use Rattle.std.proofs.lemmas.List.{nil_from_length}
 use Rattle.regex_lite_engine.specs.Graph.StoredList.{IsGraphOfList, table_of_list}
 use Rattle.regex_lite_engine.specs.Search.Bounds.{characters_left}
 use Rattle.regex_lite_engine.specs.Search.Offsets.{position_at}
+use Rattle.regex_lite_engine.specs.Search.Outcomes.{IsSpanOutcomeOfList}
 use Rattle.regex_lite_engine.specs.Search.Searching.{ListSearching}
 use Rattle.regex_lite_engine.specs.Search.Counting.{CanCount}
 use Rattle.regex_lite_engine.specs.Search.NumberedOutcomes.{IsBestOutcomeOf}
@@ -26,6 +28,32 @@ run-requires-clause-counts c =
     subst (λ table. CanCount table (length own.entries) characters) (sym c.self.invariant.1)
     (subst (λ (entries : List ℕ). CanCount (table_of_list list) (length entries) characters)
     (sym c.self.invariant.2) counts)
+
+pub find_remembering-requires-clause-counts : goal.find_remembering-requires-clause-counts
+find_remembering-requires-clause-counts c =
+    let list = c.self.inside.graph.now in
+    let haystack = c.args.haystack.now in
+    let short : length haystack < 2 ^ 63 = search rules in
+    let some : 0 < length list.entries = omega (arith, c.if-len-eq0.false, c.len.ensures.same) in
+    let few : length list.entries < 2 ^ 32 = omega (arith, c.len.ensures.few, c.len.ensures.same) in
+    can_count (table_of_list list) haystack (position_at haystack c.args.start) c.utf8.haystack
+    short (c.self.invariant.0 some).1 (length list.entries) few
+
+pub returns-in-Some-clause-found : goal.returns-in-Some-clause-found
+returns-in-Some-clause-found c = λ trees regular is.
+    let list = c.self.inside.graph.now in
+    let haystack = c.args.haystack.now in
+    let h = chars haystack in
+    let s = position_at haystack c.args.start in
+    let of_list =
+    subst (λ (z : ListSearching). IsGraphOfList trees z.graph) (sym c.self.view_is) is in
+    let row = nil_from_length c.find_remembering.new.cache.best.row c.in-Some.ensures.without_slots
+    in
+    subst (λ row. IsSpanOutcomeOfList trees haystack c.args.start row c.numbered.result) (sym row)
+    (list_span_told trees list of_list haystack c.args.start
+    (omega (arith, c.if-start-haystack.false)) regular c.numbered.result []
+    (subst (IsBestOutcomeOf (table_of_list list) h list.entries s) (c.numbered.ensures [])
+    c.in-Some.ensures.found))
 
 pub returns-clause-found : goal.returns-clause-found
 returns-clause-found c = λ trees regular is.

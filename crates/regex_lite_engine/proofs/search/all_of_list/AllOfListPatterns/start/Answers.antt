@@ -1,34 +1,34 @@
-use Rattle.std.proofs.Common.{◌+◌, ◌<◌, ◌^◌, get_or, length, map, Some, ap, sym, ◌∙◌, arith}
+use Rattle.std.proofs.Common.{◌<◌, get_or, length, map, Some, ap, sym, ◌∙◌, arith}
 use Rattle.std.specs.List.{range_with_len}
 use Rattle.std.proofs.lemmas.List.FromFn.{get_or-map-range_with_len, length-map-range_with_len}
 use Rattle.std.proofs.lemmas.Option.{slice_get-get_or}
 use Rattle.regex_lite_engine.specs.Search.Starts.{start_numbered}
 use Rattle.regex_lite_engine.proofs.search.all_of_list.AllOfListPatterns.start.Goals as goal
-use Rattle.regex_lite_engine.proofs.search.all_of_list.AllOfListPatterns.start.Goals.{After-entries}
+use Rattle.regex_lite_engine.proofs.search.all_of_list.AllOfListPatterns.start.Goals.{After-entries-entries}
 
 -- the number is that of an entry
-inside : (c : After-entries) → c.args.k < length c.entries.result.now
+inside : (c : After-entries-entries) → c.args.k < length c.entries-entries.result.now
 inside c =
     let entries = c.args.self.now.list.now.entries in
     let all = length-map-range_with_len (start_numbered entries) 0 (length entries) in
-    let same = ap length c.entries.ensures.same in
+    let same = ap length c.entries-entries.ensures.same in
     let lt = c.requires in
     omega (arith, all, same, lt)
 
 pub overflow_cast-result : goal.overflow_cast-result
 overflow_cast-result c =
-    let lt = inside (goal.at.overflow_cast-result c).After-entries in
-    let few = c.entries.ensures.few in
+    let lt = inside (goal.at.overflow_cast-result c).After-entries-entries in
+    let few = c.entries-entries.ensures.few in
     omega (arith, lt, few)
 
 pub offset_bounds-entries-k : goal.offset_bounds-entries-k
 offset_bounds-entries-k c =
-    let lt = inside (goal.at.offset_bounds-entries-k c).After-entries in
-    let few = c.entries.ensures.few in
+    let lt = inside (goal.at.offset_bounds-entries-k c).After-entries-entries in
+    let few = c.entries-entries.ensures.few in
     omega (arith, lt, few)
 
 pub bounds-entries-k : goal.bounds-entries-k
-bounds-entries-k c = inside (goal.at.bounds-entries-k c).After-entries
+bounds-entries-k c = inside (goal.at.bounds-entries-k c).After-entries-entries
 
 pub returns : goal.returns
 returns c =
@@ -40,4 +40,4 @@ returns c =
     slice_get-get_or starts k (start_numbered entries 0) lt
     ∙ ap Some (get_or-map-range_with_len (start_numbered entries) 0 (length entries) k k
     (start_numbered entries 0) (omega (arith, all, lt)) (omega arith)
-    ∙ ap (λ es. record { number = k; place = get_or es k 0 }) (sym c.entries.ensures.same))
+    ∙ ap (λ es. record { number = k; place = get_or es k 0 }) (sym c.entries-entries.ensures.same))
