@@ -61,11 +61,7 @@ impl Model for LazyDfa {
 impl LazyDfa {
     /// One that remembers nothing yet. Searches that go over this number of bytes don't give it
     /// up.
-    pub(crate) fn new(
-        alloc: Global,
-        classes: Classes,
-        spare: usize,
-    ) -> Result<LazyDfa, AllocError>
+    pub(crate) fn new(alloc: Global, classes: Classes, spare: usize) -> Result<LazyDfa, AllocError>
         ensures intervals { IfOk result (λ dfa. dfa.intervals ≡ classes) }
         ensures states { IfOk result (λ dfa. dfa.states ≡ []) }
         ensures pending { IfOk result (λ dfa. dfa.pending ≡ []) }

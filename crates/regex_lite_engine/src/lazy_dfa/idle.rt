@@ -56,7 +56,12 @@ impl LazyDfa {
 
     /// Goes on by remembered turns, and over positions at which no match can begin. Returns whether
     /// nothing leads on from the last match, which is the answer then.
-    pub(super) fn run_on<P: Patterns>(&self, patterns: &P, haystack: &str, at: &mut Standing) -> bool
+    pub(super) fn run_on<P: Patterns>(
+        &self,
+        patterns: &P,
+        haystack: &str,
+        at: &mut Standing,
+    ) -> bool
         requires remembers { Remembers (P.table patterns.now) (P.entries patterns.now) self.now }
         requires scanning { (low p : ℕ) × IsScanning (P.table patterns.now) (P.entries patterns.now)
             (chars haystack.now) low p self.now at.old }
@@ -106,7 +111,12 @@ impl LazyDfa {
     }
 
     /// Like `run_on`, up to the first match that ends, if there is none yet.
-    pub(super) fn run_on_to_match<P: Patterns>(&self, patterns: &P, haystack: &str, at: &mut Standing)
+    pub(super) fn run_on_to_match<P: Patterns>(
+        &self,
+        patterns: &P,
+        haystack: &str,
+        at: &mut Standing,
+    )
         requires remembers { Remembers (P.table patterns.now) (P.entries patterns.now) self.now }
         requires scanning { (low p : ℕ) × IsScanning (P.table patterns.now) (P.entries patterns.now)
             (chars haystack.now) low p self.now at.old }
@@ -172,7 +182,12 @@ impl LazyDfa {
 
     /// Whether it pays to take the turns up to this position, so that they are remembered.
     #[inline(always)]
-    pub(super) fn is_worth_a_turn<P: Patterns>(&self, patterns: &P, here: Here, next: Here) -> bool {
+    pub(super) fn is_worth_a_turn<P: Patterns>(
+        &self,
+        patterns: &P,
+        here: Here,
+        next: Here,
+    ) -> bool {
         !patterns.has_prefilter()
             && here.at < next.at
             && next.at - here.at <= NEAR

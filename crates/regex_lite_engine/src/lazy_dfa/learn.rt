@@ -32,7 +32,12 @@ pub(crate) struct Taken {
 impl LazyDfa {
     /// Remembers the turn by which the search came to what the cache holds now. Returns the state
     /// that the search is in, if there is room for it.
-    pub(crate) fn learn<P: Patterns>(&mut self, patterns: &P, taken: Taken, cache: &Cache<Origin>) -> Option<u16>
+    pub(crate) fn learn<P: Patterns>(
+        &mut self,
+        patterns: &P,
+        taken: Taken,
+        cache: &Cache<Origin>,
+    ) -> Option<u16>
         requires remembers { Remembers (P.table patterns.now) (P.entries patterns.now) self.old }
         requires turned { HasTurned (P.table patterns.now) (P.entries patterns.now) self.old
             taken.state taken.first taken.here taken.hit cache.now }

@@ -94,7 +94,12 @@ impl Cache<Origin> {
 
     /// Where there is neither a thread nor a match, passes over positions at which no match can
     /// begin. The state isn't known then.
-    pub(super) fn pass_idle<P: Patterns>(&self, patterns: &P, haystack: &str, at: Progress) -> Progress
+    pub(super) fn pass_idle<P: Patterns>(
+        &self,
+        patterns: &P,
+        haystack: &str,
+        at: Progress,
+    ) -> Progress
         requires { (s : ℕ) × (automaton : Automaton) × Stands (P.table patterns.now)
             (chars haystack.now) (P.entries patterns.now) s automaton at self.now }
         ensures stands { (s : ℕ) (automaton : Automaton) → Stands (P.table patterns.now)
@@ -170,10 +175,13 @@ impl Cache<Origin> {
     {
         self.let_go();
         for way in ways {
-            self.walk.memory.push_next::<false>(way.place, Origin {
-                at: first,
-                number: way.number,
-            });
+            self.walk.memory.push_next::<false>(
+                way.place,
+                Origin {
+                    at: first,
+                    number: way.number,
+                },
+            );
         }
         self.walk.memory.turn_over();
     }

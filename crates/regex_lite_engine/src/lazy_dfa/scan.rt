@@ -77,7 +77,12 @@ impl LazyDfa {
     /// can begin. None where no state is known for that, or where turns would be faster.
     // Inlined, so that other positions cost no more than the test.
     #[inline(always)]
-    pub(super) fn skip<P: Patterns>(&self, patterns: &P, haystack: &str, at: Standing) -> Option<Standing>
+    pub(super) fn skip<P: Patterns>(
+        &self,
+        patterns: &P,
+        haystack: &str,
+        at: Standing,
+    ) -> Option<Standing>
         requires scanning { (low p : ℕ) × IsScanning (P.table patterns.now) (P.entries patterns.now)
             (chars haystack.now) low p self.now at }
         ensures on { (low p : ℕ) → IsScanning (P.table patterns.now) (P.entries patterns.now)
@@ -159,7 +164,11 @@ impl LazyDfa {
 
     /// Where the turn from here leads, and the match that is the last then. None where that isn't
     /// known.
-    fn step<P: Patterns>(&self, patterns: &P, at: Standing) -> Option<(u16, Option<(Origin, usize)>)>
+    fn step<P: Patterns>(
+        &self,
+        patterns: &P,
+        at: Standing,
+    ) -> Option<(u16, Option<(Origin, usize)>)>
         requires remembers { Remembers (P.table patterns.now) (P.entries patterns.now) self.now }
         requires state { at.state < length self.now.states }
         ensures { (haystack : Text) (low p : ℕ) → IsScanning (P.table patterns.now)

@@ -144,7 +144,8 @@ impl Graph {
             may_start: true,
         };
         let begun = Progress::begun(haystack, start);
-        let Some(at) = cache.take_turns_to_end(&pattern, haystack, begun, Some(TURNS_WITHOUT)) else {
+        let Some(at) = cache.take_turns_to_end(&pattern, haystack, begun, Some(TURNS_WITHOUT))
+        else {
             return cache.best.end();
         };
         let Some(mut dfa) = LazyDfa::for_graph(alloc, self) else {

@@ -115,7 +115,13 @@ impl LazyDfa {
 
     /// The turn from there, if it is remembered. None at the end of the haystack.
     #[inline(always)]
-    fn turn<P: Patterns>(&self, patterns: &P, haystack: &str, spot: Spot, near: &mut Interval) -> Option<Turn>
+    fn turn<P: Patterns>(
+        &self,
+        patterns: &P,
+        haystack: &str,
+        spot: Spot,
+        near: &mut Interval,
+    ) -> Option<Turn>
         requires remembers { Remembers (P.table patterns.now) (P.entries patterns.now) self.now }
         requires boundary { IsCharBoundary haystack.now spot.at }
         requires state { spot.state < length self.now.states }

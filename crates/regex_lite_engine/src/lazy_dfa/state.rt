@@ -60,9 +60,7 @@ impl StoredWay {
     fn is(self, other: StoredWay) -> bool
         ensures { result ≡ true → self ≡ other }
     {
-        self.place == other.place
-            && self.number == other.number
-            && self.is_first == other.is_first
+        self.place == other.place && self.number == other.number && self.is_first == other.is_first
     }
 }
 

@@ -12,8 +12,11 @@ take_turns-requires c =
     let s = position_at c.args.haystack.now c.args.start in
     let begun = c.begun-begun.ensures (table_of c.args.self.now)
     (c.args.self.now.start ∷ []) empty c.args.cache.now c.requires.fresh c.requires.width in
-    record { all = all_of_one c.args.self.now c.start-start.result c.start-start.ensures.same
-    c.start-start.ensures.inside; stands = (s, empty, c.requires.counts, begun) }
+    record {
+      all = all_of_one c.args.self.now c.start-start.result c.start-start.ensures.same
+          c.start-start.ensures.inside;
+      stands = (s, empty, c.requires.counts, begun);
+    }
 
 pub returns-in_default : goal.returns-in_default
 returns-in_default c =
@@ -43,8 +46,11 @@ take_turns-requires-in_default-for_graph c =
     let begun = c.begun-begun.ensures (table_of c.args.self.now)
     (c.args.self.now.start ∷ []) empty c.args.cache.now c.requires.fresh c.requires.width in
     let stands = c.in-Some.ensures.stands s empty begun in
-    record { all = all_of_one c.args.self.now c.start-start.result c.start-start.ensures.same
-    c.start-start.ensures.inside; stands = (s, empty, c.requires.counts, stands) }
+    record {
+      all = all_of_one c.args.self.now c.start-start.result c.start-start.ensures.same
+          c.start-start.ensures.inside;
+      stands = (s, empty, c.requires.counts, stands);
+    }
 
 pub returns-in_default-for_graph : goal.returns-in_default-for_graph
 returns-in_default-for_graph c =

@@ -15,8 +15,12 @@ take_turns_to_end-requires c =
     let s = position_at c.args.haystack.now c.args.start in
     let begun = c.begun-begun.ensures (table_of c.args.self.now)
     (c.args.self.now.start ∷ []) empty c.args.cache.now c.requires.fresh c.requires.width in
-    record { all = all_of_one c.args.self.now c.start-start.result c.start-start.ensures.same
-    c.start-start.ensures.inside; stands = (s, empty, c.requires.counts, begun); none = c.requires.fresh.none }
+    record {
+      all = all_of_one c.args.self.now c.start-start.result c.start-start.ensures.same
+          c.start-start.ensures.inside;
+      stands = (s, empty, c.requires.counts, begun);
+      none = c.requires.fresh.none;
+    }
 
 pub returns-in_default : goal.returns-in_default
 returns-in_default c =

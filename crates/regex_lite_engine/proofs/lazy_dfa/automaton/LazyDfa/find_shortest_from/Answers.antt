@@ -76,7 +76,6 @@ learn_at-at-requires-clause-turned g c =
     turned_from (g.P.Patterns.table c.args.patterns.now) (g.P.Patterns.entries c.args.patterns.now)
     (g.P.Patterns.starts c.args.patterns.now) c.at_idle-at.new.self at.state
     at.first at.here c.go_over-hit.result c.look_for_end.new.cache c.go_over-hit.new.self
-    
     c.requires.all stands.state c.go_over-hit.ensures.again c.go_over-hit.ensures.hit stands.own
 
 pub on-at-requires-clause-first : goal.on-at-requires-clause-first
