@@ -21,7 +21,7 @@ use std::fmt;
 use std::marker::Model;
 
 /// How many bytes the haystacks are taken to have together: there may always be another one.
-const ENDLESS: usize = usize::MAX;
+pub(crate) const ENDLESS: usize = usize::MAX;
 
 /// A regex, and the memory for its searches: for many haystacks, one after another.
 ///

@@ -40,7 +40,7 @@ impl RegexList {
         ensures begins { IfOk result (λ it. it.ended ≡ None) }
         ensures refused { IfErr result (λ error. error ≡ out_of_memory) }
     {
-        let searcher = ListSearcher::with_groups(self)?;
+        let searcher = ListSearcher::with_groups(self, haystack.len())?;
         Ok(ListCaptureMatches {
             scan: GroupScan::new(searcher, haystack, None),
         })
@@ -64,7 +64,7 @@ impl RegexList {
         ensures begins { IfOk result (λ it. it.ended ≡ ended) }
         ensures refused { IfErr result (λ error. error ≡ out_of_memory) }
     {
-        let searcher = ListSearcher::with_groups(self)?;
+        let searcher = ListSearcher::with_groups(self, haystack.len())?;
         Ok(ListCaptureMatches {
             scan: GroupScan::after(searcher, haystack, ended),
         })

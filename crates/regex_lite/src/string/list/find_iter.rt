@@ -38,7 +38,7 @@ impl RegexList {
         ensures begins { IfOk result (λ it. it.ended ≡ None) }
         ensures refused { IfErr result (λ error. error ≡ out_of_memory) }
     {
-        let searcher = ListSearcher::new(self, 0)?;
+        let searcher = ListSearcher::new(self, 0, haystack.len())?;
         Ok(ListMatches {
             scan: Scan::new(searcher, haystack, None),
         })
@@ -73,7 +73,7 @@ impl RegexList {
         ensures begins { IfOk result (λ it. it.ended ≡ ended) }
         ensures refused { IfErr result (λ error. error ≡ out_of_memory) }
     {
-        let searcher = ListSearcher::new(self, 0)?;
+        let searcher = ListSearcher::new(self, 0, haystack.len())?;
         Ok(ListMatches {
             scan: Scan::after(searcher, haystack, ended),
         })

@@ -38,25 +38,30 @@ impl<'r> Model for ListSearcher<'r> {
 }
 
 impl<'r> ListSearcher<'r> {
-    /// The patterns, with memory for searches whose matches have this number of slots.
-    pub fn new(list: &'r RegexList, slots: usize) -> Result<ListSearcher<'r>, Error>
+    /// The patterns, with memory for searches in haystacks of about `bytes` bytes, whose matches
+    /// have `slots` slots.
+    pub fn new(
+        list: &'r RegexList,
+        slots: usize,
+        bytes: usize,
+    ) -> Result<ListSearcher<'r>, Error>
         ensures list { IfOk result (λ searcher. searcher.list ≡ list.now) }
         ensures slots { IfOk result (λ searcher. length searcher.slots ≡ slots) }
         ensures refused { IfErr result (λ error. error ≡ out_of_memory) }
     {
         let graph = &list.compiled.graph;
-        let inner = regex_lite_engine::ListSearcher::new(list.alloc, graph, slots)?;
+        let inner = regex_lite_engine::ListSearcher::new(list.alloc, graph, slots, bytes)?;
         Ok(ListSearcher { list, inner })
     }
 
     /// The patterns, with memory for searches that keep the slots of all groups.
-    pub fn with_groups(list: &'r RegexList) -> Result<ListSearcher<'r>, Error>
+    pub fn with_groups(list: &'r RegexList, bytes: usize) -> Result<ListSearcher<'r>, Error>
         ensures list { IfOk result (λ searcher. searcher.list ≡ list.now) }
         ensures slots { IfOk result
             (λ searcher. AreSlotsForAllGroups list.now (length searcher.slots)) }
         ensures refused { IfErr result (λ error. error ≡ out_of_memory) }
     {
-        ListSearcher::new(list, list.kept_slots())
+        ListSearcher::new(list, list.kept_slots(), bytes)
     }
 
     /// The first match that starts at this offset or later, with the number of its pattern, whose
