@@ -1,4 +1,5 @@
 -- lemmas that several proofs here share
 pub mod CompletionLemmas
 pub mod DenialLemmas
+pub mod EndLemmas
 pub mod IndexLemmas

@@ -25,7 +25,7 @@ abbrev underscores : ℕ → Text
 underscores zero = []
 underscores (suc n) = the "_" ∷ underscores n
 
--- and so many there are
+-- there are n of them
 count_is : (n : ℕ) → length (underscores n) ≡ n
 count_is zero = refl
 count_is (suc n) = ap (λ k. suc k) (count_is n)
@@ -35,7 +35,7 @@ abbrev more_than_all : List Text → ℕ
 more_than_all [] = 1
 more_than_all (name ∷ names) = length name + more_than_all names
 
--- each of them has less
+-- each of them has fewer
 shorter : (names : List Text) (k : ℕ) (name : Text) → k < length names
     → get_or names k name ≡ name → length name < more_than_all names
 shorter [] k name inside is = omega (arith, inside)

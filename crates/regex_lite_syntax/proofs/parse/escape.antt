@@ -2,6 +2,5 @@
 pub mod DigitLemmas
 pub mod ReachLemmas
 pub mod CompletedDigitLemmas
-pub mod EndLemmas
 pub mod NameEndLemmas
 pub mod BoundaryNameLemmas

@@ -14,7 +14,7 @@ IsRefusedUnread pattern Groups = PassesGroups (openings pattern)
 IsRefusedUnread pattern Memory = Unit {0}
 IsRefusedUnread pattern _ = ⊥
 
--- some accepted pattern begins with the first `k` characters, or these are no more than `start`
+-- some accepted pattern begins with the first `k` characters, or `k` is just `start`
 abbrev pub GoesOnFrom : Flags → Text → (start k : ℕ) → Type 0
 GoesOnFrom flags pattern start k = (k ≡ start) ⊎ BeginsSome flags (take k pattern)
 

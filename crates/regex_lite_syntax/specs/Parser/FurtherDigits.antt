@@ -8,7 +8,7 @@ use Rattle.regex_lite_syntax.specs.Characters.{is_character, is_hex_digit, digit
 abbrev pub number_on : (number : ℕ) → (digits : Text) → ℕ
 number_on number digits = fold (λ n d. n * 16 + digit_value d) number digits
 
--- with these digits behind it the number is that of a character from `least` on
+-- with these further digits the number is that of a character from `least` on
 pub record Reaches (number least : ℕ) (digits : Text) : Type 0 where
   pub are_digits : IsTrue (list_all is_hex_digit digits)
   pub scalar : IsTrue (is_character (number_on number digits))

@@ -48,6 +48,18 @@ pub enum SyntaxFault {
 }
 
 impl SyntaxFault {
+    /// The fault of a pattern that ends inside this part, by whether more of it could complete the
+    /// part.
+    pub(crate) fn at_end(part: UnexpectedEof, is_completable: bool) -> SyntaxFault
+        ensures { is_cut_short result ≡ is_completable }
+    {
+        if is_completable {
+            SyntaxFault::CutShort(part)
+        } else {
+            SyntaxFault::DeadEnd(part)
+        }
+    }
+
     /// Whether the pattern ends inside a part that more of it could complete.
     pub(crate) fn is_cut_short(self) -> bool
         ensures { result ≡ is_cut_short self }

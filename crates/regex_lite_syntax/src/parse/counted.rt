@@ -101,10 +101,10 @@ fn read_limit(
         value: most,
     } = read_number(chars, at, verbose)?;
     match char_at(chars, end) {
-        None if can_become(chars, past_digits, verbose, most, least) => {
-            Err(SyntaxFault::CutShort(UnexpectedEof::CountedRepetitionMinMax))
+        None => {
+            let reaches = can_become(chars, past_digits, verbose, most, least);
+            Err(SyntaxFault::at_end(UnexpectedEof::CountedRepetitionMinMax, reaches))
         }
-        None => Err(SyntaxFault::DeadEnd(UnexpectedEof::CountedRepetitionMinMax)),
         Some('}') if most < least => Err(SyntaxFault::CountedRepetitionInvalidRange),
         Some('}') => Ok((end + 1, Some(most))),
         Some(_) => Err(SyntaxFault::CountedRepetitionInvalid),
@@ -129,7 +129,7 @@ fn can_become(chars: &[char], past_digits: usize, verbose: bool, number: u32, le
 fn can_grow(number: u32, least: u32) -> bool
     ensures { IsTrue result ↔ CanReach least (GrowsTo number) }
 {
-    // With so many more digits the number is at least `low` and at most `high`.
+    // With some number of further digits the number is at least `low` and at most `high`.
     let mut low = u64::from(number);
     let mut high = low;
     while high < u64::from(least) {

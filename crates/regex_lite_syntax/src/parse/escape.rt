@@ -151,14 +151,3 @@ fn refusal_of(c: char) -> SyntaxFault
         _ => SyntaxFault::EscapeUnrecognized,
     }
 }
-
-/// What is wrong where the pattern ends inside this part, by whether more of it could complete it.
-fn fault_at_end(part: UnexpectedEof, goes_on: bool) -> SyntaxFault
-    ensures { is_cut_short result ≡ goes_on }
-{
-    if goes_on {
-        SyntaxFault::CutShort(part)
-    } else {
-        SyntaxFault::DeadEnd(part)
-    }
-}

@@ -13,7 +13,7 @@ use Rattle.regex_lite_syntax.specs.Characters.{is_character, is_hex_digit, digit
 use Rattle.regex_lite_syntax.specs.Parser.FurtherDigits.{number_on, Reaches}
 use Rattle.regex_lite_syntax.proofs.parse.escape.DigitLemmas.{on_grows, character_below}
 
--- the first and the last number that so many digits can make of one
+-- the least and the greatest number that this many further digits can make of a number
 abbrev pub lowest : (digits number : ℕ) → ℕ
 lowest zero number = number
 lowest (suc k) number = lowest k number * 16
@@ -28,7 +28,7 @@ lowest_next k number = rw add-one refl
 pub highest_next : (k number : ℕ) → highest (k + 1) number ≡ highest k number * 16 + 15
 highest_next k number = rw add-one refl
 
--- the first and the last digit may come first as well
+-- the least digit, or the greatest, may be added before the others as well as after them
 lowest_first : (k number : ℕ) → lowest k (number * 16) ≡ lowest (suc k) number
 lowest_first zero number = refl
 lowest_first (suc k) number = ap (λ n. n * 16) (lowest_first k number)
@@ -37,7 +37,7 @@ highest_first : (k number : ℕ) → highest k (number * 16 + 15) ≡ highest (s
 highest_first zero number = refl
 highest_first (suc k) number = ap (λ n. n * 16 + 15) (highest_first k number)
 
--- a larger number has larger ones
+-- both grow with the number
 lowest_above : (k m n : ℕ) → m ≤ n → lowest k m ≤ lowest k n
 lowest_above zero m n above = above
 lowest_above (suc k) m n above = let further = lowest_above k m n above in omega (arith, further)
@@ -59,7 +59,7 @@ digit_is v small =
 digit_below : (d : ℕ) → IsTrue (is_hex_digit d) → digit_value d ≤ 15
 digit_below d is = grind (arith, nat_tests)
 
--- the digits make no other numbers
+-- whatever the digits are, the number lies between the two
 pub within : (k number : ℕ) (digits : Text) → length digits ≡ k
     → IsTrue (list_all is_hex_digit digits)
     → (lowest k number ≤ number_on number digits) × (number_on number digits ≤ highest k number)
@@ -78,7 +78,7 @@ within (suc k) number (d ∷ digits) count all =
     let last = highest_first k number in
     (omega (arith, further, low, first), omega (arith, further, high, last))
 
--- and each of them
+-- and some digits make each number between them
 made_next : (k number c : ℕ) (digits : Text) → length digits ≡ k
     → IsTrue (list_all is_hex_digit digits) → number_on number digits ≡ c / 16
     → (further : Text) × (length further ≡ suc k) × IsTrue (list_all is_hex_digit further)
@@ -130,7 +130,7 @@ unreached k number least low high last first end is_last none further count reac
     none c (omega (arith, bounds)) reaches.far
     (is_last c reaches.scalar (omega (arith, bounds, below)))
 
--- at least so many digits make no smaller number than so many
+-- with `k` digits or more the number is no smaller than the least with `k`
 with_more : (k number : ℕ) (digits : Text) → k ≤ length digits
     → lowest k number ≤ number_on number digits
 with_more zero number digits many = on_grows digits number
@@ -142,7 +142,7 @@ with_more (suc k) number (d ∷ digits) many =
     let first = lowest_first k number in
     omega (arith, further, low, first)
 
--- with six digits behind it each number but 0 is too large
+-- with six further digits every number but 0 is too large
 pub six_too_many : (number least : ℕ) (further : Text) → 0 < number → 6 ≤ length further
     → Reaches number least further → ⊥
 six_too_many number least further some many reaches =

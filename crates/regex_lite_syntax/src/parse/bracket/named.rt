@@ -52,8 +52,7 @@ fn expect(chars: &[char], at: usize, c: char, begun: bool) -> Result<(), SyntaxF
         (λ fault. is_cut_short fault ≡ (begun && (at == length chars.now))) }
 {
     if at == chars.len() {
-        let fault = SyntaxFault::CutShort(UnexpectedEof::ClassNest);
-        return Err(if begun { fault } else { fault.for_good() });
+        return Err(SyntaxFault::at_end(UnexpectedEof::ClassNest, begun));
     }
     if is_at(chars, at, c) {
         Ok(())

@@ -12,7 +12,6 @@ ghost use Rattle.regex_lite_syntax.specs.Parser.BoundaryNames.{EndsInName};
 ghost use Rattle.regex_lite_syntax.specs.Refusals.{MayFollow, NoReading};
 ghost use Rattle.regex_lite_syntax.specs.Refusals.{Completable, CanComplete};
 
-use super::fault_at_end;
 use crate::error::{SyntaxFault, UnexpectedEof};
 use crate::hir::look::Look;
 use crate::parse::gap::skip_gap;
@@ -116,7 +115,7 @@ fn fault_of_name(chars: &[char], at: usize, verbose: bool) -> SyntaxFault
         let next = skip_gap(chars, end, verbose);
         let Some(c) = char_at(chars, next) else {
             let goes_on = ends_in_any_name(chars, at, verbose);
-            return fault_at_end(UnexpectedEof::SpecialWordBoundary, goes_on);
+            return SyntaxFault::at_end(UnexpectedEof::SpecialWordBoundary, goes_on);
         };
         if c == '}' {
             return SyntaxFault::SpecialWordBoundaryUnrecognized;

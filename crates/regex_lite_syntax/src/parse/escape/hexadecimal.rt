@@ -8,14 +8,13 @@ ghost use Rattle.regex_lite_syntax.specs.Grammar.Escapes.{FixedDigits, BracedDig
 ghost use Rattle.regex_lite_syntax.specs.Parser.FurtherDigits.{Reaches};
 ghost use Rattle.regex_lite_syntax.specs.Refusals.{NoReading, CanComplete};
 
-use super::fault_at_end;
 use crate::error::{SyntaxFault, UnexpectedEof};
 use crate::parse::gap::skip_gap;
 use crate::parse::read::char_at;
 
 /// The number of the last character.
 const LAST: u32 = 0x10_FFFF;
-/// With this many digits behind it, each number but 0 is past the last character.
+/// With this many further digits, every number but 0 is past the last character.
 const TOO_MANY: u32 = 6;
 
 /// Reads a character by its number, from after the letter that says how many digits there are.
@@ -71,7 +70,7 @@ fn read_fixed(
         let next = skip_gap(chars, end, verbose);
         let Some(c) = char_at(chars, next) else {
             let reaches = can_reach(number, digits - read, least);
-            return Err(fault_at_end(UnexpectedEof::HexFixed, reaches));
+            return Err(SyntaxFault::at_end(UnexpectedEof::HexFixed, reaches));
         };
         let Some(digit) = hex_value(c) else {
             return Err(SyntaxFault::HexFixedInvalidDigit);
@@ -111,7 +110,7 @@ fn read_braced(
         let next = skip_gap(chars, end, verbose);
         let Some(c) = char_at(chars, next) else {
             let reaches = can_reach_at_all(number, least);
-            return Err(fault_at_end(UnexpectedEof::HexBrace, reaches));
+            return Err(SyntaxFault::at_end(UnexpectedEof::HexBrace, reaches));
         };
         if c == '}' {
             if end == at {

@@ -6,7 +6,7 @@ use Rattle.regex_lite_syntax.proofs.parse.counted.can_grow.Given as goal
 abbrev pub invariant-loop-high : goal.invariant-loop-high
 invariant-loop-high l = record {
   ordered : (l.low ≤ l.high) × (l.high < 2 ^ 32 * 10);
-  -- the numbers of so many digits more
+  -- the numbers that this many further digits make
   between : (n : ℕ) → l.low ≤ n → n ≤ l.high → GrowsTo l.number n;
   -- with fewer digits the number stays below the least
   others : (n : ℕ) → GrowsTo l.number n → TooSmallOrFrom l.least l.low l.high n;

@@ -12,6 +12,7 @@ use Rattle.regex_lite_syntax.proofs.grammar.LongerNumberLemmas.{of_text, longer_
 use Rattle.regex_lite_syntax.proofs.grammar.ResumedCountLemmas.{NumberTo, unlimited}
 use Rattle.regex_lite_syntax.proofs.grammar.ResumedCountLemmas.{greatest_limit, limit_reached}
 use Rattle.regex_lite_syntax.proofs.grammar.ResumedCountLemmas.{never_reached}
+use Rattle.regex_lite_syntax.proofs.parse.EndLemmas.{end_refused}
 use Rattle.regex_lite_syntax.proofs.parse.counted.read_limit.Goals as goal
 
 pub returns-in-None-clause-refused : goal.returns-in-None-clause-refused
@@ -35,13 +36,25 @@ returns-in_err-past_digits-clause-refused c =
 
 pub returns-in-None-char_at-clause-refused : goal.returns-in-None-char_at-clause-refused
 returns-in-None-char_at-clause-refused c =
+    let number = c.in_ok-past_digits.field-0 in
+    let xs = c.args.chars.now in
+    let t = drop c.args.at xs in
+    let past = drop number.past_digits xs in
+    let end = c.in-None-char_at.ensures in
+    let here = subst (λ u. NumberTo c.args.verbose t u past number.value) end
+    c.in_ok-past_digits.ensures.ok in
     λ more follows (rest, most, limit, order).
-    let number = longer_limit_is_number more _ _ _ _ c.skip_gap-first.ensures.gap
+    let longer = longer_limit_is_number more _ _ _ _ c.skip_gap-first.ensures.gap
     c.in-Some.ensures.1 c.in-Some.field-0-test.1 limit in
-    let same = c.in_ok-past_digits.ensures.only more (the "}" ∷ rest) number.0 (λ _. follows refl)
-    number.2 (inr refl) in
-    no_ender _ (same.0 ∙ ap (λ u. u ++ more) c.in-None-char_at.ensures ∙ follows refl)
-    (inr refl)
+    end_refused _ _ more c.at_end.ensures follows
+    (λ nothing.
+    let same = c.in_ok-past_digits.ensures.only more (the "}" ∷ rest) longer.0 (λ _. nothing)
+    longer.2 (inr refl) in
+    no_ender _ (same.0 ∙ ap (λ u. u ++ more) end ∙ nothing) (inr refl))
+    (λ never.
+    never_reached c.args.verbose c.args.least t past number.value here
+    (λ can. both_ways c.can_become-reaches.result never (c.can_become-reaches.ensures.1 can))
+    more rest longer.0 longer.2 (subst (λ m. IsNotBelow c.args.least m) longer.1 order))
 
 pub returns-in-Some-char_at-clause-refused : goal.returns-in-Some-char_at-clause-refused
 returns-in-Some-char_at-clause-refused c =
@@ -77,22 +90,7 @@ returns-in-None-char_at-clause-completes c =
     let here = subst (λ u. NumberTo c.args.verbose t u past number.value) c.in-None-char_at.ensures
     c.in_ok-past_digits.ensures.ok in
     λ short. limit_reached c.args.verbose c.args.least t past number.value here
-    (c.if-can_become.ensures.0 refl)
-
-pub returns-in-None-2-clause-refused : goal.returns-in-None-2-clause-refused
-returns-in-None-2-clause-refused c =
-    let number = c.in_ok-past_digits.field-0 in
-    let xs = c.args.chars.now in
-    let t = drop c.args.at xs in
-    let past = drop number.past_digits xs in
-    let here = subst (λ u. NumberTo c.args.verbose t u past number.value) c.in-None-char_at.ensures
-    c.in_ok-past_digits.ensures.ok in
-    λ more follows (rest, most, limit, order).
-    let longer = longer_limit_is_number more _ _ _ _ c.skip_gap-first.ensures.gap
-    c.in-Some.ensures.1 c.in-Some.field-0-test.1 limit in
-    never_reached c.args.verbose c.args.least t past number.value here
-    (λ can. both_ways c.can_become.result c.if-can_become.false (c.can_become.ensures.1 can))
-    more rest longer.0 longer.2 (subst (λ m. IsNotBelow c.args.least m) longer.1 order)
+    (c.can_become-reaches.ensures.0 (sym c.at_end.ensures ∙ short))
 
 pub returns-in-Some-eq125-char_at-clause-refused :
     goal.returns-in-Some-eq125-char_at-clause-refused

@@ -15,7 +15,7 @@ use Rattle.regex_lite_syntax.proofs.grammar.SpacedLemmas.{brace_or_other, brace_
 use Rattle.regex_lite_syntax.proofs.grammar.SpacedLemmas.{not_spaced, spaced_more}
 use Rattle.regex_lite_syntax.proofs.grammar.SpacedLemmas.{spaced_to_brace_once}
 use Rattle.regex_lite_syntax.proofs.grammar.LongerNumberLemmas.{of_text}
-use Rattle.regex_lite_syntax.proofs.parse.escape.EndLemmas.{at_end_or_never}
+use Rattle.regex_lite_syntax.proofs.parse.EndLemmas.{at_end_or_never}
 use Rattle.regex_lite_syntax.proofs.parse.escape.NameEndLemmas.{ends_in_its_name}
 use Rattle.regex_lite_syntax.proofs.parse.escape.boundary.fault_of_name.Goals as goal
 
@@ -92,7 +92,7 @@ loop-c-preserved c =
 
 pub returns-in_default-clause-completes : goal.returns-in_default-clause-completes
 returns-in_default-clause-completes c short =
-    c.ends_in_any_name-goes_on.ensures.completes (sym c.fault_at_end.ensures ∙ short)
+    c.ends_in_any_name-goes_on.ensures.completes (sym c.at_end.ensures ∙ short)
 
 -- where nothing could complete a name, none comes to stand
 pub returns-in_default-clause-stands : goal.returns-in_default-clause-stands
@@ -100,7 +100,7 @@ returns-in_default-clause-stands c more rest look follows b =
     let passed = c.loop-c.invariant.passed in
     let ends = subst (λ u. Gap c.args.verbose (drop c.loop-c.end c.args.chars.now) u)
     c.in_default.ensures c.skip_gap-next.ensures.gap.0 in
-    elim (at_end_or_never _ _ more c.fault_at_end.ensures follows) [
+    elim (at_end_or_never _ _ more c.at_end.ensures follows) [
       | inl nothing ↦
           (rest, of_text (λ t. BoundaryName c.args.verbose t rest look) _ more nothing b)
       | inr never ↦

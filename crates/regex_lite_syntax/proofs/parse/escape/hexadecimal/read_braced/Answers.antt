@@ -8,13 +8,13 @@ use Rattle.regex_lite_syntax.proofs.parse.escape.DigitLemmas.{braced_scalar, bra
 use Rattle.regex_lite_syntax.proofs.parse.escape.DigitLemmas.{braced_too_large, no_character}
 use Rattle.regex_lite_syntax.proofs.parse.escape.CompletedDigitLemmas.{braced_short}
 use Rattle.regex_lite_syntax.proofs.parse.escape.CompletedDigitLemmas.{braced_completable}
-use Rattle.regex_lite_syntax.proofs.parse.escape.EndLemmas.{end_refused}
+use Rattle.regex_lite_syntax.proofs.parse.EndLemmas.{end_refused}
 use Rattle.regex_lite_syntax.proofs.parse.escape.hexadecimal.read_braced.Goals as goal
 
 pub returns-in_default-clause-refused : goal.returns-in_default-clause-refused
 returns-in_default-clause-refused c more follows (rest, d, b, far) =
     let on = c.loop-c.invariant.back more rest d b in
-    end_refused _ _ more c.fault_at_end.ensures follows
+    end_refused _ _ more c.at_end.ensures follows
     (λ nothing.
     braced_stuck []
     (whole_to_end more _ _ c.skip_gap-next.ensures.gap c.in_default.ensures nothing) tt
@@ -28,7 +28,7 @@ returns-in_default-clause-completes c short =
     (subst (λ u. Gap c.args.verbose (drop c.loop-c.end c.args.chars.now) u)
     c.in_default.ensures c.skip_gap-next.ensures.gap.0)
     c.loop-c.invariant.goes_longer
-    (c.can_reach_at_all-reaches.ensures.reached (sym c.fault_at_end.ensures ∙ short))
+    (c.can_reach_at_all-reaches.ensures.reached (sym c.at_end.ensures ∙ short))
 
 pub returns-then-end-at-clause-refused : goal.returns-then-end-at-clause-refused
 returns-then-end-at-clause-refused c more follows (rest, d, b, far) =

@@ -7,13 +7,13 @@ use Rattle.regex_lite_syntax.proofs.parse.escape.DigitLemmas.{fixed_scalar, fixe
 use Rattle.regex_lite_syntax.proofs.parse.escape.DigitLemmas.{fixed_too_large, no_character}
 use Rattle.regex_lite_syntax.proofs.parse.escape.CompletedDigitLemmas.{fixed_short}
 use Rattle.regex_lite_syntax.proofs.parse.escape.CompletedDigitLemmas.{fixed_completable}
-use Rattle.regex_lite_syntax.proofs.parse.escape.EndLemmas.{end_refused}
+use Rattle.regex_lite_syntax.proofs.parse.EndLemmas.{end_refused}
 use Rattle.regex_lite_syntax.proofs.parse.escape.hexadecimal.read_fixed.Goals as goal
 
 pub returns-in_default-clause-refused : goal.returns-in_default-clause-refused
 returns-in_default-clause-refused c more follows (rest, d, f, far) =
     let on = c.loop-read.invariant.back more rest d f in
-    end_refused _ _ more c.fault_at_end.ensures follows
+    end_refused _ _ more c.at_end.ensures follows
     (λ nothing.
     fixed_stuck []
     (whole_to_end more _ _ c.skip_gap-next.ensures.gap c.in_default.ensures nothing) tt
@@ -29,7 +29,7 @@ returns-in_default-clause-completes c short =
     (subst (λ u. Gap c.args.verbose (drop c.loop-read.end c.args.chars.now) u)
     c.in_default.ensures c.skip_gap-next.ensures.gap.0)
     c.loop-read.invariant.goes_longer
-    (c.can_reach-reaches.ensures.reached (sym c.fault_at_end.ensures ∙ short))
+    (c.can_reach-reaches.ensures.reached (sym c.at_end.ensures ∙ short))
 
 pub returns-in_default-hex_value-clause-refused : goal.returns-in_default-hex_value-clause-refused
 returns-in_default-hex_value-clause-refused c more follows (rest, d, f, far) =

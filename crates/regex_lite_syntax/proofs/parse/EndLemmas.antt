@@ -1,4 +1,4 @@
--- Escapes that the pattern ends inside.
+-- Parts that the pattern ends inside.
 use Rattle.std.proofs.Common.{◌⊎◌, inl, inr, ◌≡◌, refl, Bool, true, false, []}
 use Rattle.regex_lite_syntax.specs.declared.error.syntax.SyntaxFault.{SyntaxFault}
 use Rattle.regex_lite_syntax.specs.Text.{Text}
