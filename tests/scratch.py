@@ -11,7 +11,8 @@ from collections.abc import Iterable, Iterator, Mapping, Sequence
 from pathlib import Path
 from typing import NamedTuple, Union
 
-Change = tuple[str, str, str]  # the path of a file, what stands once in it, and what is to stand there
+# The path of a file, what stands once in it, and what is to stand there.
+Change = tuple[str, str, str]
 
 TOP = Path(__file__).resolve().parent.parent
 LIBRARIES = ('regex_lite_syntax', 'regex_lite_engine', 'regex_lite')

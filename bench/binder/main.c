@@ -1,5 +1,5 @@
-/* main PATTERN CALL ROUNDS: reads a text, and prints how many nanoseconds a round takes, of is_match or
- * of going over all matches, and how many were found. */
+/* main PATTERN CALL ROUNDS: reads a text, and prints how many nanoseconds a round takes, of
+ * is_match or of going over all matches, and how many were found. */
 #include <regex_lite.h>
 #include <stdio.h>
 #include <stdlib.h>

@@ -170,9 +170,9 @@ uint32_t regex_lite_new(regex_lite *handle, const uint8_t *pattern, size_t patte
  *
  * The fault starts where the part begins that can't be read: a class, an escape, an operator, a
  * list of flags, a group with a bad name. If groups are open at the end of the pattern, it is where
- * the innermost of them begins. It ends after the first character with which no accepted pattern
- * begins any more; an editor can mark it up to there. If some accepted pattern begins with this
- * one, as where a group or a class is open, it is cut short, and an editor can wait.
+ * the innermost of them begins. It ends where the shortest prefix ends with which no accepted
+ * pattern begins; an editor can mark it up to there. If some accepted pattern begins with this one,
+ * as where a group or a class is open, it is cut short, and an editor can wait.
  *
  * A pattern that isn't valid UTF-8 is REGEX_LITE_NOT_TEXT, and one with more groups than can be
  * numbered may be REGEX_LITE_GROUPS. */
@@ -188,7 +188,7 @@ uint32_t regex_lite_pattern(regex_lite *handle, uint8_t *room, size_t room_len, 
 /* How many groups a match has, the whole match among them; 0 where nothing is held. */
 size_t regex_lite_groups(regex_lite *handle);
 
-/* How many groups at least take part in every match; 0 where that isn't known. */
+/* At least this many groups take part in every match; 0 where that isn't known. */
 size_t regex_lite_static_groups(regex_lite *handle);
 
 /* Writes the name of a group: REGEX_LITE_YES or REGEX_LITE_NO_ROOM, with its length written either
@@ -272,7 +272,7 @@ uint32_t regex_lite_replace(regex_lite *handle, const uint8_t *text, size_t len,
                             const uint8_t *replacement, size_t replacement_len,
                             regex_lite_replacing *replacing, uint8_t *room, size_t room_len);
 
-/* Writes the pattern that means a text and nothing else, and its length: REGEX_LITE_YES, or
+/* Writes a pattern that matches exactly this text, and its length: REGEX_LITE_YES, or
  * REGEX_LITE_NO_ROOM with the length alone. */
 uint32_t regex_lite_escape(const uint8_t *text, size_t len, uint8_t *room, size_t room_len,
                            size_t *pattern_len);
@@ -301,8 +301,8 @@ void regex_lite_list_free(regex_lite_list *handle);
 /* How many patterns the list has; 0 where nothing is held. */
 size_t regex_lite_list_len(regex_lite_list *handle);
 
-/* Writes the pattern with this number: REGEX_LITE_YES or REGEX_LITE_NO_ROOM, with its length written
- * either way; or REGEX_LITE_NO where the list has no such pattern. */
+/* Writes the pattern with this number: REGEX_LITE_YES or REGEX_LITE_NO_ROOM, with its length
+ * written either way; or REGEX_LITE_NO where the list has no such pattern. */
 uint32_t regex_lite_list_pattern_at(regex_lite_list *handle, size_t number, uint8_t *room,
                                     size_t room_len, size_t *len);
 

@@ -247,8 +247,8 @@ static void test_walks_over_groups(void) {
     WANT(count == 3);
     WANT(regex_lite_list_captures_all(&list, TEXT("..."), &walk, told, 0, spans, 0, &count) ==
          REGEX_LITE_NO);
-    WANT(regex_lite_list_captures_all(&list, TEXT("\xc3\xbc"), &inside, told, 2, spans, 4, &count) ==
-         REGEX_LITE_BAD_OFFSET);
+    WANT(regex_lite_list_captures_all(&list, TEXT("\xc3\xbc"), &inside, told, 2, spans, 4,
+                                      &count) == REGEX_LITE_BAD_OFFSET);
     WANT(regex_lite_list_captures_all(&list, TEXT("\xff"), &walk, told, 2, spans, 4, &count) ==
          REGEX_LITE_NOT_TEXT);
     WANT(count == 0 && !walk.is_begun && told[0].number == 9 && spans[0].start == 9);
@@ -278,8 +278,9 @@ static void test_properties(void) {
     WANT(memcmp(room, "...", 3) == 0);
     WANT(regex_lite_list_pattern_at(&list, 1, room, 3, &len) == REGEX_LITE_YES && len == 3);
     WANT(memcmp(room, "a|b", 3) == 0);
-    /* Each pattern has two places and arrows of the whole match, and a place where it is complete. A
-     * choice has a place before and one after its branches, and an arrow to each and after them. */
+    /* Each pattern has two places and arrows of the whole match, and a place where it is complete.
+     * A choice has a place before and one after its branches, and an arrow to each and after them.
+     */
     WANT(regex_lite_list_places(&list) == 5 + 7 && regex_lite_list_arrows(&list) == 4 + 7);
     WANT(regex_lite_list_find_counted(&list, TEXT("-if"), 0, &span, &cost) == REGEX_LITE_YES);
     WANT(span.number == 0 && span.start == 1 && span.end == 3);

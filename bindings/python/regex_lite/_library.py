@@ -63,8 +63,8 @@ class error(Exception):
     """A pattern is refused. `msg` says why, and `number` is that of the library.
 
     Where the syntax is wrong, `pos` is where the part of the pattern begins that is at fault, and
-    `lineno` and `colno` are the line and the column of that place, both from 1 on. `end` is past the
-    first character with which no accepted pattern begins any more; it is None where some accepted
+    `lineno` and `colno` are the line and the column of that place, both from 1 on. `end` is the end
+    of the shortest prefix with which no accepted pattern begins; it is None where some accepted
     pattern begins with this one. Where only a limit is passed, all four are None."""
 
     def __init__(self, msg: str, pattern: str, number: int, pos: Optional[int] = None,

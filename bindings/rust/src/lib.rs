@@ -44,7 +44,7 @@ pub enum Error {
 pub struct Fault {
     /// Where the part of the pattern begins that can't be read.
     pub start: usize,
-    /// Where it ends: after the first character with which no accepted pattern begins any more.
+    /// Where it ends: at the end of the shortest prefix with which no accepted pattern begins.
     /// There is none where some accepted pattern begins with this one.
     pub end: Option<usize>,
 }
@@ -407,8 +407,8 @@ fn written(first: usize, mut call: impl FnMut(&mut [u8]) -> (u32, usize)) -> Res
     Ok(String::from_utf8(room).expect("the library writes UTF-8"))
 }
 
-/// What the calls of a walk write, one after another, each to the room that it is lent, until none is
-/// left. A call stores how much it has written.
+/// What the calls of a walk write, one after another, each to the room that it is lent, until none
+/// is left. A call stores how much it has written.
 fn walked<T: Clone + Default>(
     mut call: impl FnMut(&mut [T], &mut usize) -> u32,
 ) -> Result<Vec<T>, Error> {

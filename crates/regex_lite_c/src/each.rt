@@ -13,7 +13,7 @@ use std::alloc::Global;
 ///
 /// The texts have these lengths, which have to add up to that of the bytes, and each ends between
 /// two characters; otherwise a bad offset is reported. They are searched in the same memory, and
-/// what the searches of one learn of the pattern speeds up those of the next.
+/// what the search of one learns about the pattern speeds up that of the next.
 #[unsafe(no_mangle)]
 pub extern "C" fn regex_lite_find_each(
     alloc: Global,

@@ -41,7 +41,7 @@ impl Handle {
 
     /// Holds this regex.
     ///
-    /// Condition: nothing is held; otherwise that would never be freed.
+    /// Condition: nothing is held; otherwise what is held would never be freed.
     pub(crate) fn put(&mut self, regex: Box<Regex, Global>)
         requires { self.old.value ≡ None }
         ensures { self.new.value ≡ Some regex.value }

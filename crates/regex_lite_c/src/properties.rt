@@ -52,7 +52,7 @@ pub extern "C" fn regex_lite_groups(alloc: Global, handle: &mut Handle) -> usize
     count
 }
 
-/// How many groups at least take part in every match, the whole match among them; 0 where that
+/// At least this many groups take part in every match, the whole match among them; 0 where that
 /// isn't known, or nothing is held.
 #[unsafe(no_mangle)]
 pub extern "C" fn regex_lite_static_groups(alloc: Global, handle: &mut Handle) -> usize

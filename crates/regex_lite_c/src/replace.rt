@@ -84,7 +84,7 @@ fn replaced<'h>(
     }
 }
 
-/// Writes the pattern that means this text and nothing else to the room: 1.
+/// Writes a pattern that matches exactly this text to the room: 1.
 #[unsafe(no_mangle)]
 pub extern "C" fn regex_lite_escape(
     alloc: Global,

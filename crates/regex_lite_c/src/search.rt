@@ -95,7 +95,7 @@ fn find(regex: &Regex, text: &[u8], start: usize, span: &mut Span) -> u32
     }
 }
 
-/// The same, with what the search cost written too, where there is an answer.
+/// The same, and writes what the search cost, if there is an answer.
 #[unsafe(no_mangle)]
 pub extern "C" fn regex_lite_find_counted(
     alloc: Global,
@@ -122,7 +122,7 @@ pub extern "C" fn regex_lite_find_counted(
     answer
 }
 
-/// Where this regex matches first, and what it cost to know that.
+/// Where this regex matches first, and what it cost to find out.
 fn find_counted(regex: &Regex, text: &[u8], start: usize, span: &mut Span, cost: &mut Cost) -> u32
     ensures answer { IsSearchAnswer text.now start result
         (TellsSpan regex.now text.now start (span_of span.new))

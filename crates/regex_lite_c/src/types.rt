@@ -22,7 +22,7 @@ pub struct Options {
     pub crlf: bool,
     /// Greedy and lazy operators are swapped: the flag `U`.
     pub swap_greed: bool,
-    /// White space and comments are left out of the pattern: the flag `x`.
+    /// White space and comments in the pattern are ignored: the flag `x`.
     pub ignore_whitespace: bool,
     /// How deep the pattern may nest.
     pub nest_limit: u32,
@@ -43,7 +43,7 @@ pub struct Span {
 }
 
 impl Span {
-    /// That of a match.
+    /// The span of a match.
     pub(crate) fn of(found: &Match<'_>) -> Span
         ensures { span_of result ≡ Some (span_of_match found.now) }
     {
@@ -54,7 +54,7 @@ impl Span {
         }
     }
 
-    /// From one offset to another.
+    /// The span from one offset to another.
     pub(crate) fn between(start: usize, end: usize) -> Span
         ensures { span_of result ≡ Some (start, end) }
     {
@@ -65,7 +65,7 @@ impl Span {
         }
     }
 
-    /// That of a group, if it took part.
+    /// The span of a group, if it took part.
     pub(crate) fn of_group(group: Option<Match<'_>>) -> Span
         ensures { span_of result ≡ option_map span_of_match group.entry }
     {
@@ -86,15 +86,15 @@ impl Span {
 pub struct Fault {
     /// The offset at which the part begins that can't be read.
     pub start: usize,
-    /// The offset at which it ends: the least one past the start before which stands the beginning
-    /// of no accepted pattern. Where the pattern is cut short, its length.
+    /// The offset at which it ends: the least one past the start such that no accepted pattern
+    /// begins with what stands before it. If the pattern is cut short, its length.
     pub end: usize,
     /// Whether some accepted pattern begins with this one.
     pub is_cut_short: bool,
 }
 
 impl Fault {
-    /// That with this span, in a pattern of this many bytes.
+    /// The fault with this span, in a pattern of this many bytes.
     pub(crate) fn of(span: FaultSpan, len: usize) -> Fault
         ensures { IsFaultOf span len result }
     {
@@ -127,7 +127,7 @@ pub struct Cost {
 }
 
 impl Cost {
-    /// That of these steps.
+    /// The cost of these steps.
     pub(crate) fn of(steps: Steps) -> Cost
         ensures { IsCostOf steps result }
     {
@@ -162,7 +162,7 @@ pub struct Replacing {
 #[repr(C)]
 #[derive(Clone, Copy)]
 pub struct Walk {
-    /// Whether a match was found yet.
+    /// Whether a match has been found yet.
     pub is_begun: bool,
     /// Where the last one ended.
     pub end: usize,

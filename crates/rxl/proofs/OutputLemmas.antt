@@ -1,4 +1,4 @@
--- What is printed, gathered and written, step by step.
+-- What is printed, buffered and written, step by step.
 use Rattle.std.proofs.Common.{◌≡◌, ℕ, Bool, true, false, not, List, [], ◌++◌, Option, Some}
 use Rattle.std.proofs.Common.{None, MatchBool, Result, Ok, Err, IsErr, OnOk, is_ok, is_err}
 use Rattle.std.proofs.Common.{refl, sym, ap, ◌∙◌, subst, take, drop, take-append-drop}

@@ -1,4 +1,4 @@
--- Output that is gathered, and what of it was written.
+-- Buffered output, and what of it was written.
 use Rattle.std.specs.Prelude.{◌≡◌, ◌++◌, ℕ, Bool, List, Option, MatchBool}
 use Rattle.std.specs.Io.KnownBytes.{Appends}
 use Rattle.regex_lite.specs.Replacing.{Begins}

@@ -7,7 +7,7 @@ ghost use Rattle.rxl.specs.Commands.{Asks};
 pub(crate) enum Command<'a> {
     /// A question about the pattern and standard input.
     Ask(Question<'a>, &'a str),
-    /// The text escaped, as a pattern that means it.
+    /// A pattern that matches exactly this text.
     Escape(&'a str),
 }
 
@@ -27,7 +27,7 @@ pub(crate) enum Question<'a> {
 }
 
 impl<'a> Command<'a> {
-    /// What the arguments ask for, if it is a command with all that it takes.
+    /// What the arguments ask for, if they are a complete command.
     pub fn of(args: &[&'a str]) -> Option<Command<'a>>
         ensures { MatchOption result ((command : Command) → Asks args.now command → ⊥)
             (Asks args.now) }

@@ -111,7 +111,7 @@ fn is_new(text: &CowStr<'_>) -> bool
     matches!(text, CowStr::Owned(_))
 }
 
-/// Prints the text escaped, as a pattern that means it.
+/// Prints a pattern that matches exactly this text.
 pub(crate) fn print_escaped<W: Write>(
     alloc: Global,
     text: &str,

@@ -14,7 +14,7 @@ use std::io::Write;
 /// What goes wrong in a run.
 #[derive(Debug, Drop)]
 pub(crate) enum Fault {
-    /// The arguments aren't a command with all that it takes.
+    /// The arguments aren't a complete command.
     Usage,
     /// The bytes of standard input aren't valid UTF-8.
     NotUtf8,

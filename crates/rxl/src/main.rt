@@ -1,4 +1,4 @@
-//! Asks regular expressions about standard input.
+//! Searches standard input for a regular expression, or escapes a text.
 //!
 //! `main` gathers the arguments and the standard streams of the process; `program` does the work
 //! over any reader and writers, and `fault` says why a run ends without an answer.

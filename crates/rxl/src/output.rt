@@ -1,4 +1,4 @@
-//! Output that is gathered, and written in large parts.
+//! Buffered output, written in large parts.
 ghost use Rattle.std.specs.Prelude.{◌≡◌, ◌≤◌, ◌++◌, ℕ, List, [], drop, length};
 ghost use Rattle.std.specs.Prelude.{Option, IfErr, IfOk, false, is_ok, codes};
 ghost use Rattle.std.specs.Fmt.{decimal};
@@ -12,7 +12,7 @@ use std::alloc::Global;
 use std::io;
 use std::io::Write;
 
-/// How many bytes are gathered at most.
+/// How many bytes are buffered at most.
 const LARGE: usize = 8192;
 
 /// How many digits a number has at most.
@@ -27,11 +27,11 @@ pub(crate) struct Output {
 }
 
 impl Output {
-    /// Nothing is printed yet.
+    /// An output to which nothing has been printed yet.
     ///
     /// # Errors
     ///
-    /// The room for what will be gathered is asked for here, and may be refused.
+    /// The memory of the buffer is requested here, and may be refused.
     pub fn new(alloc: Global) -> Result<Output, Error>
         ensures waiting { IfOk result (λ output. output.waiting.items ≡ []) }
         ensures has_failed { IfOk result (λ output. output.has_failed ≡ false) }
@@ -43,7 +43,7 @@ impl Output {
         })
     }
 
-    /// Prints a text. Where there is no room to gather it, it's written at once.
+    /// Prints a text. If there is no room to buffer it, it's written at once.
     pub fn text<W: Write>(&mut self, out: &mut W, text: &str)
         ensures { Puts self.old (W.contents out.old) self.new (W.contents out.new) text.now }
     {
@@ -66,12 +66,12 @@ impl Output {
             self.send(out, b"");
         }
         if !self.has_failed {
-            // There is room for the digits. Were they refused, nothing more would be written.
+            // There is room for the digits. If they were refused, nothing more would be written.
             self.has_failed = write!(self.waiting, "{number}").is_err();
         }
     }
 
-    /// Writes what was gathered, and then these bytes.
+    /// Writes what was buffered, and then these bytes.
     fn send<W: Write>(&mut self, out: &mut W, bytes: &[u8])
         ensures { Puts self.old (W.contents out.old) self.new (W.contents out.new) bytes.now }
     {

@@ -24,12 +24,12 @@ impl RegexBuilder {
     /// Where the first fault of the pattern stands, or `None` if the grammar gives the pattern a
     /// tree. The limits of the builder don't count.
     ///
-    /// The fault starts where the part of the pattern begins with which reading stops: a class, an
+    /// The fault starts where the part of the pattern begins at which reading stops: a class, an
     /// escape, an operator, a directive, or a group with a faulty head. Of a pattern that ends with
-    /// groups open it is where the innermost of them begins. The fault ends after the first
-    /// character with which no accepted pattern begins any more, and has no end exactly if some
-    /// accepted pattern begins with this one. An editor can mark the text between the two offsets,
-    /// and wait if there is no end.
+    /// groups open it is where the innermost of them begins. The fault ends where the shortest
+    /// prefix ends with which no accepted pattern begins, and has no end exactly if some accepted
+    /// pattern begins with this one. An editor can mark the text between the two offsets, and wait
+    /// if there is no end.
     ///
     /// ```
     /// let builder = RegexBuilder::new(alloc, r"sam|\qwise")?;

@@ -12,7 +12,7 @@ use Rattle.regex_lite_c.specs.Spans.{AreWritten, TellsSpan, span_of}
 use Rattle.regex_lite_c.specs.declared.types.Span.{Span}
 use Rattle.regex_lite_c.proofs.walk.WalkLemmas.{written_more}
 
--- this length is the next
+-- the length at an index comes first in what is left from there on
 pub len_at : (lens : List ℕ) (k : ℕ) → k < length lens
     → drop k lens ≡ get_or lens k 0 ∷ drop (k + 1) lens
 len_at lens k less =
@@ -24,7 +24,7 @@ drop_all [] (suc k) past = refl
 drop_all (x ∷ xs) zero past = absurd (omega (arith, past))
 drop_all (x ∷ xs) (suc k) past = drop_all xs k (omega (arith, past))
 
--- what is returned of a match is told of its span
+-- a match that is the answer has the span of the answer
 pub tells_span : (re : Expression) (haystack : List ℕ) (start : ℕ) (found : Option Match)
     → TellsMatch re haystack start found
     → TellsSpan re haystack start (option_map span_of_match found)
@@ -59,7 +59,7 @@ pub next_ends : (re : Expression) (bytes lens : List ℕ) (at k : ℕ) (old new 
 next_ends re bytes lens at k old new so less =
     (subst (AreTextLengths bytes at) (len_at lens k less) so.lengths).0
 
--- one more was
+-- one more was searched
 pub one_searched : (re : Expression) (bytes lens : List ℕ) (at k : ℕ) (old new : List Span)
     (span : Span) (told : Option (ℕ × ℕ))
     → AreSearched re bytes lens at k old new → k < length lens → k < length new
@@ -78,7 +78,7 @@ one_searched re bytes lens at k old new span told so less room tells is =
       written = written_more span_of so.told told old new k span so.written so.number room is;
     }
 
--- all were
+-- all were searched
 pub all_searched : (re : Expression) (bytes lens : List ℕ) (at k : ℕ) (old new : List Span)
     → AreSearched re bytes lens at k old new → length lens ≤ k
     → AreFoundEach re bytes lens old new

@@ -17,7 +17,7 @@ use Rattle.regex_lite_c.specs.declared.types.Span.{Span}
 use Rattle.regex_lite_c.proofs.group_walk.StageLemmas.{AreSoFar, Searched, Stage}
 use Rattle.regex_lite_c.proofs.walk.WalkLemmas.{lists_all}
 
--- the groups of each match are those of the list, and of one more match
+-- one more match has its groups after those of the others
 pub each_more : (re : Expression) (haystack : List ℕ) (list : List Found) (groups : List Groups)
     (found : Found) (own : Groups)
     → AreGroupsOfEach re haystack list groups → AreGroupsFound re haystack found own
@@ -126,12 +126,12 @@ filled start now answer otherwise so some none ends = elim (cases_lt 0 now.count
       }
 ]
 
--- the groups of a match that was found are some, of which the whole match is one
+-- a match has at least one group, the whole match
 pub some_groups : (re : Expression) (haystack : List ℕ) (found : Found) (own : Groups)
     → AreGroupsFound re haystack found own → (0 < length own.spans) × IsSome (group_span own 0)
 some_groups re haystack found own are = (some_spans own.spans are.2.whole, are.2.whole)
   where
-    -- there are some where the first is there
+    -- there is one if the first is there
     some_spans : (spans : List (Option (ℕ × ℕ))) → IsSome (span_at spans 0) → 0 < length spans
     some_spans [] some = absurd cc
     some_spans (span ∷ spans) some = omega arith

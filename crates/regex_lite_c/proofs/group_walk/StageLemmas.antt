@@ -16,8 +16,8 @@ use Rattle.regex_lite_c.specs.declared.types.Span.{Span}
 use Rattle.regex_lite_c.specs.declared.types.Walk.{Walk}
 use Rattle.regex_lite_c.proofs.walk.WalkLemmas.{ListsAnswers, get_before, lists_more, lists_none}
 
--- what is searched for: what was found is a part of each answer, and the groups of a match, and of
--- each match of a list, are related to it
+-- what is searched for: the match in an answer, and how it is related to the groups of a match, and
+-- a list of answers to those of each match
 pub record Searched (S A : Type 0) : Type 1 where
   pub found_of : A → Found
   pub IsAnswerTo : S → Text → (s : ℕ) → Option A → Type 0
@@ -76,7 +76,7 @@ written_after told more old now new before is =
         ap (slice_get (x ∷ (xs ++ ys))) e ∙ get_after xs ys k
 
 module _ {S A : Type 0} (searched : Searched S A) where
-  -- the groups of these matches were written from the start on, one after another
+  -- since the start the groups of these matches were written, one after another
   pub record AreSoFar (start now : Stage S) : Type 0 where
     pub list : List A
     pub groups : List Groups
@@ -92,7 +92,7 @@ module _ {S A : Type 0} (searched : Searched S A) where
         × (now.spans ≡ start.spans) × (now.used ≡ 0)
     pub some : 0 < now.count → EndsWith groups now.walk
 
-  -- at the start none were
+  -- at the start nothing has been written
   unfoldable pub none_so_far : (start : Stage S) → start.ahead.limit ≡ None
       → start.used ≡ 0 → start.count ≡ 0 → AreSoFar start start
   none_so_far start limit none_used none_counted = record {
@@ -126,7 +126,7 @@ module _ {S A : Type 0} (searched : Searched S A) where
     pub used : new.used ≡ old.used + length own.spans
     pub count : new.count ≡ old.count + 1
 
-  -- so with those of one more match
+  -- so still with one more match
   unfoldable pub more_so_far : (start old new : Stage S) → AreSoFar start old → IsOneMore old new
       → AreSoFar start new
   more_so_far start old new so one =

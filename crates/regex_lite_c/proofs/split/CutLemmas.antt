@@ -42,8 +42,7 @@ pub record Stage : Type 0 where
   pub walk : Walk
   pub spans : List Span
 
--- the pieces before this many matches were written from the start on, which are the first of those
--- ahead there
+-- since the start the pieces before this many matches were written, the first of those ahead there
 pub record AreSoFar (start now : Stage) (k : ℕ) : Type 0 where
   pub list : List Found
   pub number : length list ≡ k
@@ -75,7 +74,7 @@ pub record IsOneMore (old new : Stage) (k : ℕ) : Type 0 where
   pub written : new.spans ≡ slice_set old.spans k piece
   pub ends : ended_of new.walk ≡ Some (found_span (chars old.ahead.haystack) found).1
 
--- so with one more
+-- so still with one more
 pub one_piece_more : (start old new : Stage) (k : ℕ) → AreSoFar start old k
     → length old.spans ≡ length start.spans → IsOneMore old new k → AreSoFar start new (k + 1)
 one_piece_more start old new k so same one =
@@ -113,7 +112,7 @@ one_piece_more start old new k so same one =
           ∙ sym (ap (last_end ended) longer ∙ end_more ended spans own);
     }
 
--- there was no match any more, and what is left was written as the last piece
+-- no match was left, and the rest was written as the last piece
 pub last_piece : (start now : Stage) (k : ℕ) (piece : Span) → AreSoFar start now k
     → k < length now.spans → length now.spans ≡ length start.spans → IsOver now.ahead
     → IsPieceTo now (length start.ahead.haystack) piece

@@ -21,8 +21,8 @@ use std::alloc::Global;
 pub(crate) enum Refused {
     /// The pattern with this number isn't valid UTF-8.
     NotText(usize),
-    /// The pattern with this number is refused by itself, for this reason. If the number is that of
-    /// all patterns, no single one is refused.
+    /// The pattern with this number is refused by itself, for this reason. If it is the number of
+    /// patterns, no single one is refused.
     By(usize, Error),
 }
 
@@ -161,7 +161,7 @@ fn lowest_refused(alloc: Global, sources: &[Source<'_>]) -> Option<(usize, Error
     None
 }
 
-/// The number of a pattern that is refused; or that of all patterns, where memory ran out.
+/// The number of a pattern that is refused; or the number of patterns, if memory ran out.
 fn number_for(error: &Error, number: usize, count: usize) -> usize
     ensures memory { error.now ≡ out_of_memory → result ≡ count }
     ensures refused { (error.now ≡ out_of_memory → ⊥) → result ≡ number }

@@ -41,7 +41,7 @@ impl ListHandle {
 
     /// Holds this list.
     ///
-    /// Condition: nothing is held; otherwise that would never be freed.
+    /// Condition: nothing is held; otherwise what is held would never be freed.
     pub(crate) fn put(&mut self, list: Box<RegexList, Global>)
         requires { self.old.value ≡ None }
         ensures { self.new.value ≡ Some list.value }

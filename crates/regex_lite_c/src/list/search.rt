@@ -98,7 +98,7 @@ fn find(list: &RegexList, text: &[u8], start: usize, span: &mut ListSpan) -> u32
     }
 }
 
-/// The same, with what the search cost written too, where there is an answer.
+/// The same, and writes what the search cost, if there is an answer.
 #[unsafe(no_mangle)]
 pub extern "C" fn regex_lite_list_find_counted(
     alloc: Global,
@@ -126,7 +126,7 @@ pub extern "C" fn regex_lite_list_find_counted(
     answer
 }
 
-/// Where one of these patterns matches first, which, and what it cost to know that.
+/// Where one of these patterns matches first, which, and what it cost to find out.
 fn find_counted(
     list: &RegexList,
     text: &[u8],

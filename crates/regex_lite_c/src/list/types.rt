@@ -41,7 +41,7 @@ pub struct ListSpan {
 }
 
 impl ListSpan {
-    /// That of a match of the pattern with this number.
+    /// The span of a match of the pattern with this number.
     pub(crate) fn of(number: usize, found: &Match<'_>) -> ListSpan
         ensures { list_span_of result ≡ (number, span_of_match found.now) }
     {

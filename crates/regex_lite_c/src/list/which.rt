@@ -10,8 +10,8 @@ use regex_lite::{RegexList, SetMatches};
 use std::alloc::Global;
 
 /// Which of the patterns match somewhere from this offset on: 1 with a byte written for each
-/// pattern by its number, 1 for one that matches and 0 for another. How many patterns there are is
-/// written too, also where there is too little room for as many bytes.
+/// pattern by its number, 1 for one that matches and 0 for one that doesn't. The number of patterns
+/// is written too, even if there is too little room for as many bytes.
 #[unsafe(no_mangle)]
 pub extern "C" fn regex_lite_list_matches(
     alloc: Global,
@@ -97,7 +97,7 @@ fn put_flags(set: &SetMatches, matched: &mut [u8])
     }
 }
 
-/// 1 for a pattern that matches, and 0 for another.
+/// 1 for a pattern that matches, and 0 for one that doesn't.
 fn flag(is_match: bool) -> u8
     ensures { result ≡ flag_of is_match }
 {

@@ -48,7 +48,7 @@ impl Regex {
     ///
     /// # Errors
     ///
-    /// `Memory` if memory runs out, also by an item, which then is the last.
+    /// `Memory` if memory runs out. An item may return it too, and is then the last.
     pub fn captures_iter_after<'r, 'h>(
         &'r self,
         haystack: &'h str,

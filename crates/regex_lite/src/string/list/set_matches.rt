@@ -65,7 +65,7 @@ impl SetMatches {
         true
     }
 
-    /// An equal set, of its own.
+    /// An equal set in memory of its own.
     ///
     /// # Errors
     ///

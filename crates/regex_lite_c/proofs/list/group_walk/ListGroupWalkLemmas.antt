@@ -21,11 +21,11 @@ use Rattle.regex_lite_c.proofs.group_walk.StageLemmas.{AreSoFar, IsOneMore, Sear
 use Rattle.regex_lite_c.proofs.group_walk.StageLemmas.{more_so_far, none_so_far}
 use Rattle.regex_lite_c.proofs.walk.WalkLemmas.{lists_all, written_more}
 
--- what was found is a part of each answer
+-- the match in an answer
 abbrev pub found_in : ℕ × Found → Found
 found_in own = own.1
 
--- the groups of each match are those of the list, and of one more match
+-- one more match has its groups after those of the others
 pub each_more : (patterns : List Expression) (haystack : List ℕ) (list : List (ℕ × Found))
     (groups : List Groups) (answer : ℕ × Found) (own : Groups)
     → AreListGroupsOfEach patterns haystack list groups
@@ -49,19 +49,19 @@ of_patterns = record {
   more = each_more;
 }
 
--- where a walk stands, and what the room for what is told of each match holds
+-- where a walk stands, and what the room for the pattern and the count of each match holds
 pub record ListStage : Type 0 where
   pub stage : Stage (List Expression)
   pub told : List ListGroups
 
--- the groups of these matches were written from the start on, and what is told of each match
+-- since the start the groups of these matches were written, with the pattern and count of each
 pub record IsListSoFar (start now : ListStage) : Type 0 where
   pub so : AreSoFar of_patterns start.stage now.stage
   pub counts : AreWrittenAs counts_of (counts_of_each so.list so.groups) start.told now.told
   pub within : now.stage.count ≤ length now.told
   pub same : now.stage.count ≡ 0 → now.told ≡ start.told
 
--- at the start none were
+-- at the start nothing has been written
 pub nothing_yet : (start : ListStage) → start.stage.ahead.limit ≡ None
     → start.stage.used ≡ 0 → start.stage.count ≡ 0 → IsListSoFar start start
 unfolding none_so_far
@@ -72,7 +72,7 @@ nothing_yet start limit none_used none_counted = record {
   same = λ _. refl;
 }
 
--- what is told of one more match comes after what is told of the others
+-- the count of one more match comes after those of the others
 counts_more : (patterns : List Expression) (haystack : List ℕ) (list : List (ℕ × Found))
     (groups : List Groups) (answer : ℕ × Found) (own : Groups)
     → AreListGroupsOfEach patterns haystack list groups
@@ -85,7 +85,7 @@ counts_more patterns haystack (f ∷ list) (g ∷ groups) answer own are =
     ap (λ rest. (f.0, length g.spans) ∷ rest)
     (counts_more patterns haystack list groups answer own are.1)
 
--- as much is told as there are matches
+-- there are as many counts as matches
 length_counts : (patterns : List Expression) (haystack : List ℕ) (list : List (ℕ × Found))
     (groups : List Groups) → AreListGroupsOfEach patterns haystack list groups
     → length (counts_of_each list groups) ≡ length list
@@ -95,7 +95,7 @@ length_counts patterns haystack (f ∷ list) [] are = absurd are
 length_counts patterns haystack (f ∷ list) (g ∷ groups) are =
     ap suc (length_counts patterns haystack list groups are.1)
 
--- the groups of the next match are written, and what is told of it
+-- the groups of the next match are written, with its pattern and count
 pub record IsOneMoreTold (old new : ListStage) : Type 0 where
   pub more : IsOneMore of_patterns old.stage new.stage
   pub one : ListGroups
@@ -103,7 +103,7 @@ pub record IsOneMoreTold (old new : ListStage) : Type 0 where
   pub below : old.stage.count < length old.told
   pub counts : counts_of one ≡ (more.answer.0, length more.own.spans)
 
--- so with those of one more match
+-- so still with one more match
 pub one_more : (start old new : ListStage) → IsListSoFar start old → IsOneMoreTold old new
     → IsListSoFar start new
 unfolding more_so_far
@@ -166,7 +166,7 @@ IsAnswer start now count answer =
     IsListFilled start.stage.ahead start.stage.walk now.stage.walk start.told now.told
     start.stage.spans now.stage.spans count answer
 
--- with some the answer is yes
+-- if there are any, the answer is yes
 filled : (start now : ListStage) (answer : ℕ) → IsListSoFar start now → 0 < now.stage.count
     → answer ≡ YES → IsAnswer start now now.stage.count answer
 filled start now answer sofar some is = record {
@@ -182,7 +182,7 @@ filled start now answer sofar some is = record {
 abbrev pub IsEnd : (now : ListStage) → (answer : ℕ) → Type 0
 IsEnd now answer = ((answer ≡ NO) × ListComesNext now.stage.ahead None) ⊎ (answer ≡ OUT_OF_MEMORY)
 
--- without any it is no where none is left, or that memory ran out
+-- without any the answer is no, if none is left, or that memory ran out
 not_filled : (start now : ListStage) (answer : ℕ) → IsListSoFar start now → now.stage.count ≡ 0
     → IsEnd now answer → IsAnswer start now now.stage.count answer
 not_filled start now answer sofar zero (inl none) =
@@ -212,7 +212,7 @@ abbrev pub IsFull : (now : ListStage) → (need : ℕ) → Type 0
 IsFull now need =
     IsWithoutListRoom now.stage.ahead (length now.told) (length now.stage.spans) need
 
--- or there is no room for the first
+-- or that there is no room for the first
 no_room : (start now : ListStage) (need answer : ℕ) → IsListSoFar start now
     → now.stage.count ≡ 0 → answer ≡ NO_ROOM → IsFull now need → IsAnswer start now need answer
 no_room start now need answer sofar zero is full =
@@ -233,7 +233,7 @@ no_room start now need answer sofar zero is full =
       one_of = inr (inr is);
     }
 
--- where no more come, the answer is yes with some, and else says why
+-- at the end the answer is yes if there are any, and else says why there are none
 pub over : (start now : ListStage) (answer otherwise : ℕ) → IsListSoFar start now
     → (0 < now.stage.count → answer ≡ YES) → (now.stage.count ≡ 0 → answer ≡ otherwise)
     → IsEnd now otherwise → IsAnswer start now now.stage.count answer
@@ -244,7 +244,7 @@ over start now answer otherwise sofar some none ends = elim (cases_lt 0 now.stag
       not_filled start now answer sofar zero (subst (IsEnd now) (sym (none zero)) ends)
 ]
 
--- where one has no room, it is yes with some, and else the need is written
+-- where the next has no room, it is yes if there are any, and else its count is written
 pub full : (start now : ListStage) (count need answer : ℕ) → IsListSoFar start now
     → (0 < now.stage.count → (answer ≡ YES) × (count ≡ now.stage.count))
     → (now.stage.count ≡ 0 → (answer ≡ NO_ROOM) × (count ≡ need))
