@@ -94,7 +94,8 @@ impl<'h, F: Finds + Drop> GroupScan<'h, F> {
 }
 
 impl<'h, F: Finds + fmt::Debug + Drop> GroupScan<'h, F> {
-    /// Writes its parts as those of an iterator with this name.
+    /// Writes its parts as those of an iterator with this name. It has no clause, as that of `Scan`
+    /// has none.
     pub fn fmt_as<W: fmt::Write>(&self, name: &str, f: &mut fmt::Formatter<W>) -> fmt::Result {
         self.scan.fmt_as(name, f)
     }

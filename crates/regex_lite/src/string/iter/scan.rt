@@ -123,7 +123,8 @@ impl<'h, F: Finds + Drop> Scan<'h, F> {
 }
 
 impl<'h, F: Finds + fmt::Debug + Drop> Scan<'h, F> {
-    /// Writes its parts as those of an iterator with this name.
+    /// Writes its parts as those of an iterator with this name. It has no clause: no contract says
+    /// what a `Debug` writes, so nothing is known of the text of a part.
     pub fn fmt_as<W: fmt::Write>(&self, name: &str, f: &mut fmt::Formatter<W>) -> fmt::Result {
         f.debug_struct(name)
             .field("searcher", &self.finder)
