@@ -1,6 +1,6 @@
 -- What a counted owner has. The owners of a block and their count follow the library's protocol for
 -- `Rc`, which lets its user choose how a count is stored. Here a count below the top is the word
--- that is stored. A word at the top says nothing of the count, and the value is lent for ever.
+-- that is stored. A word at the top says nothing of the count, and the value is leaked.
 use Rattle.std.specs.Prelude.{ℕ, ◌^◌, ◌-◌, ◌<◌, ◌≡◌, Bool, true, false, []}
 use base.Fraction.{full_share}
 use base.Fml.{Lft, Fml, ftrue, fsep, fex, fwand}
@@ -21,26 +21,26 @@ abbrev pub frees : Ty → Ptr → Fml
 frees = ghosts.dealloc_token (record { memory = record { seal = tt } })
 
 -- what a `&'static` to a value holds
-abbrev pub lent_for_ever : (R : RattleType) → (place : Ptr) → R.Denot → Fml
-lent_for_ever R place x = lent_at R place x []
+abbrev pub lent_static : (R : RattleType) → (place : Ptr) → R.Denot → Fml
+lent_static R place x = lent_at R place x []
 
 -- where a count stays
 abbrev pub top : ℕ
 top = 2 ^ 64 - 1
 
 -- what a stored word says where there are n owners: their number, below the top, or, at the top,
--- that the value is lent for ever
-abbrev pub stands_for : (for_ever : Fml) → (n word : ℕ) → (below : Bool) → Fml
-stands_for for_ever n word true = fex ((word ≡ n) × (n < top)) (λ _. ftrue)
-stands_for for_ever n word false = fex (word ≡ top) (λ _. for_ever)
+-- that the value is leaked
+abbrev pub stands_for : (leaked : Fml) → (n word : ℕ) → (below : Bool) → Fml
+stands_for leaked n word true = fex ((word ≡ n) × (n < top)) (λ _. ftrue)
+stands_for leaked n word false = fex (word ≡ top) (λ _. leaked)
 
-abbrev pub is_stored : (for_ever : Fml) → (n word : ℕ) → Fml
-is_stored for_ever n word = fex Bool (stands_for for_ever n word)
+abbrev pub is_stored : (leaked : Fml) → (n word : ℕ) → Fml
+is_stored leaked n word = fex Bool (stands_for leaked n word)
 
 -- the count of n owners in memory
-abbrev pub count_at : Ptr → (for_ever : Fml) → (n : ℕ) → Fml
-count_at place for_ever n =
-    fex ℕ (λ word. fsep (counter_at place 0 word) (is_stored for_ever n word))
+abbrev pub count_at : Ptr → (leaked : Fml) → (n : ℕ) → Fml
+count_at place leaked n =
+    fex ℕ (λ word. fsep (counter_at place 0 word) (is_stored leaked n word))
 
 -- no owner is a weak one: all of them are counted together as one
 abbrev pub only_one : ℕ → Fml

@@ -1,6 +1,6 @@
 //! The owners that aren't counted.
 ghost use Rattle.std.specs.Prelude.{◌≡◌};
-ghost use Rattle.regex_lite.specs.Owner.Ownership.{lent_for_ever};
+ghost use Rattle.regex_lite.specs.Owner.Ownership.{lent_static};
 
 use std::marker::Model;
 
@@ -15,9 +15,9 @@ pub(super) struct Lasting<T> {
 }
 
 impl<T> Model for Lasting<T> {
-    ghost also_owns = { λ lasting. lent_for_ever T.row lasting.ptr lasting.value };
+    ghost also_owns = { λ lasting. lent_static T.row lasting.ptr lasting.value };
 
-    ghost also_shares = { λ lasting _ _. lent_for_ever T.row lasting.ptr lasting.value };
+    ghost also_shares = { λ lasting _ _. lent_static T.row lasting.ptr lasting.value };
 }
 
 impl<T: 'static> Lasting<T> {

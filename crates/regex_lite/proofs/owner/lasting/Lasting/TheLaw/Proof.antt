@@ -17,13 +17,13 @@ use denote.SharingLaws.{contraction}
 use denote.Struct.Field.{RawPtr-field}
 use denote.Struct.Laws.{RawPtr-copy}
 use denote.Struct.Lending.{Lends, of_Lends, lent_at, lent_at_shr_laws}
-use Rattle.regex_lite.specs.Owner.Ownership.{lent_for_ever}
+use Rattle.regex_lite.specs.Owner.Ownership.{lent_static}
 use Rattle.regex_lite.specs.contracts.owner.lasting.Lasting as lasting
 use Rattle.regex_lite.proofs.owner.lasting.Lasting.TheLaw.Statement.{statement}
 
 module _ (T : RattleType) (L : Laws T) (p : Ptr) (x : T.Denot) where
   abbrev held : Fml
-  held = lent_for_ever (param 0 T) p x
+  held = lent_static (param 0 T) p x
 
   abbrev shared : Lft → Fml
   shared = lent_at (param 0 T) p x

@@ -38,7 +38,7 @@ use denote.Triple.Entry.{on_entry, alive}
 use contract.Running.{tables, tables_of}
 use Rattle.std.proofs.VecSteps.Shapes.{after}
 use Rattle.std.proofs.RcSteps.{word, word_ty}
-use Rattle.regex_lite.specs.Owner.Ownership.{lent_for_ever}
+use Rattle.regex_lite.specs.Owner.Ownership.{lent_static}
 use Rattle.regex_lite.proofs.PointerLemmas.{Word, reads, read}
 use Rattle.regex_lite.specs.contracts.owner.lasting.Lasting as C
 use Rattle.regex_lite.specs.contracts.owner.lasting.Lasting.value as F
@@ -118,10 +118,10 @@ module _ (T : RattleType) (L : Laws T) {M : Type 1} {𝓤 : Ura M} (𝓛 : Logic
         ⊛ ‵ (owns (types_at (ended T).signature.params z.0.0) z.0.3 (us, tt))) ∷ asked ∷ []) ∵
         split ! $ split ! $ move ! (2 ∷ []) $ fsplit ! $ fsplit ! $ keep ! (1 ∷ 3 ∷ 4 ∷ []) $
         use1 𝓛
-        (‵ (hidden_shr (Word (R T ∷ []) (ν T)) κ (p, tt) b o) ⊛ ‵ (fhide (lent_for_ever (R T) p x)))
+        (‵ (hidden_shr (Word (R T ∷ []) (ν T)) κ (p, tt) b o) ⊛ ‵ (fhide (lent_static (R T) p x)))
         (id⊢ 𝓤 _) $
         split ! $ move ! (1 ∷ []) $ unhide ! $
-        in_a_block ! p (λ r. lent_for_ever (R T) r x)
+        in_a_block ! p (λ r. lent_static (R T) r x)
         (fst∗ 𝓤 (never 𝓤) (sem 𝓛 (shared_of (R T) x 0 0 []))) (λ cb co e.
         fsplit ! $ drop ! $ hide ! $
         enter ! Cs Λ (fn' T) us _ $ alloc_all ! (λ l. pass_all ! refl ((tt, tt), tt) $
