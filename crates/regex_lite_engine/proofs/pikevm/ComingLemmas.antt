@@ -17,24 +17,26 @@ use Rattle.regex_lite_engine.proofs.OptionLemmas.{not_there}
 use Rattle.regex_lite_engine.proofs.pikevm.InStepNextLemmas as deep
 use Rattle.regex_lite_engine.proofs.pikevm.WalkLemmas.{none_held}
 
-module _ (table : List (Place ℕ)) (h : Text) (s : List ℕ) (first last : ℕ) where
+module _ (table : List (Place ℕ)) (haystack : Text) (s : List ℕ) (first last : ℕ) where
   abbrev pub In_step : ℕ → ℕ → (Node → Option (List ℕ)) → List (Offer Node) → List (Offer Node)
       → Option (List ℕ) → Type 0
-  In_step p from recorded cur next way = InStep table h s first last p from recorded cur next way
+  In_step p from recorded cur next way =
+      InStep table haystack s first last p from recorded cur next way
 
   -- before the first position
-  pub none_coming : (cur : List Thread) → cur ≡ [] → IsComing table h s first last first cur None
+  pub none_coming : (cur : List Thread) → cur ≡ []
+      → IsComing table haystack s first last first cur None
   none_coming cur empty = record {
     recorded = λ n. None;
     coming = [];
     way = None;
     from = first;
     in_step =
-        deep.in_step_none Node (numbered_step table h) (StartsOf s first last) (is_end table h)
-        (λ x. x.1) first first (λ n. None) (λ n. refl)
+        deep.in_step_none Node (numbered_step table haystack) (StartsOf s first last)
+        (is_end table haystack) (λ x. x.1) {recorded = λ n. None} (λ n. refl)
         (λ front n is below. none_below front n is below);
     before = λ n v r. absurd (not_there r);
-    hold = subst (λ ts. ThreadsHold table h s first ts []) (sym empty) tt;
+    hold = subst (λ ts. ThreadsHold table haystack s first ts []) (sym empty) tt;
     best_holds = refl;
     from_is = refl;
   }
@@ -47,41 +49,43 @@ module _ (table : List (Place ℕ)) (h : Text) (s : List ℕ) (first last : ℕ)
   -- which start it is
   dead_start : (from from' : ℕ)
       → ((i : ℕ) → from ≤ i → i < from' → (number entry : ℕ) → IsEntry s number entry
-      → IsDeadAt table h entry i) →
+      → IsDeadAt table haystack entry i) →
       (front : List ℕ) (n : Node) → StartsOf s first last front n → StartsBelow from' front
-      → StartsBelow from front ⊎ IsDead Node (numbered_step table h) (is_end table h) n
+      → StartsBelow from front
+      ⊎ IsDead Node (numbered_step table haystack) (is_end table haystack) n
   dead_start from from' dead front n (i, number, entry, low, high, is, e, f) below =
       elim (cases_lt i from) [
         | inl less ↦ inl (subst (StartsBelow from) (sym e) less)
         | inr le ↦
-            inr (subst (IsDead Node (numbered_step table h) (is_end table h)) (sym f)
+            inr (subst (IsDead Node (numbered_step table haystack) (is_end table haystack)) (sym f)
             (dead i le (subst (StartsBelow from') e below) number entry is))
       ]
 
   -- positions at which no match can start are passed over while there is no thread
   pub jumped : (p p' : ℕ) (cur : List Thread) → cur ≡ [] → p ≤ p'
       → ((i : ℕ) → p ≤ i → i < p' → (number entry : ℕ) → IsEntry s number entry
-      → IsDeadAt table h entry i) →
-      IsComing table h s first last p cur None → IsComing table h s first last p' cur None
+      → IsDeadAt table haystack entry i) →
+      IsComing table haystack s first last p cur None
+      → IsComing table haystack s first last p' cur None
   jumped p p' cur empty more dead u = record {
     recorded = u.recorded;
     coming = [];
     way = u.way;
     from = p';
     in_step =
-        deep.in_step_jump Node (numbered_step table h) (StartsOf s first last) (is_end table h)
-        (λ x. x.1) p p' p' u.recorded u.way more
-        (deep.in_step_skip Node (numbered_step table h) (StartsOf s first last) (is_end table h)
-        (λ x. x.1) p p p' u.recorded [] [] u.way more (dead_start p p' dead)
+        deep.in_step_jump Node (numbered_step table haystack) (StartsOf s first last)
+        (is_end table haystack) (λ x. x.1) more
+        (deep.in_step_skip Node (numbered_step table haystack) (StartsOf s first last)
+        (is_end table haystack) (λ x. x.1) more (dead_start p p' dead)
         (subst (λ z. In_step p z u.recorded [] [] u.way) u.from_is
         (subst (λ z. In_step p u.from u.recorded z [] u.way) nothing u.in_step)));
     before = λ n v r. (let lt = u.before n v r in omega (arith, lt, more));
-    hold = subst (λ ts. ThreadsHold table h s p' ts []) (sym empty) tt;
+    hold = subst (λ ts. ThreadsHold table haystack s p' ts []) (sym empty) tt;
     best_holds = u.best_holds;
     from_is = refl;
   }
     where
       nothing : u.coming ≡ []
       nothing =
-          none_held table h s p u.coming
-          (subst (λ ts. ThreadsHold table h s p ts u.coming) empty u.hold)
+          none_held table haystack s p u.coming
+          (subst (λ ts. ThreadsHold table haystack s p ts u.coming) empty u.hold)

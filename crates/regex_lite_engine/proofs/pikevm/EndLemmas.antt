@@ -28,74 +28,77 @@ use Rattle.regex_lite_engine.proofs.pikevm.WalkLemmas.{none_held}
 use Rattle.regex_lite_engine.proofs.OptionLemmas.{not_there, same_some}
 use Rattle.regex_lite_engine.proofs.pikevm.InStepNextLemmas as deep
 
-taken_in_text : (h : Text) (a : Condition) (i j : ℕ) → i ≤ length h → taken h a i ≡ Some j
-    → j ≤ length h
-taken_in_text h free i j le e = let same : i ≡ j = same_some e in omega (arith, le, same)
-taken_in_text h (holding l) i j le e = go (holds_between l (before h i) (after h i)) e
+taken_in_text : (haystack : Text) (a : Condition) (i j : ℕ) → i ≤ length haystack
+    → taken haystack a i ≡ Some j
+    → j ≤ length haystack
+taken_in_text haystack free i j le e = let same : i ≡ j = same_some e in omega (arith, le, same)
+taken_in_text haystack (holding l) i j le e =
+    go (holds_between l (before haystack i) (after haystack i)) e
   where
-    go : (b : Bool) → (if b then Some i else None) ≡ Some j → j ≤ length h
+    go : (b : Bool) → (if b then Some i else None) ≡ Some j → j ≤ length haystack
     go true e = let same : i ≡ j = same_some e in omega (arith, le, same)
     go false e = absurd (not_there e)
-taken_in_text h (reading set) i j le e = go (after h i) refl e
+taken_in_text haystack (reading set) i j le e = go (after haystack i) refl e
   where
-    go : (o : Option ℕ) → after h i ≡ o → behind set i o ≡ Some j → j ≤ length h
+    go : (o : Option ℕ) → after haystack i ≡ o → behind set i o ≡ Some j → j ≤ length haystack
     go None at e = absurd (not_there e)
     go (Some c) at e = fits (set c) e
       where
-        fits : (b : Bool) → (if b then Some (suc i) else None) ≡ Some j → j ≤ length h
+        fits : (b : Bool) → (if b then Some (suc i) else None) ≡ Some j → j ≤ length haystack
         fits true e =
-            let within = slice_get_within h i c at in let same : suc i ≡ j = same_some e in
+            let within = slice_get_within haystack i c at in let same : suc i ≡ j = same_some e in
             omega (arith, within, same)
         fits false e = absurd (not_there e)
 
-pub step_in_text : (h : Text) (x : Place ℕ) (i k : ℕ) (m : Node) → i ≤ length h
-    → step_from h x i k ≡ Some m → m.1 ≤ length h
-step_in_text h complete i k m le e = absurd (not_there e)
-step_in_text h (with_arrows arrows) i k m le e = go (slice_get arrows k) e
+pub step_in_text : (haystack : Text) (x : Place ℕ) (i k : ℕ) (m : Node) → i ≤ length haystack
+    → step_from haystack x i k ≡ Some m → m.1 ≤ length haystack
+step_in_text haystack complete i k m le e = absurd (not_there e)
+step_in_text haystack (with_arrows arrows) i k m le e = go (slice_get arrows k) e
   where
-    go : (o : Option (Arrow ℕ)) → arrow_taken h i o ≡ Some m → m.1 ≤ length h
+    go : (o : Option (Arrow ℕ)) → arrow_taken haystack i o ≡ Some m → m.1 ≤ length haystack
     go None e = absurd (not_there e)
-    go (Some a) e = by_end (taken h a.condition i) refl e
+    go (Some a) e = by_end (taken haystack a.condition i) refl e
       where
-        by_end : (o : Option ℕ) → taken h a.condition i ≡ o → arrived a.to o ≡ Some m
-            → m.1 ≤ length h
+        by_end : (o : Option ℕ) → taken haystack a.condition i ≡ o → arrived a.to o ≡ Some m
+            → m.1 ≤ length haystack
         by_end None t e = absurd (not_there e)
         by_end (Some j) t e =
-            let le' = taken_in_text h a.condition i j le t in
+            let le' = taken_in_text haystack a.condition i j le t in
             let same : j ≡ m.1 = ap (λ (z : Node). z.1) (same_some e) in omega (arith, le', same)
 
-module _ (table : List (Place ℕ)) (h : Text) (s : List ℕ) (first : ℕ) where
+module _ (table : List (Place ℕ)) (haystack : Text) (s : List ℕ) (first : ℕ) where
   nothing_beyond : (p from : ℕ) (recorded : Node → Option (List ℕ)) (coming : List (Offer Node))
       (way : Option (List ℕ))
-      → length h < p →
-      InStep table h s first (length h) p from recorded coming [] way →
-      ((n : Node) (v : List ℕ) → recorded n ≡ Some v → n.1 < p) → p ≡ suc (length h) → coming ≡ []
+      → length haystack < p →
+      InStep table haystack s first (length haystack) p from recorded coming [] way →
+      ((n : Node) (v : List ℕ) → recorded n ≡ Some v → n.1 < p) → p ≡ suc (length haystack)
+      → coming ≡ []
   nothing_beyond p from recorded [] way past u before at = refl
   nothing_beyond p from recorded (o ∷ os) way past u before at =
       absurd (go (u.now_grown o.0 o.1 (inl (refl, refl))) (u.now_stands o.0 o.1 (inl (refl, refl))))
     where
-      go : IsGrown Node (numbered_step table h) (is_end table h)
-          (StartsOf s first (length h)) recorded way o.0 o.1
+      go : IsGrown Node (numbered_step table haystack) (is_end table haystack)
+          (StartsOf s first (length haystack)) recorded way o.0 o.1
           → o.0.1 ≡ p → ⊥
       go (inl (i, number, entry, low, high, is, e, at')) pos =
           let same : o.0.1 ≡ i = ap (λ (z : Node). z.1) at' in omega (arith, high, past, pos, same)
       go (inr (m, v, k, r, hops, e)) pos =
           let below = before m v r in
           let le =
-          step_in_text h (place_with table m.0) m.1 k o.0 (omega (arith, below, at)) hops in
+          step_in_text haystack (place_with table m.0) m.1 k o.0 (omega (arith, below, at)) hops in
           omega (arith, le, past, pos)
 
   explored : (q from : ℕ) (recorded : Node → Option (List ℕ)) (way : Option (List ℕ))
-      → ((length h < from) ⊎ ((b : List ℕ) × (way ≡ Some b))) →
-      InStep table h s first (length h) q from recorded [] [] way
-      → IsOverOf table h s first recorded way
+      → ((length haystack < from) ⊎ ((b : List ℕ) × (way ≡ Some b))) →
+      InStep table haystack s first (length haystack) q from recorded [] [] way
+      → IsOverOf table haystack s first recorded way
   explored q from recorded way enough u =
-      deep.in_step_over Node (numbered_step table h) (StartsOf s first (length h)) (is_end table h)
-      (λ x. x.1) q from recorded way
+      deep.in_step_over Node (numbered_step table haystack) (StartsOf s first (length haystack))
+      (is_end table haystack) (λ x. x.1)
       (λ front n (i, number, entry, low, high, is, e, f). (i, number ∷ [], e)) (all enough) u
     where
-      all : ((length h < from) ⊎ ((b : List ℕ) × (way ≡ Some b)))
-          → ((front : List ℕ) (n : Node) → StartsOf s first (length h) front n
+      all : ((length haystack < from) ⊎ ((b : List ℕ) × (way ≡ Some b)))
+          → ((front : List ℕ) (n : Node) → StartsOf s first (length haystack) front n
           → StartsBelow from front) ⊎ ((b : List ℕ) × (way ≡ Some b))
       all (inl past) =
           inl (λ front n (i, number, entry, low, high, is, e, f).
@@ -104,71 +107,75 @@ module _ (table : List (Place ℕ)) (h : Text) (s : List ℕ) (first : ℕ) wher
 
   -- a search that is over has the answer
   pub answered : (best : Best) (recorded : Node → Option (List ℕ)) (way : Option (List ℕ))
-      → BestHolds table h s best way → IsOverOf table h s first recorded way
-      → IsBestOutcomeOf table h s first best
+      → BestHolds table haystack s best way → IsOverOf table haystack s first recorded way
+      → IsBestOutcomeOf table haystack s first best
   answered None recorded way e over =
-      list_answer_when_over table h s first recorded None None
-      (subst (λ z. IsOverOf table h s first recorded z) e over) refl
+      list_answer_when_over table haystack s first recorded None None
+      (subst (λ z. IsOverOf table haystack s first recorded z) e over) refl
   answered (Some b) recorded way
       (w, e, (q, end, at_end, ends, (j, number, entry, ks, at, is, parts, along, has))) over =
       let found : Found = record {
         start = j;
         end = end;
-        marks = marks_along h (place_with table) (Some (entry, j)) ks;
+        marks = marks_along haystack (place_with table) (Some (entry, j)) ks;
       } in (
         number,
         found,
-        list_answer_when_over table h s first recorded (Some w) (Some (number, found))
-            (subst (λ z. IsOverOf table h s first recorded z) e over)
+        list_answer_when_over table haystack s first recorded (Some w) (Some (number, found))
+            (subst (λ z. IsOverOf table haystack s first recorded z) e over)
             (number, entry, found, ks, q, refl, is, parts, along, refl),
         at,
         at_end,
         has,
       )
 
-  pub ended_all : (p : ℕ) (cur : List Thread) (best : Best) → first ≤ p → p ≤ length h →
-      ((p ≡ length h) ⊎ ((best ≡ None → ⊥) × (length cur ≡ 0)))
-      → IsComing table h s first (length h) (p + 1) cur best → IsBestOutcomeOf table h s first best
+  pub ended_all : (p : ℕ) (cur : List Thread) (best : Best) → first ≤ p → p ≤ length haystack →
+      ((p ≡ length haystack) ⊎ ((best ≡ None → ⊥) × (length cur ≡ 0)))
+      → IsComing table haystack s first (length haystack) (p + 1) cur best
+      → IsBestOutcomeOf table haystack s first best
   ended_all p cur best low high over u = go over
     where
-      with_none : u.coming ≡ [] → ((length h < u.from) ⊎ ((b : List ℕ) × (u.way ≡ Some b)))
-          → IsBestOutcomeOf table h s first best
+      with_none : u.coming ≡ [] → ((length haystack < u.from) ⊎ ((b : List ℕ) × (u.way ≡ Some b)))
+          → IsBestOutcomeOf table haystack s first best
       with_none e enough =
           answered best u.recorded u.way u.best_holds
           (explored (p + 1) u.from u.recorded u.way enough
-          (subst (λ z. InStep table h s first (length h) (p + 1) u.from u.recorded z [] u.way) e
+          (subst (λ z. InStep table haystack s first (length haystack) (p + 1) u.from u.recorded
+          z [] u.way) e
           u.in_step))
 
-      way_of : (b : Best) → BestHolds table h s b u.way → (b ≡ None → ⊥)
+      way_of : (b : Best) → BestHolds table haystack s b u.way → (b ≡ None → ⊥)
           → (w : List ℕ) × (u.way ≡ Some w)
       way_of None e d = absurd (d refl)
       way_of (Some x) (w, e, held) d = (w, e)
 
-      at_end : (b : Best) → BestHolds table h s b u.way → FromIs (p + 1) u.from b → p ≡ length h
-          → (length h < u.from) ⊎ ((w : List ℕ) × (u.way ≡ Some w))
+      at_end : (b : Best) → BestHolds table haystack s b u.way → FromIs (p + 1) u.from b
+          → p ≡ length haystack
+          → (length haystack < u.from) ⊎ ((w : List ℕ) × (u.way ≡ Some w))
       at_end None e is same = inl (omega (arith, is, same))
       at_end (Some x) (w, e, held) is same = inr (w, e)
 
-      go : (p ≡ length h) ⊎ ((best ≡ None → ⊥) × (length cur ≡ 0))
-          → IsBestOutcomeOf table h s first best
+      go : (p ≡ length haystack) ⊎ ((best ≡ None → ⊥) × (length cur ≡ 0))
+          → IsBestOutcomeOf table haystack s first best
       go (inl same) =
           with_none (nothing_beyond (p + 1) u.from u.recorded u.coming u.way (omega (arith, same))
           u.in_step u.before (omega (arith, same))) (at_end best u.best_holds u.from_is same)
       go (inr (some, empty)) =
           with_none
-          (none_held table h s (p + 1) u.coming
-          (subst (λ ts. ThreadsHold table h s (p + 1) ts u.coming) (nil_from_length cur empty)
+          (none_held table haystack s (p + 1) u.coming
+          (subst (λ ts. ThreadsHold table haystack s (p + 1) ts u.coming)
+          (nil_from_length cur empty)
           u.hold))
           (inr (way_of best u.best_holds some))
 
 -- of one pattern
-pub one_best : (table : List (Place ℕ)) (h : Text) (s first : ℕ) (best : Best)
-    → IsBestOutcomeOf table h (s ∷ []) first best → IsBestOutcome table h s first best
-one_best table h s first None none = λ i q j way m.
+pub one_best : (table : List (Place ℕ)) (haystack : Text) (s first : ℕ) (best : Best)
+    → IsBestOutcomeOf table haystack (s ∷ []) first best → IsBestOutcome table haystack s first best
+one_best table haystack s first None none = λ i q j way m.
     none i 0 way q j (record { entry = s; is_entry = refl; is_match = m })
-one_best table h s first (Some b) (number, found, is, from, to, held) = (
+one_best table haystack s first (Some b) (number, found, is, from, to, held) = (
   found,
-  subst (λ z. IsNumberedFound table h z first found)
+  subst (λ z. IsNumberedFound table haystack z first found)
       (sym (only_entry s number is.entry is.is_entry).1) is.answer,
   from.start_told,
   to,

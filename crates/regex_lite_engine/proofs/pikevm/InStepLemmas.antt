@@ -32,8 +32,8 @@ module _ (N : Type 0) (step : N → ℕ → Option N) (same : (x y : N) → (x �
   IsInStep p from recorded now next best =
       walk.IsInStep N step IsStart is_end position p from recorded now next best
 
-  module _ (p from : ℕ) (recorded : Recorded) (n : N) (w : List ℕ) (fresh : recorded n ≡ None)
-      (rest next : List Offer) (best : Option (List ℕ))
+  module _ {p from : ℕ} {recorded : Recorded} {n : N} {w : List ℕ} (fresh : recorded n ≡ None)
+      {rest next : List Offer} {best : Option (List ℕ)}
       (known : IsInStep p from recorded ((n, w) ∷ rest) next best) where
     abbrev extended : Recorded
     extended = records.extended N same recorded n w

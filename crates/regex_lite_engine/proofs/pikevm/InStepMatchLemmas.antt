@@ -29,8 +29,8 @@ module _ (N : Type 0) (step : N → ℕ → Option N) (same : (x y : N) → (x �
   IsInStep p from recorded now next best =
       walk.IsInStep N step IsStart is_end position p from recorded now next best
 
-  module _ (p from : ℕ) (recorded : Recorded) (n : N) (w : List ℕ) (fresh : recorded n ≡ None)
-      (rest next : List Offer) (best : Option (List ℕ))
+  module _ {p from : ℕ} {recorded : Recorded} {n : N} {w : List ℕ} (fresh : recorded n ≡ None)
+      {rest next : List Offer} {best : Option (List ℕ)}
       (u : IsInStep p from recorded ((n, w) ∷ rest) next best) where
     abbrev extended : Recorded
     extended = records.extended N same recorded n w
@@ -71,8 +71,7 @@ module _ (N : Type 0) (step : N → ℕ → Option N) (same : (x y : N) → (x �
       now_stands = λ m v i. absurd i;
       next_stands = u.next_stands;
       past =
-          deep.past_now N step same width no_more IsStart is_end position p from recorded n w fresh
-          rest next best u;
+          deep.past_now N step same width no_more IsStart is_end position fresh u;
       now_below = λ m v i. absurd i;
       next_below = u.next_below;
       best_below = λ b e. subst (λ z. StartsBelow from z) (same_some e) (u.now_below n w here);

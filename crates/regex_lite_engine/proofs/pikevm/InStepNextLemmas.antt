@@ -31,13 +31,13 @@ module _ (N : Type 0) (step : N → ℕ → Option N) (IsStart : List ℕ → N 
       walk.IsInStep N step IsStart is_end position p from recorded now next best
 
   -- with nothing left it is explored. A start is given by a list that is not empty
-  pub in_step_over : (p from : ℕ) (recorded : Recorded) (best : Option (List ℕ)) →
+  pub in_step_over : {p from : ℕ} {recorded : Recorded} {best : Option (List ℕ)} →
       ((front : List ℕ) (n : N) → IsStart front n → (i : ℕ) × (rest : List ℕ) × (front ≡ i ∷ rest))
       →
       (((front : List ℕ) (n : N) → IsStart front n → StartsBelow from front)
       ⊎ ((b : List ℕ) × (best ≡ Some b))) →
       IsInStep p from recorded [] [] best → IsExplored N step is_end IsStart recorded best
-  in_step_over p from recorded best headed enough u = record {
+  in_step_over {from} {recorded} {best} headed enough u = record {
     grown = u.grown;
     starts = λ front n is. by_enough front n is enough;
     arrows = λ m v k l r s. settled l (v ++ k ∷ []) (u.arrows m v k l r s);
@@ -73,10 +73,10 @@ module _ (N : Type 0) (step : N → ℕ → Option N) (IsStart : List ℕ → N 
           let (i, rest, e) = headed front n is in by_head front n i rest e is b at (cases_lt i from)
 
   -- nothing is entered yet
-  pub in_step_none : (p first : ℕ) (recorded : Recorded) → ((m : N) → recorded m ≡ None) →
+  pub in_step_none : {p first : ℕ} {recorded : Recorded} → ((m : N) → recorded m ≡ None) →
       ((front : List ℕ) (n : N) → IsStart front n → StartsBelow first front → ⊥)
       → IsInStep p first recorded [] [] None
-  in_step_none p first recorded nothing none_below = record {
+  in_step_none nothing none_below = record {
     grown = λ m v r. absurd (not_there (sym (nothing m) ∙ r));
     now_grown = λ m v i. absurd i;
     next_grown = λ m v i. absurd i;
@@ -99,13 +99,13 @@ module _ (N : Type 0) (step : N → ℕ → Option N) (IsStart : List ℕ → N 
   }
 
   -- starts from which no arrows lead to an end are left out
-  pub in_step_skip : (p from from' : ℕ) (recorded : Recorded) (now next : List Offer)
-      (best : Option (List ℕ))
+  pub in_step_skip : {p from from' : ℕ} {recorded : Recorded} {now next : List Offer}
+      {best : Option (List ℕ)}
       → from ≤ from' →
       ((front : List ℕ) (n : N) → IsStart front n → StartsBelow from' front
       → StartsBelow from front ⊎ IsDead N step is_end n) →
       IsInStep p from recorded now next best → IsInStep p from' recorded now next best
-  in_step_skip p from from' recorded now next best more dead u = record {
+  in_step_skip {from} {from'} {recorded} {now} {next} {best} more dead u = record {
     grown = u.grown;
     now_grown = u.now_grown;
     next_grown = u.next_grown;
@@ -135,9 +135,9 @@ module _ (N : Type 0) (step : N → ℕ → Option N) (IsStart : List ℕ → N 
       by_from front n is (inr gone) = inr gone
 
   -- with nothing offered, positions are passed over
-  pub in_step_jump : (p p' from : ℕ) (recorded : Recorded) (best : Option (List ℕ)) → p ≤ p'
+  pub in_step_jump : {p p' from : ℕ} {recorded : Recorded} {best : Option (List ℕ)} → p ≤ p'
       → IsInStep p from recorded [] [] best → IsInStep p' from recorded [] [] best
-  in_step_jump p p' from recorded best more u = record {
+  in_step_jump more u = record {
     grown = u.grown;
     now_grown = u.now_grown;
     next_grown = u.next_grown;
@@ -160,7 +160,7 @@ module _ (N : Type 0) (step : N → ℕ → Option N) (IsStart : List ℕ → N 
   }
 
   -- the position's own starts, last and in their order. Those that are dead may be left out
-  pub in_step_begin : (p : ℕ) (recorded : Recorded) (now begun : List Offer) →
+  pub in_step_begin : {p : ℕ} {recorded : Recorded} {now : List Offer} (begun : List Offer) →
       ((m : N) (v : List ℕ) → In m v begun
       → IsStart v m × (position m ≡ p) × ((rest : List ℕ) × (v ≡ p ∷ rest))) →
       Ordered begun →
@@ -168,7 +168,7 @@ module _ (N : Type 0) (step : N → ℕ → Option N) (IsStart : List ℕ → N 
       → StartsBelow p front ⊎ (In n front begun ⊎ IsDead N step is_end n)) →
       ((m : N) (v : List ℕ) → recorded m ≡ Some v → position m < p) →
       IsInStep p p recorded now [] None → IsInStep p (suc p) recorded (now ++ begun) [] None
-  in_step_begin p recorded now begun own begun_ordered all before u = record {
+  in_step_begin {p} {recorded} {now} begun own begun_ordered all before u = record {
     grown = u.grown;
     now_grown = λ m v i. by_now_grown m v (order.in_either N step m v now begun i);
     next_grown = λ m v i. absurd i;
@@ -231,10 +231,10 @@ module _ (N : Type 0) (step : N → ℕ → Option N) (IsStart : List ℕ → N 
       )
 
   -- the next position, with no start of its own
-  pub in_step_next_alone : (p from : ℕ) (recorded : Recorded) (next : List Offer)
-      (best : Option (List ℕ)) →
+  pub in_step_next_alone : {p from : ℕ} {recorded : Recorded} {next : List Offer}
+      {best : Option (List ℕ)} →
       IsInStep p from recorded [] next best → IsInStep (suc p) from recorded next [] best
-  in_step_next_alone p from recorded next best u = record {
+  in_step_next_alone {p} {recorded} {next} {best} u = record {
     grown = u.grown;
     now_grown = u.next_grown;
     next_grown = λ m v i. absurd i;

@@ -22,11 +22,11 @@ module _ (N : Type 0) (step : N → ℕ → Option N) (IsStart : List ℕ → N 
   IsInStep p from recorded now next best =
       walk.IsInStep N step IsStart is_end position p from recorded now next best
 
-  pub in_step_passed : (p from : ℕ) (recorded : Recorded) (n : N) (w v : List ℕ)
-      (rest next : List Offer) (best : Option (List ℕ))
+  pub in_step_passed : {p from : ℕ} {recorded : Recorded} {n : N} {w v : List ℕ}
+      {rest next : List Offer} {best : Option (List ℕ)}
       → recorded n ≡ Some v →
       IsInStep p from recorded ((n, w) ∷ rest) next best → IsInStep p from recorded rest next best
-  in_step_passed p from recorded n w v rest next best r u = record {
+  in_step_passed {recorded} {n} {w} {v} {rest} {next} {best} r u = record {
     grown = u.grown;
     now_grown = λ m x i. u.now_grown m x (inr i);
     next_grown = u.next_grown;

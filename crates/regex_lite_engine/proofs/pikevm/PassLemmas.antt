@@ -103,24 +103,25 @@ module _ (table : List (Place ℕ)) (haystack : Text) (entries : List ℕ) (s : 
       within q low high = omega (arith, low, high)
 
 -- where a search stands after the positions that it passes over
-pub record Onward (table : List (Place ℕ)) (h : Text) (s : List ℕ) (first last p : ℕ)
+pub record Onward (table : List (Place ℕ)) (haystack : Text) (s : List ℕ) (first last p : ℕ)
     (threads : List Thread) (best : Best) (x : Here) : Type 0 where
   pub q : ℕ
   pub later : p ≤ q
-  pub is : IsHere h q x
-  pub coming : IsComing table h s first last q threads best
+  pub is : IsHere haystack q x
+  pub coming : IsComing table haystack s first last q threads best
 
-pub onward : (table : List (Place ℕ)) (h : Text) (s : List ℕ) (first last p : ℕ)
+pub onward : (table : List (Place ℕ)) (haystack : Text) (s : List ℕ) (first last p : ℕ)
     (threads : List Thread)
-    (best : Best) (x : Here) → GoesOnAt table h s threads best p x
-    → IsComing table h s first last p threads best → Onward table h s first last p threads best x
-onward table h s first last p threads best x (inl is) u =
+    (best : Best) (x : Here) → GoesOnAt table haystack s threads best p x
+    → IsComing table haystack s first last p threads best
+    → Onward table haystack s first last p threads best x
+onward table haystack s first last p threads best x (inl is) u =
     record { q = p; later = omega arith; is = is; coming = u }
-onward table h s first last p threads best x (inr (empty, none, w)) u = record {
+onward table haystack s first last p threads best x (inr (empty, none, w)) u = record {
   q = w.q;
   later = w.later;
   is = w.is;
-  coming = subst (λ z. IsComing table h s first last w.q threads z) (sym none)
-      (jumped table h s first last p w.q threads empty w.later w.passed
-      (subst (λ z. IsComing table h s first last p threads z) none u));
+  coming = subst (λ z. IsComing table haystack s first last w.q threads z) (sym none)
+      (jumped table haystack s first last p w.q threads empty w.later w.passed
+      (subst (λ z. IsComing table haystack s first last p threads z) none u));
 }

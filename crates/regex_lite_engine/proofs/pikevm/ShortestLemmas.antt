@@ -270,18 +270,18 @@ module _ (table : List (Place ℕ)) (haystack : Text) where
                 ap (λ (z : Told × ℕ × Row). z.1) (same_some (sym e ∙ f))
 
 -- of one pattern
-pub one_end : (table : List (Place ℕ)) (h : Text) (start s : ℕ) (best : Best)
-    → IsNumberedEndOf table h (start ∷ []) s best → IsNumberedEnd table h start s best
-one_end table h start s None none = λ i q j way m.
+pub one_end : (table : List (Place ℕ)) (haystack : Text) (start s : ℕ) (best : Best)
+    → IsNumberedEndOf table haystack (start ∷ []) s best → IsNumberedEnd table haystack start s best
+one_end table haystack start s None none = λ i q j way m.
     none i 0 way q j (record { entry = start; is_entry = refl; is_match = m })
-one_end table h start s (Some b) (end, is, at) = (
+one_end table haystack start s (Some b) (end, is, at) = (
   end,
   (
     (
       is.start,
       is.last,
       is.way,
-      subst (λ z. IsNumberedMatch table h z s is.start is.way is.last end)
+      subst (λ z. IsNumberedMatch table haystack z s is.start is.way is.last end)
           (sym (only_entry start is.number is.is_match.entry is.is_match.is_entry).1)
           is.is_match.is_match,
     ),

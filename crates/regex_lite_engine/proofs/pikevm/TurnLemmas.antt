@@ -39,7 +39,7 @@ begun_offers p (start ∷ starts) =
     ((start.place, p), p ∷ (start.number ∷ [])) ∷ begun_offers p starts
 
 module _ (table : List (Place ℕ)) (at : SearchAt) where
-  open at use {haystack as h, entries as s, first, last, p}
+  open at use {haystack, entries as s, first, last, p}
 
   -- the offers of a position's starts
   begun_own_way : (from : ℕ) (starts : List Start) → AreFrom s from starts → first ≤ p → p ≤ last
@@ -97,20 +97,21 @@ pub record IsTurn (table : List (Place ℕ)) (at : SearchAt) (here : Here) (cur 
 
 module _ (table : List (Place ℕ)) (at : SearchAt) (here : Here) (cur : List Thread) (best : Best)
     (after : State) (best' : Best) (turn : IsTurn table at here cur best after best') where
-  open at use {haystack as h, entries as s, first, last, p}
+  open at use {haystack, entries as s, first, last, p}
 
   abbrev Coming : Best → Type 0
-  Coming b = IsComing table h s first last p cur b
+  Coming b = IsComing table haystack s first last p cur b
 
   abbrev Holds : ℕ → List Thread → List (Offer Node) → Type 0
-  Holds = ThreadsHold table h s
+  Holds = ThreadsHold table haystack s
 
   abbrev Steps : ℕ → (Node → Option (List ℕ)) → List (Offer Node) → List (Offer Node)
       → Option (List ℕ) → Type 0
-  Steps from recorded now next way = In_step table h s first last p from recorded now next way
+  Steps from recorded now next way =
+      In_step table haystack s first last p from recorded now next way
 
   abbrev Dead : Node → Type 0
-  Dead n = IsDead Node (numbered_step table h) (is_end table h) n
+  Dead n = IsDead Node (numbered_step table haystack) (is_end table haystack) n
 
   none_next : Holds (suc p) turn.round.next []
   none_next = subst (λ ts. Holds (suc p) ts []) (sym turn.empty) tt
@@ -164,8 +165,8 @@ module _ (table : List (Place ℕ)) (at : SearchAt) (here : Here) (cur : List Th
     coming = [];
     way = None;
     in_step =
-        deep.in_step_begin Node (numbered_step table h) (StartsOf s first last) (is_end table h)
-        (λ x. x.1) p u.recorded u.coming (begun_offers p turn.starts)
+        deep.in_step_begin Node (numbered_step table haystack) (StartsOf s first last)
+        (is_end table haystack) (λ x. x.1) (begun_offers p turn.starts)
         (λ m v i. (let r = begun_own_way table at 0 turn.starts turn.are.in_order turn.low turn.high
         m v i in (r.0, r.1, r.2)))
         (begun_ordered table at 0 turn.starts turn.are.in_order turn.low turn.high) offered u.before
@@ -176,7 +177,7 @@ module _ (table : List (Place ℕ)) (at : SearchAt) (here : Here) (cur : List Th
     frames_hold = refl;
     ways_hold =
         subst (λ ts. Holds p ts (u.coming ++ begun_offers p turn.starts)) (sym pushed)
-        (held_append table h s p cur (begun turn.told blank turn.starts) u.coming
+        (held_append table haystack s p cur (begun turn.told blank turn.starts) u.coming
         (begun_offers p turn.starts) u.hold
         (begun_held 0 blank blanks turn.starts turn.are.in_order));
     coming_hold = none_next;
@@ -194,7 +195,7 @@ module _ (table : List (Place ℕ)) (at : SearchAt) (here : Here) (cur : List Th
             inr (by_each same (turn.are.each number entry is))
       ]
         where
-          by_each : i ≡ p → IsAmong number entry turn.starts ⊎ IsDeadAt table h entry p
+          by_each : i ≡ p → IsAmong number entry turn.starts ⊎ IsDeadAt table haystack entry p
               → offer.In Node n front (begun_offers p turn.starts) ⊎ Dead n
           by_each same (inl among) =
               inl (subst (λ z. offer.In Node z front (begun_offers p turn.starts))
@@ -236,20 +237,20 @@ module _ (table : List (Place ℕ)) (at : SearchAt) (here : Here) (cur : List Th
       go (Some b) (inr (why, same)) e u =
           on u.from (Some b) e tt (begun_alone u.from (Some b) u u.in_step same)
 
-  pub turned_all : Coming best → IsComing table h s first last (p + 1) after.next best'
+  pub turned_all : Coming best → IsComing table haystack s first last (p + 1) after.next best'
   turned_all u =
       let (from, is, w) = turned u in
       let one_more : suc p ≡ p + 1 = omega arith in
-      subst (λ z. IsComing table h s first last z after.next best') one_more (record {
+      subst (λ z. IsComing table haystack s first last z after.next best') one_more (record {
         recorded = w.recorded;
         coming = w.coming;
         way = w.way;
         from = from;
         in_step =
-            deep.in_step_next_alone Node (numbered_step table h) (StartsOf s first last)
-            (is_end table h) (λ x. x.1) p from w.recorded w.coming w.way
+            deep.in_step_next_alone Node (numbered_step table haystack) (StartsOf s first last)
+            (is_end table haystack) (λ x. x.1)
             (subst (λ z. Steps from w.recorded ([] ++ z) w.coming w.way)
-            (none_held table h s p w.later w.ways_hold)
+            (none_held table haystack s p w.later w.ways_hold)
             (subst (λ z. Steps from w.recorded (z ++ w.later) w.coming w.way) w.frames_hold
             w.in_step));
         before = λ m v r. (let le = w.in_step.past m v r in omega (arith, le));

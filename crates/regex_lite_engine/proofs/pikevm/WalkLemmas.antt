@@ -28,12 +28,12 @@ use Rattle.regex_lite_engine.proofs.search.PlaceLemmas.{offered_by, offers_liste
 use Rattle.regex_lite_engine.proofs.search.RecordLemmas as records
 use Rattle.regex_lite_engine.proofs.search.RecordLemmas.{same_node, none_or}
 
-module _ (table : List (Place ℕ)) (h : Text) (s : List ℕ) where
+module _ (table : List (Place ℕ)) (haystack : Text) (s : List ℕ) where
   pub holds_on : (i : Told) (row row' : Row) (n : Node) (w : List ℕ) (a : ℕ) (l : Node)
-      → WayTold table h s i row n w → numbered_step table h n a ≡ Some l →
-      ((ms : Marks) → HasSlots h row ms
-      → HasSlots h row' (over (marked (mark_of (place_with table n.0) a) n.1) ms))
-      → WayTold table h s i row' l (w ++ a ∷ [])
+      → WayTold table haystack s i row n w → numbered_step table haystack n a ≡ Some l →
+      ((ms : Marks) → HasSlots haystack row ms
+      → HasSlots haystack row' (over (marked (mark_of (place_with table n.0) a) n.1) ms))
+      → WayTold table haystack s i row' l (w ++ a ∷ [])
   holds_on i row row' n w a l (j, number, x, ks, eb, is, e, path, has) hops f = (
     j,
     number,
@@ -42,21 +42,21 @@ module _ (table : List (Place ℕ)) (h : Text) (s : List ℕ) where
     eb,
     is,
     ap (λ z. z ++ a ∷ []) e,
-    leads_append (numbered_step table h) ks (a ∷ []) (x, j) n l path (l, hops, refl),
-    same_slots h row'
+    leads_append (numbered_step table haystack) ks (a ∷ []) (x, j) n l path (l, hops, refl),
+    same_slots haystack row'
         (over (marked (mark_of (place_with table n.0) a) n.1) (marks (Some (x, j)) ks))
         (marks (Some (x, j)) (ks ++ a ∷ []))
-        (λ slot. sym (marks_append h (place_with table) ks (x, j) n a slot path))
+        (λ slot. sym (marks_append haystack (place_with table) ks (x, j) n a slot path))
         (f (marks (Some (x, j)) ks) has),
   )
     where
       marks : Option Node → List ℕ → Marks
-      marks = marks_along h (place_with table)
+      marks = marks_along haystack (place_with table)
 
   -- threads after others hold their offers after those of the others
   pub held_append : (p : ℕ) (ts us : List Thread) (os ps : List (Offer Node))
-      → ThreadsHold table h s p ts os → ThreadsHold table h s p us ps
-      → ThreadsHold table h s p (ts ++ us) (os ++ ps)
+      → ThreadsHold table haystack s p ts os → ThreadsHold table haystack s p us ps
+      → ThreadsHold table haystack s p (ts ++ us) (os ++ ps)
   held_append p [] us [] ps a b = b
   held_append p [] us (o ∷ os) ps a b = absurd a
   held_append p (t ∷ ts) us [] ps a b = absurd a
@@ -64,104 +64,114 @@ module _ (table : List (Place ℕ)) (h : Text) (s : List ℕ) where
       (at, holds, held_append p ts us os ps rest b)
 
   -- without threads there are no offers
-  pub none_held : (p : ℕ) (os : List (Offer Node)) → ThreadsHold table h s p [] os → os ≡ []
+  pub none_held : (p : ℕ) (os : List (Offer Node)) → ThreadsHold table haystack s p [] os → os ≡ []
   none_held p [] a = refl
   none_held p (o ∷ os) a = absurd a
 
 -- the place is among those that were entered
 abbrev pub marked_in : State → (q : ℕ) → State
-marked_in m q = record m { rounds = slice_set m.rounds q m.now }
+marked_in state q = record state { rounds = slice_set state.rounds q state.now }
 
-module _ (table : List (Place ℕ)) (at : SearchAt) (m : State) (i : Told) (ways : List Thread)
+module _ (table : List (Place ℕ)) (at : SearchAt) (state : State) (i : Told) (ways : List Thread)
     (best : Best) where
-  open at use {haystack as h, entries as s, first, last, p, from}
+  open at use {haystack, entries as s, first, last, p, from}
 
   abbrev Walks : Row → List Frame → Type 0
-  Walks row frames = IsWalking table at (record m { row = row; frames = frames }) i ways best
+  Walks row frames = IsWalking table at (record state { row = row; frames = frames }) i ways best
 
   abbrev In_step : (Node → Option (List ℕ)) → List (Offer Node) → List (Offer Node)
       → Option (List ℕ) → Type 0
-  In_step = InStep table h s first last p from
+  In_step = InStep table haystack s first last p from
 
   abbrev step : Node → ℕ → Option Node
-  step = numbered_step table h
+  step = numbered_step table haystack
 
   abbrev width : Node → ℕ
-  width = wide table h
+  width = wide table haystack
 
   -- what is left may be seen as other frames that hold the same offers
-  pub walk_framed : (u : IsWalking table at m i ways best) (j : Told) (row : Row)
-      (frames : List Frame) → FramesHold table h s p j row frames u.under
-      → IsWalking table at (record m { row = row; frames = frames }) j ways best
-  walk_framed u j row frames hold = record {
-    recorded = u.recorded;
-    under = u.under;
-    later = u.later;
-    coming = u.coming;
-    way = u.way;
-    in_step = u.in_step;
-    seen = u.seen;
-    met = u.met;
+  pub walk_framed : (walking : IsWalking table at state i ways best) (j : Told) (row : Row)
+      (frames : List Frame) → FramesHold table haystack s p j row frames walking.under
+      → IsWalking table at (record state { row = row; frames = frames }) j ways best
+  walk_framed walking j row frames hold = record {
+    recorded = walking.recorded;
+    under = walking.under;
+    later = walking.later;
+    coming = walking.coming;
+    way = walking.way;
+    in_step = walking.in_step;
+    seen = walking.seen;
+    met = walking.met;
     frames_hold = hold;
-    ways_hold = u.ways_hold;
-    coming_hold = u.coming_hold;
-    best_holds = u.best_holds;
+    ways_hold = walking.ways_hold;
+    coming_hold = walking.coming_hold;
+    best_holds = walking.best_holds;
   }
 
-  module _ (q : ℕ) (short : q < length m.rounds) (u : Walks m.row (explore q ∷ m.frames)) where
+  module _ (q : ℕ) (short : q < length state.rounds)
+      (walking : Walks state.row (explore q ∷ state.frames)) where
     abbrev Took : Type 0
     Took =
-        (w : List ℕ) × (rest : List (Offer Node)) × (u.under ≡ ((q, p), w) ∷ rest)
-        × WayTold table h s i m.row (q, p) w × FramesHold table h s p i m.row m.frames rest
+        (w : List ℕ) × (rest : List (Offer Node)) × (walking.under ≡ ((q, p), w) ∷ rest)
+        × WayTold table haystack s i state.row (q, p) w
+        × FramesHold table haystack s p i state.row state.frames rest
 
-    pub walk_seen : slice_index m.rounds q ≡ m.now → Walks m.row m.frames
-    walk_seen was = go u.frames_hold (u.met q short was)
+    -- the offer on top comes first of what is left
+    taken : (w : List ℕ) (rest : List (Offer Node)) → walking.under ≡ ((q, p), w) ∷ rest
+        → In_step walking.recorded (((q, p), w) ∷ (rest ++ walking.later)) walking.coming
+        walking.way
+    taken w rest e =
+        subst (λ z. In_step walking.recorded (z ++ walking.later) walking.coming walking.way) e
+        walking.in_step
+
+    pub walk_seen : slice_index state.rounds q ≡ state.now → Walks state.row state.frames
+    walk_seen was = go walking.frames_hold (walking.met q short was)
       where
-        go : Took → (v : List ℕ) × (u.recorded (q, p) ≡ Some v) → Walks m.row m.frames
+        go : Took → (v : List ℕ) × (walking.recorded (q, p) ≡ Some v) → Walks state.row state.frames
         go (w, rest, e, holds, waits) (v, r) = record {
-          recorded = u.recorded;
+          recorded = walking.recorded;
           under = rest;
-          later = u.later;
-          coming = u.coming;
-          way = u.way;
+          later = walking.later;
+          coming = walking.coming;
+          way = walking.way;
           in_step =
-              in_step_passed Node step (StartsOf s first last) (is_end table h) (λ x. x.1) p from
-              u.recorded (q, p) w v (rest ++ u.later) u.coming u.way r
-              (subst (λ z. In_step u.recorded (z ++ u.later) u.coming u.way) e u.in_step);
-          seen = u.seen;
-          met = u.met;
+              in_step_passed Node step (StartsOf s first last) (is_end table haystack) (λ x. x.1) r
+              (taken w rest e);
+          seen = walking.seen;
+          met = walking.met;
           frames_hold = waits;
-          ways_hold = u.ways_hold;
-          coming_hold = u.coming_hold;
-          best_holds = u.best_holds;
+          ways_hold = walking.ways_hold;
+          coming_hold = walking.coming_hold;
+          best_holds = walking.best_holds;
         }
 
     -- what the search keeps of an entered place
-    module _ (new : slice_index m.rounds q ≡ m.now → ⊥) where
-      fresh : u.recorded (q, p) ≡ None
-      fresh = none_or (u.recorded (q, p)) (λ v e. new (u.seen q v e))
+    module _ (new : slice_index state.rounds q ≡ state.now → ⊥) where
+      fresh : walking.recorded (q, p) ≡ None
+      fresh = none_or (walking.recorded (q, p)) (λ v e. new (walking.seen q v e))
 
       abbrev recorded_now : List ℕ → Node → Option (List ℕ)
-      recorded_now w = records.extended Node same_node u.recorded (q, p) w
+      recorded_now w = records.extended Node same_node walking.recorded (q, p) w
 
       seen_now : (w : List ℕ) (r : ℕ) (v : List ℕ) → recorded_now w (r, p) ≡ Some v
-          → slice_index (slice_set m.rounds q m.now) r ≡ m.now
+          → slice_index (slice_set state.rounds q state.now) r ≡ state.now
       seen_now w r v e =
-          go (cases_eq r q) (records.back Node same_node u.recorded (q, p) w (r, p) v e)
+          go (cases_eq r q) (records.back Node same_node walking.recorded (q, p) w (r, p) v e)
         where
           Goal : Type 0
-          Goal = slice_index (slice_set m.rounds q m.now) r ≡ m.now
+          Goal = slice_index (slice_set state.rounds q state.now) r ≡ state.now
 
           go : (r ≡ q) ⊎ (r ≡ q → ⊥)
-              → ((◌≡◌ {A = Node} (r, p) (q, p)) × (v ≡ w)) ⊎ (u.recorded (r, p) ≡ Some v) → Goal
+              → ((◌≡◌ {A = Node} (r, p) (q, p)) × (v ≡ w)) ⊎ (walking.recorded (r, p) ≡ Some v)
+              → Goal
           go (inl d) x =
-              ap (slice_index (slice_set m.rounds q m.now)) d
-              ∙ get_or-set_same m.rounds q m.now 0 short
+              ap (slice_index (slice_set state.rounds q state.now)) d
+              ∙ get_or-set_same state.rounds q state.now 0 short
           go (inr d) (inl x) = absurd (d (ap (λ (z : Node). z.0) x.0))
-          go (inr d) (inr x) = get_or-set_other m.rounds q r m.now 0 d ∙ u.seen r v x
+          go (inr d) (inr x) = get_or-set_other state.rounds q r state.now 0 d ∙ walking.seen r v x
 
-      met_now : (w : List ℕ) (r : ℕ) → r < length (slice_set m.rounds q m.now)
-          → slice_index (slice_set m.rounds q m.now) r ≡ m.now
+      met_now : (w : List ℕ) (r : ℕ) → r < length (slice_set state.rounds q state.now)
+          → slice_index (slice_set state.rounds q state.now) r ≡ state.now
           → (v : List ℕ) × (recorded_now w (r, p) ≡ Some v)
       met_now w r lt e = go (cases_eq r q)
         where
@@ -169,110 +179,108 @@ module _ (table : List (Place ℕ)) (at : SearchAt) (m : State) (i : Told) (ways
           go (inl d) = (
             w,
             ap (λ z. recorded_now w (z, p)) d
-                ∙ records.extended_here Node same_node u.recorded (q, p) w,
+                ∙ records.extended_here Node same_node walking.recorded (q, p) w,
           )
           go (inr d) =
-              let r' = u.met r (omega (arith, lt, length-set m.rounds q m.now))
-              (sym (get_or-set_other m.rounds q r m.now 0 d) ∙ e) in
-              (r'.0, records.kept Node same_node u.recorded (q, p) w fresh (r, p) r'.0 r'.1)
+              let r' = walking.met r (omega (arith, lt, length-set state.rounds q state.now))
+              (sym (get_or-set_other state.rounds q r state.now 0 d) ∙ e) in
+              (r'.0, records.kept Node same_node walking.recorded (q, p) w fresh (r, p) r'.0 r'.1)
 
       -- what the place offers to the way
       abbrev pub listed : List ℕ → List (Offer Node)
-      listed w = offered_by table h (place_with table q) p w (width (q, p)) 0
+      listed w = offered_by table haystack (place_with table q) p w (width (q, p)) 0
 
       -- all its arrows stay at the position
       pub walk_entered : (row : Row) (frames : List Frame)
-          → (IsTrue (is_end table h (q, p)) → ⊥)
+          → (IsTrue (is_end table haystack (q, p)) → ⊥)
           → ((a : ℕ) (l : Node) → step (q, p) a ≡ Some l → l.1 ≡ p)
-          → ((w : List ℕ) (rest : List (Offer Node)) → WayTold table h s i m.row (q, p) w
-          → FramesHold table h s p i m.row m.frames rest
-          → FramesHold table h s p i row frames (listed w ++ rest))
-          → IsWalking table at (record (marked_in m q) { row = row; frames = frames }) i ways best
-      walk_entered row frames open_still stays f = go u.frames_hold
+          → ((w : List ℕ) (rest : List (Offer Node)) → WayTold table haystack s i state.row (q, p) w
+          → FramesHold table haystack s p i state.row state.frames rest
+          → FramesHold table haystack s p i row frames (listed w ++ rest))
+          → IsWalking table at (record (marked_in state q) { row = row; frames = frames }) i
+          ways best
+      walk_entered row frames open_still stays f = go walking.frames_hold
         where
           go : Took
-              → IsWalking table at (record (marked_in m q) { row = row; frames = frames }) i ways
-              best
+              → IsWalking table at (record (marked_in state q) { row = row; frames = frames }) i
+              ways best
           go (w, rest, e, holds, waits) = record {
             recorded = recorded_now w;
             under = listed w ++ rest;
-            later = u.later;
-            coming = u.coming;
-            way = u.way;
+            later = walking.later;
+            coming = walking.coming;
+            way = walking.way;
             in_step =
-                subst (λ z. In_step (recorded_now w) z u.coming u.way)
-                (sym (append_assoc (listed w) rest u.later))
-                (subst (λ z. In_step (recorded_now w) (z ++ (rest ++ u.later)) u.coming u.way)
-                (offers_listed table h q p w (width (q, p)) 0)
-                (deep.in_step_free Node step same_node width (no_more table h)
-                (StartsOf s first last) (is_end table h) (λ x. x.1) p from u.recorded (q, p) w fresh
-                (rest ++ u.later) u.coming u.way
-                (subst (λ z. In_step u.recorded (z ++ u.later) u.coming u.way) e u.in_step)
+                subst (λ z. In_step (recorded_now w) z walking.coming walking.way)
+                (sym (append_assoc (listed w) rest walking.later))
+                (subst (λ z. In_step (recorded_now w) (z ++ (rest ++ walking.later)) walking.coming
+                walking.way)
+                (offers_listed table haystack q p w (width (q, p)) 0)
+                (deep.in_step_free Node step same_node width (no_more table haystack)
+                (StartsOf s first last) (is_end table haystack) (λ x. x.1) fresh (taken w rest e)
                 open_still stays));
             seen = seen_now w;
             met = met_now w;
             frames_hold = f w rest holds waits;
-            ways_hold = u.ways_hold;
-            coming_hold = u.coming_hold;
-            best_holds = u.best_holds;
+            ways_hold = walking.ways_hold;
+            coming_hold = walking.coming_hold;
+            best_holds = walking.best_holds;
           }
 
       -- its arrows lead to the next position
-      pub walk_read : (next : List Thread) → (IsTrue (is_end table h (q, p)) → ⊥)
+      pub walk_read : (next : List Thread) → (IsTrue (is_end table haystack (q, p)) → ⊥)
           → ((a : ℕ) (l : Node) → step (q, p) a ≡ Some l → l.1 ≡ suc p)
-          → ((w : List ℕ) (coming : List (Offer Node)) → WayTold table h s i m.row (q, p) w
-          → ThreadsHold table h s (suc p) m.next coming
-          → ThreadsHold table h s (suc p) next (coming ++ listed w))
-          → IsWalking table at (record (marked_in m q) { next = next }) i ways best
-      walk_read next open_still moves f = go u.frames_hold
+          → ((w : List ℕ) (coming : List (Offer Node))
+          → WayTold table haystack s i state.row (q, p) w
+          → ThreadsHold table haystack s (suc p) state.next coming
+          → ThreadsHold table haystack s (suc p) next (coming ++ listed w))
+          → IsWalking table at (record (marked_in state q) { next = next }) i ways best
+      walk_read next open_still moves f = go walking.frames_hold
         where
-          go : Took → IsWalking table at (record (marked_in m q) { next = next }) i ways best
+          go : Took → IsWalking table at (record (marked_in state q) { next = next }) i ways best
           go (w, rest, e, holds, waits) = record {
             recorded = recorded_now w;
             under = rest;
-            later = u.later;
-            coming = u.coming ++ listed w;
-            way = u.way;
+            later = walking.later;
+            coming = walking.coming ++ listed w;
+            way = walking.way;
             in_step =
-                subst (λ z. In_step (recorded_now w) (rest ++ u.later) (u.coming ++ z) u.way)
-                (offers_listed table h q p w (width (q, p)) 0)
-                (deep.in_step_read Node step same_node width (no_more table h)
-                (StartsOf s first last) (is_end table h) (λ x. x.1) p from u.recorded (q, p) w fresh
-                (rest ++ u.later) u.coming u.way
-                (subst (λ z. In_step u.recorded (z ++ u.later) u.coming u.way) e u.in_step)
+                subst (λ z. In_step (recorded_now w) (rest ++ walking.later)
+                (walking.coming ++ z) walking.way)
+                (offers_listed table haystack q p w (width (q, p)) 0)
+                (deep.in_step_read Node step same_node width (no_more table haystack)
+                (StartsOf s first last) (is_end table haystack) (λ x. x.1) fresh (taken w rest e)
                 open_still moves);
             seen = seen_now w;
             met = met_now w;
             frames_hold = waits;
-            ways_hold = u.ways_hold;
-            coming_hold = f w u.coming holds u.coming_hold;
-            best_holds = u.best_holds;
+            ways_hold = walking.ways_hold;
+            coming_hold = f w walking.coming holds walking.coming_hold;
+            best_holds = walking.best_holds;
           }
 
       -- a match is complete there
-      pub walk_complete : IsTrue (is_end table h (q, p))
-          → IsWalking table at (record (marked_in m q) { frames = [] }) i []
-          (Some (i, offset h p, m.row))
-      walk_complete ends = go u.frames_hold
+      pub walk_complete : IsTrue (is_end table haystack (q, p))
+          → IsWalking table at (record (marked_in state q) { frames = [] }) i []
+          (Some (i, offset haystack p, state.row))
+      walk_complete ends = go walking.frames_hold
         where
-          go : Took → IsWalking table at (record (marked_in m q) { frames = [] }) i []
-              (Some (i, offset h p, m.row))
+          go : Took → IsWalking table at (record (marked_in state q) { frames = [] }) i []
+              (Some (i, offset haystack p, state.row))
           go (w, rest, e, holds, waits) = record {
             recorded = recorded_now w;
             under = [];
             later = [];
-            coming = u.coming;
+            coming = walking.coming;
             way = Some w;
             in_step =
-                at_match.in_step_complete Node step same_node width (no_more table h)
-                (StartsOf s first last) (is_end table h) (λ x. x.1) p from u.recorded (q, p) w fresh
-                (rest ++ u.later) u.coming u.way
-                (subst (λ z. In_step u.recorded (z ++ u.later) u.coming u.way) e u.in_step)
-                ends (λ a. no_arrow_at table h (place_with table q) p a ends);
+                at_match.in_step_complete Node step same_node width (no_more table haystack)
+                (StartsOf s first last) (is_end table haystack) (λ x. x.1) fresh (taken w rest e)
+                ends (λ a. no_arrow_at table haystack (place_with table q) p a ends);
             seen = seen_now w;
             met = met_now w;
             frames_hold = refl;
             ways_hold = tt;
-            coming_hold = u.coming_hold;
+            coming_hold = walking.coming_hold;
             best_holds = (w, refl, (q, p, refl, ends, holds));
           }

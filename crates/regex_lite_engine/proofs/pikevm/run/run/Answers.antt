@@ -21,14 +21,16 @@ passed : (g : given.Over) (c : goal.After-pass-here g)
 passed g c =
     let a = c.args in
     let v = c.positions.invariant in
-    let h = chars a.haystack.now in
+    let haystack = chars a.haystack.now in
     let s : ℕ = position_at a.haystack.now a.start in
     let now = c.pass-here.new.self in
     let here = c.pass-here.result in
-    subst (λ t. Passes t h (g.P.Patterns.entries a.patterns.now) s v.p c.positions.cache now here)
+    subst (λ t. Passes t haystack (g.P.Patterns.entries a.patterns.now) s v.p c.positions.cache
+    now here)
     (c.pass-here.ensures.table ∙ v.table)
-    (subst (λ es. Passes (g.P.Patterns.table c.pass-here.new.patterns) h es s v.p c.positions.cache
-    now here) (c.pass-here.ensures.entries ∙ v.entries)
+    (subst (λ es. Passes (g.P.Patterns.table c.pass-here.new.patterns) haystack es s v.p
+    c.positions.cache now here)
+    (c.pass-here.ensures.entries ∙ v.entries)
     (c.pass-here.ensures.passes s v.p v.is v.under_way))
 
 pub positions-init : goal.positions-init
@@ -102,7 +104,7 @@ pub returns-then-is_over : goal.returns-then-is_over
 returns-then-is_over g c =
     let a = c.args in
     let v = c.positions.invariant in
-    let h = chars a.haystack.now in
+    let haystack = chars a.haystack.now in
     let s : ℕ = position_at a.haystack.now a.start in
     let table = g.P.Patterns.table a.patterns.now in
     let entries = g.P.Patterns.entries a.patterns.now in
@@ -113,11 +115,11 @@ returns-then-is_over g c =
     let first : s ≤ w.q = omega (arith, low, later) in
     record {
       found =
-          ended_all table h entries s w.q now.walk.memory.threads (best_of now.best) first
+          ended_all table haystack entries s w.q now.walk.memory.threads (best_of now.best) first
           w.is.inside
-          (over_at h w.q c.pass-here.result w.is (c.is_over.ensures.over (search rules)))
+          (over_at haystack w.q c.pass-here.result w.is (c.is_over.ensures.over (search rules)))
           w.after.coming;
-      bounded = bounded table h entries s w.q now first w.is.inside w.after;
+      bounded = bounded table haystack entries s w.q now first w.is.inside w.after;
       counts = still_counted a.cache.now.walk.steps c.positions.cache.walk.steps now.walk.steps
           v.counts c.pass-here.ensures.counts;
       width = c.pass-here.ensures.width ∙ v.width;

@@ -22,14 +22,16 @@ passed : (g : given.Over) (c : goal.After-pass-here g)
 passed g c =
     let a = c.args in
     let v = c.positions.invariant in
-    let h = chars a.haystack.now in
+    let haystack = chars a.haystack.now in
     let s : ℕ = position_at a.haystack.now a.start in
     let now = c.pass-here.new.self in
     let here = c.pass-here.result in
-    subst (λ t. Passes t h (g.P.Patterns.entries a.patterns.now) s v.p c.positions.cache now here)
+    subst (λ t. Passes t haystack (g.P.Patterns.entries a.patterns.now) s v.p c.positions.cache
+    now here)
     (c.pass-here.ensures.table ∙ v.table)
-    (subst (λ es. Passes (g.P.Patterns.table c.pass-here.new.patterns) h es s v.p c.positions.cache
-    now here) (c.pass-here.ensures.entries ∙ v.entries)
+    (subst (λ es. Passes (g.P.Patterns.table c.pass-here.new.patterns) haystack es s v.p
+    c.positions.cache now here)
+    (c.pass-here.ensures.entries ∙ v.entries)
     (c.pass-here.ensures.passes s v.p v.is v.under_way))
 
 pub positions-init : goal.positions-init
@@ -103,7 +105,7 @@ pub returns-then-is_known : goal.returns-then-is_known
 returns-then-is_known g c =
     let a = c.args in
     let v = c.positions.invariant in
-    let h = chars a.haystack.now in
+    let haystack = chars a.haystack.now in
     let s : ℕ = position_at a.haystack.now a.start in
     let table = g.P.Patterns.table a.patterns.now in
     let entries = g.P.Patterns.entries a.patterns.now in
@@ -114,13 +116,14 @@ returns-then-is_known g c =
     let first : s ≤ w.q = omega (arith, low, later) in
     record {
       found =
-          shortest_known table h entries s w.q c.pass-here.result.at
+          shortest_known table haystack entries s w.q c.pass-here.result.at
           c.positions.cache.walk.memory.threads now.walk.memory.threads
           (best_of c.positions.cache.best) (best_of now.best) first w.is.inside v.none w.is.bytes
-          w.ends (over_at h w.q c.pass-here.result w.is (c.is_known.ensures.known (search rules)))
+          w.ends (over_at haystack w.q c.pass-here.result w.is
+          (c.is_known.ensures.known (search rules)))
           w.before w.after.coming;
-      bounded = bounded table h entries s w.q now first w.is.inside w.after;
-      own = bounded_within table h entries s w.q now first w.is.inside w.after;
+      bounded = bounded table haystack entries s w.q now first w.is.inside w.after;
+      own = bounded_within table haystack entries s w.q now first w.is.inside w.after;
       between = w.after.ready;
       counts = still_counted a.cache.now.walk.steps c.positions.cache.walk.steps now.walk.steps
           v.counts c.pass-here.ensures.counts;

@@ -19,8 +19,8 @@ use Rattle.regex_lite_engine.proofs.pikevm.cache.Cache.turn.Goals as goal
 
 -- a search at the position, before any start is offered there
 abbrev search_at : Text → (entries : List ℕ) → (first last p : ℕ) → SearchAt
-search_at h entries first last p = record {
-  haystack = h;
+search_at haystack entries first last p = record {
+  haystack = haystack;
   entries = entries;
   first = first;
   last = last;
@@ -86,14 +86,14 @@ returns-clause-entries g c =
     omega (arith, most, all, spent)
 
 pub returns-clause-comes : goal.returns-clause-comes
-returns-clause-comes g c = λ h entries p first last is low high are coming.
+returns-clause-comes g c = λ haystack entries p first last is low high are coming.
     let a = c.args in let m = a.self.now.walk.memory in let r = c.requires in
     let n = c.begin_round.new.self in let round = begins_round m n c.begin_round.ensures in
     let starts = g.P.Patterns.starts a.patterns.now in let told = g.S.Beginning.told_of a.here.at in
     let best = best_of a.self.now.best in let f = c.follow-hit.new.self in
-    subst (λ z. IsComing (g.P.Patterns.table a.patterns.now) h entries first last (p + 1) z
+    subst (λ z. IsComing (g.P.Patterns.table a.patterns.now) haystack entries first last (p + 1) z
     (best_of f.best)) (sym (turns_over f.walk.memory c.turn_over.new.self c.turn_over.ensures))
-    (turned_all (g.P.Patterns.table a.patterns.now) (search_at h entries first last p) a.here
+    (turned_all (g.P.Patterns.table a.patterns.now) (search_at haystack entries first last p) a.here
     m.threads best f.walk.memory (best_of f.best) (record {
       is = is;
       low = low;
@@ -112,7 +112,7 @@ returns-clause-comes g c = λ h entries p first last is low high are coming.
     }) coming)
 
 pub returns-clause-own : goal.returns-clause-own
-returns-clause-own g c = λ h entries p first last begin len is low high are coming part.
+returns-clause-own g c = λ haystack entries p first last begin len is low high are coming part.
     let a = c.args in let m = a.self.now.walk.memory in let r = c.requires in
     let n = c.begin_round.new.self in let round = begins_round m n c.begin_round.ensures in
     let table = g.P.Patterns.table a.patterns.now in
@@ -122,7 +122,7 @@ returns-clause-own g c = λ h entries p first last begin len is low high are com
     let ways = with_starts starts told best (length n.row) n.threads in
     let begins = begins_with m n starts told best round in
     let only =
-    turned_within table (search_at h entries first last p) a.here m.threads best left
+    turned_within table (search_at haystack entries first last p) a.here m.threads best left
     (best_of f.best) (record {
       is = is;
       low = low;
@@ -166,7 +166,7 @@ returns-clause-own g c = λ h entries p first last begin len is low high are com
 
 pub returns-clause-again : goal.returns-clause-again
 returns-clause-again g c =
-    λ tell there best alike tells to back h entries p first last is low high are coming.
+    λ tell there best alike tells to back haystack entries p first last is low high are coming.
     let a = c.args in let m = a.self.now.walk.memory in let r = c.requires in
     let n = c.begin_round.new.self in let round = begins_round m n c.begin_round.ensures in
     let table = g.P.Patterns.table a.patterns.now in
@@ -179,9 +179,9 @@ returns-clause-again g c =
     ∙ ap (λ z. with_starts starts retells best 0 (all_retold tell z)) round.threads in
     let f = c.follow-hit.new.self in
     let found = best_again tell there.at c.follow-hit.result (best_of f.best) best in
-    subst (λ z. IsComing table h entries first last (p + 1) (all_retold tell z) found)
+    subst (λ z. IsComing table haystack entries first last (p + 1) (all_retold tell z) found)
     (sym (turns_over f.walk.memory c.turn_over.new.self c.turn_over.ensures))
-    (turned_all table (search_at h entries first last p) there ts best
+    (turned_all table (search_at haystack entries first last p) there ts best
     (state_retold tell f.walk.memory) found (record {
       is = is;
       low = low;
