@@ -47,8 +47,8 @@ module _ {A : Type 0} {haystack : Text} {place : A → Place A} {end : A}
       plain final P (follows j no_marks (read.0, read.1, read.2, read.3, refl))))
 
   -- a group of any index
-  pub marked_group : (index : ℕ) (name : Option Text) (body : Tree) (enter exit : A) (i n : ℕ)
-      (P : Marks → ℕ → Type 0)
+  pub marked_group : (index : ℕ) (name : Option Text) (body : Tree) {enter exit : A} {i n : ℕ}
+      {P : Marks → ℕ → Type 0}
       → ((a b : A) (k m : ℕ) (Q : Marks → ℕ → Type 0) → Stands place body a b
       → ((j : ℕ) (marks : Marks) → Marking haystack body k j marks
       → Each haystack place end m b j (Behind Q marks))
@@ -57,8 +57,8 @@ module _ {A : Type 0} {haystack : Text} {place : A → Place A} {end : A}
       → ((k : ℕ) (marks : Marks) → Marking haystack (capture index name body) i k marks
       → Each haystack place end n exit k (Behind P marks))
       → Each haystack place end n enter i P
-  marked_group index name body enter exit i n P inside (first, close, opened, stands, closed)
-      follows =
+  marked_group index name body {enter} {exit} {i} {n} {P} inside
+      (first, close, opened, stands, closed) follows =
       let open_marks = marked (Some (2 * index)) i in
       by_mark final n enter first i (2 * index) P opened
       (inside first close i n (Behind P open_marks) stands (λ j inner m. (
@@ -102,7 +102,7 @@ module _ {A : Type 0} {haystack : Text} {place : A → Place A} {end : A}
         P regular.0 stands
         (λ k marks count low high made. follows k marks (count, low, high, made))
     marked_tree (capture index name body) enter exit i n P regular stands follows =
-        marked_group index name body enter exit i n P
+        marked_group index name body
         (λ a b k m Q s f. marked_tree body a b k m Q regular.1 s f) stands follows
     marked_tree (concat parts) enter exit i n P regular stands follows =
         marked_chain parts enter exit i n P regular.1 stands follows
@@ -170,7 +170,7 @@ marked_walk tree haystack i j arrows regular along =
 
     each : Each haystack place end_address (suc (length arrows)) start_address i P
     each =
-        marked_group refl 0 None tree start_address end_address i (suc (length arrows)) P
+        marked_group refl 0 None tree
         (λ a b k m Q s f. marked_tree refl tree a b k m Q regular s f)
         (whole_stands tree regular) over_at_end
 
