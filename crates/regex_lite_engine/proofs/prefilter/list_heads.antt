@@ -1,5 +1,6 @@
 -- lemmas that several proofs here share
 pub mod RowBitLemmas
+pub mod ColumnLemmas
 pub mod NumberLemmas
 pub mod IndexLemmas
 pub mod WalkLemmas
