@@ -1,6 +1,7 @@
 use Rattle.std.proofs.Common.{arith, rules, ◌+◌, ◌*◌, ◌≡◌, ◌∙◌, sym, ap, subst, map, length, set}
 use Rattle.std.proofs.Common.{IfOk, length-append}
 use Rattle.std.proofs.lemmas.List.{length-map, map-append, map-set}
+use Rattle.std.proofs.lemmas.Grind.{common_steps}
 use Rattle.regex_lite_syntax.specs.Tree.{Tree, repetition}
 use Rattle.regex_lite_syntax.specs.Tree.Views.{tree_of}
 use Rattle.regex_lite_engine.specs.Graph.Stored.{place_of}
@@ -10,6 +11,13 @@ use Rattle.regex_lite_syntax.specs.Tree.Properties.{nullable}
 use Rattle.regex_lite_syntax.proofs.TreeLemmas.{tree_of-Repetition}
 use Rattle.regex_lite_engine.proofs.nfa.write.RoomLemmas.{loop_room}
 use Rattle.regex_lite_engine.proofs.nfa.write.WrittenOverLemmas.{loop_written}
+use Rattle.regex_lite_syntax.proofs.TreeLemmas.{tree_of-Concat, tree_of-Alternation}
+use Rattle.regex_lite_syntax.specs.Tree.{trees, empty, character, look, concat, alternation}
+use Rattle.regex_lite_syntax.specs.Tree.Properties.{greatest_index}
+use Rattle.regex_lite_engine.specs.declared.nfa.place.Place.TheVariants as stored
+use Rattle.regex_lite_engine.proofs.nfa.write.OnePlaceLemmas.{tree_of-Empty, tree_of-Char}
+use Rattle.regex_lite_engine.proofs.nfa.write.OnePlaceLemmas.{tree_of-Look, tree_of-Capture}
+use Rattle.regex_lite_engine.proofs.nfa.write.OnePlaceLemmas.{one_added, one_more_place}
 use Rattle.regex_lite_engine.proofs.nfa.write.Writer.+write.Goals as goal
 
 pub write-returns-in-Repetition-clause-written : goal.write-returns-in-Repetition-clause-written
@@ -51,3 +59,214 @@ write_repetition-write_loop-requires t c =
     + own_places least most (nullable body)) c.in-None.is in
     let parts = loop_room least (places body) (nullable body) (search rules) in
     (search rules, (omega (arith, endless, parts, c.requires.room), c.requires.slots))
+
+pub write-add-requires : goal.write-add-requires
+write-add-requires t c =
+    omega (arith, c.requires.room, ap places (ap tree_of c.in-Empty.is ∙ tree_of-Empty))
+
+pub write-returns-in-Empty-clause-written : goal.write-returns-in-Empty-clause-written
+write-returns-in-Empty-clause-written t c =
+    let base = length c.args.self.now in
+    one_added c.add.result c.args.self.now c.add.new.self (stored.Empty c.args.exit) _
+    (ap (λ tree. layout tree base c.args.exit) (ap tree_of c.in-Empty.is ∙ tree_of-Empty))
+    c.add.ensures.number c.add.ensures.added
+
+pub write-returns-in-Empty-clause-grown : goal.write-returns-in-Empty-clause-grown
+write-returns-in-Empty-clause-grown t c =
+    one_more_place c.add.result c.args.self.now c.add.new.self (stored.Empty c.args.exit) _
+    (ap places (ap tree_of c.in-Empty.is ∙ tree_of-Empty)) c.add.ensures.added
+
+pub write-add-requires-in-Char : goal.write-add-requires-in-Char
+write-add-requires-in-Char t c =
+    omega (arith, c.requires.room, ap places (ap tree_of c.in-Char.is ∙ tree_of-Char c.in-Char.c))
+
+pub write-returns-in-Char-clause-written : goal.write-returns-in-Char-clause-written
+write-returns-in-Char-clause-written t c =
+    let base = length c.args.self.now in
+    one_added c.add-in-Char.result c.args.self.now c.add-in-Char.new.self (stored.Char c.in-Char.c c.args.exit) _
+    (ap (λ tree. layout tree base c.args.exit) (ap tree_of c.in-Char.is ∙ tree_of-Char c.in-Char.c))
+    c.add-in-Char.ensures.number c.add-in-Char.ensures.added
+
+pub write-returns-in-Char-clause-grown : goal.write-returns-in-Char-clause-grown
+write-returns-in-Char-clause-grown t c =
+    one_more_place c.add-in-Char.result c.args.self.now c.add-in-Char.new.self (stored.Char c.in-Char.c c.args.exit) _
+    (ap places (ap tree_of c.in-Char.is ∙ tree_of-Char c.in-Char.c)) c.add-in-Char.ensures.added
+
+pub write-add-requires-in-Look : goal.write-add-requires-in-Look
+write-add-requires-in-Look t c =
+    omega (arith, c.requires.room, ap places (ap tree_of c.in-Look.is ∙ tree_of-Look c.in-Look.look))
+
+pub write-returns-in-Look-clause-written : goal.write-returns-in-Look-clause-written
+write-returns-in-Look-clause-written t c =
+    let base = length c.args.self.now in
+    one_added c.add-in-Look.result c.args.self.now c.add-in-Look.new.self (stored.Look c.in-Look.look c.args.exit) _
+    (ap (λ tree. layout tree base c.args.exit) (ap tree_of c.in-Look.is ∙ tree_of-Look c.in-Look.look))
+    c.add-in-Look.ensures.number c.add-in-Look.ensures.added
+
+pub write-returns-in-Look-clause-grown : goal.write-returns-in-Look-clause-grown
+write-returns-in-Look-clause-grown t c =
+    one_more_place c.add-in-Look.result c.args.self.now c.add-in-Look.new.self (stored.Look c.in-Look.look c.args.exit) _
+    (ap places (ap tree_of c.in-Look.is ∙ tree_of-Look c.in-Look.look)) c.add-in-Look.ensures.added
+
+pub write-close_group-requires-clause-room : goal.write-close_group-requires-clause-room
+write-close_group-requires-clause-room t c =
+    let r = c.in-Capture in
+    omega (arith, c.requires.room, ap places (ap tree_of r.is ∙ tree_of-Capture r.index _ r.body))
+
+pub write-close_group-requires-clause-slot : goal.write-close_group-requires-clause-slot
+write-close_group-requires-clause-slot t c =
+    let r = c.in-Capture in
+    omega (
+      arith,
+      c.requires.slots,
+      ap greatest_index (ap tree_of r.is ∙ tree_of-Capture r.index _ r.body),
+    )
+
+pub write-open_group-requires-clause-slot : goal.write-open_group-requires-clause-slot
+write-open_group-requires-clause-slot t c =
+    let r = c.in-Capture in
+    omega (
+      arith,
+      c.requires.slots,
+      ap greatest_index (ap tree_of r.is ∙ tree_of-Capture r.index _ r.body),
+    )
+
+pub write-returns-in-Concat-clause-written : goal.write-returns-in-Concat-clause-written
+write-returns-in-Concat-clause-written t c =
+    let r = c.in-Concat in
+    let same : tree_of c.args.hir.now ≡ concat (trees (map tree_of c.deref-in-Concat.result.now)) =
+    ap tree_of r.is ∙ tree_of-Concat r.parts
+    ∙ ap (λ hirs. concat (trees (map tree_of hirs))) (sym c.deref-in-Concat.ensures.value) in
+    subst (λ (tree : Tree). IfOk c.write_concat.result (λ entry. IsAdded
+    (map place_of c.args.self.now) (map place_of c.write_concat.new.self) entry
+    (layout tree (length c.args.self.now) c.args.exit)))
+    (sym same) c.write_concat.ensures.written
+
+pub write-returns-in-Concat-clause-grown : goal.write-returns-in-Concat-clause-grown
+write-returns-in-Concat-clause-grown t c =
+    let r = c.in-Concat in
+    let same : tree_of c.args.hir.now ≡ concat (trees (map tree_of c.deref-in-Concat.result.now)) =
+    ap tree_of r.is ∙ tree_of-Concat r.parts
+    ∙ ap (λ hirs. concat (trees (map tree_of hirs))) (sym c.deref-in-Concat.ensures.value) in
+    subst (λ (tree : Tree). IfOk c.write_concat.result (λ _. length c.write_concat.new.self
+    ≡ length c.args.self.now + places tree)) (sym same) c.write_concat.ensures.grown
+
+pub write-returns-in-Alternation-clause-written : goal.write-returns-in-Alternation-clause-written
+write-returns-in-Alternation-clause-written t c =
+    let r = c.in-Alternation in
+    let same : tree_of c.args.hir.now ≡ alternation (trees (map tree_of c.deref-in-Alternation.result.now)) =
+    ap tree_of r.is ∙ tree_of-Alternation r.branches
+    ∙ ap (λ hirs. alternation (trees (map tree_of hirs))) (sym c.deref-in-Alternation.ensures.value) in
+    subst (λ (tree : Tree). IfOk c.write_alternation.result (λ entry. IsAdded
+    (map place_of c.args.self.now) (map place_of c.write_alternation.new.self) entry
+    (layout tree (length c.args.self.now) c.args.exit)))
+    (sym same) c.write_alternation.ensures.written
+
+pub write-returns-in-Alternation-clause-grown : goal.write-returns-in-Alternation-clause-grown
+write-returns-in-Alternation-clause-grown t c =
+    let r = c.in-Alternation in
+    let same : tree_of c.args.hir.now ≡ alternation (trees (map tree_of c.deref-in-Alternation.result.now)) =
+    ap tree_of r.is ∙ tree_of-Alternation r.branches
+    ∙ ap (λ hirs. alternation (trees (map tree_of hirs))) (sym c.deref-in-Alternation.ensures.value) in
+    subst (λ (tree : Tree). IfOk c.write_alternation.result (λ _. length c.write_alternation.new.self
+    ≡ length c.args.self.now + places tree)) (sym same) c.write_alternation.ensures.grown
+
+pub write-returns-in-Repetition-clause-grown : goal.write-returns-in-Repetition-clause-grown
+write-returns-in-Repetition-clause-grown t c =
+    let r = c.in-Repetition in
+    let same : tree_of c.args.hir.now
+    ≡ repetition r.least r.most r.greedy (tree_of c.deref.result.now) =
+    ap tree_of r.is ∙ tree_of-Repetition r.least r.most r.greedy r.body
+    ∙ ap (λ hir. repetition r.least r.most r.greedy (tree_of hir)) (sym c.deref.ensures) in
+    subst (λ (tree : Tree). IfOk c.write_repetition.result (λ _. length c.write_repetition.new.self
+    ≡ length c.args.self.now + places tree)) (sym same) c.write_repetition.ensures.grown
+
+-- The goals from here on need no lemma of their own. They have answers because the prover would
+-- try other calls first, which takes long
+pub write_alternation-loop-branch-preserved : goal.write_alternation-loop-branch-preserved
+write_alternation-loop-branch-preserved t c = grind (arith, common_steps)
+
+pub write_alternation-add-requires-2 : goal.write_alternation-add-requires-2
+write_alternation-add-requires-2 t c = grind (arith, common_steps)
+
+pub write_bounded-returns-then-least-eq0-clause-written :
+    goal.write_bounded-returns-then-least-eq0-clause-written
+write_bounded-returns-then-least-eq0-clause-written t c = grind (arith, common_steps)
+
+pub write_bounded-returns-then-least-eq0-clause-grown :
+    goal.write_bounded-returns-then-least-eq0-clause-grown
+write_bounded-returns-then-least-eq0-clause-grown t c = grind (arith, common_steps)
+
+pub write_bounded-write_choices-requires : goal.write_bounded-write_choices-requires
+write_bounded-write_choices-requires t c = grind (arith, common_steps)
+
+pub write_bounded-write_copies-requires-then-least-gt0 :
+    goal.write_bounded-write_copies-requires-then-least-gt0
+write_bounded-write_copies-requires-then-least-gt0 t c = grind (arith, common_steps)
+
+pub write_bounded-add-requires-else-most-eq1 : goal.write_bounded-add-requires-else-most-eq1
+write_bounded-add-requires-else-most-eq1 t c = grind (arith, common_steps)
+
+pub write_bounded-returns-then-least-gt0-clause-written :
+    goal.write_bounded-returns-then-least-gt0-clause-written
+write_bounded-returns-then-least-gt0-clause-written t c = grind (arith, common_steps)
+
+pub write_bounded-returns-then-least-gt0-clause-grown :
+    goal.write_bounded-returns-then-least-gt0-clause-grown
+write_bounded-returns-then-least-gt0-clause-grown t c = grind (arith, common_steps)
+
+pub write_bounded-returns-then-most-eq1-clause-written :
+    goal.write_bounded-returns-then-most-eq1-clause-written
+write_bounded-returns-then-most-eq1-clause-written t c = grind (arith, common_steps)
+
+pub write_bounded-returns-then-most-eq1-clause-grown :
+    goal.write_bounded-returns-then-most-eq1-clause-grown
+write_bounded-returns-then-most-eq1-clause-grown t c = grind (arith, common_steps)
+
+pub write_bounded-returns-else-most-eq1-clause-written :
+    goal.write_bounded-returns-else-most-eq1-clause-written
+write_bounded-returns-else-most-eq1-clause-written t c = grind (arith, common_steps)
+
+pub write_bounded-returns-else-most-eq1-clause-grown :
+    goal.write_bounded-returns-else-most-eq1-clause-grown
+write_bounded-returns-else-most-eq1-clause-grown t c = grind (arith, common_steps)
+
+pub write_choices-loop-i-preserved : goal.write_choices-loop-i-preserved
+write_choices-loop-i-preserved t c = grind (arith, common_steps)
+
+pub write_concat-loop-i-init : goal.write_concat-loop-i-init
+write_concat-loop-i-init t c = grind (arith, common_steps)
+
+pub write_concat-loop-i-preserved : goal.write_concat-loop-i-preserved
+write_concat-loop-i-preserved t c = grind (arith, common_steps)
+
+pub write_copies-loop-i-preserved : goal.write_copies-loop-i-preserved
+write_copies-loop-i-preserved t c = grind (arith, common_steps)
+
+pub write_loop-write-requires : goal.write_loop-write-requires
+write_loop-write-requires t c = grind (arith, common_steps)
+
+pub write_loop-replace-requires : goal.write_loop-replace-requires
+write_loop-replace-requires t c = grind (arith, common_steps)
+
+pub write_loop-returns-clause-body : goal.write_loop-returns-clause-body
+write_loop-returns-clause-body t c = grind (arith, common_steps)
+
+pub write_loop-returns-clause-grown : goal.write_loop-returns-clause-grown
+write_loop-returns-clause-grown t c = grind (arith, common_steps)
+
+pub write_repetition-returns-in_ok-inner-in-None-clause-written :
+    goal.write_repetition-returns-in_ok-inner-in-None-clause-written
+write_repetition-returns-in_ok-inner-in-None-clause-written t c = grind (arith, common_steps)
+
+pub write_star-write_loop-requires-2 : goal.write_star-write_loop-requires-2
+write_star-write_loop-requires-2 t c = grind (arith, common_steps)
+
+pub write_star-add-requires-2 : goal.write_star-add-requires-2
+write_star-add-requires-2 t c = grind (arith, common_steps)
+
+pub write_star-returns-clause-written : goal.write_star-returns-clause-written
+write_star-returns-clause-written t c = grind (arith, common_steps)
+
+pub write_star-returns-clause-grown : goal.write_star-returns-clause-grown
+write_star-returns-clause-grown t c = grind (arith, common_steps)

@@ -1,0 +1,51 @@
+-- The trees that are written as one place, and what is written for them.
+use Rattle.std.proofs.Common.{◌≡◌, ◌++◌, ◌∷◌, [], ℕ, ◌+◌, List, Option, Result, Ok, Err, IfOk}
+use Rattle.std.proofs.Common.{length, map, option_map, ap, sym, ◌∙◌, Box, Global, length-append}
+use Rattle.std.proofs.lemmas.List.{map-append}
+use Rattle.std.specs.declared.rc.RcStr.{RcStr}
+use Rattle.regex_lite_syntax.specs.Tree.{Tree, empty, character, look, capture}
+use Rattle.regex_lite_syntax.specs.Tree.Views.{tree_of, node_tree, text_of_name}
+use Rattle.regex_lite_syntax.specs.declared.hir.Hir.{Hir, Hir-F, fold-roll-Hir}
+use Rattle.regex_lite_syntax.specs.declared.hir.Hir.TheVariants as hir
+use Rattle.regex_lite_syntax.specs.declared.hir.look.Look.{Look}
+use Rattle.regex_lite_engine.specs.declared.nfa.place.Place.{Place}
+use Rattle.regex_lite_engine.specs.Graph.Stored.{place_of}
+use Rattle.regex_lite_engine.specs.Nfa.Layout.{Fragment, IsAdded, alone}
+
+pub tree_of-Empty : tree_of hir.Empty ≡ empty
+tree_of-Empty = ap tree_of (sym hir.rolls-Empty) ∙ fold-roll-Hir Tree node_tree Hir-F.Empty
+
+pub tree_of-Char : (c : ℕ) → tree_of (hir.Char c) ≡ character c
+tree_of-Char c =
+    ap tree_of (sym (hir.rolls-Char c)) ∙ fold-roll-Hir Tree node_tree (Hir-F.Char c)
+
+pub tree_of-Look : (test : Look) → tree_of (hir.Look test) ≡ look test
+tree_of-Look test =
+    ap tree_of (sym (hir.rolls-Look test)) ∙ fold-roll-Hir Tree node_tree (Hir-F.Look test)
+
+pub tree_of-Capture : (index : ℕ) (name : Option (RcStr Global)) (body : Box Hir Global)
+    → tree_of (hir.Capture index name body)
+    ≡ capture index (option_map text_of_name name) (tree_of body.value)
+tree_of-Capture index name body =
+    ap tree_of (sym (hir.rolls-Capture index name body))
+    ∙ fold-roll-Hir Tree node_tree (Hir-F.Capture index name body)
+
+-- the place is added, and entered
+pub one_added : {E : Type 0} (result : Result ℕ E) (old new : List Place) (place : Place)
+    (written : Fragment) → written ≡ alone (place_of place) (length old)
+    → IfOk result (λ number. number ≡ length old) → IfOk result (λ _. new ≡ old ++ place ∷ [])
+    → IfOk result (λ entry. IsAdded (map place_of old) (map place_of new) entry written)
+one_added (Ok number) old new place written is at added = (
+  at ∙ ap (λ (part : Fragment). part.1) (sym is),
+  ap (map place_of) added ∙ map-append place_of old (place ∷ [])
+      ∙ ap (λ (part : Fragment). map place_of old ++ part.0) (sym is),
+)
+one_added (Err e) old new place written is at added = tt
+
+-- and there is one place more
+pub one_more_place : {E : Type 0} (result : Result ℕ E) (old new : List Place) (place : Place)
+    (n : ℕ) → n ≡ 1 → IfOk result (λ _. new ≡ old ++ place ∷ [])
+    → IfOk result (λ _. length new ≡ length old + n)
+one_more_place (Ok number) old new place n one added =
+    ap length added ∙ length-append old (place ∷ []) ∙ ap (λ k. length old + k) (sym one)
+one_more_place (Err e) old new place n one added = tt
