@@ -83,29 +83,35 @@ write-add-requires-in-Char t c =
 pub write-returns-in-Char-clause-written : goal.write-returns-in-Char-clause-written
 write-returns-in-Char-clause-written t c =
     let base = length c.args.self.now in
-    one_added c.add-in-Char.result c.args.self.now c.add-in-Char.new.self (stored.Char c.in-Char.c c.args.exit) _
+    one_added c.add-in-Char.result c.args.self.now c.add-in-Char.new.self
+    (stored.Char c.in-Char.c c.args.exit) _
     (ap (λ tree. layout tree base c.args.exit) (ap tree_of c.in-Char.is ∙ tree_of-Char c.in-Char.c))
     c.add-in-Char.ensures.number c.add-in-Char.ensures.added
 
 pub write-returns-in-Char-clause-grown : goal.write-returns-in-Char-clause-grown
 write-returns-in-Char-clause-grown t c =
-    one_more_place c.add-in-Char.result c.args.self.now c.add-in-Char.new.self (stored.Char c.in-Char.c c.args.exit) _
+    one_more_place c.add-in-Char.result c.args.self.now c.add-in-Char.new.self
+    (stored.Char c.in-Char.c c.args.exit) _
     (ap places (ap tree_of c.in-Char.is ∙ tree_of-Char c.in-Char.c)) c.add-in-Char.ensures.added
 
 pub write-add-requires-in-Look : goal.write-add-requires-in-Look
 write-add-requires-in-Look t c =
-    omega (arith, c.requires.room, ap places (ap tree_of c.in-Look.is ∙ tree_of-Look c.in-Look.look))
+    let r = c.in-Look in
+    omega (arith, c.requires.room, ap places (ap tree_of r.is ∙ tree_of-Look r.look))
 
 pub write-returns-in-Look-clause-written : goal.write-returns-in-Look-clause-written
 write-returns-in-Look-clause-written t c =
     let base = length c.args.self.now in
-    one_added c.add-in-Look.result c.args.self.now c.add-in-Look.new.self (stored.Look c.in-Look.look c.args.exit) _
-    (ap (λ tree. layout tree base c.args.exit) (ap tree_of c.in-Look.is ∙ tree_of-Look c.in-Look.look))
+    one_added c.add-in-Look.result c.args.self.now c.add-in-Look.new.self
+    (stored.Look c.in-Look.look c.args.exit) _
+    (ap (λ tree. layout tree base c.args.exit)
+    (ap tree_of c.in-Look.is ∙ tree_of-Look c.in-Look.look))
     c.add-in-Look.ensures.number c.add-in-Look.ensures.added
 
 pub write-returns-in-Look-clause-grown : goal.write-returns-in-Look-clause-grown
 write-returns-in-Look-clause-grown t c =
-    one_more_place c.add-in-Look.result c.args.self.now c.add-in-Look.new.self (stored.Look c.in-Look.look c.args.exit) _
+    one_more_place c.add-in-Look.result c.args.self.now c.add-in-Look.new.self
+    (stored.Look c.in-Look.look c.args.exit) _
     (ap places (ap tree_of c.in-Look.is ∙ tree_of-Look c.in-Look.look)) c.add-in-Look.ensures.added
 
 pub write-close_group-requires-clause-room : goal.write-close_group-requires-clause-room
@@ -154,9 +160,10 @@ write-returns-in-Concat-clause-grown t c =
 pub write-returns-in-Alternation-clause-written : goal.write-returns-in-Alternation-clause-written
 write-returns-in-Alternation-clause-written t c =
     let r = c.in-Alternation in
-    let same : tree_of c.args.hir.now ≡ alternation (trees (map tree_of c.deref-in-Alternation.result.now)) =
+    let parts = c.deref-in-Alternation in
+    let same : tree_of c.args.hir.now ≡ alternation (trees (map tree_of parts.result.now)) =
     ap tree_of r.is ∙ tree_of-Alternation r.branches
-    ∙ ap (λ hirs. alternation (trees (map tree_of hirs))) (sym c.deref-in-Alternation.ensures.value) in
+    ∙ ap (λ hirs. alternation (trees (map tree_of hirs))) (sym parts.ensures.value) in
     subst (λ (tree : Tree). IfOk c.write_alternation.result (λ entry. IsAdded
     (map place_of c.args.self.now) (map place_of c.write_alternation.new.self) entry
     (layout tree (length c.args.self.now) c.args.exit)))
@@ -165,11 +172,13 @@ write-returns-in-Alternation-clause-written t c =
 pub write-returns-in-Alternation-clause-grown : goal.write-returns-in-Alternation-clause-grown
 write-returns-in-Alternation-clause-grown t c =
     let r = c.in-Alternation in
-    let same : tree_of c.args.hir.now ≡ alternation (trees (map tree_of c.deref-in-Alternation.result.now)) =
+    let parts = c.deref-in-Alternation in
+    let same : tree_of c.args.hir.now ≡ alternation (trees (map tree_of parts.result.now)) =
     ap tree_of r.is ∙ tree_of-Alternation r.branches
-    ∙ ap (λ hirs. alternation (trees (map tree_of hirs))) (sym c.deref-in-Alternation.ensures.value) in
-    subst (λ (tree : Tree). IfOk c.write_alternation.result (λ _. length c.write_alternation.new.self
-    ≡ length c.args.self.now + places tree)) (sym same) c.write_alternation.ensures.grown
+    ∙ ap (λ hirs. alternation (trees (map tree_of hirs))) (sym parts.ensures.value) in
+    subst (λ (tree : Tree). IfOk c.write_alternation.result
+    (λ _. length c.write_alternation.new.self ≡ length c.args.self.now + places tree))
+    (sym same) c.write_alternation.ensures.grown
 
 pub write-returns-in-Repetition-clause-grown : goal.write-returns-in-Repetition-clause-grown
 write-returns-in-Repetition-clause-grown t c =
