@@ -2,7 +2,10 @@
 use Rattle.std.proofs.Common.{◌≡◌, ◌==◌, ℕ, ◌+◌, ◌<◌, ◌≤◌, Bool, true, false, ◌&&◌, ◌||◌}
 use Rattle.std.proofs.Common.{arith}
 use Rattle.std.proofs.lemmas.Bool.Decides.{nat_tests}
-use Rattle.regex_lite_engine.specs.Prefilter.Rows.{is_in_column}
+use Rattle.regex_lite_engine.specs.declared.prefilter.heads.Heads.{Heads}
+use Rattle.regex_lite_engine.specs.Prefilter.Rows.{belongs, goes_on_with, is_in_column}
+use Rattle.regex_lite_engine.specs.Prefilter.Rows.{row_count, start_row}
+use Rattle.regex_lite_engine.specs.Prefilter.Starts.{begins_with}
 
 -- a character that passes the test adds its row
 pub one_more_row : (test : ℕ → Bool) (base k r : ℕ) → test k ≡ true
@@ -20,3 +23,17 @@ pub one_more_bit : (before now next here : Bool) (old new at : Bool)
     → now ≡ (before || (here && old)) → next ≡ (now || (here && at)) → new ≡ (old || at)
     → next ≡ (before || (here && new))
 one_more_bit before now next here old new at is then more = grind (arith, nat_tests)
+
+-- a bit that is set under a test that doesn't hold
+pub no_more_bit : (before here test at : Bool) → test ≡ false
+    → before ≡ (before || (here && (test && at)))
+no_more_bit before here test at fails = grind (arith, nat_tests)
+
+-- the rows of the first characters, those of the second ones and the one of the start are set
+pub belongs_now : (heads : Heads) (r : ℕ) (before first second after here : Bool) → r < row_count
+    → first ≡ (before || (here && is_in_column (begins_with heads.first) 0 129 r))
+    → second ≡ (first || (here && is_in_column (goes_on_with heads.second) 129 129 r))
+    → after ≡ (second || (here && (heads.first.at_start && r == start_row)))
+    → after ≡ (before || (here && belongs heads r))
+belongs_now heads r before first second after here inside one two three =
+    grind (arith, nat_tests)
