@@ -12,7 +12,7 @@ use Rattle.regex_lite_syntax.proofs.TreeLemmas.{tree_of-Repetition}
 use Rattle.regex_lite_engine.proofs.nfa.write.RoomLemmas.{loop_room}
 use Rattle.regex_lite_engine.proofs.nfa.write.WrittenOverLemmas.{loop_written}
 use Rattle.regex_lite_syntax.proofs.TreeLemmas.{tree_of-Concat, tree_of-Alternation}
-use Rattle.regex_lite_syntax.specs.Tree.{trees, empty, character, look, concat, alternation}
+use Rattle.regex_lite_syntax.specs.Tree.{trees, concat, alternation}
 use Rattle.regex_lite_syntax.specs.Tree.Properties.{greatest_index}
 use Rattle.regex_lite_engine.specs.declared.nfa.place.Place.TheVariants as stored
 use Rattle.regex_lite_engine.proofs.nfa.write.OnePlaceLemmas.{tree_of-Empty, tree_of-Char}
