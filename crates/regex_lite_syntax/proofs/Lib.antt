@@ -1,6 +1,7 @@
 -- lemmas that several modules use
 pub mod CharacterLemmas
 pub mod CharacterSetLemmas
+pub mod ExitLemmas
 pub mod LetterCaseLemmas
 pub mod ListLemmas
 pub mod NameTableLemmas

@@ -39,14 +39,6 @@ past_opening t past rest name opens named =
     subst (λ u. NameWritten u rest name)
     (opening_once t named.past past named.opens opens) named.called
 
--- past `?<` stands a character that may begin a name
-pub named_begins : (t past rest name : Text) (c : ℕ) → t ≡ the "?" ∷ the "<" ∷ c ∷ past
-    → Named t rest name
-    → IsTrue (begins_name c)
-named_begins t past rest name c here named =
-    let written = past_opening t (c ∷ past) rest name (without_p here) named in
-    (first_of_name c past refl written).0
-
 pub no_names_differ : NamesDiffer []
 no_names_differ i j d before inside same = omega (arith, inside)
 

@@ -75,25 +75,6 @@ end_of_fault flags t start low high end above inside goes_on e =
           ];
     }
 
-openings_of_first : (k : ℕ) (t : Text) → openings (take k t) ≤ openings t
-openings_of_first zero t = omega arith
-openings_of_first (suc k) [] = omega arith
-openings_of_first (suc k) (c ∷ t) =
-    let fewer = openings_of_first k t in
-    omega (arith, fewer, parens_more c (take k t), parens_more c t)
-
--- what is refused unread at the pattern's beginning is refused in the pattern
-pub unread_longer : (k : ℕ) (t : Text) (e : ErrorKind) → IsRefusedUnread (take k t) e
-    → IsRefusedUnread t e
-unread_longer k t kind.Groups many = let fewer = openings_of_first k t in omega (arith, fewer, many)
-unread_longer k t kind.Memory says = tt
-unread_longer k t kind.Syntax says = absurd says
-unread_longer k t kind.Nesting says = absurd says
-unread_longer k t kind.Size says = absurd says
-unread_longer k t kind.Places says = absurd says
-unread_longer k t kind.Slots says = absurd says
-unread_longer k t kind.Replace says = absurd says
-
 -- and where the pattern begins no accepted one, the fault can't be told
 pub unread_untold : (flags : Flags) (t : Text) (e : ErrorKind) → BeginsNone flags t
     → IsRefusedUnread t e → IsUntold flags t e

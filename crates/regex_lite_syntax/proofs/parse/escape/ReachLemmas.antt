@@ -22,12 +22,6 @@ abbrev pub highest : (digits number : ℕ) → ℕ
 highest zero number = number
 highest (suc k) number = highest k number * 16 + 15
 
-pub lowest_next : (k number : ℕ) → lowest (k + 1) number ≡ lowest k number * 16
-lowest_next k number = rw add-one refl
-
-pub highest_next : (k number : ℕ) → highest (k + 1) number ≡ highest k number * 16 + 15
-highest_next k number = rw add-one refl
-
 -- the least digit, or the greatest, may be added before the others as well as after them
 lowest_first : (k number : ℕ) → lowest k (number * 16) ≡ lowest (suc k) number
 lowest_first zero number = refl

@@ -12,6 +12,7 @@ use Rattle.regex_lite_syntax.specs.Tree.Views.{tree_of}
 use Rattle.regex_lite_syntax.specs.Grammar.GroupNames.{NamesDiffer}
 use Rattle.regex_lite_syntax.specs.Parser.Machine.{stay}
 use Rattle.regex_lite_syntax.specs.Parser.States.{Finishes, FinishesTooDeep}
+use Rattle.regex_lite_syntax.proofs.ExitLemmas.{at_exit}
 use Rattle.regex_lite_syntax.proofs.parse.IndexLemmas.{drop_at}
 use Rattle.regex_lite_syntax.proofs.grammar.NameLemmas.{no_names_differ}
 use Rattle.regex_lite_syntax.proofs.machine.RunLemmas.{reaches_next, open_too_deep}
@@ -117,8 +118,7 @@ returns-in_err-at-clause-refused c =
     let inside : here < length xs =
     omega (arith, c.if-here-chars.false, c.skip_gap-here.ensures.inside) in
     let more : drop here xs ≡ [] → ⊥ = λ e. cc (e, drop_at xs here inside) in
-    let left = err_from_is_err_and c.from_residual.result c.from_residual.ensures.1 in
-    rw (left.1, left.2)
+    at_exit _ _ c.from_residual.ensures.1
     (step_says config.flags config.nest_limit xs c.loop-parser.parser (drop c.loop-parser.at xs)
     (drop here xs)
     _ c.loop-parser.invariant.reaches c.skip_gap-here.ensures.gap more

@@ -1,11 +1,11 @@
 use Rattle.std.proofs.Common.{refl, ℕ, sym, ◌∙◌, ap, subst, map, arith, drop, ◌+◌, ◌++◌}
-use Rattle.std.proofs.lemmas.Result.{err_from_is_err_and}
 use Rattle.regex_lite_syntax.specs.Text.{Text}
 use Rattle.regex_lite_syntax.specs.Grammar.Gaps.{Gap}
 use Rattle.regex_lite_syntax.specs.Grammar.Operators.{greed, counted_lazy}
 use Rattle.regex_lite_syntax.specs.Tree.Views.{tree_of}
 use Rattle.regex_lite_syntax.specs.Parser.Machine.{with_items}
 use Rattle.regex_lite_syntax.specs.Parser.States.{state}
+use Rattle.regex_lite_syntax.proofs.ExitLemmas.{at_exit}
 use Rattle.regex_lite_syntax.proofs.grammar.OperatorLemmas.{counted_greedy}
 use Rattle.regex_lite_syntax.proofs.machine.StateLemmas.{map_pushed, none_left}
 use Rattle.regex_lite_syntax.proofs.machine.ReadStepLemmas.{reads_repeated, reads_no_counted}
@@ -24,17 +24,15 @@ returns-in_default-clause-refused c =
 
 pub returns-in_err-end-clause-refused : goal.returns-in_err-end-clause-refused
 returns-in_err-end-clause-refused c =
-    let left = err_from_is_err_and c.from_residual.result c.from_residual.ensures.1 in
-    rw (left.1, left.2)
+    at_exit _ _ c.from_residual.ensures.1
     (λ more follows. reads_no_counts c.args.self.now _ _ (ap (λ t. t ++ more) c.requires.begins)
     (λ past least most counted.
     c.in_err-end.ensures.refused more follows (past, least, most, counted)))
 
 pub returns-in_err-end-clause-completes : goal.returns-in_err-end-clause-completes
 returns-in_err-end-clause-completes c =
-    let left = err_from_is_err_and c.from_residual.result c.from_residual.ensures.1 in
     let pushed = map_pushed tree_of _ _ _ c.in-Some.ensures.items in
-    rw (left.1, left.2)
+    at_exit _ _ c.from_residual.ensures.1
     (λ short. counts_read_on c.args.self.now _ _ _ _ c.requires.begins pushed
     (c.in_err-end.ensures.completes short))
 

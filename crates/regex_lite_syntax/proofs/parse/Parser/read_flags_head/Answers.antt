@@ -1,6 +1,5 @@
 use Rattle.std.proofs.Common.{inl, inr, ◌⊎◌, ◌≡◌, ◌≢◌, Bool, ◌∷◌, ◌+◌}
 use Rattle.std.proofs.Common.{sym, ◌∙◌, ap, subst, refl, drop, arith}
-use Rattle.std.proofs.lemmas.Result.{err_from_is_err_and}
 use Rattle.regex_lite_syntax.specs.declared.error.syntax.SyntaxFault.TheVariants.{
   EmptyFlags,
 }
@@ -8,6 +7,7 @@ use Rattle.regex_lite_syntax.specs.Text.{Text, Begins, the}
 use Rattle.regex_lite_syntax.specs.Grammar.Gaps.{Gap, WholeGap}
 use Rattle.regex_lite_syntax.specs.Grammar.FlagLetters.{FlagLetters}
 use Rattle.regex_lite_syntax.specs.Parser.NameOpenings.{EndsInOpening}
+use Rattle.regex_lite_syntax.proofs.ExitLemmas.{at_exit}
 use Rattle.regex_lite_syntax.proofs.parse.IndexLemmas.{drop_begins}
 use Rattle.regex_lite_syntax.proofs.grammar.NewNameLemmas.{opening_completes}
 use Rattle.regex_lite_syntax.proofs.machine.CompletedHeadLemmas.{reads_on_name, reads_on_flags}
@@ -23,8 +23,8 @@ returns-then-is_at-clause-refused c =
 
 pub returns-in_err-end-clause-refused : goal.returns-in_err-end-clause-refused
 returns-in_err-end-clause-refused c =
-    let left = err_from_is_err_and c.from_residual.result c.from_residual.ensures.1 in
-    rw (left.1, left.2) (reads_no_flags c.in_err-end.field-0.0 c.args.self.now _ _ _ _
+    at_exit _ _ c.from_residual.ensures.1
+    (reads_no_flags c.in_err-end.field-0.0 c.args.self.now _ _ _ _
     c.requires.begins c.requires.gap c.requires.question c.requires.unnamed
     c.in_err-end.ensures.cut_short c.in_err-end.ensures.refused)
 
@@ -32,8 +32,7 @@ pub returns-in_err-end-clause-completes : goal.returns-in_err-end-clause-complet
 returns-in_err-end-clause-completes c =
     let p = c.args.self.now in
     let question = c.requires.question in
-    let left = err_from_is_err_and c.from_residual.result c.from_residual.ensures.1 in
-    rw (left.1, left.2) (λ short. elim (c.in_err-end.ensures.completes short) [
+    at_exit _ _ c.from_residual.ensures.1 (λ short. elim (c.in_err-end.ensures.completes short) [
       | inl inside ↦ reads_on_name p _ _ _ _ c.requires.begins c.requires.gap question
           (opening_completes p.names _ (subst (λ t. EndsInOpening t) (sym question) inside))
       | inr flags ↦ reads_on_flags p _ _ _ _ c.requires.begins c.requires.gap question flags

@@ -1,14 +1,14 @@
 use Rattle.std.proofs.Common.{drop, ◌+◌, arith}
-use Rattle.std.proofs.lemmas.Result.{err_from_is_err_and}
+use Rattle.regex_lite_syntax.proofs.ExitLemmas.{at_exit}
 use Rattle.regex_lite_syntax.proofs.parse.DenialLemmas.{number_refuses}
 use Rattle.regex_lite_syntax.proofs.machine.ReadHeadLemmas.{reads_numbered, begins_numbered}
 use Rattle.regex_lite_syntax.proofs.parse.Parser.read_group_head.Goals as goal
 
 pub returns-in_err-open_capture-clause-refused : goal.returns-in_err-open_capture-clause-refused
 returns-in_err-open_capture-clause-refused c =
-    let left = err_from_is_err_and c.from_residual.result c.from_residual.ensures.1 in
     let none = c.is_at.ensures.absent c.if-not-is_at.true in
-    rw (left.1, left.2) (number_refuses c.in_err-open_capture.field-0.0 c.args.self.now _
+    at_exit _ _ c.from_residual.ensures.1
+    (number_refuses c.in_err-open_capture.field-0.0 c.args.self.now _
     c.in_err-open_capture.ensures.refused
     (begins_numbered c.args.self.now _ _ _ c.requires.begins c.skip_gap-first.ensures.gap none))
 

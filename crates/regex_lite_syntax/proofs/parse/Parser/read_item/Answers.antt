@@ -1,10 +1,10 @@
 use Rattle.std.proofs.Common.{drop}
-use Rattle.std.proofs.lemmas.Result.{err_from_is_err_and}
 use Rattle.regex_lite_syntax.specs.Refusals.{Completable}
 use Rattle.regex_lite_syntax.specs.Text.{Text}
 use Rattle.regex_lite_syntax.specs.Grammar.Atoms.{Atom}
 use Rattle.regex_lite_syntax.specs.Tree.{Tree}
 use Rattle.regex_lite_syntax.specs.Parser.States.{CanRead, CanReadOn}
+use Rattle.regex_lite_syntax.proofs.ExitLemmas.{at_exit}
 use Rattle.regex_lite_syntax.proofs.parse.DenialLemmas.{denial_refuses}
 use Rattle.regex_lite_syntax.proofs.parse.CompletionLemmas.{cut_short_says}
 use Rattle.regex_lite_syntax.proofs.machine.CompletedStepLemmas.{reads_on_atom}
@@ -14,8 +14,7 @@ use Rattle.regex_lite_syntax.proofs.parse.Parser.read_item.Goals as goal
 pub returns-in_err-end-clause-refused : goal.returns-in_err-end-clause-refused
 returns-in_err-end-clause-refused c =
     let p = c.args.self.now in
-    let left = err_from_is_err_and c.from_residual.result c.from_residual.ensures.1 in
-    rw (left.1, left.2) (denial_refuses c.in_err-end.field-0.0
+    at_exit _ _ c.from_residual.ensures.1 (denial_refuses c.in_err-end.field-0.0
     (λ t. (rest : Text) × (a : Tree) × Atom p.here.flags t rest a) (CanRead p) _ _ _ _
     (λ more. reads_item p _ more c.requires.past_gap c.requires.begins)
     c.in_err-end.ensures.refused)
@@ -24,8 +23,7 @@ pub returns-in_err-end-clause-completes : goal.returns-in_err-end-clause-complet
 returns-in_err-end-clause-completes c =
     let p = c.args.self.now in
     let t = drop c.args.at c.args.chars.now in
-    let left = err_from_is_err_and c.from_residual.result c.from_residual.ensures.1 in
-    rw (left.1, left.2) (cut_short_says c.in_err-end.field-0.0
+    at_exit _ _ c.from_residual.ensures.1 (cut_short_says c.in_err-end.field-0.0
     (Completable (λ t rest. (a : Tree) × Atom p.here.flags t rest a) t) (CanReadOn p t)
     (reads_on_atom p t) c.in_err-end.ensures.completes)
 

@@ -1,11 +1,11 @@
 use Rattle.std.proofs.Common.{true, false, ◌≡◌, sym, subst, Contains, drop, arith}
-use Rattle.std.proofs.lemmas.Result.{err_from_is_err_and}
 use Rattle.regex_lite_syntax.specs.declared.error.syntax.SyntaxFault.TheVariants.{
   DuplicateCaptureName,
 }
 use Rattle.regex_lite_syntax.specs.Text.{Text}
 use Rattle.regex_lite_syntax.specs.Grammar.GroupNames.{NameOpening, NameWritten, Named}
 use Rattle.regex_lite_syntax.specs.Tree.Views.{text_of_name}
+use Rattle.regex_lite_syntax.proofs.ExitLemmas.{at_exit}
 use Rattle.regex_lite_syntax.proofs.parse.DenialLemmas.{number_refuses}
 use Rattle.regex_lite_syntax.proofs.grammar.NameOpeningLemmas.{opening_question}
 use Rattle.regex_lite_syntax.proofs.grammar.NewNameLemmas.{named_completes}
@@ -16,8 +16,7 @@ use Rattle.regex_lite_syntax.proofs.parse.Parser.read_named_head.Goals as goal
 
 pub returns-in_err-end-clause-refused : goal.returns-in_err-end-clause-refused
 returns-in_err-end-clause-refused c =
-    let left = err_from_is_err_and c.from_residual.result c.from_residual.ensures.1 in
-    rw (left.1, left.2)
+    at_exit _ _ c.from_residual.ensures.1
     (reads_no_name c.in_err-end.field-0.0 c.args.self.now _ _ _ _ c.requires.begins c.requires.gap
     c.requires.opens c.in_err-end.ensures.refused)
 
@@ -25,8 +24,8 @@ pub returns-in_err-end-clause-completes : goal.returns-in_err-end-clause-complet
 returns-in_err-end-clause-completes c =
     let p = c.args.self.now in
     let question = opening_question _ _ c.requires.opens in
-    let left = err_from_is_err_and c.from_residual.result c.from_residual.ensures.1 in
-    rw (left.1, left.2) (λ short. reads_on_name p _ _ _ _ c.requires.begins c.requires.gap
+    at_exit _ _ c.from_residual.ensures.1
+    (λ short. reads_on_name p _ _ _ _ c.requires.begins c.requires.gap
     question.1 (named_completes p.names _ _ c.requires.opens
     (c.in_err-end.ensures.completes p.names short)))
 
@@ -46,9 +45,8 @@ returns-in_err-open_capture-clause-refused c =
     let name = text_of_name c.in_ok-name.name in
     let named =
     named_from _ _ _ name _ c.requires.opens c.in_ok-end.ensures.ok c.in_ok-name.ensures in
-    let left = err_from_is_err_and c.from_residual-in_err-open_capture.result
-    c.from_residual-in_err-open_capture.ensures.1 in
-    rw (left.1, left.2) (number_refuses c.in_err-open_capture.field-0.0 c.args.self.now _
+    at_exit _ _ c.from_residual-in_err-open_capture.ensures.1
+    (number_refuses c.in_err-open_capture.field-0.0 c.args.self.now _
     c.in_err-open_capture.ensures.refused
     (begins_named c.args.self.now _ _ _ _ name c.requires.begins c.requires.gap named))
 

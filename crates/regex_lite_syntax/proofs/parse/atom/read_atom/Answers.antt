@@ -1,10 +1,10 @@
 use Rattle.std.proofs.Common.{rules, refl, ◌∙◌, ap, arith, drop, ◌+◌, ◌∷◌, ◌++◌}
-use Rattle.std.proofs.lemmas.Result.{err_from_is_err_and}
 use Rattle.regex_lite_syntax.specs.Text.{Text, the}
 use Rattle.regex_lite_syntax.specs.Sets.{Set}
 use Rattle.regex_lite_syntax.specs.Grammar.Classes.{BracketedClass}
 use Rattle.regex_lite_syntax.specs.Grammar.Atoms.{bracketed, Atom}
 use Rattle.regex_lite_syntax.specs.Tree.{Tree}
+use Rattle.regex_lite_syntax.proofs.ExitLemmas.{at_exit}
 use Rattle.regex_lite_syntax.proofs.grammar.AtomLemmas.{by_kind, NoSign, no_escape}
 use Rattle.regex_lite_syntax.proofs.CharacterLemmas.{left_are}
 use Rattle.regex_lite_syntax.proofs.parse.DenialLemmas.{denies_part}
@@ -20,10 +20,7 @@ returns-in_err-end-in-92-clause-refused c =
     let xs = c.args.chars.now in
     let here = drop_char xs c.args.at _ c.requires.inside c.index-chars-at.is in
     let backslash = here ∙ ap (λ d. d ∷ drop (c.args.at + 1) xs) c.in-92.is in
-    let left = err_from_is_err_and c.from_residual-in_err-end-in-92.result
-    c.from_residual-in_err-end-in-92.ensures.1 in
-    rw (left.1, left.2)
-    (λ more follows (rest, a, atom).
+    at_exit _ _ c.from_residual-in_err-end-in-92.ensures.1 (λ more follows (rest, a, atom).
     no_escape c.args.flags _ _ rest a (ap (λ u. u ++ more) backslash)
     (λ past p escape.
     c.in_err-end-in-92.ensures.refused more follows (past, p, escape, search rules)) atom)
@@ -34,10 +31,7 @@ returns-in_err-end-in-91-clause-refused c =
     let flags = c.args.flags in
     let here = drop_char xs c.args.at _ c.requires.inside c.index-chars-at.is in
     let bracket = here ∙ ap (λ d. d ∷ drop (c.args.at + 1) xs) c.in-91.is in
-    let left = err_from_is_err_and c.from_residual-in_err-end-in-91.result
-    c.from_residual-in_err-end-in-91.ensures.1 in
-    rw (left.1, left.2)
-    (denies_part c.in_err-end-in-91.field-0.0
+    at_exit _ _ c.from_residual-in_err-end-in-91.ensures.1 (denies_part c.in_err-end-in-91.field-0.0
     (λ t. (rest : Text) × (s : Set)
     × BracketedClass flags.case_insensitive flags.ignore_whitespace t rest s)
     (λ t. (rest : Text) × (a : Tree) × Atom flags t rest a) _ _
@@ -64,9 +58,7 @@ returns-in_err-end-in-92-clause-completes c =
     let xs = c.args.chars.now in
     let here = drop_char xs c.args.at _ c.requires.inside c.index-chars-at.is in
     let backslash = here ∙ ap (λ d. d ∷ drop (c.args.at + 1) xs) c.in-92.is in
-    let left = err_from_is_err_and c.from_residual-in_err-end-in-92.result
-    c.from_residual-in_err-end-in-92.ensures.1 in
-    rw (left.1, left.2)
+    at_exit _ _ c.from_residual-in_err-end-in-92.ensures.1
     (λ short. completed_escape c.args.flags (drop c.args.at xs) (drop (c.args.at + 1) xs) backslash
     (c.in_err-end-in-92.ensures.completes short))
 
@@ -75,10 +67,8 @@ returns-in_err-end-in-91-clause-completes c =
     let xs = c.args.chars.now in
     let here = drop_char xs c.args.at _ c.requires.inside c.index-chars-at.is in
     let bracket = here ∙ ap (λ d. d ∷ drop (c.args.at + 1) xs) c.in-91.is in
-    let left = err_from_is_err_and c.from_residual-in_err-end-in-91.result
-    c.from_residual-in_err-end-in-91.ensures.1 in
     let characters = left_are c.args.at xs c.requires.characters in
-    rw (left.1, left.2)
+    at_exit _ _ c.from_residual-in_err-end-in-91.ensures.1
     (cut_short_says c.in_err-end-in-91.field-0.0 _ _
     (completed_class c.args.flags (drop c.args.at xs) (drop (c.args.at + 1) xs) bracket characters)
     c.in_err-end-in-91.ensures.completes)

@@ -1,11 +1,11 @@
 use Rattle.std.proofs.Common.{◌≡◌, sym, subst, drop, List, ◌∷◌, ◌++◌, ℕ, arith}
-use Rattle.std.proofs.lemmas.Result.{err_from_is_err_and}
 use Rattle.regex_lite_syntax.specs.Text.{Text, the}
 use Rattle.regex_lite_syntax.specs.Sets.{Set, just, union}
 use Rattle.regex_lite_syntax.specs.Ranges.{in_ranges}
 use Rattle.regex_lite_syntax.specs.Grammar.Classes.{ClassItems, ClassOpening, only_if}
 use Rattle.regex_lite_syntax.specs.Grammar.Classes.{BracketedClass}
 use Rattle.regex_lite_syntax.specs.Refusals.{Denies, Completable, IfCutShort}
+use Rattle.regex_lite_syntax.proofs.ExitLemmas.{at_exit}
 use Rattle.regex_lite_syntax.proofs.grammar.LongerClassLemmas.{opening_longer}
 use Rattle.regex_lite_syntax.proofs.parse.DenialLemmas.{none_at_end, denies_part}
 use Rattle.regex_lite_syntax.proofs.parse.IndexLemmas.{left_at_end}
@@ -46,9 +46,7 @@ returns-in_err-end-clause-refused c =
     let u = drop c.read_opening-start.result.0 xs in
     let some = some_at xs c.read_opening-start.result.0
     (omega (arith, c.if-start-chars.false, c.read_opening-start.ensures.inside)) in
-    let left =
-    err_from_is_err_and c.from_residual-in_err-end.result c.from_residual-in_err-end.ensures.1 in
-    rw (left.1, left.2) (denies_part _
+    at_exit _ _ c.from_residual-in_err-end.ensures.1 (denies_part _
     (λ t. (r : Text) × (sets : List Set) × ClassItems verbose sets t r)
     (λ t. (r : Text) × (s : Set) × BracketedClass insensitive verbose t r s) u t
     (λ more found. (
@@ -84,9 +82,7 @@ returns-in_err-end-clause-completes c =
     let u = drop c.read_opening-start.result.0 xs in
     let some = some_at xs c.read_opening-start.result.0
     (omega (arith, c.if-start-chars.false, c.read_opening-start.ensures.inside)) in
-    let left =
-    err_from_is_err_and c.from_residual-in_err-end.result c.from_residual-in_err-end.ensures.1 in
-    rw (left.1, left.2) (cut_short_says _
+    at_exit _ _ c.from_residual-in_err-end.ensures.1 (cut_short_says _
     (Completable (ClassTo verbose) u)
     (Completable (λ t r. (s : Set) × BracketedClass insensitive verbose t r s) t)
     (completes_part (ClassTo verbose)

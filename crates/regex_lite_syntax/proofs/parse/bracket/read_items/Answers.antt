@@ -2,13 +2,13 @@ use Rattle.std.proofs.Common.{◌≡◌, refl, sym, ◌∙◌, ap, subst, ◌+�
 use Rattle.std.proofs.Common.{arith}
 use Rattle.std.proofs.Math.Bool.{or-false}
 use Rattle.std.proofs.lemmas.List.{append-nil}
-use Rattle.std.proofs.lemmas.Result.{err_from_is_err_and}
 use Rattle.regex_lite_syntax.specs.Text.{Text, the}
 use Rattle.regex_lite_syntax.specs.Sets.{Set}
 use Rattle.regex_lite_syntax.specs.Grammar.Classes.{ClassItems}
 use Rattle.regex_lite_syntax.specs.Parser.ClassReadings.{item_set}
 use Rattle.regex_lite_syntax.specs.Grammar.Gaps.{WholeGap}
 use Rattle.regex_lite_syntax.specs.Refusals.{Denies, Completable, IfCutShort}
+use Rattle.regex_lite_syntax.proofs.ExitLemmas.{at_exit}
 use Rattle.regex_lite_syntax.proofs.grammar.LongerGapLemmas.{begins_longer}
 use Rattle.regex_lite_syntax.proofs.parse.IndexLemmas.{left_at_end}
 use Rattle.regex_lite_syntax.proofs.parse.bracket.ClassItemLemmas.{has_items, items_push}
@@ -40,11 +40,9 @@ pub returns-in_err-past-clause-refused : goal.returns-in_err-past-clause-refused
 returns-in_err-past-clause-refused c =
     let verbose = c.args.verbose in
     let u = drop c.items.end c.args.chars.now in
-    let left = err_from_is_err_and c.from_residual.result c.from_residual.ensures.1 in
     let some = some_at c.args.chars.now c.items.end
     (omega (arith, c.if-end-chars.false, c.items.invariant.inside)) in
-    rw (left.1, left.2)
-    (λ more follows found.
+    at_exit _ _ c.from_residual.ensures.1 (λ more follows found.
     let items =
     c.items.invariant.back more (λ ends. absurd (some ends)) found.1 found.0 found.2 in
     c.in_err-past.ensures.refused more follows
@@ -118,11 +116,9 @@ returns-in_err-past-clause-completes c =
     let verbose = c.args.verbose in
     let xs = c.args.chars.now in
     let so_far = c.items.invariant in
-    let left = err_from_is_err_and c.from_residual.result c.from_residual.ensures.1 in
     let some = some_at xs c.items.end
     (omega (arith, c.if-end-chars.false, c.items.invariant.inside)) in
-    rw (left.1, left.2)
-    (λ short.
+    at_exit _ _ c.from_residual.ensures.1 (λ short.
     completes_part (ItemsTo verbose) (ClassTo verbose) (drop c.items.end xs) (drop c.args.at xs)
     (λ more rest found. (
       so_far.sets ++ found.0 ∷ found.1,

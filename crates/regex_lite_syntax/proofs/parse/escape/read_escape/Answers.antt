@@ -1,5 +1,4 @@
 use Rattle.std.proofs.Common.{◌≡◌, refl, sym, ap, subst, ℕ, ◌≤◌, [], ◌∷◌, ◌++◌, Bool, arith}
-use Rattle.std.proofs.lemmas.Result.{err_from_is_err_and}
 use Rattle.regex_lite_syntax.specs.declared.hir.look.Look.{Look}
 use Rattle.regex_lite_syntax.specs.Text.{Text, Begins, the}
 use Rattle.regex_lite_syntax.specs.Grammar.Escapes.{Primitive, one, look_at, Escape, escape_kind}
@@ -7,6 +6,7 @@ use Rattle.regex_lite_syntax.specs.Grammar.Escapes.{word_boundary, hexadecimal}
 use Rattle.regex_lite_syntax.specs.Grammar.Escapes.{WordBoundary, Hexadecimal}
 use Rattle.regex_lite_syntax.specs.Parser.Readings.{ReachesTo}
 use Rattle.regex_lite_syntax.specs.Refusals.{Completable}
+use Rattle.regex_lite_syntax.proofs.ExitLemmas.{at_exit}
 use Rattle.regex_lite_syntax.proofs.grammar.GapLemmas.{empty_gap}
 use Rattle.regex_lite_syntax.proofs.grammar.EscapeLemmas.{escape_as, escape_from, boundary_is_b}
 use Rattle.regex_lite_syntax.proofs.parse.escape.CompletedDigitLemmas.{number_completable}
@@ -91,9 +91,7 @@ returns-in_default-clause-reaches c other short =
 pub returns-in_err-end-in-WordBoundary-clause-refused :
     goal.returns-in_err-end-in-WordBoundary-clause-refused
 returns-in_err-end-in-WordBoundary-clause-refused c =
-    let left = err_from_is_err_and c.from_residual.result c.from_residual.ensures.1 in
-    rw (left.1, left.2)
-    (λ more follows (rest, primitive, escape, far).
+    at_exit _ _ c.from_residual.ensures.1 (λ more follows (rest, primitive, escape, far).
     let boundary =
     escape_from _ _ _ rest primitive _ _ (ap (λ u. u ++ more) c.in-Some.ensures.1)
     c.in-WordBoundary.ensures escape in
@@ -102,27 +100,21 @@ returns-in_err-end-in-WordBoundary-clause-refused c =
 pub returns-in_err-end-in-WordBoundary-clause-completes :
     goal.returns-in_err-end-in-WordBoundary-clause-completes
 returns-in_err-end-in-WordBoundary-clause-completes c =
-    let left = err_from_is_err_and c.from_residual.result c.from_residual.ensures.1 in
-    rw (left.1, left.2)
-    (λ short.
+    at_exit _ _ c.from_residual.ensures.1 (λ short.
     look_escape _ _ _ _ c.in-Some.ensures.1 c.in-WordBoundary.ensures
     (c.in_err-end-in-WordBoundary.ensures.completes short))
 
 pub returns-in_err-end-in-WordBoundary-clause-reaches :
     goal.returns-in_err-end-in-WordBoundary-clause-reaches
 returns-in_err-end-in-WordBoundary-clause-reaches c =
-    let left = err_from_is_err_and c.from_residual.result c.from_residual.ensures.1 in
-    rw (left.1, left.2)
-    (λ other short.
+    at_exit _ _ c.from_residual.ensures.1 (λ other short.
     absurd (other (begins_with _ _ _ _ c.in-Some.ensures.1
     (boundary_is_b _ c.in-WordBoundary.ensures))))
 
 pub returns-in_err-end-in-Hexadecimal-clause-refused :
     goal.returns-in_err-end-in-Hexadecimal-clause-refused
 returns-in_err-end-in-Hexadecimal-clause-refused c =
-    let left = err_from_is_err_and c.from_residual-in_err-end-in-Hexadecimal.result
-    c.from_residual-in_err-end-in-Hexadecimal.ensures.1 in
-    rw (left.1, left.2)
+    at_exit _ _ c.from_residual-in_err-end-in-Hexadecimal.ensures.1
     (λ more follows (rest, primitive, escape, far).
     let number =
     escape_from _ _ _ rest primitive _ _ (ap (λ u. u ++ more) c.in-Some.ensures.1)
@@ -133,10 +125,7 @@ returns-in_err-end-in-Hexadecimal-clause-refused c =
 pub returns-in_err-end-in-Hexadecimal-clause-completes :
     goal.returns-in_err-end-in-Hexadecimal-clause-completes
 returns-in_err-end-in-Hexadecimal-clause-completes c =
-    let left = err_from_is_err_and c.from_residual-in_err-end-in-Hexadecimal.result
-    c.from_residual-in_err-end-in-Hexadecimal.ensures.1 in
-    rw (left.1, left.2)
-    (λ short.
+    at_exit _ _ c.from_residual-in_err-end-in-Hexadecimal.ensures.1 (λ short.
     any_escape _ c.args.least _
     (number_escape _ _ c.args.least _ _ _ c.in-Some.ensures.1 c.in-Hexadecimal.ensures
     (c.in_err-end-in-Hexadecimal.ensures.completes short)))
@@ -144,10 +133,7 @@ returns-in_err-end-in-Hexadecimal-clause-completes c =
 pub returns-in_err-end-in-Hexadecimal-clause-reaches :
     goal.returns-in_err-end-in-Hexadecimal-clause-reaches
 returns-in_err-end-in-Hexadecimal-clause-reaches c =
-    let left = err_from_is_err_and c.from_residual-in_err-end-in-Hexadecimal.result
-    c.from_residual-in_err-end-in-Hexadecimal.ensures.1 in
-    rw (left.1, left.2)
-    (λ other short.
+    at_exit _ _ c.from_residual-in_err-end-in-Hexadecimal.ensures.1 (λ other short.
     number_escape _ _ c.args.least _ _ _ c.in-Some.ensures.1 c.in-Hexadecimal.ensures
     (c.in_err-end-in-Hexadecimal.ensures.completes short))
 

@@ -1,9 +1,9 @@
 use Rattle.std.proofs.Common.{false, ◌≡◌, ◌+◌, ◌∙◌, ap, drop, slice_range, [], ◌∷◌, ◌++◌, arith}
-use Rattle.std.proofs.lemmas.Result.{err_from_is_err_and}
 use Rattle.regex_lite_syntax.specs.declared.flags.Flags.{Flags}
 use Rattle.regex_lite_syntax.specs.Text.{Text, the}
 use Rattle.regex_lite_syntax.specs.Grammar.FlagLetters.{with_flags}
 use Rattle.regex_lite_syntax.specs.Parser.FlagRuns.{EndedFlags, LetterRun}
+use Rattle.regex_lite_syntax.proofs.ExitLemmas.{at_exit}
 use Rattle.regex_lite_syntax.proofs.parse.letters.SliceLemmas.{slice_length}
 use Rattle.regex_lite_syntax.proofs.parse.letters.FlagRunLemmas.{run_longer}
 use Rattle.regex_lite_syntax.proofs.parse.letters.WholeFlagLemmas.{Cleared, first_run, second_run}
@@ -16,8 +16,7 @@ use Rattle.regex_lite_syntax.proofs.parse.letters.read_flags.Goals as goal
 pub returns-in_err-middle-clause-refused : goal.returns-in_err-middle-clause-refused
 returns-in_err-middle-clause-refused c =
     let t = drop c.args.at c.args.chars.now in
-    let left = err_from_is_err_and c.from_residual.result c.from_residual.ensures.1 in
-    rw (left.1, left.2)
+    at_exit _ _ c.from_residual.ensures.1
     (λ more follows flags. c.in_err-middle.ensures.refused more follows
     (first_run c.args.old (t ++ more) flags.0 flags.1 flags.2))
 
@@ -38,9 +37,7 @@ returns-then-not-is_at-clause-ok c =
 pub returns-in_err-end-clause-refused : goal.returns-in_err-end-clause-refused
 returns-in_err-end-clause-refused c =
     let dashed = (c.is_at.ensures.there c.if-not-is_at.false).1 in
-    let left =
-    err_from_is_err_and c.from_residual-in_err-end.result c.from_residual-in_err-end.ensures.1 in
-    rw (left.1, left.2) (λ more follows flags.
+    at_exit _ _ c.from_residual-in_err-end.ensures.1 (λ more follows flags.
     let cleared = second_longer more _ _ _ _ _ _ _ c.in_ok-middle.ensures.ok dashed flags.2 in
     c.in_err-end.ensures.refused more follows (cleared.off, flags.0, cleared.run))
 
@@ -81,8 +78,7 @@ returns-clause-ok c =
 
 pub returns-in_err-middle-clause-completes : goal.returns-in_err-middle-clause-completes
 returns-in_err-middle-clause-completes c =
-    let left = err_from_is_err_and c.from_residual.result c.from_residual.ensures.1 in
-    rw (left.1, left.2) (λ short.
+    at_exit _ _ c.from_residual.ensures.1 (λ short.
     let ended = c.in_err-middle.ensures.at_end short in
     set_completes c.args.old _ ended.0 ended.1)
 
@@ -99,8 +95,6 @@ pub returns-in_err-end-clause-completes : goal.returns-in_err-end-clause-complet
 returns-in_err-end-clause-completes c =
     let dashed = (c.is_at.ensures.there c.if-not-is_at.false).1 in
     let some_left = c.is_out_of_letters.ensures.some_left c.if-is_out_of_letters.false in
-    let left =
-    err_from_is_err_and c.from_residual-in_err-end.result c.from_residual-in_err-end.ensures.1 in
-    rw (left.1, left.2) (λ short.
+    at_exit _ _ c.from_residual-in_err-end.ensures.1 (λ short.
     let ended = c.in_err-end.ensures.at_end short in
     dash_completes c.args.old _ _ _ _ c.in_ok-middle.ensures.ok dashed ended.0 ended.1 some_left)

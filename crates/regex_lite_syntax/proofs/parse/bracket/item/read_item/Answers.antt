@@ -8,6 +8,7 @@ use Rattle.regex_lite_syntax.specs.Grammar.Escapes.{Primitive, one, some_of, loo
 use Rattle.regex_lite_syntax.specs.Parser.Readings.{primitive_of, ReachesTo}
 use Rattle.regex_lite_syntax.specs.Parser.ClassReadings.{element_set, item_set}
 use Rattle.regex_lite_syntax.specs.Parser.ClassReadings.{RangeTo, HasItems}
+use Rattle.regex_lite_syntax.proofs.ExitLemmas.{at_exit}
 use Rattle.regex_lite_syntax.proofs.grammar.ClassLemmas.{begins}
 use Rattle.regex_lite_syntax.proofs.grammar.LongerGapLemmas.{begins_longer}
 use Rattle.regex_lite_syntax.proofs.grammar.LongerClassLemmas.{element_longer, item_longer}
@@ -37,8 +38,7 @@ pub returns-in_err-end-clause-refused : goal.returns-in_err-end-clause-refused
 returns-in_err-end-clause-refused c =
     let verbose = c.args.verbose in
     let t = drop c.args.at c.args.chars.now in
-    let left = err_from_is_err_and c.from_residual.result c.from_residual.ensures.1 in
-    rw (left.1, left.2) (λ more follows items.
+    at_exit _ _ c.from_residual.ensures.1 (λ more follows items.
     let bracket = begins (the "[") (t ++ more) _
     (ap (λ u. u ++ more) (c.if-is_at.ensures.there refl).1) in
     c.in_err-end.ensures.refused more follows
@@ -76,10 +76,8 @@ reaches_zero (look_at look) = tt
 pub returns-in_err-past-clause-refused : goal.returns-in_err-past-clause-refused
 returns-in_err-past-clause-refused c =
     let t = drop c.args.at c.args.chars.now in
-    let left = err_from_is_err_and c.from_residual-in_err-past.result
-    c.from_residual-in_err-past.ensures.1 in
     let none = bare (goal.at.returns-in_err-past-clause-refused c).Else-is_at in
-    rw (left.1, left.2) (λ more follows items.
+    at_exit _ _ c.from_residual-in_err-past.ensures.1 (λ more follows items.
     let first = item_part c.args.verbose (t ++ more) _ _ (none more) items.3.2 in
     let zero_on = reaches_zero first.1 in
     c.in_err-past.ensures.refused more follows (first.0, first.1, first.3, first.2, zero_on))
@@ -88,10 +86,9 @@ pub returns-in_err-find_range_end-clause-refused : goal.returns-in_err-find_rang
 returns-in_err-find_range_end-clause-refused c =
     let verbose = c.args.verbose in
     let t = drop c.args.at c.args.chars.now in
-    let left = err_from_is_err_and c.from_residual-in_err-find_range_end.result
-    c.from_residual-in_err-find_range_end.ensures.1 in
     let refused = c.in_err-find_range_end.ensures.refused in
-    rw (left.1, left.2) (none_at_end c.in_err-find_range_end.field-0.0 (HasItems verbose) t
+    at_exit _ _ c.from_residual-in_err-find_range_end.ensures.1
+    (none_at_end c.in_err-find_range_end.field-0.0 (HasItems verbose) t
     refused.0
     (open_items verbose t _ _ (c.if-is_at.ensures.absent refl) c.in_ok-past.ensures.ok refused.1))
 
@@ -199,8 +196,7 @@ returns-in-Some-2-clause-refused c =
 
 pub returns-in_err-end-clause-completes : goal.returns-in_err-end-clause-completes
 returns-in_err-end-clause-completes c =
-    let left = err_from_is_err_and c.from_residual.result c.from_residual.ensures.1 in
-    rw (left.1, left.2) (λ short.
+    at_exit _ _ c.from_residual.ensures.1 (λ short.
     closed_named c.args.verbose (drop c.args.at c.args.chars.now)
     (c.in_err-end.ensures.completes short))
 
@@ -209,9 +205,7 @@ returns-in-Some-clause-completes c short = absurd (both_ways _ c.in-Some.ensures
 
 pub returns-in_err-past-clause-completes : goal.returns-in_err-past-clause-completes
 returns-in_err-past-clause-completes c =
-    let left = err_from_is_err_and c.from_residual-in_err-past.result
-    c.from_residual-in_err-past.ensures.1 in
-    rw (left.1, left.2) (λ short.
+    at_exit _ _ c.from_residual-in_err-past.ensures.1 (λ short.
     closed_escape c.args.verbose (drop c.args.at c.args.chars.now)
     c.in_err-past.ensures.escaped (c.in_err-past.ensures.completes short))
 
@@ -222,11 +216,9 @@ returns-in_err-find_range_end-clause-completes c =
     let t = drop c.args.at c.args.chars.now in
     let past = drop c.in_ok-past.past c.args.chars.now in
     let element = c.in-Some-element_of.element in
-    let left = err_from_is_err_and c.from_residual-in_err-find_range_end.result
-    c.from_residual-in_err-find_range_end.ensures.1 in
     let part = subst (λ p. ClassElement verbose t past p)
     (sym c.in-Some-element_of.ensures) c.in_ok-past.ensures.ok in
-    rw (left.1, left.2) (λ short.
+    at_exit _ _ c.from_residual-in_err-find_range_end.ensures.1 (λ short.
     closed_ending verbose t past element
     (part_begins (goal.at.returns-in_err-find_range_end-clause-completes c).In-Some-element_of)
     part c.in_err-find_range_end.ensures.refused.1)

@@ -1,5 +1,4 @@
 use Rattle.std.proofs.Common.{◌≡◌, refl, ℕ, ◌≤◌, sym, ◌∙◌, ap, subst, ◌++◌, drop, arith}
-use Rattle.std.proofs.lemmas.Result.{err_from_is_err_and}
 use Rattle.regex_lite_syntax.specs.declared.parse.escape.Primitive.{Primitive}
 use Rattle.regex_lite_syntax.specs.declared.parse.escape.Primitive.TheVariants as primitives
 use Rattle.regex_lite_syntax.specs.Sets.{Set, span}
@@ -7,6 +6,7 @@ use Rattle.regex_lite_syntax.specs.Grammar.Escapes.{one}
 use Rattle.regex_lite_syntax.specs.Grammar.Classes.{ClassElement}
 use Rattle.regex_lite_syntax.specs.Parser.Readings.{primitive_of}
 use Rattle.regex_lite_syntax.specs.Parser.ClassReadings.{RangeTo}
+use Rattle.regex_lite_syntax.proofs.ExitLemmas.{at_exit}
 use Rattle.regex_lite_syntax.proofs.grammar.ClassLemmas.{one_same, part_once}
 use Rattle.regex_lite_syntax.proofs.parse.CompletionLemmas.{completes_part}
 use Rattle.regex_lite_syntax.proofs.parse.bracket.LongerItemLemmas.{char_before, part_longer}
@@ -21,9 +21,7 @@ no_char (primitives.Look look) c none is = cc is
 
 pub returns-in_err-past-clause-refused : goal.returns-in_err-past-clause-refused
 returns-in_err-past-clause-refused c =
-    let left = err_from_is_err_and c.from_residual.result c.from_residual.ensures.1 in
-    rw (left.1, left.2)
-    (λ more follows found.
+    at_exit _ _ c.from_residual.ensures.1 (λ more follows found.
     let starts = one_same _ _ (sym (ap primitive_of c.in-Char.is) ∙ found.2.starts) in
     let reaches : c.in-Char.start ≤ found.2.end = omega (arith, starts, found.2.ordered) in
     c.in_err-past.ensures.refused more follows
@@ -35,9 +33,7 @@ returns-in_err-past-clause-completes c =
     let t = drop c.args.last c.args.chars.now in
     let first = primitive_of c.args.first in
     let start = c.in-Char.start in
-    let left = err_from_is_err_and c.from_residual.result c.from_residual.ensures.1 in
-    rw (left.1, left.2)
-    (λ short.
+    at_exit _ _ c.from_residual.ensures.1 (λ short.
     completes_part (λ u r. (d : ℕ) × ClassElement verbose u r (one d) × (start ≤ d))
     (λ u r. (s : Set) × RangeTo verbose first u r s) t t
     (λ more r found. (

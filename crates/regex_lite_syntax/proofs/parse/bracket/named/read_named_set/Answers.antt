@@ -6,7 +6,6 @@ use Rattle.std.specs.List.{list_any}
 use Rattle.std.proofs.lemmas.Bool.{and_from}
 use Rattle.std.proofs.lemmas.List.{append-nil}
 use Rattle.std.proofs.lemmas.List.Sums.{list_all-from_AllPass}
-use Rattle.std.proofs.lemmas.Result.{err_from_is_err_and}
 use Rattle.regex_lite_syntax.specs.declared.class.named.NamedSet.{NamedSet}
 use Rattle.regex_lite_syntax.specs.declared.parse.bracket.named.TheConstants.{ALL}
 use Rattle.regex_lite_syntax.specs.Text.{Text, the}
@@ -14,6 +13,7 @@ use Rattle.regex_lite_syntax.specs.Characters.{is_lower}
 use Rattle.regex_lite_syntax.specs.NamedSets.{set_named}
 use Rattle.regex_lite_syntax.specs.Parser.SetNames.{name_of}
 use Rattle.regex_lite_syntax.specs.Parser.ClassReadings.{set_name, is_beginning, HasNamedSet}
+use Rattle.regex_lite_syntax.proofs.ExitLemmas.{at_exit}
 use Rattle.regex_lite_syntax.proofs.ListLemmas.{same_tail}
 use Rattle.regex_lite_syntax.proofs.grammar.ClassLemmas.{begins}
 use Rattle.regex_lite_syntax.proofs.CharacterLemmas.{joined_are}
@@ -133,8 +133,7 @@ returns-in_err-expect-clause-refused c =
     let xs = c.args.chars.now in
     let next = c.args.at + 1 in
     let inside : next ≤ length xs = omega (arith, c.requires.inside) in
-    let left = err_from_is_err_and c.from_residual.result c.from_residual.ensures.1 in
-    rw (left.1, left.2) (λ more follows has.
+    at_exit _ _ c.from_residual.ensures.1 (λ more follows has.
     let second = same_tail (sym (ap (λ u. u ++ more) c.requires.begins) ∙ has.3.opens) in
     stops (the ":") (drop next xs) more c.in_err-expect.ensures.absent
     (λ ends. follows (c.in_err-expect.ensures.short
@@ -144,8 +143,7 @@ returns-in_err-expect-clause-refused c =
 pub returns-in_err-expect-clause-completes : goal.returns-in_err-expect-clause-completes
 returns-in_err-expect-clause-completes c =
     let xs = c.args.chars.now in
-    let left = err_from_is_err_and c.from_residual.result c.from_residual.ensures.1 in
-    rw (left.1, left.2) (λ short.
+    at_exit _ _ c.from_residual.ensures.1 (λ short.
     let ends = begun_at_end xs (c.args.at + 1) true
     (sym c.in_err-expect.ensures.short ∙ short) in
     completes_bracket (drop c.args.at xs) (c.requires.begins ∙ ap (λ u. the "[" ∷ u) ends.1))
@@ -157,9 +155,7 @@ returns-in_err-expect-2-clause-refused c =
     let xs = c.args.chars.now in
     let end = c.skip_lower-end.result in
     let begun = c.begins_name.result in
-    let left = err_from_is_err_and c.from_residual-in_err-expect-2.result
-    c.from_residual-in_err-expect-2.ensures.1 in
-    rw (left.1, left.2) (λ more follows has.
+    at_exit _ _ c.from_residual-in_err-expect-2.ensures.1 (λ more follows has.
     let none : drop end xs ≡ [] → more ≡ [] =
     λ ends. by_answer begun
     (λ is. follows (c.in_err-expect-2.ensures.short
@@ -175,9 +171,7 @@ returns-in_err-expect-2-clause-completes c =
     let at_word = (goal.at.returns-in_err-expect-2-clause-completes c).After-skip_lower-end in
     let xs = c.args.chars.now in
     let w = word_at at_word in
-    let left = err_from_is_err_and c.from_residual-in_err-expect-2.result
-    c.from_residual-in_err-expect-2.ensures.1 in
-    rw (left.1, left.2) (λ short.
+    at_exit _ _ c.from_residual-in_err-expect-2.ensures.1 (λ short.
     let ends = begun_at_end xs c.skip_lower-end.result c.begins_name.result
     (sym c.in_err-expect-2.ensures.short ∙ short) in
     let name = some_begins w (sym ends.0 ∙ c.begins_name.ensures) in
@@ -207,9 +201,7 @@ returns-in_err-expect-3-clause-refused c =
     let found = c.is_some.result in
     let colon = c.in_ok-expect-2.ensures.there.1 in
     let inside : next ≤ length xs = omega (arith, c.in_ok-expect-2.ensures.there.0) in
-    let left = err_from_is_err_and c.from_residual-in_err-expect-3.result
-    c.from_residual-in_err-expect-3.ensures.1 in
-    rw (left.1, left.2) (λ more follows has.
+    at_exit _ _ c.from_residual-in_err-expect-3.ensures.1 (λ more follows has.
     let same = once at_word more (goes_on _ _ more _ colon) has in
     let past = same_tail (sym (ap (λ u. u ++ more) colon) ∙ same.1) in
     stops (the "]") (drop next xs) more c.in_err-expect-3.ensures.absent
@@ -227,9 +219,7 @@ returns-in_err-expect-3-clause-completes c =
     let at_word = (goal.at.returns-in_err-expect-3-clause-completes c).After-skip_lower-end in
     let xs = c.args.chars.now in
     let w = word_at at_word in
-    let left = err_from_is_err_and c.from_residual-in_err-expect-3.result
-    c.from_residual-in_err-expect-3.ensures.1 in
-    rw (left.1, left.2) (λ short.
+    at_exit _ _ c.from_residual-in_err-expect-3.ensures.1 (λ short.
     let ends = begun_at_end xs (c.skip_lower-end.result + 1) c.is_some.result
     (sym c.in_err-expect-3.ensures.short ∙ short) in
     let found = one_of c.set_with_name-found.result (sym c.is_some.ensures ∙ ends.0) in
