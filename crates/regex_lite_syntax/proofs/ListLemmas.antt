@@ -19,5 +19,4 @@ snoc_same [] (b ∷ ys) x y e = absurd (no_last ys y (same_tail e))
 snoc_same (a ∷ xs) [] x y e = absurd (no_last xs x (sym (same_tail e)))
 snoc_same (a ∷ xs) (b ∷ ys) x y e =
     let tails = snoc_same xs ys x y (same_tail e) in
-    let heads = same_head e in
-    (cc (heads, tails.0), tails.1)
+    (cc (same_head e, tails.0), tails.1)

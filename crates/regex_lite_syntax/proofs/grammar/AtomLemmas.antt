@@ -1,6 +1,7 @@
 -- An item that is no group is read in one way.
 use Rattle.std.proofs.Common.{◌≡◌, ◌≢◌, refl, sym, ◌∙◌, ap, subst, ℕ}
 use Rattle.std.proofs.Common.{Bool, true, false, ◌&&◌, ◌∷◌, MatchBool}
+use Rattle.std.proofs.Common.{if◌then◌else◌}
 use Rattle.std.proofs.lemmas.Bool.{both_ways, ne_eqb}
 use Rattle.regex_lite_syntax.specs.declared.flags.Flags.{Flags}
 use Rattle.regex_lite_syntax.specs.Text.{Text, the}
@@ -106,28 +107,18 @@ literal_no_sign verbose c literal = record {
     no : (d : ℕ) → is_literal verbose d ≡ false → c ≢ d
     no d other e = both_ways (is_literal verbose c) (ap (is_literal verbose) e ∙ other) literal
 
-literal_kind : (flags : Flags) (c : ℕ) → NoSign c → is_literal flags.ignore_whitespace c ≡ true
-    → atom_kind flags c ≡ single (one c)
-literal_kind flags c sign literal =
+-- so it either stands for itself or begins nothing
+kind_by : (flags : Flags) (c : ℕ) (literal : Bool) → NoSign c
+    → is_literal flags.ignore_whitespace c ≡ literal
+    → atom_kind flags c ≡ (if literal then single (one c) else no_atom)
+kind_by flags c literal sign is =
     rw (
       ne_eqb c (the ".") sign.no_full_stop,
       ne_eqb c (the "^") sign.no_caret,
       ne_eqb c (the "$") sign.no_dollar,
       ne_eqb c (the "\\") sign.no_backslash,
       ne_eqb c (the "[") sign.no_bracket,
-      literal,
-    ) refl
-
-other_kind : (flags : Flags) (c : ℕ) → NoSign c → is_literal flags.ignore_whitespace c ≡ false
-    → atom_kind flags c ≡ no_atom
-other_kind flags c sign literal =
-    rw (
-      ne_eqb c (the ".") sign.no_full_stop,
-      ne_eqb c (the "^") sign.no_caret,
-      ne_eqb c (the "$") sign.no_dollar,
-      ne_eqb c (the "\\") sign.no_backslash,
-      ne_eqb c (the "[") sign.no_bracket,
-      literal,
+      is,
     ) refl
 
 -- an item of one character
@@ -143,14 +134,14 @@ pub literal_atom : (flags : Flags) (c : ℕ) (t rest : Text) (a : Tree) → t �
     → Atom flags t rest a
 literal_atom flags c t rest a e literal tree =
     let sign = literal_no_sign flags.ignore_whitespace c literal in
-    single_atom flags (one c) c t rest a e (literal_kind flags c sign literal) tree
+    single_atom flags (one c) c t rest a e (kind_by flags c true sign literal) tree
 
 -- but a character that neither stands for itself nor is a sign begins no item that is no group
 pub no_literal : (flags : Flags) (t rest : Text) (a : Tree) (c : ℕ) (u : Text) → t ≡ c ∷ u
     → NoSign c
     → is_literal flags.ignore_whitespace c ≡ false → Atom flags t rest a → ⊥
 no_literal flags t rest a c u e sign literal d =
-    no_atom_at flags t rest a c u e (other_kind flags c sign literal) d
+    no_atom_at flags t rest a c u e (kind_by flags c false sign literal) d
 
 -- an escape
 pub escape_atom : (flags : Flags) (t past rest : Text) (p : Primitive) (a : Tree)

@@ -67,8 +67,7 @@ pub no_caret : (w t r u : Text) → t ≡ w ++ r → AllPass is_lower w → r �
 no_caret [] t r u s p e b =
     let here = subst (λ v. Begins (the "^") v) (s ∙ e) b in omega (arith, here)
 no_caret (c ∷ w) t r u s p e b =
-    let here = subst (λ v. Begins (the "^") v) s b in
-    both_ways (is_lower c) (ap is_lower here)
+    both_ways (is_lower c) (ap is_lower (subst (λ v. Begins (the "^") v) s b))
     (and_parts _ _ (list_all-from_AllPass is_lower (c ∷ w) p)).0
 
 pub negation_once : (m n : Bool) (t u v : Text) → t ≡ (if m then the "^" ∷ u else u)
@@ -110,9 +109,8 @@ named_once t r s m n a b c d =
     let once = name_once c.opened c.begin c.name c.end m c.negation
     (no_negation m c.opened c.begin c.name c.end _ c.negation c.written c.letters c.closes)
     c.written c.letters (subst (λ v. Lacks is_lower v) (sym c.closes) refl) t s n b c.opens d in
-    let ends = same_tail (same_tail (sym c.closes ∙ once.2 ∙ d.closes)) in
     let sets : Some a ≡ Some b = sym c.named ∙ ap set_named once.1 ∙ d.named in
-    (ends, once.0, cc sets)
+    (same_tail (same_tail (sym c.closes ∙ once.2 ∙ d.closes)), once.0, cc sets)
 
 pub named_begins : (t r : Text) (n : Bool) (a : SetName) → NamedClass t r n a → Begins (the "[") t
 named_begins t r n a c = begins (the "[") t _ c.opens
@@ -208,8 +206,7 @@ items_once verbose (a ∷ as') [] t r s x y =
 items_once verbose (a ∷ as') (b ∷ bs) t r s x y =
     let past = items_past verbose t x.0 x.1 s a b bs x.2 x.3 y in
     let rest = items_once verbose as' bs x.1 r s x.4 past.1 in
-    let heads = past.0 in
-    (cc (heads, rest.0), rest.1)
+    (cc (past.0, rest.0), rest.1)
 
 -- what a class begins with
 pub takes_once : (verbose : Bool) (c : ℕ) (t r s : Text) (a b : Bool) → Takes verbose c t r a

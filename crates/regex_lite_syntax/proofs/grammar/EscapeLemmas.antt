@@ -127,8 +127,7 @@ name_once : (verbose : Bool) (t r s : Text) (look look' : Look) → BoundaryName
 name_once verbose t r s look look' a b =
     let same = spaced_to_brace_once verbose is_boundary_character a.name b.name t a.last b.last r s
     boundary_characters_end refl a.written a.closes b.written b.closes in
-    let names = sym a.named ∙ ap boundary_named same.0 ∙ b.named in
-    (same.1, cc (names))
+    (same.1, cc (sym a.named ∙ ap boundary_named same.0 ∙ b.named))
 
 -- a brace opens, and past the whole gap stands no character
 pub no_boundary : (verbose : Bool) (t opened u rest : Text) (look : Look) → t ≡ the "{" ∷ opened

@@ -27,8 +27,7 @@ empty_gap false t = refl
 
 no_white : (c : ℕ) (t u : Text) → u ≡ c ∷ t → EndsGap true u → IsTrue (is_white_space c) → ⊥
 no_white c t u e ends white =
-    let here = subst (λ v. EndsGap true v) e ends in
-    both_ways (is_white_space c) (not-true _ here.0) white
+    both_ways (is_white_space c) (not-true _ (subst (λ v. EndsGap true v) e ends).0) white
 
 no_sign : (c : ℕ) (t u : Text) → u ≡ c ∷ t → EndsGap true u → c ≡ the "#" → ⊥
 no_sign c t u e ends sign = let here = subst (λ v. EndsGap true v) e ends in here.1 sign

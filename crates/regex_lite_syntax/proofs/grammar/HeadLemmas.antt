@@ -17,14 +17,12 @@ use Rattle.regex_lite_syntax.proofs.grammar.FlagLetterLemmas.{letters_once, othe
 use Rattle.regex_lite_syntax.proofs.grammar.NameLemmas.{named_once}
 use Rattle.regex_lite_syntax.proofs.grammar.NameOpeningLemmas.{named_question, named_or_plain}
 use Rattle.regex_lite_syntax.proofs.grammar.NameOpeningLemmas.{named_or_directive}
-
-pub ends_before_question : (t : Text) → EndsGap true (the "?" ∷ t)
-ends_before_question t = (refl, λ e. omega (arith, e))
+use Rattle.regex_lite_syntax.proofs.grammar.LongerGapLemmas.{question_ends}
 
 named_ends : (t rest name : Text) → Named t rest name → EndsGap true t
 named_ends t rest name n =
     let question = named_question t rest name n in
-    subst (λ u. EndsGap true u) (sym question.1) (ends_before_question question.0)
+    subst (λ u. EndsGap true u) (sym question.1) (question_ends question.0)
 
 -- what stands past a group's `(` where no gap goes on
 same_first : (verbose : Bool) (t opened opened' first first' : Text) → t ≡ the "(" ∷ opened
@@ -40,8 +38,8 @@ same_past : (verbose : Bool) (t opened opened' rest rest' : Text) → t ≡ the 
     → t ≡ the "(" ∷ opened'
     → Gap verbose opened (the "?" ∷ rest) → Gap verbose opened' (the "?" ∷ rest') → rest ≡ rest'
 same_past verbose t opened opened' rest rest' e e' g g' =
-    let ends = ends_before_question rest in
-    same_tail (same_first verbose t opened opened' _ _ e e' g g' ends (ends_before_question rest'))
+    let ends = question_ends rest in
+    same_tail (same_first verbose t opened opened' _ _ e e' g g' ends (question_ends rest'))
 
 -- where no `?` stands past a group's `(`, no flags and no name do
 bare_or_question : (verbose : Bool) (t rest opened first : Text) → t ≡ the "(" ∷ rest
@@ -66,7 +64,7 @@ same_named : (verbose : Bool) (t opened opened' first first' rest name : Text)
 same_named verbose t opened opened' first first' rest name e e' g g' n =
     let ends = named_ends first rest name n in
     let same =
-    same_first verbose t opened opened' _ _ e e' g g' ends (ends_before_question first') in
+    same_first verbose t opened opened' _ _ e e' g g' ends (question_ends first') in
     subst (λ u. Named u rest name) same n
 
 -- two heads lead to the same
@@ -142,7 +140,7 @@ numbered_head level p rest u e whole none = numbered rest e no_question refl ref
   where
     no_question : (first : Text) → Gap p.flags.ignore_whitespace rest (the "?" ∷ first) → ⊥
     no_question first g =
-        let ends = ends_any p.flags.ignore_whitespace _ (ends_before_question first) in
+        let ends = ends_any p.flags.ignore_whitespace _ (question_ends first) in
         let same =
         whole_gap_once p.flags.ignore_whitespace rest u (the "?" ∷ first) whole (g, ends) in
         none (subst (λ t. Begins (the "?") t) (sym same) refl)

@@ -40,9 +40,7 @@ differs c d other same e = both_ways _ other (subst (λ x. (x == d) ≡ true) (s
 full_scan : (in_comment : Bool) (t : Text) → (u : Text) × Scan in_comment t u × EndsGap true u
 full_scan in_comment [] = ([], refl, tt)
 full_scan false (c ∷ t) =
-    let past = full_scan false t in
-    let commented = full_scan true t in
-    by_kind (is_white_space c) (c == the "#") refl refl past commented
+    by_kind (is_white_space c) (c == the "#") refl refl (full_scan false t) (full_scan true t)
   where
     by_kind : (white sign : Bool) → is_white_space c ≡ white → (c == the "#") ≡ sign
         → ((u : Text) × Scan false t u × EndsGap true u)
@@ -54,9 +52,7 @@ full_scan false (c ∷ t) =
     by_kind false false w s past commented =
         (c ∷ t, inl refl, (not_from_false _ w, differs c (the "#") s refl))
 full_scan true (c ∷ t) =
-    let past = full_scan false t in
-    let commented = full_scan true t in
-    by_kind (c == the "\n") refl past commented
+    by_kind (c == the "\n") refl (full_scan false t) (full_scan true t)
   where
     by_kind : (feed : Bool) → (c == the "\n") ≡ feed
         → ((u : Text) × Scan false t u × EndsGap true u)
@@ -139,8 +135,7 @@ module _ (more : Text) where
   pub goes_on_longer : (verbose : Bool) (t : Text) → GoesOn verbose t → GoesOn verbose (t ++ more)
   goes_on_longer verbose t goes g =
       let w = longer_gap verbose t goes in
-      let same = gap_to_end verbose (t ++ more) (w.first ∷ (w.rest ++ more)) w.longer g in
-      cc same
+      cc (gap_to_end verbose (t ++ more) (w.first ∷ (w.rest ++ more)) w.longer g)
 
   pub begins_longer : (c : ℕ) (t : Text) → (Begins c t → ⊥) → t ≢ [] → Begins c (t ++ more) → ⊥
   begins_longer c [] none some = absurd (some refl)

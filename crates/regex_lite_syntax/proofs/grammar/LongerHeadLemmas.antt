@@ -1,12 +1,10 @@
 -- Operators, heads of groups and directives in a longer text that begins with the text.
-use Rattle.std.proofs.Common.{inl, inr, ◌≢◌, ◌∙◌, ap, subst, ℕ, ◌<◌}
-use Rattle.std.proofs.Common.{Bool, true, false, length, [], ◌∷◌, ◌++◌, Option, append_assoc, arith}
+use Rattle.std.proofs.Common.{◌≢◌, ◌∙◌, ap, subst, ℕ}
+use Rattle.std.proofs.Common.{Bool, [], ◌∷◌, ◌++◌, Option, append_assoc}
 use Rattle.std.proofs.lemmas.List.{append_cancel_right}
 use Rattle.regex_lite_syntax.specs.declared.flags.Flags.{Flags}
 use Rattle.regex_lite_syntax.specs.Text.{Text, the}
-use Rattle.regex_lite_syntax.specs.Characters.{is_digit}
-use Rattle.regex_lite_syntax.specs.Grammar.Gaps.{Spaced}
-use Rattle.regex_lite_syntax.specs.Grammar.Counted.{WhiteSpace, Side, Number, Counted}
+use Rattle.regex_lite_syntax.specs.Grammar.Counted.{Counted}
 use Rattle.regex_lite_syntax.specs.Grammar.Counted.{exactly, at_least, between}
 use Rattle.regex_lite_syntax.specs.Grammar.Operators.{Operator, uncounted, uncounted_lazy}
 use Rattle.regex_lite_syntax.specs.Grammar.Operators.{counted, counted_lazy}
@@ -16,54 +14,24 @@ use Rattle.regex_lite_syntax.specs.Grammar.GroupNames.{Named}
 use Rattle.regex_lite_syntax.specs.Grammar.Points.{Point, onward}
 use Rattle.regex_lite_syntax.specs.Grammar.Heads.{GroupKind, Head, numbered, named, plain}
 use Rattle.regex_lite_syntax.specs.Grammar.Heads.{Directive, sets}
-use Rattle.regex_lite_syntax.proofs.grammar.LongerGapLemmas.{Settles, some_gap}
-use Rattle.regex_lite_syntax.proofs.grammar.LongerGapLemmas.{gap_longer, gap_before, spaced_longer}
+use Rattle.regex_lite_syntax.proofs.grammar.LongerGapLemmas.{Settles}
+use Rattle.regex_lite_syntax.proofs.grammar.LongerGapLemmas.{gap_longer, gap_before}
+use Rattle.regex_lite_syntax.proofs.grammar.LongerNumberLemmas.{number_longer}
 
 -- the same point of a longer pattern
 abbrev pub longer : (more : Text) → Point → Point
 longer more p = onward p (p.rest ++ more)
 
-some_spaced : (verbose : Bool) (kind : ℕ → Bool) (cs t rest : Text) → 0 < length cs
-    → Spaced verbose kind cs t rest → t ≢ []
-some_spaced verbose kind [] t rest some s = absurd (omega (arith, some))
-some_spaced verbose kind (c ∷ cs) t rest some s = some_gap verbose t s.0 c s.1
-
 module _ (more : Text) where
-  white_longer : (t rest : Text) → WhiteSpace t rest → rest ≢ []
-      → WhiteSpace (t ++ more) (rest ++ more)
-  white_longer [] rest w some = absurd (some w)
-  white_longer (c ∷ t) rest (inl w) some = inl (ap (λ u. u ++ more) w)
-  white_longer (c ∷ t) rest (inr w) some = inr (w.0, white_longer t rest w.1 some)
-
-  pub side_longer : (verbose : Bool) (t rest : Text) → Side verbose t rest → rest ≢ []
-      → Side verbose (t ++ more) (rest ++ more)
-  side_longer true t rest s some = gap_longer more true t rest s some
-  side_longer false t rest s some = white_longer t rest s some
-
-  pub number_longer : {verbose : Bool} {t rest : Text} {n : ℕ} → Number verbose t rest n
-      → rest ≢ [] → Number verbose (t ++ more) (rest ++ more) n
-  number_longer {verbose} {t} {rest} k some = record {
-    first = k.first ++ more;
-    last = k.last ++ more;
-    digits = k.digits;
-    before =
-        side_longer verbose t k.first k.before
-        (some_spaced verbose is_digit k.digits k.first k.last k.some k.written);
-    written = spaced_longer more verbose is_digit k.digits k.first k.last k.written;
-    after = side_longer verbose k.last rest k.after some;
-    some = k.some;
-    value = k.value;
-    in_range = k.in_range;
-  }
-
   pub counted_longer : {verbose : Bool} {t rest : Text} {least : ℕ} {most : Option ℕ}
       → Counted verbose t rest least most → Counted verbose (t ++ more) (rest ++ more) least most
-  counted_longer (exactly k e) = exactly (number_longer k (λ e. cc e)) e
+  counted_longer (exactly k e) = exactly (number_longer more k (λ e. cc e)) e
   counted_longer {verbose} {rest} (at_least past k g e) =
-      at_least (past ++ more) (number_longer k (λ e. cc e))
+      at_least (past ++ more) (number_longer more k (λ e. cc e))
       (gap_before more verbose past rest _ g) e
   counted_longer (between past n k m order e) =
-      between (past ++ more) n (number_longer k (λ e. cc e)) (number_longer m (λ e. cc e)) order e
+      between (past ++ more) n (number_longer more k (λ e. cc e))
+      (number_longer more m (λ e. cc e)) order e
 
   -- an operator, past which nothing comes to stand that would belong to it
   pub operator_longer : {flags : Flags} {t rest : Text} {least : ℕ} {most : Option ℕ}
@@ -119,9 +87,8 @@ module _ (more : Text) where
       numbered (rest ++ more) (ap (λ u. u ++ more) e) (here.past_gap none)
       (ap (longer more) h) k
   head_longer {p} (named opened first rest name e g n h k) settles =
-      let question = some_named n in
       named (opened ++ more) (first ++ more) (rest ++ more) name (ap (λ u. u ++ more) e)
-      (gap_longer more p.flags.ignore_whitespace opened first g question) (named_longer n)
+      (gap_longer more p.flags.ignore_whitespace opened first g (some_named n)) (named_longer n)
       (ap (longer more) h) k
     where
       some_opening : {t past : Text} → NameOpening t past → t ≢ []

@@ -73,8 +73,7 @@ module _ (more : Text) where
       let same =
       whole_gap_leads verbose (t ++ more) (w.first ∷ (w.rest ++ more)) (c ∷ past) w.longer gap
       (digits_end c past digit) in
-      let head = same_head same in
-      none w.first w.rest w.gap.0 (subst (λ d. IsTrue (is_digit d)) (sym head) digit)
+      none w.first w.rest w.gap.0 (subst (λ d. IsTrue (is_digit d)) (sym (same_head same)) digit)
 
   pub digits_longer : {verbose : Bool} {read n : ℕ} {t u : Text} → DigitsRead verbose read t u n
       → DigitsRead verbose read (t ++ more) (u ++ more) n

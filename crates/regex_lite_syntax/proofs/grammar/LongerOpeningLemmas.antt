@@ -7,6 +7,7 @@ use Rattle.regex_lite_syntax.specs.Grammar.GroupNames.{NameOpening, with_p, with
 use Rattle.regex_lite_syntax.specs.Parser.NameOpenings.{EndsInOpening, Unnamed}
 use Rattle.regex_lite_syntax.proofs.ListLemmas.{same_head, same_tail}
 use Rattle.regex_lite_syntax.proofs.grammar.NameOpeningLemmas.{opening_question}
+use Rattle.regex_lite_syntax.proofs.grammar.ClassLemmas.{begins}
 
 -- where a longer text begins with a word, the text does too, or ends inside the word
 begins_or_ends : (word t more past : Text) → t ++ more ≡ word ++ past
@@ -47,20 +48,17 @@ none_opened t none more rest name mends named =
     let shown = opening_shows t more named.past mends named.opens in none shown.0 shown.1
 
 -- a text that begins with no `?`, or past it with no `<` and no `P<`, opens none
-pub begun : (c : ℕ) (t u : Text) → t ≡ c ∷ u → Begins c t
-begun c t u e = subst (λ v. Begins c v) (sym e) refl
-
 pub no_question : (t : Text) → (Begins (the "?") t → ⊥) → (past : Text) → NameOpening t past → ⊥
 no_question t none past opens =
     let question = opening_question t past opens in
-    none (begun (the "?") t question.0 question.1)
+    none (begins (the "?") t question.0 question.1)
 
 pub no_less : (t u past : Text) → t ≡ the "?" ∷ u → (Begins (the "<") u → ⊥)
     → ((v : Text) → u ≡ the "P" ∷ v → Begins (the "<") v → ⊥) → NameOpening t past → ⊥
 no_less t u past e none none_past_p (with_p o) =
     none_past_p (the "<" ∷ past) (same_tail (sym e ∙ o)) refl
 no_less t u past e none none_past_p (without_p o) =
-    none (begun (the "<") u past (same_tail (sym e ∙ o)))
+    none (begins (the "<") u past (same_tail (sym e ∙ o)))
 
 -- past a `?` and a character a text doesn't end inside, unless that is a `P` and the last
 pub not_inside : (c : ℕ) (t : Text) → (c ≡ the "P" → t ≢ [])

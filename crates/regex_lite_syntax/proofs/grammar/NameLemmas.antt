@@ -1,16 +1,15 @@
 -- Names of groups are read in one way, and differ.
-use Rattle.std.proofs.Common.{◌≡◌, ◌≢◌, refl, sym, ◌∙◌, subst, ℕ, length}
-use Rattle.std.proofs.Common.{List, [], ◌∷◌, ◌++◌, IsTrue, Contains, arith}
+use Rattle.std.proofs.Common.{◌≡◌, ◌≢◌, refl, sym, ◌∙◌, subst, length}
+use Rattle.std.proofs.Common.{List, [], ◌∷◌, ◌++◌, Contains, arith}
 use Rattle.std.proofs.lemmas.List.{get_or_append_left, get_or_default}
 use Rattle.std.proofs.lemmas.List.{get_or_push, length-append, length_push}
 use Rattle.std.proofs.lemmas.List.Quantifiers.{all_pairs_push}
 use Rattle.regex_lite_syntax.specs.Text.{Text, the}
-use Rattle.regex_lite_syntax.specs.Grammar.GroupNames.{begins_name, is_no_end}
+use Rattle.regex_lite_syntax.specs.Grammar.GroupNames.{is_no_end}
 use Rattle.regex_lite_syntax.specs.Grammar.GroupNames.{NameWritten, NameOpening, with_p}
 use Rattle.regex_lite_syntax.specs.Grammar.GroupNames.{without_p, Named, NamesDiffer}
 use Rattle.regex_lite_syntax.proofs.ListLemmas.{same_head, same_tail}
 use Rattle.regex_lite_syntax.proofs.grammar.WordLemmas.{word_once}
-use Rattle.regex_lite_syntax.proofs.grammar.NameReadingLemmas.{first_of_name}
 
 pub written_once : (t r s w v : Text) → NameWritten t r w → NameWritten t s v → (r ≡ s) × (w ≡ v)
 written_once t r s w v a b =

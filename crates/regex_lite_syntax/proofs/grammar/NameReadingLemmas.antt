@@ -4,8 +4,9 @@ use Rattle.std.proofs.Common.{length, [], ◌∷◌, ◌++◌, drop, take, slice
 use Rattle.std.specs.List.{list_all, AllPass}
 use Rattle.std.proofs.lemmas.List.Sums.{AllPass-from_list_all, list_all-from_AllPass}
 use Rattle.std.proofs.lemmas.Bool.{and_from, and_parts, eqb-false, not-true, ne_eqb, not_from_false}
-use Rattle.std.proofs.lemmas.List.{drop_more, drop-drop, take-append-drop}
+use Rattle.std.proofs.lemmas.List.{drop_more}
 use Rattle.std.proofs.lemmas.List.Edits.{between_more}
+use Rattle.std.proofs.lemmas.List.Folds.{drop_split}
 use Rattle.regex_lite_syntax.specs.Text.{Text, the}
 use Rattle.regex_lite_syntax.specs.Grammar.GroupNames.{begins_name, continues_name}
 use Rattle.regex_lite_syntax.specs.Grammar.GroupNames.{is_name, is_no_end, NameWritten}
@@ -66,13 +67,12 @@ next_of_name {t} {rest} c past here going n = go n.name n.written n.inside n.con
     go [] written inside continues = absurd (going (same_head (sym here ∙ written)))
     go (d ∷ ds) written inside continues =
         let parts = and_parts _ _ continues in
-        let left = and_parts _ _ inside in
         let same : d ∷ (ds ++ the ">" ∷ rest) ≡ c ∷ past = sym written ∙ here in (
           subst (λ e. IsTrue (continues_name e)) (same_head same) parts.0,
           record {
             name = ds;
             written = sym (same_tail same);
-            inside = left.1;
+            inside = (and_parts _ _ inside).1;
             continues = parts.1;
           },
         )
@@ -112,14 +112,6 @@ name_goes_on name longer c is continues going n =
       is_a_name = still_name name c n.is_a_name continues;
     })
 
--- the characters from one index to another stand there
-pub range_spelled : (t : Text) (at end : ℕ) → at ≤ end
-    → drop at t ≡ slice_range t at end ++ drop end t
-range_spelled t at end inside =
-    subst (λ i. drop at t ≡ slice_range t at end ++ drop i t) (omega arith)
-    (subst (λ u. drop at t ≡ slice_range t at end ++ u) (drop-drop (end - at) at t)
-    (sym (take-append-drop (end - at) (drop at t))))
-
 -- the name that stands from one index to another, where the `>` stands that ends it
 pub name_read : (t rest : Text) (at end last c : ℕ) → at ≤ end → last ≡ end → drop end t ≡ c ∷ rest
     → c ≡ the ">" → NameSoFar (slice_range t at end)
@@ -128,7 +120,7 @@ name_read t rest at end last c inside is_last here ends n =
     subst (λ i. NameWritten (drop at t) rest (slice_range t at i)) (sym is_last)
     (record {
       written = subst (λ u. drop at t ≡ slice_range t at end ++ u)
-          (subst (λ d. drop end t ≡ d ∷ rest) ends here) (range_spelled t at end inside);
+          (subst (λ d. drop end t ≡ d ∷ rest) ends here) (drop_split t at end inside);
       inside = n.inside;
       is_a_name = n.is_a_name;
     })

@@ -40,8 +40,7 @@ shorter : (names : List Text) (k : ℕ) (name : Text) → k < length names
     → get_or names k name ≡ name → length name < more_than_all names
 shorter [] k name inside is = omega (arith, inside)
 shorter (first ∷ names) zero name inside is =
-    let some = above_zero names in
-    let same = ap length is in omega (arith, same, some)
+    let same = ap length is in omega (arith, same, above_zero names)
   where
     above_zero : (names : List Text) → 0 < more_than_all names
     above_zero [] = omega arith

@@ -22,11 +22,9 @@ white_once : (t u v : Text) → WhiteSpace t u → WhiteSpace t v → EndsSide f
 white_once [] u v w x ue ve = w ∙ sym x
 white_once (c ∷ t) u v (inl w) (inl x) ue ve = w ∙ sym x
 white_once (c ∷ t) u v (inl w) (inr x) ue ve =
-    let ends = subst (λ y. EndsSide false y) w ue in
-    absurd (both_ways (is_white_space c) (not-true _ ends) x.0)
+    absurd (both_ways (is_white_space c) (not-true _ (subst (λ y. EndsSide false y) w ue)) x.0)
 white_once (c ∷ t) u v (inr w) (inl x) ue ve =
-    let ends = subst (λ y. EndsSide false y) x ve in
-    absurd (both_ways (is_white_space c) (not-true _ ends) w.0)
+    absurd (both_ways (is_white_space c) (not-true _ (subst (λ y. EndsSide false y) x ve)) w.0)
 white_once (c ∷ t) u v (inr w) (inr x) ue ve = white_once t u v w.1 x.1 ue ve
 
 pub empty_white : (t : Text) → WhiteSpace t t
@@ -212,8 +210,7 @@ pub number_too_large : {verbose : Bool} {read n m : ℕ} {t first u rest : Text}
     → DigitsRead verbose read first u n → 2 ^ 32 ≤ n → Number verbose t rest m → EndsNumber rest → ⊥
 number_too_large {verbose} {read} {n} {m} {t} {first} {u} {rest} whole d large p ends =
     let begins = number_begins whole d p ends in
-    let grown = number_grows begins.0 n in
-    omega (arith, p.in_range, begins.2, grown, large)
+    omega (arith, p.in_range, begins.2, number_grows begins.0 n, large)
 
 pub no_number : {verbose : Bool} {m : ℕ} {t rest : Text} (first : Text) → WholeSide verbose t first
     → NoDigit verbose first
@@ -271,9 +268,8 @@ number_once verbose t r s n m p q ends_p ends_q = go p.digits p.some p.written p
         → (s ≡ r) × (m ≡ n)
     go [] some w value = absurd (omega (arith, some))
     go (d ∷ ds) some w value =
-        let ends = ends_side verbose _ (digits_end d w.0 w.2) in
         let whole : WholeSide verbose t (d ∷ w.0) =
-        (side_on verbose t p.first _ p.before w.1, ends) in
+        (side_on verbose t p.first _ p.before w.1, ends_side verbose _ (digits_end d w.0 w.2)) in
         let read : DigitsRead verbose 1 (d ∷ w.0) p.last n = record {
           digits = d ∷ ds;
           written = (w.0, empty_gap verbose (d ∷ w.0), w.2, w.3);

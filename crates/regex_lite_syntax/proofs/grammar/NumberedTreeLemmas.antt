@@ -107,9 +107,7 @@ greatest_inside : (low high : ℕ) (list : List Tree) → AllWithin low high lis
     → greatest_index_in (trees list) ≤ high
 greatest_inside low high [] is = omega arith
 greatest_inside low high (a ∷ rest) (mid, first, later) =
-    let further = greatest_inside mid high rest later in
-    let less = ordered mid high rest later in
-    omega (arith, first.inside, further, less)
+    omega (arith, first.inside, greatest_inside mid high rest later, ordered mid high rest later)
 
 pub leaf : (low high : ℕ) (a : Tree) → IsNumbered low a → greatest_index a ≡ 0 → low ≤ high
     → Within low high a
@@ -248,5 +246,4 @@ numbered_increasing a low is k inside =
 pub numbered_differ : (a : Tree) (low : ℕ) → IsNumbered low a → IndicesDiffer a
 numbered_differ a low is i j d less inside =
     let grows = AllPairs-from_increasing (indices a) (numbered_increasing a low is) in
-    let apart = grows i j d less inside in
-    λ same. omega (arith, apart, same)
+    λ same. omega (arith, grows i j d less inside, same)

@@ -53,9 +53,8 @@ atom_none flags t rest a d =
 gap_keeps : (p q : Point) → PastGap p q → q.groups ≡ p.groups
 gap_keeps p q past = ap (λ (z : Point). z.groups) past.1
 
-directive_keeps : (p q : Point) → Directive p q → q.groups ≡ p.groups
-directive_keeps p q (sets opened first rest new e gap differs letters q_is) =
-    ap (λ (z : Point). z.groups) q_is
+pub directive_keeps : {p q : Point} → Directive p q → q.groups ≡ p.groups
+directive_keeps (sets o f r new e g n letters h) = ap (λ (x : Point). x.groups) h
 
 -- the body of a group is numbered on from the group itself
 group_within : {level : ℕ} (p q : Point) (kind : GroupKind) (high : ℕ) (body : Tree)
@@ -116,19 +115,17 @@ mutual
       subst (λ x. AllWithin p.groups q.groups x) (sym items_are)
       (subst (λ n. AllWithin p.groups n (before ++ again ∷ [])) (sym ends) all)
   branch_within {p} {q} {items} (directive last here d past s) =
-      let ends : q.groups ≡ last.groups = directive_keeps here q s ∙ gap_keeps last here past in
+      let ends : q.groups ≡ last.groups = directive_keeps s ∙ gap_keeps last here past in
       subst (λ n. AllWithin p.groups n items) (sym ends) (branch_within d)
 
   alternatives_within : {level : ℕ} {p q : Point} {branches : List Tree}
       → Alternatives level p q branches → AllWithin p.groups q.groups branches
   alternatives_within {p} {q} (only items d branches_are) =
-      let only_item = sequence_within p.groups q.groups items (branch_within d) in
       subst (λ x. AllWithin p.groups q.groups x) (sym branches_are)
-      (q.groups, only_item, omega arith)
+      (q.groups, sequence_within p.groups q.groups items (branch_within d), omega arith)
   alternatives_within {p} {q} (further last here before items rest d past e b branches_are) =
-      let last_one = sequence_within here.groups q.groups items (branch_within b) in
       let moved = subst (λ n. Within n q.groups (sequence_of items)) (gap_keeps last here past)
-      last_one in
+      (sequence_within here.groups q.groups items (branch_within b)) in
       subst (λ x. AllWithin p.groups q.groups x) (sym branches_are)
       (all_with p.groups last.groups q.groups before (sequence_of items) (alternatives_within d)
       moved)

@@ -5,6 +5,7 @@ use Rattle.regex_lite_syntax.specs.Text.{Text, the}
 use Rattle.regex_lite_syntax.specs.Characters.{AreCharacters}
 use Rattle.regex_lite_syntax.specs.Grammar.Gaps.{Gap}
 use Rattle.regex_lite_syntax.proofs.grammar.ScanLemmas.{Scan, scan_of_spacing, spacing_of_scan}
+use Rattle.regex_lite_syntax.proofs.grammar.ScanLemmas.{scan_nothing}
 
 -- what goes on after a gap at the end: in verbose mode a line feed, which ends a comment
 abbrev pub resumed : (verbose : Bool) → Text
@@ -18,16 +19,8 @@ resumed_characters false t all = all
 
 scan_resumed : (in_comment : Bool) (t next : Text) → Scan in_comment t []
     → Scan in_comment (t ++ the "\n" ∷ next) next
-scan_resumed false [] next s = inr (inl (refl, rest_of next))
-  where
-    rest_of : (u : Text) → Scan false u u
-    rest_of [] = refl
-    rest_of (c ∷ u) = inl refl
-scan_resumed true [] next s = inl (refl, rest_of next)
-  where
-    rest_of : (u : Text) → Scan false u u
-    rest_of [] = refl
-    rest_of (c ∷ u) = inl refl
+scan_resumed false [] next s = inr (inl (refl, scan_nothing next))
+scan_resumed true [] next s = inl (refl, scan_nothing next)
 scan_resumed false (c ∷ t) next (inl s) = absurd (cc s)
 scan_resumed false (c ∷ t) next (inr (inl s)) = inr (inl (s.0, scan_resumed false t next s.1))
 scan_resumed false (c ∷ t) next (inr (inr s)) = inr (inr (s.0, scan_resumed true t next s.1))

@@ -63,7 +63,7 @@ pub spacing_of_scan : (t rest : Text) → Scan false t rest → Spacing t rest
 spacing_of_scan t rest s = left_of_scan false t rest s
 
 -- and pieces are passed so
-scan_nothing : (t : Text) → Scan false t t
+pub scan_nothing : (t : Text) → Scan false t t
 scan_nothing [] = refl
 scan_nothing (c ∷ t) = inl refl
 

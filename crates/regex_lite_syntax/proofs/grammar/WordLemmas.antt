@@ -24,8 +24,7 @@ longest_once kind (c ∷ v) (d ∷ w) t r s a b p q lr ls =
     let of_v : IsTrue (list_all kind v) = (and_parts (kind c) _ p).1 in
     let of_w : IsTrue (list_all kind w) = (and_parts (kind d) _ q).1 in
     let rest = longest_once kind v w (v ++ r) r s refl (same_tail same) of_v of_w lr ls in
-    let heads = same_head same in
-    (cc (heads, rest.0), rest.1)
+    (cc (same_head same, rest.0), rest.1)
 
 pub word_once : (kind : ℕ → Bool) (v w t r s : Text) → t ≡ v ++ r → t ≡ w ++ s → AllPass kind v
     → AllPass kind w

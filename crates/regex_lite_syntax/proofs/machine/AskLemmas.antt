@@ -126,8 +126,7 @@ literal_ends : (verbose : Bool) (c : ℕ) (t : Text) → is_literal verbose c �
     → EndsGap verbose (c ∷ t)
 literal_ends false c t e = tt
 literal_ends true c t e =
-    let both = and_parts _ _ e in
-    let blank = or_parts (is_white_space c) (c == the "#") (not-true _ both.1) in
+    let blank = or_parts (is_white_space c) (c == the "#") (not-true _ (and_parts _ _ e).1) in
     (rw blank.0 refl, eqb-false c (the "#") blank.1)
 
 -- a sign ends a gap

@@ -37,8 +37,7 @@ over_atom : (p here q : Point) (a : Tree) (frames : List Frame) (branches items 
     → LeadsOn (standing p frames branches items) (standing q frames branches (items ++ a ∷ []))
 unfolding with_items
 over_atom p here q a frames branches items past d e =
-    let st = step_atom (standing p frames branches items) here q.rest a past d in
-    go _ st (stay (cc e))
+    go _ (step_atom (standing p frames branches items) here q.rest a past d) (stay (cc e))
 
 over_operator : (p here q : Point) (least : ℕ) (most : Option ℕ) (greedy : Bool)
     (frames : List Frame)
@@ -50,8 +49,7 @@ over_operator : (p here q : Point) (least : ℕ) (most : Option ℕ) (greedy : B
 unfolding with_items
 over_operator p here q least most greedy frames branches before a past o e =
     let s = standing p frames branches (before ++ a ∷ []) in
-    let st = step_operate s here q.rest before a least most greedy past refl o in
-    go _ st (stay (cc e))
+    go _ (step_operate s here q.rest before a least most greedy past refl o) (stay (cc e))
 
 over_directive : (p here q : Point) (frames : List Frame) (branches items : List Tree)
     → PastGap p here

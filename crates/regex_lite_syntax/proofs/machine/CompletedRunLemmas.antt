@@ -209,8 +209,7 @@ settled_at_end verbose t next gap = record {
       whole_gap_leads verbose all (the "_" ∷ next) (the "?" ∷ first)
       (gap_resumed verbose t (the "_" ∷ next) gap, item_ends verbose next) question
       (question_ends first) in
-      let e = same_head same in
-      omega (arith, e);
+      omega (arith, same_head same);
 }
 
 -- and where it ends with groups open

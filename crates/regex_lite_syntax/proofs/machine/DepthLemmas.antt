@@ -52,8 +52,7 @@ does_deepen paren s p q (inr d) =
     deepens_as d.2
     (record { within = omega (arith, deepest); keeps = λ h. omega (arith, deepest, h) })
 does_deepen closing s p q d =
-    let fewer = ap length d.4 in
-    deepens_as d.5 (record { within = omega arith; keeps = λ h. omega (arith, fewer, h) })
+    deepens_as d.5 (record { within = omega arith; keeps = λ h. omega (arith, ap length d.4, h) })
 does_deepen bar s p q d =
     deepens_as d.2 (record { within = omega arith; keeps = λ h. omega (arith, h) })
 does_deepen operator s p q d =
@@ -76,8 +75,7 @@ deep_on : {s q : State} → length s.frames ≤ s.point.deepest → LeadsOn s q
 deep_on {s} h (stay e) = subst (λ (x : State). length x.frames ≤ x.point.deepest) e h
 deep_on {s} h (go m st l) =
     let d = does_deepen (kind_at st.past.rest) s st.past m st.does in
-    let gap = same_deepest s.point st.past st.gap in
-    deep_on (d.keeps (omega (arith, gap, h))) l
+    deep_on (d.keeps (omega (arith, same_deepest s.point st.past st.gap, h))) l
 
 -- and as deep as that they have stood
 pub frames_deep : {flags : Flags} {pattern : Text} {s : State}

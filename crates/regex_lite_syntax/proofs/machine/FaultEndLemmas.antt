@@ -14,7 +14,6 @@ use Rattle.regex_lite_syntax.specs.Errors.{refused_replacement}
 use Rattle.regex_lite_syntax.specs.FaultPlaces.{BeginsNone, BeginsSome, IsEndOfFault, IsUntold}
 use Rattle.regex_lite_syntax.specs.Grammar.{HasTree}
 use Rattle.regex_lite_syntax.specs.Grammar.Gaps.{WholeGap}
-use Rattle.regex_lite_syntax.specs.Limits.{openings}
 use Rattle.regex_lite_syntax.specs.Parser.FaultEnds.{IsRefusedUnread, GoesOnFrom, IsEndAbove}
 use Rattle.regex_lite_syntax.specs.Parser.States.{state, CanRead, CanReadOn, BeginsTooMany}
 use Rattle.regex_lite_syntax.specs.CutShort.{is_cut_short}
@@ -26,7 +25,6 @@ use Rattle.regex_lite_syntax.proofs.machine.DepthLemmas.{head_opens}
 use Rattle.regex_lite_syntax.proofs.machine.CompletedRunLemmas.{reads_on}
 use Rattle.regex_lite_syntax.proofs.machine.FaultLemmas.{Comes, says_for_good}
 use Rattle.regex_lite_syntax.proofs.machine.GrowthLemmas.{more_parens}
-use Rattle.regex_lite_syntax.proofs.machine.ParenLemmas.{parens_more}
 
 -- the pattern begins an accepted one if it is one
 pub tree_goes_on : (flags : Flags) (pattern : Text) → HasTree flags pattern
@@ -63,10 +61,9 @@ pub end_of_fault : (flags : Flags) (t : Text) (start low high end : ℕ) → sta
     → IsEndOfFault flags t start end
 end_of_fault flags t start low high end above inside goes_on e =
     let past = e.past in
-    let fits = e.inside in
     record {
       past = omega (arith, above, past);
-      inside = omega (arith, inside, fits);
+      inside = omega (arith, inside, e.inside);
       none = e.none;
       least = λ k after before.
           elim (goes_on_past flags t start low (end - 1) goes_on e.before) [
@@ -101,13 +98,10 @@ unfolding state
 refused_unread flags pattern p t u starts (syntax_error fault) c whole other says =
     absurd (other refl)
 refused_unread flags pattern p t u starts too_many_groups c whole other says =
-    let s = state p t c.deepest in
     let here = (state p u c.deepest).point in
-    let head = says.1.1 c.deepest in
-    let begun = head_opens head.1 in
-    let more = more_parens s here begun.0 c.leads (whole.0, refl) begun.1 in
-    let many = says.0 in
-    omega (arith, many, more.1)
+    let begun = head_opens (says.1.1 c.deepest).1 in
+    let more = more_parens (state p t c.deepest) here begun.0 c.leads (whole.0, refl) begun.1 in
+    omega (arith, says.0, more.1)
 refused_unread flags pattern p t u starts out_of_memory c whole other says = tt
 refused_unread flags pattern p t u starts too_deep c whole other says = absurd says
 refused_unread flags pattern p t u starts (passed_limit limit) c whole other says = absurd says

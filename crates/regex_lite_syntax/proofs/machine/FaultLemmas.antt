@@ -79,19 +79,17 @@ tracked : (pattern : Text) (s q : State) (p : Point) (old new : List ℕ) (here 
     → Tracks old new (length q.frames) here → Tracked pattern q next new
 tracked pattern s q p old new here next there (opens more e) many tracks =
     let is = tracks.opened (omega (arith, more, many)) in
-    let longer = ap length is ∙ length_push old here in
     record {
       texts =
           e ∙ ap (λ t. t ∷ texts_at pattern old) there
           ∙ sym (reverse_pushed (λ i. drop i pattern) new old here is);
-      many = omega (arith, longer, more, many);
+      many = omega (arith, ap length is ∙ length_push old here, more, many);
     }
 tracked pattern s q p old new here next there (closes text fewer e) many tracks =
     let last = tracks.closed (omega (arith, fewer, many)) in
-    let longer = ap length last.1 ∙ length_push new last.0 in
     record {
       texts = same_tail (sym e ∙ reverse_pushed (λ i. drop i pattern) old new last.0 last.1);
-      many = omega (arith, longer, fewer, many);
+      many = omega (arith, ap length last.1 ∙ length_push new last.0, fewer, many);
     }
 tracked pattern s q p old new here next there (stays same e) many tracks =
     let is = tracks.same (same ∙ sym many) in
@@ -220,9 +218,7 @@ end_found flags pattern p t starts outer (Some k) before after c gap is many cas
   where
     at_head : IsUnclosedAt flags pattern k → k < length pattern
     at_head u =
-        let here = length-drop k pattern in
-        let head = ap length (sym u.begins ∙ (head_opens u.head).1) in
-        omega (arith, here, head)
+        omega (arith, length-drop k pattern, ap length (sym u.begins ∙ (head_opens u.head).1))
 
 none_before : (t more : Text) → t ++ more ≡ [] → t ≡ []
 none_before [] more e = refl

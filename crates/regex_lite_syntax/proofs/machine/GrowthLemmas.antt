@@ -21,6 +21,7 @@ use Rattle.regex_lite_syntax.proofs.machine.ParenLemmas.{parens, one_paren, NoMo
 use Rattle.regex_lite_syntax.proofs.machine.ParenLemmas.{then_read, past_first, one_read}
 use Rattle.regex_lite_syntax.proofs.machine.ParenLemmas.{gap_reads, gap_and_one, operator_reads}
 use Rattle.regex_lite_syntax.proofs.machine.ParenLemmas.{atom_reads, letters_read, named_reads}
+use Rattle.regex_lite_syntax.proofs.grammar.NumberingLemmas.{directive_keeps}
 
 -- at the second point as much has been counted as at the first, or more
 pub record Grows (p q : Point) : Type 0 where
@@ -145,8 +146,7 @@ unfolding opened
 opens_number {index} {name} s here first l past head g =
     let reached =
     reaches (leads_step l (step_open s here first (capturing index name) past head)) g in
-    let before = gap_grows past in
-    omega (arith, before.groups_grow, head_numbers head tt, reached.groups_reach)
+    omega (arith, (gap_grows past).groups_grow, head_numbers head tt, reached.groups_reach)
 
 -- open groups and the `(` that are left are no more than before, nor are numbered groups and these
 pub record Spends (s q : State) : Type 0 where
@@ -179,9 +179,6 @@ directive_reads {p} (sets o f r new e g n letters h) =
     let question = gap_and_one p.flags.ignore_whitespace o f (the "?") g in
     let reads = then_read question (then_read (letters_read letters) (past_first (the ")") r)) in
     subst (λ (x : Point). NoMore p.rest x.rest) (sym h) (then_read (one_read e) reads)
-
-directive_numbers : {p q : Point} → Directive p q → q.groups ≡ p.groups
-directive_numbers (sets o f r new e g n letters h) = ap (λ (x : Point). x.groups) h
 
 pub past_gap_reads : {p q : Point} → PastGap p q → NoMore p.rest q.rest
 past_gap_reads {p} {q} past = gap_reads p.flags.ignore_whitespace p.rest q.rest past.0
@@ -218,7 +215,7 @@ does_spend paren s p q past (inl d) =
     (spends_one past (head_takes d.2) (sym (add-one (length s.frames))))
 does_spend paren s p q past (inr d) =
     subst (λ x. Spends s x) (sym d.2)
-    (spends_none past (directive_reads d.1) (omega arith) (directive_numbers d.1))
+    (spends_none past (directive_reads d.1) (omega arith) (directive_keeps d.1))
 does_spend closing s p q past d =
     let fewer = ap length d.4 in
     subst (λ x. Spends s x) (sym d.5) (spends_none past (one_read d.3) (omega (arith, fewer)) refl)

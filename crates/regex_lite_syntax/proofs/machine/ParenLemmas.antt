@@ -52,11 +52,9 @@ pub record NoMore (t rest : Text) : Type 0 where
 
 pub nothing_read : {t rest : Text} → t ≡ rest → NoMore t rest
 nothing_read {t} {rest} e =
-    let same = ap parens e in
-    let long = ap length e in
     record {
-      shorter = omega (arith, long);
-      within = omega (arith, same);
+      shorter = omega (arith, ap length e);
+      within = omega (arith, ap parens e);
       characters = λ all. subst (λ u. AreCharacters u) e all;
     }
 

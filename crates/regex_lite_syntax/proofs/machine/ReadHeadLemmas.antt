@@ -123,8 +123,7 @@ longer_question more verbose begun u first whole e =
 longer_whole : (more : Text) (verbose : Bool) (begun u past : Text) → WholeGap verbose begun u
     → NameOpening u past → WholeGap verbose (begun ++ more) (u ++ more)
 longer_whole more verbose begun u past whole opens =
-    let question = opening_question u past opens in
-    whole_longer more verbose begun u whole (λ none. cc (none, question.1))
+    whole_longer more verbose begun u whole (λ none. cc (none, (opening_question u past opens).1))
 
 -- where a name is opened and none follows, nothing can be read
 pub reads_no_name : (fault : SyntaxFault) (p : Parser) (t begun first past : Text)

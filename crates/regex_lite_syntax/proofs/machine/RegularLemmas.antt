@@ -214,8 +214,7 @@ mutual
       → AreCharacters p.rest → RegularTo branches q
   alternatives_regular (only items d branches_are) all =
       let whole = branch_regular d all in
-      let one = sequence_regular items whole.0 in
-      (subst (λ x. AllRegular x) (sym branches_are) (one, tt), whole.1)
+      (subst (λ x. AllRegular x) (sym branches_are) (sequence_regular items whole.0, tt), whole.1)
   alternatives_regular (further last here before items rest d past e b branches_are) all =
       let first = alternatives_regular d all in
       let bar = subst (λ u. AreCharacters u) e ((past_gap_reads past).characters first.1) in

@@ -90,9 +90,8 @@ pub reaches_tree : (flags : Flags) (nest_limit : ℕ) (pattern : Text) (p : Pars
 unfolding state
 reaches_tree flags nest_limit pattern p t a r gap finishes =
     let f = finishes t r.deepest in
-    let s = state p t r.deepest in
     subst (λ b. Grammar flags pattern b p.groups r.deepest) (sym f.1)
-    (sound flags pattern s r.leads f.0 gap r.differ r.characters)
+    (sound flags pattern (state p t r.deepest) r.leads f.0 gap r.differ r.characters)
 
 pub admitted : (flags : Flags) (nest_limit : ℕ) (pattern : Text) (p : Parser) (t : Text) (a : Tree)
     → Reaches flags nest_limit pattern p t → Gap p.here.flags.ignore_whitespace t []
@@ -158,7 +157,6 @@ pub stuck_refused : (flags : Flags) (nest_limit : ℕ) (pattern : Text) (p : Par
 unfolding state
 stuck_refused flags nest_limit pattern p t u r whole more stuck has =
     let s = state p t r.deepest in
-    let verbose = p.here.flags.ignore_whitespace in
     refuses flags pattern s r.leads
     (λ q st. stuck (
       r.deepest,
@@ -166,7 +164,7 @@ stuck_refused flags nest_limit pattern p t u r whole more stuck has =
       step_past_gap s q u whole st,
       (reaches (leads_step r.leads st) has.1.2).names_differ,
     ))
-    (λ _ gap. more (gap_to_end verbose t u whole gap)) has
+    (λ _ gap. more (gap_to_end p.here.flags.ignore_whitespace t u whole gap)) has
 
 -- where a further group can't be numbered
 pub number_refused : (flags : Flags) (nest_limit : ℕ) (pattern : Text) (p : Parser) (t u : Text)
@@ -181,8 +179,7 @@ number_refused flags nest_limit pattern p t u r whole many capture =
     let more = more_parens s here begun.0 r.leads (whole.0, refl) begun.1 in
     record {
       with_tree = λ tree groups deepest g.
-          let number = opens_number s here head.0 r.leads (whole.0, refl) head.1 g in
-          omega (arith, many, number);
+          omega (arith, many, opens_number s here head.0 r.leads (whole.0, refl) head.1 g);
       without = λ none. omega (arith, many, more.1);
     }
 

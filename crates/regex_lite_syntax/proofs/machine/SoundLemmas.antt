@@ -118,7 +118,6 @@ closed_on begin begun s p f frames rest e h past c =
     let inner =
     subst (λ n. Alternatives n h.from s.point (ended s)) (sym (add-one (length frames))) all in
     let after = ap (λ x. record p { rest = rest; flags = x }) below.7 in
-    let whole = group h.from s.point p f.kind (ended s) rest below.6 inner past c after refl in
     record {
       next = below.3;
       stands = record {
@@ -126,7 +125,7 @@ closed_on begin begun s p f frames rest e h past c =
         below = below.9;
         here =
             with_item (length frames) below.0 below.1 below.2 _ f.branches f.items _ below.4
-            below.5 whole;
+            below.5 (group h.from s.point p f.kind (ended s) rest below.6 inner past c after refl);
       };
       keeps = closes below.2.rest (add-one (length frames) ∙ sym (ap length e)) below.8;
     }
@@ -159,9 +158,8 @@ does_keeps bar begin begun s p q h past d =
     subst (λ x. StandsOn begin begun s p x) (sym d.2)
     (same_groups (record { from = h.from; below = h.below; here = partial }) refl)
 does_keeps operator begin begun s p q h past d =
-    let last = onward p d.0 in
     let of_items =
-    with_operator _ h.from s.point p last s.branches s.items d.1 d.2 d.3 d.4 d.5 d.6 in
+    with_operator _ h.from s.point p (onward p d.0) s.branches s.items d.1 d.2 d.3 d.4 d.5 d.6 in
     let partial = of_items h.here past d.7 refl in
     subst (λ x. StandsOn begin begun s p x) (sym d.8)
     (same_groups (record { from = h.from; below = h.below; here = partial }) refl)

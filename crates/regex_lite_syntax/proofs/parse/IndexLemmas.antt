@@ -1,9 +1,10 @@
 -- What is left of a text at an index.
-use Rattle.std.proofs.Common.{◌≡◌, ◌≢◌, sym, ◌∙◌, ap, subst, ℕ, ◌+◌, ◌<◌}
+use Rattle.std.proofs.Common.{◌≡◌, ◌≢◌, sym, ◌∙◌, ap, subst, ℕ, ◌+◌, ◌<◌, Bool}
 use Rattle.std.proofs.Common.{drop, length, [], ◌∷◌, get_or, arith, add-one}
 use Rattle.std.proofs.Math.Seq.{drop-cons}
 use Rattle.std.proofs.lemmas.List.{drop_all, get_or_read}
 use Rattle.regex_lite_syntax.specs.Text.{Text, Begins}
+use Rattle.regex_lite_syntax.specs.Grammar.Gaps.{Gap, WholeGap}
 
 -- the character at the index stands first in what is left
 pub drop_at : (xs : Text) (i : ℕ) → i < length xs → drop i xs ≡ get_or xs i 0 ∷ drop (i + 1) xs
@@ -23,6 +24,11 @@ drop_begins xs i c h begins =
 
 pub left_at_end : (xs : Text) (i : ℕ) → i ≡ length xs → drop i xs ≡ []
 left_at_end xs i e = drop_all i xs (omega (arith, e))
+
+-- a gap up to the end
+pub gap_at_end : (verbose : Bool) (t xs : Text) (i : ℕ) → i ≡ length xs
+    → WholeGap verbose t (drop i xs) → Gap verbose t []
+gap_at_end verbose t xs i e whole = subst (λ u. Gap verbose t u) (left_at_end xs i e) whole.0
 
 -- and something is left
 pub some_at : (xs : Text) (i : ℕ) → i < length xs → drop i xs ≢ []

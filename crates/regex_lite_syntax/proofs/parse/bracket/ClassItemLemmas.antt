@@ -71,9 +71,8 @@ pub closed_past_dash : (verbose : Bool) (t past u : Text) → WholeGap verbose t
 closed_past_dash verbose t past u gap gap' some (at_once g) =
     let clash = whole_gap_once verbose t _ [] gap g in cc clash
 closed_past_dash verbose t past u gap gap' some (past_dash v g h) =
-    let same = same_tail (whole_gap_once verbose t _ _ gap g) in
     some (whole_gap_once verbose past u [] gap'
-    (subst (λ w. WholeGap verbose w []) (sym same) h))
+    (subst (λ w. WholeGap verbose w []) (sym (same_tail (whole_gap_once verbose t _ _ gap g))) h))
 
 pub some_past : (verbose : Bool) (t : Text) → (EndsOpen verbose t → ⊥) → t ≢ []
 some_past verbose t closed e =

@@ -30,9 +30,7 @@ starts_name (c ∷ w) [] more past e all =
 starts_name (c ∷ w) (d ∷ name) more past e all =
     let rest = starts_name w name more past (same_tail e)
     (and_parts (is_lower c) (list_all is_lower w) all).1 in
-    let heads = same_head e in
-    let tails = rest.1 in
-    (rest.0, cc (heads, tails))
+    (rest.0, cc (same_head e, rest.1))
 
 -- a letter is no sign of negation
 no_caret : (m : Bool) (opened u : Text) (c : ℕ) (more : Text)
@@ -40,8 +38,7 @@ no_caret : (m : Bool) (opened u : Text) (c : ℕ) (more : Text)
     → Begins (the "^") (opened ++ more) → ⊥
 no_caret true opened u c more e letter h b = cc h
 no_caret false opened u c more e letter h b =
-    let here = subst (λ v. Begins (the "^") (v ++ more)) e b in
-    both_ways (is_lower c) (ap is_lower here) letter
+    both_ways (is_lower c) (ap is_lower (subst (λ v. Begins (the "^") (v ++ more)) e b)) letter
 
 -- so does that of a set that stands in a longer text
 pub name_starts : (more opened w : Text) (m : Bool)

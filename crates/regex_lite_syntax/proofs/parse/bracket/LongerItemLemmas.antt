@@ -1,6 +1,6 @@
 -- Items of a class in a longer text that begins with the text, and what is refused in each.
 use Rattle.std.proofs.Common.{◌≡◌, ◌≢◌, refl, sym, ◌∙◌, ap, subst, ℕ, Bool, true, false}
-use Rattle.std.proofs.Common.{◌<◌, drop, length, [], ◌∷◌, ◌++◌, codes, if◌then◌else◌}
+use Rattle.std.proofs.Common.{[], ◌∷◌, ◌++◌, codes, if◌then◌else◌}
 use Rattle.std.proofs.Common.{append_assoc}
 use Rattle.std.proofs.lemmas.List.{append-nil}
 use Rattle.std.specs.List.{AllPass}
@@ -25,12 +25,7 @@ use Rattle.regex_lite_syntax.proofs.grammar.LongerEscapeLemmas.{hexadecimal_long
 use Rattle.regex_lite_syntax.proofs.grammar.LongerClassLemmas.{negation_longer, named_longer}
 use Rattle.regex_lite_syntax.proofs.grammar.LongerClassLemmas.{element_two, begins_item}
 use Rattle.regex_lite_syntax.proofs.grammar.LongerClassLemmas.{element_longer, follows_longer}
-use Rattle.regex_lite_syntax.proofs.parse.IndexLemmas.{drop_at}
 use Rattle.regex_lite_syntax.proofs.parse.bracket.ClassItemLemmas.{item_range}
-
--- before the end something is left
-pub some_at : (xs : Text) (i : ℕ) → i < length xs → drop i xs ≢ []
-some_at xs i h e = let clash = sym (drop_at xs i h) ∙ e in cc clash
 
 -- sets by their names: where no sign of negation stood, none stands in a longer text, unless the
 -- text ends there

@@ -49,8 +49,7 @@ pub none_named : (w name : Text) (set : SetName)
     → w ≡ name
     → set_named name ≡ Some set → ⊥
 none_named w name set none same named =
-    let clash = ap (option_map name_of) none ∙ first_named w ∙ ap set_named same ∙ named in
-    cc clash
+    cc (ap (option_map name_of) none ∙ first_named w ∙ ap set_named same ∙ named)
 
 -- each set is named by its name, which is of letters
 named_itself : (s : NamedSet)
@@ -77,9 +76,7 @@ same_text [] (d ∷ u) e = cc e
 same_text (c ∷ t) [] e = cc e
 same_text (c ∷ t) (d ∷ u) e =
     let parts = and_parts (c == d) (is_text t u) e in
-    let heads = eqb-true c d parts.0 in
-    let tails = same_text t u parts.1 in
-    cc (heads, tails)
+    cc (eqb-true c d parts.0, same_text t u parts.1)
 
 begins_itself : (w left : Text) → is_beginning w (w ++ left) ≡ true
 begins_itself [] left = refl
@@ -90,10 +87,8 @@ what_is_left [] t e = (t, refl)
 what_is_left (c ∷ w) [] e = absurd (cc e)
 what_is_left (c ∷ w) (d ∷ t) e =
     let parts = and_parts (c == d) (is_beginning w t) e in
-    let heads = eqb-true c d parts.0 in
     let rest = what_is_left w t parts.1 in
-    let tails = rest.1 in
-    (rest.0, cc (heads, tails))
+    (rest.0, cc (eqb-true c d parts.0, rest.1))
 
 -- the first of all that pass the one test passes it, and where it passes another, one of all does
 found_passes : {X : Type 0} (p q : X → Bool) (xs : List X) (x : X) → find p xs ≡ Some x

@@ -86,9 +86,7 @@ character_below c h =
 on_too_large : (verbose : Bool) (number : ℕ) (digits t last : Text) (c : ℕ) → 0x110000 ≤ number
     → DigitsOn verbose number digits t last c → ⊥
 on_too_large verbose number digits t last c large on =
-    let grown = on_grows digits number in
-    let below = character_below (number_on number digits) on.scalar in
-    omega (arith, grown, below)
+    omega (arith, on_grows digits number, character_below (number_on number digits) on.scalar)
 
 -- what is out of range is no character
 pub no_character : (n : ℕ) → OutOfScalarRange n → IsTrue (is_character n) → ⊥

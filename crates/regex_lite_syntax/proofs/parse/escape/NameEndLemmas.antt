@@ -121,8 +121,7 @@ begins_with verbose (l ∷ ls) (d ∷ ds) t last more last' rest a b closes =
     let further = begins_with verbose ls ds a.0 last more last' rest a.3
     (subst (λ v. Spaced verbose is_boundary_character ds v last') (sym (same_tail first)) b.3)
     closes in
-    let head = same_head first in
-    (further.0, cc (head, further.1))
+    (further.0, cc (same_head first, further.1))
 
 pub ends_in_its_name : (verbose : Bool) (ls t last more rest : Text) (look : Look)
     → Spaced verbose is_boundary_character ls t last → Gap verbose last []

@@ -1,7 +1,7 @@
 -- Which numbers hexadecimal digits make of one that has been read.
 use Rattle.std.proofs.Common.{◌≡◌, refl, sym, ◌∙◌, ap, subst, ℕ, zero, suc, ◌+◌, ◌*◌, ◌/◌, ◌%◌}
 use Rattle.std.proofs.Common.{◌<◌, ◌≤◌, length, true, [], ◌∷◌, ◌++◌, IsTrue}
-use Rattle.std.proofs.Common.{codes, arith, add-one, length-append, min, ◌&&◌, ◌==◌, nat_lt}
+use Rattle.std.proofs.Common.{codes, arith, length-append, min, ◌&&◌, ◌==◌, nat_lt}
 use Rattle.std.proofs.Common.{if◌then◌else◌}
 use Rattle.std.specs.List.{list_all}
 use Rattle.std.proofs.lemmas.Bool.{and_parts, and_from, agree_below_at, eqb-true}
@@ -68,9 +68,8 @@ within (suc k) number (d ∷ digits) count all =
     let low = lowest_above k (number * 16) (number * 16 + value) (omega arith) in
     let high =
     highest_above k (number * 16 + value) (number * 16 + 15) (omega (arith, small)) in
-    let first = lowest_first k number in
     let last = highest_first k number in
-    (omega (arith, further, low, first), omega (arith, further, high, last))
+    (omega (arith, further, low, lowest_first k number), omega (arith, further, high, last))
 
 -- and some digits make each number between them
 made_next : (k number c : ℕ) (digits : Text) → length digits ≡ k
@@ -120,9 +119,8 @@ pub unreached : (k number least low high last : ℕ) → low ≡ min (lowest k n
 unreached k number least low high last first end is_last none further count reaches =
     let bounds = within k number further count reaches.are_digits in
     let c = number_on number further in
-    let below = character_below c reaches.scalar in
     none c (omega (arith, bounds)) reaches.far
-    (is_last c reaches.scalar (omega (arith, bounds, below)))
+    (is_last c reaches.scalar (omega (arith, bounds, character_below c reaches.scalar)))
 
 -- with `k` digits or more the number is no smaller than the least with `k`
 with_more : (k number : ℕ) (digits : Text) → k ≤ length digits
@@ -131,10 +129,9 @@ with_more zero number digits many = on_grows digits number
 with_more (suc k) number [] many = absurd (omega (arith, many))
 with_more (suc k) number (d ∷ digits) many =
     let value = digit_value d in
-    let further = with_more k (number * 16 + value) digits (omega (arith, many)) in
     let low = lowest_above k (number * 16) (number * 16 + value) (omega arith) in
     let first = lowest_first k number in
-    omega (arith, further, low, first)
+    omega (arith, with_more k (number * 16 + value) digits (omega (arith, many)), low, first)
 
 -- with six further digits every number but 0 is too large
 pub six_too_many : (number least : ℕ) (further : Text) → 0 < number → 6 ≤ length further
@@ -142,8 +139,7 @@ pub six_too_many : (number least : ℕ) (further : Text) → 0 < number → 6 �
 six_too_many number least further some many reaches =
     let grown : number * 16 * 16 * 16 * 16 * 16 * 16 ≤ number_on number further =
     with_more 6 number further many in
-    let below = character_below (number_on number further) reaches.scalar in
-    omega (arith, some, grown, below)
+    omega (arith, some, grown, character_below (number_on number further) reaches.scalar)
 
 -- after 0 the digits of the last character may follow
 pub last_reached : (number least : ℕ) → number ≡ 0 → least ≤ 0x10FFFF

@@ -131,8 +131,7 @@ pub knows_more : (set more : BTreeSet (RcStr Global)) (given : List (RcStr Globa
     ≡ cond (bytes_eq (rc_str_bytes key) bytes) true (set_has_name set bytes))
     → Knows more (given ++ last ∷ [])
 knows_more set more given key last knows same added bytes =
-    let turn = either_way (rc_str_bytes key) bytes ∙ ap (bytes_eq bytes) (sym same) in
     added bytes ∙ ap (cond (bytes_eq (rc_str_bytes key) bytes) true) (knows bytes)
     ∙ one_more (bytes_eq (rc_str_bytes key) bytes) (bytes_eq bytes (rc_str_bytes last))
-    (has_name given bytes) turn
+    (has_name given bytes) (either_way (rc_str_bytes key) bytes ∙ ap (bytes_eq bytes) (sym same))
     ∙ sym (list_any-append (λ name. bytes_eq bytes (rc_str_bytes name)) given (last ∷ []))

@@ -4,13 +4,7 @@ use Rattle.std.proofs.Common.{drop, take, get_or, slice_range, arith, length-tak
 use Rattle.std.proofs.Common.{append_assoc}
 use Rattle.std.proofs.Math.Seq.{take-suc}
 use Rattle.std.proofs.lemmas.List.{get_or-drop}
-use Rattle.std.proofs.lemmas.List.Folds.{drop_split}
 use Rattle.regex_lite_syntax.specs.Text.{Text}
-
--- a part of the characters stands there
-pub slice_spelled : (xs : Text) (at end : ℕ) → at ≤ end
-    → drop at xs ≡ slice_range xs at end ++ drop end xs
-slice_spelled xs at end h = drop_split xs at end h
 
 pub slice_length : (xs : Text) (at end : ℕ) → end ≤ length xs
     → length (slice_range xs at end) ≡ end - at

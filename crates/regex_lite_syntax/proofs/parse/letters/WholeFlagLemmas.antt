@@ -78,14 +78,13 @@ second_run old on t u past rest new run here flags = of_letters flags.letters
     of_letters (clearing on' off past' p q some all all_off differ e) =
         let same =
         run_once [] [] on on' t u (the "-" ∷ past') run (dash_run on' off t past' p all differ) in
-        let past_is = same_tail (sym same.1 ∙ here) in
         let other : LetterRun on' off past' rest =
         record { written = q; all = all_off; differ = differ; ends = ends_run rest flags.ends } in
         record {
           off = off;
           run =
               subst (λ w. LetterRun w off past rest) (sym same.0)
-              (subst (λ w. LetterRun on' off w rest) past_is other);
+              (subst (λ w. LetterRun on' off w rest) (same_tail (sym same.1 ∙ here)) other);
           some = some;
         }
 
@@ -100,8 +99,7 @@ no_second_dash on off past u v rest run here ends cleared =
 pub some_second : (on off past u rest : Text) → LetterRun on off past u → length off ≡ 0
     → Cleared on past rest → ⊥
 some_second on off past u rest run none cleared =
-    let same = run_once on on off cleared.off past u rest run cleared.run in
-    let length_is = ap length same.0 in
+    let length_is = ap length (run_once on on off cleared.off past u rest run cleared.run).0 in
     omega (arith, length_is, cleared.some)
 
 -- what ends a run and is no dash ends flags

@@ -26,8 +26,6 @@ returns-else-at-ranges c =
     let parts = c.partition_point-at.ensures.partitioned (λ r. ltb r.end c.args.c)
     (search (rules, tests, always_returns_same))
     (IsPartitionedBy-ltb (λ r. r.end) _ c.args.c (ends_rise 0 ranges runs)) in
-    let outside = c.if-at-ranges.false in
     let none = held_nowhere c.args.c ranges c.partition_point-at.result parts
-    (omega (arith, outside)) in
-    let whole = ap (λ xs. in_ranges xs c.args.c) c.ranges-ranges.ensures.same in
-    grind (arith, nat_tests, none, whole)
+    (omega (arith, c.if-at-ranges.false)) in
+    grind (arith, nat_tests, none, ap (λ xs. in_ranges xs c.args.c) c.ranges-ranges.ensures.same)

@@ -34,13 +34,12 @@ loop-range-preserved c =
           let sooner = c.in_ok-append_between.ensures.in_order k gap in_gaps in
           omega (arith, runs.0, runs.3);
       members = λ d.
-          let more = in_ranges_more items i d none inside in
           let between = span_before c.loop-range.start c.previous_char.result range.start d
           c.previous_char.ensures in
           let added = rw between at (c.in_ok-append_between.ensures.members d) in
           let step = gap_step start range.start range.end d _ _ _ runs.0 runs.3 (known.before d)
           (known.members d) added in
-          rw (next, more) step;
+          rw (next, in_ranges_more items i d none inside) step;
     }
 
 pub returns : goal.returns
@@ -48,9 +47,8 @@ returns c = record {
   runs = rw c.of_runs.ensures c.in_ok-append_between-2.ensures.runs;
   members = λ d.
       let items = c.ranges-range-items.result.now in
-      let past = c.loop-range-test.false in
       let all : take c.loop-range.range-index items ≡ c.args.self.now =
-      take_all c.loop-range.range-index items (omega (arith, past))
+      take_all c.loop-range.range-index items (omega (arith, c.loop-range-test.false))
       ∙ c.ranges-range-items.ensures.same in
       let known = c.loop-range.invariant in
       ap (λ ranges. in_ranges ranges d) c.of_runs.ensures

@@ -45,9 +45,8 @@ returns-in_ok-push-in-Some-2-2-clause-runs c =
 pub returns-in_ok-push-in-Some-2-2-clause-members :
     goal.returns-in_ok-push-in-Some-2-2-clause-members
 returns-in_ok-push-in-Some-2-2-clause-members c d =
-    let pushed = in_ranges-push (c.pop.new.self.items ++ c.in-Some.last ∷ []) c.args.range d in
     rw (
       c.in_ok-push-in-Some-2-2.ensures.items,
       c.in_ok-push-in-Some-2.ensures.items,
       c.in-Some.ensures.items,
-    ) pushed
+    ) (in_ranges-push (c.pop.new.self.items ++ c.in-Some.last ∷ []) c.args.range d)

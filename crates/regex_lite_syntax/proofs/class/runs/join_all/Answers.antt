@@ -27,11 +27,9 @@ loop-at-preserved c =
       inside = omega (arith, known.inside, joined.inside);
       runs = joined.runs;
       in_order = λ k d after below j run held.
-          let added = joined.in_order j run held in
           let later = c.requires at k none (omega (arith, after)) below in
           let there = ap start (get_or_default sorted k none d below) in
-          let here = ap start same in
-          omega (arith, added, later, there, here);
+          omega (arith, joined.in_order j run held, later, there, ap start same);
       members = λ d.
           let more = in_ranges_more sorted at d none c.loop-at-test.true in
           let added = joined.members d in

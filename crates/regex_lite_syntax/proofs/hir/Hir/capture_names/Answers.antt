@@ -19,7 +19,6 @@ filled tree before after none added k =
 
 pub returns : goal.returns
 returns c =
-    let tree = tree_of c.args.self.now in
     let fresh = c.in_ok-names.names in
     let before = c.deref_mut.result.now in
     let after = c.add_names.new.names in
@@ -33,5 +32,5 @@ returns c =
     record {
       each_group = ap length written_back ∙ long ∙ c.in_ok-names.ensures.len;
       names = λ k. ap (λ names. name_at names k) written_back
-          ∙ filled tree before after none c.in_ok-add_names.ensures k;
+          ∙ filled (tree_of c.args.self.now) before after none c.in_ok-add_names.ensures k;
     }

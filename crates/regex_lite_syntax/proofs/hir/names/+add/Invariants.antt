@@ -9,7 +9,6 @@ use Rattle.regex_lite_syntax.proofs.hir.names.+add.Given as goal
 abbrev pub invariant-add_all_names-loop-tree : goal.invariant-add_all_names-loop-tree
 invariant-add_all_names-loop-tree l =
     let left = trees_of (map tree_of (drop l.tree-index l.trees)) in
-    let all = trees_of (map tree_of l.trees) in
     (greatest_index_in left < length l.names)
     × ((k : ℕ) → option_or (name_at l.names k) (group_name_in left k)
-    ≡ option_or (name_at l.initial.names k) (group_name_in all k))
+    ≡ option_or (name_at l.initial.names k) (group_name_in (trees_of (map tree_of l.trees)) k))

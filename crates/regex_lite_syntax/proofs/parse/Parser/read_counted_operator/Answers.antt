@@ -17,10 +17,9 @@ use Rattle.regex_lite_syntax.proofs.parse.Parser.read_counted_operator.Goals.{th
 pub returns-in_default-clause-refused : goal.returns-in_default-clause-refused
 returns-in_default-clause-refused c =
     let items = c.args.self.now.here.items in
-    let none = none_left items.items (sym items.ok.0 ∙ c.in_default.ensures.cases.0) in
     rw c.into.ensures
     (λ more follows. reads_no_counted c.args.self.now _ _ (ap (λ t. t ++ more) c.requires.begins)
-    none)
+    (none_left items.items (sym items.ok.0 ∙ c.in_default.ensures.cases.0)))
 
 pub returns-in_err-end-clause-refused : goal.returns-in_err-end-clause-refused
 returns-in_err-end-clause-refused c =
@@ -64,10 +63,9 @@ returns-clause-ok c =
                 (counted_lazy _ _ begins counted to_mark (ap (greed flags) w.if-lazy.true));
           })
       | else-lazy w ↦
-          let absent = w.if-lazy.ensures.absent refl in
           let rest = drop c.in_ok-end.end xs in
           let operator =
-          counted_greedy flags _ _ rest _ _ _ _ begins counted gap absent
+          counted_greedy flags _ _ rest _ _ _ _ begins counted gap (w.if-lazy.ensures.absent refl)
           (ap (greed flags) w.if-lazy.false) in
           rw w.result-is (record {
             further = omega (arith, c.in_ok-end.ensures.inside);

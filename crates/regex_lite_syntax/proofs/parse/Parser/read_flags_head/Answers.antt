@@ -46,16 +46,14 @@ gap_to verbose t u first whole e = subst (λ v. Gap verbose t v) e whole.0
 pub returns-then-is_at-2-clause-ok : goal.returns-then-is_at-2-clause-ok
 returns-then-is_at-2-clause-ok c =
     let p = c.args.self.now in
-    let end = c.in_ok-end.end in
     let first = drop (c.args.question + 1) c.args.chars.now in
-    let rest = drop (end + 1) c.args.chars.now in
+    let rest = drop (c.in_ok-end.end + 1) c.args.chars.now in
     let gap = gap_to p.here.flags.ignore_whitespace _ _ first c.requires.gap c.requires.question in
     let closing = (c.is_at-2.ensures.there c.if-is_at-2.true).1 in
     let letters = subst (λ t. FlagLetters p.here.flags first t c.in_ok-end.flags) closing
     c.in_ok-end.ensures.ok.letters in
-    let no_paren = c.is_at.ensures.absent c.if-is_at.false in
     let some : first ≢ the ")" ∷ rest =
-    λ e. no_paren (subst (λ t. Begins (the ")") t) (sym e) refl) in
+    λ e. (c.is_at.ensures.absent c.if-is_at.false) (subst (λ t. Begins (the ")") t) (sym e) refl) in
     record {
       further = omega (arith, c.requires.inside, c.in_ok-end.ensures.inside);
       in_pattern = omega (arith, c.in_ok-end.ensures.inside);

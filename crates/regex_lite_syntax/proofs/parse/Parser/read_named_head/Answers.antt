@@ -23,10 +23,9 @@ returns-in_err-end-clause-refused c =
 pub returns-in_err-end-clause-completes : goal.returns-in_err-end-clause-completes
 returns-in_err-end-clause-completes c =
     let p = c.args.self.now in
-    let question = opening_question _ _ c.requires.opens in
     at_exit _ _ c.from_residual.ensures.1
     (λ short. reads_on_name p _ _ _ _ c.requires.begins c.requires.gap
-    question.1 (named_completes p.names _ _ c.requires.opens
+    (opening_question _ _ c.requires.opens).1 (named_completes p.names _ _ c.requires.opens
     (c.in_err-end.ensures.completes p.names short)))
 
 -- what opens a name and the name
@@ -64,7 +63,6 @@ returns-then-not-branch-clause-refused c =
 
 pub returns-clause-ok : goal.returns-clause-ok
 returns-clause-ok c =
-    let p = c.args.self.now in
     let name = text_of_name c.in_ok-name.name in
     let named =
     named_from _ _ _ name _ c.requires.opens c.in_ok-end.ensures.ok c.in_ok-name.ensures in
@@ -74,7 +72,7 @@ returns-clause-ok c =
       further = omega (arith, c.requires.inside, c.in_ok-end.ensures.inside);
       in_pattern = c.in_ok-end.ensures.inside.1;
       reads =
-          reads_named p c.open_capture.new.self c.insert.new.self
+          reads_named c.args.self.now c.open_capture.new.self c.insert.new.self
           (drop c.args.at c.args.chars.now) _ _
           (drop c.in_ok-end.end c.args.chars.now) name c.requires.begins c.requires.gap named
           added.1 added.0

@@ -13,8 +13,7 @@ use Rattle.regex_lite_syntax.proofs.parse.Parser.read_operator.Goals.{then-lazy,
 
 pub returns-in_default-clause-refused : goal.returns-in_default-clause-refused
 returns-in_default-clause-refused c =
-    let xs = c.args.chars.now in
-    let e = drop_at xs c.args.at c.requires.inside in
+    let e = drop_at c.args.chars.now c.args.at c.requires.inside in
     let items = c.args.self.now.here.items in
     let none = none_left items.items (sym items.ok.0 ∙ c.in_default.ensures.cases.0) in
     rw c.into.ensures

@@ -8,14 +8,13 @@ use Rattle.regex_lite_syntax.specs.Refusals.{Denies, Completable, IfCutShort}
 use Rattle.regex_lite_syntax.proofs.ExitLemmas.{at_exit}
 use Rattle.regex_lite_syntax.proofs.grammar.LongerClassLemmas.{opening_longer}
 use Rattle.regex_lite_syntax.proofs.parse.DenialLemmas.{none_at_end, denies_part}
-use Rattle.regex_lite_syntax.proofs.parse.IndexLemmas.{left_at_end}
+use Rattle.regex_lite_syntax.proofs.parse.IndexLemmas.{left_at_end, some_at}
 use Rattle.regex_lite_syntax.proofs.parse.bracket.ClassItemLemmas.{nothing_left}
 use Rattle.regex_lite_syntax.proofs.parse.bracket.ClassOpeningLemmas.{class_from, class_items}
 use Rattle.regex_lite_syntax.proofs.parse.bracket.ClassSetLemmas.{holds_all, class_as}
 use Rattle.regex_lite_syntax.proofs.parse.bracket.CompletedClassLemmas.{ClassTo}
 use Rattle.regex_lite_syntax.proofs.parse.bracket.CompletedClassLemmas.{completes_opening}
 use Rattle.regex_lite_syntax.proofs.parse.CompletionLemmas.{completes_part, cut_short_says}
-use Rattle.regex_lite_syntax.proofs.parse.bracket.LongerItemLemmas.{some_at}
 use Rattle.regex_lite_syntax.proofs.parse.bracket.read_class.Goals as goal
 use Rattle.regex_lite_syntax.proofs.parse.bracket.read_class.Goals.{In_ok-class}
 
@@ -63,14 +62,13 @@ returns-then-start-chars-clause-completes c =
     let verbose = c.args.verbose in
     let xs = c.args.chars.now in
     let t = drop c.args.at xs in
-    let start = c.read_opening-start.result.0 in
     let opening = c.read_opening-start.result.1 in
     subst (λ e. IfCutShort e (Completable
     (λ t r. (s : Set) × BracketedClass insensitive verbose t r s) t))
     (sym c.into.ensures)
     (λ short. completes_opening insensitive verbose t opening.negated opening.dash opening.bracket
     (subst (λ u. ClassOpening verbose t u opening.negated opening.dash opening.bracket)
-    (left_at_end xs start c.if-start-chars.true)
+    (left_at_end xs c.read_opening-start.result.0 c.if-start-chars.true)
     c.read_opening-start.ensures.opens))
 
 pub returns-in_err-end-clause-completes : goal.returns-in_err-end-clause-completes
@@ -121,5 +119,4 @@ returns-clause-ok c =
 
 pub returns-clause-runs : goal.returns-clause-runs
 returns-clause-runs c =
-    let sets = dash_set c ∷ bracket_set c ∷ c.in_ok-end.ensures.ok.0 in
-    (c.in_ok-class.ensures sets (holds c)).runs
+    (c.in_ok-class.ensures (dash_set c ∷ bracket_set c ∷ c.in_ok-end.ensures.ok.0) (holds c)).runs

@@ -10,14 +10,14 @@ use Rattle.regex_lite_syntax.specs.Grammar.Gaps.{WholeGap}
 use Rattle.regex_lite_syntax.specs.Refusals.{Denies, Completable, IfCutShort}
 use Rattle.regex_lite_syntax.proofs.ExitLemmas.{at_exit}
 use Rattle.regex_lite_syntax.proofs.grammar.LongerGapLemmas.{begins_longer}
-use Rattle.regex_lite_syntax.proofs.parse.IndexLemmas.{left_at_end}
+use Rattle.regex_lite_syntax.proofs.parse.IndexLemmas.{left_at_end, some_at}
 use Rattle.regex_lite_syntax.proofs.parse.bracket.ClassItemLemmas.{has_items, items_push}
 use Rattle.regex_lite_syntax.proofs.parse.bracket.ClassItemLemmas.{items_next, nothing_left}
 use Rattle.regex_lite_syntax.proofs.parse.bracket.CompletedClassLemmas.{ClassTo, closes_now}
 use Rattle.regex_lite_syntax.proofs.parse.bracket.CompletedClassLemmas.{closes_after}
 use Rattle.regex_lite_syntax.proofs.parse.bracket.CompletedItemLemmas.{ItemsTo}
 use Rattle.regex_lite_syntax.proofs.parse.CompletionLemmas.{completes_part}
-use Rattle.regex_lite_syntax.proofs.parse.bracket.LongerItemLemmas.{some_at, whole_follows}
+use Rattle.regex_lite_syntax.proofs.parse.bracket.LongerItemLemmas.{whole_follows}
 use Rattle.regex_lite_syntax.proofs.parse.bracket.ClassSetLemmas.{holds_more}
 use Rattle.regex_lite_syntax.proofs.parse.bracket.read_items.Goals as goal
 
@@ -38,7 +38,6 @@ returns-then-end-chars-clause-refused c =
 
 pub returns-in_err-past-clause-refused : goal.returns-in_err-past-clause-refused
 returns-in_err-past-clause-refused c =
-    let verbose = c.args.verbose in
     let u = drop c.items.end c.args.chars.now in
     let some = some_at c.args.chars.now c.items.end
     (omega (arith, c.if-end-chars.false, c.items.invariant.inside)) in
@@ -46,7 +45,7 @@ returns-in_err-past-clause-refused c =
     let items =
     c.items.invariant.back more (λ ends. absurd (some ends)) found.1 found.0 found.2 in
     c.in_err-past.ensures.refused more follows
-    (has_items verbose items.0 (u ++ more) found.0
+    (has_items c.args.verbose items.0 (u ++ more) found.0
     (begins_longer more (the "]") u (c.items-test.ensures.absent refl) some) items.1))
 
 pub items-init : goal.items-init

@@ -20,9 +20,8 @@ returns-then-skip_gap-chars c =
 
 pub returns-else-skip_gap-chars : goal.returns-else-skip_gap-chars
 returns-else-skip_gap-chars c =
-    let xs = c.args.chars.now in
     let whole = c.skip_gap.ensures.gap in
-    let left = some_at xs c.skip_gap.result (omega arith) in (
+    let left = some_at c.args.chars.now c.skip_gap.result (omega arith) in (
       λ above. (c.args.number, inl refl, leb-true c.args.least c.args.number above, omega arith),
       λ can.
           le-leb c.args.least c.args.number

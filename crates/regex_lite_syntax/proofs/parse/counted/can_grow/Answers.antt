@@ -26,9 +26,8 @@ returns c =
     let kept = c.loop-high.invariant in
     let most = c.from-2.ensures in (
       λ small.
-          let bound = leb-true c.loop-high.low c.from-2.result small in
           reaches_between kept.ordered.0 (omega (arith, c.loop-high-test.false)) (omega arith)
-          (omega (arith, bound, most)) kept.between,
+          (omega (arith, leb-true c.loop-high.low c.from-2.result small, most)) kept.between,
       λ can.
           le-leb c.loop-high.low c.from-2.result
           (omega (arith, most, reaches_small kept.others can)),

@@ -1,7 +1,7 @@
 use Rattle.std.proofs.Common.{refl, ◌∙◌, ap, subst, drop, ◌++◌, arith}
-use Rattle.std.proofs.lemmas.Result.{err_from_is_err_and}
 use Rattle.regex_lite_syntax.specs.Grammar.Gaps.{WholeGap}
 use Rattle.regex_lite_syntax.specs.Grammar.Counted.{Counted, Number}
+use Rattle.regex_lite_syntax.proofs.ExitLemmas.{at_exit}
 use Rattle.regex_lite_syntax.proofs.grammar.NumberLemmas.{no_ender, nothing_left, other_ender}
 use Rattle.regex_lite_syntax.proofs.grammar.CountLemmas.{counted_to, first_number}
 use Rattle.regex_lite_syntax.proofs.grammar.CountLemmas.{limit_past, past_min}
@@ -24,19 +24,15 @@ returns-then-first-chars-clause-refused c =
 
 pub returns-in_err-past_min-clause-refused : goal.returns-in_err-past_min-clause-refused
 returns-in_err-past_min-clause-refused c =
-    let refused = err_from_is_err_and c.from_residual.result c.from_residual.ensures.1 in
-    rw (refused.1, refused.2)
-    (λ more follows (rest, least, most, counted).
+    at_exit _ _ c.from_residual.ensures.1 (λ more follows (rest, least, most, counted).
     let number = first_number counted in
     c.in_err-past_min.ensures.refused more follows (number.0, least, number.1, number.2))
 
 pub returns-in_err-end-in-Some-eq44-clause-refused :
     goal.returns-in_err-end-in-Some-eq44-clause-refused
 returns-in_err-end-in-Some-eq44-clause-refused c =
-    let refused = err_from_is_err_and c.from_residual-in_err-end-in-Some-eq44.result
-    c.from_residual-in_err-end-in-Some-eq44.ensures.1 in
     let here = c.in-Some-eq44.ensures.1 in
-    rw (refused.1, refused.2)
+    at_exit _ _ c.from_residual-in_err-end-in-Some-eq44.ensures.1
     (λ more follows (rest, least, most, counted).
     let past = past_min (λ rest' n. c.in_ok-past_min.ensures.only more rest' n
     (λ none. cc (here, none))) counted in
@@ -60,17 +56,14 @@ returns-then-first-chars-clause-completes c =
 
 pub returns-in_err-past_min-clause-completes : goal.returns-in_err-past_min-clause-completes
 returns-in_err-past_min-clause-completes c =
-    let refused = err_from_is_err_and c.from_residual.result c.from_residual.ensures.1 in
-    rw (refused.1, refused.2)
+    at_exit _ _ c.from_residual.ensures.1
     (λ short. number_closed c.args.verbose _ (c.in_err-past_min.ensures.completes short))
 
 pub returns-in_err-end-in-Some-eq44-clause-completes :
     goal.returns-in_err-end-in-Some-eq44-clause-completes
 returns-in_err-end-in-Some-eq44-clause-completes c =
-    let refused = err_from_is_err_and c.from_residual-in_err-end-in-Some-eq44.result
-    c.from_residual-in_err-end-in-Some-eq44.ensures.1 in
     let comma_at = c.in-Some-eq44 in
-    rw (refused.1, refused.2)
+    at_exit _ _ c.from_residual-in_err-end-in-Some-eq44.ensures.1
     (λ short. limit_follows c.args.verbose _ _ _ _ _ c.in_ok-past_min.ensures.ok.0
     comma_at.ensures.1 comma_at.field-0-test
     (c.in_err-end-in-Some-eq44.ensures.completes short))

@@ -1,10 +1,10 @@
 use Rattle.std.proofs.Common.{inr, refl, sym, ◌∙◌, ap, subst, drop, ◌∷◌, ◌++◌, arith}
 use Rattle.std.proofs.lemmas.Bool.{both_ways}
-use Rattle.std.proofs.lemmas.Result.{err_from_is_err_and}
 use Rattle.regex_lite_syntax.specs.Text.{the}
 use Rattle.regex_lite_syntax.specs.Grammar.Gaps.{WholeGap}
 use Rattle.regex_lite_syntax.specs.Grammar.Counted.{Limit}
 use Rattle.regex_lite_syntax.specs.Parser.Readings.{IsNotBelow}
+use Rattle.regex_lite_syntax.proofs.ExitLemmas.{at_exit}
 use Rattle.regex_lite_syntax.proofs.ListLemmas.{same_head}
 use Rattle.regex_lite_syntax.proofs.grammar.NumberLemmas.{no_ender, nothing_left}
 use Rattle.regex_lite_syntax.proofs.grammar.CountLemmas.{limit_is_number}
@@ -26,9 +26,7 @@ returns-in-None-clause-refused c =
 
 pub returns-in_err-past_digits-clause-refused : goal.returns-in_err-past_digits-clause-refused
 returns-in_err-past_digits-clause-refused c =
-    let refused = err_from_is_err_and c.from_residual.result c.from_residual.ensures.1 in
-    rw (refused.1, refused.2)
-    (λ more follows (rest, most, limit, order).
+    at_exit _ _ c.from_residual.ensures.1 (λ more follows (rest, most, limit, order).
     let number = longer_limit_is_number more _ _ _ _ c.skip_gap-first.ensures.gap
     c.in-Some.ensures.1 c.in-Some.field-0-test.1 limit in
     c.in_err-past_digits.ensures.refused more follows
@@ -76,8 +74,7 @@ returns-in-None-clause-completes c =
 pub returns-in_err-past_digits-clause-completes :
     goal.returns-in_err-past_digits-clause-completes
 returns-in_err-past_digits-clause-completes c =
-    let refused = err_from_is_err_and c.from_residual.result c.from_residual.ensures.1 in
-    rw (refused.1, refused.2)
+    at_exit _ _ c.from_residual.ensures.1
     (λ short. greatest_limit c.args.verbose c.args.least _ (omega arith)
     (c.in_err-past_digits.ensures.completes short))
 
@@ -95,11 +92,10 @@ returns-in-None-char_at-clause-completes c =
 pub returns-in-Some-eq125-char_at-clause-refused :
     goal.returns-in-Some-eq125-char_at-clause-refused
 returns-in-Some-eq125-char_at-clause-refused c =
-    let here = c.in-Some-eq125-char_at.ensures.1 in
     λ more follows (rest, most, limit, order).
     let number = longer_limit_is_number more _ _ _ _ c.skip_gap-first.ensures.gap
     c.in-Some.ensures.1 c.in-Some.field-0-test.1 limit in
     let same = c.in_ok-past_digits.ensures.only more (the "}" ∷ rest) number.0
-    (λ none. cc (here, none)) number.2 (inr refl) in
+    (λ none. cc (c.in-Some-eq125-char_at.ensures.1, none)) number.2 (inr refl) in
     let above = subst (λ m. IsNotBelow c.args.least m) number.1 order in
     omega (arith, above, same.1, c.if-most-least.true)

@@ -16,9 +16,8 @@ returns-then-first-chars-clause-refused c =
     let xs = c.args.chars.now in
     let none = left_at_end xs c.skip_side-first.result c.if-first-chars.true in
     let t = drop c.args.at xs in
-    let side = subst (λ u. WholeSide c.args.verbose t u) none c.skip_side-first.ensures.side in
     λ more follows (rest, n, number, ends).
-    no_number_at_end side
+    no_number_at_end (subst (λ u. WholeSide c.args.verbose t u) none c.skip_side-first.ensures.side)
     (of_text (λ v. Number c.args.verbose v rest n) t more (follows refl) number)
 
 pub returns-then-first-chars-clause-completes :

@@ -1,13 +1,6 @@
-use Rattle.std.proofs.Common.{inl, refl, sym, subst, arith, drop, length, ◌<◌, ◌≡◌, []}
-use Rattle.regex_lite_syntax.specs.declared.error.ErrorKind.TheVariants as kind
-use Rattle.std.proofs.Common.{◌≢◌, MatchOption, MatchBool, IfSome}
+use Rattle.std.proofs.Common.{inl, refl, sym, subst, arith, drop, length, ◌<◌}
 use Rattle.std.proofs.lemmas.Result.{IfOk-weaker, IfErr-weaker}
-use Rattle.regex_lite_syntax.specs.FaultPlaces.{IsFaultAt, IsUntold, BeginsNone, BeginsSome}
-use Rattle.regex_lite_syntax.specs.Grammar.{HasTree}
-use Rattle.regex_lite_syntax.specs.Errors.{kind_of}
 use Rattle.regex_lite_syntax.specs.Grammar.GroupNames.{NamesDiffer}
-use Rattle.regex_lite_syntax.specs.Grammar.Gaps.{Gap}
-use Rattle.regex_lite_syntax.specs.Parser.FaultEnds.{IsRefusedUnread}
 use Rattle.regex_lite_syntax.specs.Parser.Starts.{Tracks}
 use Rattle.regex_lite_syntax.specs.Parser.States.{CanRead}
 use Rattle.regex_lite_syntax.proofs.grammar.NameLemmas.{no_names_differ}
@@ -18,7 +11,7 @@ use Rattle.regex_lite_syntax.proofs.machine.FaultLemmas.{comes_first, comes_next
 use Rattle.regex_lite_syntax.proofs.machine.FaultLemmas.{end_found, syntax_says, other_says}
 use Rattle.regex_lite_syntax.proofs.machine.FaultLemmas.{stop_found}
 use Rattle.regex_lite_syntax.proofs.parse.DenialLemmas.{none_now}
-use Rattle.regex_lite_syntax.proofs.parse.IndexLemmas.{drop_at, left_at_end}
+use Rattle.regex_lite_syntax.proofs.parse.IndexLemmas.{some_at, gap_at_end}
 use Rattle.regex_lite_syntax.proofs.parse.fault.first_stop.Goals as goal
 
 pub loop-starts-init : goal.loop-starts-init
@@ -37,9 +30,8 @@ returns-then-here-chars-clause-found c =
     let xs = c.args.chars.now in
     let p = c.loop-starts.parser in
     let t = drop c.loop-starts.at xs in
-    let none = left_at_end xs c.skip_gap-here.result c.if-here-chars.true in
-    let gap = subst (λ u. Gap p.here.flags.ignore_whitespace t u) none
-    c.skip_gap-here.ensures.gap.0 in
+    let gap =
+    gap_at_end _ t xs c.skip_gap-here.result c.if-here-chars.true c.skip_gap-here.ensures.gap in
     rw c.unclosed.ensures
     (stop_found c.args.flags xs c.pop.result
     (end_found c.args.flags xs p t c.loop-starts.starts.items _ c.pop.result _ _
@@ -52,10 +44,8 @@ returns-in-Err-clause-found c =
     let here = c.skip_gap-here.result in
     let inside : here < length xs =
     omega (arith, c.if-here-chars.false, c.skip_gap-here.ensures.inside) in
-    let more : drop here xs ≡ [] → ⊥ = λ e. cc (e, drop_at xs here inside) in
-    IfOk-weaker c.stop_or_error.result _
-    (λ found. MatchOption found (HasTree c.args.flags xs)
-    (λ stop. IsFaultAt c.args.flags xs stop.start × (HasTree c.args.flags xs → ⊥)))
+    let more = some_at xs here inside in
+    IfOk-weaker c.stop_or_error.result _ _
     (λ found (fault, syntax, is).
     let none = syntax_says _ fault _ _ _ syntax c.in-Err.ensures.refused in
     let stuck = none_now fault (CanRead c.loop-starts.parser) (drop here xs) none in
@@ -69,9 +59,8 @@ returns-then-here-chars-clause-goes_on c =
     let xs = c.args.chars.now in
     let p = c.loop-starts.parser in
     let t = drop c.loop-starts.at xs in
-    let none = left_at_end xs c.skip_gap-here.result c.if-here-chars.true in
-    let gap = subst (λ u. Gap p.here.flags.ignore_whitespace t u) none
-    c.skip_gap-here.ensures.gap.0 in
+    let gap =
+    gap_at_end _ t xs c.skip_gap-here.result c.if-here-chars.true c.skip_gap-here.ensures.gap in
     rw c.unclosed.ensures
     (goes_on_open c.args.flags xs c.pop.result
     (reads_on_at_end c.args.flags xs p t c.loop-starts.starts.items c.loop-starts.invariant.comes
@@ -83,10 +72,8 @@ returns-in-Err-clause-goes_on c =
     let here = c.skip_gap-here.result in
     let inside : here < length xs =
     omega (arith, c.if-here-chars.false, c.skip_gap-here.ensures.inside) in
-    let more : drop here xs ≡ [] → ⊥ = λ e. cc (e, drop_at xs here inside) in
-    IfOk-weaker c.stop_or_error.result _
-    (λ found. IfSome found (λ stop.
-    MatchBool stop.is_cut_short (BeginsSome c.args.flags xs) (BeginsNone c.args.flags xs)))
+    let more = some_at xs here inside in
+    IfOk-weaker c.stop_or_error.result _ _
     (λ found (fault, syntax, is).
     rw is
     (goes_on_as c.args.flags xs c.loop-starts.parser _ _ _ _ fault
@@ -97,9 +84,7 @@ returns-in-Err-clause-goes_on c =
 pub returns-in-Err-clause-refused : goal.returns-in-Err-clause-refused
 returns-in-Err-clause-refused c =
     let xs = c.args.chars.now in
-    IfErr-weaker c.stop_or_error.result
-    (λ e. (kind_of c.in-Err.error ≢ kind.Syntax) × (e ≡ c.in-Err.error))
-    (λ e. IsUntold c.args.flags xs (kind_of e))
+    IfErr-weaker c.stop_or_error.result _ _
     (λ e (other, is).
     rw is
     (other_says c.args.flags xs c.loop-starts.parser _ _ _ _ c.loop-starts.invariant.comes
@@ -108,13 +93,12 @@ returns-in-Err-clause-refused c =
 
 pub loop-starts-preserved : goal.loop-starts-preserved
 loop-starts-preserved c =
-    let xs = c.args.chars.now in
     let here = c.skip_gap-here.result in
     let q = c.step.new.self in
     record {
       inside = c.in-Ok.ensures.ok.in_pattern;
       comes =
-          comes_next c.args.flags xs c.loop-starts.parser q _ _ _ _ _ here
+          comes_next c.args.flags c.args.chars.now c.loop-starts.parser q _ _ _ _ _ here
           c.loop-starts.invariant.comes c.skip_gap-here.ensures.gap refl c.in-Ok.ensures.ok.reads
           (subst (λ n. Tracks c.loop-starts.starts.items c.track.new.starts.items n here)
           c.open_groups.ensures c.in_ok-track.ensures);
@@ -123,9 +107,7 @@ loop-starts-preserved c =
 pub returns-in-Err-clause-unread : goal.returns-in-Err-clause-unread
 returns-in-Err-clause-unread c =
     let xs = c.args.chars.now in
-    IfErr-weaker c.stop_or_error.result
-    (λ e. (kind_of c.in-Err.error ≢ kind.Syntax) × (e ≡ c.in-Err.error))
-    (λ e. IsRefusedUnread xs (kind_of e))
+    IfErr-weaker c.stop_or_error.result _ _
     (λ e (other, is).
     rw is
     (refused_unread c.args.flags xs c.loop-starts.parser _ _ _ _ c.loop-starts.invariant.comes

@@ -15,10 +15,9 @@ use Rattle.regex_lite_syntax.proofs.parse.letters.read_flags.Goals as goal
 
 pub returns-in_err-middle-clause-refused : goal.returns-in_err-middle-clause-refused
 returns-in_err-middle-clause-refused c =
-    let t = drop c.args.at c.args.chars.now in
     at_exit _ _ c.from_residual.ensures.1
     (λ more follows flags. c.in_err-middle.ensures.refused more follows
-    (first_run c.args.old (t ++ more) flags.0 flags.1 flags.2))
+    (first_run c.args.old ((drop c.args.at c.args.chars.now) ++ more) flags.0 flags.1 flags.2))
 
 -- where a dash ends the first run, flags of a longer text go on with another
 second_longer : (more : Text) (old : Flags) (on t u past rest : Text) (new : Flags)
@@ -52,9 +51,8 @@ returns-then-is_at-clause-refused c =
 
 pub returns-then-end-begin-clause-refused : goal.returns-then-end-begin-clause-refused
 returns-then-end-begin-clause-refused c =
-    let xs = c.args.chars.now in
     let dashed = (c.is_at.ensures.there c.if-not-is_at.false).1 in
-    let none = slice_length xs (c.in_ok-middle.middle + 1) c.in_ok-end.end
+    let none = slice_length c.args.chars.now (c.in_ok-middle.middle + 1) c.in_ok-end.end
     (omega (arith, c.in_ok-end.ensures.inside)) in
     λ more follows flags.
     let cleared = second_longer more _ _ _ _ _ _ _ c.in_ok-middle.ensures.ok dashed flags.2 in
@@ -67,14 +65,13 @@ returns-clause-ok c =
     let run = c.in_ok-middle.ensures in
     let run_off = c.in_ok-end.ensures in
     let dashed = (c.is_at.ensures.there c.if-not-is_at.false).1 in
-    let no_dash = c.is_at-2.ensures.absent c.if-is_at.false in
     let length_is =
     slice_length xs (c.in_ok-middle.middle + 1) c.in_ok-end.end (omega (arith, run_off.inside)) in
     let flags = run_off.flags
     ∙ ap (with_flags false (slice_range xs (c.in_ok-middle.middle + 1) c.in_ok-end.end))
     run.flags in
     flags_cleared c.args.old _ _ _ _ _ _ c.in_ok-end.new run.ok dashed run_off.ok
-    (omega (arith, length_is, run_off.inside)) no_dash flags
+    (omega (arith, length_is, run_off.inside)) (c.is_at-2.ensures.absent c.if-is_at.false) flags
 
 pub returns-in_err-middle-clause-completes : goal.returns-in_err-middle-clause-completes
 returns-in_err-middle-clause-completes c =

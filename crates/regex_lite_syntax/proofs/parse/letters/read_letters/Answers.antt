@@ -4,6 +4,7 @@ use Rattle.std.proofs.lemmas.Bool.{or_left, or_right}
 use Rattle.std.proofs.lemmas.List.{drop_all}
 use Rattle.std.proofs.lemmas.Result.{err_from_is_err_and}
 use Rattle.std.specs.List.{AllPass}
+use Rattle.std.proofs.lemmas.List.Folds.{drop_split}
 use Rattle.regex_lite_syntax.specs.Text.{Text}
 use Rattle.regex_lite_syntax.specs.Characters.{is_one_of}
 use Rattle.regex_lite_syntax.specs.Grammar.FlagLetters.{is_flag_letter, with_flag}
@@ -14,7 +15,7 @@ use Rattle.regex_lite_syntax.proofs.parse.IndexLemmas.{drop_char}
 use Rattle.regex_lite_syntax.proofs.parse.DenialLemmas.{none_at_end}
 use Rattle.regex_lite_syntax.specs.declared.error.syntax.SyntaxFault.TheVariants.{CutShort}
 use Rattle.regex_lite_syntax.specs.declared.error.unexpected_eof.UnexpectedEof.TheVariants.{Flag}
-use Rattle.regex_lite_syntax.proofs.parse.letters.SliceLemmas.{slice_spelled, slice_more}
+use Rattle.regex_lite_syntax.proofs.parse.letters.SliceLemmas.{slice_more}
 use Rattle.regex_lite_syntax.proofs.parse.letters.SliceLemmas.{spelled_longer}
 use Rattle.regex_lite_syntax.proofs.parse.letters.FlagRunLemmas.{with_flags_more}
 use Rattle.regex_lite_syntax.proofs.parse.letters.FlagRunLemmas.{differ_more, no_run_end}
@@ -52,7 +53,7 @@ returns-then-ends_letters-clause-ok c =
     let end = c.loop-end.end in
     let here = drop_char xs end _ (omega arith) c.index-chars-end.is in
     record {
-      written = slice_spelled xs c.args.at end (omega arith);
+      written = drop_split xs c.args.at end (omega arith);
       all = c.loop-end.invariant.all;
       differ = c.loop-end.invariant.differ;
       ends =
@@ -65,13 +66,11 @@ returns-in_err-flags-clause-refused c =
     let end = c.loop-end.end in
     let read = slice_range xs c.args.at end in
     let here = drop_char xs end _ (omega arith) c.index-chars-end.is in
-    let no_end = sym c.ends_letters.ensures ∙ c.if-ends_letters.false in
-    let written = slice_spelled xs c.args.at end (omega arith) in
-    let left = err_from_is_err_and c.from_residual.result c.from_residual.ensures.1 in
-    rw left.1
+    let written = drop_split xs c.args.at end (omega arith) in
+    rw (err_from_is_err_and c.from_residual.result c.from_residual.ensures.1).1
     (λ more follows run. no_run_other c.args.before.now read run.0 _ _ run.1 _ _
     (spelled_longer more _ _ _ written) c.loop-end.invariant.all (ap (λ v. v ++ more) here)
-    c.in_err-flags.ensures.refused.1 no_end run.2)
+    c.in_err-flags.ensures.refused.1 (sym c.ends_letters.ensures ∙ c.if-ends_letters.false) run.2)
 
 pub returns-then-contains-clause-refused : goal.returns-then-contains-clause-refused
 returns-then-contains-clause-refused c =
@@ -81,7 +80,7 @@ returns-then-contains-clause-refused c =
     let letter = c.index-chars-end.result in
     let read = slice_range xs c.args.at end in
     let here = drop_char xs end _ (omega arith) c.index-chars-end.is in
-    let written = slice_spelled xs c.args.at end (omega arith) in
+    let written = drop_split xs c.args.at end (omega arith) in
     let twice : (is_one_of before letter || is_one_of read letter) ≡ true =
     elim c.then-contains.branch [
       | then-contains-via-then-contains w ↦
@@ -100,7 +99,7 @@ returns-clause-refused c =
     let end = c.loop-end.end in
     let read = slice_range xs c.args.at end in
     let none = drop_all end xs (omega arith) in
-    let written = slice_spelled xs c.args.at end (omega arith) in
+    let written = drop_split xs c.args.at end (omega arith) in
     none_at_end (CutShort Flag)
     (λ t. (letters : Text) × (rest : Text) × LetterRun before letters t rest) _ refl
     (λ run. no_run_end before read run.0 _ _ run.1 written c.loop-end.invariant.all none run.2)

@@ -1,12 +1,12 @@
 use Rattle.std.proofs.Common.{refl, sym, ◌∙◌, ap, subst, ◌++◌, slice_range, arith}
 use Rattle.std.proofs.lemmas.Bool.{both_ways}
 use Rattle.std.proofs.lemmas.List.{append-nil}
+use Rattle.std.proofs.lemmas.List.Folds.{drop_split}
 use Rattle.regex_lite_syntax.specs.Refusals.{Completable}
 use Rattle.regex_lite_syntax.proofs.grammar.NameReadingLemmas.{first_of_name, name_begun}
 use Rattle.regex_lite_syntax.proofs.grammar.NameReadingLemmas.{name_goes_on, name_read}
 use Rattle.regex_lite_syntax.proofs.grammar.NameReadingLemmas.{next_of_name}
 use Rattle.regex_lite_syntax.proofs.grammar.NameReadingLemmas.{nothing_left_at_end, range_more}
-use Rattle.regex_lite_syntax.proofs.grammar.NameReadingLemmas.{range_spelled}
 use Rattle.regex_lite_syntax.proofs.grammar.NewNameLemmas.{NewName, name_completes, name_follows}
 use Rattle.regex_lite_syntax.proofs.parse.name.read_name.Goals as goal
 
@@ -31,8 +31,7 @@ pub returns-then-not-may_continue_name-clause-refused :
     goal.returns-then-not-may_continue_name-clause-refused
 returns-then-not-may_continue_name-clause-refused c =
     λ more follows (rest, name, written).
-    let here = ap (λ v. v ++ more) c.in-Some-char_at.ensures.1 in
-    let next = next_of_name _ _ here c.if-c-eq62.false
+    let next = next_of_name _ _ (ap (λ v. v ++ more) c.in-Some-char_at.ensures.1) c.if-c-eq62.false
     (c.loop-c.invariant.back more rest name written) in
     both_ways _ (sym c.if-not-may_continue_name.ensures) next.0
 
@@ -68,7 +67,7 @@ returns-clause-completes c names short =
     let xs = c.args.chars.now in
     let read = slice_range xs c.args.at c.loop-c.end in
     let spelled =
-    range_spelled xs c.args.at c.loop-c.end (omega arith)
+    drop_split xs c.args.at c.loop-c.end (omega arith)
     ∙ ap (λ u. read ++ u) c.in_default.ensures ∙ append-nil read in
     subst (λ t. Completable (NewName names) t) (sym spelled)
     (name_completes names read c.loop-c.invariant.so_far)

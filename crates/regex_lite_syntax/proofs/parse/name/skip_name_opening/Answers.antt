@@ -1,8 +1,9 @@
 use Rattle.std.proofs.Common.{◌≡◌, sym, ◌∙◌, ap, subst, ◌+◌, drop, arith}
 use Rattle.regex_lite_syntax.specs.Text.{Begins, the}
 use Rattle.regex_lite_syntax.proofs.ListLemmas.{same_tail}
+use Rattle.regex_lite_syntax.proofs.grammar.ClassLemmas.{begins}
 use Rattle.regex_lite_syntax.proofs.grammar.LongerOpeningLemmas.{none_opened, no_question}
-use Rattle.regex_lite_syntax.proofs.grammar.LongerOpeningLemmas.{no_less, begun}
+use Rattle.regex_lite_syntax.proofs.grammar.LongerOpeningLemmas.{no_less}
 use Rattle.regex_lite_syntax.proofs.parse.name.skip_name_opening.Goals as goal
 use Rattle.regex_lite_syntax.proofs.parse.name.skip_name_opening.Goals.{
   else-is_at-2-via-then-is_at-2+else-is_at-3,
@@ -25,5 +26,5 @@ returns-clause-absent c =
           w.is_at-then-is_at-2.ensures.absent w.if-is_at-3.false
           (subst (λ u. Begins (the "<") u) (same_tail (sym e ∙ is_p) ∙ there) less)
       | else-is_at-2-via-else-is_at-2 w ↦ λ v e less.
-          c.is_at-3.ensures.absent w.if-is_at-2.false (begun (the "P") _ v e)
+          c.is_at-3.ensures.absent w.if-is_at-2.false (begins (the "P") _ v e)
     ]))

@@ -2,11 +2,10 @@ use Rattle.std.proofs.Common.{inl, inr, refl, sym, ◌∙◌, subst, ◌+◌, dr
 use Rattle.regex_lite_syntax.specs.Grammar.Gaps.{WholeGap}
 use Rattle.regex_lite_syntax.specs.Parser.ClassReadings.{EndsOpen, past_dash}
 use Rattle.regex_lite_syntax.proofs.ListLemmas.{same_head}
-use Rattle.regex_lite_syntax.proofs.parse.IndexLemmas.{drop_char, left_at_end}
+use Rattle.regex_lite_syntax.proofs.parse.IndexLemmas.{drop_char, left_at_end, some_at}
 use Rattle.regex_lite_syntax.proofs.parse.bracket.ClassItemLemmas.{no_dash, no_end}
 use Rattle.regex_lite_syntax.proofs.parse.bracket.ClassItemLemmas.{closed_by_other}
 use Rattle.regex_lite_syntax.proofs.parse.bracket.ClassItemLemmas.{closed_past_dash}
-use Rattle.regex_lite_syntax.proofs.parse.bracket.LongerItemLemmas.{some_at}
 use Rattle.regex_lite_syntax.proofs.parse.bracket.item.find_range_end.Goals as goal
 use Rattle.regex_lite_syntax.proofs.parse.bracket.item.find_range_end.Goals.{Else-last-chars}
 
@@ -42,9 +41,8 @@ returns-in-93-clause-ok c last follows =
 
 pub returns-then-not-is_at-clause-closed : goal.returns-then-not-is_at-clause-closed
 returns-then-not-is_at-clause-closed c =
-    let xs = c.args.chars.now in
     closed_by_other c.args.verbose _ _ c.skip_gap-dash.ensures.gap
-    (some_at xs c.skip_gap-dash.result
+    (some_at c.args.chars.now c.skip_gap-dash.result
     (omega (arith, c.if-dash-chars.false, c.skip_gap-dash.ensures.inside)))
     (c.if-not-is_at.ensures.absent refl)
 

@@ -1,12 +1,12 @@
 use Rattle.std.proofs.Common.{◌≢◌, refl, sym, ap, subst, arith, ◌++◌, drop, []}
 use Rattle.std.proofs.lemmas.Bool.{both_ways}
-use Rattle.std.proofs.lemmas.Result.{err_from_is_err_and, IfOk-weaker, IfErr-weaker}
+use Rattle.std.proofs.lemmas.Result.{IfOk-weaker, IfErr-weaker}
 use Rattle.regex_lite_syntax.specs.Text.{Text, Begins, the}
 use Rattle.regex_lite_syntax.specs.Sets.{Set}
 use Rattle.regex_lite_syntax.specs.Grammar.Classes.{BeginsItem, ClassElement, ClassItem}
 use Rattle.regex_lite_syntax.specs.Grammar.Escapes.{Primitive, one, some_of, look_at}
 use Rattle.regex_lite_syntax.specs.Parser.Readings.{primitive_of, ReachesTo}
-use Rattle.regex_lite_syntax.specs.Parser.ClassReadings.{element_set, item_set}
+use Rattle.regex_lite_syntax.specs.Parser.ClassReadings.{element_set}
 use Rattle.regex_lite_syntax.specs.Parser.ClassReadings.{RangeTo, HasItems}
 use Rattle.regex_lite_syntax.proofs.ExitLemmas.{at_exit}
 use Rattle.regex_lite_syntax.proofs.grammar.ClassLemmas.{begins}
@@ -14,7 +14,7 @@ use Rattle.regex_lite_syntax.proofs.grammar.LongerGapLemmas.{begins_longer}
 use Rattle.regex_lite_syntax.proofs.grammar.LongerClassLemmas.{element_longer, item_longer}
 use Rattle.regex_lite_syntax.proofs.grammar.LongerClassLemmas.{follows_longer}
 use Rattle.regex_lite_syntax.proofs.parse.DenialLemmas.{none_at_end, none_of_part}
-use Rattle.regex_lite_syntax.proofs.parse.IndexLemmas.{drop_at}
+use Rattle.regex_lite_syntax.proofs.parse.IndexLemmas.{drop_at, some_at}
 use Rattle.regex_lite_syntax.proofs.parse.bracket.ClassItemLemmas.{begins_item, item_begins}
 use Rattle.regex_lite_syntax.proofs.parse.bracket.ClassItemLemmas.{item_part, item_bracketed}
 use Rattle.regex_lite_syntax.proofs.parse.bracket.ClassItemLemmas.{item_named, item_alone}
@@ -23,7 +23,7 @@ use Rattle.regex_lite_syntax.proofs.parse.bracket.ClassItemLemmas.{open_items, s
 use Rattle.regex_lite_syntax.proofs.parse.bracket.CompletedItemLemmas.{closed_named}
 use Rattle.regex_lite_syntax.proofs.parse.bracket.CompletedItemLemmas.{closed_escape, closed_range}
 use Rattle.regex_lite_syntax.proofs.parse.bracket.CompletedItemLemmas.{closed_ending}
-use Rattle.regex_lite_syntax.proofs.parse.bracket.LongerItemLemmas.{some_at, is_named_longer}
+use Rattle.regex_lite_syntax.proofs.parse.bracket.LongerItemLemmas.{is_named_longer}
 use Rattle.regex_lite_syntax.proofs.parse.bracket.LongerItemLemmas.{element_before}
 use Rattle.regex_lite_syntax.proofs.parse.bracket.LongerItemLemmas.{no_operator, range_longer}
 use Rattle.regex_lite_syntax.proofs.parse.bracket.item.read_item.Goals as goal
@@ -36,13 +36,12 @@ use Rattle.regex_lite_syntax.proofs.parse.bracket.item.read_item.Goals.{
 
 pub returns-in_err-end-clause-refused : goal.returns-in_err-end-clause-refused
 returns-in_err-end-clause-refused c =
-    let verbose = c.args.verbose in
     let t = drop c.args.at c.args.chars.now in
     at_exit _ _ c.from_residual.ensures.1 (λ more follows items.
     let bracket = begins (the "[") (t ++ more) _
     (ap (λ u. u ++ more) (c.if-is_at.ensures.there refl).1) in
     c.in_err-end.ensures.refused more follows
-    (item_bracketed verbose (t ++ more) items.3.0 items.0 bracket items.3.2))
+    (item_bracketed c.args.verbose (t ++ more) items.3.0 items.0 bracket items.3.2))
 
 pub returns-then-is_at-clause-ok : goal.returns-then-is_at-clause-ok
 returns-then-is_at-clause-ok c = item_named _ _ _ _ c.in_ok-end.ensures.ok
@@ -149,9 +148,7 @@ returns-in-Some-2-clause-ok c =
     let last = drop c.in-Some-2.last xs in
     let follows = rw c.in-Some-2.is at c.in_ok-find_range_end.ensures.ok in
     let begins = part_begins (goal.at.returns-in-Some-2-clause-ok c).In-Some-element_of in
-    IfOk-weaker c.read_range.result
-    (λ r. RangeTo verbose first last (drop r.0 xs) (item_set r.1))
-    (λ r. ClassItem verbose t (drop r.0 xs) (item_set r.1))
+    IfOk-weaker c.read_range.result _ _
     (λ r to. item_range verbose t
     (drop c.in_ok-past.past xs) last _ first _ begins c.in_ok-past.ensures.ok follows to)
     c.read_range.ensures.ok
@@ -165,9 +162,7 @@ returns-in-Some-2-clause-stays c =
     let last = drop c.in-Some-2.last xs in
     let follows = rw c.in-Some-2.is at c.in_ok-find_range_end.ensures.ok in
     let place = goal.at.returns-in-Some-2-clause-stays c in
-    IfOk-weaker c.read_range.result
-    (λ r. RangeTo verbose first last (drop r.0 xs) (item_set r.1))
-    (λ r. (more : Text) → ClassItem verbose (t ++ more) (drop r.0 xs ++ more) (item_set r.1))
+    IfOk-weaker c.read_range.result _ _
     (λ r to more. range_longer more verbose t (drop c.in_ok-past.past xs) last (drop r.0 xs) first _
     (part_begins place.In-Some-element_of) (goes_on place.In_ok-find_range_end)
     c.in_ok-past.ensures.ok follows to)
@@ -215,26 +210,23 @@ returns-in_err-find_range_end-clause-completes c =
     let verbose = c.args.verbose in
     let t = drop c.args.at c.args.chars.now in
     let past = drop c.in_ok-past.past c.args.chars.now in
-    let element = c.in-Some-element_of.element in
     let part = subst (λ p. ClassElement verbose t past p)
     (sym c.in-Some-element_of.ensures) c.in_ok-past.ensures.ok in
     at_exit _ _ c.from_residual-in_err-find_range_end.ensures.1 (λ short.
-    closed_ending verbose t past element
+    closed_ending verbose t past c.in-Some-element_of.element
     (part_begins (goal.at.returns-in_err-find_range_end-clause-completes c).In-Some-element_of)
     part c.in_err-find_range_end.ensures.refused.1)
 
 pub returns-in-Some-2-clause-completes : goal.returns-in-Some-2-clause-completes
 returns-in-Some-2-clause-completes c =
-    let verbose = c.args.verbose in
     let xs = c.args.chars.now in
-    let t = drop c.args.at xs in
     let past = drop c.in_ok-past.past xs in
     let first = primitive_of c.in_ok-past.first in
     let last = drop c.in-Some-2.last xs in
     let follows = rw c.in-Some-2.is at c.in_ok-find_range_end.ensures.ok in
     let place = (goal.at.returns-in-Some-2-clause-completes c).In_ok-find_range_end in
     IfErr-weaker c.read_range.result _ _
-    (λ fault completes short. closed_range verbose t past last first
+    (λ fault completes short. closed_range c.args.verbose (drop c.args.at xs) past last first
     (part_begins (goal.at.returns-in-Some-2-clause-completes c).In-Some-element_of)
     (goes_on place) c.in_ok-past.ensures.ok follows (completes short))
     c.read_range.ensures.completes

@@ -31,11 +31,10 @@ pub returns-in_err-past-clause-completes : goal.returns-in_err-past-clause-compl
 returns-in_err-past-clause-completes c =
     let verbose = c.args.verbose in
     let t = drop c.args.last c.args.chars.now in
-    let first = primitive_of c.args.first in
     let start = c.in-Char.start in
     at_exit _ _ c.from_residual.ensures.1 (λ short.
     completes_part (λ u r. (d : ℕ) × ClassElement verbose u r (one d) × (start ≤ d))
-    (λ u r. (s : Set) × RangeTo verbose first u r s) t t
+    (λ u r. (s : Set) × RangeTo verbose (primitive_of c.args.first) u r s) t t
     (λ more r found. (
       span start found.0,
       record {

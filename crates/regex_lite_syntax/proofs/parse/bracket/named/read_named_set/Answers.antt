@@ -134,11 +134,10 @@ returns-in_err-expect-clause-refused c =
     let next = c.args.at + 1 in
     let inside : next ≤ length xs = omega (arith, c.requires.inside) in
     at_exit _ _ c.from_residual.ensures.1 (λ more follows has.
-    let second = same_tail (sym (ap (λ u. u ++ more) c.requires.begins) ∙ has.3.opens) in
     stops (the ":") (drop next xs) more c.in_err-expect.ensures.absent
     (λ ends. follows (c.in_err-expect.ensures.short
     ∙ and_from true (next == length xs) refl (ends_short xs next inside ends)))
-    (begins (the ":") _ _ second))
+    (begins (the ":") _ _ (same_tail (sym (ap (λ u. u ++ more) c.requires.begins) ∙ has.3.opens))))
 
 pub returns-in_err-expect-clause-completes : goal.returns-in_err-expect-clause-completes
 returns-in_err-expect-clause-completes c =
@@ -203,7 +202,6 @@ returns-in_err-expect-3-clause-refused c =
     let inside : next ≤ length xs = omega (arith, c.in_ok-expect-2.ensures.there.0) in
     at_exit _ _ c.from_residual-in_err-expect-3.ensures.1 (λ more follows has.
     let same = once at_word more (goes_on _ _ more _ colon) has in
-    let past = same_tail (sym (ap (λ u. u ++ more) colon) ∙ same.1) in
     stops (the "]") (drop next xs) more c.in_err-expect-3.ensures.absent
     (λ ends. by_answer found
     (λ is. follows (c.in_err-expect-3.ensures.short
@@ -211,7 +209,7 @@ returns-in_err-expect-3-clause-refused c =
     (λ is. absurd (none_named (word_at at_word) has.3.name has.2
     (sym (none_of _ (sym c.is_some.ensures ∙ is)) ∙ c.set_with_name-found.ensures)
     same.0 has.3.named)))
-    (begins (the "]") _ _ past))
+    (begins (the "]") _ _ (same_tail (sym (ap (λ u. u ++ more) colon) ∙ same.1))))
 
 pub returns-in_err-expect-3-clause-completes : goal.returns-in_err-expect-3-clause-completes
 unfolding word_at

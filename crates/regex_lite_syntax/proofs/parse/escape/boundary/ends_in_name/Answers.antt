@@ -1,22 +1,16 @@
-use Rattle.std.proofs.Common.{◌≡◌, refl, sym, subst, ℕ, Bool, length, drop, [], ◌∷◌, IsTrue, arith}
+use Rattle.std.proofs.Common.{◌≡◌, refl, sym, subst, ℕ, Bool, ◌∷◌, IsTrue, arith}
 use Rattle.std.specs.List.{list_all}
 use Rattle.std.proofs.lemmas.Bool.{and_parts, eqb-true, eqb-false}
 use Rattle.std.proofs.lemmas.List.{drop_all, drop_more}
 use Rattle.regex_lite_syntax.specs.Text.{Text}
-use Rattle.regex_lite_syntax.specs.Grammar.Gaps.{Gap, WholeGap}
 use Rattle.regex_lite_syntax.specs.Grammar.Escapes.{is_boundary_character}
 use Rattle.regex_lite_syntax.specs.Parser.BoundaryNames.{EndsInName}
 use Rattle.regex_lite_syntax.proofs.grammar.GapLemmas.{gap_to_end}
-use Rattle.regex_lite_syntax.proofs.parse.IndexLemmas.{left_at_end, some_at}
+use Rattle.regex_lite_syntax.proofs.parse.IndexLemmas.{some_at, gap_at_end}
 use Rattle.regex_lite_syntax.proofs.parse.escape.NameEndLemmas.{ends_at_start, ends_past_all}
 use Rattle.regex_lite_syntax.proofs.parse.escape.NameEndLemmas.{ends_after, ends_before}
 use Rattle.regex_lite_syntax.proofs.parse.escape.NameEndLemmas.{ends_elsewhere}
 use Rattle.regex_lite_syntax.proofs.parse.escape.boundary.ends_in_name.Goals as goal
-
--- a gap leads to the end
-to_end : (verbose : Bool) (xs t : Text) (i : ℕ) → WholeGap verbose t (drop i xs)
-    → i ≡ length xs → Gap verbose t []
-to_end verbose xs t i whole e = subst (λ u. Gap verbose t u) (left_at_end xs i e) whole.0
 
 -- the first of the letters that are left
 first_left : (verbose : Bool) (left letters t : Text) (l c : ℕ) → left ≡ l ∷ letters → c ≡ l
@@ -43,15 +37,14 @@ pub returns-then-not-is_at-clause-there : goal.returns-then-not-is_at-clause-the
 returns-then-not-is_at-clause-there c at_end =
     c.loop-letter.invariant.goes
     (ends_at_start _ _ _
-    (to_end _ _ _ _ c.skip_gap-next.ensures.gap (eqb-true _ _ at_end)))
+    (gap_at_end _ _ _ _ (eqb-true _ _ at_end) c.skip_gap-next.ensures.gap))
 
 pub returns-then-not-is_at-clause-absent : goal.returns-then-not-is_at-clause-absent
 returns-then-not-is_at-clause-absent c goes_on e =
     let left = drop_more c.as_bytes-letter-items.result.now c.loop-letter.letter-index 0
     c.loop-letter-test.true in
-    let some = eqb-false _ _ goes_on in
     ends_elsewhere _ _ _ _ _ c.skip_gap-next.ensures.gap
-    (some_at c.args.chars.now c.skip_gap-next.result (omega (arith, some)))
+    (some_at c.args.chars.now c.skip_gap-next.result (omega (arith, eqb-false _ _ goes_on)))
     (c.if-not-is_at.ensures.absent refl)
     (first_left _ _ _ _ _ _ left c.from.ensures (c.loop-letter.invariant.back e))
 
@@ -78,13 +71,12 @@ loop-letter-preserved c =
 pub returns-clause-there : goal.returns-clause-there
 returns-clause-there c at_end =
     c.loop-letter.invariant.goes
-    (ends_at_start _ _ _ (to_end _ _ _ _ c.skip_gap.ensures.gap (eqb-true _ _ at_end)))
+    (ends_at_start _ _ _ (gap_at_end _ _ _ _ (eqb-true _ _ at_end) c.skip_gap.ensures.gap))
 
 pub returns-clause-absent : goal.returns-clause-absent
 returns-clause-absent c goes_on e =
     let none = drop_all c.loop-letter.letter-index c.as_bytes-letter-items.result.now
     c.loop-letter-test.false in
-    let some = eqb-false _ _ goes_on in
-    some_at c.args.chars.now c.skip_gap.result (omega (arith, some))
+    some_at c.args.chars.now c.skip_gap.result (omega (arith, eqb-false _ _ goes_on))
     (gap_to_end _ _ _ c.skip_gap.ensures.gap
     (ends_past_all _ _ _ none (c.loop-letter.invariant.back e)))

@@ -1,10 +1,11 @@
 use Rattle.std.proofs.Common.{◌≡◌, refl, subst, Bool}
-use Rattle.std.proofs.Common.{◌∷◌, codes}
+use Rattle.std.proofs.Common.{◌∷◌, codes, Some}
 use Rattle.regex_lite_syntax.specs.declared.hir.look.Look.{Look}
 use Rattle.regex_lite_syntax.specs.Text.{Text, the}
 use Rattle.regex_lite_syntax.specs.Grammar.Gaps.{Gap, Spaced}
 use Rattle.regex_lite_syntax.specs.Grammar.Escapes.{is_boundary_character}
 use Rattle.regex_lite_syntax.specs.Grammar.Escapes.{BoundaryName}
+use Rattle.regex_lite_syntax.specs.Grammar.Escapes.{boundary_named}
 use Rattle.regex_lite_syntax.proofs.parse.escape.BoundaryNameLemmas.{one_of_four}
 use Rattle.regex_lite_syntax.proofs.parse.escape.boundary.read_name.Goals as goal
 
@@ -28,43 +29,27 @@ no_name verbose t rest look a b c d n =
         absent n.last rest
         (subst (λ ls. Spaced verbose is_boundary_character ls t n.last) e n.written) n.closes
 
+-- a name that stands there
+called : (verbose : Bool) (t rest name : Text) (look : Look) → boundary_named name ≡ Some look
+    → (last : Text) × Spaced verbose is_boundary_character name t last
+    × Gap verbose last (the "}" ∷ rest) → BoundaryName verbose t rest look
+called verbose t rest name look named there =
+    record { name = name; last = there.0; written = there.1; closes = there.2; named = named }
+
 pub returns-in-Some-clause-ok : goal.returns-in-Some-clause-ok
-returns-in-Some-clause-ok c =
-    let there = c.in-Some.ensures.there in
-    record {
-      name = codes "start";
-      last = there.0;
-      written = there.1;
-      closes = there.2;
-      named = refl;
-    }
+returns-in-Some-clause-ok c = called _ _ _ (codes "start") _ refl c.in-Some.ensures.there
 
 pub returns-in-Some-skip_name-clause-ok : goal.returns-in-Some-skip_name-clause-ok
 returns-in-Some-skip_name-clause-ok c =
-    let there = c.in-Some-skip_name.ensures.there in
-    record { name = codes "end"; last = there.0; written = there.1; closes = there.2; named = refl }
+    called _ _ _ (codes "end") _ refl c.in-Some-skip_name.ensures.there
 
 pub returns-in-Some-skip_name-2-clause-ok : goal.returns-in-Some-skip_name-2-clause-ok
 returns-in-Some-skip_name-2-clause-ok c =
-    let there = c.in-Some-skip_name-2.ensures.there in
-    record {
-      name = codes "start-half";
-      last = there.0;
-      written = there.1;
-      closes = there.2;
-      named = refl;
-    }
+    called _ _ _ (codes "start-half") _ refl c.in-Some-skip_name-2.ensures.there
 
 pub returns-in-Some-skip_name-3-clause-ok : goal.returns-in-Some-skip_name-3-clause-ok
 returns-in-Some-skip_name-3-clause-ok c =
-    let there = c.in-Some-skip_name-3.ensures.there in
-    record {
-      name = codes "end-half";
-      last = there.0;
-      written = there.1;
-      closes = there.2;
-      named = refl;
-    }
+    called _ _ _ (codes "end-half") _ refl c.in-Some-skip_name-3.ensures.there
 
 pub returns-clause-refused : goal.returns-clause-refused
 returns-clause-refused c more follows (rest, look, n) =

@@ -62,18 +62,16 @@ returns-in-Some-clause-refused c =
 
 pub returns-in-Some-2-clause-ok : goal.returns-in-Some-2-clause-ok
 returns-in-Some-2-clause-ok c =
-    let opens = c.if-not-is_at.ensures.there refl in
     let count = begins_count _ _ _ _ _ c.skip_gap-first.ensures.gap c.in-Some.ensures.1
     (sym c.if-is_name_char.ensures) in
-    before_count _ opens.1 count refl refl
+    before_count _ (c.if-not-is_at.ensures.there refl).1 count refl refl
 
 pub returns-in-None-clause-completes : goal.returns-in-None-clause-completes
 returns-in-None-clause-completes c short =
-    let opens = c.if-not-is_at.ensures.there refl in
     let gap = subst (λ u. Gap c.args.verbose (drop (c.args.at + 1) c.args.chars.now) u)
     c.in-None.ensures c.skip_gap-first.ensures.gap.0 in
     completes_part (NameTo c.args.verbose) (BoundaryTo c.args.verbose) _ _
-    (λ more rest. in_braces _ _ _ more rest opens.1)
+    (λ more rest. in_braces _ _ _ more rest (c.if-not-is_at.ensures.there refl).1)
     (name_completable _ (codes "start") _ looks.WordStart refl refl (ends_at_start _ _ _ gap))
 
 pub returns-in-Some-clause-completes : goal.returns-in-Some-clause-completes

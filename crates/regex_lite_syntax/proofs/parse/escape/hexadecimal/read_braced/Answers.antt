@@ -23,8 +23,7 @@ returns-in_default-clause-refused c more follows (rest, d, b, far) =
 
 pub returns-in_default-clause-completes : goal.returns-in_default-clause-completes
 returns-in_default-clause-completes c short =
-    let begun = c.loop-c.invariant.begun in
-    braced_completable c.args.least _ _ (λ some. omega (arith, begun some))
+    braced_completable c.args.least _ _ (λ some. omega (arith, c.loop-c.invariant.begun some))
     (subst (λ u. Gap c.args.verbose (drop c.loop-c.end c.args.chars.now) u)
     c.in_default.ensures c.skip_gap-next.ensures.gap.0)
     c.loop-c.invariant.goes_longer
