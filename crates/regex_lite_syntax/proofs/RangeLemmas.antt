@@ -62,8 +62,7 @@ HoldSame a b = (c : ℕ) → in_ranges a c ≡ in_ranges b c
 -- of two lists of runs that hold the same, the first run starts no sooner in the one than in the
 -- other
 starts_no_sooner : (n m : ℕ) (r s : ClassRange) (a b : List ClassRange) → AreRuns n (r ∷ a)
-    → AreRuns m (s ∷ b) → HoldSame (r ∷ a) (s ∷ b)
-    → s.start ≤ r.start
+    → AreRuns m (s ∷ b) → HoldSame (r ∷ a) (s ∷ b) → s.start ≤ r.start
 starts_no_sooner n m r s a b p q same =
     let here = same r.start in
     let rest = runs_from (next_character s.end + 1) b r.start q.4 in
@@ -71,8 +70,7 @@ starts_no_sooner n m r s a b p q same =
 
 -- and ends no sooner
 ends_no_sooner : (n m : ℕ) (r s : ClassRange) (a b : List ClassRange) → AreRuns n (r ∷ a)
-    → AreRuns m (s ∷ b) → HoldSame (r ∷ a) (s ∷ b)
-    → r.start ≡ s.start → s.end ≤ r.end
+    → AreRuns m (s ∷ b) → HoldSame (r ∷ a) (s ∷ b) → r.start ≡ s.start → s.end ≤ r.end
 ends_no_sooner n m r s a b p q same start =
     let here = same (next_character r.end) in
     let rest = runs_from (next_character r.end + 1) a (next_character r.end) p.4 in
@@ -97,8 +95,7 @@ same_first n m r s a b p q same =
     same_range r s start end
 
 same_rest : (n m : ℕ) (r s : ClassRange) (a b : List ClassRange) → AreRuns n (r ∷ a)
-    → AreRuns m (s ∷ b) → HoldSame (r ∷ a) (s ∷ b)
-    → r ≡ s → HoldSame a b
+    → AreRuns m (s ∷ b) → HoldSame (r ∷ a) (s ∷ b) → r ≡ s → HoldSame a b
 same_rest n m r s a b p q same first c =
     let here = same c in
     let left = runs_from (next_character r.end + 1) a c p.4 in

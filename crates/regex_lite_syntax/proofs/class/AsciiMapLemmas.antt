@@ -20,16 +20,14 @@ use Rattle.regex_lite_syntax.specs.AsciiMaps.{bit_of_words}
 -- `MAX << start & MAX >> (127 - end)` has the ones from the start to the end
 pub bits_between : (start end c : ℕ) → start < 128 → end < 128 → c < 128
     → (bit_at (bit_and ((2 ^ 128 - 1) * 2 ^ start % 2 ^ 128) ((2 ^ 128 - 1) / 2 ^ (127 - end))) c
-    == 1)
-    ≡ is_between start end c
+    == 1) ≡ is_between start end c
 bits_between start end c starts ends within =
     let from : (2 ^ 128 - 1) * 2 ^ start % 2 ^ 128 ≡ 2 ^ 128 - 2 ^ start =
     ones_shl 128 start (omega arith) in
     let to : (2 ^ 128 - 1) / 2 ^ (127 - end) ≡ 2 ^ (128 - (127 - end)) - 1 =
     ones_shr 128 (127 - end) (omega arith) in
     let exponent : 128 - (127 - end) ≡ end + 1 = omega arith in
-    rw (from, to, exponent, bit_at_and)
-    (elim (cases_lt c start) [
+    rw (from, to, exponent, bit_at_and) (elim (cases_lt c start) [
       | inl before ↦ rw (bit_at_mask_below start 128 c before) (grind (arith, nat_tests))
       | inr at ↦ rw (bit_at_mask_inside start 128 c at within)
           (elim (cases_lt end c) [

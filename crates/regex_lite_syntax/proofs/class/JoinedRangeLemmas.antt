@@ -21,8 +21,7 @@ until end r = record { start = r.start; end = end }
 
 -- more runs after the last
 pub runs_append : (n : ℕ) (a b : List ClassRange) (last : ClassRange) → AreRuns n (a ++ last ∷ [])
-    → AreRuns (next_character last.end + 1) b
-    → AreRuns n ((a ++ last ∷ []) ++ b)
+    → AreRuns (next_character last.end + 1) b → AreRuns n ((a ++ last ∷ []) ++ b)
 runs_append n [] b last p q = (p.0, p.1, p.2, p.3, q)
 runs_append n (r ∷ a) b last p q =
     (p.0, p.1, p.2, p.3, runs_append (next_character r.end + 1) a b last p.4 q)
@@ -61,8 +60,7 @@ pub starts_last : (n : ℕ) (a : List ClassRange) (last : ClassRange)
 starts_last n a last all = let here = all (length a) last in grind (arith, common_steps)
 
 pub starts_push : (n : ℕ) (a : List ClassRange) (r : ClassRange) → All (λ run. run.start ≤ n) a
-    → r.start ≤ n
-    → All (λ run. run.start ≤ n) (a ++ r ∷ [])
+    → r.start ≤ n → All (λ run. run.start ≤ n) (a ++ r ∷ [])
 starts_push n a r all le k d inside = grind (arith, common_steps, all k d)
 
 -- the last of the ranges in front

@@ -10,8 +10,7 @@ use Rattle.regex_lite_syntax.proofs.RangeLemmas.{next_above, runs_from}
 
 -- runs end no sooner than they may start
 ends_from : (n : ℕ) (ranges : List ClassRange) (i : ℕ) (d : ClassRange) → AreRuns n ranges
-    → i < length ranges
-    → n ≤ (get_or ranges i d).end
+    → i < length ranges → n ≤ (get_or ranges i d).end
 ends_from n [] i d runs inside = absurd (omega (arith, inside))
 ends_from n (r ∷ ranges) zero d runs inside = omega (arith, runs.0, runs.3)
 ends_from n (r ∷ ranges) (suc i) d runs inside =

@@ -51,8 +51,7 @@ atom_from_once no_atom flags t past rest rest' a b p q = absurd p
 
 -- the rest of an item, by the character that stands first
 pub from_first : (flags : Flags) (t rest : Text) (a : Tree) (c : ℕ) (u : Text) → t ≡ c ∷ u
-    → Atom flags t rest a
-    → AtomFrom (atom_kind flags c) flags t u rest a
+    → Atom flags t rest a → AtomFrom (atom_kind flags c) flags t u rest a
 from_first flags t rest a c u e d =
     let same = sym d.begins ∙ e in
     let past =
@@ -60,8 +59,7 @@ from_first flags t rest a c u e d =
     subst (λ x. AtomFrom (atom_kind flags x) flags t u rest a) (same_head same) past
 
 pub atom_once : (flags : Flags) (t rest rest' : Text) (a b : Tree) → Atom flags t rest a
-    → Atom flags t rest' b
-    → (rest ≡ rest') × (a ≡ b)
+    → Atom flags t rest' b → (rest ≡ rest') × (a ≡ b)
 atom_once flags t rest rest' a b p q =
     let from = from_first flags t rest' b p.first p.past_first p.begins q in
     atom_from_once (atom_kind flags p.first) flags t p.past_first rest rest' a b p.goes_on from
@@ -138,8 +136,7 @@ literal_atom flags c t rest a e literal tree =
 
 -- but a character that neither stands for itself nor is a sign begins no item that is no group
 pub no_literal : (flags : Flags) (t rest : Text) (a : Tree) (c : ℕ) (u : Text) → t ≡ c ∷ u
-    → NoSign c
-    → is_literal flags.ignore_whitespace c ≡ false → Atom flags t rest a → ⊥
+    → NoSign c → is_literal flags.ignore_whitespace c ≡ false → Atom flags t rest a → ⊥
 no_literal flags t rest a c u e sign literal d =
     no_atom_at flags t rest a c u e (kind_by flags c false sign literal) d
 

@@ -71,17 +71,15 @@ no_caret (c ∷ w) t r u s p e b =
     (and_parts _ _ (list_all-from_AllPass is_lower (c ∷ w) p)).0
 
 pub negation_once : (m n : Bool) (t u v : Text) → t ≡ (if m then the "^" ∷ u else u)
-    → t ≡ (if n then the "^" ∷ v else v)
-    → (m ≡ false → Begins (the "^") t → ⊥) → (n ≡ false → Begins (the "^") t → ⊥)
-    → (m ≡ n) × (u ≡ v)
+    → t ≡ (if n then the "^" ∷ v else v) → (m ≡ false → Begins (the "^") t → ⊥)
+    → (n ≡ false → Begins (the "^") t → ⊥) → (m ≡ n) × (u ≡ v)
 negation_once true true t u v e f bare bare' = (refl, same_tail (sym e ∙ f))
 negation_once true false t u v e f bare bare' = absurd (bare' refl (begins (the "^") t u e))
 negation_once false true t u v e f bare bare' = absurd (bare refl (begins (the "^") t v f))
 negation_once false false t u v e f bare bare' = (refl, sym e ∙ f)
 
 pub no_negation : (n : Bool) (t u w r v : Text) → t ≡ (if n then the "^" ∷ u else u) → u ≡ w ++ r
-    → AllPass is_lower w
-    → r ≡ the ":" ∷ v → n ≡ false → Begins (the "^") t → ⊥
+    → AllPass is_lower w → r ≡ the ":" ∷ v → n ≡ false → Begins (the "^") t → ⊥
 no_negation true t u w r v e s p closes h b = cc h
 no_negation false t u w r v e s p closes h b =
     no_caret w u r v s p closes (subst (λ x. Begins (the "^") x) e b)
@@ -103,8 +101,7 @@ name_once opened u w r m e bare s p lacks t rest n set opens c =
     (signs.0, words.0, words.1)
 
 pub named_once : (t r s : Text) (m n : Bool) (a b : SetName) → NamedClass t r m a
-    → NamedClass t s n b
-    → (r ≡ s) × (m ≡ n) × (a ≡ b)
+    → NamedClass t s n b → (r ≡ s) × (m ≡ n) × (a ≡ b)
 named_once t r s m n a b c d =
     let once = name_once c.opened c.begin c.name c.end m c.negation
     (no_negation m c.opened c.begin c.name c.end _ c.negation c.written c.letters c.closes)
@@ -131,8 +128,7 @@ item_once verbose t r s a b (named_class m x c e) (named_class n y d f) =
       once.0,
       e
           ∙ ap (λ z. if m then complement (members z) else members z) once.2
-          ∙ ap (λ z. if z then complement (members y) else members y) once.1
-          ∙ sym f,
+          ∙ ap (λ z. if z then complement (members y) else members y) once.1 ∙ sym f,
     )
 item_once verbose t r s a b (named_class m x c e) (character d i p o f) =
     absurd (no_bracket t i (named_begins t r m x c))
@@ -171,8 +167,7 @@ item_once verbose t r s a b (range g h u v i p o q le e) (range k l past last i'
     let second = part_once verbose v r s _ _ q (part_same verbose last v s _ (sym place) q') in (
       second.0,
       e
-          ∙ ap (λ z. span z h) (one_same g k first.1)
-          ∙ ap (λ z. span k z) (one_same h l second.1)
+          ∙ ap (λ z. span z h) (one_same g k first.1) ∙ ap (λ z. span k z) (one_same h l second.1)
           ∙ sym f,
     )
 
@@ -186,8 +181,7 @@ item_goes_on verbose t r a (range g h u v i p o q le e) b = no_close t i b
 
 -- what is left past an item and its gap
 pub items_past : (verbose : Bool) (t past next rest : Text) (a b : Set) (sets : List Set)
-    → ClassItem verbose t past a
-    → WholeGap verbose past next → ClassItems verbose (b ∷ sets) t rest
+    → ClassItem verbose t past a → WholeGap verbose past next → ClassItems verbose (b ∷ sets) t rest
     → (a ≡ b) × ClassItems verbose sets next rest
 items_past verbose t past next rest a b sets item gap items =
     let once = item_once verbose t past items.0 a b item items.2 in
@@ -196,8 +190,7 @@ items_past verbose t past next rest a b sets item gap items =
     (once.1, subst (λ u. ClassItems verbose sets u rest) (sym gaps) items.4)
 
 pub items_once : (verbose : Bool) (as' bs : List Set) (t r s : Text) → ClassItems verbose as' t r
-    → ClassItems verbose bs t s
-    → (as' ≡ bs) × (r ≡ s)
+    → ClassItems verbose bs t s → (as' ≡ bs) × (r ≡ s)
 items_once verbose [] [] t r s x y = (refl, same_tail (sym x ∙ y))
 items_once verbose [] (b ∷ bs) t r s x y =
     absurd (item_goes_on verbose t y.0 b y.2 (begins (the "]") t r x))
@@ -210,8 +203,7 @@ items_once verbose (a ∷ as') (b ∷ bs) t r s x y =
 
 -- what a class begins with
 pub takes_once : (verbose : Bool) (c : ℕ) (t r s : Text) (a b : Bool) → Takes verbose c t r a
-    → Takes verbose c t s b
-    → (r ≡ s) × (a ≡ b)
+    → Takes verbose c t s b → (r ≡ s) × (a ≡ b)
 takes_once verbose c t r s a b (takes past e gap h) (takes past' f gap' k) = (
   whole_gap_once verbose past r s gap
       (subst (λ u. WholeGap verbose u s) (sym (same_tail (sym e ∙ f))) gap'),
@@ -224,8 +216,7 @@ takes_once verbose c t r s a b (leaves none e h) (takes past f gap k) =
 takes_once verbose c t r s a b (leaves none e h) (leaves none' f k) = (sym e ∙ f, h ∙ sym k)
 
 pub dashes_once : (verbose : Bool) (m n : ℕ) (t r s : Text) → Dashes verbose m t r
-    → Dashes verbose n t s
-    → (m ≡ n) × (r ≡ s)
+    → Dashes verbose n t s → (m ≡ n) × (r ≡ s)
 dashes_once verbose zero zero t r s x y = (refl, sym x.0 ∙ y.0)
 dashes_once verbose zero (suc n) t r s x y = absurd (x.1 (begins (the "-") t y.0 y.2))
 dashes_once verbose (suc m) zero t r s x y = absurd (y.1 (begins (the "-") t x.0 x.2))
@@ -237,8 +228,7 @@ dashes_once verbose (suc m) (suc n) t r s x y =
     (ap suc rest.0, rest.1)
 
 pub bracket_once : (verbose : Bool) (n : ℕ) (t r s : Text) (a b : Bool)
-    → FirstBracket verbose n t r a
-    → FirstBracket verbose n t s b → (r ≡ s) × (a ≡ b)
+    → FirstBracket verbose n t r a → FirstBracket verbose n t s b → (r ≡ s) × (a ≡ b)
 bracket_once verbose zero t r s a b x y = takes_once verbose (the "]") t r s a b x y
 bracket_once verbose (suc n) t r s a b x y = (sym x.0 ∙ y.0, x.1 ∙ sym y.1)
 
@@ -264,8 +254,7 @@ pub class_once : (insensitive verbose : Bool) (t r s : Text) (a b : Set)
     → BracketedClass insensitive verbose t s b → (r ≡ s) × (a ≡ b)
 class_once insensitive verbose t r s a b x y =
     let opened = opening_once verbose t x.past_opening y.past_opening x.negated y.negated x.dash
-    y.dash x.bracket y.bracket
-    x.opening y.opening in
+    y.dash x.bracket y.bracket x.opening y.opening in
     let items = items_once verbose x.sets y.sets x.past_opening r s x.items
     (subst (λ u. ClassItems verbose y.sets u s) (sym opened.0) y.items) in (
       items.1,

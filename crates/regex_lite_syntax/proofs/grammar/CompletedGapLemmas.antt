@@ -42,8 +42,7 @@ gap_completed verbose t more next gap =
 
 -- characters that go on with further ones
 pub spaced_further : (verbose : Bool) (kind : ℕ → Bool) (cs ds t u v : Text)
-    → Spaced verbose kind cs t u → Spaced verbose kind ds u v
-    → Spaced verbose kind (cs ++ ds) t v
+    → Spaced verbose kind cs t u → Spaced verbose kind ds u v → Spaced verbose kind (cs ++ ds) t v
 spaced_further verbose kind [] ds t u v a b =
     subst (λ w. Spaced verbose kind ds w v) (sym a) b
 spaced_further verbose kind (c ∷ cs) ds t u v a b =

@@ -39,8 +39,7 @@ limit_or_none verbose t rest rest' n closes number =
     (no_digit_before verbose (the "}" ∷ rest) (the "}" ∷ rest) here ends) number
 
 pub limit_once : (verbose : Bool) (t r s : Text) (m m' : Option ℕ) → Limit verbose t r m
-    → Limit verbose t s m'
-    → (r ≡ s) × (m ≡ m')
+    → Limit verbose t s m' → (r ≡ s) × (m ≡ m')
 limit_once verbose t r s None None a b =
     let closed = gap_once verbose t _ _ a b (printed_ends (the "}") r (omega arith) (omega arith))
     (printed_ends (the "}") s (omega arith) (omega arith)) in
@@ -105,17 +104,15 @@ past_min_once verbose u r s n m m' (limited past e l order) (limited past' e' l'
 
 -- past a comma comes the limit
 pub limit_past : {verbose : Bool} {rest : Text} {n : ℕ} {most : Option ℕ} (u past : Text) (c : ℕ)
-    → u ≡ c ∷ past
-    → c ≡ the "," → PastMin verbose u rest n most
+    → u ≡ c ∷ past → c ≡ the "," → PastMin verbose u rest n most
     → Limit verbose past rest most × IsNotBelow n most
 limit_past {verbose} {rest} {n} {most} u past c here is (closed e all) =
     let clash = same_head (sym here ∙ e) in absurd (omega (arith, clash, is))
 limit_past {verbose} {rest} {n} {most} u past c here is (limited past' e limit order) =
     (subst (λ v. Limit verbose v rest most) (sym (same_tail (sym here ∙ e))) limit, order)
 
-pub counted_to : {verbose : Bool} {t rest : Text} {least : ℕ} (most : Option ℕ)
-    (u past : Text) (c : ℕ)
-    → Number verbose t u least → u ≡ c ∷ past → c ≡ the "," → Limit verbose past rest most
+pub counted_to : {verbose : Bool} {t rest : Text} {least : ℕ} (most : Option ℕ) (u past : Text)
+    (c : ℕ) → Number verbose t u least → u ≡ c ∷ past → c ≡ the "," → Limit verbose past rest most
     → IsNotBelow least most → Counted verbose t rest least most
 counted_to {verbose} {t} {rest} {least} most u past c p here is limit order =
     go most (subst (λ v. Number verbose t v least) (cc (here, is)) p) limit order
@@ -127,8 +124,7 @@ counted_to {verbose} {t} {rest} {least} most u past c p here is limit order =
 
 -- a counted operator ends at one place, and has one pair of bounds
 pub counted_once : (verbose : Bool) (t r s : Text) (l l' : ℕ) (m m' : Option ℕ)
-    → Counted verbose t r l m
-    → Counted verbose t s l' m' → (r ≡ s) × (l ≡ l') × (m ≡ m')
+    → Counted verbose t r l m → Counted verbose t s l' m' → (r ≡ s) × (l ≡ l') × (m ≡ m')
 counted_once verbose t r s l l' m m' a b =
     let from = first_number a in
     let past =

@@ -83,9 +83,8 @@ from_braces verbose n t u opened rest c d whole here opens b =
     (subst (λ e. Gap verbose t (e ∷ opened)) opens (subst (λ v. Gap verbose t v) here whole.0)) b
 
 pub in_braces : (verbose : Bool) (n : ℕ) (t u opened rest : Text) (c d : ℕ) → 0 < n
-    → WholeGap verbose t u
-    → u ≡ d ∷ opened → d ≡ the "{" → Hexadecimal verbose n t rest c
-    → BracedDigits verbose opened rest c
+    → WholeGap verbose t u → u ≡ d ∷ opened
+    → d ≡ the "{" → Hexadecimal verbose n t rest c → BracedDigits verbose opened rest c
 in_braces verbose n t u opened rest c d some whole here opens (fixed f) =
     absurd (fixed_or_braced verbose n t rest opened c some f
     (subst (λ e. Gap verbose t (e ∷ opened)) opens (subst (λ v. Gap verbose t v) here whole.0)))
@@ -142,13 +141,10 @@ no_boundary verbose t opened u rest look opens whole end (named opened' b n) =
     go n.name n.named n.written
   where
     go : (name : Text) → boundary_named name ≡ Some look
-        → Spaced verbose is_boundary_character name opened' n.last
-        → ⊥
+        → Spaced verbose is_boundary_character name opened' n.last → ⊥
     go [] is written = cc
-    go (c ∷ name) is written =
-        not_spaced verbose is_boundary_character c name opened u n.last
-        boundary_characters_end whole
-        (subst (λ v. Lacks is_boundary_character v) (sym end) tt)
+    go (c ∷ name) is written = not_spaced verbose is_boundary_character c name opened u n.last
+        boundary_characters_end whole (subst (λ v. Lacks is_boundary_character v) (sym end) tt)
         (subst (λ v. Spaced verbose is_boundary_character (c ∷ name) v n.last)
         (same_tail (sym b ∙ opens)) written)
 
@@ -170,8 +166,7 @@ name_in_braces verbose t opened u past rest c look opens whole here is (named op
 
 -- past the whole gap stands a character that begins no name
 pub begins_count : (verbose : Bool) (opened u past : Text) (c : ℕ) → WholeGap verbose opened u
-    → u ≡ c ∷ past
-    → is_boundary_character c ≡ false → BeginsCount verbose opened
+    → u ≡ c ∷ past → is_boundary_character c ≡ false → BeginsCount verbose opened
 begins_count verbose opened u past c whole here other = record {
   goes_on = λ gap. let end = whole_gap_leads verbose opened u [] whole gap tt in cc (end, here);
   no_name = λ d rest gap is.
@@ -182,8 +177,7 @@ begins_count verbose opened u past c whole here other = record {
 }
 
 pub boundary_once : (verbose : Bool) (t r s : Text) (look look' : Look)
-    → WordBoundary verbose t r look
-    → WordBoundary verbose t s look' → (r ≡ s) × (look ≡ look')
+    → WordBoundary verbose t r look → WordBoundary verbose t s look' → (r ≡ s) × (look ≡ look')
 boundary_once verbose t r s look look' (alone n e l) (alone n' e' l') = (sym e ∙ e', l ∙ sym l')
 boundary_once verbose t r s look look' (alone n e l) (before_count o b c e' l') =
     absurd (n (brace_begins t o b))
@@ -253,8 +247,7 @@ escape_as verbose t past rest p c kind e asked goes_on = record {
 }
 
 pub escape_once : (verbose : Bool) (t r s : Text) (p q : Primitive) → Escape verbose t r p
-    → Escape verbose t s q
-    → (r ≡ s) × (p ≡ q)
+    → Escape verbose t s q → (r ≡ s) × (p ≡ q)
 escape_once verbose t r s p q a b =
     escape_from_once (escape_kind a.first) verbose a.past_first r s p q
     (asks_for_some a.first) a.goes_on

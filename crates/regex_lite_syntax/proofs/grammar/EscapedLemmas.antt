@@ -67,19 +67,15 @@ module _ (flags : Flags) (no_case : flags.case_insensitive ≡ false)
   one_tree : (c : ℕ) → PrimitiveTree flags (one c) (character c)
   one_tree c =
       subst (λ i. MatchBool (i && is_letter c) (IsClassOf (case_closure (just c)) (character c))
-      (character c ≡ character c))
-      (sym no_case) refl
+      (character c ≡ character c)) (sym no_case) refl
 
   first_atom : (c : ℕ) (t : Text) → Atom flags (escaped (c ∷ t)) (escaped t) (character c)
-  first_atom c t =
-      (elim (is_meta_character c) as (λ b. is_meta_character c ≡ b
+  first_atom c t = (elim (is_meta_character c) as (λ b. is_meta_character c ≡ b
       → Atom flags (cond b (the "\\" ∷ c ∷ escaped t) (c ∷ escaped t)) (escaped t) (character c)) [
         | true ↦ λ meta.
             escape_atom flags _ (c ∷ escaped t) (escaped t) (one c) (character c) refl
             (escape_as flags.ignore_whitespace _ (escaped t) (escaped t) (one c) c
-            (gives (one c)) refl
-            (stands_for_itself c meta) (refl, refl))
-            (one_tree c)
+            (gives (one c)) refl (stands_for_itself c meta) (refl, refl)) (one_tree c)
         | false ↦ λ other.
             literal_atom flags c _ (escaped t) (character c) refl
             (subst (λ v. is_literal v c ≡ true) (sym no_spacing) (other_is_literal c other))
@@ -96,8 +92,7 @@ module _ (flags : Flags) (no_case : flags.case_insensitive ≡ false)
         → Branch 0 (start flags whole) (at []) (before ++ map character t)
     rest_of_branch before [] branch =
         subst (Branch 0 (start flags whole) (at [])) (sym (append-nil before)) branch
-    rest_of_branch before (c ∷ t) branch =
-        subst (Branch 0 (start flags whole) (at []))
+    rest_of_branch before (c ∷ t) branch = subst (Branch 0 (start flags whole) (at []))
         (append_assoc before (character c ∷ []) (map character t))
         (rest_of_branch (before ++ character c ∷ []) t
         (item (at (c ∷ t)) (at (c ∷ t)) before (character c) branch

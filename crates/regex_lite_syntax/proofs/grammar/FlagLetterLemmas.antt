@@ -12,9 +12,8 @@ use Rattle.regex_lite_syntax.proofs.grammar.WordLemmas.{word_once as longest_onc
 
 -- letters of one kind up to a character of another kind
 pub word_once : (kind : ℕ → Bool) (word word' t : Text) (c d : ℕ) (r s : Text) → kind c ≡ false
-    → kind d ≡ false
-    → t ≡ word ++ c ∷ r → t ≡ word' ++ d ∷ s → AllPass kind word → AllPass kind word'
-    → (word ≡ word') × (c ≡ d) × (r ≡ s)
+    → kind d ≡ false → t ≡ word ++ c ∷ r → t ≡ word' ++ d ∷ s → AllPass kind word
+    → AllPass kind word' → (word ≡ word') × (c ≡ d) × (r ≡ s)
 word_once kind word word' t c d r s ends ends' p q all all' =
     let same = longest_once kind word word' t (c ∷ r) (d ∷ s) p q all all' ends ends' in
     (same.0, same_head same.1, same_tail same.1)
@@ -32,16 +31,14 @@ paren_ends_flags = record { no_letter = refl; no_dash = λ e. omega (arith, e) }
 
 -- flags that set alone and flags with a dash do not stand at one place
 one_sort : (on on' t past : Text) (c : ℕ) (r : Text) → EndsFlags c → t ≡ on ++ c ∷ r
-    → AllPass is_flag_letter on
-    → t ≡ on' ++ the "-" ∷ past → AllPass is_flag_letter on' → ⊥
+    → AllPass is_flag_letter on → t ≡ on' ++ the "-" ∷ past → AllPass is_flag_letter on' → ⊥
 one_sort on on' t past c r ends p all q all' =
     ends.no_dash
     (word_once is_flag_letter on on' t c (the "-") r past ends.no_letter refl p q all all').1
 
 -- two that end before what is no part of flags
 pub letters_once : (old new new' : Flags) (t : Text) (c d : ℕ) (r s : Text) → EndsFlags c
-    → EndsFlags d
-    → FlagLetters old t (c ∷ r) new → FlagLetters old t (d ∷ s) new'
+    → EndsFlags d → FlagLetters old t (c ∷ r) new → FlagLetters old t (d ∷ s) new'
     → (new ≡ new') × (c ≡ d) × (r ≡ s)
 letters_once old new new' t c d r s ends ends' (setting on p all differ e)
     (setting on' p' all' differ' e') =
@@ -66,9 +63,8 @@ letters_once old new new' t c d r s ends ends' (clearing on off past p q some al
     (e ∙ cleared ∙ set ∙ sym e', same.1, same.2)
 
 -- flags that end before one character do not end before another
-pub other_end : (old new new' : Flags) (t : Text) (c d : ℕ) (r s : Text) → EndsFlags c
-    → EndsFlags d → c ≢ d
-    → FlagLetters old t (c ∷ r) new → FlagLetters old t (d ∷ s) new' → ⊥
+pub other_end : (old new new' : Flags) (t : Text) (c d : ℕ) (r s : Text) → EndsFlags c → EndsFlags d
+    → c ≢ d → FlagLetters old t (c ∷ r) new → FlagLetters old t (d ∷ s) new' → ⊥
 other_end old new new' t c d r s ends ends' differ p q =
     differ (letters_once old new new' t c d r s ends ends' p q).1
 
@@ -78,8 +74,7 @@ no_flags old t rest c e = setting [] e (AllPass-from_list_all is_flag_letter [] 
 
 -- so where a character stands that is no part of flags, none end before another
 pub flags_elsewhere : (old new : Flags) (t u : Text) (c d : ℕ) (r : Text) → EndsFlags c
-    → EndsFlags d → t ≡ c ∷ u
-    → c ≢ d → FlagLetters old t (d ∷ r) new → ⊥
+    → EndsFlags d → t ≡ c ∷ u → c ≢ d → FlagLetters old t (d ∷ r) new → ⊥
 flags_elsewhere old new t u c d r ends ends' e differ letters =
     other_end old old new t c d u r ends ends' differ (no_flags old t u c e) letters
 
@@ -88,8 +83,7 @@ pub empty_head : (old : Flags) (t rest r : Text) (new : Flags) → t ≡ the ")"
     → FlagLetters old t (the ":" ∷ r) new → ⊥
 empty_head old t rest r new e letters =
     flags_elsewhere old new t rest (the ")") (the ":") r paren_ends_flags colon_ends_flags e
-    (λ c. omega (arith, c))
-    letters
+    (λ c. omega (arith, c)) letters
 
 -- and no directive
 pub empty_directive : (old : Flags) (t rest r : Text) (new : Flags) → t ≡ the ")" ∷ rest

@@ -36,8 +36,7 @@ sign_or_white : (c : ℕ) → c ≡ the "#" → IsTrue (is_white_space c) → �
 sign_or_white c sign white = both_ways (is_white_space c) (ap is_white_space sign) white
 
 scan_once : (in_comment : Bool) (t u v : Text) → Scan in_comment t u → Scan in_comment t v
-    → EndsGap true u
-    → EndsGap true v → u ≡ v
+    → EndsGap true u → EndsGap true v → u ≡ v
 scan_once in_comment [] u v b d ue ve = b ∙ sym d
 scan_once false (c ∷ t) u v (inl b) (inl d) ue ve = b ∙ sym d
 scan_once false (c ∷ t) u v (inl b) (inr (inl d)) ue ve = absurd (no_white c t u b ue d.0)
@@ -65,8 +64,7 @@ whole_gap_once false t u v g h = g.0 ∙ sym h.0
 
 -- two gaps that end before what no gap goes on with end at one place
 pub gap_once : (verbose : Bool) (t u v : Text) → Gap verbose t u → Gap verbose t v → EndsGap true u
-    → EndsGap true v
-    → u ≡ v
+    → EndsGap true v → u ≡ v
 gap_once verbose t u v g h ue ve =
     whole_gap_once verbose t u v (g, ends_any verbose u ue) (h, ends_any verbose v ve)
 

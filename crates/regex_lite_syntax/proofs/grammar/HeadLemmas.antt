@@ -63,8 +63,7 @@ same_named : (verbose : Bool) (t opened opened' first first' rest name : Text)
     → Named first rest name → Named (the "?" ∷ first') rest name
 same_named verbose t opened opened' first first' rest name e e' g g' n =
     let ends = named_ends first rest name n in
-    let same =
-    same_first verbose t opened opened' _ _ e e' g g' ends (question_ends first') in
+    let same = same_first verbose t opened opened' _ _ e e' g g' ends (question_ends first') in
     subst (λ u. Named u rest name) same n
 
 -- two heads lead to the same
@@ -73,8 +72,7 @@ pub record SameHead (p p' : Point) (kind kind' : GroupKind) : Type 0 where
   pub same_kind : kind ≡ kind'
 
 pub head_once : {level : ℕ} {p q q' : Point} {kind kind' : GroupKind} → Head level p q kind
-    → Head level p q' kind'
-    → SameHead q q' kind kind'
+    → Head level p q' kind' → SameHead q q' kind kind'
 head_once {level} {p} (numbered r e none h k) (numbered r' e' none' h' k') =
     let points = ap (λ t. numbered_on (inside level p p.flags t)) (same_tail (sym e ∙ e')) in
     record { same_point = h ∙ points ∙ sym h'; same_kind = k ∙ sym k' }
@@ -129,8 +127,7 @@ head_or_directive {p} (plain o f r new e g letters h k) (sets o' f' r' new' e' g
     let past = same_past p.flags.ignore_whitespace p.rest o o' f f' e e' g g' in
     let from = subst (λ t. FlagLetters p.flags t (the ")" ∷ r') new') (sym past) letters' in
     other_end p.flags new new' f (the ":") (the ")") r r' colon_ends_flags paren_ends_flags
-    (λ c. omega (arith, c))
-    letters from
+    (λ c. omega (arith, c)) letters from
 
 -- where no `?` stands past the gap after a `(`, a numbered group begins
 pub numbered_head : (level : ℕ) (p : Point) (rest u : Text) → p.rest ≡ the "(" ∷ rest

@@ -40,8 +40,7 @@ element_two verbose t rest p (escaped past e d) some =
 
 module _ (more : Text) where
   pub begins_item : (t : Text) → BeginsItem t → Two t → BeginsItem (t ++ more)
-  begins_item t begins two =
-      subst (λ u. BeginsItem (u ++ more)) (sym two.is)
+  begins_item t begins two = subst (λ u. BeginsItem (u ++ more)) (sym two.is)
       (subst (λ u. BeginsItem u) two.is begins)
 
   pub element_longer : (verbose : Bool) (t rest : Text) (p : Primitive)
@@ -72,8 +71,7 @@ module _ (more : Text) where
       → (last : Text) → RangeFollows verbose (t ++ more) last → ⊥
   no_range_longer verbose t closed none last f =
       let full = full_gap verbose t in
-      let w = longer_gap more verbose t
-      (λ g. closed (at_once (subst (λ u. WholeGap verbose t u)
+      let w = longer_gap more verbose t (λ g. closed (at_once (subst (λ u. WholeGap verbose t u)
       (gap_to_end verbose t full.0 full.1 g) full.1))) in
       let dash =
       whole_gap_once verbose (t ++ more) (w.first ∷ (w.rest ++ more)) (the "-" ∷ f.past_dash)
@@ -83,8 +81,7 @@ module _ (more : Text) where
       let v = longer_gap more verbose w.rest
       (λ g. closed (past_dash w.rest dashed (subst (λ u. WholeGap verbose w.rest u)
       (gap_to_end verbose w.rest past.0 past.1 g) past.1))) in
-      let end =
-      whole_gap_once verbose (w.rest ++ more) (v.first ∷ (v.rest ++ more)) last v.longer
+      let end = whole_gap_once verbose (w.rest ++ more) (v.first ∷ (v.rest ++ more)) last v.longer
       (subst (λ u. WholeGap verbose u last) (sym (same_tail dash)) f.gap) in
       let same = same_head (end ∙ f.goes_on) in
       none (v.first ∷ v.rest) (record {
@@ -145,8 +142,7 @@ module _ (more : Text) where
 
   -- so past an item more is left than a gap, or a dash with its gaps
   closed_past : (verbose : Bool) (sets : List Set) (past next rest : Text)
-      → WholeGap verbose past next → ClassItems verbose sets next rest
-      → EndsOpen verbose past → ⊥
+      → WholeGap verbose past next → ClassItems verbose sets next rest → EndsOpen verbose past → ⊥
   closed_past verbose sets past next rest gap items (at_once g) =
       some_items verbose sets next rest items (whole_gap_once verbose past next [] gap g)
   closed_past verbose sets past next rest gap items (past_dash u g h) =
@@ -169,8 +165,7 @@ module _ (more : Text) where
 
   -- what a class begins with
   pub takes_longer : {verbose : Bool} {c : ℕ} {t rest : Text} {taken : Bool}
-      → Takes verbose c t rest taken → rest ≢ []
-      → Takes verbose c (t ++ more) (rest ++ more) taken
+      → Takes verbose c t rest taken → rest ≢ [] → Takes verbose c (t ++ more) (rest ++ more) taken
   takes_longer {verbose} {rest} (takes past e g is) some =
       takes (past ++ more) (ap (λ u. u ++ more) e) (whole_longer more verbose past rest g some) is
   takes_longer {c} {t} (leaves none e is) some =
@@ -229,8 +224,7 @@ module _ (more : Text) where
         negation = takes_longer o.negation dashes;
         dashed = dashes_longer verbose o.dashes o.past_caret o.past_dashes o.dashed brackets;
         has_dash = o.has_dash;
-        bracketed =
-            bracket_longer verbose o.dashes o.past_dashes rest bracket o.bracketed some;
+        bracketed = bracket_longer verbose o.dashes o.past_dashes rest bracket o.bracketed some;
       }
 
   pub class_longer : {insensitive verbose : Bool} {t rest : Text} {s : Set}
@@ -242,8 +236,7 @@ module _ (more : Text) where
     bracket = b.bracket;
     past_opening = b.past_opening ++ more;
     sets = b.sets;
-    opening =
-        opening_longer b.opening (some_items verbose b.sets b.past_opening rest b.items);
+    opening = opening_longer b.opening (some_items verbose b.sets b.past_opening rest b.items);
     items = items_longer verbose b.sets b.past_opening rest b.items;
     set_is = b.set_is;
   }

@@ -81,8 +81,7 @@ module _ (more : Text) where
 
   pub gap_longer : (verbose : Bool) (t rest : Text) → Gap verbose t rest → rest ≢ []
       → Gap verbose (t ++ more) (rest ++ more)
-  gap_longer true t rest g some =
-      spacing_of_scan (t ++ more) (rest ++ more)
+  gap_longer true t rest g some = spacing_of_scan (t ++ more) (rest ++ more)
       (scan_longer false t rest (scan_of_spacing t rest g) some)
   gap_longer false t rest g some = ap (λ u. u ++ more) g
 
@@ -159,8 +158,7 @@ module _ (more : Text) where
       }
 
   pub spaced_longer : (verbose : Bool) (kind : ℕ → Bool) (cs t rest : Text)
-      → Spaced verbose kind cs t rest
-      → Spaced verbose kind cs (t ++ more) (rest ++ more)
+      → Spaced verbose kind cs t rest → Spaced verbose kind cs (t ++ more) (rest ++ more)
   spaced_longer verbose kind [] t rest s = ap (λ u. u ++ more) s
   spaced_longer verbose kind (c ∷ cs) t rest s =
       (s.0 ++ more, gap_before verbose t s.0 c s.1, s.2, spaced_longer verbose kind cs s.0 rest s.3)
@@ -174,7 +172,6 @@ module _ (more : Text) where
   -- and so where it leads to the end, and nothing more follows
   pub whole_to_end : (verbose : Bool) (t : Text) {u : Text} → WholeGap verbose t u → u ≡ []
       → more ≡ [] → WholeGap verbose (t ++ more) []
-  whole_to_end verbose t whole end none =
-      subst (λ m. WholeGap verbose (t ++ m) []) (sym none)
+  whole_to_end verbose t whole end none = subst (λ m. WholeGap verbose (t ++ m) []) (sym none)
       (subst (λ v. WholeGap verbose v []) (sym (append-nil t))
       (subst (λ v. WholeGap verbose t v) end whole))

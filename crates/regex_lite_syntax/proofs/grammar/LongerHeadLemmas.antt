@@ -40,8 +40,7 @@ module _ (more : Text) where
       → Operator flags (t ++ more) (rest ++ more) least most greedy
   operator_longer (uncounted c e b n g) settles =
       uncounted c (ap (λ u. u ++ more) e) b (settles.question n) g
-  operator_longer (uncounted_lazy c e b g) settles =
-      uncounted_lazy c (ap (λ u. u ++ more) e) b g
+  operator_longer (uncounted_lazy c e b g) settles = uncounted_lazy c (ap (λ u. u ++ more) e) b g
   operator_longer (counted opened e k n g) settles =
       counted (opened ++ more) (ap (λ u. u ++ more) e) (counted_longer k) (settles.past_gap n) g
   operator_longer {flags} {rest} (counted_lazy opened past e k q g) settles =
@@ -53,8 +52,7 @@ module _ (more : Text) where
   letters_longer {rest} (setting on p all differ e) =
       setting on (ap (λ u. u ++ more) p ∙ append_assoc on rest more) all differ e
   letters_longer {rest} (clearing on off past p q some all all_off differ e) =
-      clearing on off (past ++ more)
-      (ap (λ u. u ++ more) p ∙ append_assoc on (the "-" ∷ past) more)
+      clearing on off (past ++ more) (ap (λ u. u ++ more) p ∙ append_assoc on (the "-" ∷ past) more)
       (ap (λ u. u ++ more) q ∙ append_assoc off rest more) some all all_off differ e
 
   pub written_longer : {t rest name : Text} → NameWritten t rest name
@@ -65,8 +63,7 @@ module _ (more : Text) where
     is_a_name = w.is_a_name;
   }
 
-  pub opening_longer : {t past : Text} → NameOpening t past
-      → NameOpening (t ++ more) (past ++ more)
+  pub opening_longer : {t past : Text} → NameOpening t past → NameOpening (t ++ more) (past ++ more)
   opening_longer (with_p e) = with_p (ap (λ u. u ++ more) e)
   opening_longer (without_p e) = without_p (ap (λ u. u ++ more) e)
 
@@ -84,8 +81,7 @@ module _ (more : Text) where
       → Head level (longer more p) (longer more q) kind
   head_longer (numbered rest e none h k) settles =
       let here = subst (λ (x : Point). Settles more x.flags.ignore_whitespace x.rest) h settles in
-      numbered (rest ++ more) (ap (λ u. u ++ more) e) (here.past_gap none)
-      (ap (longer more) h) k
+      numbered (rest ++ more) (ap (λ u. u ++ more) e) (here.past_gap none) (ap (longer more) h) k
   head_longer {p} (named opened first rest name e g n h k) settles =
       named (opened ++ more) (first ++ more) (rest ++ more) name (ap (λ u. u ++ more) e)
       (gap_longer more p.flags.ignore_whitespace opened first g (some_named n)) (named_longer n)
@@ -102,8 +98,7 @@ module _ (more : Text) where
       (gap_before more p.flags.ignore_whitespace opened first _ g) (letters_longer letters)
       (ap (longer more) h) k
 
-  pub directive_longer : {p q : Point} → Directive p q
-      → Directive (longer more p) (longer more q)
+  pub directive_longer : {p q : Point} → Directive p q → Directive (longer more p) (longer more q)
   directive_longer {p} (sets opened first rest new e g n letters h) =
       sets (opened ++ more) (first ++ more) (rest ++ more) new (ap (λ u. u ++ more) e)
       (gap_before more p.flags.ignore_whitespace opened first _ g)

@@ -90,8 +90,7 @@ module _ (more : Text) where
     first = p.first ++ more;
     last = p.last ++ more;
     digits = p.digits;
-    before =
-        side_longer verbose t p.first p.before
+    before = side_longer verbose t p.first p.before
         (spaced_some verbose p.digits p.first p.last p.some p.written);
     written = spaced_longer more verbose is_digit p.digits p.first p.last p.written;
     after = side_longer verbose p.last rest p.after some;
@@ -125,8 +124,7 @@ module _ (more : Text) where
   pub longer_number_only : {verbose : Bool} {read n m : ℕ} {first u rest rest' : Text} (t : Text)
       → WholeSide verbose t first → first ≢ [] → DigitsRead verbose read first u n
       → NoDigit verbose u → WholeSide verbose u rest → (rest ≡ [] → more ≡ [])
-      → Number verbose (t ++ more) rest' m → EndsNumber rest'
-      → (rest' ≡ rest ++ more) × (m ≡ n)
+      → Number verbose (t ++ more) rest' m → EndsNumber rest' → (rest' ≡ rest ++ more) × (m ≡ n)
   longer_number_only {verbose} {read} {n} {m} {first} {u} {rest} {rest'} t whole some d none
       after follows p ends = by_rest rest refl
     where

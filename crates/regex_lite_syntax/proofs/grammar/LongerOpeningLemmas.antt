@@ -31,16 +31,14 @@ opening_shows t more past mends opens = by_kind opens
         (past, subst (λ u. NameOpening u past) same opens)
 
     by_kind : NameOpening (t ++ more) past → (u : Text) × NameOpening t u
-    by_kind (with_p e) =
-        elim (begins_or_ends (codes "?P<") t more past e) [
-          | inl begins ↦ (begins.0, with_p begins.1)
-          | inr ends ↦ no_more (ends.0, ends.1, with_p ends.2)
-        ]
-    by_kind (without_p e) =
-        elim (begins_or_ends (codes "?<") t more past e) [
-          | inl begins ↦ (begins.0, without_p begins.1)
-          | inr ends ↦ no_more (ends.0, ends.1, without_p ends.2)
-        ]
+    by_kind (with_p e) = elim (begins_or_ends (codes "?P<") t more past e) [
+      | inl begins ↦ (begins.0, with_p begins.1)
+      | inr ends ↦ no_more (ends.0, ends.1, with_p ends.2)
+    ]
+    by_kind (without_p e) = elim (begins_or_ends (codes "?<") t more past e) [
+      | inl begins ↦ (begins.0, without_p begins.1)
+      | inr ends ↦ no_more (ends.0, ends.1, without_p ends.2)
+    ]
 
 -- and where the text opens none, no name stands there
 pub none_opened : (t : Text) → ((past : Text) → NameOpening t past → ⊥) → Unnamed t
@@ -61,8 +59,7 @@ no_less t u past e none none_past_p (without_p o) =
     none (begins (the "<") u past (same_tail (sym e ∙ o)))
 
 -- past a `?` and a character a text doesn't end inside, unless that is a `P` and the last
-pub not_inside : (c : ℕ) (t : Text) → (c ≡ the "P" → t ≢ [])
-    → EndsInOpening (the "?" ∷ c ∷ t) → ⊥
+pub not_inside : (c : ℕ) (t : Text) → (c ≡ the "P" → t ≢ []) → EndsInOpening (the "?" ∷ c ∷ t) → ⊥
 not_inside c t some (left, goes_on, with_p e) =
     let tail = same_tail e in past_p t (some (same_head tail)) (same_tail tail)
   where

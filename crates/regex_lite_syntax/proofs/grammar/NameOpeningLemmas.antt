@@ -27,24 +27,20 @@ pub opening_or_plain : (old new : Flags) (t past rest : Text) → NameOpening (t
     → FlagLetters old t (the ":" ∷ rest) new → ⊥
 opening_or_plain old new t past rest (with_p e) letters =
     flags_elsewhere old new t (the "<" ∷ past) (the "P")
-    (the ":") rest p_ends_flags colon_ends_flags (same_tail e)
-    (λ c. omega (arith, c)) letters
+    (the ":") rest p_ends_flags colon_ends_flags (same_tail e) (λ c. omega (arith, c)) letters
 opening_or_plain old new t past rest (without_p e) letters =
     flags_elsewhere old new t past (the "<") (the ":") rest less_ends_flags colon_ends_flags
-    (same_tail e)
-    (λ c. omega (arith, c)) letters
+    (same_tail e) (λ c. omega (arith, c)) letters
 
 -- nor to a `)`
 pub opening_or_directive : (old new : Flags) (t past rest : Text) → NameOpening (the "?" ∷ t) past
     → FlagLetters old t (the ")" ∷ rest) new → ⊥
 opening_or_directive old new t past rest (with_p e) letters =
     flags_elsewhere old new t (the "<" ∷ past) (the "P")
-    (the ")") rest p_ends_flags paren_ends_flags (same_tail e)
-    (λ c. omega (arith, c)) letters
+    (the ")") rest p_ends_flags paren_ends_flags (same_tail e) (λ c. omega (arith, c)) letters
 opening_or_directive old new t past rest (without_p e) letters =
     flags_elsewhere old new t past (the "<") (the ")") rest less_ends_flags paren_ends_flags
-    (same_tail e)
-    (λ c. omega (arith, c)) letters
+    (same_tail e) (λ c. omega (arith, c)) letters
 
 pub named_or_plain : (old new : Flags) (t rest name rest' : Text) → Named (the "?" ∷ t) rest name
     → FlagLetters old t (the ":" ∷ rest') new → ⊥

@@ -33,14 +33,12 @@ nothing_left_at_end {t} {rest} none n = nothing_spelled n.name t rest (the ">") 
 
 -- the first character of a name, and the rest of it
 pub first_of_name : {t rest name : Text} (c : ℕ) (past : Text) → t ≡ c ∷ past
-    → NameWritten t rest name
-    → IsTrue (begins_name c) × (c ≢ the ">") × NameLeft past rest
+    → NameWritten t rest name → IsTrue (begins_name c) × (c ≢ the ">") × NameLeft past rest
 first_of_name {t} {rest} {name} c past here w =
     go name w.written (list_all-from_AllPass is_no_end name w.inside) w.is_a_name
   where
     go : (name : Text) → t ≡ name ++ the ">" ∷ rest → IsTrue (list_all is_no_end name)
-        → IsTrue (is_name name)
-        → IsTrue (begins_name c) × (c ≢ the ">") × NameLeft past rest
+        → IsTrue (is_name name) → IsTrue (begins_name c) × (c ≢ the ">") × NameLeft past rest
     go [] written inside is = cc
     go (d ∷ ds) written inside is =
         let parts = and_parts _ _ is in
@@ -58,8 +56,7 @@ first_of_name {t} {rest} {name} c past here w =
 
 -- a further character that does not end the name, and the rest of it
 pub next_of_name : {t rest : Text} (c : ℕ) (past : Text) → t ≡ c ∷ past → c ≢ the ">"
-    → NameLeft t rest
-    → IsTrue (continues_name c) × NameLeft past rest
+    → NameLeft t rest → IsTrue (continues_name c) × NameLeft past rest
 next_of_name {t} {rest} c past here going n = go n.name n.written n.inside n.continues
   where
     go : (name : Text) → t ≡ name ++ the ">" ∷ rest → IsTrue (list_all is_no_end name)
@@ -86,8 +83,7 @@ is_inside : (c : ℕ) → c ≢ the ">" → IsTrue (is_no_end c)
 is_inside c going = not_from_false _ (ne_eqb c (the ">") going)
 
 all_continue : (name : Text) (c : ℕ) → IsTrue (list_all continues_name name)
-    → IsTrue (continues_name c)
-    → IsTrue (list_all continues_name (name ++ c ∷ []))
+    → IsTrue (continues_name c) → IsTrue (list_all continues_name (name ++ c ∷ []))
 all_continue [] c h continues = and_from _ _ continues refl
 all_continue (d ∷ ds) c h continues =
     let parts = and_parts _ _ h in and_from _ _ parts.0 (all_continue ds c parts.1 continues)
@@ -103,11 +99,9 @@ still_name (d ∷ ds) c h continues =
     let parts = and_parts _ _ h in and_from _ _ parts.0 (all_continue ds c parts.1 continues)
 
 pub name_goes_on : (name longer : Text) (c : ℕ) → longer ≡ name ++ c ∷ []
-    → IsTrue (continues_name c)
-    → c ≢ the ">" → NameSoFar name → NameSoFar longer
+    → IsTrue (continues_name c) → c ≢ the ">" → NameSoFar name → NameSoFar longer
 name_goes_on name longer c is continues going n =
-    subst (λ w. NameSoFar w) (sym is)
-    (record {
+    subst (λ w. NameSoFar w) (sym is) (record {
       inside = all_inside name c n.inside going;
       is_a_name = still_name name c n.is_a_name continues;
     })
@@ -117,8 +111,7 @@ pub name_read : (t rest : Text) (at end last c : ℕ) → at ≤ end → last �
     → c ≡ the ">" → NameSoFar (slice_range t at end)
     → NameWritten (drop at t) rest (slice_range t at last)
 name_read t rest at end last c inside is_last here ends n =
-    subst (λ i. NameWritten (drop at t) rest (slice_range t at i)) (sym is_last)
-    (record {
+    subst (λ i. NameWritten (drop at t) rest (slice_range t at i)) (sym is_last) (record {
       written = subst (λ u. drop at t ≡ slice_range t at end ++ u)
           (subst (λ d. drop end t ≡ d ∷ rest) ends here) (drop_split t at end inside);
       inside = n.inside;
@@ -127,23 +120,20 @@ name_read t rest at end last c inside is_last here ends n =
 
 -- a part that goes on by one character
 pub range_more : (t past : Text) (at end : ℕ) (c : ℕ) → at ≤ end → end < length t
-    → drop end t ≡ c ∷ past
-    → slice_range t at (end + 1) ≡ slice_range t at end ++ c ∷ []
+    → drop end t ≡ c ∷ past → slice_range t at (end + 1) ≡ slice_range t at end ++ c ∷ []
 range_more t past at end c inside before here =
     let item = same_head (sym (drop_more t end c before) ∙ here) in
     between_more t at end c inside before ∙ ap (λ d. slice_range t at end ++ d ∷ []) item
 
 -- the first character of a name has been read
 pub name_begun : (t past : Text) (at c : ℕ) → at < length t → drop at t ≡ c ∷ past
-    → IsTrue (begins_name c) → c ≢ the ">"
-    → NameSoFar (slice_range t at (at + 1))
+    → IsTrue (begins_name c) → c ≢ the ">" → NameSoFar (slice_range t at (at + 1))
 name_begun t past at c before here begins going =
     let nothing : at - at ≡ 0 = omega arith in
     let none : slice_range t at at ≡ [] = ap (λ n. take n (drop at t)) nothing in
     let one : slice_range t at (at + 1) ≡ c ∷ [] =
     range_more t past at at c (omega arith) before here ∙ ap (λ w. w ++ c ∷ []) none in
-    subst (λ w. NameSoFar w) (sym one)
-    (record {
+    subst (λ w. NameSoFar w) (sym one) (record {
       inside = AllPass-from_list_all is_no_end (c ∷ []) (and_from _ _ (is_inside c going) refl);
       is_a_name = and_from _ _ begins refl;
     })

@@ -67,8 +67,7 @@ are_characters zero = (refl, tt)
 are_characters (suc n) = (refl, are_characters n)
 
 -- where the pattern ends in a name, enough underscores make it a new one
-pub name_completes : (names : List Text) (t : Text) → NameSoFar t
-    → Completable (NewName names) t
+pub name_completes : (names : List Text) (t : Text) → NameSoFar t → Completable (NewName names) t
 name_completes names t so_far =
     let n = more_than_all names in
     let name = t ++ underscores n in
@@ -77,17 +76,16 @@ name_completes names t so_far =
     record {
       more = underscores n ++ the ">" ∷ [];
       characters = are_characters n;
-      reads =
-          λ next. (
-            name,
-            record {
-              written = ap (λ u. t ++ u) (append_assoc (underscores n) (the ">" ∷ []) next)
-                  ∙ sym (append_assoc t (underscores n) (the ">" ∷ next));
-              inside = whole.inside;
-              is_a_name = whole.is_a_name;
-            },
-            λ differ. differ_more names name differ (longest_is_new names name long),
-          );
+      reads = λ next. (
+        name,
+        record {
+          written = ap (λ u. t ++ u) (append_assoc (underscores n) (the ">" ∷ []) next)
+              ∙ sym (append_assoc t (underscores n) (the ">" ∷ next));
+          inside = whole.inside;
+          is_a_name = whole.is_a_name;
+        },
+        λ differ. differ_more names name differ (longest_is_new names name long),
+      );
     }
 
 -- and so where it ends before one
@@ -113,8 +111,7 @@ pub named_completes : (names : List Text) (t past : Text) → NameOpening t past
 named_completes names t past opens new = record {
   more = new.more;
   characters = new.characters;
-  reads =
-      λ next.
+  reads = λ next.
       let left = new.more ++ next in
       let read = new.reads next in (
         read.0,
@@ -138,12 +135,9 @@ opening_completes names t (left, some, opens) =
     let new = named_completes names (t ++ left) [] opens (name_follows names) in
     record {
       more = left ++ new.more;
-      characters =
-          joined_are left new.more (last_are t left (opening_characters (t ++ left) opens))
+      characters = joined_are left new.more (last_are t left (opening_characters (t ++ left) opens))
           new.characters;
-      reads =
-          λ next. subst (λ u. NewNamed names u next)
+      reads = λ next. subst (λ u. NewNamed names u next)
           (append_assoc t left (new.more ++ next)
-          ∙ ap (λ u. t ++ u) (sym (append_assoc left new.more next)))
-          (new.reads next);
+          ∙ ap (λ u. t ++ u) (sym (append_assoc left new.more next))) (new.reads next);
     }

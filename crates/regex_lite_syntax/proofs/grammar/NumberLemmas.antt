@@ -49,8 +49,7 @@ side_leads verbose t u v whole side ends =
     whole_side_once verbose t u v whole (side, ends_side verbose v ends)
 
 side_once : (verbose : Bool) (t u v : Text) → Side verbose t u → Side verbose t v → EndsGap true u
-    → EndsGap true v
-    → u ≡ v
+    → EndsGap true v → u ≡ v
 side_once verbose t u v a b ue ve = side_leads verbose t u v (a, ends_side verbose u ue) b ve
 
 -- a gap is a side, and goes on from one
@@ -175,8 +174,7 @@ no_digits_read verbose read t none = record {
 pub digit_read : {verbose : Bool} {read read' n m v : ℕ} {t u past : Text}
     → DigitsRead verbose read t u n
     → (c : ℕ) × Gap verbose u (c ∷ past) × IsTrue (is_digit c) × (v ≡ digit_value c)
-    → m ≡ n * 10 + v
-    → DigitsRead verbose read' t past m
+    → m ≡ n * 10 + v → DigitsRead verbose read' t past m
 digit_read {verbose} {read} {read'} {n} {m} {v} {t} {u} {past} d (c, gap, digit, is) more = record {
   digits = d.digits ++ c ∷ [];
   written = spaced_more verbose is_digit d.digits c t u past d.written gap digit;
@@ -213,8 +211,7 @@ number_too_large {verbose} {read} {n} {m} {t} {first} {u} {rest} whole d large p
     omega (arith, p.in_range, begins.2, number_grows begins.0 n, large)
 
 pub no_number : {verbose : Bool} {m : ℕ} {t rest : Text} (first : Text) → WholeSide verbose t first
-    → NoDigit verbose first
-    → Number verbose t rest m → ⊥
+    → NoDigit verbose first → Number verbose t rest m → ⊥
 no_number {verbose} {m} {t} {rest} first whole none p =
     go p.digits p.some
     (digits_past_side verbose p.digits t first p.first p.last whole p.before p.some p.written)
@@ -249,8 +246,7 @@ number_only {verbose} {read} {n} {m} {t} {first} {u} {rest} {rest'} before d non
     let begins = number_begins before d p ends in go begins.0 begins.1 begins.2
   where
     go : (more : Text) → Spaced verbose is_digit more u p.last
-        → m ≡ fold (λ n d. n * 10 + digit_value d) n more
-        → (rest' ≡ rest) × (m ≡ n)
+        → m ≡ fold (λ n d. n * 10 + digit_value d) n more → (rest' ≡ rest) × (m ≡ n)
     go [] s value = (
       sym (side_leads verbose u rest rest' after (subst (λ v. Side verbose v rest') (sym s) p.after)
           (ender_ends rest' ends)),
@@ -259,13 +255,11 @@ number_only {verbose} {read} {n} {m} {t} {first} {u} {rest} {rest'} before d non
     go (d ∷ ds) s value = absurd (none d s.0 s.1 s.2)
 
 pub number_once : (verbose : Bool) (t r s : Text) (n m : ℕ) → Number verbose t r n
-    → Number verbose t s m
-    → EndsNumber r → EndsNumber s → (s ≡ r) × (m ≡ n)
+    → Number verbose t s m → EndsNumber r → EndsNumber s → (s ≡ r) × (m ≡ n)
 number_once verbose t r s n m p q ends_p ends_q = go p.digits p.some p.written p.value
   where
     go : (ds : Text) → 0 < length ds → Spaced verbose is_digit ds p.first p.last
-        → n ≡ number_of 10 ds
-        → (s ≡ r) × (m ≡ n)
+        → n ≡ number_of 10 ds → (s ≡ r) × (m ≡ n)
     go [] some w value = absurd (omega (arith, some))
     go (d ∷ ds) some w value =
         let whole : WholeSide verbose t (d ∷ w.0) =
@@ -283,8 +277,7 @@ number_once verbose t r s n m p q ends_p ends_q = go p.digits p.some p.written p
 pub no_number_at_end : {verbose : Bool} {n : ℕ} {t rest : Text} → WholeSide verbose t []
     → Number verbose t rest n → ⊥
 no_number_at_end {verbose} {n} {t} {rest} whole p =
-    no_number [] whole
-    (no_digit_past verbose [] [] (empty_gap verbose [], ends_any verbose [] tt)
+    no_number [] whole (no_digit_past verbose [] [] (empty_gap verbose [], ends_any verbose [] tt)
     (λ c past here digit. cc here)) p
 
 -- nor where nothing is left past the gap

@@ -81,8 +81,7 @@ group_within p q kind high body (plain opened first rest new e gap letters q_is 
     (subst (λ n. Within n high body) same is)
 
 mutual
-  item_within : {level : ℕ} {p q : Point} {a : Tree} → Item level p q a
-      → Within p.groups q.groups a
+  item_within : {level : ℕ} {p q : Point} {a : Tree} → Item level p q a → Within p.groups q.groups a
   item_within {p} {q} {a} (atom d e) =
       let no_groups = atom_none p.flags p.rest q.rest a d in
       let same : q.groups ≡ p.groups = ap (λ (z : Point). z.groups) e in

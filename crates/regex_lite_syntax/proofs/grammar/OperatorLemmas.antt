@@ -29,8 +29,7 @@ lazy_or_not c d t rest rest' e none e' =
 
 -- a character with times opens no counted operator
 bounds_or_brace : (c least : ℕ) (most : Option ℕ) (t rest opened : Text)
-    → times c ≡ Some (least, most) → t ≡ c ∷ rest
-    → t ≡ the "{" ∷ opened → ⊥
+    → times c ≡ Some (least, most) → t ≡ c ∷ rest → t ≡ the "{" ∷ opened → ⊥
 bounds_or_brace c least most t rest opened b e e' =
     let none = ap times (same_head (sym e ∙ e')) in cc (b, none)
 

@@ -41,13 +41,11 @@ NumberTo verbose t rest past_digits n =
 module _ (verbose : Bool) (least : ℕ) (t : Text) where
   -- past a gap that led to the end no limit need follow
   pub unlimited : Gap verbose t [] → Completable (LimitFrom verbose least) t
-  unlimited gap =
-      past_gap verbose (LimitFrom verbose least) t (the "}" ∷ []) (refl, tt)
+  unlimited gap = past_gap verbose (LimitFrom verbose least) t (the "}" ∷ []) (refl, tt)
       (λ next. (None, gap_resumed verbose t (the "}" ∷ next) gap, tt))
 
   -- where a number can follow, the greatest one is a limit
-  pub greatest_limit : least < 2 ^ 32
-      → Completable (λ v rest. Number verbose v rest (2 ^ 32 - 1)) t
+  pub greatest_limit : least < 2 ^ 32 → Completable (λ v rest. Number verbose v rest (2 ^ 32 - 1)) t
       → Completable (LimitFrom verbose least) t
   greatest_limit small number = record {
     more = number.more ++ the "}" ∷ [];
@@ -55,8 +53,7 @@ module _ (verbose : Bool) (least : ℕ) (t : Text) where
     reads = λ next. (
       Some (2 ^ 32 - 1),
       subst (λ u. Number verbose (t ++ u) (the "}" ∷ next) (2 ^ 32 - 1))
-          (sym (append_assoc number.more (the "}" ∷ []) next))
-          (number.reads (the "}" ∷ next)),
+          (sym (append_assoc number.more (the "}" ∷ []) next)) (number.reads (the "}" ∷ next)),
       omega (arith, small),
     );
   }
@@ -68,12 +65,10 @@ module _ (verbose : Bool) (least : ℕ) (t : Text) where
       let r =
       becomes_resumed verbose t p.0 (subst (λ u. Becomes verbose u n m) (sym p.1) becomes) small in
       past_gap verbose (LimitFrom verbose least) t (r.digits ++ the "}" ∷ [])
-      (joined_are r.digits (the "}" ∷ []) r.characters (refl, tt))
-      (λ next. (
+      (joined_are r.digits (the "}" ∷ []) r.characters (refl, tt)) (λ next. (
         Some m,
         subst (λ u. Number verbose (t ++ (resumed verbose ++ u)) (the "}" ∷ next) m)
-            (sym (append_assoc r.digits (the "}" ∷ []) next))
-            (r.reads (the "}" ∷ next)),
+            (sym (append_assoc r.digits (the "}" ∷ []) next)) (r.reads (the "}" ∷ next)),
         reaches,
       ))
 
@@ -81,14 +76,13 @@ module _ (verbose : Bool) (least : ℕ) (t : Text) where
   pub never_reached : (past_digits : Text) (n : ℕ) → NumberTo verbose t [] past_digits n
       → (CanReach least (Becomes verbose past_digits n) → ⊥) → (more rest : Text) (m : ℕ)
       → Number verbose (t ++ more) (the "}" ∷ rest) m → least ≤ m → ⊥
-  never_reached past_digits n p none more rest m q reaches =
-      none (
-        m,
-        subst (λ u. Becomes verbose u n m) p.1
-            (longer_becomes verbose t more p.0 q (inr refl)),
-        reaches,
-        q.in_range,
-      )
+  never_reached past_digits n p none more rest m q reaches = none (
+    m,
+    subst (λ u. Becomes verbose u n m) p.1
+        (longer_becomes verbose t more p.0 q (inr refl)),
+    reaches,
+    q.in_range,
+  )
 
 -- a counted operator, whatever its bounds
 abbrev pub Counts : (verbose : Bool) → Text → Text → Type 0
@@ -97,8 +91,7 @@ Counts verbose t rest = (least : ℕ) × (most : Option ℕ) × Counted verbose 
 module _ (verbose : Bool) (t : Text) where
   -- past a gap that led to the end the bounds can follow
   pub bounds_follow : Gap verbose t [] → Completable (Counts verbose) t
-  bounds_follow gap =
-      past_gap verbose (Counts verbose) t (codes "0}") (refl, (refl, tt))
+  bounds_follow gap = past_gap verbose (Counts verbose) t (codes "0}") (refl, (refl, tt))
       (λ next. (
         0,
         Some 0,
@@ -124,8 +117,7 @@ module _ (verbose : Bool) (t : Text) where
 
   -- and a brace can follow a number past whose side nothing is left
   pub brace_follows : (n : ℕ) → Number verbose t [] n → Completable (Counts verbose) t
-  brace_follows n number =
-      past_gap verbose (Counts verbose) t (the "}" ∷ []) (refl, tt)
+  brace_follows n number = past_gap verbose (Counts verbose) t (the "}" ∷ []) (refl, tt)
       (λ next. (n, Some n, exactly (number_resumed verbose t (the "}" ∷ next) number) refl))
 
   -- where a limit can follow past the comma, the operator can

@@ -31,6 +31,5 @@ scan_resumed true (c ∷ t) next (inr s) = inr (s.0, scan_resumed true t next s.
 pub gap_resumed : (verbose : Bool) (t next : Text) → Gap verbose t []
     → Gap verbose (t ++ (resumed verbose ++ next)) next
 gap_resumed true t next g =
-    spacing_of_scan (t ++ the "\n" ∷ next) next
-    (scan_resumed false t next (scan_of_spacing t [] g))
+    spacing_of_scan (t ++ the "\n" ∷ next) next (scan_resumed false t next (scan_of_spacing t [] g))
 gap_resumed false t next g = subst (λ u. next ≡ u ++ next) g refl

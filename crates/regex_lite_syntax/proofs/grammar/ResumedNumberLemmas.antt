@@ -103,8 +103,7 @@ written {number} {n} (with_digit d small more) =
     record {
       digits = (0x30 + d) ∷ further.digits;
       all = and_from _ _ is further.all;
-      value =
-          further.value ∙ ap (λ v. with_digits (number * 10 + v) further.digits) (sym same);
+      value = further.value ∙ ap (λ v. with_digits (number * 10 + v) further.digits) (sym same);
     }
 
 -- a number grows to what digits make of it
@@ -164,8 +163,7 @@ module _ (verbose : Bool) (t : Text) where
         first = p.first ++ more;
         last = p.last ++ more;
         digits = p.digits;
-        before =
-            side_longer more verbose t p.first p.before
+        before = side_longer more verbose t p.first p.before
             (spaced_some verbose p.digits p.first p.last p.some p.written);
         written = spaced_longer more verbose is_digit p.digits p.first p.last p.written;
         after = side_resumed verbose p.last next p.after;
@@ -186,11 +184,9 @@ module _ (verbose : Bool) (t : Text) where
         first = p.first ++ more;
         last = next;
         digits = p.digits ++ d ∷ ds;
-        before =
-            side_longer more verbose t p.first p.before
+        before = side_longer more verbose t p.first p.before
             (spaced_some verbose p.digits p.first p.last p.some p.written);
-        written =
-            spaced_on verbose p.digits (d ∷ ds) (p.first ++ more) (p.last ++ more) next
+        written = spaced_on verbose p.digits (d ∷ ds) (p.first ++ more) (p.last ++ more) next
             (spaced_longer more verbose is_digit p.digits p.first p.last p.written) (
               ds ++ next,
               gap_resumed verbose p.last (d ∷ ds ++ next) gap,
@@ -199,8 +195,7 @@ module _ (verbose : Bool) (t : Text) where
             );
         after = side_of verbose next next (empty_gap verbose next);
         some = omega (arith, p.some, length-append p.digits (d ∷ ds));
-        value =
-            ap (λ m. with_digits m (d ∷ ds)) p.value
+        value = ap (λ m. with_digits m (d ∷ ds)) p.value
             ∙ sym (fold-append (λ n d. n * 10 + digit_value d) 0 p.digits (d ∷ ds));
         in_range = small;
       }
@@ -209,8 +204,7 @@ module _ (verbose : Bool) (t : Text) where
   pub record Resumed (m : ℕ) : Type 0 where
     pub digits : Text
     pub characters : AreCharacters digits
-    pub reads : (next : Text)
-        → Number verbose (t ++ (resumed verbose ++ (digits ++ next))) next m
+    pub reads : (next : Text) → Number verbose (t ++ (resumed verbose ++ (digits ++ next))) next m
 
   pub becomes_resumed : {n m : ℕ} (p : Number verbose t [] n) → Becomes verbose p.last n m
       → m < 2 ^ 32 → Resumed m
@@ -227,8 +221,7 @@ module _ (verbose : Bool) (t : Text) where
         digits = w.digits;
         characters = digits_are_characters w.digits w.all;
         reads = λ next.
-            subst
-            (λ k. Number verbose (t ++ (resumed verbose ++ (w.digits ++ next))) next k)
+            subst (λ k. Number verbose (t ++ (resumed verbose ++ (w.digits ++ next))) next k)
             (sym w.value)
             (digits_resumed next w.digits p gap w.all (omega (arith, small, w.value)));
       }

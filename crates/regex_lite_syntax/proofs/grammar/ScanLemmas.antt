@@ -21,8 +21,7 @@ Scan true (c ∷ t) rest =
 -- the rest of a comment that is open, and what stands past it
 data CommentLeft (t rest : Text) : Type 0 where
   to_line_feed : (written past : Text) → t ≡ written ++ the "\n" ∷ past
-      → IsTrue (list_all is_in_comment written)
-      → Spacing past rest → CommentLeft t rest
+      → IsTrue (list_all is_in_comment written) → Spacing past rest → CommentLeft t rest
   to_end : IsTrue (list_all is_in_comment t) → rest ≡ [] → CommentLeft t rest
 
 abbrev Left : (in_comment : Bool) → (t rest : Text) → Type 0
@@ -71,8 +70,7 @@ in_comment_differs : (c : ℕ) → IsTrue (is_in_comment c) → c ≢ the "\n"
 in_comment_differs c is e = both_ways _ (ap is_in_comment e) is
 
 scan_comment : (written past rest : Text) → IsTrue (list_all is_in_comment written)
-    → Scan false past rest
-    → Scan true (written ++ the "\n" ∷ past) rest
+    → Scan false past rest → Scan true (written ++ the "\n" ∷ past) rest
 scan_comment [] past rest all s = inl (refl, s)
 scan_comment (c ∷ written) past rest all s =
     inr (
@@ -93,8 +91,7 @@ scan_piece t past rest (comment written e all) s =
     (refl, scan_comment written past rest (list_all-from_AllPass is_in_comment written all) s)))
 scan_piece t past rest (last_comment written e none all) s =
     let ended : rest ≡ [] = subst (λ u. Scan false u rest) none s in
-    subst (λ u. Scan false u rest) (sym e)
-    (inr (inr (
+    subst (λ u. Scan false u rest) (sym e) (inr (inr (
       refl,
       subst (λ u. Scan true written u) (sym ended)
           (scan_last written (list_all-from_AllPass is_in_comment written all)),

@@ -27,8 +27,7 @@ printed_ends c t low high =
     no_white false e = refl
 
 between_ends : (first last c : ℕ) (t : Text) → 36 ≤ first → last ≤ 126
-    → IsTrue (is_between first last c)
-    → EndsGap true (c ∷ t)
+    → IsTrue (is_between first last c) → EndsGap true (c ∷ t)
 between_ends first last c t low high inside =
     let bounds = and_parts _ _ inside in
     let above = leb-true first c bounds.0 in
@@ -45,21 +44,18 @@ letters_end c t =
 
 pub boundary_characters_end : EndsGaps is_boundary_character
 boundary_characters_end c t =
-    either _ _ (letters_end c t)
-    (λ is_dash. let e = eqb-true c (the "-") is_dash in
+    either _ _ (letters_end c t) (λ is_dash. let e = eqb-true c (the "-") is_dash in
     printed_ends c t (omega (arith, e)) (omega (arith, e)))
 
 pub hex_digits_end : EndsGaps is_hex_digit
 hex_digits_end c t =
-    either _ _
-    (either _ _ (between_ends 0x30 0x39 c t (omega arith) (omega arith))
+    either _ _ (either _ _ (between_ends 0x30 0x39 c t (omega arith) (omega arith))
     (between_ends 0x61 0x66 c t (omega arith) (omega arith)))
     (between_ends 0x41 0x46 c t (omega arith) (omega arith))
 
 -- a whole gap leads where any gap leads that ends before what no gap goes on with
 pub whole_gap_leads : (verbose : Bool) (t u v : Text) → WholeGap verbose t u → Gap verbose t v
-    → EndsGap true v
-    → u ≡ v
+    → EndsGap true v → u ≡ v
 whole_gap_leads verbose t u v whole gap ends =
     whole_gap_once verbose t u v whole (gap, ends_any verbose v ends)
 
@@ -120,8 +116,7 @@ spaced_to_brace_once verbose kind (c ∷ cs) (d ∷ ds) t last last' r s ends ot
 
 -- past the whole gap stands the first of the characters
 pub next_spaced : (verbose : Bool) (kind : ℕ → Bool) (c d : ℕ) (ds t u past last : Text)
-    → EndsGaps kind
-    → WholeGap verbose t u → u ≡ c ∷ past → Spaced verbose kind (d ∷ ds) t last
+    → EndsGaps kind → WholeGap verbose t u → u ≡ c ∷ past → Spaced verbose kind (d ∷ ds) t last
     → (d ≡ c) × Spaced verbose kind ds past last
 next_spaced verbose kind c d ds t u past last ends whole here s =
     let same = sym (whole_gap_leads verbose t u _ whole s.1 (ends d s.0 s.2)) ∙ here in
@@ -134,8 +129,7 @@ spaced_begins verbose kind c cs t u last ends whole s =
     subst (λ v. Begins c v) (sym same) refl
 
 pub spaced_before : (verbose : Bool) (kind : ℕ → Bool) (c : ℕ) (cs t u past last : Text)
-    → WholeGap verbose t u
-    → u ≡ c ∷ past → IsTrue (kind c) → Spaced verbose kind cs past last
+    → WholeGap verbose t u → u ≡ c ∷ past → IsTrue (kind c) → Spaced verbose kind cs past last
     → Spaced verbose kind (c ∷ cs) t last
 spaced_before verbose kind c cs t u past last whole here is_kind s =
     (past, subst (λ v. Gap verbose t v) here whole.0, is_kind, s)

@@ -27,8 +27,7 @@ longest_once kind (c ∷ v) (d ∷ w) t r s a b p q lr ls =
     (cc (same_head same, rest.0), rest.1)
 
 pub word_once : (kind : ℕ → Bool) (v w t r s : Text) → t ≡ v ++ r → t ≡ w ++ s → AllPass kind v
-    → AllPass kind w
-    → Lacks kind r → Lacks kind s → (v ≡ w) × (r ≡ s)
+    → AllPass kind w → Lacks kind r → Lacks kind s → (v ≡ w) × (r ≡ s)
 word_once kind v w t r s a b p q lr ls =
     longest_once kind v w t r s a b (list_all-from_AllPass kind v p)
     (list_all-from_AllPass kind w q) lr ls
@@ -37,8 +36,7 @@ word_once kind v w t r s a b p q lr ls =
 pub pass_push : (kind : ℕ → Bool) (w : Text) (c : ℕ) → AllPass kind w → IsTrue (kind c)
     → AllPass kind (w ++ c ∷ [])
 pass_push kind w c p h =
-    AllPass-from_list_all kind (w ++ c ∷ [])
-    (list_all-append kind w (c ∷ [])
+    AllPass-from_list_all kind (w ++ c ∷ []) (list_all-append kind w (c ∷ [])
     ∙ and_from _ _ (list_all-from_AllPass kind w p) (and_from _ _ h refl))
 
 pub spelled_push : (w t u v : Text) (c : ℕ) → t ≡ w ++ u → u ≡ c ∷ v → t ≡ (w ++ c ∷ []) ++ v

@@ -76,8 +76,7 @@ bounded c b has = one_of (cases_eq c (the "?")) (cases_eq c (the "*")) (cases_eq
         let none = no_bounds c no_question no_asterisk no_plus in absurd (cc (has, none))
 
 pub asks_bounded : (verbose : Bool) (c : ℕ) (b : ℕ × Option ℕ) (t rest : Text) → t ≡ c ∷ rest
-    → times c ≡ Some b
-    → Asks verbose t operator
+    → times c ≡ Some b → Asks verbose t operator
 asks_bounded verbose c b t rest e has = by_character (bounded c b has)
   where
     at_character : (d : ℕ) → c ≡ d → EndsGap true (d ∷ rest) → kind_at (d ∷ rest) ≡ operator
@@ -133,29 +132,26 @@ literal_ends true c t e =
 sign_or_none : (c : ℕ) (t : Text) → EndsGap true (c ∷ t) ⊎ NoSign c
 sign_or_none c t =
     by_sign (cases_eq c (the ".")) (cases_eq c (the "^")) (cases_eq c (the "$"))
-    (cases_eq c (the "\\"))
-    (cases_eq c (the "["))
+    (cases_eq c (the "\\")) (cases_eq c (the "["))
   where
     sign : (d : ℕ) → EndsGap true (d ∷ t) → c ≡ d → EndsGap true (c ∷ t) ⊎ NoSign c
     sign d ends e = inl (ends_before true d t (c ∷ t) (ap (λ x. x ∷ t) e) ends)
 
     by_sign : (c ≡ the ".") ⊎ (c ≢ the ".") → (c ≡ the "^") ⊎ (c ≢ the "^")
-        → (c ≡ the "$") ⊎ (c ≢ the "$")
-        → (c ≡ the "\\") ⊎ (c ≢ the "\\") → (c ≡ the "[") ⊎ (c ≢ the "[")
-        → EndsGap true (c ∷ t) ⊎ NoSign c
+        → (c ≡ the "$") ⊎ (c ≢ the "$") → (c ≡ the "\\") ⊎ (c ≢ the "\\")
+        → (c ≡ the "[") ⊎ (c ≢ the "[") → EndsGap true (c ∷ t) ⊎ NoSign c
     by_sign (inl e) _ _ _ _ = sign (the ".") (refl, λ h. omega (arith, h)) e
     by_sign (inr _) (inl e) _ _ _ = sign (the "^") (refl, λ h. omega (arith, h)) e
     by_sign (inr _) (inr _) (inl e) _ _ = sign (the "$") (refl, λ h. omega (arith, h)) e
     by_sign (inr _) (inr _) (inr _) (inl e) _ = sign (the "\\") (refl, λ h. omega (arith, h)) e
     by_sign (inr _) (inr _) (inr _) (inr _) (inl e) = sign (the "[") (refl, λ h. omega (arith, h)) e
-    by_sign (inr stop) (inr caret) (inr dollar) (inr slash) (inr bracket) =
-        inr (record {
-          no_full_stop = stop;
-          no_caret = caret;
-          no_dollar = dollar;
-          no_backslash = slash;
-          no_bracket = bracket;
-        })
+    by_sign (inr stop) (inr caret) (inr dollar) (inr slash) (inr bracket) = inr (record {
+      no_full_stop = stop;
+      no_caret = caret;
+      no_dollar = dollar;
+      no_backslash = slash;
+      no_bracket = bracket;
+    })
 
 atom_ends : (flags : Flags) (t rest : Text) (a : Tree) → Atom flags t rest a
     → EndsGap flags.ignore_whitespace t

@@ -32,8 +32,7 @@ pub record Underway (p q : Point) (frames : List Frame) (branches : List Tree) :
   pub branches_are : branches ≡ before ++ sequence_of items ∷ []
 
 over_atom : (p here q : Point) (a : Tree) (frames : List Frame) (branches items : List Tree)
-    → PastGap p here
-    → Atom here.flags here.rest q.rest a → q ≡ onward here q.rest
+    → PastGap p here → Atom here.flags here.rest q.rest a → q ≡ onward here q.rest
     → LeadsOn (standing p frames branches items) (standing q frames branches (items ++ a ∷ []))
 unfolding with_items
 over_atom p here q a frames branches items past d e =
@@ -52,8 +51,7 @@ over_operator p here q least most greedy frames branches before a past o e =
     go _ (step_operate s here q.rest before a least most greedy past refl o) (stay (cc e))
 
 over_directive : (p here q : Point) (frames : List Frame) (branches items : List Tree)
-    → PastGap p here
-    → Directive here q
+    → PastGap p here → Directive here q
     → LeadsOn (standing p frames branches items) (standing q frames branches items)
 unfolding with_items
 over_directive p here q frames branches items past d =
@@ -124,9 +122,8 @@ next_branch p last here q rest frames before items u past e l =
     leads_to (leads_as (leads_to u.leads bar) begun) l
 
 mutual
-  item_leads : {level : ℕ} {here q : Point} {a : Tree} → Item level here q a
-      → (p : Point) (frames : List Frame)
-      (branches items : List Tree) → level ≡ length frames → PastGap p here
+  item_leads : {level : ℕ} {here q : Point} {a : Tree} → Item level here q a → (p : Point)
+      (frames : List Frame) (branches items : List Tree) → level ≡ length frames → PastGap p here
       → LeadsOn (standing p frames branches items) (standing q frames branches (items ++ a ∷ []))
   item_leads {here} {q} {a} (atom d e) p frames branches items depth past =
       over_atom p here q a frames branches items past d e
@@ -141,8 +138,7 @@ mutual
       leads_as over (cc (e, a_is))
 
   branch_leads : {level : ℕ} {p q : Point} {items : List Tree} → Branch level p q items
-      → (frames : List Frame)
-      (branches : List Tree) → level ≡ length frames
+      → (frames : List Frame) (branches : List Tree) → level ≡ length frames
       → LeadsOn (standing p frames branches []) (standing q frames branches items)
   branch_leads (nothing e items_are) frames branches depth = stay (cc (e, items_are))
   branch_leads (item last here before a d past i items_are) frames branches depth =
@@ -159,21 +155,19 @@ mutual
   pub alternatives_lead : {level : ℕ} {p q : Point} {branches : List Tree}
       → Alternatives level p q branches
       → (frames : List Frame) → level ≡ length frames → Underway p q frames branches
-  alternatives_lead (only items d branches_are) frames depth =
-      record {
-        before = [];
-        items = items;
-        leads = branch_leads d frames [] depth;
-        branches_are = branches_are;
-      }
+  alternatives_lead (only items d branches_are) frames depth = record {
+    before = [];
+    items = items;
+    leads = branch_leads d frames [] depth;
+    branches_are = branches_are;
+  }
   alternatives_lead {p} {q} (further last here before items rest d past e b branches_are)
       frames depth =
       let u = alternatives_lead d frames depth in
       record {
         before = before;
         items = items;
-        leads =
-            next_branch p last here q rest frames before items u past e
+        leads = next_branch p last here q rest frames before items u past e
             (branch_leads b frames before depth);
         branches_are = branches_are;
       }

@@ -100,8 +100,7 @@ past_closer s n (f ∷ frames) e many left =
         past = s.point;
         gap = (empty_gap verbose s.point.rest, refl);
         ends = subst (λ t. EndsGap verbose t) (sym left) (closer_ends verbose (closers n));
-        does =
-            subst (λ t. Does (kind_at t) s s.point after) (sym left)
+        does = subst (λ t. Does (kind_at t) s s.point after) (sym left)
             (closers n, f, frames, left, e, refl);
       };
       fewer = omega (arith, many);
@@ -111,9 +110,8 @@ past_closer s n (f ∷ frames) e many left =
 
 -- what has been read up to the parentheses that close all groups is an accepted pattern
 closes_all : (flags : Flags) (pattern : Text) (n : ℕ) (s : State)
-    → LeadsOn (first_state flags pattern) s
-    → length s.frames ≡ n → s.point.rest ≡ closers n → NamesDiffer s.point.names
-    → AreCharacters pattern → HasTree flags pattern
+    → LeadsOn (first_state flags pattern) s → length s.frames ≡ n → s.point.rest ≡ closers n
+    → NamesDiffer s.point.names → AreCharacters pattern → HasTree flags pattern
 closes_all flags pattern zero s leads none left differ all =
     let verbose = s.point.flags.ignore_whitespace in (
       choice_of (ended s),
@@ -138,8 +136,7 @@ item_then_closers : (flags : Flags) (pattern : Text) (s : State)
 unfolding with_items
 item_then_closers flags pattern s leads gap differ all =
     let n = length s.frames in
-    let after =
-    with_items s (onward s.point (closers n)) (s.items ++ character (the "_") ∷ []) in
+    let after = with_items s (onward s.point (closers n)) (s.items ++ character (the "_") ∷ []) in
     let step : Step s after = record {
       past = onward s.point (item_and_closers n);
       gap = (gap, refl);
@@ -163,27 +160,21 @@ reads_on flags pattern p t u starts c whole some reads =
     let n = length q.frames in
     let all = more ++ closers n in
     let goes_on : Gap after_verbose q.point.rest [] → ⊥ = λ gap.
-    let none =
-    gap_to_end after_verbose (the "_" ∷ []) (the "_" ∷ [])
+    let none = gap_to_end after_verbose (the "_" ∷ []) (the "_" ∷ [])
     (empty_gap after_verbose (the "_" ∷ []), item_ends after_verbose [])
     (subst (λ r. Gap after_verbose r []) left gap) in
     cc none in
     let st =
     step_longer (closers n) next.3.0 (settled (closers n) after_verbose q.point.rest goes_on) in
     let after = longer_state (closers n) q in
-    let here =
-    subst (λ x. Step (state p x c.deepest) after) (append_assoc u more (closers n)) st in
-    let leads =
-    leads_longer all c.leads
+    let here = subst (λ x. Step (state p x c.deepest) after) (append_assoc u more (closers n)) st in
+    let leads = leads_longer all c.leads
     (settled all verbose t (λ gap. some (gap_to_end verbose t u whole gap))) in
-    let step =
-    step_over_gap (state p (t ++ all) c.deepest) after (u ++ all)
+    let step = step_over_gap (state p (t ++ all) c.deepest) after (u ++ all)
     (whole_longer all verbose t u whole some) here in
-    let item =
-    subst (λ r. Gap after_verbose (q.point.rest ++ closers n) (r ++ closers n)) left
+    let item = subst (λ r. Gap after_verbose (q.point.rest ++ closers n) (r ++ closers n)) left
     (empty_gap after_verbose (q.point.rest ++ closers n)) in
-    let characters =
-    joined_are pattern all c.characters
+    let characters = joined_are pattern all c.characters
     (joined_are more (closers n) next.2 (closers_are_characters n)) in (
       all,
       item_then_closers flags (pattern ++ all) after (leads_step leads step) item
@@ -200,13 +191,11 @@ begins_none c verbose (d ∷ t) next no_feed no_item none is = none is
 settled_at_end : (verbose : Bool) (t next : Text) → Gap verbose t []
     → Settles (resumed verbose ++ the "_" ∷ next) verbose t
 settled_at_end verbose t next gap = record {
-  question =
-      begins_none (the "?") verbose t next (λ e. omega (arith, e)) (λ e. omega (arith, e));
+  question = begins_none (the "?") verbose t next (λ e. omega (arith, e)) (λ e. omega (arith, e));
   brace = begins_none (the "{") verbose t next (λ e. omega (arith, e)) (λ e. omega (arith, e));
   past_gap = λ none first question.
       let all = t ++ (resumed verbose ++ the "_" ∷ next) in
-      let same =
-      whole_gap_leads verbose all (the "_" ∷ next) (the "?" ∷ first)
+      let same = whole_gap_leads verbose all (the "_" ∷ next) (the "?" ∷ first)
       (gap_resumed verbose t (the "_" ∷ next) gap, item_ends verbose next) question
       (question_ends first) in
       omega (arith, same_head same);
@@ -222,8 +211,7 @@ reads_on_at_end flags pattern p t starts c gap =
     let n = length (state p t c.deepest).frames in
     let all = resumed verbose ++ item_and_closers n in
     let leads = leads_longer all c.leads (settled_at_end verbose t (closers n) gap) in
-    let characters =
-    joined_are pattern all c.characters
+    let characters = joined_are pattern all c.characters
     (resumed_characters verbose (item_and_closers n) (refl, closers_are_characters n)) in (
       all,
       item_then_closers flags (pattern ++ all) (state p (t ++ all) c.deepest) leads

@@ -42,8 +42,7 @@ does_deepen stop s p q d = absurd d
 does_deepen paren s p q (inl d) =
     let deepest = head_deepest d.2 in
     let one_more = add-one (length s.frames) in
-    deepens_as d.3
-    (record {
+    deepens_as d.3 (record {
       within = omega (arith, deepest, one_more);
       keeps = λ h. omega (arith, deepest, one_more, h);
     })
@@ -79,6 +78,5 @@ deep_on {s} h (go m st l) =
 
 -- and as deep as that they have stood
 pub frames_deep : {flags : Flags} {pattern : Text} {s : State}
-    → LeadsOn (first_state flags pattern) s
-    → length s.frames ≤ s.point.deepest
+    → LeadsOn (first_state flags pattern) s → length s.frames ≤ s.point.deepest
 frames_deep l = deep_on (omega arith) l

@@ -119,11 +119,9 @@ goes_on_as flags pattern p t u starts e fault c whole some says completes is =
   where
     of_cut : (short : Bool) → is_cut_short fault ≡ short
         → MatchBool short (BeginsSome flags pattern) (BeginsNone flags pattern)
-    of_cut true short =
-        reads_on flags pattern p t u starts c whole some
+    of_cut true short = reads_on flags pattern p t u starts c whole some
         (subst (λ x. IfCutShort x (CanReadOn p u)) is completes short)
-    of_cut false short =
-        says_for_good flags pattern p t u starts e fault c whole some says is short
+    of_cut false short = says_for_good flags pattern p t u starts e fault c whole some says is short
 
 -- and where it ends with a group open
 pub goes_on_open : (flags : Flags) (pattern : Text) (last : Option ℕ) → BeginsSome flags pattern

@@ -80,8 +80,7 @@ tracked : (pattern : Text) (s q : State) (p : Point) (old new : List ℕ) (here 
 tracked pattern s q p old new here next there (opens more e) many tracks =
     let is = tracks.opened (omega (arith, more, many)) in
     record {
-      texts =
-          e ∙ ap (λ t. t ∷ texts_at pattern old) there
+      texts = e ∙ ap (λ t. t ∷ texts_at pattern old) there
           ∙ sym (reverse_pushed (λ i. drop i pattern) new old here is);
       many = omega (arith, ap length is ∙ length_push old here, more, many);
     }
@@ -108,8 +107,7 @@ comes_first flags pattern p first differ characters = record {
   differ = differ;
   characters = characters;
   as_many = ap (λ (x : State). length x.frames) (sym first) ∙ frames_are p pattern 0;
-  stands =
-      subst (λ x. Stands (start flags pattern) [] x) (sym first) (stands_first flags pattern);
+  stands = subst (λ x. Stands (start flags pattern) [] x) (sym first) (stands_first flags pattern);
 }
 
 -- over a gap and what stands past it
@@ -130,8 +128,7 @@ comes_next flags pattern p q t u v old new here c whole there reads tracks =
     does_keeps (kind_at st.past.rest) begin (texts_at pattern old) s st.past after c.stands st.gap
     st.does in
     let frames = frames_are q v next.0 in
-    let now =
-    tracked pattern s after st.past old new here on.next (sym past ∙ there) on.keeps
+    let now = tracked pattern s after st.past old new here on.next (sym past ∙ there) on.keeps
     (c.as_many ∙ sym (frames_are p t c.deepest))
     (subst (λ n. Tracks old new n here) (sym frames) tracks) in
     record {
@@ -151,8 +148,7 @@ pub stuck_at : (flags : Flags) (pattern : Text) (p : Parser) (t u : Text) (start
 unfolding state
 stuck_at flags pattern p t u starts here c whole there more stuck =
     let s = state p t c.deepest in
-    let read : IsReadTo flags pattern s.point =
-    record {
+    let read : IsReadTo flags pattern s.point = record {
       level = length s.frames;
       reads = reads_of _ _ s c.stands;
       names_differ = c.differ;
@@ -161,8 +157,7 @@ stuck_at flags pattern p t u starts here c whole there more stuck =
         last = s.point;
         reads = read;
         gap = subst (λ x. WholeGap p.here.flags.ignore_whitespace t x) there whole;
-        farthest =
-            stuck_farthest flags pattern s c.leads
+        farthest = stuck_farthest flags pattern s c.leads
             (λ q st differ. stuck (c.deepest, q, step_past_gap s q u whole st, differ));
       },
       stuck_refused flags c.deepest pattern p t u (reaches_as flags pattern p t starts c) whole more
@@ -187,9 +182,8 @@ read_whole flags pattern p t starts c gap none =
 
 -- and with one open there is none
 pub unclosed_fault : (flags : Flags) (pattern : Text) (p : Parser) (t : Text)
-    (starts outer : List ℕ) (k : ℕ)
-    → Comes flags pattern p t starts → Gap p.here.flags.ignore_whitespace t []
-    → starts ≡ outer ++ k ∷ []
+    (starts outer : List ℕ) (k : ℕ) → Comes flags pattern p t starts
+    → Gap p.here.flags.ignore_whitespace t [] → starts ≡ outer ++ k ∷ []
     → IsUnclosedAt flags pattern k × (HasTree flags pattern → ⊥)
 unfolding state
 unclosed_fault flags pattern p t starts outer k c gap last =
@@ -234,8 +228,7 @@ stuck_for_good flags pattern p t u starts c whole some stuck more has =
     let longer = whole_longer more verbose t u whole some in
     let comes : Reaches flags c.deepest (pattern ++ more) p (t ++ more) = record {
       deepest = c.deepest;
-      leads =
-          leads_longer more c.leads
+      leads = leads_longer more c.leads
           (settled more verbose t (λ gap. some (gap_to_end verbose t u whole gap)));
       within = omega arith;
       differ = c.differ;

@@ -137,11 +137,9 @@ head_numbers (plain o f r new e g letters h k) is = absurd (subst (λ x. IsNumbe
 
 -- where a numbered group opens, a pattern that has a tree has as many of them
 pub opens_number : {flags : Flags} {pattern : Text} {tree : Tree} {groups deepest index : ℕ}
-    {name : Option Text}
-    (s : State) (here first : Point) → LeadsOn (first_state flags pattern) s → PastGap s.point here
-    → Head (length s.frames) here first (capturing index name)
-    → Grammar flags pattern tree groups deepest
-    → s.point.groups + 1 ≤ groups
+    {name : Option Text} (s : State) (here first : Point) → LeadsOn (first_state flags pattern) s
+    → PastGap s.point here → Head (length s.frames) here first (capturing index name)
+    → Grammar flags pattern tree groups deepest → s.point.groups + 1 ≤ groups
 unfolding opened
 opens_number {index} {name} s here first l past head g =
     let reached =
@@ -240,14 +238,12 @@ leads_spend {s} (go m st l) =
 
 -- of the `(` of a pattern each open group has taken one
 pub frames_in_parens : {flags : Flags} {pattern : Text} {s : State}
-    → LeadsOn (first_state flags pattern) s
-    → length s.frames + parens s.point.rest ≤ parens pattern
+    → LeadsOn (first_state flags pattern) s → length s.frames + parens s.point.rest ≤ parens pattern
 frames_in_parens l = let spent = leads_spend l in omega (arith, spent.frames_spend)
 
 -- and each numbered one
 pub groups_in_parens : {flags : Flags} {pattern : Text} {s : State}
-    → LeadsOn (first_state flags pattern) s
-    → s.point.groups + parens s.point.rest ≤ parens pattern
+    → LeadsOn (first_state flags pattern) s → s.point.groups + parens s.point.rest ≤ parens pattern
 groups_in_parens l = let spent = leads_spend l in omega (arith, spent.groups_spend)
 
 -- so where a `(` stands, the pattern has one more

@@ -33,8 +33,7 @@ module _ (more : Text) where
   atom_from no_atom flags t past rest a d comes = absurd d
 
   pub atom_longer : (flags : Flags) (t rest : Text) (a : Tree) → Atom flags t rest a
-      → NoBraceComes more rest
-      → Atom flags (t ++ more) (rest ++ more) a
+      → NoBraceComes more rest → Atom flags (t ++ more) (rest ++ more) a
   atom_longer flags t rest a d comes = record {
     first = d.first;
     past_first = d.past_first ++ more;
@@ -102,8 +101,7 @@ module _ (more : Text) where
         past = longer more p;
         gap = (whole.0, ap (longer more) st.gap.1);
         ends = whole.1;
-        does =
-            subst (λ k. Does k (longer_state s) (longer more p) (longer_state q))
+        does = subst (λ k. Does k (longer_state s) (longer more p) (longer_state q))
             (sym (kind_longer p.rest (some_past st)))
             (does_longer (kind_at p.rest) s p q st.does settles);
       }
@@ -122,8 +120,7 @@ module _ (more : Text) where
   leads_longer {s} {q} (go m st l) settles =
       go (longer_state m) (step_longer st (left l)) (leads_longer l settles)
     where
-      left : {m : State} → LeadsOn m q
-          → Settles more m.point.flags.ignore_whitespace m.point.rest
+      left : {m : State} → LeadsOn m q → Settles more m.point.flags.ignore_whitespace m.point.rest
       left (stay e) =
           subst (λ (x : State). Settles more x.point.flags.ignore_whitespace x.point.rest) (sym e)
           settles
@@ -132,8 +129,7 @@ module _ (more : Text) where
 
 -- what is read of a pattern, but for more than a gap, is read of each that begins with it
 pub read_longer : (flags : Flags) (pattern more : Text) (q : Point) → IsReadTo flags pattern q
-    → GoesOn q.flags.ignore_whitespace q.rest
-    → IsReadTo flags (pattern ++ more) (longer more q)
+    → GoesOn q.flags.ignore_whitespace q.rest → IsReadTo flags (pattern ++ more) (longer more q)
 read_longer flags pattern more q read goes =
     let r = runs_of read.reads in
     let l = leads_longer more r.leads (settled more q.flags.ignore_whitespace q.rest goes) in

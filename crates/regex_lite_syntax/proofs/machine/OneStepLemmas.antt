@@ -37,13 +37,10 @@ does_once atom s p a b u v =
 
 -- past a gap that is as long as it can be there is one point
 pub past_gap_once : (p q r : Point) → PastGap p q → PastGap p r
-    → EndsGap p.flags.ignore_whitespace q.rest
-    → EndsGap p.flags.ignore_whitespace r.rest → q ≡ r
+    → EndsGap p.flags.ignore_whitespace q.rest → EndsGap p.flags.ignore_whitespace r.rest → q ≡ r
 past_gap_once p q r u v eq er =
-    u.1
-    ∙ ap (onward p)
-    (whole_gap_once p.flags.ignore_whitespace p.rest q.rest r.rest (u.0, eq) (v.0, er))
-    ∙ sym v.1
+    u.1 ∙ ap (onward p)
+    (whole_gap_once p.flags.ignore_whitespace p.rest q.rest r.rest (u.0, eq) (v.0, er)) ∙ sym v.1
 
 -- a state has at most one step
 pub step_once : (s a b : State) → Step s a → Step s b → a ≡ b
@@ -75,8 +72,7 @@ ends (go m st l) stuck = absurd (stuck m st)
 
 -- two states that are reached and have no step are one
 pub one_end : {s a b : State} → LeadsOn s a → LeadsOn s b → ((q : State) → Step a q → ⊥)
-    → ((q : State) → Step b q → ⊥)
-    → a ≡ b
+    → ((q : State) → Step b q → ⊥) → a ≡ b
 one_end l l' stuck stuck' = ends (meets l l' stuck') stuck
 
 -- what is done at a point does not depend on the point of the state
@@ -96,8 +92,7 @@ moved s u = record s { point = onward s.point u }
 
 -- a step past a whole gap is a step before it
 pub step_over_gap : (s q : State) (u : Text)
-    → WholeGap s.point.flags.ignore_whitespace s.point.rest u
-    → Step (moved s u) q → Step s q
+    → WholeGap s.point.flags.ignore_whitespace s.point.rest u → Step (moved s u) q → Step s q
 step_over_gap s q u whole st =
     let verbose = s.point.flags.ignore_whitespace in
     let same : st.past.rest ≡ u = gap_at_end verbose u st.past.rest whole.1 st.gap.0 in
@@ -110,8 +105,7 @@ step_over_gap s q u whole st =
 
 -- and a step before it is a step past it
 pub step_past_gap : (s q : State) (u : Text)
-    → WholeGap s.point.flags.ignore_whitespace s.point.rest u → Step s q
-    → Step (moved s u) q
+    → WholeGap s.point.flags.ignore_whitespace s.point.rest u → Step s q → Step (moved s u) q
 step_past_gap s q u whole st =
     let verbose = s.point.flags.ignore_whitespace in
     let same = whole_gap_once verbose s.point.rest u st.past.rest whole (st.gap.0, st.ends) in

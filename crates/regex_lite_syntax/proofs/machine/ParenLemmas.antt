@@ -129,8 +129,7 @@ number_reads verbose t rest n c k =
     then_read first (then_read digits (then_read last (past_first c rest)))
 
 counted_reads : {verbose : Bool} {t rest : Text} {least : ℕ} {most : Option ℕ}
-    → Counted verbose t rest least most
-    → NoMore t rest
+    → Counted verbose t rest least most → NoMore t rest
 counted_reads {verbose} {t} {rest} {least} (exactly k e) = number_reads verbose t rest least _ k
 counted_reads {verbose} {t} {rest} {least} (at_least past k g e) =
     then_read (number_reads verbose t past least _ k) (gap_and_one verbose past rest _ g)
@@ -164,8 +163,7 @@ boundary_reads {verbose} {t} {rest} (boundary_named opened e b) =
     then_read (one_read e) (then_read name (gap_and_one verbose b.last rest _ b.closes))
 
 escape_from_reads : (k : EscapeKind) (verbose : Bool) (t rest : Text) (p : Primitive)
-    → EscapeFrom k verbose t rest p
-    → NoMore t rest
+    → EscapeFrom k verbose t rest p → NoMore t rest
 escape_from_reads (gives q) verbose t rest p d = nothing_read d.0
 escape_from_reads word_boundary verbose t rest p d = boundary_reads d.1
 escape_from_reads (hexadecimal n) verbose t rest p d = hexadecimal_reads d.1
@@ -224,8 +222,7 @@ dashes_read verbose (suc n) t rest d =
     then_read first (dashes_read verbose n d.1 rest d.4)
 
 bracket_reads : (verbose : Bool) (n : ℕ) (t rest : Text) (taken : Bool)
-    → FirstBracket verbose n t rest taken
-    → NoMore t rest
+    → FirstBracket verbose n t rest taken → NoMore t rest
 bracket_reads verbose zero t rest taken b = takes_reads b
 bracket_reads verbose (suc n) t rest taken b = nothing_read b.0
 
@@ -237,8 +234,7 @@ items_read verbose (s ∷ sets) t rest d =
     then_read first (items_read verbose sets d.1 rest d.4)
 
 pub opening_read : {verbose : Bool} {t rest : Text} {negated dash bracket : Bool}
-    → ClassOpening verbose t rest negated dash bracket
-    → NoMore t rest
+    → ClassOpening verbose t rest negated dash bracket → NoMore t rest
 opening_read {verbose} {t} {rest} {negated} {dash} {bracket} o =
     let opened = then_read (one_read o.opens) (gap_reads verbose o.opened o.first o.gap.0) in
     let dashes = dashes_read verbose o.dashes o.past_caret o.past_dashes o.dashed in
@@ -246,8 +242,7 @@ opening_read {verbose} {t} {rest} {negated} {dash} {bracket} o =
     then_read opened (then_read (takes_reads o.negation) (then_read dashes brackets))
 
 class_reads : (insensitive verbose : Bool) (t rest : Text) (s : Set)
-    → BracketedClass insensitive verbose t rest s
-    → NoMore t rest
+    → BracketedClass insensitive verbose t rest s → NoMore t rest
 class_reads insensitive verbose t rest s c =
     then_read (opening_read c.opening) (items_read verbose c.sets c.past_opening rest c.items)
 

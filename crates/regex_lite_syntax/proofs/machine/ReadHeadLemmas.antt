@@ -137,8 +137,7 @@ reads_no_name fault p t begun first past e whole opens none more follows can =
     let verbose = s.point.flags.ignore_whitespace in
     no_name s can.1 s.point (begun ++ more) (first ++ more) (past ++ more) (at_once s.point)
     (ap (λ u. u ++ more) e) (longer_whole more verbose begun first past whole opens)
-    (opening_longer more opens)
-    (λ rest name written. none more follows (rest, name, written)) can.2
+    (opening_longer more opens) (λ rest name written. none more follows (rest, name, written)) can.2
 
 -- nor where the name stands that another group has
 pub reads_no_second : (fault : SyntaxFault) (p : Parser) (t begun first rest name : Text)
@@ -177,8 +176,7 @@ reads_no_flags fault p t begun u first e whole begins unnamed cut_short none mor
     (λ rest new letters.
     none more follows (the ":" ∷ rest, new, record { letters = letters; ends = inl refl }))
     (λ rest new letters.
-    none more follows (the ")" ∷ rest, new, record { letters = letters; ends = inr refl }))
-    can.2
+    none more follows (the ")" ∷ rest, new, record { letters = letters; ends = inr refl })) can.2
 
 -- nor where nothing stands there
 pub reads_no_empty : (fault : SyntaxFault) (p : Parser) (t begun u rest : Text)

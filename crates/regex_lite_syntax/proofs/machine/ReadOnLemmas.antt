@@ -142,8 +142,7 @@ pub unclosed_at : (flags : Flags) (pattern : Text) (s : State) (text : Text) (be
 unclosed_at flags pattern s text below k h begins gap differ =
     of_frames s.frames h.below h.here
   where
-    of_frames : (frames : List Frame)
-        → Stacked (start flags pattern) frames (text ∷ below) h.from
+    of_frames : (frames : List Frame) → Stacked (start flags pattern) frames (text ∷ below) h.from
         → Partial (length frames) h.from s.point s.branches s.items → IsUnclosedAt flags pattern k
     of_frames [] stacked here = cc stacked.1
     of_frames (f ∷ frames) stacked here =
@@ -162,8 +161,7 @@ unclosed_at flags pattern s text below k h begins gap differ =
           past = stacked.5;
           begins = sym (same_head stacked.8) ∙ begins;
           head = stacked.6;
-          within =
-              subst
+          within = subst
               (λ n. Alternatives n h.from s.point (s.branches ++ sequence_of s.items ∷ []))
               (sym (add-one level)) (all_of _ h.from s.point s.branches s.items here);
           ends = gap;

@@ -67,16 +67,14 @@ reads_repeated p q t rest items a least most greedy last repeats o d =
     )
 
 pub reads_no_operator : (p : Parser) (t rest : Text) (c : ℕ) (b : ℕ × Option ℕ) → t ≡ c ∷ rest
-    → times c ≡ Some b
-    → p.here.items.items ≡ [] → CanRead p t → ⊥
+    → times c ≡ Some b → p.here.items.items ≡ [] → CanRead p t → ⊥
 unfolding state
 reads_no_operator p t rest c b e has none can =
     let s = state p t can.0 in
     no_operand s can.1 s.point c b rest (at_once s.point) e has (ap (map tree_of) none) can.2
 
-pub reads_no_counted : (p : Parser) (t rest : Text) → t ≡ the "{" ∷ rest → p.here.items.items ≡ []
-    → CanRead p t
-    → ⊥
+pub reads_no_counted : (p : Parser) (t rest : Text)
+    → t ≡ the "{" ∷ rest → p.here.items.items ≡ [] → CanRead p t → ⊥
 unfolding state
 reads_no_counted p t rest e none can =
     let s = state p t can.0 in

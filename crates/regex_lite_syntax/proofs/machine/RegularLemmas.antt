@@ -59,8 +59,7 @@ choice_regular (a ∷ []) regular = regular.0
 choice_regular (a ∷ b ∷ rest) regular = (tt, are_regular (a ∷ b ∷ rest) regular)
 
 pub repeated_regular : (least : ℕ) (most : Option ℕ) (greedy : Bool) (a : Tree) → InOrder least most
-    → IsRegular a
-    → IsRegular (repeated least most greedy a)
+    → IsRegular a → IsRegular (repeated least most greedy a)
 repeated_regular zero None greedy a order regular = (order, regular)
 repeated_regular zero (Some zero) greedy a order regular = tt
 repeated_regular zero (Some (suc most)) greedy a order regular = (order, regular)
@@ -97,14 +96,12 @@ bounds_in_order : (c : ℕ) → AreInOrder (times c)
 bounds_in_order c = search rules
 
 counts_in_order : (verbose : Bool) (t rest : Text) (least : ℕ) (most : Option ℕ)
-    → Counted verbose t rest least most
-    → InOrder least most
+    → Counted verbose t rest least most → InOrder least most
 counts_in_order verbose t rest least None k = tt
 counts_in_order verbose t rest least (Some most) k = counted_in_order k refl
 
 pub operator_in_order : {flags : Flags} {t rest : Text} {least : ℕ} {most : Option ℕ}
-    {greedy : Bool}
-    → Operator flags t rest least most greedy → InOrder least most
+    {greedy : Bool} → Operator flags t rest least most greedy → InOrder least most
 operator_in_order (uncounted c e b n g) = subst (λ x. AreInOrder x) b (bounds_in_order c)
 operator_in_order (uncounted_lazy c e b g) = subst (λ x. AreInOrder x) b (bounds_in_order c)
 operator_in_order {flags} {rest} {least} {most} (counted opened e k n g) =
@@ -188,8 +185,7 @@ mutual
       )
 
   branch_regular : {level : ℕ} {p q : Point} {items : List Tree} → Branch level p q items
-      → AreCharacters p.rest
-      → RegularTo items q
+      → AreCharacters p.rest → RegularTo items q
   branch_regular {p} (nothing e items_are) all = (
     subst (λ x. AllRegular x) (sym items_are) tt,
     subst (λ (x : Point). AreCharacters x.rest) e all,
@@ -210,8 +206,7 @@ mutual
       (first.0, (directive_reads s).characters ((past_gap_reads past).characters first.1))
 
   alternatives_regular : {level : ℕ} {p q : Point} {branches : List Tree}
-      → Alternatives level p q branches
-      → AreCharacters p.rest → RegularTo branches q
+      → Alternatives level p q branches → AreCharacters p.rest → RegularTo branches q
   alternatives_regular (only items d branches_are) all =
       let whole = branch_regular d all in
       (subst (λ x. AllRegular x) (sym branches_are) (sequence_regular items whole.0, tt), whole.1)

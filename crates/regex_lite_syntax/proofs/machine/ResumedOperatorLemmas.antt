@@ -21,8 +21,7 @@ use Rattle.regex_lite_syntax.proofs.machine.StepLemmas.{at_once, step_operate}
 no_question : (verbose : Bool) (next : Text) → Gap verbose (the "_" ∷ []) (the "?" ∷ next) → ⊥
 no_question verbose next gap =
     let ends = printed_ends (the "_") [] (omega arith) (omega arith) in
-    let same =
-    same_head (gap_at_end verbose (the "_" ∷ []) _ (ends_any verbose _ ends) gap) in
+    let same = same_head (gap_at_end verbose (the "_" ∷ []) _ (ends_any verbose _ ends) gap) in
     omega (arith, same)
 
 -- where its bounds can follow the brace, the operator repeats the last item

@@ -50,8 +50,7 @@ frames_are p t d = length-reverse (map frame_of p.below.items) ∙ length-map p.
 -- over a gap and what stands past it
 pub reaches_next : (flags : Flags) (nest_limit : ℕ) (pattern : Text) (p q : Parser) (t u v : Text)
     → Reaches flags nest_limit pattern p t → WholeGap p.here.flags.ignore_whitespace t u
-    → StepsTo p q u v
-    → length q.below.items ≤ nest_limit → Reaches flags nest_limit pattern q v
+    → StepsTo p q u v → length q.below.items ≤ nest_limit → Reaches flags nest_limit pattern q v
 unfolding state
 reaches_next flags nest_limit pattern p q t u v r whole reads shallow =
     let next = reads r.deepest in
@@ -67,8 +66,7 @@ reaches_next flags nest_limit pattern p q t u v r whole reads shallow =
 -- where more groups are open than the limit
 pub open_too_deep : (flags : Flags) (nest_limit : ℕ) (pattern : Text) (p q : Parser) (t u v : Text)
     → Reaches flags nest_limit pattern p t → WholeGap p.here.flags.ignore_whitespace t u
-    → StepsTo p q u v
-    → nest_limit < length q.below.items → NestingRefused flags nest_limit pattern
+    → StepsTo p q u v → nest_limit < length q.below.items → NestingRefused flags nest_limit pattern
 unfolding state
 open_too_deep flags nest_limit pattern p q t u v r whole reads deep =
     let next = reads r.deepest in
@@ -83,9 +81,8 @@ open_too_deep flags nest_limit pattern p q t u v r whole reads deep =
 
 -- at the end with no group open
 pub reaches_tree : (flags : Flags) (nest_limit : ℕ) (pattern : Text) (p : Parser) (t : Text)
-    (a : Tree)
-    → (r : Reaches flags nest_limit pattern p t) → Gap p.here.flags.ignore_whitespace t []
-    → Finishes p a
+    (a : Tree) → (r : Reaches flags nest_limit pattern p t)
+    → Gap p.here.flags.ignore_whitespace t [] → Finishes p a
     → Grammar flags pattern a p.groups r.deepest
 unfolding state
 reaches_tree flags nest_limit pattern p t a r gap finishes =
@@ -95,8 +92,7 @@ reaches_tree flags nest_limit pattern p t a r gap finishes =
 
 pub admitted : (flags : Flags) (nest_limit : ℕ) (pattern : Text) (p : Parser) (t : Text) (a : Tree)
     → Reaches flags nest_limit pattern p t → Gap p.here.flags.ignore_whitespace t []
-    → p.groups < 2 ^ 32
-    → Finishes p a → (nest_limit < depth a → ⊥)
+    → p.groups < 2 ^ 32 → Finishes p a → (nest_limit < depth a → ⊥)
     → IsAdmitted flags nest_limit pattern a × IsRegular a
 admitted flags nest_limit pattern p t a r gap few finishes shallow =
     let g = reaches_tree flags nest_limit pattern p t a r gap finishes in (
@@ -115,8 +111,7 @@ no_levels f xs e =
 -- with a group open there is no tree
 pub open_refused : (flags : Flags) (nest_limit : ℕ) (pattern : Text) (p : Parser) (t : Text)
     → Reaches flags nest_limit pattern p t → Gap p.here.flags.ignore_whitespace t []
-    → (p.below.items ≡ [] → ⊥)
-    → HasTree flags pattern → ⊥
+    → (p.below.items ≡ [] → ⊥) → HasTree flags pattern → ⊥
 unfolding state
 open_refused flags nest_limit pattern p t r gap open_groups =
     let s = state p t r.deepest in
@@ -135,8 +130,7 @@ tree_refused flags nest_limit pattern a groups deepest g deep = record {
 }
 
 pub end_says : (flags : Flags) (nest_limit : ℕ) (pattern : Text) (p : Parser) (t : Text)
-    (e : Refusal)
-    → Reaches flags nest_limit pattern p t → Gap p.here.flags.ignore_whitespace t []
+    (e : Refusal) → Reaches flags nest_limit pattern p t → Gap p.here.flags.ignore_whitespace t []
     → Refuses e (λ _. p.below.items ≢ []) (FinishesTooDeep p nest_limit) ⊥
     → IsDueToPattern flags nest_limit pattern (kind_of e)
 end_says flags nest_limit pattern p t (syntax_error fault) r gap d =
@@ -152,19 +146,16 @@ end_says flags nest_limit pattern p t refused_replacement r gap d = absurd d
 -- before the end with nothing to be read, there is no tree either
 pub stuck_refused : (flags : Flags) (nest_limit : ℕ) (pattern : Text) (p : Parser) (t u : Text)
     → Reaches flags nest_limit pattern p t → WholeGap p.here.flags.ignore_whitespace t u
-    → (u ≡ [] → ⊥)
-    → (CanRead p u → ⊥) → HasTree flags pattern → ⊥
+    → (u ≡ [] → ⊥) → (CanRead p u → ⊥) → HasTree flags pattern → ⊥
 unfolding state
 stuck_refused flags nest_limit pattern p t u r whole more stuck has =
     let s = state p t r.deepest in
-    refuses flags pattern s r.leads
-    (λ q st. stuck (
+    refuses flags pattern s r.leads (λ q st. stuck (
       r.deepest,
       q,
       step_past_gap s q u whole st,
       (reaches (leads_step r.leads st) has.1.2).names_differ,
-    ))
-    (λ _ gap. more (gap_to_end p.here.flags.ignore_whitespace t u whole gap)) has
+    )) (λ _ gap. more (gap_to_end p.here.flags.ignore_whitespace t u whole gap)) has
 
 -- where a further group can't be numbered
 pub number_refused : (flags : Flags) (nest_limit : ℕ) (pattern : Text) (p : Parser) (t u : Text)
@@ -184,9 +175,8 @@ number_refused flags nest_limit pattern p t u r whole many capture =
     }
 
 pub step_says : (flags : Flags) (nest_limit : ℕ) (pattern : Text) (p : Parser) (t u : Text)
-    (e : Refusal)
-    → Reaches flags nest_limit pattern p t → WholeGap p.here.flags.ignore_whitespace t u
-    → (u ≡ [] → ⊥)
+    (e : Refusal) → Reaches flags nest_limit pattern p t
+    → WholeGap p.here.flags.ignore_whitespace t u → (u ≡ [] → ⊥)
     → Refuses e (λ fault. NoReading fault (CanRead p) u) ⊥ (BeginsTooMany p u)
     → IsDueToPattern flags nest_limit pattern (kind_of e)
 step_says flags nest_limit pattern p t u (syntax_error fault) r whole more d =

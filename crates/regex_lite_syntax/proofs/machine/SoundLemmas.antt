@@ -23,8 +23,7 @@ use Rattle.regex_lite_syntax.specs.Parser.Machine.{kind_at, Does, LeadsOn, stay,
 pub data Partial (level : ℕ) (from p : Point) (branches items : List Tree) : Type 0 where
   first : branches ≡ [] → Branch level from p items → Partial level from p branches items
   later : (last here : Point) (rest : Text) → Alternatives level from last branches
-      → PastGap last here
-      → here.rest ≡ the "|" ∷ rest → Branch level (onward here rest) p items
+      → PastGap last here → here.rest ≡ the "|" ∷ rest → Branch level (onward here rest) p items
       → Partial level from p branches items
 
 -- the open groups, which begin at these texts, where the alternatives of the innermost begin at
@@ -68,11 +67,9 @@ with_item level from p here q branches items a (later last bar_at rest d past_la
     later last bar_at rest d past_last e (item p here items a b past i refl)
 
 with_operator : (level : ℕ) (from p here q : Point) (branches items before : List Tree) (a : Tree)
-    (least : ℕ)
-    (most : Option ℕ) (greedy : Bool) → items ≡ before ++ a ∷ []
-    → Partial level from p branches items
-    → PastGap p here → Operator here.flags here.rest q.rest least most greedy
-    → q ≡ onward here q.rest
+    (least : ℕ) (most : Option ℕ) (greedy : Bool) → items ≡ before ++ a ∷ []
+    → Partial level from p branches items → PastGap p here
+    → Operator here.flags here.rest q.rest least most greedy → q ≡ onward here q.rest
     → Partial level from q branches (before ++ repeated least most greedy a ∷ [])
 with_operator level from p here q branches items before a least most greedy items_are (first e b)
     past o q_is =
@@ -123,16 +120,14 @@ closed_on begin begun s p f frames rest e h past c =
       stands = record {
         from = below.0;
         below = below.9;
-        here =
-            with_item (length frames) below.0 below.1 below.2 _ f.branches f.items _ below.4
+        here = with_item (length frames) below.0 below.1 below.2 _ f.branches f.items _ below.4
             below.5 (group h.from s.point p f.kind (ended s) rest below.6 inner past c after refl);
       };
       keeps = closes below.2.rest (add-one (length frames) ∙ sym (ap length e)) below.8;
     }
 
 pub does_keeps : (k : Kind) (begin : Point) (begun : List Text) (s : State) (p : Point) (q : State)
-    → Stands begin begun s → PastGap s.point p
-    → Does k s p q → StandsOn begin begun s p q
+    → Stands begin begun s → PastGap s.point p → Does k s p q → StandsOn begin begun s p q
 unfolding opened parted with_items
 does_keeps stop begin begun s p q h past d = absurd d
 does_keeps paren begin begun s p q h past (inl d) =
@@ -188,9 +183,8 @@ stands_first flags pattern = record {
 -- a run to where only a gap is left, with no group open and no name twice, gives the pattern its
 -- tree
 pub sound : (flags : Flags) (pattern : Text) (s : State) → LeadsOn (first_state flags pattern) s
-    → s.frames ≡ []
-    → Gap s.point.flags.ignore_whitespace s.point.rest [] → NamesDiffer s.point.names
-    → AreCharacters pattern
+    → s.frames ≡ [] → Gap s.point.flags.ignore_whitespace s.point.rest []
+    → NamesDiffer s.point.names → AreCharacters pattern
     → Grammar flags pattern (choice_of (ended s)) s.point.groups s.point.deepest
 sound flags pattern s l outermost g differ characters =
     let begin = start flags pattern in

@@ -86,16 +86,14 @@ step_close s here f frames rest past e below =
     (rest, f, frames, e, below, refl)
 
 pub step_part : (s : State) (here : Point) (rest : Text) → PastGap s.point here
-    → here.rest ≡ the "|" ∷ rest
-    → Step s (parted s (onward here rest))
+    → here.rest ≡ the "|" ∷ rest → Step s (parted s (onward here rest))
 step_part s here rest past e =
     step_by bar s here _ past (asks_bar here.flags.ignore_whitespace here.rest rest e)
     (rest, e, refl)
 
 pub step_operate : (s : State) (here : Point) (rest : Text) (before : List Tree) (a : Tree)
-    (least : ℕ) (most : Option ℕ)
-    (greedy : Bool) → PastGap s.point here → s.items ≡ before ++ a ∷ []
-    → Operator here.flags here.rest rest least most greedy
+    (least : ℕ) (most : Option ℕ) (greedy : Bool) → PastGap s.point here
+    → s.items ≡ before ++ a ∷ [] → Operator here.flags here.rest rest least most greedy
     → Step s (with_items s (onward here rest) (before ++ repeated least most greedy a ∷ []))
 step_operate s here rest before a least most greedy past items o =
     step_by operator s here _ past (asks_operator o here.flags.ignore_whitespace)
@@ -153,8 +151,7 @@ pub no_empty : (s q : State) (here : Point) (opened rest : Text) → PastGap s.p
     → here.rest ≡ the "(" ∷ opened
     → WholeGap here.flags.ignore_whitespace opened (the "?" ∷ the ")" ∷ rest) → Step s q → ⊥
 no_empty s q here opened rest past e whole =
-    no_open s q here opened past e
-    (λ into kind.
+    no_open s q here opened past e (λ into kind.
     no_head (length s.frames) here into kind opened (the ")" ∷ rest) e whole of_name of_head)
     (λ next. no_directive here next opened (the ")" ∷ rest) e whole of_directive)
   where
@@ -181,8 +178,7 @@ no_close s q here rest past e outermost st =
 
 -- nor at an operator that stands after no item
 pub no_operand : (s q : State) (here : Point) (c : ℕ) (b : ℕ × Option ℕ) (rest : Text)
-    → PastGap s.point here
-    → here.rest ≡ c ∷ rest → times c ≡ Some b → s.items ≡ [] → Step s q → ⊥
+    → PastGap s.point here → here.rest ≡ c ∷ rest → times c ≡ Some b → s.items ≡ [] → Step s q → ⊥
 no_operand s q here c b rest past e has none st =
     let asked = asks_bounded here.flags.ignore_whitespace c b here.rest rest e has in
     let d = does_by operator s here q past asked st in
@@ -210,8 +206,7 @@ no_counts s q here rest past e none st =
 
 -- where an item would have to begin, one does
 pub some_item : (s q : State) (here : Point) → PastGap s.point here
-    → EndsGap here.flags.ignore_whitespace here.rest
-    → kind_at here.rest ≡ atom → Step s q
+    → EndsGap here.flags.ignore_whitespace here.rest → kind_at here.rest ≡ atom → Step s q
     → (rest : Text) × (a : Tree) × Atom here.flags here.rest rest a
 some_item s q here past ends kind st =
     let d = does_by atom s here q past (record { ends = ends; kind_is = kind }) st in

@@ -11,9 +11,8 @@ use Rattle.regex_lite_syntax.proofs.machine.CompleteLemmas.{complete}
 
 -- at most one tree, number and depth of groups
 pub grammar_once : (flags : Flags) (pattern : Text) (a b : Tree)
-    (groups groups' deepest deepest' : ℕ)
-    → Grammar flags pattern a groups deepest → Grammar flags pattern b groups' deepest'
-    → (a ≡ b) × (groups ≡ groups') × (deepest ≡ deepest')
+    (groups groups' deepest deepest' : ℕ) → Grammar flags pattern a groups deepest
+    → Grammar flags pattern b groups' deepest' → (a ≡ b) × (groups ≡ groups') × (deepest ≡ deepest')
 grammar_once flags pattern a b groups groups' deepest deepest' g h =
     let u = complete flags pattern a groups deepest g in
     let v = complete flags pattern b groups' deepest' h in

@@ -35,8 +35,7 @@ none_of_part (Err fault) R S t u gives none = none_of_other fault R S t u gives 
 
 -- a refusal that says the one says what follows from it
 pub refuses_more : (e : Refusal) (s s' : SyntaxFault → Type 0) (n g n' g' : Type 0)
-    → ((fault : SyntaxFault) → s fault → s' fault) → (n → n') → (g → g')
-    → Refuses e s n g
+    → ((fault : SyntaxFault) → s fault → s' fault) → (n → n') → (g → g') → Refuses e s n g
     → Refuses e s' n' g'
 refuses_more (syntax_error fault) s s' n g n' g' of_s of_n of_g says = of_s fault says
 refuses_more too_deep s s' n g n' g' of_s of_n of_g says = of_n says
@@ -51,8 +50,7 @@ pub denial_refuses : (e : Refusal) (R S : Text → Type 0) (t u : Text) (n g : T
     → Refuses e (λ fault. NoReading fault S u) n g
 denial_refuses e R S t u n g gives denied =
     refuses_more e (λ fault. NoReading fault R t) (λ fault. NoReading fault S u) ⊥ ⊥ n g
-    (λ fault. none_of_other fault S R u t gives) (λ none. absurd none)
-    (λ none. absurd none) denied
+    (λ fault. none_of_other fault S R u t gives) (λ none. absurd none) (λ none. absurd none) denied
 
 -- what denies the one reading denies each that would give it
 pub denies_part : (e : Refusal) (R S : Text → Type 0) (t u : Text)

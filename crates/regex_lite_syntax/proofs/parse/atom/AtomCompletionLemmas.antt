@@ -47,8 +47,7 @@ completed_escape flags t past e k = record {
   characters = k.characters;
   reads = λ next.
       let d = k.reads next in
-      let tree =
-      primitive_has_tree flags d.0
+      let tree = primitive_has_tree flags d.0
       (escape_gives flags.ignore_whitespace (past ++ (k.more ++ next)) next d.0 d.1) in (
         tree.0,
         escape_atom flags (t ++ (k.more ++ next)) (past ++ (k.more ++ next)) next d.0 tree.0

@@ -24,16 +24,14 @@ use Rattle.regex_lite_syntax.proofs.grammar.ClassLemmas.{item_goes_on, items_pas
 
 -- parts
 pub part_literal : (verbose : Bool) (t rest : Text) (c : ℕ) → t ≡ c ∷ rest → c ≢ the "\\"
-    → EndsGap verbose t
-    → ClassElement verbose t rest (one c)
+    → EndsGap verbose t → ClassElement verbose t rest (one c)
 part_literal true t rest c e plain ends =
     literal c e plain (λ _. subst (λ u. EndsGap true u) e ends) refl
 part_literal false t rest c e plain ends = literal c e plain (λ h. absurd (false≢true h)) refl
 
 -- what begins with a backslash is an escape
 pub escape_of_part : (verbose : Bool) (t past r : Text) (p : Primitive) → t ≡ the "\\" ∷ past
-    → ClassElement verbose t r p
-    → Escape verbose past r p
+    → ClassElement verbose t r p → Escape verbose past r p
 escape_of_part verbose t past r p e (literal c f plain w is) =
     absurd (plain (same_head (sym f ∙ e)))
 escape_of_part verbose t past r p e (escaped past' f x) =
@@ -80,16 +78,14 @@ some_past verbose t closed e =
     (empty_gap verbose [], ends_nothing verbose)))
 
 -- what an item begins with
-pub begins_item : (t u : Text) (c : ℕ) → t ≡ c ∷ u → (Begins (the "]") t → ⊥)
-    → (Begins (the "[") t → ⊥)
-    → (BeginsOperator t → ⊥) → BeginsItem t
+pub begins_item : (t u : Text) (c : ℕ) → t ≡ c ∷ u → (Begins (the "]") t
+    → ⊥) → (Begins (the "[") t → ⊥) → (BeginsOperator t → ⊥) → BeginsItem t
 begins_item [] u c e close bracket operator = cc e
 begins_item (d ∷ t) u c e close bracket operator =
     (close, bracket, λ is again. operator (is, again))
 
-pub item_begins : (verbose : Bool) (t rest : Text) (s : Set) → (Begins (the "[") t → ⊥)
-    → ClassItem verbose t rest s
-    → BeginsItem t
+pub item_begins : (verbose : Bool) (t rest : Text) (s : Set)
+    → (Begins (the "[") t → ⊥) → ClassItem verbose t rest s → BeginsItem t
 item_begins verbose t rest s none (named_class n set x e) =
     absurd (none (named_begins t rest n set x))
 item_begins verbose t rest s none (character c i p o e) = i
@@ -188,14 +184,12 @@ open_at_once verbose t past p none part gap items =
       | inl alone ↦ nothing_left verbose items.1 items.2
           (subst (λ u. ClassItems verbose items.1 u items.2)
           (whole_gap_once verbose past items.3.1 []
-          (subst (λ u. WholeGap verbose u items.3.1) (sym alone.0) items.3.3) gap)
-          items.3.4)
+          (subst (λ u. WholeGap verbose u items.3.1) (sym alone.0) items.3.3) gap) items.3.4)
       | inr to ↦ no_dash verbose past [] to.0 gap (λ b. b) to.1
     ]
 
 pub open_past_dash : (verbose : Bool) (sets : List Set) (t past rest : Text) → t ≡ the "-" ∷ past
-    → EndsGap verbose t
-    → WholeGap verbose past [] → ClassItems verbose sets t rest → ⊥
+    → EndsGap verbose t → WholeGap verbose past [] → ClassItems verbose sets t rest → ⊥
 open_past_dash verbose [] t past rest e ends gap items =
     let heads = same_head (sym e ∙ items) in omega (arith, heads)
 open_past_dash verbose (s ∷ sets) t past rest e ends gap items =
@@ -236,8 +230,7 @@ items_push verbose sets more s t u past next rest goes item gap items =
     (goes (s ∷ more) rest (past, next, item, gap, items))
 
 pub items_next : (verbose : Bool) (all : List Set) (s : Set) (u past next rest : Text)
-    → ClassItem verbose u past s
-    → WholeGap verbose past next → ClassItems verbose all u rest
+    → ClassItem verbose u past s → WholeGap verbose past next → ClassItems verbose all u rest
     → (more : List Set) × ClassItems verbose more next rest
 items_next verbose [] s u past next rest item gap items =
     absurd (item_goes_on verbose u past s item (begins (the "]") u rest items))

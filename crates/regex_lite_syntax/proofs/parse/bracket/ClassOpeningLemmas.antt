@@ -30,10 +30,8 @@ some_dashes n = sym (lt-ltb 0 (n + 1) (omega arith))
 
 -- where dashes stood, no bracket is taken
 pub bracket_past : (verbose : Bool) (n : ℕ) (t rest : Text) (dashed taken : Bool)
-    → dashed ≡ nat_lt 0 n
-    → (dashed ≡ true → (t ≡ rest) × (taken ≡ false))
-    → (dashed ≡ false → Takes verbose (the "]") t rest taken)
-    → FirstBracket verbose n t rest taken
+    → dashed ≡ nat_lt 0 n → (dashed ≡ true → (t ≡ rest) × (taken ≡ false))
+    → (dashed ≡ false → Takes verbose (the "]") t rest taken) → FirstBracket verbose n t rest taken
 bracket_past verbose zero t rest dashed taken e left taken_there = taken_there e
 bracket_past verbose (suc n) t rest dashed taken e left taken_there =
     let some : nat_lt 0 (suc n) ≡ true = lt-ltb 0 (suc n) (omega arith) in left (e ∙ some)
@@ -57,10 +55,8 @@ class_from insensitive verbose t u rest negated dash bracket sets opens items = 
 
 -- the items of a class stand past what it begins with
 pub class_items : (insensitive verbose : Bool) (t u rest : Text) (negated dash bracket : Bool)
-    (s : Set)
-    → ClassOpening verbose t u negated dash bracket
-    → (c : BracketedClass insensitive verbose t rest s)
-    → ClassItems verbose c.sets u rest
+    (s : Set) → ClassOpening verbose t u negated dash bracket
+    → (c : BracketedClass insensitive verbose t rest s) → ClassItems verbose c.sets u rest
 class_items insensitive verbose t u rest negated dash bracket s o c =
     let same = opening_once verbose t u c.past_opening negated c.negated dash c.dash bracket
     c.bracket o c.opening in

@@ -27,8 +27,7 @@ in_both (r ∷ a) b c =
 
 -- one more range
 pub in_more : (a b : List ClassRange) (r : ClassRange) (s : Set) (c : ℕ) → b ≡ a ++ r ∷ []
-    → span r.start r.end c ≡ s c
-    → in_ranges b c ≡ (in_ranges a c || s c)
+    → span r.start r.end c ≡ s c → in_ranges b c ≡ (in_ranges a c || s c)
 in_more a b r s c e holds =
     ap (λ l. in_ranges l c) e ∙ in_both a (r ∷ []) c
     ∙ ap (λ h. in_ranges a c || h) (or_false (span r.start r.end c) ∙ holds)

@@ -62,11 +62,9 @@ module _ (verbose : Bool) (next : Text) (ends : EndsGap true next) where
 
   gap_onto : (t u : Text) → WholeGap verbose t u → WholeGap verbose (t ++ more) (onto u)
   gap_onto t [] gap = (gap_resumed verbose t next gap.0, ends_any verbose next ends)
-  gap_onto t (c ∷ u) gap =
-      whole_longer (resumed verbose ++ next) verbose t (c ∷ u) gap (λ e. cc e)
+  gap_onto t (c ∷ u) gap = whole_longer (resumed verbose ++ next) verbose t (c ∷ u) gap (λ e. cc e)
 
-  begins_onto : (c : ℕ) (t : Text) → (Begins c next → ⊥) → (Begins c t → ⊥) → Begins c (onto t)
-      → ⊥
+  begins_onto : (c : ℕ) (t : Text) → (Begins c next → ⊥) → (Begins c t → ⊥) → Begins c (onto t) → ⊥
   begins_onto c [] other none b = other b
   begins_onto c (d ∷ t) other none b = none b
 

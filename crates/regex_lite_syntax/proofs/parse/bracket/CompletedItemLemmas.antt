@@ -66,8 +66,7 @@ pub closed_named : (verbose : Bool) (t : Text)
     → Completable (λ t rest. (negated : Bool) × (set : SetName) × NamedClass t rest negated set) t
     → Completable (ItemsTo verbose) t
 closed_named verbose t c =
-    closed verbose t c.more c.characters
-    (λ next. let found = c.reads (the "]" ∷ next) in
+    closed verbose t c.more c.characters (λ next. let found = c.reads (the "]" ∷ next) in
     (_, named_class found.0 found.1 found.2 refl))
 
 -- what a backslash begins may be an item
@@ -81,8 +80,7 @@ pub closed_escape : (verbose : Bool) (t : Text) → Begins (the "\\") t
     → Completable (λ t rest. (c : ℕ) × ClassElement verbose t rest (one c) × (0 ≤ c)) t
     → Completable (ItemsTo verbose) t
 closed_escape verbose t backslash c =
-    closed verbose t c.more c.characters
-    (λ next.
+    closed verbose t c.more c.characters (λ next.
     let closing = the "]" ∷ next in
     let found = c.reads closing in (
       just found.0,
@@ -95,8 +93,7 @@ pub closed_range : (verbose : Bool) (t past last : Text) (p : Primitive) → Beg
     → Completable (λ t rest. (s : Set) × RangeTo verbose p t rest s) last
     → Completable (ItemsTo verbose) t
 closed_range verbose t past last p begins some part follows c =
-    closed verbose t c.more c.characters
-    (λ next.
+    closed verbose t c.more c.characters (λ next.
     let closing = the "]" ∷ next in
     let found = c.reads closing in
     let more = c.more ++ closing in (
@@ -147,10 +144,8 @@ dash_item verbose t next gap =
       (λ e. omega (arith, e)),
       (λ e. omega (arith, e)),
       (λ is again. no_dash_before verbose t next gap again),
-    )
-    (part_literal verbose (the "-" ∷ t) t (the "-") refl plain
-    (dash_ends verbose (the "-" ∷ t) refl))
-    (λ last. no_range verbose t next last gap) refl
+    ) (part_literal verbose (the "-" ∷ t) t (the "-") refl plain
+    (dash_ends verbose (the "-" ∷ t) refl)) (λ last. no_range verbose t next last gap) refl
 
 -- what is read as an element is one
 is_element : (element : Element) → IsElement (element_primitive element)

@@ -54,10 +54,8 @@ name_starts more opened (d ∷ w) m e all t rest n set opens c =
     let negation = same ∙ c.negation in
     let signs = negation_once m n (opened ++ more) (d ∷ (w ++ more)) c.begin
     (negation_longer more m opened (d ∷ w) e) negation (no_caret m opened w d more e letter)
-    (no_negation n (opened ++ more) c.begin c.name c.end _ negation c.written c.letters
-    c.closes) in
-    starts_name (d ∷ w) c.name more _
-    (signs.1 ∙ c.written ∙ ap (λ u. c.name ++ u) c.closes) letters
+    (no_negation n (opened ++ more) c.begin c.name c.end _ negation c.written c.letters c.closes) in
+    starts_name (d ∷ w) c.name more _ (signs.1 ∙ c.written ∙ ap (λ u. c.name ++ u) c.closes) letters
 
 -- what makes a name of the letters and closes it
 pub completes_name : (t opened begin name more : Text) (m : Bool) (set : SetName)

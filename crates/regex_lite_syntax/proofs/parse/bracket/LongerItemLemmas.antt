@@ -72,8 +72,7 @@ is_named_longer more t rest (elements.Set set negated) is = named_longer more is
 
 -- what is read in a longer text as a character is one in the text
 char_from : (k : EscapeKind) (verbose : Bool) (t rest u past : Text) (p : Primitive) (c : ℕ)
-    → EscapeFrom k verbose t rest p → EscapeFrom k verbose u past (one c)
-    → (d : ℕ) × (p ≡ one d)
+    → EscapeFrom k verbose t rest p → EscapeFrom k verbose u past (one c) → (d : ℕ) × (p ≡ one d)
 char_from (gives q) verbose t rest u past p c d e = (c, d.1 ∙ sym e.1)
 char_from word_boundary verbose t rest u past p c d e = let clash = e.2 in cc clash
 char_from (hexadecimal n) verbose t rest u past p c d e = (d.0, d.2)
@@ -133,8 +132,7 @@ module _ (more : Text) where
         first = d.first;
         past_first = d.past_first ++ more;
         begins = ap (λ u. u ++ more) d.begins;
-        goes_on =
-            from_longer (escape_kind d.first) verbose d.past_first rest p element d.goes_on;
+        goes_on = from_longer (escape_kind d.first) verbose d.past_first rest p element d.goes_on;
       })
 
   -- so is the end of a range, and the range
@@ -150,9 +148,8 @@ module _ (more : Text) where
   }
 
   pub range_longer : (verbose : Bool) (t past last rest : Text) (p : Primitive) (s : Set)
-      → BeginsItem t → past ≢ [] → ClassElement verbose t past p
-      → RangeFollows verbose past last → RangeTo verbose p last rest s
-      → ClassItem verbose (t ++ more) (rest ++ more) s
+      → BeginsItem t → past ≢ [] → ClassElement verbose t past p → RangeFollows verbose past last
+      → RangeTo verbose p last rest s → ClassItem verbose (t ++ more) (rest ++ more) s
   range_longer verbose t past last rest p s begins some part follows to =
       item_range verbose (t ++ more) (past ++ more) (last ++ more) (rest ++ more) p s
       (begins_item more t begins (element_two verbose t past p part some))

@@ -44,10 +44,8 @@ first_named w =
     map_if (is (set_name sets.Xdigit)) sets.Xdigit None None refl)))))))))))))
 
 -- and where there is none, the grammar names none
-pub none_named : (w name : Text) (set : SetName)
-    → None ≡ find (λ s. is_text w (set_name s)) ALL
-    → w ≡ name
-    → set_named name ≡ Some set → ⊥
+pub none_named : (w name : Text) (set : SetName) → None ≡ find (λ s. is_text w (set_name s)) ALL
+    → w ≡ name → set_named name ≡ Some set → ⊥
 none_named w name set none same named =
     cc (ap (option_map name_of) none ∙ first_named w ∙ ap set_named same ∙ named)
 
@@ -116,8 +114,7 @@ mapped (Some s) set e = (s, refl)
 
 -- where no name begins with these letters, they are no beginning of one
 pub none_begins : (w left : Text) (set : SetName)
-    → false ≡ list_any (λ s. is_beginning w (set_name s)) ALL
-    → set_named (w ++ left) ≡ Some set → ⊥
+    → false ≡ list_any (λ s. is_beginning w (set_name s)) ALL → set_named (w ++ left) ≡ Some set → ⊥
 none_begins w left set none named =
     let first = mapped (find (λ s. is_text (w ++ left) (set_name s)) ALL) set
     (first_named (w ++ left) ∙ named) in

@@ -110,8 +110,7 @@ pub fixed_completable : {verbose : Bool} {number read n : ℕ} (least left : ℕ
 fixed_completable {verbose} {number} {read} {n} least left t start count some gap goes
     (further, reaches, all) = record {
       more = resumed verbose ++ further;
-      characters =
-          resumed_characters verbose further
+      characters = resumed_characters verbose further
           (subst (λ u. AreCharacters u) (append-nil further)
           (all_characters is_hex_digit further [] digit_is_character reaches.are_digits tt));
       reads = λ next. (
@@ -132,8 +131,7 @@ pub braced_completable : {verbose : Bool} {number read : ℕ} (least : ℕ) (t s
 braced_completable {verbose} {number} {read} least t start before gap goes
     (further, reaches, some) = record {
       more = resumed verbose ++ closed further;
-      characters =
-          resumed_characters verbose (closed further)
+      characters = resumed_characters verbose (closed further)
           (all_characters is_hex_digit further (the "}" ∷ []) digit_is_character
           reaches.are_digits (refl, tt));
       reads = λ next. (

@@ -32,8 +32,7 @@ digit_at {verbose} {t} {u} {past} {d} whole here valued = record {
 
 -- and there in each longer text
 pub still_digit_at : {verbose : Bool} {t past : Text} {v : ℕ} (more : Text)
-    → DigitAt verbose t past v
-    → DigitAt verbose (t ++ more) (past ++ more) v
+    → DigitAt verbose t past v → DigitAt verbose (t ++ more) (past ++ more) v
 still_digit_at {verbose} {t} {past} more at = record {
   digit = at.digit;
   whole = whole_longer more verbose t (at.digit ∷ past) at.whole (λ e. cc e);
@@ -48,8 +47,7 @@ pub record DigitsOn (verbose : Bool) (number : ℕ) (digits t last : Text) (c : 
   pub value : c ≡ number_on number digits
 
 on_after : (verbose : Bool) (number d v : ℕ) (digits t past last : Text) (c : ℕ)
-    → DigitAt verbose t past v
-    → DigitsOn verbose number (d ∷ digits) t last c
+    → DigitAt verbose t past v → DigitsOn verbose number (d ∷ digits) t last c
     → DigitsOn verbose (number * 16 + v) digits past last c
 on_after verbose number d v digits t past last c at on =
     let next =
@@ -60,8 +58,7 @@ on_after verbose number d v digits t past last c at on =
     (record { written = next.1; scalar = on.scalar; value = on.value })
 
 on_before : (verbose : Bool) (number v : ℕ) (digits t past last : Text) (c : ℕ)
-    (at : DigitAt verbose t past v)
-    → DigitsOn verbose (number * 16 + v) digits past last c
+    (at : DigitAt verbose t past v) → DigitsOn verbose (number * 16 + v) digits past last c
     → DigitsOn verbose number (at.digit ∷ digits) t last c
 on_before verbose number v digits t past last c at on =
     let same = subst (λ n. DigitsOn verbose (number * 16 + n) digits past last c) at.value on in
@@ -106,8 +103,7 @@ pub record FixedFrom (verbose : Bool) (number read n : ℕ) (t rest : Text) (c :
   pub on : DigitsOn verbose number digits t rest c
 
 pub fixed_after : {verbose : Bool} {number read n v : ℕ} {t past rest : Text} {c : ℕ}
-    → DigitAt verbose t past v
-    → read < n → FixedFrom verbose number read n t rest c
+    → DigitAt verbose t past v → read < n → FixedFrom verbose number read n t rest c
     → FixedFrom verbose (number * 16 + v) (read + 1) n past rest c
 fixed_after {verbose} {number} {read} {n} {v} {t} {past} {rest} {c} at more f =
     go f.digits f.count f.on
@@ -122,8 +118,7 @@ fixed_after {verbose} {number} {read} {n} {v} {t} {past} {rest} {c} at more f =
     }
 
 pub fixed_before : {verbose : Bool} {number read n v : ℕ} {t past rest : Text} {c : ℕ}
-    → DigitAt verbose t past v
-    → FixedFrom verbose (number * 16 + v) (read + 1) n past rest c
+    → DigitAt verbose t past v → FixedFrom verbose (number * 16 + v) (read + 1) n past rest c
     → FixedFrom verbose number read n t rest c
 fixed_before {verbose} {number} {read} {n} {v} {t} {past} {rest} {c} at f = record {
   digits = at.digit ∷ f.digits;
@@ -156,8 +151,7 @@ fixed_stuck {verbose} {number} {read} {n} {t} {rest} {c} u whole lacks more f =
 pub no_fixed : {verbose : Bool} {n : ℕ} {t rest : Text} {c : ℕ} (u : Text) → WholeGap verbose t u
     → Lacks is_hex_digit u → 0 < n → FixedDigits verbose n t rest c → ⊥
 no_fixed {verbose} {n} {t} {rest} {c} u whole lacks some f =
-    fixed_stuck {number = 0} {read = 0} u whole lacks some
-    (record {
+    fixed_stuck {number = 0} {read = 0} u whole lacks some (record {
       digits = f.digits;
       count = omega (arith, f.count);
       on = record { written = f.written; scalar = f.scalar; value = f.value };
@@ -207,10 +201,9 @@ braced_before {verbose} {number} {read} {read'} {v} {t} {past} {rest} {c} at b =
 }
 
 -- the brace stands there
-pub braced_scalar : {verbose : Bool} {number read : ℕ} {t rest : Text} {c : ℕ}
-    (u past : Text) (d : ℕ)
-    → WholeGap verbose t u → u ≡ d ∷ past → d ≡ the "}" → BracedFrom verbose number read t rest c
-    → IsTrue (is_character number)
+pub braced_scalar : {verbose : Bool} {number read : ℕ} {t rest : Text} {c : ℕ} (u past : Text)
+    (d : ℕ) → WholeGap verbose t u → u ≡ d ∷ past
+    → d ≡ the "}" → BracedFrom verbose number read t rest c → IsTrue (is_character number)
 braced_scalar {verbose} {number} {read} {t} {rest} {c} u past d whole here closes b =
     go b.digits b.on
   where
@@ -222,9 +215,8 @@ braced_scalar {verbose} {number} {read} {t} {rest} {c} u past d whole here close
 
 -- no digit stands there, nor a brace that may close
 pub braced_stuck : {verbose : Bool} {number read : ℕ} {t rest : Text} {c : ℕ} (u : Text)
-    → WholeGap verbose t u
-    → Lacks is_hex_digit u → (Begins (the "}") u → 0 < read → ⊥)
-    → BracedFrom verbose number read t rest c → ⊥
+    → WholeGap verbose t u → Lacks is_hex_digit u → (Begins (the "}") u → 0 < read
+    → ⊥) → BracedFrom verbose number read t rest c → ⊥
 braced_stuck {verbose} {number} {read} {t} {rest} {c} u whole lacks unclosed b =
     go b.digits b.some b.on
   where

@@ -60,8 +60,7 @@ ends_after verbose l name t u past whole here e = go e.letters e.whole e.written
       left = e.left;
       last = e.last;
       whole = same_tail all;
-      written =
-          (next_spaced verbose is_boundary_character l c letters t u past e.last
+      written = (next_spaced verbose is_boundary_character l c letters t u past e.last
           boundary_characters_end whole here written).1;
       ends = e.ends;
     }
@@ -85,11 +84,9 @@ ends_elsewhere verbose l name t u whole some other e = go e.letters e.whole e.wr
   where
     go : (letters : Text) → l ∷ name ≡ letters ++ e.left
         → Spaced verbose is_boundary_character letters t e.last → ⊥
-    go [] all written =
-        some (gap_to_end verbose t u whole
+    go [] all written = some (gap_to_end verbose t u whole
         (subst (λ v. Gap verbose v []) (sym written) e.ends))
-    go (c ∷ letters) all written =
-        other (subst (λ d. Begins d u) (sym (same_head all))
+    go (c ∷ letters) all written = other (subst (λ d. Begins d u) (sym (same_head all))
         (spaced_begins verbose is_boundary_character c letters t u e.last
         boundary_characters_end whole written))
 
@@ -149,8 +146,7 @@ pub name_completable : (verbose : Bool) (name t : Text) (look : Look)
     → EndsInName verbose name t → Completable (Name verbose) t
 name_completable verbose name t look all named e = record {
   more = more;
-  characters =
-      resumed_characters verbose (e.left ++ the "}" ∷ [])
+  characters = resumed_characters verbose (e.left ++ the "}" ∷ [])
       (all_characters is_boundary_character e.left (the "}" ∷ []) letter_is_character of_left
       (refl, tt));
   reads = λ next. (look, completed next);
@@ -160,8 +156,7 @@ name_completable verbose name t look all named e = record {
     more = resumed verbose ++ (e.left ++ the "}" ∷ [])
 
     of_left : IsTrue (list_all is_boundary_character e.left)
-    of_left =
-        (and_parts (list_all is_boundary_character e.letters)
+    of_left = (and_parts (list_all is_boundary_character e.letters)
         (list_all is_boundary_character e.left)
         (sym (list_all-append is_boundary_character e.letters e.left)
         ∙ subst (λ u. IsTrue (list_all is_boundary_character u)) e.whole all)).1
@@ -170,8 +165,7 @@ name_completable verbose name t look all named e = record {
     completed next =
         let further =
         spaced_on verbose is_boundary_character e.left (e.last ++ (more ++ next)) (the "}" ∷ next)
-        of_left
-        (subst (λ u. Gap verbose (e.last ++ (more ++ next)) u)
+        of_left (subst (λ u. Gap verbose (e.last ++ (more ++ next)) u)
         (append_assoc e.left (the "}" ∷ []) next)
         (gap_completed verbose e.last (e.left ++ the "}" ∷ []) next e.ends)) in
         record {

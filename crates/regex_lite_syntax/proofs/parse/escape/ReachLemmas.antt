@@ -44,8 +44,7 @@ highest_above (suc k) m n above = let further = highest_above k m n above in ome
 abbrev digit_of : ℕ → ℕ
 digit_of v = if nat_lt v 10 then v + 0x30 else v + 0x37
 
-digit_is : (v : ℕ) → v < 16
-    → (is_hex_digit (digit_of v) && (digit_value (digit_of v) == v)) ≡ true
+digit_is : (v : ℕ) → v < 16 → (is_hex_digit (digit_of v) && (digit_value (digit_of v) == v)) ≡ true
 digit_is v small =
     agree_below_at (λ w. is_hex_digit (digit_of w) && (digit_value (digit_of w) == w)) (λ _. true)
     16 v refl small
@@ -66,8 +65,7 @@ within (suc k) number (d ∷ digits) count all =
     let value = digit_value d in
     let further = within k (number * 16 + value) digits (omega (arith, count)) parts.1 in
     let low = lowest_above k (number * 16) (number * 16 + value) (omega arith) in
-    let high =
-    highest_above k (number * 16 + value) (number * 16 + 15) (omega (arith, small)) in
+    let high = highest_above k (number * 16 + value) (number * 16 + 15) (omega (arith, small)) in
     let last = highest_first k number in
     (omega (arith, further, low, lowest_first k number), omega (arith, further, high, last))
 

@@ -38,8 +38,7 @@ none_of_both false rest e = (refl, e)
 
 -- the name is among those
 pub name_given : (given : List (RcStr Global)) (name : RcStr Global)
-    → has_name given (rc_str_bytes name) ≡ true
-    → Contains (names_of given) (text_of_name name)
+    → has_name given (rc_str_bytes name) ≡ true → Contains (names_of given) (text_of_name name)
 name_given [] name e = cc e
 name_given (first ∷ given) name e =
     go (bytes_eq (rc_str_bytes name) (rc_str_bytes first)) refl (λ rest. name_given given name rest)
@@ -60,8 +59,7 @@ name_given (first ∷ given) name e =
 
 -- the name is not
 pub name_not_given : (given : List (RcStr Global)) (name : RcStr Global)
-    → has_name given (rc_str_bytes name) ≡ false
-    → Contains (names_of given) (text_of_name name) → ⊥
+    → has_name given (rc_str_bytes name) ≡ false → Contains (names_of given) (text_of_name name) → ⊥
 name_not_given [] name e (k, inside, is) = omega (arith, inside)
 name_not_given (first ∷ given) name e (zero, inside, is) =
     let same =
@@ -115,11 +113,9 @@ set_with set more name updates bytes = go (bytes_eq (rc_str_bytes name) bytes) r
   where
     go : (same : Bool) → bytes_eq (rc_str_bytes name) bytes ≡ same
         → set_has_name more bytes ≡ cond same true (set_has_name set bytes)
-    go true same =
-        subst (λ b. set_has_name more b ≡ true)
+    go true same = subst (λ b. set_has_name more b ≡ true)
         ((bytes_eq-Decides (rc_str_bytes name) bytes).0 same) updates.1
-    go false differs =
-        other_keys _ _ _ _ _ updates.3
+    go false differs = other_keys _ _ _ _ _ updates.3
         (λ x y. (eq_by_cmp_equiv nat_list_cmp_total).congr bytes (rc_str_bytes x) (rc_str_bytes y))
         (λ x. apart (rc_str_bytes name) bytes (rc_str_bytes x) differs)
 

@@ -27,11 +27,10 @@ pub set_completes : (old : Flags) (t : Text) → AllPass is_flag_letter t → Is
 set_completes old t all differ = record {
   more = the ":" ∷ [];
   characters = (refl, tt);
-  reads =
-      λ next. (
-        with_flags true t old,
-        record { letters = setting t refl all differ refl; ends = inl refl },
-      );
+  reads = λ next. (
+    with_flags true t old,
+    record { letters = setting t refl all differ refl; ends = inl refl },
+  );
 }
 
 -- a flag letter that none of these is
@@ -60,16 +59,14 @@ clear_completes : (old : Flags) (on off t u past more : Text) → LetterRun [] o
 clear_completes old on off t u past more run dashed is all some differ characters = record {
   more = more ++ the ":" ∷ [];
   characters = characters;
-  reads =
-      λ next.
+  reads = λ next.
       let left = (more ++ the ":" ∷ []) ++ next in
       let set = run.written ∙ ap (λ v. on ++ v) dashed in
       let ended = ap (λ v. past ++ v) (append_assoc more (the ":" ∷ []) next)
       ∙ sym (append_assoc past more (the ":" ∷ next)) ∙ ap (λ v. v ++ the ":" ∷ next) (sym is) in (
         with_flags false off (with_flags true on old),
         record {
-          letters =
-              clearing on off (past ++ left)
+          letters = clearing on off (past ++ left)
               (ap (λ v. v ++ left) set ∙ append_assoc on (the "-" ∷ past) left) ended some run.all
               all differ refl;
           ends = inl refl;
@@ -97,6 +94,5 @@ none_clears on past rest every cleared = of_letters cleared.off cleared.run clea
   where
     of_letters : (off : Text) → LetterRun on off past rest → 0 < length off → ⊥
     of_letters [] run some = omega (arith, some)
-    of_letters (d ∷ off) run some =
-        both_ways _ (differ_middle on off d run.differ)
+    of_letters (d ∷ off) run some = both_ways _ (differ_middle on off d run.differ)
         (every d (all_pass_middle is_flag_letter [] d off run.all))

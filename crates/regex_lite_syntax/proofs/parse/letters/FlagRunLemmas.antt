@@ -100,9 +100,8 @@ goes_on (c ∷ read) (d ∷ letters) t u rest p all q ends =
     (past.0, cc (same_head same, past.1), past.2)
 
 -- no run goes on past the end of the pattern
-pub no_run_end : (before read letters t u rest : Text) → t ≡ read ++ u
-    → AllPass is_flag_letter read → u ≡ []
-    → LetterRun before letters t rest → ⊥
+pub no_run_end : (before read letters t u rest : Text) → t ≡ read ++ u → AllPass is_flag_letter read
+    → u ≡ [] → LetterRun before letters t rest → ⊥
 no_run_end before read letters t u rest p all none run =
     let past = goes_on read letters t u rest p
     (list_all-from_AllPass is_flag_letter read all) run.written run.ends in

@@ -66,8 +66,7 @@ pub record Cleared (on past rest : Text) : Type 0 where
 
 -- where a dash ends the first run, flags go on with another
 pub second_run : (old : Flags) (on t u past rest : Text) (new : Flags) → LetterRun [] on t u
-    → u ≡ the "-" ∷ past
-    → EndedFlags old t rest new → Cleared on past rest
+    → u ≡ the "-" ∷ past → EndedFlags old t rest new → Cleared on past rest
 second_run old on t u past rest new run here flags = of_letters flags.letters
   where
     of_letters : FlagLetters old t rest new → Cleared on past rest
@@ -82,8 +81,7 @@ second_run old on t u past rest new run here flags = of_letters flags.letters
         record { written = q; all = all_off; differ = differ; ends = ends_run rest flags.ends } in
         record {
           off = off;
-          run =
-              subst (λ w. LetterRun w off past rest) (sym same.0)
+          run = subst (λ w. LetterRun w off past rest) (sym same.0)
               (subst (λ w. LetterRun on' off w rest) (same_tail (sym same.1 ∙ here)) other);
           some = some;
         }
@@ -119,16 +117,14 @@ ends_flags (d ∷ t) ends no_dash =
     ]
 
 pub flags_set : (old : Flags) (on t rest : Text) (new : Flags) → LetterRun [] on t rest
-    → (Begins (the "-") rest → ⊥)
-    → new ≡ with_flags true on old → EndedFlags old t rest new
+    → (Begins (the "-") rest → ⊥) → new ≡ with_flags true on old → EndedFlags old t rest new
 flags_set old on t rest new run no_dash e = record {
   letters = setting on run.written run.all run.differ e;
   ends = ends_flags rest run.ends no_dash;
 }
 
 pub flags_cleared : (old : Flags) (on off t u past rest : Text) (new : Flags) → LetterRun [] on t u
-    → u ≡ the "-" ∷ past
-    → LetterRun on off past rest → 0 < length off → (Begins (the "-") rest → ⊥)
+    → u ≡ the "-" ∷ past → LetterRun on off past rest → 0 < length off → (Begins (the "-") rest → ⊥)
     → new ≡ with_flags false off (with_flags true on old) → EndedFlags old t rest new
 flags_cleared old on off t u past rest new run dashed run_off some no_dash e =
     let set = subst (λ w. t ≡ on ++ w) dashed run.written in

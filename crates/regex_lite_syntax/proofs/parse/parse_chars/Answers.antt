@@ -39,8 +39,7 @@ loop-parser-preserved c =
 pub returns-then-is_deeper_than-clause-refused : goal.returns-then-is_deeper_than-clause-refused
 returns-then-is_deeper_than-clause-refused c =
     let xs = c.args.chars.now in
-    rw c.nesting.ensures
-    (open_too_deep _ _ xs _ c.step.new.self _ (drop c.skip_gap-here.result xs)
+    rw c.nesting.ensures (open_too_deep _ _ xs _ c.step.new.self _ (drop c.skip_gap-here.result xs)
     (drop c.in_ok-at.at xs) c.loop-parser.invariant.reaches c.skip_gap-here.ensures.gap
     c.in_ok-at.ensures.ok.reads (c.is_deeper_than.ensures.0 c.if-is_deeper_than.true))
 
@@ -51,8 +50,7 @@ returns-then-here-chars-clause-tree c =
     c.if-here-chars.true c.skip_gap-here.ensures.gap in
     IfOk-weaker c.finish.result _ _
     (λ hir ok. (admitted _ _ xs _ _ (tree_of hir) c.loop-parser.invariant.reaches gap
-    c.finish.ensures.groups ok.0 ok.1).0)
-    c.finish.ensures.ok
+    c.finish.ensures.groups ok.0 ok.1).0) c.finish.ensures.ok
 
 pub returns-then-here-chars-clause-regular : goal.returns-then-here-chars-clause-regular
 returns-then-here-chars-clause-regular c =
@@ -61,8 +59,7 @@ returns-then-here-chars-clause-regular c =
     c.if-here-chars.true c.skip_gap-here.ensures.gap in
     IfOk-weaker c.finish.result _ _
     (λ hir ok. (admitted _ _ xs _ _ (tree_of hir) c.loop-parser.invariant.reaches gap
-    c.finish.ensures.groups ok.0 ok.1).1)
-    c.finish.ensures.ok
+    c.finish.ensures.groups ok.0 ok.1).1) c.finish.ensures.ok
 
 pub returns-then-here-chars-clause-refused : goal.returns-then-here-chars-clause-refused
 returns-then-here-chars-clause-refused c =

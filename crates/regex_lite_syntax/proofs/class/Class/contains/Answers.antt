@@ -16,8 +16,7 @@ returns-then-at-ranges c =
     (IsPartitionedBy-ltb (λ r. r.end) _ c.args.c (ends_rise 0 ranges runs)) in
     let is : IsTrue (is_character c.args.c) = search (rules, tests) in
     sym (held_there c.args.c 0 ranges c.partition_point-at.result _ is runs parts
-    c.if-at-ranges.true)
-    ∙ ap (λ xs. in_ranges xs c.args.c) c.ranges-ranges.ensures.same
+    c.if-at-ranges.true) ∙ ap (λ xs. in_ranges xs c.args.c) c.ranges-ranges.ensures.same
 
 pub returns-else-at-ranges : goal.returns-else-at-ranges
 returns-else-at-ranges c =

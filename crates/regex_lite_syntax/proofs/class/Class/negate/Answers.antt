@@ -51,8 +51,7 @@ returns c = record {
       take_all c.loop-range.range-index items (omega (arith, c.loop-range-test.false))
       ∙ c.ranges-range-items.ensures.same in
       let known = c.loop-range.invariant in
-      ap (λ ranges. in_ranges ranges d) c.of_runs.ensures
-      ∙ last_gap c.loop-range.start d _ _ _
+      ap (λ ranges. in_ranges ranges d) c.of_runs.ensures ∙ last_gap c.loop-range.start d _ _ _
       (rw all at (known.before d)) (rw all at (known.members d))
       (c.in_ok-append_between-2.ensures.members d);
 }

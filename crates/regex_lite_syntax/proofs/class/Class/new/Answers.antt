@@ -10,8 +10,7 @@ use Rattle.regex_lite_syntax.proofs.class.Class.new.Goals as goal
 pub join_all-runs-requires : goal.join_all-runs-requires
 join_all-runs-requires c =
     let start = λ (r : ClassRange). r.start in
-    rw c.deref_mut.ensures.value
-    (IsNonDecreasingBy-from_sort start _
+    rw c.deref_mut.ensures.value (IsNonDecreasingBy-from_sort start _
     (c.sort_unstable_by_key.ensures.sorted start (search (rules, always_returns_same))))
 
 pub returns : goal.returns

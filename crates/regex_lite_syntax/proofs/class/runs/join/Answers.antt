@@ -61,8 +61,7 @@ returns-clause-runs c =
     let n = c.args.runs in
     let none : ClassRange = record { start = 0; end = 0 } in
     let last = get_or xs (n - 1) none in
-    rw (take_more_set xs n c.args.range c.requires.inside)
-    (elim c.else-runs-gt0.branch [
+    rw (take_more_set xs n c.args.range c.requires.inside) (elim c.else-runs-gt0.branch [
       | else-runs-gt0-via-then-runs-gt0+else-are_joined w ↦
           let inside : n ≤ length xs = omega (arith, c.requires.inside) in
           let whole = last_of xs n none w.if-runs-gt0.true inside in

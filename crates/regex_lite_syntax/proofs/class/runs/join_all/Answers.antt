@@ -36,7 +36,6 @@ loop-at-preserved c =
           let before = known.members d in
           let range = ap (λ (r : ClassRange). span r.start r.end d) same in
           cc;
-      rest =
-          same_later _ _ _ _ further joined.rest
+      rest = same_later _ _ _ _ further joined.rest
           ∙ same_later _ _ at (at + 1) (omega arith) known.rest;
     }

@@ -14,8 +14,7 @@ use Rattle.regex_lite_syntax.proofs.TreeLemmas.{tree_of-Concat, tree_of-Alternat
 -- the names of a list of trees are those of the node that has them
 of_node : (result : Result (Unit {0}) AllocError) (before after : List (Option (RcStr Global)))
     (hir : Hir) (parts : Vec Hir Global) → (hir ≡ Concat parts) ⊎ (hir ≡ Alternation parts)
-    → IfOk result
-    (λ _. AddsNames (group_name_in (trees_of (map tree_of parts.items))) before after)
+    → IfOk result (λ _. AddsNames (group_name_in (trees_of (map tree_of parts.items))) before after)
     → IfOk result (λ _. AddsNames (group_name (tree_of hir)) before after)
 of_node result before after hir parts (inl is) added =
     subst (λ (tree : Tree). IfOk result (λ _. AddsNames (group_name tree) before after))

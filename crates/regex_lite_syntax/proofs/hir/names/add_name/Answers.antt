@@ -33,8 +33,7 @@ added_at table index k name false e inside free =
 added : (table : List (Option (RcStr Global))) (index : ℕ) (name copy : Option (RcStr Global))
     → index < length table → name_at table index ≡ None
     → option_map text_of_name copy ≡ option_map text_of_name name
-    → AddsNames (name_if_at index (option_map text_of_name name)) table
-    (slice_set table index copy)
+    → AddsNames (name_if_at index (option_map text_of_name name)) table (slice_set table index copy)
 added table index name copy inside free same k =
     let text = λ (x : Option (RcStr Global)). option_map text_of_name x in
     let within : index < length (map text table) = rw length-map inside in

@@ -70,8 +70,7 @@ returns-clause-ok c =
           rw w.result-is (record {
             further = omega (arith, c.in_ok-end.ensures.inside);
             in_pattern = omega (arith, c.in_ok-end.ensures.inside);
-            reads =
-                reads_repeated p q t rest before (tree_of c.in-Some.item) _ _ _ pushed
+            reads = reads_repeated p q t rest before (tree_of c.in-Some.item) _ _ _ pushed
                 (added rest) operator;
           })
     ]

@@ -18,10 +18,7 @@ returns-then-not-is_at-clause-ok c =
     record {
       further = omega arith;
       in_pattern = omega (arith, c.requires.inside);
-      reads =
-          reads_numbered c.args.self.now c.open_capture.new.self (drop c.args.at xs)
-          (drop (c.args.at + 1) xs) _
-          c.requires.begins c.skip_gap-first.ensures.gap
-          (c.is_at.ensures.absent c.if-not-is_at.true)
-          c.in_ok-open_capture.ensures.ok;
+      reads = reads_numbered c.args.self.now c.open_capture.new.self (drop c.args.at xs)
+          (drop (c.args.at + 1) xs) _ c.requires.begins c.skip_gap-first.ensures.gap
+          (c.is_at.ensures.absent c.if-not-is_at.true) c.in_ok-open_capture.ensures.ok;
     }

@@ -30,8 +30,7 @@ returns-in_err-end-clause-completes c =
 
 -- what opens a name and the name
 named_from : (t past rest name letters : Text) → NameOpening t past → NameWritten past rest letters
-    → name ≡ letters
-    → Named t rest name
+    → name ≡ letters → Named t rest name
 named_from t past rest name letters opens written is =
     record {
       past = past;
@@ -71,10 +70,8 @@ returns-clause-ok c =
     record {
       further = omega (arith, c.requires.inside, c.in_ok-end.ensures.inside);
       in_pattern = c.in_ok-end.ensures.inside.1;
-      reads =
-          reads_named c.args.self.now c.open_capture.new.self c.insert.new.self
+      reads = reads_named c.args.self.now c.open_capture.new.self c.insert.new.self
           (drop c.args.at c.args.chars.now) _ _
           (drop c.in_ok-end.end c.args.chars.now) name c.requires.begins c.requires.gap named
-          added.1 added.0
-          c.in_ok-open_capture.ensures.ok;
+          added.1 added.0 c.in_ok-open_capture.ensures.ok;
     }

@@ -42,8 +42,7 @@ returns-clause-ok c =
           rw w.result-is (record {
             further = omega arith;
             in_pattern = omega (arith, there.0);
-            reads =
-                reads_repeated p q (drop i xs) rest before (tree_of c.in-Some.item) _ _ _ pushed
+            reads = reads_repeated p q (drop i xs) rest before (tree_of c.in-Some.item) _ _ _ pushed
                 (added rest)
                 (uncounted_lazy _ begins (c.requires.bounded _ e) (ap greedy w.if-lazy.true));
           })
@@ -53,8 +52,7 @@ returns-clause-ok c =
           rw w.result-is (record {
             further = omega arith;
             in_pattern = omega (arith, c.requires.inside);
-            reads =
-                reads_repeated p q (drop i xs) rest before (tree_of c.in-Some.item) _ _ _ pushed
+            reads = reads_repeated p q (drop i xs) rest before (tree_of c.in-Some.item) _ _ _ pushed
                 (added rest)
                 (uncounted _ e (c.requires.bounded _ e) absent (ap greedy w.if-lazy.false));
           })

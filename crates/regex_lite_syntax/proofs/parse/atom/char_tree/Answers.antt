@@ -12,5 +12,4 @@ returns c =
     (sym c.is_ascii_alphabetic.ensures.value ∙ c.if-not-is_ascii_alphabetic.false) in
     IfOk-weaker _ _ _ (λ hir tree.
     both_cases c.args.flags c.args.c (tree_of hir) (not-false _ c.if-not-flags.false) letter
-    (class_of _ c.in_ok-class.class _ c.in_ok-class.ensures tree))
-    c.class.ensures
+    (class_of _ c.in_ok-class.class _ c.in_ok-class.ensures tree)) c.class.ensures

@@ -21,8 +21,7 @@ returns-in_err-end-in-92-clause-refused c =
     let here = drop_char xs c.args.at _ c.requires.inside c.index-chars-at.is in
     let backslash = here ∙ ap (λ d. d ∷ drop (c.args.at + 1) xs) c.in-92.is in
     at_exit _ _ c.from_residual-in_err-end-in-92.ensures.1 (λ more follows (rest, a, atom).
-    no_escape c.args.flags _ _ rest a (ap (λ u. u ++ more) backslash)
-    (λ past p escape.
+    no_escape c.args.flags _ _ rest a (ap (λ u. u ++ more) backslash) (λ past p escape.
     c.in_err-end-in-92.ensures.refused more follows (past, p, escape, search rules)) atom)
 
 pub returns-in_err-end-in-91-clause-refused : goal.returns-in_err-end-in-91-clause-refused
@@ -34,13 +33,11 @@ returns-in_err-end-in-91-clause-refused c =
     at_exit _ _ c.from_residual-in_err-end-in-91.ensures.1 (denies_part c.in_err-end-in-91.field-0.0
     (λ t. (rest : Text) × (s : Set)
     × BracketedClass flags.case_insensitive flags.ignore_whitespace t rest s)
-    (λ t. (rest : Text) × (a : Tree) × Atom flags t rest a) _ _
-    (λ more (rest, a, atom).
+    (λ t. (rest : Text) × (a : Tree) × Atom flags t rest a) _ _ (λ more (rest, a, atom).
     let from = by_kind flags bracketed (the "[") _ _ rest a (ap (λ u. u ++ more) bracket) refl atom
     in (rest, from.0, from.1)) c.in_err-end-in-91.ensures.refused)
 
-pub returns-in_ok-char_tree-in_default-clause-ok :
-    goal.returns-in_ok-char_tree-in_default-clause-ok
+pub returns-in_ok-char_tree-in_default-clause-ok : goal.returns-in_ok-char_tree-in_default-clause-ok
 returns-in_ok-char_tree-in_default-clause-ok c =
     let here = drop_char c.args.chars.now c.args.at _ c.requires.inside c.index-chars-at.is in
     let sign : NoSign c.index-chars-at.result = record {

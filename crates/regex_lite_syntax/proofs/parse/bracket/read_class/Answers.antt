@@ -26,14 +26,11 @@ returns-then-start-chars-clause-refused c =
     let t = drop c.args.at xs in
     let start = c.read_opening-start.result.0 in
     subst (λ e. Denies e (λ t. (r : Text) × (s : Set) × BracketedClass insensitive verbose t r s) t)
-    (sym c.into.ensures)
-    (none_at_end c.unclosed.result
-    (λ t. (r : Text) × (s : Set) × BracketedClass insensitive verbose t r s) t
-    c.unclosed.ensures
+    (sym c.into.ensures) (none_at_end c.unclosed.result
+    (λ t. (r : Text) × (s : Set) × BracketedClass insensitive verbose t r s) t c.unclosed.ensures
     (λ found. nothing_left verbose found.2.sets found.0
     (subst (λ u. ClassItems verbose found.2.sets u found.0)
-    (left_at_end xs start c.if-start-chars.true)
-    (class_items insensitive verbose t
+    (left_at_end xs start c.if-start-chars.true) (class_items insensitive verbose t
     (drop start xs) found.0 _ _ _ found.1 c.read_opening-start.ensures.opens found.2))))
 
 pub returns-in_err-end-clause-refused : goal.returns-in_err-end-clause-refused
@@ -47,14 +44,12 @@ returns-in_err-end-clause-refused c =
     (omega (arith, c.if-start-chars.false, c.read_opening-start.ensures.inside)) in
     at_exit _ _ c.from_residual-in_err-end.ensures.1 (denies_part _
     (λ t. (r : Text) × (sets : List Set) × ClassItems verbose sets t r)
-    (λ t. (r : Text) × (s : Set) × BracketedClass insensitive verbose t r s) u t
-    (λ more found. (
+    (λ t. (r : Text) × (s : Set) × BracketedClass insensitive verbose t r s) u t (λ more found. (
       found.0,
       found.2.sets,
       class_items insensitive verbose (t ++ more) (u ++ more) found.0 _ _ _ found.1
           (opening_longer more c.read_opening-start.ensures.opens some) found.2,
-    ))
-    c.in_err-end.ensures.refused)
+    )) c.in_err-end.ensures.refused)
 
 pub returns-then-start-chars-clause-completes : goal.returns-then-start-chars-clause-completes
 returns-then-start-chars-clause-completes c =
@@ -64,8 +59,7 @@ returns-then-start-chars-clause-completes c =
     let t = drop c.args.at xs in
     let opening = c.read_opening-start.result.1 in
     subst (λ e. IfCutShort e (Completable
-    (λ t r. (s : Set) × BracketedClass insensitive verbose t r s) t))
-    (sym c.into.ensures)
+    (λ t r. (s : Set) × BracketedClass insensitive verbose t r s) t)) (sym c.into.ensures)
     (λ short. completes_opening insensitive verbose t opening.negated opening.dash opening.bracket
     (subst (λ u. ClassOpening verbose t u opening.negated opening.dash opening.bracket)
     (left_at_end xs c.read_opening-start.result.0 c.if-start-chars.true)
@@ -84,13 +78,11 @@ returns-in_err-end-clause-completes c =
     (Completable (ClassTo verbose) u)
     (Completable (λ t r. (s : Set) × BracketedClass insensitive verbose t r s) t)
     (completes_part (ClassTo verbose)
-    (λ t r. (s : Set) × BracketedClass insensitive verbose t r s) u t
-    (λ more rest found. (
+    (λ t r. (s : Set) × BracketedClass insensitive verbose t r s) u t (λ more rest found. (
       _,
       class_from insensitive verbose (t ++ more) (u ++ more) rest _ _ _ found.0
           (opening_longer more c.read_opening-start.ensures.opens some) found.1,
-    )))
-    c.in_err-end.ensures.completes)
+    ))) c.in_err-end.ensures.completes)
 
 -- what the class is the union of
 dash_set : In_ok-class → Set

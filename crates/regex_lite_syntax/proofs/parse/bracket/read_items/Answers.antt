@@ -27,9 +27,7 @@ returns-then-end-chars-clause-refused c =
     let xs = c.args.chars.now in
     let left = left_at_end xs c.items.end c.if-end-chars.true in
     subst (λ e. Denies e (λ t. (rest : Text) × (sets : List Set) × ClassItems verbose sets t rest)
-    (drop c.args.at xs))
-    (sym c.into.ensures)
-    (λ more follows found.
+    (drop c.args.at xs)) (sym c.into.ensures) (λ more follows found.
     let nothing : more ≡ [] = follows refl in
     let items = c.items.invariant.back more (λ _. nothing) found.1 found.0 found.2 in
     nothing_left verbose items.0 found.0
@@ -42,10 +40,8 @@ returns-in_err-past-clause-refused c =
     let some = some_at c.args.chars.now c.items.end
     (omega (arith, c.if-end-chars.false, c.items.invariant.inside)) in
     at_exit _ _ c.from_residual.ensures.1 (λ more follows found.
-    let items =
-    c.items.invariant.back more (λ ends. absurd (some ends)) found.1 found.0 found.2 in
-    c.in_err-past.ensures.refused more follows
-    (has_items c.args.verbose items.0 (u ++ more) found.0
+    let items = c.items.invariant.back more (λ ends. absurd (some ends)) found.1 found.0 found.2 in
+    c.in_err-past.ensures.refused more follows (has_items c.args.verbose items.0 (u ++ more) found.0
     (begins_longer more (the "]") u (c.items-test.ensures.absent refl) some) items.1))
 
 pub items-init : goal.items-init
@@ -122,5 +118,4 @@ returns-in_err-past-clause-completes c =
     (λ more rest found. (
       so_far.sets ++ found.0 ∷ found.1,
       so_far.goes more (λ ends. absurd (some ends)) (found.0 ∷ found.1) rest found.2,
-    ))
-    (c.in_err-past.ensures.completes short))
+    )) (c.in_err-past.ensures.completes short))

@@ -24,7 +24,6 @@ returns-else-skip_gap-chars c =
     let left = some_at c.args.chars.now c.skip_gap.result (omega arith) in (
       λ above. (c.args.number, inl refl, leb-true c.args.least c.args.number above, omega arith),
       λ can.
-          le-leb c.args.least c.args.number
-          (stays_where c.args.verbose _ c.args.number c.args.least
+          le-leb c.args.least c.args.number (stays_where c.args.verbose _ c.args.number c.args.least
           (λ gap. left (gap_to_end c.args.verbose _ _ whole gap)) can),
     )

@@ -65,8 +65,7 @@ returns-in_err-end-in-Some-eq44-clause-completes c =
     let comma_at = c.in-Some-eq44 in
     at_exit _ _ c.from_residual-in_err-end-in-Some-eq44.ensures.1
     (λ short. limit_follows c.args.verbose _ _ _ _ _ c.in_ok-past_min.ensures.ok.0
-    comma_at.ensures.1 comma_at.field-0-test
-    (c.in_err-end-in-Some-eq44.ensures.completes short))
+    comma_at.ensures.1 comma_at.field-0-test (c.in_err-end-in-Some-eq44.ensures.completes short))
 
 pub returns-in-None-clause-completes : goal.returns-in-None-clause-completes
 returns-in-None-clause-completes c =
@@ -88,6 +87,5 @@ returns-in-Some-clause-refused c =
     λ more follows (rest, least, most, counted).
     let past = past_min (λ rest' n. c.in_ok-past_min.ensures.only more rest' n
     (λ none. cc (here, none))) counted in
-    other_ender _ _ _ (ap (λ u. u ++ more) here)
-    (λ is. omega (arith, is, c.in-Some.field-0-test))
+    other_ender _ _ _ (ap (λ u. u ++ more) here) (λ is. omega (arith, is, c.in-Some.field-0-test))
     (λ is. omega (arith, is, c.in-Some.field-0-test)) past.0

@@ -20,8 +20,7 @@ returns-then-first-chars-clause-refused c =
     no_number_at_end (subst (λ u. WholeSide c.args.verbose t u) none c.skip_side-first.ensures.side)
     (of_text (λ v. Number c.args.verbose v rest n) t more (follows refl) number)
 
-pub returns-then-first-chars-clause-completes :
-    goal.returns-then-first-chars-clause-completes
+pub returns-then-first-chars-clause-completes : goal.returns-then-first-chars-clause-completes
 returns-then-first-chars-clause-completes c =
     let xs = c.args.chars.now in
     let none = left_at_end xs c.skip_side-first.result c.if-first-chars.true in
@@ -54,8 +53,7 @@ loop-next-preserved c =
     record {
       inside = (omega (arith, inside), inside.1);
       small = omega (arith, c.in-Some-with_digit.ensures);
-      read =
-          digit_read c.loop-next.invariant.read c.in-Some.ensures.some
+      read = digit_read c.loop-next.invariant.read c.in-Some.ensures.some
           c.in-Some-with_digit.ensures.1;
     }
 
@@ -71,8 +69,7 @@ returns-then-end-first-clause-refused c =
 pub returns-clause-ok : goal.returns-clause-ok
 returns-clause-ok c =
     number_read c.skip_side-first.ensures.side c.loop-next.invariant.read
-    (omega arith) c.skip_side.ensures.side
-    c.loop-next.invariant.small
+    (omega arith) c.skip_side.ensures.side c.loop-next.invariant.small
 
 pub returns-clause-only : goal.returns-clause-only
 returns-clause-only c more rest n follows number ends =

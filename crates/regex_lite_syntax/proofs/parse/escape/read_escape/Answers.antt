@@ -38,8 +38,7 @@ last_completes verbose least t none inside =
           let read = number.reads next in (
             read.0,
             escape_as verbose _ (number.more ++ next) next (one read.0) (the "x") (hexadecimal 2)
-                (ap (λ u. u ++ ((the "x" ∷ number.more) ++ next)) none) refl
-                (read.0, read.1, refl),
+                (ap (λ u. u ++ ((the "x" ∷ number.more) ++ next)) none) refl (read.0, read.1, refl),
             read.2,
           );
     }
@@ -61,28 +60,24 @@ number_escape verbose n least c t past begins asked completed =
       escape_as verbose _ (past ++ more) rest (one d) c _ (ap (λ u. u ++ more) begins) asked
           (d, number, refl),
       far,
-    ))
-    completed
+    )) completed
 
 look_escape : (verbose : Bool) (c : ℕ) (t past : Text) → t ≡ c ∷ past
     → word_boundary ≡ escape_kind c → Completable (Boundary verbose) past
     → Completable (Escaped verbose) t
 look_escape verbose c t past begins asked completed =
-    completes_part (Boundary verbose) (Escaped verbose) past t
-    (λ more rest (look, boundary). (
+    completes_part (Boundary verbose) (Escaped verbose) past t (λ more rest (look, boundary). (
       look_at look,
       escape_as verbose _ (past ++ more) rest (look_at look) c _ (ap (λ u. u ++ more) begins) asked
           (look, boundary, refl),
-    ))
-    completed
+    )) completed
 
 begins_with : (c d : ℕ) (t past : Text) → t ≡ c ∷ past → c ≡ d → Begins d t
 begins_with c d t past here same = subst (λ u. Begins d u) (sym here) same
 
 pub returns-in_default-clause-completes : goal.returns-in_default-clause-completes
 returns-in_default-clause-completes c short =
-    any_escape _ c.args.least _
-    (last_completes _ c.args.least _ c.in_default.ensures (omega arith))
+    any_escape _ c.args.least _ (last_completes _ c.args.least _ c.in_default.ensures (omega arith))
 
 pub returns-in_default-clause-reaches : goal.returns-in_default-clause-reaches
 returns-in_default-clause-reaches c other short =
@@ -92,8 +87,7 @@ pub returns-in_err-end-in-WordBoundary-clause-refused :
     goal.returns-in_err-end-in-WordBoundary-clause-refused
 returns-in_err-end-in-WordBoundary-clause-refused c =
     at_exit _ _ c.from_residual.ensures.1 (λ more follows (rest, primitive, escape, far).
-    let boundary =
-    escape_from _ _ _ rest primitive _ _ (ap (λ u. u ++ more) c.in-Some.ensures.1)
+    let boundary = escape_from _ _ _ rest primitive _ _ (ap (λ u. u ++ more) c.in-Some.ensures.1)
     c.in-WordBoundary.ensures escape in
     c.in_err-end-in-WordBoundary.ensures.refused more follows (rest, boundary.0, boundary.1))
 
@@ -116,8 +110,7 @@ pub returns-in_err-end-in-Hexadecimal-clause-refused :
 returns-in_err-end-in-Hexadecimal-clause-refused c =
     at_exit _ _ c.from_residual-in_err-end-in-Hexadecimal.ensures.1
     (λ more follows (rest, primitive, escape, far).
-    let number =
-    escape_from _ _ _ rest primitive _ _ (ap (λ u. u ++ more) c.in-Some.ensures.1)
+    let number = escape_from _ _ _ rest primitive _ _ (ap (λ u. u ++ more) c.in-Some.ensures.1)
     c.in-Hexadecimal.ensures escape in
     c.in_err-end-in-Hexadecimal.ensures.refused more follows
     (rest, number.0, number.1, subst (λ p. ReachesTo c.args.least p) number.2 far))

@@ -9,8 +9,6 @@ pub returns-in-None-clause-told : goal.returns-in-None-clause-told
 returns-in-None-clause-told c =
     let flags = c.args.flags in
     let xs = c.args.chars.now in
-    tree_goes_on flags xs
-    (subst
-    (λ found. MatchOption found (HasTree flags xs)
+    tree_goes_on flags xs (subst (λ found. MatchOption found (HasTree flags xs)
     (λ (stop : Stop). IsFaultAt flags xs stop.start × (HasTree flags xs → ⊥)))
     c.in-None.is c.in_ok-first_stop.ensures.found)

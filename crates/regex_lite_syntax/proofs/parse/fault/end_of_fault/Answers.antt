@@ -35,8 +35,7 @@ returns-then-high-chars-clause-end c =
     let low = c.loop-alloc.low in
     let high = c.min-high.result in
     IfOk-weaker c.least_refused.result (IsEndAbove flags xs low high)
-    (IsEndOfFault flags xs c.args.start)
-    (λ end is.
+    (IsEndOfFault flags xs c.args.start) (λ end is.
     end_of_fault flags xs c.args.start low high end c.loop-alloc.invariant.inside.0
     (omega (arith, c.min-high.ensures)) c.loop-alloc.invariant.goes_on is)
     c.least_refused.ensures.end

@@ -17,8 +17,7 @@ pub place_of-requires-clause-goes_on : goal.place_of-requires-clause-goes_on
 place_of-requires-clause-goes_on c =
     let flags = c.args.flags in
     let xs = c.deref.result.now in
-    rw (c.deref-in-Some.ensures.value ∙ sym c.deref.ensures.value)
-    (subst
+    rw (c.deref-in-Some.ensures.value ∙ sym c.deref.ensures.value) (subst
     (λ found. IfSome found (λ (stop : Stop).
     MatchBool stop.is_cut_short (BeginsSome flags xs) (BeginsNone flags xs)))
     c.in-Some.is c.in_ok-first_stop.ensures.goes_on)

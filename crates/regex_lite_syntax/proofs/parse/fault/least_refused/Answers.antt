@@ -13,7 +13,6 @@ returns-clause-end c =
       past = omega (arith, inside);
       inside = inside.2;
       none = c.loop-end.invariant.none;
-      before =
-          subst (GoesOnFrom c.args.flags c.args.chars.now c.args.low)
+      before = subst (GoesOnFrom c.args.flags c.args.chars.now c.args.low)
           (omega (arith, inside, c.loop-end-test.false)) c.loop-end.invariant.goes_on;
     }

@@ -59,8 +59,7 @@ returns-in-Some-2-clause-goes_on c inside =
 -- a `?` and no more is a part of what opens a name
 question_opens : (t : Text) → t ≡ [] → EndsInOpening (the "?" ∷ t)
 question_opens t none =
-    subst (λ u. EndsInOpening (the "?" ∷ u)) (sym none)
-    (the "<" ∷ [], (λ e. cc e), without_p refl)
+    subst (λ u. EndsInOpening (the "?" ∷ u)) (sym none) (the "<" ∷ [], (λ e. cc e), without_p refl)
 
 pub returns-in-None-clause-completes : goal.returns-in-None-clause-completes
 returns-in-None-clause-completes c short = question_opens _ c.in-None.ensures

@@ -84,8 +84,7 @@ pub returns-then-is_out_of_letters-clause-refused :
 returns-then-is_out_of_letters-clause-refused c =
     let dashed = (c.is_at.ensures.there c.if-not-is_at.false).1 in
     let every = (c.is_out_of_letters.ensures.none_left c.if-is_out_of_letters.true).1 in
-    λ more follows flags.
-    none_clears _ _ flags.0 every
+    λ more follows flags. none_clears _ _ flags.0 every
     (second_longer more _ _ _ _ _ _ _ c.in_ok-middle.ensures.ok dashed flags.2)
 
 pub returns-in_err-end-clause-completes : goal.returns-in_err-end-clause-completes

@@ -24,8 +24,7 @@ loop-c-init c =
 pub returns-then-c-eq62-clause-ok : goal.returns-then-c-eq62-clause-ok
 returns-then-c-eq62-clause-ok c =
     name_read _ _ _ c.loop-c.end _ _ (omega arith)
-    (omega arith) c.in-Some-char_at.ensures.1 c.if-c-eq62.true
-    c.loop-c.invariant.so_far
+    (omega arith) c.in-Some-char_at.ensures.1 c.if-c-eq62.true c.loop-c.invariant.so_far
 
 pub returns-then-not-may_continue_name-clause-refused :
     goal.returns-then-not-may_continue_name-clause-refused
@@ -66,8 +65,7 @@ pub returns-clause-completes : goal.returns-clause-completes
 returns-clause-completes c names short =
     let xs = c.args.chars.now in
     let read = slice_range xs c.args.at c.loop-c.end in
-    let spelled =
-    drop_split xs c.args.at c.loop-c.end (omega arith)
+    let spelled = drop_split xs c.args.at c.loop-c.end (omega arith)
     ∙ ap (λ u. read ++ u) c.in_default.ensures ∙ append-nil read in
     subst (λ t. Completable (NewName names) t) (sym spelled)
     (name_completes names read c.loop-c.invariant.so_far)

@@ -32,12 +32,10 @@ returns-in-93-clause-ok c last follows =
     (omega (arith, c.if-last-chars.false, c.skip_gap-last.ensures.inside)) c.index-chars-last.is in
     no_end _ _ _ _ last
     (subst (λ u. WholeGap c.args.verbose (drop c.args.at xs) u) dashed c.skip_gap-dash.ensures.gap)
-    c.skip_gap-last.ensures.gap
-    (λ d rest e. elim c.in-93.is [
+    c.skip_gap-last.ensures.gap (λ d rest e. elim c.in-93.is [
       | inl dash ↦ inr (same_head (sym e ∙ here) ∙ dash)
       | inr bracket ↦ inl (same_head (sym e ∙ here) ∙ bracket)
-    ])
-    follows
+    ]) follows
 
 pub returns-then-not-is_at-clause-closed : goal.returns-then-not-is_at-clause-closed
 returns-then-not-is_at-clause-closed c =
@@ -53,8 +51,7 @@ closed_at c =
     let dashed = (c.if-not-is_at.ensures.there refl).1 in
     closed_past_dash c.args.verbose (drop c.args.at xs) _ _
     (subst (λ u. WholeGap c.args.verbose (drop c.args.at xs) u) dashed c.skip_gap-dash.ensures.gap)
-    c.skip_gap-last.ensures.gap
-    (some_at xs c.skip_gap-last.result
+    c.skip_gap-last.ensures.gap (some_at xs c.skip_gap-last.result
     (omega (arith, c.if-last-chars.false, c.skip_gap-last.ensures.inside)))
 
 pub returns-in-93-clause-closed : goal.returns-in-93-clause-closed

@@ -50,8 +50,7 @@ returns-then-not-is_at-clause-refused c =
       p,
       escape_of_part verbose (t ++ more) (rest ++ more) r p (ap (λ u. u ++ more) here) part,
       reaches,
-    ))
-    c.read_escape.ensures.refused
+    )) c.read_escape.ensures.refused
 
 pub returns-then-not-is_at-clause-completes : goal.returns-then-not-is_at-clause-completes
 returns-then-not-is_at-clause-completes c =
@@ -61,8 +60,7 @@ returns-then-not-is_at-clause-completes c =
     let rest = drop (c.args.at + 1) c.args.chars.now in
     let here = backslash (goal.at.returns-then-not-is_at-clause-completes c).Else-c-ne92 in
     let bare = c.is_at.ensures.absent c.if-not-is_at.true in
-    completes_of c.read_escape.result
-    (λ u r. (d : ℕ) × Escape verbose u r (one d) × (least ≤ d))
+    completes_of c.read_escape.result (λ u r. (d : ℕ) × Escape verbose u r (one d) × (least ≤ d))
     (λ u r. (d : ℕ) × ClassElement verbose u r (one d) × (least ≤ d)) rest t
     (λ more r (d, escape, reaches).
     (d, escaped (rest ++ more) (ap (λ u. u ++ more) here) escape, reaches))

@@ -48,22 +48,19 @@ returns-then-is_at-clause-ok c = item_named _ _ _ _ c.in_ok-end.ensures.ok
 
 pub returns-then-is_at-clause-stays : goal.returns-then-is_at-clause-stays
 returns-then-is_at-clause-stays c more =
-    item_named _ _ _ _
-    (is_named_longer more _ _ c.in_ok-end.element c.in_ok-end.ensures.ok)
+    item_named _ _ _ _ (is_named_longer more _ _ c.in_ok-end.element c.in_ok-end.ensures.ok)
 
 -- no bracket stands there in a longer text
 bare : (c : Else-is_at) (more : Text)
     → Begins (the "[") (drop c.args.at c.args.chars.now ++ more) → ⊥
 bare c more =
-    begins_longer more (the "[") (drop c.args.at c.args.chars.now)
-    (c.if-is_at.ensures.absent refl)
+    begins_longer more (the "[") (drop c.args.at c.args.chars.now) (c.if-is_at.ensures.absent refl)
     (some_at c.args.chars.now c.args.at c.requires.inside)
 
 pub returns-in-Some-clause-refused : goal.returns-in-Some-clause-refused
 returns-in-Some-clause-refused c more follows items =
     let t = drop c.args.at c.args.chars.now in
-    no_operator more t c.in-Some.ensures.0
-    (item_begins c.args.verbose (t ++ more) items.3.0 items.0
+    no_operator more t c.in-Some.ensures.0 (item_begins c.args.verbose (t ++ more) items.3.0 items.0
     (bare (goal.at.returns-in-Some-clause-refused c).Else-is_at more) items.3.2)
 
 -- every primitive reaches to the first character
@@ -87,8 +84,7 @@ returns-in_err-find_range_end-clause-refused c =
     let t = drop c.args.at c.args.chars.now in
     let refused = c.in_err-find_range_end.ensures.refused in
     at_exit _ _ c.from_residual-in_err-find_range_end.ensures.1
-    (none_at_end c.in_err-find_range_end.field-0.0 (HasItems verbose) t
-    refused.0
+    (none_at_end c.in_err-find_range_end.field-0.0 (HasItems verbose) t refused.0
     (open_items verbose t _ _ (c.if-is_at.ensures.absent refl) c.in_ok-past.ensures.ok refused.1))
 
 -- the item begins with its first part, past which something is left
@@ -117,8 +113,7 @@ returns-in_default-element_of-clause-refused c more follows items =
 -- the item of one part alone
 alone : (c : In-None) → BeginsItem (drop c.args.at c.args.chars.now)
     → ClassItem c.args.verbose (drop c.args.at c.args.chars.now)
-    (drop c.in_ok-past.past c.args.chars.now)
-    (element_set c.in-Some-element_of.element)
+    (drop c.in_ok-past.past c.args.chars.now) (element_set c.in-Some-element_of.element)
 alone c begins =
     let verbose = c.args.verbose in
     let t = drop c.args.at c.args.chars.now in
@@ -136,8 +131,7 @@ pub returns-in-None-clause-stays : goal.returns-in-None-clause-stays
 returns-in-None-clause-stays c more =
     let place = goal.at.returns-in-None-clause-stays c in
     item_longer more (alone c (part_begins place.In-Some-element_of))
-    (goes_on place.In_ok-find_range_end)
-    c.in_ok-find_range_end.ensures.closed
+    (goes_on place.In_ok-find_range_end) c.in_ok-find_range_end.ensures.closed
 
 pub returns-in-Some-2-clause-ok : goal.returns-in-Some-2-clause-ok
 returns-in-Some-2-clause-ok c =
@@ -148,8 +142,7 @@ returns-in-Some-2-clause-ok c =
     let last = drop c.in-Some-2.last xs in
     let follows = rw c.in-Some-2.is at c.in_ok-find_range_end.ensures.ok in
     let begins = part_begins (goal.at.returns-in-Some-2-clause-ok c).In-Some-element_of in
-    IfOk-weaker c.read_range.result _ _
-    (λ r to. item_range verbose t
+    IfOk-weaker c.read_range.result _ _ (λ r to. item_range verbose t
     (drop c.in_ok-past.past xs) last _ first _ begins c.in_ok-past.ensures.ok follows to)
     c.read_range.ensures.ok
 
@@ -165,8 +158,7 @@ returns-in-Some-2-clause-stays c =
     IfOk-weaker c.read_range.result _ _
     (λ r to more. range_longer more verbose t (drop c.in_ok-past.past xs) last (drop r.0 xs) first _
     (part_begins place.In-Some-element_of) (goes_on place.In_ok-find_range_end)
-    c.in_ok-past.ensures.ok follows to)
-    c.read_range.ensures.ok
+    c.in_ok-past.ensures.ok follows to) c.read_range.ensures.ok
 
 pub returns-in-Some-2-clause-refused : goal.returns-in-Some-2-clause-refused
 returns-in-Some-2-clause-refused c =
@@ -180,14 +172,12 @@ returns-in-Some-2-clause-refused c =
     let place = (goal.at.returns-in-Some-2-clause-refused c).In_ok-find_range_end in
     let none = bare (goal.at.returns-in-Some-2-clause-refused c).Else-is_at in
     none_of_part c.read_range.result (HasItems verbose)
-    (λ u. (rest : Text) × (s : Set) × RangeTo verbose first u rest s) t last
-    (λ more items. (
+    (λ u. (rest : Text) × (s : Set) × RangeTo verbose first u rest s) t last (λ more items. (
       items.3.0,
       items.0,
       item_range_to verbose (t ++ more) (past ++ more) (last ++ more) items.3.0 first items.0
           (none more) (part_longer place more) (follows_longer more follows) items.3.2,
-    ))
-    c.read_range.ensures.refused
+    )) c.read_range.ensures.refused
 
 pub returns-in_err-end-clause-completes : goal.returns-in_err-end-clause-completes
 returns-in_err-end-clause-completes c =

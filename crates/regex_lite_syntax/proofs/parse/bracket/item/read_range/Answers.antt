@@ -34,8 +34,7 @@ returns-in_err-past-clause-completes c =
     let start = c.in-Char.start in
     at_exit _ _ c.from_residual.ensures.1 (λ short.
     completes_part (λ u r. (d : ℕ) × ClassElement verbose u r (one d) × (start ≤ d))
-    (λ u r. (s : Set) × RangeTo verbose (primitive_of c.args.first) u r s) t t
-    (λ more r found. (
+    (λ u r. (s : Set) × RangeTo verbose (primitive_of c.args.first) u r s) t t (λ more r found. (
       span start found.0,
       record {
         start = start;
@@ -45,8 +44,7 @@ returns-in_err-past-clause-completes c =
         ordered = found.2;
         set_is = refl;
       },
-    ))
-    (c.in_err-past.ensures.completes short))
+    )) (c.in_err-past.ensures.completes short))
 
 pub returns-then-start-end-clause-refused : goal.returns-then-start-end-clause-refused
 returns-then-start-end-clause-refused c =

@@ -40,8 +40,7 @@ two_at xs at c d e f =
     e ∙ ap (λ t. c ∷ t) (f ∙ ap (λ n. d ∷ drop n xs) two)
 
 negated_at : (xs : Text) (at begin : ℕ) (negated : Bool)
-    → drop (at + 2) xs ≡ the "^" ∷ drop (at + 2 + 1) xs → begin ≡ at + 3
-    → negated ≡ true
+    → drop (at + 2) xs ≡ the "^" ∷ drop (at + 2 + 1) xs → begin ≡ at + 3 → negated ≡ true
     → drop (at + 2) xs ≡ (if negated then the "^" ∷ drop begin xs else drop begin xs)
 negated_at xs at begin true e b h =
     let three : at + 2 + 1 ≡ begin = omega (arith, b) in e ∙ ap (λ n. (the "^") ∷ drop n xs) three
@@ -94,8 +93,7 @@ goes_on t u more c e none = let clash = sym e ∙ none in cc clash
 -- the letters past the negation
 word_at : After-skip_lower-end → Text
 word_at c =
-    take (c.skip_lower-end.result - c.if-negated.begin)
-    (drop c.if-negated.begin c.args.chars.now)
+    take (c.skip_lower-end.result - c.if-negated.begin) (drop c.if-negated.begin c.args.chars.now)
 
 -- past which the text ends
 word_ends : (c : After-skip_lower-end) → drop c.skip_lower-end.result c.args.chars.now ≡ []
@@ -143,8 +141,7 @@ pub returns-in_err-expect-clause-completes : goal.returns-in_err-expect-clause-c
 returns-in_err-expect-clause-completes c =
     let xs = c.args.chars.now in
     at_exit _ _ c.from_residual.ensures.1 (λ short.
-    let ends = begun_at_end xs (c.args.at + 1) true
-    (sym c.in_err-expect.ensures.short ∙ short) in
+    let ends = begun_at_end xs (c.args.at + 1) true (sym c.in_err-expect.ensures.short ∙ short) in
     completes_bracket (drop c.args.at xs) (c.requires.begins ∙ ap (λ u. the "[" ∷ u) ends.1))
 
 pub returns-in_err-expect-2-clause-refused : goal.returns-in_err-expect-2-clause-refused
@@ -156,8 +153,7 @@ returns-in_err-expect-2-clause-refused c =
     let begun = c.begins_name.result in
     at_exit _ _ c.from_residual-in_err-expect-2.ensures.1 (λ more follows has.
     let none : drop end xs ≡ [] → more ≡ [] =
-    λ ends. by_answer begun
-    (λ is. follows (c.in_err-expect-2.ensures.short
+    λ ends. by_answer begun (λ is. follows (c.in_err-expect-2.ensures.short
     ∙ and_from begun (end == length xs) is
     (ends_short xs end c.skip_lower-end.ensures.inside.1 ends)))
     (λ is. absurd (none_named_so at_word more ends (sym is ∙ c.begins_name.ensures) has)) in
@@ -179,8 +175,7 @@ returns-in_err-expect-2-clause-completes c =
     (joined_are name.left (codes ":]") name.characters (refl, (refl, tt)))
     (λ next. ap (λ u. u ++ ((name.left ++ codes ":]") ++ next)) (word_ends at_word ends.1)
     ∙ ap (λ u. w ++ u) (append_assoc name.left (codes ":]") next)
-    ∙ sym (append_assoc w name.left (codes ":]" ++ next)))
-    name.letters name.named)
+    ∙ sym (append_assoc w name.left (codes ":]" ++ next))) name.letters name.named)
 
 -- whether there is a set
 none_of : (o : Option NamedSet) → is_some o ≡ false → o ≡ None
@@ -202,8 +197,7 @@ returns-in_err-expect-3-clause-refused c =
     let inside : next ≤ length xs = omega (arith, c.in_ok-expect-2.ensures.there.0) in
     at_exit _ _ c.from_residual-in_err-expect-3.ensures.1 (λ more follows has.
     let same = once at_word more (goes_on _ _ more _ colon) has in
-    stops (the "]") (drop next xs) more c.in_err-expect-3.ensures.absent
-    (λ ends. by_answer found
+    stops (the "]") (drop next xs) more c.in_err-expect-3.ensures.absent (λ ends. by_answer found
     (λ is. follows (c.in_err-expect-3.ensures.short
     ∙ and_from found (next == length xs) is (ends_short xs next inside ends)))
     (λ is. absurd (none_named (word_at at_word) has.3.name has.2
@@ -226,8 +220,7 @@ returns-in_err-expect-3-clause-completes c =
     (opens_at at_word) (negation_at at_word) (refl, tt)
     (λ next. ap (λ u. u ++ (codes "]" ++ next)) (word_past at_word _ colon)
     ∙ append_assoc w (codes ":") (codes "]" ++ next))
-    (list_all-from_AllPass is_lower w c.skip_lower-end.ensures.letters)
-    (sym (first_named w)
+    (list_all-from_AllPass is_lower w c.skip_lower-end.ensures.letters) (sym (first_named w)
     ∙ ap (option_map name_of) (sym c.set_with_name-found.ensures ∙ found.1)))
 
 pub returns-in-None-clause-refused : goal.returns-in-None-clause-refused

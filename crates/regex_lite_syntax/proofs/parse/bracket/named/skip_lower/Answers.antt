@@ -19,8 +19,7 @@ loop-end-preserved c =
     (get_or_read xs _ _ below c.index-chars-end.is 0) in
     record {
       inside = (omega arith, omega arith);
-      letters =
-          subst (λ w. AllPass is_lower w) (sym longer)
+      letters = subst (λ w. AllPass is_lower w) (sym longer)
           (pass_push is_lower _ _ c.loop-end.invariant.letters letter);
       spelled = subst (λ w. drop c.args.at xs ≡ w ++ drop (end + 1) xs) (sym longer)
           (spelled_push _ _ _ _ _ c.loop-end.invariant.spelled here);

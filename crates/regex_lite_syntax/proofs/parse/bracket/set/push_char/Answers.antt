@@ -8,5 +8,4 @@ pub returns : goal.returns
 returns c d =
     let character : IsTrue (is_character c.args.c) = search rules in
     in_more c.args.ranges.now.items _ (record { start = c.args.c; end = c.args.c })
-    (just c.args.c) d c.in_ok-push.ensures.items
-    (span_one c.args.c d character)
+    (just c.args.c) d c.in_ok-push.ensures.items (span_one c.args.c d character)

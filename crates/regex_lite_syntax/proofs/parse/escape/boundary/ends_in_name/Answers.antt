@@ -29,14 +29,12 @@ allowed : (left letters : Text) (l c : ℕ) → left ≡ l ∷ letters → c ≡
     → IsTrue (list_all is_boundary_character left)
     → IsTrue (is_boundary_character c) × IsTrue (list_all is_boundary_character letters)
 allowed left letters l c all same are =
-    let parts =
-    and_parts _ _ (subst (λ ls. IsTrue (list_all is_boundary_character ls)) all are) in
+    let parts = and_parts _ _ (subst (λ ls. IsTrue (list_all is_boundary_character ls)) all are) in
     (subst (λ d. IsTrue (is_boundary_character d)) (sym same) parts.0, parts.1)
 
 pub returns-then-not-is_at-clause-there : goal.returns-then-not-is_at-clause-there
 returns-then-not-is_at-clause-there c at_end =
-    c.loop-letter.invariant.goes
-    (ends_at_start _ _ _
+    c.loop-letter.invariant.goes (ends_at_start _ _ _
     (gap_at_end _ _ _ _ (eqb-true _ _ at_end) c.skip_gap-next.ensures.gap))
 
 pub returns-then-not-is_at-clause-absent : goal.returns-then-not-is_at-clause-absent
@@ -60,8 +58,7 @@ loop-letter-preserved c =
       inside = (omega arith, omega (arith, here.0));
       letters = are.1;
       goes = λ e.
-          before.goes
-          (all_left _ _ _ _ _ _ left c.from.ensures
+          before.goes (all_left _ _ _ _ _ _ left c.from.ensures
           (ends_before _ _ _ _ _ _ whole here.1 are.0 e));
       back = λ e.
           ends_after _ _ _ _ _ _ whole here.1

@@ -66,15 +66,13 @@ returns-then-c-eq125-clause-stands c more rest look follows b =
     subst (λ u. Gap c.args.verbose (drop c.loop-c.end xs) u) here c.skip_gap-next.ensures.gap.0 in
     (past, closed_name _ passed.0 _ _ _ more rest look passed.1 closes b)
 
-pub returns-then-not-is_name_char-clause-stands :
-    goal.returns-then-not-is_name_char-clause-stands
+pub returns-then-not-is_name_char-clause-stands : goal.returns-then-not-is_name_char-clause-stands
 returns-then-not-is_name_char-clause-stands c more rest look follows b =
     let passed = c.loop-c.invariant.passed in
     absurd (no_letters _ passed.0 b.name _ _ _ b.last rest _
     (spaced_longer more _ _ passed.0 _ _ passed.1)
     (whole_before more _ _ c.skip_gap-next.ensures.gap c.in-Some.ensures.1)
-    (sym c.is_name_char.ensures ∙ c.if-not-is_name_char.true)
-    c.if-c-eq125.false b.written b.closes)
+    (sym c.is_name_char.ensures ∙ c.if-not-is_name_char.true) c.if-c-eq125.false b.written b.closes)
 
 pub loop-c-preserved : goal.loop-c-preserved
 loop-c-preserved c =

@@ -17,16 +17,13 @@ Absent verbose name t =
 
 no_name : (verbose : Bool) (t rest : Text) (look : Look) → Absent verbose (codes "start") t
     → Absent verbose (codes "end") t → Absent verbose (codes "start-half") t
-    → Absent verbose (codes "end-half") t
-    → BoundaryName verbose t rest look → ⊥
+    → Absent verbose (codes "end-half") t → BoundaryName verbose t rest look → ⊥
 no_name verbose t rest look a b c d n =
     one_of_four n.name look n.named (λ e. is_absent _ e a) (λ e. is_absent _ e b)
-    (λ e. is_absent _ e c)
-    (λ e. is_absent _ e d)
+    (λ e. is_absent _ e c) (λ e. is_absent _ e d)
   where
     is_absent : (name : Text) → n.name ≡ name → Absent verbose name t → ⊥
-    is_absent name e absent =
-        absent n.last rest
+    is_absent name e absent = absent n.last rest
         (subst (λ ls. Spaced verbose is_boundary_character ls t n.last) e n.written) n.closes
 
 -- a name that stands there

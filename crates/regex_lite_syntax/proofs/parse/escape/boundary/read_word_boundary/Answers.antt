@@ -50,15 +50,13 @@ returns-in-Some-clause-ok c =
 pub returns-in-Some-clause-refused : goal.returns-in-Some-clause-refused
 returns-in-Some-clause-refused c =
     let opens = c.if-not-is_at.ensures.there refl in
-    none_of_part _ (Boundary c.args.verbose) (Name c.args.verbose) _ _
-    (λ more (rest, look, b). (
+    none_of_part _ (Boundary c.args.verbose) (Name c.args.verbose) _ _ (λ more (rest, look, b). (
       rest,
       look,
       name_in_braces _ _ _ _ _ rest _ look (ap (λ u. u ++ more) opens.1)
           (whole_before more _ _ c.skip_gap-first.ensures.gap c.in-Some.ensures.1) refl
           (sym c.if-is_name_char.ensures) b,
-    ))
-    c.read_name.ensures.refused
+    )) c.read_name.ensures.refused
 
 pub returns-in-Some-2-clause-ok : goal.returns-in-Some-2-clause-ok
 returns-in-Some-2-clause-ok c =

@@ -35,8 +35,7 @@ letters_after : (verbose : Bool) (left letters t u past last : Text) (l c : ℕ)
     → Spaced verbose is_boundary_character letters past last
 letters_after verbose left letters t u past last l c all whole here s =
     (next_spaced verbose is_boundary_character c l letters t u past last boundary_characters_end
-    whole here
-    (subst (λ ls. Spaced verbose is_boundary_character ls t last) all s)).1
+    whole here (subst (λ ls. Spaced verbose is_boundary_character ls t last) all s)).1
 
 further_allowed : (left letters : Text) (l : ℕ) → left ≡ l ∷ letters
     → IsTrue (list_all is_boundary_character left) → IsTrue (list_all is_boundary_character letters)
@@ -78,6 +77,5 @@ pub returns-else-is_at-clause-absent : goal.returns-else-is_at-clause-absent
 returns-else-is_at-clause-absent c last rest written closes =
     let none = drop_all c.loop-letter.letter-index c.as_bytes-letter-items.result.now
     c.loop-letter-test.false in
-    c.if-is_at.ensures.absent refl
-    (brace_begins _ _ _ _ last rest none c.skip_gap-close.ensures.gap
+    c.if-is_at.ensures.absent refl (brace_begins _ _ _ _ last rest none c.skip_gap-close.ensures.gap
     (c.loop-letter.invariant.back last written) closes)

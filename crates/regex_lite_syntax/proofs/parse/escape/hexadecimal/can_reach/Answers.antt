@@ -6,8 +6,7 @@ use Rattle.regex_lite_syntax.proofs.parse.escape.hexadecimal.can_reach.Goals as 
 pub returns-then-least-last-clause-reached : goal.returns-then-least-last-clause-reached
 returns-then-least-last-clause-reached c from =
     let says = c.last_char_to-last.ensures in
-    let made =
-    reached c.loop.counter c.args.number c.args.least _ _ _ c.loop.invariant.low
+    let made = reached c.loop.counter c.args.number c.args.least _ _ _ c.loop.invariant.low
     c.loop.invariant.high says.scalar says.inside c.if-least-last.true (leb-true _ _ from) in
     (made.0, made.1, omega (arith, made.2))
 

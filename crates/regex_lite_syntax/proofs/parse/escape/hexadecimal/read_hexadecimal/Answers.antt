@@ -35,8 +35,7 @@ pub returns-in-None-clause-refused : goal.returns-in-None-clause-refused
 returns-in-None-clause-refused c more follows (rest, d, h, far) =
     let whole =
     whole_to_end more _ _ c.skip_gap-first.ensures.gap c.in-None.ensures (follows refl) in
-    no_fixed [] whole tt c.requires.some
-    (without_braces _ _ _ _ rest d whole (λ begins. begins) h)
+    no_fixed [] whole tt c.requires.some (without_braces _ _ _ _ rest d whole (λ begins. begins) h)
 
 pub returns-in-None-clause-completes : goal.returns-in-None-clause-completes
 returns-in-None-clause-completes c short =
@@ -47,8 +46,7 @@ returns-in-None-clause-completes c short =
 pub returns-in-Some-eq123-clause-ok : goal.returns-in-Some-eq123-clause-ok
 returns-in-Some-eq123-clause-ok c =
     let brace = c.in-Some-eq123 in
-    IfOk-weaker _ _ _
-    (λ r b.
+    IfOk-weaker _ _ _ (λ r b.
     from_braces _ _ _ _ _ _ _ _ c.skip_gap-first.ensures.gap brace.ensures.1 brace.field-0-test b)
     c.read_braced.ensures.ok
 
@@ -56,44 +54,38 @@ pub returns-in-Some-eq123-clause-refused : goal.returns-in-Some-eq123-clause-ref
 returns-in-Some-eq123-clause-refused c =
     let brace = c.in-Some-eq123 in
     none_of_part _ (AnyNumber c.args.verbose c.args.digits c.args.least)
-    (AnyBraced c.args.verbose c.args.least) _ _
-    (λ more (rest, d, h, far). (
+    (AnyBraced c.args.verbose c.args.least) _ _ (λ more (rest, d, h, far). (
       rest,
       d,
       in_braces _ _ _ _ _ rest d _ c.requires.some
           (whole_before more _ _ c.skip_gap-first.ensures.gap brace.ensures.1) refl
           brace.field-0-test h,
       far,
-    ))
-    c.read_braced.ensures.refused
+    )) c.read_braced.ensures.refused
 
 pub returns-in-Some-eq123-clause-completes : goal.returns-in-Some-eq123-clause-completes
 returns-in-Some-eq123-clause-completes c =
     let brace = c.in-Some-eq123 in
     completes_of _ (Braced c.args.verbose c.args.least)
-    (Number c.args.verbose c.args.digits c.args.least) _ _
-    (λ more rest (d, b, far). (
+    (Number c.args.verbose c.args.digits c.args.least) _ _ (λ more rest (d, b, far). (
       d,
       from_braces _ _ _ _ _ rest d _
           (whole_before more _ _ c.skip_gap-first.ensures.gap brace.ensures.1) refl
           brace.field-0-test b,
       far,
-    ))
-    c.read_braced.ensures.completes
+    )) c.read_braced.ensures.completes
 
 pub returns-in-Some-clause-refused : goal.returns-in-Some-clause-refused
 returns-in-Some-clause-refused c =
     none_of_part _ (AnyNumber c.args.verbose c.args.digits c.args.least)
-    (AnyFixed c.args.verbose c.args.digits c.args.least) _ _
-    (λ more (rest, d, h, far). (
+    (AnyFixed c.args.verbose c.args.digits c.args.least) _ _ (λ more (rest, d, h, far). (
       rest,
       d,
       without_braces _ _ _ _ rest d
           (whole_before more _ _ c.skip_gap-first.ensures.gap c.in-Some.ensures.1)
           c.in-Some.field-0-test.1 h,
       far,
-    ))
-    c.read_fixed.ensures.refused
+    )) c.read_fixed.ensures.refused
 
 pub returns-in-Some-clause-completes : goal.returns-in-Some-clause-completes
 returns-in-Some-clause-completes c =

@@ -10,8 +10,7 @@ use Rattle.regex_lite_syntax.proofs.parse.group_names.GroupNames.insert.Goals as
 pub returns-then-contains : goal.returns-then-contains
 returns-then-contains c =
     let name = c.args.name.now in
-    rw (← c.self.view_is)
-    (name_given c.self.inside.in_order.items name
+    rw (← c.self.view_is) (name_given c.self.inside.in_order.items name
     (sym (c.self.invariant (rc_str_bytes name)) ∙ sym c.contains.ensures ∙ c.if-contains.true))
 
 pub invariant_of-self-in_default : goal.invariant_of-self-in_default
@@ -20,8 +19,7 @@ invariant_of-self-in_default c =
     let last = c.in_ok-clone.field-0 in
     rw c.in_ok-push.ensures.items
     (knows_more c.self.inside.known c.insert.new.self c.self.inside.in_order.items key last
-    c.self.invariant
-    (c.in_ok-clone.ensures.cases ∙ sym c.in_ok-key.ensures.cases)
+    c.self.invariant (c.in_ok-clone.ensures.cases ∙ sym c.in_ok-key.ensures.cases)
     (set_with c.self.inside.known c.insert.new.self key c.in_default.ensures.updates))
 
 pub returns : goal.returns
