@@ -1,3 +1,4 @@
 -- lemmas that the proofs of the owners share
 pub mod CountLemmas
+pub mod HandedLemmas
 pub mod BlockLemmas

@@ -4,13 +4,12 @@ use mathlib.Core.Bool.{true}
 use Prim.Native.Nat.{ℕ, ◌-◌, ◌<◌, ◌^◌}
 use native.Mathlib.Omega.{arith}
 use lib.Dec.{lit<}
-use mir.Syntax.{Fn, Sym, Args, a_type}
+use mir.Syntax.{Sym, a_type}
 use mir.Val.{Val, vptr, vcons, vnil}
 use base.Logic.{SProp, ent, id⊢}
 use base.Fml.{ftrue, fsep, flft, ftok}
-use prog.Wp.{Env, Calls, Loops, Wp, WpFn, Tables, after_block, after_seq, at_return}
-use prog.Memory.{Memory}
-use types.Kit.{Item, ‵, raw, later, ◌⊛◌, at_ret, any_q, ◌$◌, ◌∵◌, !, qed, move, keep, use0}
+use prog.Wp.{Env, Wp, WpFn, after_block, after_seq, at_return}
+use types.Kit.{‵, raw, later, ◌⊛◌, at_ret, any_q, ◌$◌, ◌∵◌, !, qed, move, keep, use0}
 use types.Kit.{use1, split, join, group, fsplit, fjoin, rewrite, await, suffices, frame, done}
 use types.Run.{look, store, stop, fld, load, lit, neg_lit, bin, of_opd, and_then, no_more}
 use types.Run.{assigns, first, blocks, skips, branches, exec, returns, returns_within, enter}
@@ -20,26 +19,14 @@ use types.ByLocal.{alloc_all, pass_all, free_all, look_at, get, get_in, through,
 use denote.RattleType.{RattleType, owns}
 use denote.RawPtr.{Ptr, block_ptr, ptr_val}
 use denote.Steps.{nothing}
-use denote.Triple.Walked.{says, Stays, stay_dropped, walk_of, ends_at, Goes-dropped, walk_Meets}
+use denote.Triple.Walked.{says, Stays, stay_dropped, walk_of, ends_at, Goes-dropped}
 use mathlib.Core.List.{List, [], ◌∷◌, ◌++◌}
-use seplogic.Ra.Ura.{Ura}
 use mir.MapTy.{inst_fn}
-use prog.Routine.{Routine}
-use types.Logic.{Logic}
-use sound.WpLaws.{WpFn-mono}
 use denote.Exit.{yes, no}
 use denote.Signature.{types_at, plain}
-use denote.Triple.Clauses.{Clauses, Ended, closing}
-use denote.Triple.Spec.{Meets, triple_of}
-use denote.Triple.Table.{entered}
-use contract.Monad.{Fun, fact}
+use contract.Monad.{fact}
 use denote.Param.{layout, layouts, param}
-use denote.Param.Laws.{Laws}
 use base.Mask.{every}
-use contract.Beside.{Carries}
-use contract.Named.{bare_unfolds}
-use contract.Running.{tables_of, bare_tables}
-use denote.Triple.Handed.{holding, hands}
 use Rattle.std.specs.contracts.option.Option as Opt
 use Rattle.std.specs.Prelude.{None, Some}
 use contract.BorrowLft.{◌⊑◌}
@@ -59,6 +46,7 @@ use Rattle.regex_lite.proofs.UnboxedLemmas.{Unboxed, both, both_good, unboxed_ma
 use Rattle.regex_lite.proofs.owner.CountLemmas.{value, opens, shuts, less}
 use Rattle.regex_lite.proofs.owner.CountLemmas.{counted, says_n, handle_had}
 use Rattle.regex_lite.proofs.owner.BlockLemmas.{ends_at_ptr}
+use Rattle.regex_lite.proofs.owner.HandedLemmas.{held, inner, handed_at}
 use Rattle.regex_lite.specs.contracts.owner.counted.Block as Block
 use Rattle.regex_lite.specs.contracts.owner.counted.Counted as C
 use Rattle.regex_lite.specs.contracts.owner.counted.Counted.release as F
@@ -67,184 +55,125 @@ use Rattle.regex_lite.proofs.owner.counted.Counted.release.Statement as stated
 use Rattle.regex_lite.proofs.owner.counted.Counted.release.Code as code
 use Rattle.regex_lite.proofs.owner.counted.Counted.release.Code.{code}
 
-module _ (T : RattleType) where
-  abbrev args : Args
-  args = layouts (a_type ∷ []) (T, tt)
-
-  abbrev fn' : Fn
-  fn' = inst_fn args code.function
-
-  abbrev R : RattleType
-  R = param 0 T
-
-  abbrev B : RattleType
-  B = Block.the_row R
-
-  abbrev Z : RattleType
-  Z = Heap.the_row
-
-  abbrev al : Al
-  al = record {
-    row = Z;
-    laws = HeapLaws.the_row_laws;
-    g = HeapImpl.ghosts;
-    d = impl [] tnil dnil;
-    drops = impl [] tnil dnil;
-  }
-
-  abbrev Out : RattleType
-  Out = Unboxed B Z HeapLaws.the_row_laws HeapImpl.ghosts
-
-  abbrev ended : Ended
-  ended = F.ended T
-
-  abbrev stayed : Stays ended.signature.params ended.kept
-  stayed = (stay_dropped (plain (λ _. C.the_row R)) no, (stay_dropped (plain (λ _. Z)) yes, tt))
-
-  abbrev ν : Sym
-  ν = (C.the_type R).name
-
-module _ (T : RattleType) (L : Laws T) {M : Type 1} {𝓤 : Ura M} (𝓛 : Logic 𝓤)
-    (at_mem : Memory → SProp 𝓤) (run : Routine → Fun 𝓤) where
-  open 𝓛 use {H, A}
-
-  abbrev held : Clauses 𝓤 (ended T)
-  held = holding 𝓤 (ended T) (A.tok every) (F.clauses T 𝓛 at_mem run)
-
-  module _ (Cs : Calls 𝓤 H) (Λ : Loops 𝓤 H) (z : (walk_of 𝓛 (ended T) (stayed T) held).Ghost) where
-    abbrev Post : Val → SProp 𝓤
-    Post = (walk_of 𝓛 (ended T) (stayed T) held).post z
-
-    abbrev Run : List Val → SProp 𝓤
-    Run ws = WpFn 𝓤 H Cs Λ (fn' T) ws Post
-
-    abbrev c : Ptr
-    c = z.0.3.0.ptr
-
-    abbrev x : T.Denot
-    x = z.0.3.0.value
-
-    abbrev us : List Val
-    us = z.0.4.0
-
-    abbrev vs : List Val
-    vs = z.0.4.1.0
-
-    abbrev toks : Item 𝓤
-    toks = ‵ (flft z.0.0.0 z.0.1.0) ⊛ ‵ ftrue
-
-    walks : ent 𝓤 ((walk_of 𝓛 (ended T) (stayed T) held).pre z) (Run (us ++ (vs ++ [])))
-    walks =
-        qed 𝓛 ((toks ⊛ ‵ (owns (types_at (ended T).signature.params z.0.0) z.0.3 z.0.4))
-        ∷ ‵ (ftok every) ∷ raw (fact 𝓤 (z.0.0.0 ⊑ T.lives)) ∷ ‵ ftrue ∷ []) ∵
-        split ! $ move ! (1 ∷ []) $ fsplit ! $
-        handle_had (R T) c x ! (ν T) us (λ a s one eu. move ! (3 ∷ []) $
-        fsplit ! $ handle_tells (al T) ! z.0.3.1.0 vs (λ h ev fits.
-        keep ! (2 ∷ 3 ∷ 6 ∷ 0 ∷ 5 ∷ []) $
-        suffices ! (Run (word c ∷ h ∷ []))
-        (subst (λ (ws : List Val). ent 𝓤 (Run (word c ∷ h ∷ [])) (Run (ws ++ (vs ++ [])))) (sym eu)
-        (subst (λ (ws : List Val). ent 𝓤 (Run (word c ∷ h ∷ [])) (Run (word c ∷ (ws ++ []))))
-        (sym ev) (id⊢ 𝓤 (Run (word c ∷ h ∷ []))))) $
-        enter ! Cs Λ (fn' T) (word c ∷ h ∷ []) Post $
-        alloc_all ! (λ l. pass_all ! refl (word-Good (ν T) c, (fits, tt)) $
-        let En : Env 𝓤 H = env (fn' T).locals l in
-        move ! (1 ∷ 0 ∷ 2 ∷ []) $ opens (R T) c x a ! tt s (λ n w cb co e fw some_n.
-        move ! (4 ∷ []) $ use1 𝓛 (‵ (part 64 a.0)) (part_in 64 𝓛 a.0 s one) $
-        move ! (1 ∷ 2 ∷ 3 ∷ 4 ∷ 0 ∷ 5 ∷ []) $
-        -- [the word; what it says; the value; the weaks; the part; what shuts; the allocator; the
-        -- tokens]
-        sets !
-        (is ! (of_opd ! (get_in ! (fld ! refl (stop !)) (sub ! 0 refl (whole !)))) (ap ptr_val e))
-        refl (tt, tt) $ sets ! (of_opd ! (get ! refl)) refl (tt, tt) $ first ! $ blocks ! $
-        sets ! (of_opd ! (load ! (through ! refl (fld ! refl (stop !))) (look ! 0 refl))) refl
-        (tt, record { fits = fw }) $ sets ! (bin ! (get ! refl) (neg_lit ! tt) tt) refl (tt, tt) $
-        first ! $ branches ! (get ! refl)
-        (λ full. sets ! (agg ! (and_then ! (lit ! tt) (no_more !))) refl
-        (tt, (record { fits = lit< tt }, tt)) $
-        move ! (0 ∷ 1 ∷ 2 ∷ 3 ∷ 5 ∷ []) $ shuts (R T) c x a ! tt n w cb co e fw $
-        use0 𝓛 (‵ ((Opt.the_row (Out T)).own_val None (live 0 vnil ∷ []))) (none_of 𝓛 (Out T)) $
-        returns_within ! Post refl (look_at ! 0 refl) $ free_all ! refl $ keep ! (0 ∷ 4 ∷ 1 ∷ []) $
-        suffices ! _
-        (ends_at 𝓛 (ended T) (stayed T) held z (live 0 vnil) None (tt, (tt, tt)) (tt, (tt, tt))) $
-        nothing ! $ nothing ! $ fjoin ! $ nothing ! $ fjoin ! $ join ! $ move ! (1 ∷ 0 ∷ []) $
-        join ! $ frame ! $
-        says ! tt $ done !)
-        (λ below. skips ! $
-        exec ! Cs Λ En (after 3 (inside (head (after 2 (fn' T).body))))
-        (any_q (after_block 𝓤 H (after_seq 𝓤 H
-        (Wp 𝓤 H Cs Λ En (after 3 (fn' T).body) (at_return 𝓤 H En Post)) (at_return 𝓤 H En Post)))) $
-        let low : w < 2 ^ 64 - 1 = omega (arith, is_not w (2 ^ 64 - 1) below) in
-        move ! (1 ∷ []) $ counted (R T) c x a ! n w low (λ wn _.
-        -- [the word; the value; the weaks; the part; what shuts; the allocator; the tokens]
-        sets ! (bin ! (get ! refl) (lit ! tt) tt) refl (tt, tt) $ branches ! (get ! refl)
-        (λ many. let some_w : 0 < w = subst (λ (j : ℕ). 0 < j) (sym wn) some_n in
-        let more : 1 < w = omega (arith, is_not w 1 many) in
-        let f₁ : w - 1 < 2 ^ 64 = omega arith in
-        move ! (1 ∷ []) $ rewrite ! 0 (λ (j : ℕ). ‵ (value (R T) c x a true j)) (sym wn) refl $
-        move ! (1 ∷ []) $
-        sets ! (bin ! (get ! refl) (lit ! tt) some_w) refl (tt, record { fits = f₁ }) $
-        assigns ! (of_opd ! (get ! refl)) (through ! refl (fld ! refl (stop !)))
-        (store ! 0 refl (tt, record { fits = f₁ })) $
-        sets ! (agg ! (and_then ! (lit ! tt) (no_more !))) refl
-        (tt, (record { fits = lit< tt }, tt)) $
-        move ! (1 ∷ 3 ∷ []) $ less (R T) c x a ! w more $
-        says_n (R T) c x a ! (w - 1) (omega arith) $
-        move ! (2 ∷ 0 ∷ 1 ∷ 3 ∷ 4 ∷ []) $ shuts (R T) c x a ! tt (w - 1) (w - 1) cb co e f₁ $
-        use0 𝓛 (‵ ((Opt.the_row (Out T)).own_val None (live 0 vnil ∷ []))) (none_of 𝓛 (Out T)) $
-        returns_within ! Post refl (look_at ! 0 refl) $ free_all ! refl $ keep ! (0 ∷ 3 ∷ 1 ∷ []) $
-        suffices ! _
-        (ends_at 𝓛 (ended T) (stayed T) held z (live 0 vnil) None (tt, (tt, tt)) (tt, (tt, tt))) $
-        nothing ! $ nothing ! $ fjoin ! $ nothing ! $ fjoin ! $ join ! $ move ! (1 ∷ 0 ∷ []) $
-        join ! $ frame ! $
-        says ! tt $ done !)
-        (λ last. skips ! $ exec ! Cs Λ En (after 3 (fn' T).body) (at_ret En Post) $
-        let w1 : w ≡ 1 = is_so w 1 last in let n1 : n ≡ 1 = sym wn ∙ w1 in
-        let block : (B T).Denot = record { count = 1; value = x } in
-        let made : (Out T).Denot =
-        record { ptr = block_ptr cb co; alloc = z.0.3.1.0; value = block } in
-        let typed = both_good (B T) (Z T) HeapLaws.the_row_laws HeapImpl.ghosts cb co h fits in
-        rewrite ! 0 (λ (j : ℕ). ‵ (cell cb co 0 j)) w1 refl $
-        rewrite ! 1 (λ (j : ℕ). ‵ (value (R T) c x a true j)) n1 refl $
-        move ! (0 ∷ 1 ∷ 3 ∷ 2 ∷ 4 ∷ []) $ group ! 5 $
-        use1 𝓛 (later (‵ (fsep (part_at (B T) full_share block cb co)
-        (frees (bare (layout (B T))) (block_ptr cb co))) ⊛ ‵ (ftok every)))
-        (ends_at_ptr T L cb co x 𝓛 a c e) $ await ! tt $ split ! $
-        -- [the block and the right to free it; the thread's token; the allocator; the tokens]
-        move ! (0 ∷ 2 ∷ []) $
-        unboxed_made (B T) (Z T) HeapLaws.the_row_laws HeapImpl.ghosts ! cb co h z.0.3.1.0 block $
-        sets ! (agg ! (and_then ! (get ! refl) (and_then ! (get ! refl) (no_more !)))) refl typed $
-        sets ! (agg ! (and_then ! (lit ! tt) (and_then ! (get ! refl) (no_more !)))) refl
-        (some_Good (layout (Out T)) (both (vptr cb co) h) typed) $
-        use1 𝓛 (‵ ((Opt.the_row (Out T)).own_val (Some made)
-        (live 1 (vcons (both (vptr cb co) h) vnil) ∷ [])))
-        (Some-of 𝓛 (Out T) made (both (vptr cb co) h)) $
-        returns ! (look_at ! 0 refl) $ free_all ! refl $ keep ! (0 ∷ 2 ∷ 1 ∷ []) $
-        suffices ! _
-        (ends_at 𝓛 (ended T) (stayed T) held z (live 1 (vcons (both (vptr cb co) h) vnil))
-        (Some made) (tt, (tt, tt)) (tt, (tt, tt))) $ nothing ! $ nothing ! $ fjoin ! $ nothing ! $
-        fjoin ! $ join ! $ move ! (1 ∷ 0 ∷ []) $ join ! $ frame ! $ says ! refl $ done !)))))))
-
-  meets : (𝓣 : Tables 𝓤 H)
-      → Meets 𝓛 (ended T).signature (WpFn 𝓤 H 𝓣.C 𝓣.Λ (fn' T)) (closing 𝓛 (ended T) held)
-  meets 𝓣 =
-      walk_Meets 𝓛 (ended T) (stayed T) (
-        Goes-dropped 𝓛 1 (plain (λ _. C.the_row (R T))) no (λ κs x f. refl),
-        (Goes-dropped 𝓛 1 (plain (λ _. Z T)) yes (λ κs x f. refl), tt),
-      ) held
-      (WpFn 𝓤 H 𝓣.C 𝓣.Λ (fn' T)) (WpFn-mono 𝓤 H 𝓛.laws 𝓣 (fn' T))
-      (λ z. walks 𝓣.C 𝓣.Λ z)
-
 pub release_spec : {M : Type 1} → stated.statement M
-unfolding tables_of code
+unfolding code
 release_spec 𝓤 𝓛 𝓜 𝓡 wired T L =
-    let A = 𝓛.A in
-    let c = F.clauses T 𝓛 𝓜.mem 𝓡.returns in
-    let 𝓒 : Carries 𝓤 𝓛.H 𝓜 (A.tok every) = subst (Carries 𝓤 𝓛.H 𝓜) 𝓛.turn_is 𝓡.carries in
-    let 𝓣 : Tables 𝓤 𝓛.H =
-    tables_of 𝓤 𝓛.H 𝓒.inner (bare_tables 𝓤 𝓛.H 𝓒.inner 𝓡.allowed 𝓡.how 𝓡.env) in
-    let k = #self (args T) in
-    hands 𝓛 (ended T) (A.tok every) c 𝓜 𝓒 𝓡 (𝓡.env k)
-    (entered 𝓤 𝓛.H (triple_of 𝓛 (ended T).signature
-    (closing 𝓛 (ended T) (holding 𝓤 (ended T) (A.tok every) c))) 𝓣.C 𝓣.Λ k (fn' T)
-    (bare_unfolds 𝓤 𝓛.H 𝓒.inner 𝓡.allowed 𝓡.how 𝓡.env k (fn' T) (wired.0.0 k refl))
-    (meets T L 𝓛 𝓜.mem 𝓡.returns 𝓣))
+    let H = 𝓛.H in
+    let R : RattleType = param 0 T in
+    let B : RattleType = Block.the_row R in
+    let Z : RattleType = Heap.the_row in
+    let al : Al = record {
+      row = Z;
+      laws = HeapLaws.the_row_laws;
+      g = HeapImpl.ghosts;
+      d = impl [] tnil dnil;
+      drops = impl [] tnil dnil;
+    } in
+    let Out : RattleType = Unboxed B Z HeapLaws.the_row_laws HeapImpl.ghosts in
+    let ν : Sym = (C.the_type R).name in
+    let En = F.ended T in
+    let cl = F.clauses T 𝓛 𝓜.mem 𝓡.returns in
+    let inst = layouts (a_type ∷ []) (T, tt) in
+    let fn = inst_fn inst code.function in
+    let hs : Stays En.signature.params En.kept =
+    (stay_dropped (plain (λ _. C.the_row R)) no, (stay_dropped (plain (λ _. Z)) yes, tt)) in
+    let 𝓣 = inner 𝓛 En hs cl 𝓜 𝓡 in
+    handed_at 𝓛 En hs cl 𝓜 𝓡 (
+      Goes-dropped 𝓛 1 (plain (λ _. C.the_row R)) no (λ κs x f. refl),
+      (Goes-dropped 𝓛 1 (plain (λ _. Z)) yes (λ κs x f. refl), tt),
+    ) (#self inst) fn (wired.0.0 (#self inst) refl) (λ z are.
+    let c : Ptr = z.0.3.0.ptr in
+    let x = z.0.3.0.value in
+    let us = z.0.4.0 in
+    let vs = z.0.4.1.0 in
+    let Post : Val → SProp 𝓤 = (walk_of 𝓛 En hs (held 𝓛 En hs cl)).post z in
+    let Run : List Val → SProp 𝓤 = λ ws. WpFn 𝓤 H 𝓣.C 𝓣.Λ fn ws Post in
+    qed 𝓛 (((‵ (flft z.0.0.0 z.0.1.0) ⊛ ‵ ftrue)
+    ⊛ ‵ (owns (types_at En.signature.params z.0.0) z.0.3 z.0.4))
+    ∷ ‵ (ftok every) ∷ raw (fact 𝓤 (z.0.0.0 ⊑ T.lives)) ∷ ‵ ftrue ∷ []) ∵
+    split ! $ move ! (1 ∷ []) $ fsplit ! $
+    handle_had R c x ! ν us (λ a s one eu. move ! (3 ∷ []) $
+    fsplit ! $ handle_tells al ! z.0.3.1.0 vs (λ h ev fits.
+    keep ! (2 ∷ 3 ∷ 6 ∷ 0 ∷ 5 ∷ []) $
+    suffices ! (Run (word c ∷ h ∷ []))
+    (subst (λ (ws : List Val). ent 𝓤 (Run (word c ∷ h ∷ [])) (Run (ws ++ (vs ++ [])))) (sym eu)
+    (subst (λ (ws : List Val). ent 𝓤 (Run (word c ∷ h ∷ [])) (Run (word c ∷ (ws ++ []))))
+    (sym ev) (id⊢ 𝓤 (Run (word c ∷ h ∷ []))))) $
+    enter ! 𝓣.C 𝓣.Λ fn (word c ∷ h ∷ []) Post $
+    alloc_all ! (λ l. pass_all ! refl (word-Good ν c, (fits, tt)) $
+    let Ev : Env 𝓤 H = env fn.locals l in
+    move ! (1 ∷ 0 ∷ 2 ∷ []) $ opens R c x a ! tt s (λ n w cb co e fw some_n.
+    move ! (4 ∷ []) $ use1 𝓛 (‵ (part 64 a.0)) (part_in 64 𝓛 a.0 s one) $
+    move ! (1 ∷ 2 ∷ 3 ∷ 4 ∷ 0 ∷ 5 ∷ []) $
+    -- [the word; what it says; the value; the weaks; the part; what shuts; the allocator; the
+    -- tokens]
+    sets !
+    (is ! (of_opd ! (get_in ! (fld ! refl (stop !)) (sub ! 0 refl (whole !)))) (ap ptr_val e))
+    refl (tt, tt) $ sets ! (of_opd ! (get ! refl)) refl (tt, tt) $ first ! $ blocks ! $
+    sets ! (of_opd ! (load ! (through ! refl (fld ! refl (stop !))) (look ! 0 refl))) refl
+    (tt, record { fits = fw }) $ sets ! (bin ! (get ! refl) (neg_lit ! tt) tt) refl (tt, tt) $
+    first ! $ branches ! (get ! refl)
+    (λ full. sets ! (agg ! (and_then ! (lit ! tt) (no_more !))) refl
+    (tt, (record { fits = lit< tt }, tt)) $
+    move ! (0 ∷ 1 ∷ 2 ∷ 3 ∷ 5 ∷ []) $ shuts R c x a ! tt n w cb co e fw $
+    use0 𝓛 (‵ ((Opt.the_row Out).own_val None (live 0 vnil ∷ []))) (none_of 𝓛 Out) $
+    returns_within ! Post refl (look_at ! 0 refl) $ free_all ! refl $ keep ! (0 ∷ 4 ∷ 1 ∷ []) $
+    suffices ! _
+    (ends_at 𝓛 En hs (held 𝓛 En hs cl) z (live 0 vnil) None (tt, (tt, tt)) (tt, (tt, tt))) $
+    nothing ! $ nothing ! $ fjoin ! $ nothing ! $ fjoin ! $ join ! $ move ! (1 ∷ 0 ∷ []) $
+    join ! $ frame ! $
+    says ! tt $ done !)
+    (λ below. skips ! $
+    exec ! 𝓣.C 𝓣.Λ Ev (after 3 (inside (head (after 2 fn.body))))
+    (any_q (after_block 𝓤 H (after_seq 𝓤 H
+    (Wp 𝓤 H 𝓣.C 𝓣.Λ Ev (after 3 fn.body) (at_return 𝓤 H Ev Post)) (at_return 𝓤 H Ev Post)))) $
+    let low : w < 2 ^ 64 - 1 = omega (arith, is_not w (2 ^ 64 - 1) below) in
+    move ! (1 ∷ []) $ counted R c x a ! n w low (λ wn _.
+    -- [the word; the value; the weaks; the part; what shuts; the allocator; the tokens]
+    sets ! (bin ! (get ! refl) (lit ! tt) tt) refl (tt, tt) $ branches ! (get ! refl)
+    (λ many. let some_w : 0 < w = subst (λ (j : ℕ). 0 < j) (sym wn) some_n in
+    let more : 1 < w = omega (arith, is_not w 1 many) in
+    let f₁ : w - 1 < 2 ^ 64 = omega arith in
+    move ! (1 ∷ []) $ rewrite ! 0 (λ (j : ℕ). ‵ (value R c x a true j)) (sym wn) refl $
+    move ! (1 ∷ []) $
+    sets ! (bin ! (get ! refl) (lit ! tt) some_w) refl (tt, record { fits = f₁ }) $
+    assigns ! (of_opd ! (get ! refl)) (through ! refl (fld ! refl (stop !)))
+    (store ! 0 refl (tt, record { fits = f₁ })) $
+    sets ! (agg ! (and_then ! (lit ! tt) (no_more !))) refl
+    (tt, (record { fits = lit< tt }, tt)) $
+    move ! (1 ∷ 3 ∷ []) $ less R c x a ! w more $
+    says_n R c x a ! (w - 1) (omega arith) $
+    move ! (2 ∷ 0 ∷ 1 ∷ 3 ∷ 4 ∷ []) $ shuts R c x a ! tt (w - 1) (w - 1) cb co e f₁ $
+    use0 𝓛 (‵ ((Opt.the_row Out).own_val None (live 0 vnil ∷ []))) (none_of 𝓛 Out) $
+    returns_within ! Post refl (look_at ! 0 refl) $ free_all ! refl $ keep ! (0 ∷ 3 ∷ 1 ∷ []) $
+    suffices ! _
+    (ends_at 𝓛 En hs (held 𝓛 En hs cl) z (live 0 vnil) None (tt, (tt, tt)) (tt, (tt, tt))) $
+    nothing ! $ nothing ! $ fjoin ! $ nothing ! $ fjoin ! $ join ! $ move ! (1 ∷ 0 ∷ []) $
+    join ! $ frame ! $
+    says ! tt $ done !)
+    (λ last. skips ! $ exec ! 𝓣.C 𝓣.Λ Ev (after 3 fn.body) (at_ret Ev Post) $
+    let w1 : w ≡ 1 = is_so w 1 last in let n1 : n ≡ 1 = sym wn ∙ w1 in
+    let block : B.Denot = record { count = 1; value = x } in
+    let made : Out.Denot =
+    record { ptr = block_ptr cb co; alloc = z.0.3.1.0; value = block } in
+    let typed = both_good B Z HeapLaws.the_row_laws HeapImpl.ghosts cb co h fits in
+    rewrite ! 0 (λ (j : ℕ). ‵ (cell cb co 0 j)) w1 refl $
+    rewrite ! 1 (λ (j : ℕ). ‵ (value R c x a true j)) n1 refl $
+    move ! (0 ∷ 1 ∷ 3 ∷ 2 ∷ 4 ∷ []) $ group ! 5 $
+    use1 𝓛 (later (‵ (fsep (part_at B full_share block cb co)
+    (frees (bare (layout B)) (block_ptr cb co))) ⊛ ‵ (ftok every)))
+    (ends_at_ptr T L cb co x 𝓛 a c e) $ await ! tt $ split ! $
+    -- [the block and the right to free it; the thread's token; the allocator; the tokens]
+    move ! (0 ∷ 2 ∷ []) $
+    unboxed_made B Z HeapLaws.the_row_laws HeapImpl.ghosts ! cb co h z.0.3.1.0 block $
+    sets ! (agg ! (and_then ! (get ! refl) (and_then ! (get ! refl) (no_more !)))) refl typed $
+    sets ! (agg ! (and_then ! (lit ! tt) (and_then ! (get ! refl) (no_more !)))) refl
+    (some_Good (layout Out) (both (vptr cb co) h) typed) $
+    use1 𝓛 (‵ ((Opt.the_row Out).own_val (Some made)
+    (live 1 (vcons (both (vptr cb co) h) vnil) ∷ [])))
+    (Some-of 𝓛 Out made (both (vptr cb co) h)) $
+    returns ! (look_at ! 0 refl) $ free_all ! refl $ keep ! (0 ∷ 2 ∷ 1 ∷ []) $
+    suffices ! _
+    (ends_at 𝓛 En hs (held 𝓛 En hs cl) z (live 1 (vcons (both (vptr cb co) h) vnil))
+    (Some made) (tt, (tt, tt)) (tt, (tt, tt))) $ nothing ! $ nothing ! $ fjoin ! $ nothing ! $
+    fjoin ! $ join ! $ move ! (1 ∷ 0 ∷ []) $ join ! $ frame ! $ says ! refl $ done !))))))))
