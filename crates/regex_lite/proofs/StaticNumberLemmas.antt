@@ -2,11 +2,11 @@
 -- `extract` asks for.
 use Rattle.std.proofs.Common.{◌≡◌, ◌∙◌, sym, ap, ℕ, List, Option, Some, None, chars}
 use Rattle.regex_lite_syntax.specs.Tree.Properties.{static_captures_len}
+use Rattle.regex_lite_engine.proofs.OptionLemmas.{not_there, same_some}
 use Rattle.regex_lite.specs.Expression.{Expression, OfTree}
 use Rattle.regex_lite.specs.Groups.{Groups}
 use Rattle.regex_lite.specs.Searches.{TellsGroups}
 use Rattle.regex_lite.proofs.string.OneTreeLemmas.{one_tree}
-use Rattle.regex_lite.proofs.string.ToldLemmas.{not_there, same_some}
 
 pub static_number : (re : Expression) (haystack : List ℕ) (start : ℕ) (known : Option ℕ)
     (told : Option Groups) (groups : Groups) → OfTree re (λ tree. known ≡ static_captures_len tree)

@@ -16,10 +16,9 @@ groups_inside_match re bytes start groups utf8 (tree, given, (found, is, are)) k
     let s = search_start bytes start in
     let h = chars bytes in
     let count = captures_len tree in
-    let first = group_0 h tree s found count of_pattern is (omega arith) in
     let whole : whole_span groups ≡ offsets h (found.start, found.end) =
     ap (λ spans. unwrap_or (span_at spans 0) (0, 0)) are.spans
-    ∙ ap (λ own. unwrap_or own (0, 0)) first in
+    ∙ ap (λ own. unwrap_or own (0, 0)) (group_0 h tree s found count of_pattern is (omega arith)) in
     subst (λ spans. IfSome (span_at spans k) (LiesInside bytes (whole_span groups))) (sym are.spans)
     (subst (λ span. IfSome (span_at (spans_from h found.marks 0 count) k) (LiesInside bytes span))
     (sym whole) (groups_lie_inside bytes utf8 tree of_pattern s found is count k))

@@ -6,6 +6,7 @@ use Rattle.regex_lite_engine.specs.Search.Answer.{Found}
 use Rattle.regex_lite_engine.specs.Search.Marks.{span}
 use Rattle.regex_lite_engine.proofs.laws.PatternTreeLemmas.{regular_tree}
 use Rattle.regex_lite_engine.proofs.laws.groups.SpanLemmas.{groups_inside}
+use Rattle.regex_lite_engine.proofs.OptionLemmas.{not_there, same_some}
 use Rattle.regex_lite.specs.Answers.{AreLawful}
 use Rattle.regex_lite.specs.Expression.{Expression}
 use Rattle.regex_lite.specs.MatchList.{AreAnswersWithin, AreFirstAnswers, AreWithin}
@@ -13,7 +14,6 @@ use Rattle.regex_lite.specs.MatchList.{IsAnswerOf, IsNext, IsNextAnswer, one_les
 use Rattle.regex_lite.proofs.string.LawfulLemmas.{regex_lawful}
 use Rattle.regex_lite.proofs.string.ListLemmas.{one_next}
 use Rattle.regex_lite.proofs.string.NextLemmas.{next_answer}
-use Rattle.regex_lite.proofs.string.ToldLemmas.{not_there, same_some}
 
 module _ {A : Type 0} (found_of : A → Found) (Answers : (s : ℕ) → Option A → Type 0) where
   abbrev Within : (limit ended : Option ℕ) → List A → Type 0

@@ -19,6 +19,7 @@ use Rattle.regex_lite_engine.specs.Search.Outcomes.{HasCostOfList}
 use Rattle.regex_lite_engine.proofs.laws.several.ListAnswerLemmas.{alone_by_itself}
 use Rattle.regex_lite_engine.proofs.laws.several.ListAnswerLemmas.{alone_in_list}
 use Rattle.regex_lite_engine.proofs.laws.several.ListAnswerLemmas.{none_match, one_list_answer}
+use Rattle.regex_lite_engine.proofs.OptionLemmas.{same_some}
 use Rattle.regex_lite.specs.declared.string.matches.Match.{Match}
 use Rattle.regex_lite.specs.Expression.{Expression, IsAccepted}
 use Rattle.regex_lite.specs.Groups.{Groups, group_span, span_at}
@@ -35,7 +36,6 @@ use Rattle.regex_lite.proofs.string.AgreementLemmas.{same_truth}
 use Rattle.regex_lite.proofs.string.FoundLemmas.{group_0}
 use Rattle.regex_lite.proofs.string.ListBuildLemmas.{one_list, pattern_tree, regular_trees}
 use Rattle.regex_lite.proofs.string.ListToldLemmas.{list_answer_told}
-use Rattle.regex_lite.proofs.string.ToldLemmas.{same_some}
 
 -- a list of one is accepted where its pattern is
 pub one_is_accepted : (settings : Settings) → IsAccepted settings ↔ AreAccepted (settings ∷ [])

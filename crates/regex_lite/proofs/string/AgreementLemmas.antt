@@ -9,6 +9,7 @@ use Rattle.regex_lite_engine.specs.Search.Answer.{Found, HasMatchFrom, IsFound}
 use Rattle.regex_lite_engine.specs.Search.Offsets.{search_start}
 use Rattle.regex_lite_engine.proofs.laws.PatternTreeLemmas.{regular_tree}
 use Rattle.regex_lite_engine.proofs.laws.answer.AnswerLemmas.{found_match, one_answer}
+use Rattle.regex_lite_engine.proofs.OptionLemmas.{same_some}
 use Rattle.regex_lite.specs.declared.string.matches.Match.{Match}
 use Rattle.regex_lite.specs.Expression.{Expression}
 use Rattle.regex_lite.specs.Groups.{Groups, group_span, span_at}
@@ -18,7 +19,6 @@ use Rattle.regex_lite.specs.Searches.{MatchesFrom, TellsAnswer, TellsEnd}
 use Rattle.regex_lite.specs.Searches.{TellsGroups, TellsMatch, offsets}
 use Rattle.regex_lite.proofs.string.FoundLemmas.{group_0}
 use Rattle.regex_lite.proofs.string.OneTreeLemmas.{matches_told, one_tree}
-use Rattle.regex_lite.proofs.string.ToldLemmas.{same_some}
 
 pub same_truth : (a b : Bool) (P : Type 0) → (IsTrue a ↔ P) → (IsTrue b ↔ P) → a ≡ b
 same_truth true true P p q = refl

@@ -60,18 +60,15 @@ fewer_left : (ended : Option ℕ) (bytes : ℕ) (span : ℕ × ℕ) → IsOnward
     → (bytes + 1) - span.1 < most_left None bytes ended
 fewer_left None bytes span onward inside = omega (arith, inside)
 fewer_left (Some e) bytes span onward inside =
-    let later = onward.1 in
-    omega (arith, inside, later)
+    omega (arith, inside, onward.1)
 
 -- after a match fewer are ahead
 pub fewer_after : (limit now ended : Option ℕ) (bytes : ℕ) (span : ℕ × ℕ) → limit ≢ Some 0
     → IsOnward ended span → span.1 ≤ bytes
     → most_left now bytes (Some span.1) < most_left limit bytes ended
 fewer_after limit now ended bytes span may onward inside =
-    let most = at_most_left now bytes span.1 in
-    let all = all_left limit ended bytes may in
     let fewer = fewer_left ended bytes span onward inside in
-    omega (arith, most, all, fewer)
+    omega (arith, at_most_left now bytes span.1, all_left limit ended bytes may, fewer)
 
 pub fewer_ahead : {F : Type 0} (old new : Scanning F) (span : ℕ × ℕ) → old.limit ≢ Some 0
     → new.haystack ≡ old.haystack → new.ended ≡ Some span.1 → IsOnward old.ended span

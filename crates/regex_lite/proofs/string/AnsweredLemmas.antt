@@ -9,6 +9,7 @@ use Rattle.std.proofs.lemmas.Str.{chars-nil}
 use Rattle.regex_lite_syntax.specs.Text.{Text}
 use Rattle.regex_lite_engine.specs.Search.Answer.{Found, HasMatchFrom}
 use Rattle.regex_lite_engine.specs.Search.Offsets.{search_start}
+use Rattle.regex_lite_engine.proofs.OptionLemmas.{not_there}
 use Rattle.regex_lite.specs.Answers.{AreLawful}
 use Rattle.regex_lite.specs.Expression.{Expression}
 use Rattle.regex_lite.specs.Ahead.{Ahead, AheadOf, IsOver, NoneIsAhead, Passes, PassesAnswer, whole}
@@ -18,7 +19,6 @@ use Rattle.regex_lite.specs.Searches.{MatchesFrom}
 use Rattle.regex_lite.proofs.string.LawfulLemmas.{regex_lawful}
 use Rattle.regex_lite.proofs.string.ListLemmas.{one_next}
 use Rattle.regex_lite.proofs.string.OneTreeLemmas.{one_tree}
-use Rattle.regex_lite.proofs.string.ToldLemmas.{not_there}
 
 -- a haystack of which a match was passed wasn't over
 pub not_over : {S A : Type 0} (found_of : A → Found)
@@ -105,8 +105,7 @@ module _ {Z : Type 0} (start a : Ahead) (same : CowStr Z) (made : List ℕ) wher
 
 from_start : (haystack : List ℕ) → search_start haystack 0 ≡ 0
 from_start haystack =
-    let none = ap length chars-nil in
-    omega (arith, none)
+    omega (arith, ap length chars-nil)
 
 -- where the pattern matches, and the limit isn't 0, some match is ahead
 some_ahead : (re : Expression) (haystack : List ℕ) (limit : Option ℕ) → limit ≢ Some 0

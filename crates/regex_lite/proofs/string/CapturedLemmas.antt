@@ -13,6 +13,7 @@ use Rattle.regex_lite_engine.specs.Search.Answer.{Found, IsFound}
 use Rattle.regex_lite_engine.specs.Search.Offsets.{HasSlots, offset}
 use Rattle.regex_lite_engine.proofs.laws.PatternTreeLemmas.{regular_tree}
 use Rattle.regex_lite_engine.proofs.laws.groups.SpanLemmas.{groups_inside}
+use Rattle.regex_lite_engine.proofs.OptionLemmas.{same_some}
 use Rattle.regex_lite.specs.declared.string.compiled.Compiled.{Compiled}
 use Rattle.regex_lite.specs.Compiled.{IsBuilt, NamesGroups, groups_of, names_of, stored_groups}
 use Rattle.regex_lite.specs.Groups.{AreGroups, LiesIn, span_at, spans_of}
@@ -23,9 +24,6 @@ use Rattle.regex_lite.proofs.string.SlotLemmas.{none_kept, some_kept}
 use Rattle.regex_lite.proofs.string.FoundLemmas.{slots_told, length_spans}
 use Rattle.regex_lite.proofs.string.FoundLemmas.{groups_lie, group_0, enough_texts}
 use Rattle.regex_lite.proofs.string.GroupNameLemmas.{are_names}
-
-same_some : {A : Type 0} {x y : A} → ◌≡◌ {A = Option A} (Some x) (Some y) → x ≡ y
-same_some e = cc
 
 -- both offsets of a span are there
 both_there : (a b : Option ℕ) (i j : ℕ) → option_zip a b ≡ Some (i, j) → (a ≡ Some i) × (b ≡ Some j)

@@ -81,15 +81,13 @@ module _ (text : List ℕ) (utf8 : IsUtf8 text) where
       deep (inr nodes) = absurd (omega (arith, nodes, literal_depth (chars text)))
   refused_for_size too_deep (inr (tree, read, says)) = says
   refused_for_size too_many_groups (inl says) =
-      let many = says.with_tree (literal (chars text)) 0 0 tree_of_pattern in
-      absurd (omega (arith, many))
+      absurd (omega (arith, says.with_tree (literal (chars text)) 0 0 tree_of_pattern))
   refused_for_size too_many_groups (inr (tree, read, says)) = says
   refused_for_size (passed_limit limit.Slots) (inl says) = says
   refused_for_size (passed_limit limit.Slots) (inr (tree, read, many)) =
       let same = one_tree no_flags (chars (escaped_pattern text)) tree (literal (chars text))
       (read.0, read.1, read.2) (0, 0, tree_of_pattern) in
-      let index = ap greatest_index same ∙ literal_index (chars text) in
-      absurd (omega (arith, many, index))
+      absurd (omega (arith, many, ap greatest_index same ∙ literal_index (chars text)))
   refused_for_size refused_replacement (inl says) = says
   refused_for_size refused_replacement (inr (tree, read, says)) = says
 

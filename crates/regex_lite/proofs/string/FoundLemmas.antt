@@ -30,11 +30,9 @@ offset_most haystack p q le inside = each (cases_order p q)
   where
     each : (p ≡ q) ⊎ ((p < q) ⊎ (q < p)) → offset haystack p ≤ offset haystack q
     each (inl same) =
-        let e = ap (offset haystack) same in
-        omega (arith, e)
+        omega (arith, ap (offset haystack) same)
     each (inr (inl less)) =
-        let below = offset_less haystack p q less inside in
-        omega (arith, below)
+        omega (arith, offset_less haystack p q less inside)
     each (inr (inr more)) = absurd (omega (arith, le, more))
 
 -- two positions in order lie in the haystack
@@ -98,8 +96,7 @@ pub length_spans : (haystack : Text) (marks : Marks) (first count : ℕ)
     → length (spans_from haystack marks first count) ≡ count
 length_spans haystack marks first zero = refl
 length_spans haystack marks first (suc count) =
-    let more = length_spans haystack marks (suc first) count in
-    omega (arith, more)
+    omega (arith, length_spans haystack marks (suc first) count)
 
 -- each group that took part has a text
 texts_told : (bytes : List ℕ) (marks : Marks) (first count : ℕ)
@@ -202,5 +199,4 @@ module _ (bytes : List ℕ) (utf8 : IsUtf8 bytes) (tree : Tree) (given : IsPatte
   enough_texts n known =
       let enough = enough_take_part tree (chars bytes) s found n (regular_tree tree given)
       (numbered_tree tree given) is known in
-      let texts = texts_told bytes found.marks 0 (captures_len tree) in
-      omega (arith, enough, texts)
+      omega (arith, enough, texts_told bytes found.marks 0 (captures_len tree))

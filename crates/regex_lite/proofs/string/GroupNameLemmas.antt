@@ -27,8 +27,7 @@ pub are_names : (bytes : List (Option (List ℕ))) (names : List (Option (RcStr 
     → ((k : ℕ) → slice_index_or (map (option_map text_of_name) names) k None ≡ group_name tree k)
     → AreNames bytes tree
 are_names bytes names tree bytes_are regular each_group named =
-    let as_bytes = map (option_map rc_str_bytes) names in
-    let name : (k : ℕ) → name_at as_bytes k ≡ group_name tree k =
+    let name : (k : ℕ) → name_at (map (option_map rc_str_bytes) names) k ≡ group_name tree k =
     λ k. ap (λ texts. slice_index_or texts k None) (same_texts names) ∙ named k in
     subst (λ b. AreNames b tree) (sym bytes_are) (record {
       each_group = length-map _ _ ∙ each_group;

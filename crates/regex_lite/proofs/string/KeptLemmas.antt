@@ -9,6 +9,7 @@ use Rattle.regex_lite_engine.specs.Search.Offsets.{HasSlots, offset, position_at
 use Rattle.regex_lite_engine.specs.Search.Outcomes.{IsSpanOutcome}
 use Rattle.regex_lite_engine.specs.Search.Searching.{Searching}
 use Rattle.regex_lite_engine.proofs.PositionLemmas.{position_of}
+use Rattle.regex_lite_engine.proofs.OptionLemmas.{not_there, same_some}
 use Rattle.regex_lite.specs.declared.string.matches.Match.{Match}
 use Rattle.regex_lite.specs.Answers.{IsWithin}
 use Rattle.regex_lite.specs.Expression.{Expression, OfTree}
@@ -22,7 +23,6 @@ use Rattle.regex_lite.proofs.string.CapturedLemmas.{held_all}
 use Rattle.regex_lite.proofs.string.FoundLemmas.{first_told, length_spans, slots_told}
 use Rattle.regex_lite.proofs.string.LawfulLemmas.{regex_lawful}
 use Rattle.regex_lite.proofs.string.OneTreeLemmas.{one_tree}
-use Rattle.regex_lite.proofs.string.ToldLemmas.{not_there, same_some}
 
 -- after a search a searcher still finds groups
 pub still_searches : (re : Expression) (old new : Searching) → SearchesForGroups re (Some old)
@@ -61,10 +61,7 @@ module _ (re : Expression) (bytes : List ℕ) (utf8 : IsUtf8 bytes) (start : ℕ
       let at = ap (λ (span : ℕ × ℕ). position_at bytes span.0) is_match.span
       ∙ position_of bytes utf8 found.start (offset (chars bytes) found.start)
       (omega (arith, within.ordered, within.inside), refl) in
-      let long = ap length is_match.haystack in
-      let ordered = m.lies_in.ordered in
-      let inside = m.lies_in.inside in
-      omega (arith, at, long, ordered, inside)
+      omega (arith, at, ap length is_match.haystack, m.lies_in.ordered, m.lies_in.inside)
 
   -- from where the match begins on it is found again
   again : IsAnswerOf re (chars bytes) (search_start bytes m.start) (Some found)

@@ -22,10 +22,9 @@ pub found_within : (tree : Tree) (haystack : Text) (s : ℕ) (found : Found) →
     → IsFound tree haystack s found → IsWithin haystack s found
 found_within tree haystack s found given is =
     let inner = groups_inside tree haystack s found (regular_tree tree given) is in
-    let whole = inner.inside 0 found.start found.end inner.whole in
     record {
       from = is.from;
-      ordered = whole.1;
+      ordered = (inner.inside 0 found.start found.end inner.whole).1;
       inside = walk_inside haystack (place_of_pattern tree) is.way (start_address, found.start)
           (end_address, found.end) is.most_preferred.is_way.0 is.inside;
     }

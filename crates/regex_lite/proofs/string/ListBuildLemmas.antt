@@ -126,8 +126,7 @@ for_list_memory all error (inr (inl lowest)) (trees, accepted, few) =
 for_list_memory all error (inr (inr together)) (trees, accepted, few) =
     let same = ap places_of_all
     (one_accepted all together.trees trees together.accepted accepted) in
-    let passed = together.passed in
-    absurd (omega (arith, same, passed, few))
+    absurd (omega (arith, same, together.passed, few))
 
 -- a refusal of which what it says is so
 pub list_refused : (all : List Settings) (error : Error)
@@ -174,9 +173,8 @@ pub accepted_more : (all : List Settings) (k : ℕ) (trees new : List Tree) (set
     → settings ≡ get_or all k settings → IsAcceptedAs settings tree → new ≡ trees ++ (tree ∷ [])
     → AreAcceptedAs (take (k + 1) all) new
 accepted_more all k trees new settings tree accepted less there own more =
-    let first = add-one k in
     let longer : take (k + 1) all ≡ take k all ++ (settings ∷ [])
-    = ap (λ n. take n all) first ∙ take-suc all k settings less
+    = ap (λ n. take n all) (add-one k) ∙ take-suc all k settings less
     ∙ ap (λ own. take k all ++ (own ∷ [])) (sym there) in
     rw (longer, more) (paired_more IsAcceptedAs (take k all) trees settings tree accepted own)
 
@@ -185,8 +183,7 @@ pub arrows_few_of_all : (trees : List Tree) → AreRegular trees
     → arrows_of_all trees ≤ 2 * places_of_all trees
 arrows_few_of_all [] regular = omega arith
 arrows_few_of_all (tree ∷ rest) regular =
-    let own = arrows_few tree (regular 0 tree refl) in
     let others = arrows_few_of_all rest (λ k other there. regular (suc k) other there) in
     let arrows = sum_by-cons whole_arrows tree rest in
     let places = sum_by-cons whole_places tree rest in
-    omega (arith, own, others, arrows, places)
+    omega (arith, arrows_few tree (regular 0 tree refl), others, arrows, places)

@@ -1,6 +1,6 @@
 -- The slots of an outcome determine the groups of what was found of several patterns.
 use Rattle.std.proofs.Common.{◌≡◌, ◌<◌, ◌*◌, ◌∙◌, refl, sym, ap, subst, ℕ, List, [], length, take}
-use Rattle.std.proofs.Common.{Option, Some, None, slice_get, chars, IsUtf8, arith}
+use Rattle.std.proofs.Common.{Option, Some, None, chars, IsUtf8, arith}
 use Rattle.std.proofs.lemmas.List.{length-take-le}
 use Rattle.std.proofs.lemmas.Option.{slice_get-get_or, slice_get_within, unwrap_or-slice_get}
 use Rattle.regex_lite_syntax.specs.Tree.{Tree}
@@ -23,7 +23,7 @@ use Rattle.regex_lite.specs.ListAhead.{AreGroupsFoundInList}
 use Rattle.regex_lite.specs.RegexList.{AreTrees}
 use Rattle.regex_lite.specs.RegexListSearches.{AreOfPattern, TellsGroupsOfList}
 use Rattle.regex_lite.specs.Searches.{AreGroupsOf, offsets}
-use Rattle.regex_lite.specs.Slots.{all_slots, kept_slots, most_groups}
+use Rattle.regex_lite.specs.Slots.{all_slots, most_groups}
 use Rattle.regex_lite.proofs.string.CapturedLemmas.{AreAllSlots, captured, captured_of, held_all}
 use Rattle.regex_lite.proofs.string.GroupNameLemmas.{are_names}
 use Rattle.regex_lite.proofs.string.ListBuildLemmas.{own_tree, pattern_tree}
@@ -47,8 +47,7 @@ pub stored_at : (trees : List Tree) (graph : StoredList) (number : ℕ) (tree : 
     → (number < length graph.groups) × TellsGroupsOf tree (groups_at graph.groups number)
 stored_at trees graph number tree groups there =
     let less = slice_get_within trees number tree there in
-    let all = groups.all in
-    let within : number < length graph.groups = omega (arith, less, all) in
+    let within : number < length graph.groups = omega (arith, less, groups.all) in
     let own = slice_get-get_or graph.groups number no_groups within in (
       within,
       groups.each number tree (groups_at graph.groups number) there
@@ -162,15 +161,14 @@ module _ (bytes : List ℕ) (utf8 : IsUtf8 bytes) (start : ℕ) (list : List Exp
       ),
     )
 
-    -- they are those of a match of the pattern
-    pub listed_of_pattern : (groups : Groups)
-        → groups ≡ groups_of bytes slots (groups_at compiled.graph.groups number)
-        → AreOfPattern list (number, groups)
-    listed_of_pattern groups are =
-        let alone = of_pattern (λ tree. AreGroupsOf tree bytes) list bytes start number groups
-        (listed_groups_told groups are) in
-        record {
-          re = alone.0;
-          numbered = alone.1;
-          of_match = record { haystack = bytes; start = start; told = alone.2 };
-        }
+-- which are those of a match of the pattern
+pub listed_of_pattern : (bytes : List ℕ) (start : ℕ) (list : List Expression) (number : ℕ)
+    (groups : Groups) → TellsGroupsOfList list bytes start (Some (number, groups))
+    → AreOfPattern list (number, groups)
+listed_of_pattern bytes start list number groups told =
+    let alone = of_pattern (λ tree. AreGroupsOf tree bytes) list bytes start number groups told in
+    record {
+      re = alone.0;
+      numbered = alone.1;
+      of_match = record { haystack = bytes; start = start; told = alone.2 };
+    }

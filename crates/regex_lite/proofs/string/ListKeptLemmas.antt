@@ -10,6 +10,7 @@ use Rattle.regex_lite_engine.specs.Search.Answer.{Found}
 use Rattle.regex_lite_engine.specs.Search.AnswerOfList.{IsFoundInList}
 use Rattle.regex_lite_engine.specs.Graph.SideBySide.{HasTree}
 use Rattle.regex_lite_engine.specs.Search.Offsets.{HasSlots, offset, search_start}
+use Rattle.regex_lite_engine.proofs.OptionLemmas.{same_some}
 use Rattle.regex_lite.specs.declared.string.matches.Match.{Match}
 use Rattle.regex_lite.specs.Answers.{TellsOfAnswer}
 use Rattle.regex_lite.specs.Expression.{Expression}
@@ -26,7 +27,6 @@ use Rattle.regex_lite.proofs.string.FoundLemmas.{slots_told}
 use Rattle.regex_lite.proofs.string.ListBuildLemmas.{one_list, pattern_tree}
 use Rattle.regex_lite.proofs.string.ListSlotLemmas.{enough_kept, in_whole}
 use Rattle.regex_lite.proofs.string.PairedLemmas.{paired_length}
-use Rattle.regex_lite.proofs.string.ToldLemmas.{same_some}
 
 -- what is returned of the answer of a search for several patterns, with these slots
 abbrev pub TellsListMatch : List Expression → (haystack : List ℕ) → (start : ℕ)
@@ -57,11 +57,9 @@ most_in : (trees : List Tree) (number : ℕ) (tree : Tree) → HasTree trees num
     → captures_len tree ≤ most_captures trees
 most_in [] number tree there = absurd cc
 most_in (own ∷ trees) zero tree there =
-    let same = ap captures_len (same_some there) in
-    omega (arith, same)
+    omega (arith, ap captures_len (same_some there))
 most_in (own ∷ trees) (suc number) tree there =
-    let le = most_in trees number tree there in
-    omega (arith, le)
+    omega (arith, most_in trees number tree there)
 
 -- the slots of a match, as many as its groups have, hold their spans
 module _ (list : List Expression) (bytes : List ℕ) (start : ℕ) (kept : List (Option ℕ))

@@ -4,11 +4,11 @@ use Rattle.std.proofs.Common.{◌∷◌, length, Option, Some, None, refl, sym, 
 use Rattle.std.proofs.lemmas.Bool.Decides.{nat_tests}
 use Rattle.regex_lite_syntax.specs.Text.{Text}
 use Rattle.regex_lite_engine.specs.Search.Answer.{Found}
+use Rattle.regex_lite_engine.proofs.OptionLemmas.{not_there, same_some}
 use Rattle.regex_lite.specs.Answers.{AreLawful, IsWithin}
 use Rattle.regex_lite.specs.ListLaws.{AreAnswersApart, Follows, MatchesAreApart, OneMatchList}
 use Rattle.regex_lite.specs.MatchList.{AreAnswers, IsAnswerOf, IsNextAnswer, is_empty_answer}
 use Rattle.regex_lite.proofs.string.LawfulLemmas.{regex_lawful}
-use Rattle.regex_lite.proofs.string.ToldLemmas.{not_there, same_some}
 
 module _ {A : Type 0} (found_of : A → Found) (haystack : Text)
     (Answers : (s : ℕ) → Option A → Type 0) (lawful : AreLawful found_of haystack Answers) where
@@ -16,9 +16,7 @@ module _ {A : Type 0} (found_of : A → Found) (haystack : Text)
   ends_later : (e : ℕ) (answer : A) → IsWithin haystack e (found_of answer)
       → is_empty_answer found_of e (Some answer) ≡ false → e < (found_of answer).end
   ends_later e answer within apart =
-      let from = within.from in
-      let ordered = within.ordered in
-      grind (arith, nat_tests, from, ordered, apart)
+      grind (arith, nat_tests, within.from, within.ordered, apart)
 
   behind : (e : ℕ) (answer : A) (from_end : Option A) (empty : Bool)
       → is_empty_answer found_of e from_end ≡ empty → Answers e from_end
@@ -57,17 +55,14 @@ module _ {A : Type 0} (found_of : A → Found) (haystack : Text)
   few_behind e [] inside over = omega (arith, inside)
   few_behind e (answer ∷ list) inside (next, rest) =
       let (after, own) = follows (Some e) answer next in
-      let fewer = few_behind (found_of answer).end list own.inside rest in
-      let later = after.1 in
-      omega (arith, fewer, later)
+      omega (arith, few_behind (found_of answer).end list own.inside rest, after.1)
 
   pub few : (list : List A) → AreAnswers found_of Answers None list
       → length list ≤ length haystack + 1
   few [] over = omega arith
   few (answer ∷ list) (next, rest) =
       let (after, own) = follows None answer next in
-      let fewer = few_behind (found_of answer).end list own.inside rest in
-      omega (arith, fewer)
+      omega (arith, few_behind (found_of answer).end list own.inside rest)
 
   -- one at most comes next
   pub one_next : (ended : Option ℕ) (a b : Option A) → IsNextAnswer found_of Answers ended a

@@ -4,6 +4,7 @@ use Rattle.std.proofs.Common.{Option, Some, chars, IsUtf8, sym, ap, subst}
 use Rattle.regex_lite_syntax.specs.Tree.{Tree}
 use Rattle.regex_lite_engine.specs.Search.Answer.{Found}
 use Rattle.regex_lite_engine.specs.Search.AnswerOfList.{IsFoundInList}
+use Rattle.regex_lite_engine.proofs.OptionLemmas.{same_some}
 use Rattle.regex_lite.specs.declared.string.list.compiled.CompiledList.{CompiledList}
 use Rattle.regex_lite.specs.declared.string.matches.Match.{Match}
 use Rattle.regex_lite.specs.Compiled.{groups_of}
@@ -22,7 +23,6 @@ use Rattle.regex_lite.proofs.string.ListGroupLemmas.{found_groups_are, found_gro
 use Rattle.regex_lite.proofs.string.ListGroupLemmas.{found_there}
 use Rattle.regex_lite.proofs.string.ListSlotLemmas.{most_are}
 use Rattle.regex_lite.proofs.string.ScanLemmas.{whole_of_groups}
-use Rattle.regex_lite.proofs.string.ToldLemmas.{same_some}
 
 -- the groups of what was found have its span
 whole_in_list : (list : List Expression) (bytes : List ℕ) (s : ℕ) (answer : ℕ × Found)

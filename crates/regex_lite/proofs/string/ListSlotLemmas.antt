@@ -4,10 +4,10 @@ use Rattle.std.proofs.Common.{length, take, Option, Some, None, IfSome, slice_ge
 use Rattle.regex_lite_syntax.specs.Tree.{Tree}
 use Rattle.regex_lite_engine.specs.declared.search.outcome.Outcome.{Outcome}
 use Rattle.regex_lite_engine.specs.Graph.StoredList.{StoredGroups, TellGroupsOf}
+use Rattle.regex_lite_engine.proofs.OptionLemmas.{not_there, same_some}
 use Rattle.regex_lite.specs.CompiledList.{groups_at}
 use Rattle.regex_lite.specs.Scanning.{most_captures}
 use Rattle.regex_lite.specs.Slots.{all_slots, kept_slots, most_groups}
-use Rattle.regex_lite.proofs.string.ToldLemmas.{not_there, same_some}
 
 -- as many slots are kept as were asked for
 pub kept_width : (told : Option (ℕ × Outcome)) (number : ℕ) (outcome : Outcome) (n : ℕ)
@@ -23,8 +23,7 @@ pub most_at : (all : List StoredGroups) (number : ℕ) → number < length all
 most_at [] number less = absurd (omega (arith, less))
 most_at (own ∷ rest) zero less = omega arith
 most_at (own ∷ rest) (suc number) less =
-    let le = most_at rest number (omega (arith, less)) in
-    omega (arith, le)
+    omega (arith, most_at rest number (omega (arith, less)))
 
 pub in_whole : {A : Type 0} (xs : List A) (n k : ℕ) (x : A) → slice_get (take n xs) k ≡ Some x
     → slice_get xs k ≡ Some x

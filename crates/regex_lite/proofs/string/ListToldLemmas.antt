@@ -13,6 +13,7 @@ use Rattle.regex_lite_engine.specs.Search.Offsets.{search_start}
 use Rattle.regex_lite_engine.specs.Search.Outcomes.{IsOutcomeOfList, IsSpanOutcomeOfList}
 use Rattle.regex_lite_engine.specs.Search.Searching.{ListSearching}
 use Rattle.regex_lite_engine.proofs.laws.several.ListAnswerLemmas.{list_answers}
+use Rattle.regex_lite_engine.proofs.OptionLemmas.{same_some}
 use Rattle.regex_lite.specs.declared.string.matches.Match.{Match}
 use Rattle.regex_lite.specs.Expression.{Expression}
 use Rattle.regex_lite.specs.Groups.{LiesIn}
@@ -24,7 +25,7 @@ use Rattle.regex_lite.specs.Searches.{TellsAnswer, offsets}
 use Rattle.regex_lite.proofs.string.FoundLemmas.{found_lies}
 use Rattle.regex_lite.proofs.string.ListBuildLemmas.{one_list, own_tree, pattern_tree}
 use Rattle.regex_lite.proofs.string.ListBuildLemmas.{regular_trees}
-use Rattle.regex_lite.proofs.string.ToldLemmas.{same_some, same_pair}
+use Rattle.regex_lite.proofs.string.ToldLemmas.{same_pair}
 
 -- what is returned of a list is returned of the pattern with the number
 pub of_pattern : {A : Type 0} (says : Tree → Found → A → Type 0) (list : List Expression)

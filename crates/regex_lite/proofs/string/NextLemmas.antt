@@ -106,10 +106,8 @@ module _ {A N : Type 0} (found_of : A → Found) (number_of : A → N) (bytes : 
     starts_after found within =
         let lie = positions_lie bytes p found.start utf8 within.from
         (omega (arith, within.ordered, within.inside)) in
-        let own = position_is bytes at utf8 edge in
-        let same = own.1 in
-        let ordered = lie.ordered in
-        omega (arith, same, ordered)
+        let same = (position_is bytes at utf8 edge).1 in
+        omega (arith, same, lie.ordered)
 
     -- it is empty there exactly where it ends no later
     ends_later : (answer : A) → at < offset (chars bytes) (found_of answer).end
@@ -117,8 +115,7 @@ module _ {A N : Type 0} (found_of : A → Found) (number_of : A → N) (bytes : 
     ends_later answer later =
         let apart : (found_of answer).end ≡ p → ⊥ =
         λ e. let same = (position_is bytes at utf8 edge).1 in
-        let own = ap (offset (chars bytes)) e in
-        absurd (omega (arith, same, own, later)) in
+        absurd (omega (arith, same, ap (offset (chars bytes)) e, later)) in
         grind (arith, nat_tests, apart)
 
     ends_there : (answer : A) → IsWithin (chars bytes) p (found_of answer)
@@ -130,17 +127,13 @@ module _ {A N : Type 0} (found_of : A → Found) (number_of : A → N) (bytes : 
             ⊎ ((p < (found_of answer).end) ⊎ ((found_of answer).end < p))
             → is_empty_answer found_of p (Some answer) ≡ true
         each (inl same) =
-            let from = within.from in
-            let ordered = within.ordered in
-            grind (arith, nat_tests, same, from, ordered)
+            grind (arith, nat_tests, same, within.from, within.ordered)
         each (inr (inl less)) =
             let same = (position_is bytes at utf8 edge).1 in
             let below = offset_less (chars bytes) p (found_of answer).end less within.inside in
             absurd (omega (arith, same, below, early))
         each (inr (inr more)) =
-            let from = within.from in
-            let ordered = within.ordered in
-            absurd (omega (arith, from, ordered, more))
+            absurd (omega (arith, within.from, within.ordered, more))
 
     pub none_told : Told (search_start bytes at) None → Tells (Some at) None
     none_told tells = (None, at_start at None edge tells, refl)
@@ -156,7 +149,6 @@ module _ {A N : Type 0} (found_of : A → Found) (number_of : A → N) (bytes : 
             let within = lawful.within p answer is in
             let to : ℕ = (found_of answer).end in
             let end = ap (λ (own : ℕ × ℕ). own.1) same in
-            let start = ap (λ (own : ℕ × ℕ). own.0) same in
             let from = starts_after (found_of answer) within in
             let kept = ends_later answer (omega (arith, end, later)) in (
               answer,
@@ -169,7 +161,7 @@ module _ {A N : Type 0} (found_of : A → Found) (number_of : A → N) (bytes : 
               of,
               ap (position_at bytes) end
                   ∙ position_of bytes utf8 to (offset (chars bytes) to) (within.inside, refl),
-              (omega (arith, start, from), later),
+              (omega (arith, ap (λ (own : ℕ × ℕ). own.0) same, from), later),
             )
 
     -- one that ends no later is empty there
@@ -179,9 +171,8 @@ module _ {A N : Type 0} (found_of : A → Found) (number_of : A → N) (bytes : 
       where
         each : Told p (Some told) → Empty at
         each (answer, is, of) =
-            let within = lawful.within p answer is in
             let end = ap (λ (own : ℕ × ℕ). own.1) of.is_match.span in
-            (answer, is, ends_there answer within (omega (arith, end, early)))
+            (answer, is, ends_there answer (lawful.within p answer is) (omega (arith, end, early)))
 
     -- and passed over
     passed : (answer : Option A) → Empty at → Answers (suc p) answer → Next (Some at) answer
@@ -209,8 +200,7 @@ module _ {A N : Type 0} (found_of : A → Found) (number_of : A → N) (bytes : 
             (omega (arith, within.ordered, within.inside)) in
             let last =
             positions_lie bytes found.start found.end utf8 within.ordered within.inside in
-            let to = last.ordered in
-            (omega (arith, own, later), omega (arith, own, later, to))
+            (omega (arith, own, later), omega (arith, own, later, last.ordered))
 
 -- what comes next is the answer of a search from there or later
 module _ {A : Type 0} (found_of : A → Found) (Answers : (s : ℕ) → Option A → Type 0) where

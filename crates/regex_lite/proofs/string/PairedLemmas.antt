@@ -1,10 +1,8 @@
 -- Lists of which the elements belong together pairwise.
 use Rattle.std.proofs.Common.{◌≡◌, refl, ap, ℕ, zero, suc, List, [], ◌∷◌}
-use Rattle.std.proofs.Common.{◌++◌, length, map, Option, Some, slice_get}
+use Rattle.std.proofs.Common.{◌++◌, length, map, Some, slice_get}
+use Rattle.regex_lite_engine.proofs.OptionLemmas.{same_some}
 use Rattle.regex_lite.specs.RegexList.{AllPaired}
-
-same_some : {A : Type 0} {x y : A} → ◌≡◌ {A = Option A} (Some x) (Some y) → x ≡ y
-same_some e = cc
 
 module _ {A B : Type 0} (R : A → B → Type 0) where
   -- there are as many of both

@@ -1,6 +1,7 @@
 -- Replacements, match after match.
-use Rattle.std.proofs.Common.{◌≡◌, ◌++◌, inl, inr, ℕ, List, [], ◌∷◌, Option, Ok, Err}
+use Rattle.std.proofs.Common.{◌≡◌, ◌++◌, inl, inr, ℕ, List, [], ◌∷◌, Option, Result, Ok, Err, IfErr}
 use Rattle.std.proofs.Common.{refl, sym, ap, ◌∙◌, subst, map, drop, slice_range, chars}
+use Rattle.std.specs.Result.{IsErrAnd}
 use Rattle.std.proofs.lemmas.List.{append_assoc}
 use Rattle.regex_lite_syntax.specs.declared.error.Error.{Error}
 use Rattle.regex_lite_engine.specs.Search.Answer.{Found}
@@ -31,15 +32,13 @@ at_start text start = record {
   on = λ found are. record { found = found; are_ahead = are; replaced = refl };
 }
 
-pub passed_on : (text : List ℕ) (start old new : Ahead) (found : Found) (from to : ℕ) (span : ℕ × ℕ)
-    (made written : List ℕ) → Continues text start old from made → Passes old found new
-    → span ≡ found_span (chars start.haystack) found → to ≡ span.1
+pub passed_on : {text : List ℕ} {start old new : Ahead} {found : Found} {from to : ℕ}
+    {span : ℕ × ℕ} {made written : List ℕ} → Continues text start old from made
+    → Passes old found new → span ≡ found_span (chars start.haystack) found → to ≡ span.1
     → written ≡ (made ++ slice_range start.haystack from span.0) ++ text
     → Continues text start new to written
-passed_on text start old new found from to span made written so_far passes is at more =
-    subst (λ n. Continues text start new n written) (sym at)
-    (subst (Continues text start new span.1) (sym more)
-    (record {
+passed_on {text} {start} {old} {new} {found} {from} {span} {made} so_far passes is at more =
+    rw (at, more) (record {
       on = λ list are.
           let rest : ℕ × ℕ → List ℕ = λ own. replaced_by text start.haystack own.1
           (map (found_span (chars start.haystack)) list) in
@@ -48,12 +47,12 @@ passed_on text start old new found from to span made written so_far passes is at
           (sym is)
           ∙ sym (together made (slice_range start.haystack from span.0) text (rest span)))
           (so_far.on (found ∷ list) (ahead_cons old new found list passes are));
-    }))
+    })
 
-pub replaced_at_end : (text : List ℕ) (start a : Ahead) (from : ℕ) (made : List ℕ)
+pub replaced_at_end : {text : List ℕ} {start a : Ahead} {from : ℕ} {made : List ℕ}
     → Continues text start a from made → IsOver a
     → IsReplacedBy text start (made ++ drop from start.haystack)
-replaced_at_end text start a from made so_far over = so_far.on [] (ahead_nil a over)
+replaced_at_end {a} so_far over = so_far.on [] (ahead_nil a over)
 
 module _ {R : Type 0} (Fixed : R → Option (List ℕ) → R → Type 0)
     (Appends : R → Groups → List ℕ → Answer → R → Type 0) where
@@ -76,19 +75,16 @@ module _ {R : Type 0} (Fixed : R → Option (List ℕ) → R → Type 0)
         record { found = found; are_first = are; groups = groups; each = each; refused = refused };
   }
 
-  pub in_turn_passed : (first : R) (start old new : Ahead) (rep after : R) (found : Found)
-      (groups : Groups) (from to : ℕ) (made text written : List ℕ)
+  pub in_turn_passed : {first : R} {start old new : Ahead} {rep after : R} {found : Found}
+      {groups : Groups} {from to : ℕ} {made text written : List ℕ}
       → ContinuesInTurn first start old rep from made → Passes old found new
       → AreGroupsFound start.sought start.haystack found groups
-      → Appends rep groups text (Ok tt) after
-      → to ≡ (whole_span groups).1
+      → Appends rep groups text (Ok tt) after → to ≡ (whole_span groups).1
       → written ≡ (made ++ slice_range start.haystack from (whole_span groups).0) ++ text
       → ContinuesInTurn first start new after to written
-  in_turn_passed first start old new rep after found groups from to made text written so_far passes
-      are asked is more =
-      subst (λ own. ContinuesInTurn first start new after own written) (sym is)
-      (subst (ContinuesInTurn first start new after (whole_span groups).1) (sym more)
-      (record {
+  in_turn_passed {first} {start} {old} {new} {after} {found} {groups} {from} {made} {text} so_far
+      passes are asked is more =
+      rw (is, more) (record {
         on = λ list others rest ahead each chain.
             let before = slice_range start.haystack from (whole_span groups).0 in
             subst (IsReplacedInTurn Fixed Appends first start)
@@ -100,48 +96,50 @@ module _ {R : Type 0} (Fixed : R → Option (List ℕ) → R → Type 0)
             so_far.refuses (found ∷ list) (groups ∷ others) error
             (first_cons old new found list passes ahead) (are, each)
             (inr (text, after, asked, refused));
-      }))
+      })
 
-  pub in_turn_at_end : (first : R) (start a : Ahead) (rep : R) (from : ℕ) (made : List ℕ)
+  pub in_turn_at_end : {first : R} {start a : Ahead} {rep : R} {from : ℕ} {made : List ℕ}
       → ContinuesInTurn first start a rep from made → IsOver a
       → IsReplacedInTurn Fixed Appends first start (made ++ drop from start.haystack)
-  in_turn_at_end first start a rep from made so_far over =
+  in_turn_at_end {start} {a} {from} so_far over =
       so_far.on [] [] (drop from start.haystack) (ahead_nil a over) tt refl
 
-  pub in_turn_refused : (first : R) (start old new : Ahead) (rep after : R) (found : Found)
-      (groups : Groups) (from : ℕ) (made text : List ℕ) (error : Error)
+  pub in_turn_refused : {first : R} {start old new : Ahead} {rep after : R} {found : Found}
+      {groups : Groups} {from : ℕ} {made text : List ℕ} {error : Error}
       → ContinuesInTurn first start old rep from made → Passes old found new
       → AreGroupsFound start.sought start.haystack found groups
       → Appends rep groups text (Err error) after → IsRefused Fixed Appends first start error
-  in_turn_refused first start old new rep after found groups from made text error so_far passes
-      are asked =
+  in_turn_refused {old} {new} {after} {found} {groups} {text} {error} so_far passes are asked =
       so_far.refuses (found ∷ []) (groups ∷ []) error (first_cons old new found [] passes tt)
       (are, tt) (inl (text, after, asked))
 
 -- groups that were found by the same regex in the same haystack
-pub found_there : (re other : Expression) (bytes haystack : List ℕ) (found : Found)
-    (groups : Groups)
-    → re ≡ other → bytes ≡ haystack → AreGroupsFound re bytes found groups
+pub found_there : {re other : Expression} {bytes haystack : List ℕ} (found : Found)
+    (groups : Groups) → re ≡ other → bytes ≡ haystack → AreGroupsFound re bytes found groups
     → AreGroupsFound other haystack found groups
-found_there re other bytes haystack found groups same there are =
+found_there {re} {haystack} found groups same there are =
     subst (λ own. AreGroupsFound own haystack found groups) same
     (subst (λ own. AreGroupsFound re own found groups) there are)
 
 -- a match that was passed leaves what is searched for
-pub sought_kept : (start old new : Ahead) (found : Found) → Passes old found new
+pub sought_kept : (start : Ahead) {old new : Ahead} {found : Found} → Passes old found new
     → old.sought ≡ start.sought → new.sought ≡ start.sought
-sought_kept start old new found passes same =
-    ap (λ (a : Ahead). a.sought) passes.passed ∙ same
+sought_kept start passes same = ap (λ (a : Ahead). a.sought) passes.passed ∙ same
 
 -- and the haystack
-pub haystack_kept : (start old new : Ahead) (found : Found) → Passes old found new
+pub haystack_kept : (start : Ahead) {old new : Ahead} {found : Found} → Passes old found new
     → old.haystack ≡ start.haystack → new.haystack ≡ start.haystack
-haystack_kept start old new found passes same =
-    ap (λ (a : Ahead). a.haystack) passes.passed ∙ same
+haystack_kept start passes same = ap (λ (a : Ahead). a.haystack) passes.passed ∙ same
 
 -- so its groups are of the regex that is searched for after it
-pub of_passed : (old new : Ahead) (found : Found) (groups : Groups) → Passes old found new
+pub of_passed : {old new : Ahead} {found : Found} (groups : Groups) → Passes old found new
     → AreGroupsFound old.sought old.haystack found groups → AreOfRegex new.sought groups
-of_passed old new found groups passes are =
-    subst (λ own. AreOfRegex own groups) (sym (sought_kept old old new found passes refl))
+of_passed {old} {found} groups passes are =
+    subst (λ own. AreOfRegex own groups) (sym (sought_kept old passes refl))
     (of_regex old.sought old.haystack found groups are)
+
+-- what holds of each error that was handed on holds of the one that is returned
+pub handed_on : {T E : Type 0} {P Q : E → Type 0} (r : Result T E) → IsErrAnd r Q
+    → ((e : E) → Q e → P e) → IfErr r P
+handed_on (Ok x) h f = absurd h
+handed_on (Err e) h f = f e h

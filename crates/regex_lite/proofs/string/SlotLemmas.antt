@@ -7,6 +7,7 @@ use Rattle.std.proofs.lemmas.List.{take-append-le}
 use Rattle.std.specs.Option.{option_zip, option_flatten}
 use Rattle.std.proofs.lemmas.Option.{slice_get_past}
 use Rattle.regex_lite_engine.specs.Graph.StoredList.{StoredGroups}
+use Rattle.regex_lite_engine.proofs.OptionLemmas.{same_some}
 use Rattle.regex_lite.specs.Groups.{resized, span_at, spans_of}
 use Rattle.regex_lite.specs.Slots.{kept_slots, most_groups}
 
@@ -35,15 +36,13 @@ pub half : (slots : List (Option ℕ)) → length (spans_of slots) ≡ length sl
 half [] = refl
 half (start ∷ []) = refl
 half (start ∷ end ∷ slots) =
-    let more = half slots in
-    omega (arith, more)
+    omega (arith, half slots)
 
 -- none is after them
 pub no_span : (slots : List (Option ℕ)) (k : ℕ) → length slots / 2 ≤ k
     → None ≡ span_at (spans_of slots) k
 no_span slots k behind =
-    let few = half slots in
-    sym (ap option_flatten (slice_get_past (spans_of slots) k (omega (arith, few, behind))))
+    sym (ap option_flatten (slice_get_past (spans_of slots) k (omega (arith, half slots, behind))))
 
 -- slots that hold nothing hold no span
 pub no_spans : (n : ℕ) → spans_of (replicate (2 * n) None) ≡ replicate n None
@@ -99,9 +98,8 @@ resized_few n spans le = take-append-le n spans (replicate n None) le
 pub resized_length : (n : ℕ) (spans : List (Option (ℕ × ℕ))) → length (resized n spans) ≡ n
 resized_length n spans =
     let none : List (Option (ℕ × ℕ)) = replicate n None in
-    let all = length-append spans none in
     let some = length-replicate {A = Option (ℕ × ℕ)} n None in
-    length-take-le n (spans ++ none) (omega (arith, all, some))
+    length-take-le n (spans ++ none) (omega (arith, length-append spans none, some))
 
 -- none are kept for the whole match alone
 pub none_kept : (groups : ℕ) → 0 ≡ kept_slots groups → 0 < groups → 2 ≡ 2 * groups
@@ -115,25 +113,10 @@ some_kept zero more some = some
 some_kept (suc zero) more some = absurd (omega (arith, some))
 some_kept (suc (suc n)) more some = some
 
--- of two for each group none are kept where there are two, and else all
-pub kept_of_two : (groups slots : ℕ) → slots ≡ 2 * groups → slots ≡ 2 → 0 ≡ kept_slots groups
-kept_of_two zero slots all two = refl
-kept_of_two (suc zero) slots all two = refl
-kept_of_two (suc (suc n)) slots all two = absurd (omega (arith, all, two))
-
-pub kept_of_more : (groups slots : ℕ) → slots ≡ 2 * groups → (slots ≡ 2 → ⊥)
-    → slots ≡ kept_slots groups
-kept_of_more zero slots all more = all
-kept_of_more (suc zero) slots all more = absurd (more all)
-kept_of_more (suc (suc n)) slots all more = all
-
 behind : {A : Type 0} (xs : List A) (k : ℕ) (x : A) → slice_get xs k ≡ Some x
     → drop k xs ≡ x ∷ drop (k + 1) xs
 behind [] k x there = absurd cc
-behind (x ∷ xs) zero own there = ap (λ y. y ∷ xs) (some_same there)
-  where
-    some_same : {A : Type 0} {a b : A} → ◌≡◌ {A = Option A} (Some a) (Some b) → a ≡ b
-    some_same e = cc
+behind (x ∷ xs) zero own there = ap (λ y. y ∷ xs) (same_some there)
 behind (x ∷ xs) (suc k) own there =
     let next : suc k + 1 ≡ suc (k + 1) = omega arith in
     rw (next) (behind xs k own there)
@@ -144,6 +127,5 @@ pub most_on : (all : List StoredGroups) (k : ℕ) (own : StoredGroups) (most nex
     → next ≡ max most slots
     → max next (2 * most_groups (drop (k + 1) all)) ≡ max most (2 * most_groups (drop k all))
 most_on all k own most next slots there two is =
-    let left = ap most_groups (behind all k own there) in
     let rest = most_groups (drop (k + 1) all) in
-    omega (arith, left, two, is)
+    omega (arith, ap most_groups (behind all k own there), two, is)

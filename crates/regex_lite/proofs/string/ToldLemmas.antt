@@ -13,6 +13,7 @@ use Rattle.regex_lite_engine.specs.Search.Answer.{Found}
 use Rattle.regex_lite_engine.specs.Search.Offsets.{search_start}
 use Rattle.regex_lite_engine.specs.Search.Outcomes.{IsSpanOutcome, IsOutcome}
 use Rattle.regex_lite_engine.specs.Search.Searching.{Searching}
+use Rattle.regex_lite_engine.proofs.OptionLemmas.{not_there, same_some}
 use Rattle.regex_lite.specs.declared.string.compiled.Compiled.{Compiled}
 use Rattle.regex_lite.specs.declared.string.matches.Match.{Match}
 use Rattle.regex_lite.specs.Compiled.{IsBuilt, SearchesFor, groups_of, stored_groups}
@@ -27,12 +28,6 @@ use Rattle.regex_lite.proofs.string.CapturedLemmas.{AreAllSlots, all_told, built
 use Rattle.regex_lite.proofs.string.CapturedLemmas.{captured, captured_of}
 use Rattle.regex_lite.proofs.string.FoundLemmas.{first_told, found_lies, group_0, length_spans}
 use Rattle.regex_lite.proofs.string.OneTreeLemmas.{one_tree}
-
-pub same_some : {A : Type 0} {x y : A} → ◌≡◌ {A = Option A} (Some x) (Some y) → x ≡ y
-same_some e = cc
-
-pub not_there : {A : Type 0} {x : A} → ◌≡◌ {A = Option A} None (Some x) → ⊥
-not_there e = cc
 
 pub same_pair : {a b i j : ℕ} → a ≡ i → b ≡ j → ◌≡◌ {A = ℕ × ℕ} (a, b) (i, j)
 same_pair {a} {b} {i} {j} start end = rw (start, end) refl
@@ -164,11 +159,10 @@ pub room_told : (re : Expression) (bytes : List ℕ) (start n : ℕ) (told : Opt
 room_told re bytes start n None groups room tells is = absurd cc
 room_told re bytes start n (Some own) groups (tree, given, few)
     (other, given_too, (found, f, are)) is =
-    let same = one_tree re.flags (chars re.pattern) tree other given given_too in
     let all = length_spans (chars bytes) found.marks 0 (captures_len other) in
     let as_many = ap (λ (g : Groups). length g.spans) (sym (same_some is))
     ∙ ap (λ spans. length spans) are.spans ∙ all in
-    let count = ap captures_len same in
+    let count = ap captures_len (one_tree re.flags (chars re.pattern) tree other given given_too) in
     omega (arith, few, as_many, count)
 
 -- the first groups, and the match, of what is returned

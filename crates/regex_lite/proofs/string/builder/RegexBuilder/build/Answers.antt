@@ -16,12 +16,11 @@ pub returns-in_err-graph : goal.returns-in_err-graph
 returns-in_err-graph c =
     let left = err_from_is_err_and c.from_residual-in_err-graph.result
     c.from_residual-in_err-graph.ensures.1 in
-    let read = c.in_ok-hir.ensures.read in
     let says : IsDueToTree c.args.self.now.size_limit (tree_of c.in_ok-hir.hir)
     (kind_of c.in_err-graph.field-0.0) =
     rw (← c.self.view_is) c.in_err-graph.ensures.refused in
     rw (left.1, left.2) (builds_refused c.args.self.now c.in_err-graph.field-0.0
-    (inr (tree_of c.in_ok-hir.hir, read, says)))
+    (inr (tree_of c.in_ok-hir.hir, c.in_ok-hir.ensures.read, says)))
 
 pub returns : goal.returns
 returns c =

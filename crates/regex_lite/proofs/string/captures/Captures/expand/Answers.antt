@@ -1,18 +1,13 @@
 use Rattle.std.proofs.Common.{rules, ◌++◌, [], refl, sym, ap, ◌∙◌}
-use Rattle.std.proofs.Common.{string_bytes, subst, IfErr, Result, Ok, Err}
-use Rattle.std.specs.Result.{IsErrAnd}
+use Rattle.std.proofs.Common.{string_bytes, subst}
 use Rattle.std.proofs.lemmas.List.{append_assoc, append-nil}
 use Rattle.regex_lite_engine.specs.Interpolation.{IsInterpolation, piece_and_rest}
 use Rattle.regex_lite_engine.specs.Interpolation.{nothing, piece_text}
 use Rattle.regex_lite_engine.specs.Interpolation.Pieces.{piece_of}
 use Rattle.regex_lite_engine.proofs.laws.templates.OneTextLemmas.{one_text}
 use Rattle.regex_lite.specs.Templates.{texts_of}
+use Rattle.regex_lite.proofs.string.ReplacementLemmas.{handed_on}
 use Rattle.regex_lite.proofs.string.captures.Captures.expand.Goals as goal
-
-handed_on : {T E : Type 0} {P Q : E → Type 0} (r : Result T E) → IsErrAnd r Q
-    → ((e : E) → Q e → P e) → IfErr r P
-handed_on (Ok x) h f = absurd h
-handed_on (Err e) h f = f e h
 
 pub returns-in_err-push_piece-clause-begun : goal.returns-in_err-push_piece-clause-begun
 returns-in_err-push_piece-clause-begun c =

@@ -33,6 +33,5 @@ returns g c =
     let items = c.capture_names-names.ensures in
     let few =
     ap length (sym names ∙ ap (map (option_map rc_str_bytes)) (sym items)) ∙ length-map _ _ in
-    let behind = c.loop-k-test.false in
     named_nowhere c.args.self.now.names c.args.name.now
-    (λ j less. c.loop-k.invariant j (omega (arith, less, few, behind)))
+    (λ j less. c.loop-k.invariant j (omega (arith, less, few, c.loop-k-test.false)))

@@ -10,7 +10,6 @@ pub returns-clause-next : goal.returns-clause-next
 returns-clause-next g c =
     let f = g.F.Finds in
     let bytes = c.args.haystack.now in
-    let sought = f.sought c.args.finder.now in
-    first_told f.found_of f.number_of bytes (f.IsAnswer sought (chars bytes))
+    first_told f.found_of f.number_of bytes (f.IsAnswer (f.sought c.args.finder.now) (chars bytes))
     c.match_at.ensures.lawful (f.slots c.match_at.new.finder) c.utf8.haystack
     c.match_at.result (IsCharBoundary-start _ c.utf8.haystack) c.match_at.ensures.found

@@ -21,11 +21,10 @@ pub returns-then-end-clause-next : goal.returns-then-end-clause-next
 returns-then-end-clause-next g c =
     let f = g.F.Finds in
     let bytes = c.args.haystack.now in
-    let sought = f.sought c.args.finder.now in
     let found = c.in_ok-found.found in
     let later : c.args.end < (span_of_match found.1).1 =
     omega (arith, c.if-end.true, c.end.ensures) in
-    later_told f.found_of f.number_of bytes (f.IsAnswer sought (chars bytes))
+    later_told f.found_of f.number_of bytes (f.IsAnswer (f.sought c.args.finder.now) (chars bytes))
     c.match_at.ensures.lawful (f.slots c.match_at.new.finder) c.utf8.haystack
     c.args.end c.requires found c.in_ok-found.ensures.found later
 
@@ -33,12 +32,11 @@ pub match_after_empty-requires-clause-empty : goal.match_after_empty-requires-cl
 match_after_empty-requires-clause-empty g c =
     let f = g.F.Finds in
     let bytes = c.args.haystack.now in
-    let sought = f.sought c.args.finder.now in
     let found = c.in_ok-found.found in
     let early : (span_of_match found.1).1 ≤ c.args.end =
     omega (arith, c.if-end.false, c.end.ensures) in
     subst (λ own. IsEmptyAnswerFrom f.found_of (f.IsAnswer own (chars bytes)) bytes c.args.end)
     (sym c.match_at.ensures.sought)
-    (empty_told f.found_of f.number_of bytes (f.IsAnswer sought (chars bytes))
+    (empty_told f.found_of f.number_of bytes (f.IsAnswer (f.sought c.args.finder.now) (chars bytes))
     c.match_at.ensures.lawful (f.slots c.match_at.new.finder) c.utf8.haystack
     c.args.end c.requires found c.in_ok-found.ensures.found early)

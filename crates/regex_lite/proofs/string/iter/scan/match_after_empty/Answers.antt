@@ -9,8 +9,7 @@ pub returns-clause-next : goal.returns-clause-next
 returns-clause-next g c =
     let f = g.F.Finds in
     let bytes = c.args.haystack.now in
-    let sought = f.sought c.args.finder.now in
-    after_told f.found_of f.number_of bytes (f.IsAnswer sought (chars bytes))
+    after_told f.found_of f.number_of bytes (f.IsAnswer (f.sought c.args.finder.now) (chars bytes))
     c.match_at.ensures.lawful (f.slots c.match_at.new.finder) c.utf8.haystack c.args.at
     c.requires.boundary c.next_offset.result c.match_at.result c.requires.empty
     c.next_offset.ensures c.match_at.ensures.found

@@ -8,8 +8,7 @@ pub new-requires : goal.new-requires
 new-requires g c =
     let f = g.F.Finds in
     let bytes = c.args.haystack.now in
-    let sought = f.sought c.args.finder.now in
-    span_lies f.found_of f.number_of bytes (f.IsAnswer sought (chars bytes))
+    span_lies f.found_of f.number_of bytes (f.IsAnswer (f.sought c.args.finder.now) (chars bytes))
     c.find_at.ensures.lawful (f.slots c.find_at.new.self) c.utf8.haystack
     (search_start bytes c.args.start)
     (c.in_ok-number.number, (c.in_ok-number.from, c.in_ok-number.to))
@@ -19,8 +18,7 @@ pub returns-clause-found : goal.returns-clause-found
 returns-clause-found g c =
     let f = g.F.Finds in
     let bytes = c.args.haystack.now in
-    let sought = f.sought c.args.finder.now in
-    match_told f.found_of f.number_of bytes (f.IsAnswer sought (chars bytes))
+    match_told f.found_of f.number_of bytes (f.IsAnswer (f.sought c.args.finder.now) (chars bytes))
     c.find_at.ensures.lawful (f.slots c.find_at.new.self) c.utf8.haystack
     (search_start bytes c.args.start)
     (c.in_ok-number.number, (c.in_ok-number.from, c.in_ok-number.to)) c.new.result

@@ -9,26 +9,23 @@ pub returns-clause-few : goal.returns-clause-few
 returns-clause-few c = λ places (trees, given, counted).
     let built = c.self.invariant in
     let own : AreTrees c.args.self.now built.trees = rw (← c.self.view_is) built.given in
-    let same = ap places_of_all (one_list c.args.self.now trees built.trees given own) in
-    let graph = ap (λ (compiled : CompiledList). compiled.graph.arrows) c.deref.ensures in
     omega (
       arith,
       c.arrows.ensures.same,
-      graph,
+      (ap (λ (compiled : CompiledList). compiled.graph.arrows) c.deref.ensures),
       built.graph.arrows,
       counted,
-      same,
+      (ap places_of_all (one_list c.args.self.now trees built.trees given own)),
       arrows_few_of_all built.trees built.regular,
     )
 
 pub returns-clause-bounded : goal.returns-clause-bounded
 returns-clause-bounded c =
     let built = c.self.invariant in
-    let graph = ap (λ (compiled : CompiledList). compiled.graph.arrows) c.deref.ensures in
     omega (
       arith,
       c.arrows.ensures.same,
-      graph,
+      (ap (λ (compiled : CompiledList). compiled.graph.arrows) c.deref.ensures),
       built.graph.arrows,
       built.fit,
       arrows_few_of_all built.trees built.regular,

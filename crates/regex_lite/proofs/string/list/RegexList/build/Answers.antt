@@ -39,9 +39,8 @@ returns-in_err-graph c =
 
 pub kept_slots-kept_slots-requires : goal.kept_slots-kept_slots-requires
 kept_slots-kept_slots-requires c =
-    let all = c.args.builders.now in
     let trees = map tree_of c.in_ok-hirs.hirs.items in
-    paired_length IsAcceptedAs all trees c.in_ok-hirs.ensures.accepted
+    paired_length IsAcceptedAs c.args.builders.now trees c.in_ok-hirs.ensures.accepted
     ∙ ap (λ items. length (map tree_of items)) (sym c.deref.ensures.value)
     ∙ sym c.in_ok-graph.ensures.groups.all
 

@@ -11,9 +11,8 @@ groups-requires c =
     let given : AreTrees c.args.self.now built.trees = rw (← c.self.view_is) built.given in
     let each = paired_length (λ re tree. IsTree re.flags (chars re.pattern) tree) c.args.self.now
     built.trees given in
-    let all = built.groups.all in
     let graph = ap (λ (compiled : CompiledList). length compiled.graph.groups) c.deref.ensures in
-    omega (arith, c.requires, each, all, graph)
+    omega (arith, c.requires, each, built.groups.all, graph)
 
 pub returns : goal.returns
 returns c =

@@ -17,11 +17,10 @@ returns-clause-spans c =
     let two = c.self.invariant.2 in
     let whole = ap length c.as_mut_slice.ensures.value in
     let cut = c.split_at_mut-own.ensures.back_len in
-    let both = length-append own others in
     let items = with_items_is vec (own ++ others)
     (omega (
       arith,
-      both,
+      (length-append own others),
       c.copy_from_slice.ensures.len,
       c.split_at_mut-own.ensures.front_len,
       c.fill.ensures.len,
@@ -32,9 +31,8 @@ returns-clause-spans c =
     let few : count ≡ min (length slots) (2 * n) =
     c.min-count.ensures ∙ ap (min (length slots)) (len ∙ two) in
     let none : others ≡ replicate more None = c.fill.ensures.after (λ y is. search rules) in
-    let half_of = half vec.items in
     let size : n ≡ length c.args.self.now =
-    omega (arith, half_of, two) ∙ ap (λ spans. length spans) c.self.view_is in
+    omega (arith, half vec.items, two) ∙ ap (λ spans. length spans) c.self.view_is in
     ap spans_of (items ∙ ap (λ xs. xs ++ others) c.copy_from_slice.ensures.after
     ∙ ap (λ xs. take count slots ++ xs) none)
     ∙ spans_with_none slots n n count more (omega arith) few (omega (arith, whole, cut, two))

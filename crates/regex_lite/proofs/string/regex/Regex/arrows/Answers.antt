@@ -23,7 +23,6 @@ returns-clause-few c = λ places (tree, given, counted).
     let re = c.args.self.now in
     let own = c.self.invariant in
     let own_given : IsTree re.flags (chars re.pattern) own.tree = rw (← c.self.view_is) own.given in
-    let same = one_tree re.flags (chars re.pattern) tree own.tree given own_given in
     let graph : c.deref.result.now.graph.arrows ≡ c.self.inside.compiled.graph.arrows =
     ap (λ (compiled : Compiled). compiled.graph.arrows) c.deref.ensures in
     omega (
@@ -33,5 +32,5 @@ returns-clause-few c = λ places (tree, given, counted).
       own.graph.arrows,
       counted,
       arrows_few own.tree own.regular,
-      ap whole_places same,
+      ap whole_places (one_tree re.flags (chars re.pattern) tree own.tree given own_given),
     )

@@ -29,8 +29,7 @@ loop-found-preserved c =
       can = tt;
       finite = tt;
       so_far =
-          passed_on text start old new step.0 from _ span made _ inv.so_far step.4 is
-          (ap (λ at. unwrap_or at 0) done.ended) written;
+          passed_on inv.so_far step.4 is (ap (λ at. unwrap_or at 0) done.ended) written;
       begun = begun_on start old new made _ _ _ span.1 step.0 refl inv.begun step.4 done.ended;
       haystack = ap (λ a. a.haystack) step.4.passed ∙ inv.haystack;
       ended = done.ended ∙ sym step.3;
@@ -41,14 +40,12 @@ pub returns-clause-replaced : goal.returns-clause-replaced
 returns-clause-replaced c =
     let inv = c.loop-found.invariant in
     let start = whole c.args.self.now c.args.haystack.now c.args.limit in
-    let now = ahead_of c.loop-found.found-iterator in
     let rewrite = c.loop-found.rewrite in
     let same = ap (λ own. own.now) (inv.same ∙ c.start-rewrite.ensures.haystack) in
-    so_finished start now (Borrowed rewrite.haystack)
+    so_finished start (ahead_of c.loop-found.found-iterator) (Borrowed rewrite.haystack)
     (string_bytes rewrite.text) rewrite.ended c.finish.result
     (IsReplacedBy c.args.text.now start) c.finish.ensures.ok same inv.begun
-    (replaced_at_end c.args.text.now start now (unwrap_or rewrite.ended 0)
-    (string_bytes rewrite.text) inv.so_far c.in-None.ensures.steps.over)
+    (replaced_at_end inv.so_far c.in-None.ensures.steps.over)
 
 pub returns-clause-borrowed : goal.returns-clause-borrowed
 returns-clause-borrowed c =

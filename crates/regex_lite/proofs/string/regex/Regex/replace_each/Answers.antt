@@ -1,6 +1,5 @@
-use Rattle.std.proofs.Common.{inl, inr, ◌++◌, ◌∙◌, Result, Ok, Err, IfErr, unwrap_or}
+use Rattle.std.proofs.Common.{inl, inr, ◌++◌, ◌∙◌, unwrap_or}
 use Rattle.std.proofs.Common.{option_map, string_bytes, slice_range, sym, ap, subst}
-use Rattle.std.specs.Result.{IsErrAnd}
 use Rattle.std.specs.declared.borrow.CowStr.TheVariants.{Borrowed}
 use Rattle.regex_lite_engine.specs.Search.Offsets.{position_at}
 use Rattle.regex_lite.specs.Ahead.{Passes, ahead}
@@ -9,7 +8,7 @@ use Rattle.regex_lite.specs.Replacements.{IsRefused, IsReplacedInTurn}
 use Rattle.regex_lite.specs.Scanning.{RegexSearching, Scanning}
 use Rattle.regex_lite.proofs.string.AnsweredLemmas.{begun_on, borrowed_where_over}
 use Rattle.regex_lite.proofs.string.AnsweredLemmas.{owned_where_some, so_finished}
-use Rattle.regex_lite.proofs.string.ReplacementLemmas.{found_there, in_turn_at_end}
+use Rattle.regex_lite.proofs.string.ReplacementLemmas.{found_there, handed_on, in_turn_at_end}
 use Rattle.regex_lite.proofs.string.ReplacementLemmas.{haystack_kept, in_turn_passed}
 use Rattle.regex_lite.proofs.string.ReplacementLemmas.{in_turn_refused, of_passed, sought_kept}
 use Rattle.regex_lite.proofs.string.regex.Regex.replace_each.Goals as goal
@@ -17,33 +16,21 @@ use Rattle.regex_lite.proofs.string.regex.Regex.replace_each.Goals as goal
 pub take_back-requires : goal.take_back-requires
 take_back-requires g c =
     let step = rw c.in_ok-caps.was at c.in-Some.ensures.steps in
-    of_passed (ahead c.items.scan) (ahead c.next.new.self) step.0 c.in_ok-caps.caps step.5 step.2
-
-handed_on : {T E : Type 0} {P Q : E → Type 0} (r : Result T E) → IsErrAnd r Q
-    → ((e : E) → Q e → P e) → IfErr r P
-handed_on (Ok x) h f = absurd h
-handed_on (Err e) h f = f e h
+    of_passed c.in_ok-caps.caps step.5 step.2
 
 pub returns-in_err-replace_with-clause-refused : goal.returns-in_err-replace_with-clause-refused
 returns-in_err-replace_with-clause-refused g c =
     let inv = c.items.invariant in
     let step = rw c.in_ok-caps.was at c.in-Some.ensures.steps in
     let start = ahead c.args.scan.now in
-    let rewrite = c.items.rewrite in
-    let are = found_there c.items.scan.finder.regex start.sought c.items.scan.haystack
-    start.haystack step.0 c.in_ok-caps.caps
-    inv.regex inv.haystack step.2 in
+    let are = found_there step.0 c.in_ok-caps.caps inv.regex inv.haystack step.2 in
     handed_on c.from_residual-in_err-replace_with.result
     c.from_residual-in_err-replace_with.ensures.1
     (λ error same. elim c.in_err-replace_with.ensures.refused [
       | inl out ↦ inl (same ∙ out)
       | inr asked ↦
           inr (subst (IsRefused g.R.Replacer.fixed g.R.Replacer.appends c.args.rep start) (sym same)
-          (in_turn_refused g.R.Replacer.fixed g.R.Replacer.appends c.args.rep start
-          (ahead c.items.scan) (ahead c.next.new.self)
-          c.items.rep c.replace_with.new.rep step.0 c.in_ok-caps.caps (unwrap_or rewrite.ended 0)
-          (string_bytes rewrite.text)
-          asked.0 _ inv.so_far step.5 are asked.1))
+          (in_turn_refused g.R.Replacer.fixed g.R.Replacer.appends inv.so_far step.5 are asked.1))
     ])
 
 pub items-preserved : goal.items-preserved
@@ -54,30 +41,24 @@ items-preserved g c =
     let asked = done.text in
     let start = ahead c.args.scan.now in
     let old = ahead c.items.scan in
-    let new = ahead c.take_back.new.self in
     let passes = subst (λ own. Passes old step.0 (ahead own)) (sym c.take_back.ensures) step.5 in
     let from = unwrap_or c.items.rewrite.ended 0 in
     let made = string_bytes c.items.rewrite.text in
     let caps = c.in_ok-caps.caps in
-    let are = found_there old.sought start.sought old.haystack start.haystack step.0 caps inv.regex
-    inv.haystack step.2 in
+    let are = found_there step.0 caps inv.regex inv.haystack step.2 in
     let same =
     ap (λ own. own.now) (inv.same ∙ c.start-rewrite.ensures.haystack) ∙ sym c.requires.haystack in
     let written =
     asked.2 ∙ ap (λ bytes. (made ++ slice_range bytes from (whole_span caps).0) ++ asked.0) same in
     record {
       can_append = c.replace_with.ensures.again;
-      so_far =
-          in_turn_passed g.R.Replacer.fixed g.R.Replacer.appends c.args.rep start old new
-          c.items.rep c.replace_with.new.rep
-          step.0 caps from _ made asked.0 _ inv.so_far passes are asked.1
+      so_far = in_turn_passed g.R.Replacer.fixed g.R.Replacer.appends inv.so_far passes are asked.1
           (ap (λ at. unwrap_or at 0) done.ended) written;
-      begun =
-          begun_on start old new made _ _ _ (whole_span caps).1 step.0
+      begun = begun_on start old _ made _ _ _ (whole_span caps).1 step.0
           (ap (option_map (position_at start.haystack)) c.requires.begins) inv.begun passes
           done.ended;
-      regex = sought_kept start old new step.0 passes inv.regex;
-      haystack = haystack_kept start old new step.0 passes inv.haystack;
+      regex = sought_kept start passes inv.regex;
+      haystack = haystack_kept start passes inv.haystack;
       ended =
           done.ended
           ∙ sym (ap (λ (own : Scanning RegexSearching). own.ended) c.take_back.ensures ∙ step.4);
@@ -95,24 +76,21 @@ returns-clause-replaced g c =
     (string_bytes rewrite.text) rewrite.ended c.finish.result
     (IsReplacedInTurn g.R.Replacer.fixed g.R.Replacer.appends c.args.rep start) c.finish.ensures.ok
     same inv.begun
-    (in_turn_at_end g.R.Replacer.fixed g.R.Replacer.appends c.args.rep start
-    (ahead c.items.scan) c.items.rep (unwrap_or rewrite.ended 0)
-    (string_bytes rewrite.text) inv.so_far c.in_default.ensures.steps.over)
+    (in_turn_at_end g.R.Replacer.fixed g.R.Replacer.appends inv.so_far
+    c.in_default.ensures.steps.over)
 
 pub returns-clause-borrowed : goal.returns-clause-borrowed
 returns-clause-borrowed g c =
     let inv = c.items.invariant in
-    let start = ahead c.args.scan.now in
     let rewrite = c.items.rewrite in
-    borrowed_where_over start (ahead c.items.scan) (Borrowed rewrite.haystack)
+    borrowed_where_over (ahead c.args.scan.now) (ahead c.items.scan) (Borrowed rewrite.haystack)
     (string_bytes rewrite.text) rewrite.ended
     c.finish.result (Borrowed c.args.haystack) c.finish.ensures.ok
     (ap Borrowed (inv.same ∙ c.start-rewrite.ensures.haystack)) inv.begun
 
 pub returns-clause-owned : goal.returns-clause-owned
 returns-clause-owned g c =
-    let start = ahead c.args.scan.now in
     let rewrite = c.items.rewrite in
-    owned_where_some start (ahead c.items.scan) (Borrowed rewrite.haystack)
+    owned_where_some (ahead c.args.scan.now) (ahead c.items.scan) (Borrowed rewrite.haystack)
     (string_bytes rewrite.text) rewrite.ended
     c.finish.result c.finish.ensures.ok c.items.invariant.begun c.in_default.ensures.steps.over

@@ -5,9 +5,7 @@ use Rattle.regex_lite.proofs.string.sub_captures.SubCaptureMatchesIterator.next.
 pub returns-clause-steps : goal.returns-clause-steps
 returns-clause-steps c =
     let groups = c.self.inside.captures.now in
-    let len = c.len.ensures in
-    let inside = c.if-self-len.false in
     rw (← c.self.view_is)
     (groups_on groups.haystack groups.spans c.self.inside.next c.get-group.result
-    (subst (λ n. c.self.inside.next < n) len inside)
+    (subst (λ n. c.self.inside.next < n) c.len.ensures c.if-self-len.false)
     c.get-group.ensures.span c.get-group.ensures.haystack)

@@ -6,9 +6,8 @@ use Rattle.regex_lite.proofs.string.list.searcher.ListSearcher.new.Goals as goal
 
 pub invariant_of-result : goal.invariant_of-result
 invariant_of-result c =
-    let list = c.args.list.now in
     let own = c.list.invariant in
-    let given : AreTrees list own.trees = rw (← c.list.view_is) own.given in
+    let given : AreTrees c.args.list.now own.trees = rw (← c.list.view_is) own.given in
     let same = c.in_ok-inner.ensures.graph
     ∙ ap (λ (compiled : CompiledList). compiled.graph) c.deref.ensures in
     (own.trees, given, (own.regular, subst (IsGraphOfList own.trees) (sym same) own.graph))

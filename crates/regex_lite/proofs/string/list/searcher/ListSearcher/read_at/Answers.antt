@@ -20,8 +20,7 @@ slots_of-own-requires c =
     ap (λ (own : ListSearching). own.list) c.self.view_is ∙ c.match_at.ensures.sought in
     let less = number_within list a.haystack.now a.start kept room c.in_ok-number.number
     c.in_ok-number.found c.in_ok-number.ensures.found in
-    let all = ap (λ own. length own) same in
-    omega (arith, less, all)
+    omega (arith, less, ap (λ own. length own) same)
 
 pub slice_bounds-write-end : goal.slice_bounds-write-end
 slice_bounds-write-end c =
@@ -42,9 +41,8 @@ slice_bounds-write-end c =
     let within = own_within list a.haystack.now a.start kept room c.in_ok-number.number
     c.in_ok-number.found c.in_ok-number.ensures.found c.slots_of-own.result
     (own.0, subst (λ list. AreTrees list own.0) same own.1, own.2) in
-    let all = ap (λ slots. length slots) is in
     sym (length-take-le c.slots_of-own.result c.or_whole-slots.result.now
-    (omega (arith, within, all)))
+    (omega (arith, within, ap (λ slots. length slots) is)))
 
 pub returns-clause-found : goal.returns-clause-found
 returns-clause-found c =

@@ -18,10 +18,9 @@ of_listed-source-requires c =
     let span = span_of_match a.last.now.1 in
     let own = c.list.inside.compiled in
     let built = c.list.invariant in
-    let number = a.last.now.0 in
     let inner : AreTrees c.self.inside.list.now built.trees = rw (← c.list.view_is) built.given in
     let given = subst (λ (z : ListSearching). AreTrees z.list built.trees) c.self.view_is inner in
-    subst (λ (compiled : CompiledList). number < length compiled.graph.groups)
+    subst (λ (compiled : CompiledList). a.last.now.0 < length compiled.graph.groups)
     (sym c.in_ok-clone.ensures.cases)
     (last_there a.haystack.now c.utf8.haystack a.self.now.list own built given a.self.now.slots
     c.in_ok-slots-2.slots.items c.requires.room c.requires.last.0 a.last.now c.requires.last.1)
